@@ -6,7 +6,7 @@ use Rattle.command_line.specs.Ipl.{ipl_command}
 use Rattle.command_line.specs.Chip.{Chip, ram, file}
 use Rattle.command_line.specs.Asked.{Asks, asked_of}
 use Rattle.command_line.specs.Choice.{choice_of}
-use Rattle.command_line.specs.Laws.{NothingTogether, WordExamples, FrameExamples, TrialExamples, NoWordExamples, NoFrameExamples, NoTrialExamples}
+use Rattle.command_line.specs.Laws.{NothingTogether, WordExamples, SpareExamples, FrameExamples, TrialExamples, NoWordExamples, NoSpareExamples, NoFrameExamples, NoTrialExamples}
 use Rattle.command_line.specs.declared.choice.Choice.TheVariants.{Nothing}
 
 pub words : WordExamples
@@ -20,6 +20,15 @@ words = record {
   says_its_view = refl;
   memory = refl;
   in_file = refl;
+}
+
+pub spares : SpareExamples
+unfolding asked_of ipl_command clap_on_literals
+spares = record {
+  least = refl;
+  most = refl;
+  attached = refl;
+  before_chip = refl;
 }
 
 pub frames : FrameExamples
@@ -62,6 +71,17 @@ no_words = record {
   help_word = refl;
   version = refl;
   version_of = refl;
+}
+
+pub no_spares : NoSpareExamples
+unfolding asked_of ipl_command clap_on_literals
+no_spares = record {
+  too_many = refl;
+  none = refl;
+  minus = refl;
+  twice = refl;
+  at_run = refl;
+  at_serial = refl;
 }
 
 pub no_frames : NoFrameExamples

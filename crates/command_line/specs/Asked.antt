@@ -41,6 +41,10 @@ number_at low high id rows = option_map_or (number_in low high) (first_of id row
 abbrev pub frames_at : List Row → ℕ
 frames_at = number_at 2 64 (codes "frames")
 
+-- the number of places that are kept for those that wear out
+abbrev pub spares_at : List Row → ℕ
+spares_at = number_at 0 64 (codes "spares")
+
 -- what `run` asks to be done
 abbrev pub run_at : List Row → Request
 run_at rows = Run (frames_at rows) (is_set (codes "format") rows)
@@ -52,7 +56,7 @@ trial_at rows = Trial (number_at 0 4294967295 (codes "seed") rows)
 
 -- what a subcommand asks to be done
 abbrev pub request_at : Text → List Row → Request
-request_at name rows = if bytes_eq name (codes "format") then Format
+request_at name rows = if bytes_eq name (codes "format") then Format (spares_at rows)
     else if bytes_eq name (codes "serial") then Serial
     else if bytes_eq name (codes "trial") then trial_at rows
     else run_at rows
@@ -74,7 +78,7 @@ asked_of words = if is_empty (fault_of ipl_command words)
 
 -- the numbers of a request are within their bounds
 abbrev pub IsInBounds : Request → Type 0
-IsInBounds Format = ⊤
+IsInBounds (Format spares) = spares ≤ 64
 IsInBounds (Run frames format) = (2 ≤ frames) × (frames ≤ 64)
 IsInBounds Serial = ⊤
 IsInBounds (Trial seed count frames) =

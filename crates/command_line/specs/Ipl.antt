@@ -26,9 +26,13 @@ frames_rule = record (number_rule (codes "frames") 2 64) { defaults = codes "16"
 abbrev pub wanted_rule : Text → ℕ → ℕ → Rule
 wanted_rule id low high = record (number_rule id low high) { required = true }
 
--- format CHIP
+-- --spares K, which is 0 where it isn't given
+abbrev pub spares_rule : Rule
+spares_rule = record (number_rule (codes "spares") 0 64) { defaults = codes "0" ∷ [] }
+
+-- format CHIP [--spares K]
 abbrev pub format_command : App
-format_command = with_rule (new_app (codes "format")) chip_rule
+format_command = with_rule (with_rule (new_app (codes "format")) chip_rule) spares_rule
 
 -- run CHIP [--frames N] [--format]
 abbrev pub run_command : App

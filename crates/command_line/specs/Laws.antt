@@ -52,7 +52,7 @@ pub record NoChipExamples : Type 0 where
 
 -- valid words, and what they ask
 pub record WordExamples : Type 0 where
-  pub formats : requested (codes "format" ∷ codes "ram:5" ∷ []) ≡ Some Format
+  pub formats : requested (codes "format" ∷ codes "ram:5" ∷ []) ≡ Some (Format 0)
   pub runs : requested (codes "run" ∷ codes "ram:5" ∷ []) ≡ Some (Run 16 false)
   pub formats_first : requested (codes "run" ∷ codes "ram:5" ∷ codes "--format" ∷ [])
       ≡ Some (Run 16 true)
@@ -63,6 +63,18 @@ pub record WordExamples : Type 0 where
   pub says_its_view : requested (codes "serial" ∷ codes "ram:5" ∷ []) ≡ Some Serial
   pub memory : chosen (codes "run" ∷ codes "ram:5" ∷ []) ≡ choice.Ram 5
   pub in_file : chosen (codes "run" ∷ codes "file:5:a:b" ∷ []) ≡ choice.File 5 (codes "a:b")
+
+-- what `format` asks of a chip with these words behind it
+abbrev pub format_with : List Text → Option Request
+format_with words = requested (codes "format" ∷ codes "ram:5" ∷ words)
+
+-- valid words with a number of spare places
+pub record SpareExamples : Type 0 where
+  pub least : format_with (codes "--spares" ∷ codes "0" ∷ []) ≡ Some (Format 0)
+  pub most : format_with (codes "--spares" ∷ codes "64" ∷ []) ≡ Some (Format 64)
+  pub attached : format_with (codes "--spares=1" ∷ []) ≡ Some (Format 1)
+  pub before_chip : requested (codes "format" ∷ codes "--spares=4" ∷ codes "ram:5" ∷ [])
+      ≡ Some (Format 4)
 
 -- what `run` asks of a chip with these words behind it
 abbrev pub run_with : List Text → Option Request
@@ -112,6 +124,16 @@ pub record NoWordExamples : Type 0 where
   pub help_word : requested (codes "help" ∷ []) ≡ None
   pub version : requested (codes "--version" ∷ []) ≡ None
   pub version_of : requested (codes "run" ∷ codes "ram:5" ∷ codes "--version" ∷ []) ≡ None
+
+-- and such with a number of spare places
+pub record NoSpareExamples : Type 0 where
+  pub too_many : format_with (codes "--spares" ∷ codes "65" ∷ []) ≡ None
+  pub none : format_with (codes "--spares" ∷ []) ≡ None
+  pub minus : format_with (codes "--spares=-1" ∷ []) ≡ None
+  pub twice : format_with (codes "--spares=1" ∷ codes "--spares=1" ∷ []) ≡ None
+  pub at_run : requested (codes "run" ∷ codes "ram:5" ∷ codes "--format" ∷ codes "--spares=1" ∷ [])
+      ≡ None
+  pub at_serial : requested (codes "serial" ∷ codes "ram:5" ∷ codes "--spares=1" ∷ []) ≡ None
 
 -- and such with a number of frames
 pub record NoFrameExamples : Type 0 where

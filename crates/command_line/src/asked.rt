@@ -5,6 +5,7 @@ ghost use Rattle.std.specs.String.{string_bytes};
 ghost use Rattle.clap.specs.Words.{found_of, rows_of, subcommand_rows_of, first_of};
 ghost use Rattle.command_line.specs.Chip.{word_view};
 ghost use Rattle.command_line.specs.Asked.{view, is_set, number_in, number_at, frames_at, run_at};
+ghost use Rattle.command_line.specs.Asked.{spares_at};
 ghost use Rattle.command_line.specs.Asked.{trial_at, request_at, chip_at, asked_at, asked_of};
 
 use crate::chip_word::{ChipWord, chip_word};
@@ -16,7 +17,8 @@ use std::alloc::{AllocError, Global};
 /// What valid words ask to be done with the chip that they name.
 #[derive(Clone, Copy, Debug, PartialEq, Eq)]
 pub enum Request {
-    Format,
+    /// It is formatted, with so many places kept for those that wear out.
+    Format { spares: u32 },
     /// A script is run with so many page frames, over a chip that is formatted first where that is
     /// asked.
     Run { frames: u32, format: bool },
@@ -84,6 +86,13 @@ fn frames_at(matches: &ArgMatches<'_>) -> u32
     number_at(matches, "frames", 2, 64)
 }
 
+/// The number of places that are kept for those that wear out.
+fn spares_at(matches: &ArgMatches<'_>) -> u32
+    ensures { result ≡ spares_at (rows_of (found_of matches.now)) }
+{
+    number_at(matches, "spares", 0, 64)
+}
+
 /// What `run` asks to be done.
 fn run_at(matches: &ArgMatches<'_>) -> Request
     ensures { result ≡ run_at (rows_of (found_of matches.now)) }
@@ -110,7 +119,8 @@ fn request_at(name: &str, matches: &ArgMatches<'_>) -> Request
     ensures { result ≡ request_at name.now (rows_of (found_of matches.now)) }
 {
     if name == "format" {
-        return Request::Format;
+        let spares = spares_at(matches);
+        return Request::Format { spares };
     }
     if name == "serial" {
         return Request::Serial;

@@ -2,7 +2,7 @@
 ghost use Rattle.std.specs.Prelude.{◌≡◌, IfOk, false};
 ghost use Rattle.clap.specs.Words.{app_of, rule_of};
 ghost use Rattle.clap.specs.declared.builder.command.Command.TheViews.{out-Command as fields_of};
-ghost use Rattle.command_line.specs.Ipl.{chip_rule, format_rule, number_rule, frames_rule};
+ghost use Rattle.command_line.specs.Ipl.{chip_rule, format_rule, number_rule, frames_rule, spares_rule};
 ghost use Rattle.command_line.specs.Ipl.{wanted_rule, format_command, run_command, serial_command};
 ghost use Rattle.command_line.specs.Ipl.{trial_command, ipl_command};
 
@@ -46,6 +46,14 @@ fn frames_option<'a>(alloc: Global) -> Arg<'a>
     number_option(alloc, "frames", 2, 64).default_value("16")
 }
 
+/// `--spares K`.
+fn spares_option<'a>(alloc: Global) -> Arg<'a>
+    ensures rule { rule_of result ≡ spares_rule }
+    ensures local { result.global ≡ false }
+{
+    number_option(alloc, "spares", 0, 64).default_value("0")
+}
+
 /// An option that has to be there, with a number from `low` to `high`.
 fn wanted_option<'a>(alloc: Global, id: &'a str, low: u64, high: u64) -> Arg<'a>
     ensures rule { rule_of result ≡ wanted_rule id.entry.now low high }
@@ -54,12 +62,14 @@ fn wanted_option<'a>(alloc: Global, id: &'a str, low: u64, high: u64) -> Arg<'a>
     number_option(alloc, id, low, high).required(true)
 }
 
-/// `format CHIP`.
+/// `format CHIP [--spares K]`.
 fn format_part<'a>(alloc: Global) -> Result<Command<'a>, AllocError>
     ensures app { IfOk result (λ c. app_of c ≡ format_command) }
     ensures local { IfOk result (λ c. (fields_of c).has_globals ≡ false) }
 {
-    Command::new(alloc, "format").arg(chip_argument(alloc))
+    Command::new(alloc, "format")
+        .arg(chip_argument(alloc))?
+        .arg(spares_option(alloc))
 }
 
 /// `run CHIP [--frames N] [--format]`.

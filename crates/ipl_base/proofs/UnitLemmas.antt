@@ -2,29 +2,20 @@
 use Rattle.std.proofs.Common.{ℕ, ◌≡◌, ◌+◌, ◌<◌, ◌≤◌, arith}
 use Rattle.ipl_base.specs.Places.{IsGeometry, KeepsUnits, units_on}
 
+-- where no place is spare
 pub units_are_kept : (places : ℕ) → IsGeometry places → KeepsUnits places (units_on places)
-units_are_kept places it = omega arith
+units_are_kept places it = (omega arith, omega arith, omega arith)
 
-pub some_unit : (places units : ℕ) → IsGeometry places → KeepsUnits places units → 1 ≤ units
-some_unit places units it keeps = omega arith
+pub some_unit : (places units : ℕ) → KeepsUnits places units → 1 ≤ units
+some_unit places units keeps = keeps.0
 
 pub units_and_four : (places units : ℕ) → KeepsUnits places units → units + 4 ≤ places
-units_and_four places units keeps = omega arith
+units_and_four places units keeps = keeps.1
 
--- as many places as there are units
+-- there are more places than units
 pub unit_below : (places units u : ℕ) → KeepsUnits places units → u < units → u < places
-unit_below places units u keeps low = omega arith
+unit_below places units u keeps low = omega (arith, keeps.1, low)
 
--- so many places keep one number of units
-pub one_count : (places units others : ℕ) → KeepsUnits places units → KeepsUnits places others → units ≡ others
-one_count places units others keeps other = omega arith
-
--- and that is the number on them
-pub count_is : (places units : ℕ) → KeepsUnits places units → units ≡ units_on places
-count_is places units keeps = omega arith
-
+-- and no more units than where no place is spare
 pub unit_on : (places units u : ℕ) → KeepsUnits places units → u < units → u < units_on places
-unit_on places units u keeps low = omega arith
-
-pub unit_kept : (places units u : ℕ) → KeepsUnits places units → u < units_on places → u < units
-unit_kept places units u keeps low = omega arith
+unit_on places units u keeps low = omega (arith, keeps.1, low)

@@ -24,7 +24,10 @@ use Rattle.ipl_model.proofs.RunLemmas.{reply_shows}
 use Rattle.ipl_format.specs.Sector.{sector_in}
 use Rattle.ipl_meaning.specs.Chart.{chart_of}
 use Rattle.ipl_meaning.specs.Stands.{Stands}
-use Rattle.ipl_meaning.specs.Rests.{EachStands, StoryRests}
+use Rattle.ipl_meaning.specs.Rests.{now, EachStands, StoryRests}
+use Rattle.ipl_meaning.specs.FirstTables.{first_layout}
+use Rattle.opening_rules.specs.Chosen.{units_at}
+use Rattle.opening_rules.proofs.LaidLemmas.{laid_says_its_units}
 use Rattle.ipl_meaning.proofs.StoryLemmas.{held_stands, says_keep}
 use Rattle.unit_io.specs.Leads.{IsSteady}
 use Rattle.unit_io.proofs.LeadsLemmas.{steady_then}
@@ -33,19 +36,18 @@ use Rattle.restart.specs.Fresh.{Formats}
 use Rattle.store_trait.specs.Keeping.{Stays}
 use Rattle.store_trait.specs.declared.fault.Fault.TheVariants as fault
 use Rattle.store_trait.proofs.OnwardLemmas.{unrisen_later}
-use Rattle.store_steps.specs.Keeps.{KeepsStore, limits_of}
+use Rattle.store_steps.specs.Keeps.{limits_of}
 use Rattle.script_run.specs.declared.fault.Stop.{Stop}
 use Rattle.script_run.specs.declared.fault.Stop.TheVariants as stop
 use Rattle.script_run.specs.Run.{RunLeaves, SaysLines, EndsAt}
 use Rattle.script_run.specs.Goes.{Ended, Stopped, RunsScript}
 use Rattle.script_run.proofs.EndLemmas.{between_none, ends_weaker}
 use Rattle.script_run.proofs.RunLemmas.{says_none, says_prefix}
-use Rattle.ipl_store.specs.Calls.{view_of}
 use Rattle.script_store.specs.declared.store.ScriptStore.{ScriptStore}
 use Rattle.script_store.specs.Keeps.{KeepsScript, script_keeping}
 use Rattle.program_end.specs.declared.end.End.{End}
 use Rattle.program_end.specs.declared.end.End.TheVariants.{Words, Chip, OutOfMemory, Script, Output, TooLong}
-use Rattle.ipl_cli.specs.Ending.{Ending, IsStopped, StopRose, IsUntouched, format_end}
+use Rattle.ipl_cli.specs.Ending.{Ending, IsStopped, StopRose, IsUntouched, format_end, units_beside}
 use Rattle.ipl_cli.specs.Top.{Runs, RunsOpened, RunsFormatted, IsLaidOut, LaysOut, IsAbout, StandsAbout, IsBetween, EndsBy, answers, ok_line}
 use Rattle.ipl_cli.specs.Runs.{StartsOpened, IsNotOpened, WasFormatted, ending_of}
 
@@ -55,11 +57,11 @@ left_counts old new counts = ap (λ (b : Beside). b.left) counts.beside
 
 -- ---- a format
 
-pub stopped_early : (fault : FormatFault) (old new : Told) → Counts old new
+pub stopped_early : (units : ℕ) (fault : FormatFault) (old new : Told) → Counts old new
     → StopRose fault old new
-    → ((h : History) → Formats {A = Unit {0}} old.places h old (Err fault) new)
-    → IsStopped old new (Err (format_end fault))
-stopped_early fault old new counts rose formats = λ h. record {
+    → ((h : History) → Formats {A = Unit {0}} old.places units h old (Err fault) new)
+    → IsStopped units old new (Err (format_end fault))
+stopped_early units fault old new counts rose formats = λ h. record {
   stopped = new;
   fault = fault;
   ending_is = refl;
@@ -70,9 +72,15 @@ stopped_early fault old new counts rose formats = λ h. record {
 }
 
 -- what was said of the line of a format is all of it or a part
-module _ (old mid new : Told) (counts : Counts old mid) (same : mid.settled ≡ old.settled)
-    (said_counts : SayCounts mid new) (formats : (h : History)
-    → Formats {A = Unit {0}} old.places h old (Ok tt) mid) where
+module _ (spares : ℕ) (old mid new : Told) (counts : Counts old mid)
+    (same : mid.settled ≡ old.settled) (said_counts : SayCounts mid new) (formats : (h : History)
+    → Formats {A = Unit {0}} old.places (units_beside old.places spares) h old (Ok tt) mid) where
+  abbrev units_left : ℕ
+  units_left = units_beside old.places spares
+
+  abbrev events : Story
+  events = format_events old.places units_left
+
   left_said : new.beside.left ≡ old.beside.left
   left_said = ap (λ (b : Beside). b.left) said_counts.beside ∙ left_counts old mid counts
 
@@ -80,45 +88,55 @@ module _ (old mid new : Told) (counts : Counts old mid) (same : mid.settled ≡ 
       → new.history ≡ option_map (adds_all added) mid.history → new.settled ≡ mid.settled
       → ((k : History) → IsSteady k mid → IsSteady (adds_all added k) new)
       → (added ≡ []) ⊎ ((part : List ℕ) × IsPrefix part ok_line × (added ≡ Said part ∷ []))
-      → (done ≡ true → added ≡ Said ok_line ∷ []) → IsLaidOut old.places h old new done
+      → (done ≡ true → added ≡ Said ok_line ∷ []) → IsLaidOut old.places units_left h old new done
   laid_out h done added history settled steady part all =
       let did = formats h in
-      let events : did.added ≡ format_events old.places = did.done.exact in
-      let rested : StoryRests old.places empty (adds_all (format_events old.places) h) = subst
-      (λ (s : Story). StoryRests old.places empty (adds_all s h)) events did.done.rests in
-      let good : (base : Story) → IsLawful base → IsLawful (format_events old.places ++ base) =
-      λ base lawful. subst (λ (s : Story). IsLawful (s ++ base)) events
+      let exact : did.added ≡ events = did.done.exact in
+      let rested : StoryRests old.places empty (adds_all events h) = subst
+      (λ (s : Story). StoryRests old.places empty (adds_all s h)) exact did.done.rests in
+      let good : (base : Story) → IsLawful base → IsLawful (events ++ base) =
+      λ base lawful. subst (λ (s : Story). IsLawful (s ++ base)) exact
       (did.lawful base lawful) in
+      let counted : units_at (now (adds_all events h)) old.places ≡ units_left = subst
+      (λ (s : Story). units_at (now (adds_all s h)) old.places ≡ units_left) exact
+      (laid_says_its_units (now (adds_all did.added h)) old.places (first_layout units_left)
+      did.done.fresh.mirrors.laid) in
       record {
         added = added;
         says = part;
         history = history ∙ ap (option_map (adds_all added)) (did.history
-            ∙ ap (λ (s : Story). option_map (adds_all s) old.history) events);
+            ∙ ap (λ (s : Story). option_map (adds_all s) old.history) exact);
         settled = settled ∙ same;
-        steady = λ held. steady (adds_all (format_events old.places) h)
-            (subst (λ (s : Story). IsSteady (adds_all s h) mid) events (did.steady (λ is. cc) held));
+        steady = λ held. steady (adds_all events h)
+            (subst (λ (s : Story). IsSteady (adds_all s h) mid) exact (did.steady (λ is. cc) held));
         rests = elim part [
           | inl none ↦ subst (λ (s : Story). StoryRests old.places empty
-              (adds_all s (adds_all (format_events old.places) h))) (sym none) rested
+              (adds_all s (adds_all events h))) (sym none) rested
           | inr (piece, prefix, one) ↦ subst (λ (s : Story). StoryRests old.places empty
-              (adds_all s (adds_all (format_events old.places) h))) (sym one) (says_keep old.places
-              empty (adds_all (format_events old.places) h) piece rested)
+              (adds_all s (adds_all events h))) (sym one) (says_keep old.places
+              empty (adds_all events h) piece rested)
+        ];
+        count = elim part [
+          | inl none ↦ subst (λ (s : Story).
+              units_at (now (adds_all s (adds_all events h))) old.places ≡ units_left) (sym none) counted
+          | inr (piece, prefix, one) ↦ subst (λ (s : Story).
+              units_at (now (adds_all s (adds_all events h))) old.places ≡ units_left) (sym one) counted
         ];
         lawful = λ base lawful. elim part [
-          | inl none ↦ subst (λ (s : Story). IsLawful (s ++ (format_events old.places ++ base)))
+          | inl none ↦ subst (λ (s : Story). IsLawful (s ++ (events ++ base)))
               (sym none) (good base lawful)
           | inr (piece, prefix, one) ↦ subst (λ (s : Story). IsLawful
-              (s ++ (format_events old.places ++ base))) (sym one) (good base lawful)
+              (s ++ (events ++ base))) (sym one) (good base lawful)
         ];
         left_is = left_said;
         all = all;
       }
 
-  pub said_ok : Appends (Said ok_line) mid new → LaysOut old new true
+  pub said_ok : Appends (Said ok_line) mid new → LaysOut spares old new true
   said_ok appends h = laid_out h true (Said ok_line ∷ []) appends.history appends.settled
       (λ k steady. steady_then (Said ok_line) k mid new steady appends) (inr (ok_line, ([], append-nil ok_line), refl)) (λ is. refl)
 
-  pub said_part : FailsToSay ok_line mid new → LaysOut old new false
+  pub said_part : FailsToSay ok_line mid new → LaysOut spares old new false
   said_part fails h = elim fails.history [
     | inl (part, prefix, history) ↦ laid_out h false (Said part ∷ []) history fails.settled
         (λ k steady. record {
@@ -137,16 +155,10 @@ pub record Kept (places : ℕ) (new : Told) (k : History) (s : State) : Type 0 w
   pub steady : IsSteady k new
   pub rests : StoryRests places s.map k
 
-pub kept : (places : ℕ) → 5 ≤ places → (then : ScriptStore) (new : Told) (s : State) (k : History)
-    → KeepsScript (limits_of (units_on places)) then new k s → Kept places new k s
-kept places least then new s k keeps =
-    let same : units_on places ≡ then.store.units = ap (λ (l : Limits). l.units)
-    keeps.kept.limits_are in
-    record {
-      steady = keeps.kept.steady;
-      rests = subst (λ (q : ℕ). StoryRests q s.map k) (omega (arith, same, least))
-          keeps.kept.rests;
-    }
+pub kept : (places : ℕ) (limits : Limits) (then : ScriptStore) (new : Told) (s : State)
+    (k : History) → KeepsScript places limits then new k s → Kept places new k s
+kept places limits then new s k keeps =
+    record { steady = keeps.kept.steady; rests = keeps.kept.rests }
 
 -- behind events that say nothing, what is said is that of the later ones
 pub pieces_behind : (first added : Story) → pieces first ≡ [] → pieces (added ++ first) ≡ pieces added
@@ -168,22 +180,22 @@ near_silent Q limits state [] holds = inl holds
 near_silent Q limits state (c ∷ commands) holds = rw (reply_shows limits state c) (inl holds)
 
 -- how a run ends, by its stop
-ends_by : (Q : State → Type 0) (places : ℕ) (m : Map) (script : List ℕ) (lines : List (List ℕ))
-    (result : Result (Unit {0}) Stop) → EndsAt result (limits_of (units_on places)) (at_rest m)
+ends_by : (Q : State → Type 0) (units : ℕ) (m : Map) (script : List ℕ) (lines : List (List ℕ))
+    (result : Result (Unit {0}) Stop) → EndsAt result (limits_of units) (at_rest m)
     (commands_of script) lines Q
-    → EndsBy (ending_of result) Q places m script lines
-ends_by Q places m script lines (Ok u) e = e
-ends_by Q places m script lines (Err (stop.Store (fault.Chip f))) e = e
-ends_by Q places m script lines (Err (stop.Store (fault.Image f))) e = e
-ends_by Q places m script lines (Err (stop.Store fault.Spent)) e = e
-ends_by Q places m script lines (Err stop.Script) e = e
-ends_by Q places m script lines (Err stop.Output) e = e
-ends_by Q places m script lines (Err stop.TooLong) e = e
+    → EndsBy (ending_of result) Q units m script lines
+ends_by Q units m script lines (Ok u) e = e
+ends_by Q units m script lines (Err (stop.Store (fault.Chip f))) e = e
+ends_by Q units m script lines (Err (stop.Store (fault.Image f))) e = e
+ends_by Q units m script lines (Err (stop.Store fault.Spent)) e = e
+ends_by Q units m script lines (Err stop.Script) e = e
+ends_by Q units m script lines (Err stop.Output) e = e
+ends_by Q units m script lines (Err stop.TooLong) e = e
 
-between_so : (Q R : State → Type 0) (places : ℕ) (m : Map) (script : List ℕ) (lines : List (List ℕ))
-    → ((s : State) → Q s → R s) → IsBetween Q places m script lines
-    → IsBetween R places m script lines
-between_so Q R places m script lines f e = record {
+between_so : (Q R : State → Type 0) (units : ℕ) (m : Map) (script : List ℕ) (lines : List (List ℕ))
+    → ((s : State) → Q s → R s) → IsBetween Q units m script lines
+    → IsBetween R units m script lines
+between_so Q R units m script lines f e = record {
   answered = e.answered;
   later = e.later;
   commands_are = e.commands_are;
@@ -195,16 +207,16 @@ between_so Q R places m script lines f e = record {
 }
 
 -- what is so of a state after a run, so is what follows from it
-ends_state : (Q R : State → Type 0) (places : ℕ) (m : Map) (script : List ℕ) (lines : List (List ℕ))
-    → ((s : State) → Q s → R s) → (e : Ending) → EndsBy e Q places m script lines
-    → EndsBy e R places m script lines
-ends_state Q R places m script lines f (Ok u) e = f _ e
-ends_state Q R places m script lines f (Err Words) e = between_so Q R places m script lines f e
-ends_state Q R places m script lines f (Err (Chip x)) e = between_so Q R places m script lines f e
-ends_state Q R places m script lines f (Err OutOfMemory) e = between_so Q R places m script lines f
+ends_state : (Q R : State → Type 0) (units : ℕ) (m : Map) (script : List ℕ) (lines : List (List ℕ))
+    → ((s : State) → Q s → R s) → (e : Ending) → EndsBy e Q units m script lines
+    → EndsBy e R units m script lines
+ends_state Q R units m script lines f (Ok u) e = f _ e
+ends_state Q R units m script lines f (Err Words) e = between_so Q R units m script lines f e
+ends_state Q R units m script lines f (Err (Chip x)) e = between_so Q R units m script lines f e
+ends_state Q R units m script lines f (Err OutOfMemory) e = between_so Q R units m script lines f
     e
-ends_state Q R places m script lines f (Err Script) e = between_so Q R places m script lines f e
-ends_state Q R places m script lines f (Err Output) e = record {
+ends_state Q R units m script lines f (Err Script) e = between_so Q R units m script lines f e
+ends_state Q R units m script lines f (Err Output) e = record {
   answered = e.answered;
   command = e.command;
   later = e.later;
@@ -214,27 +226,27 @@ ends_state Q R places m script lines f (Err Output) e = record {
   next = e.next;
   rests = f _ e.rests;
 }
-ends_state Q R places m script lines f (Err TooLong) e = between_so Q R places m script lines f e
+ends_state Q R units m script lines f (Err TooLong) e = between_so Q R units m script lines f e
 
 pub all_done : (result : Result (Unit {0}) Stop) → ending_of result ≡ Ok tt → is_ok result ≡ true
 all_done (Ok u) is = refl
 all_done (Err s) is = absurd cc
 
-module _ (places : ℕ) (m : Map) (script : List ℕ) (h : History) (first : Story)
+module _ (places units : ℕ) (m : Map) (script : List ℕ) (h : History) (first : Story)
     (silent : pieces first ≡ [])
     (each : AtEachMoment (λ e. EachStands places m (adds_all e h)) first)
     (lawful : (base : Story) → IsLawful base → IsLawful (first ++ base)) where
   abbrev limits : Limits
-  limits = limits_of (units_on places)
+  limits = limits_of units
 
   abbrev Found : Story → Type 0
-  Found e = Leaves (says sector_in) (StandsAbout places m script (said e)) h e
+  Found e = Leaves (says sector_in) (StandsAbout places units m script (said e)) h e
 
   -- at each moment of them nothing was answered
   near_first : AtEachMoment Found first
   near_first = λ later e is x image.
       let quiet : pieces e ≡ [] = silent-part later e (ap pieces is ∙ silent) in
-      subst (λ (bytes : List ℕ). StandsAbout places m script bytes x) (sym (ap joined quiet))
+      subst (λ (bytes : List ℕ). StandsAbout places units m script bytes x) (sym (ap joined quiet))
       (near_silent (λ s. Stands places (chart_of x) s.map) limits (at_rest m) (commands_of script)
       (each later e is x image))
 
@@ -247,24 +259,24 @@ module _ (places : ℕ) (m : Map) (script : List ℕ) (h : History) (first : Sto
     abbrev Resting : State → Type 0
     Resting s = Unrisen old new → StoryRests places s.map (adds_all first h)
 
-    none_between : IsBetween Resting places m script (pieces first)
-    none_between = subst (IsBetween Resting places m script) (sym silent) (between_none limits
+    none_between : IsBetween Resting units m script (pieces first)
+    none_between = subst (IsBetween Resting units m script) (sym silent) (between_none limits
         (at_rest m) (commands_of script) Resting rests)
 
     pub runs_none : (ending : Ending) → (ending ≡ Ok tt → ⊥)
-        → EndsBy ending Resting places m script (pieces first)
-        → Runs places m script h [] old new ending
+        → EndsBy ending Resting units m script (pieces first)
+        → Runs places units m script h [] old new ending
     runs_none ending unfinished ends = record {
       added = first;
       history = history ∙ ap (option_map (adds_all first)) (same_history old.history);
       each_moment = near_first;
-      replies = subst (SaysLines (answers places m script)) (sym silent)
-          (says_none (answers places m script));
-      is_prefix = subst (λ (bytes : List ℕ). IsPrefix bytes (joined_text (answers places m script)))
-          (sym (ap joined silent)) (joined_text (answers places m script), refl);
+      replies = subst (SaysLines (answers units m script)) (sym silent)
+          (says_none (answers units m script));
+      is_prefix = subst (λ (bytes : List ℕ). IsPrefix bytes (joined_text (answers units m script)))
+          (sym (ap joined silent)) (joined_text (answers units m script), refl);
       lawful = lawful;
       steady = steady;
-      rests = λ unrisen. subst (IsAbout (λ s. StoryRests places s.map (adds_all first h)) places m
+      rests = λ unrisen. subst (IsAbout (λ s. StoryRests places s.map (adds_all first h)) units m
           script) (sym (ap joined silent))
           (near_silent (λ s. StoryRests places s.map (adds_all first h)) limits (at_rest m)
           (commands_of script) (rests unrisen));
@@ -276,27 +288,27 @@ module _ (places : ℕ) (m : Map) (script : List ℕ) (h : History) (first : Sto
       all = λ is. absurd (unfinished is);
     }
 
-    pub none_failed : (e : ImageFault) → Runs places m script h [] old new (Err (Chip e))
+    pub none_failed : (e : ImageFault) → Runs places units m script h [] old new (Err (Chip e))
     none_failed e = runs_none (Err (Chip e)) (λ is. cc) none_between
 
-    pub none_wanting : Runs places m script h [] old new (Err OutOfMemory)
+    pub none_wanting : Runs places units m script h [] old new (Err OutOfMemory)
     none_wanting = runs_none (Err OutOfMemory) (λ is. cc) none_between
 
   -- ---- then the script was run
 
-  module _ (old mid new : Told) (before then : ScriptStore) (least : 5 ≤ places)
+  module _ (old mid new : Told) (before then : ScriptStore)
       (later : old.write_faults ≤ mid.write_faults)
       (told : mid.history ≡ option_map (adds_all first) old.history)
-      (clean : (base : Story) → AreClean (script_keeping.clean before) (first ++ base)) where
+      (clean : (base : Story) → AreClean ((script_keeping places).clean before) (first ++ base)) where
     module _ (R : History → State → Type 0) (result : Result (Unit {0}) Stop)
-        (stays : (k : History) (s : State) → R k s → Stays script_keeping limits then mid new k s)
-        (leaves : RunLeaves script_keeping limits (at_rest m) (commands_of script) before
+        (stays : (k : History) (s : State) → R k s → Stays (script_keeping places) limits then mid new k s)
+        (leaves : RunLeaves (script_keeping places) limits (at_rest m) (commands_of script) before
         (adds_all first h) R then mid new result) where
       abbrev last : History
       last = adds_all leaves.added (adds_all first h)
 
       kept_last : (s : State) → R last s → Unrisen old new → Kept places new last s
-      kept_last s so unrisen = kept places least then new s last
+      kept_last s so unrisen = kept places limits then new s last
           (stays last s so (unrisen_later old mid new later unrisen))
 
       all_pieces : pieces (leaves.added ++ first) ≡ pieces leaves.added
@@ -308,37 +320,31 @@ module _ (places : ℕ) (m : Map) (script : List ℕ) (h : History) (first : Sto
       all_history : last ≡ adds_all (leaves.added ++ first) h
       all_history = history_behind first leaves.added h
 
-      moments : AtEachMoment (λ e. Leaves (says sector_in) (StandsAbout places m script (said e))
-          (adds_all first h) e) leaves.added
-      moments = subst (λ (q : ℕ). AtEachMoment (λ e. Leaves (says sector_in)
-          (λ x. IsAbout (λ s. Stands q (chart_of x) s.map) places m script (said e))
-          (adds_all first h) e) leaves.added) (omega (arith, least)) leaves.each_moment
-
       later_found : AtEachMoment (λ f. Found (f ++ first)) leaves.added
-      later_found = at_weaker (λ e. Leaves (says sector_in) (StandsAbout places m script (said e))
+      later_found = at_weaker (λ e. Leaves (says sector_in) (StandsAbout places units m script (said e))
           (adds_all first h) e) (λ f. Found (f ++ first)) leaves.added (λ f found x image.
-          subst (λ (bytes : List ℕ). StandsAbout places m script bytes x)
+          subst (λ (bytes : List ℕ). StandsAbout places units m script bytes x)
           (sym (said-append f first ∙ ap (λ (ps : List (List ℕ)). joined ps ++ said f) silent))
           (found x (subst (λ (s : Story). IsNoChanceImage (says sector_in) h.start s x)
-          (append_assoc f first h.story) image))) moments
+          (append_assoc f first h.story) image))) leaves.each_moment
 
-      steady_near : IsAbout (R last) places m script (said leaves.added) → Unrisen old new
+      steady_near : IsAbout (R last) units m script (said leaves.added) → Unrisen old new
           → IsSteady last new
       steady_near near unrisen = elim near [
         | inl so ↦ (kept_last _ so unrisen).steady
         | inr so ↦ (kept_last _ so unrisen).steady
       ]
 
-      rests_near : IsAbout (R last) places m script (said leaves.added) → Unrisen old new
-          → IsAbout (λ s. StoryRests places s.map last) places m script (said leaves.added)
+      rests_near : IsAbout (R last) units m script (said leaves.added) → Unrisen old new
+          → IsAbout (λ s. StoryRests places s.map last) units m script (said leaves.added)
       rests_near near unrisen = elim near [
         | inl so ↦ inl (kept_last _ so unrisen).rests
         | inr so ↦ inr (kept_last _ so unrisen).rests
       ]
 
       ends_last : EndsBy (ending_of result) (λ s. Unrisen old new → StoryRests places s.map last)
-          places m script (pieces leaves.added)
-      ends_last = ends_by (λ s. Unrisen old new → StoryRests places s.map last) places m script
+          units m script (pieces leaves.added)
+      ends_last = ends_by (λ s. Unrisen old new → StoryRests places s.map last) units m script
           (pieces leaves.added) result
           (ends_weaker limits (at_rest m) result (commands_of script) (pieces leaves.added) (R last)
           (λ s. Unrisen old new → StoryRests places s.map last)
@@ -346,29 +352,29 @@ module _ (places : ℕ) (m : Map) (script : List ℕ) (h : History) (first : Sto
 
       runs_by : (read unread : List ℕ) → script ≡ read ++ unread → new.beside.left ≡ Some unread
           → (is_ok result ≡ true → unread ≡ [])
-          → Runs places m script h [] old new (ending_of result)
+          → Runs places units m script h [] old new (ending_of result)
       runs_by read unread script_is left_is ends = record {
         added = leaves.added ++ first;
         history = leaves.history ∙ ap (option_map (adds_all leaves.added)) told
             ∙ history_then leaves.added first old.history
             ∙ ap (option_map (adds_all (leaves.added ++ first))) (same_history old.history);
         each_moment = at_both Found leaves.added first near_first later_found;
-        replies = subst (SaysLines (answers places m script)) (sym all_pieces) leaves.replies;
+        replies = subst (SaysLines (answers units m script)) (sym all_pieces) leaves.replies;
         is_prefix = subst (λ (bytes : List ℕ). IsPrefix bytes
-            (joined_text (answers places m script))) (sym all_said)
-            (says_prefix (answers places m script) (pieces leaves.added) leaves.replies);
+            (joined_text (answers units m script))) (sym all_said)
+            (says_prefix (answers units m script) (pieces leaves.added) leaves.replies);
         lawful = λ base good. subst IsLawful (sym (append_assoc leaves.added first base))
             (leaves.lawful.lawful (first ++ base) (lawful base good) (clean base));
         steady = λ unrisen. subst (λ (k : History). IsSteady k new) all_history
             (steady_near leaves.rests unrisen);
-        rests = λ unrisen. subst (λ (k : History). IsAbout (λ s. StoryRests places s.map k) places m
+        rests = λ unrisen. subst (λ (k : History). IsAbout (λ s. StoryRests places s.map k) units m
             script (said (leaves.added ++ first))) all_history
-            (subst (IsAbout (λ s. StoryRests places s.map last) places m script) (sym all_said)
+            (subst (IsAbout (λ s. StoryRests places s.map last) units m script) (sym all_said)
             (rests_near leaves.rests unrisen));
         ends = subst (λ (k : History). EndsBy (ending_of result) (λ s. Unrisen old new → StoryRests
-            places s.map k) places m script (pieces (leaves.added ++ first))) all_history
+            places s.map k) units m script (pieces (leaves.added ++ first))) all_history
             (subst (EndsBy (ending_of result) (λ s. Unrisen old new → StoryRests places s.map last)
-            places m script) (sym all_pieces) ends_last);
+            units m script) (sym all_pieces) ends_last);
         read = read;
         unread = unread;
         script_is = script_is;
@@ -381,65 +387,80 @@ module _ (places : ℕ) (m : Map) (script : List ℕ) (h : History) (first : Sto
         );
       }
 
-    pub runs_ended : Ended script_keeping limits (at_rest m) script before (adds_all first h) then
-        mid new → Runs places m script h [] old new (Ok tt)
-    runs_ended e = runs_by (script_keeping.holds limits then new) (Ok tt) (λ k s held unrisen. held)
+    pub runs_ended : Ended (script_keeping places) limits (at_rest m) script before (adds_all first h) then
+        mid new → Runs places units m script h [] old new (Ok tt)
+    runs_ended e = runs_by ((script_keeping places).holds limits then new) (Ok tt) (λ k s held unrisen. held)
         e.leaves script [] (sym (append-nil script)) e.left_is (λ is. refl)
 
-    pub runs_stopped : (s : Stop) → Stopped script_keeping limits (at_rest m) (commands_of script)
-        script before (adds_all first h) (Stays script_keeping limits then mid new) then mid new s
-        → Runs places m script h [] old new (ending_of (Err s))
-    runs_stopped s e = runs_by (Stays script_keeping limits then mid new) (Err s)
+    pub runs_stopped : (s : Stop) → Stopped (script_keeping places) limits (at_rest m) (commands_of script)
+        script before (adds_all first h) (Stays (script_keeping places) limits then mid new) then mid new s
+        → Runs places units m script h [] old new (ending_of (Err s))
+    runs_stopped s e = runs_by (Stays (script_keeping places) limits then mid new) (Err s)
         (λ k state stays. stays) e.leaves e.read e.rest e.source_is e.left_is (λ is. absurd cc)
 
 -- ---- over a chip that was opened
 
 module _ (old mid : Told) (store : ScriptStore) (s : StartsOpened old store mid) where
-  -- the store keeps the records on which the history rested
+  -- the store has as many units as the chip says
+  pub units_told : (h : History) → IsSteady h old
+      → store.store.units ≡ units_at (now h) old.places
+  units_told h steady = s.opens.units (held h.start h.story) steady.holds
+
+  -- it keeps the records on which the history rested
   pub opened_keeps : (m : Map) (h : History) (steady : IsSteady h old)
       (rests : StoryRests old.places m h)
-      → KeepsScript (limits_of (units_on old.places)) store mid
+      → KeepsScript old.places (limits_of store.store.units) store mid
       (adds_all (s.tries.steps m h steady rests).added h) (at_rest m)
   opened_keeps m h steady rests =
       let made = s.running.sound.made in
       let did = s.tries.steps m h steady rests in
       let k = adds_all did.added h in record {
-        kept = subst (λ (u : ℕ). KeepsStore (limits_of u) (view_of store.store) mid k (at_rest m))
-            (omega (arith, made.units)) (s.opens.keeps m k (held h.start h.story) steady.holds
+        kept = s.opens.keeps m k (held h.start h.story) steady.holds
             (held_stands old.places m h rests.each) (did.steady tt) (did.ends tt)
-            (did.does.clean refl h.story (λ p q nowhere. absurd nowhere)));
+            (did.does.clean refl h.story (λ p q nowhere. absurd nowhere));
         few = omega (arith, made.units, made.geometry.1);
       }
 
   module _ (then : ScriptStore) (new : Told) where
-    pub opened_runs : (result : Result (Unit {0}) Stop)
-        → RunsScript script_keeping store mid result then new
-        → RunsOpened old new (ending_of result)
-    opened_runs (Ok u) run = λ h script steady left m rests.
+    opened_so : (result : Result (Unit {0}) Stop)
+        → RunsScript (script_keeping old.places) store mid result then new
+        → (h : History) (script : List ℕ) → IsSteady h old → old.beside.left ≡ Some script
+        → (m : Map) → StoryRests old.places m h
+        → Runs old.places store.store.units m script h [] old new (ending_of result)
+    opened_so (Ok u) run h script steady left m rests =
         let did = s.tries.steps m h steady rests in
-        runs_ended old.places m script h did.added did.does.silent did.each_moment
+        runs_ended old.places store.store.units m script h did.added did.does.silent did.each_moment
         (λ base good. did.does.lawful.lawful base good (λ p q nowhere. absurd nowhere))
-        old mid new store then s.running.sound.made.geometry.0 s.tries.accounts.counts.writes
-        did.history
+        old mid new store then s.tries.accounts.counts.writes did.history
         (λ base. did.does.clean refl base (λ p q nowhere. absurd nowhere))
-        (run (limits_of (units_on old.places)) (at_rest m) (adds_all did.added h) (opened_keeps m h
+        (run (limits_of store.store.units) (at_rest m) (adds_all did.added h) (opened_keeps m h
         steady rests) script (left_counts old mid s.tries.accounts.counts ∙ left))
-    opened_runs (Err e) run = λ h script steady left m rests.
+    opened_so (Err e) run h script steady left m rests =
         let did = s.tries.steps m h steady rests in
-        runs_stopped old.places m script h did.added did.does.silent did.each_moment
+        runs_stopped old.places store.store.units m script h did.added did.does.silent
+        did.each_moment
         (λ base good. did.does.lawful.lawful base good (λ p q nowhere. absurd nowhere))
-        old mid new store then s.running.sound.made.geometry.0 s.tries.accounts.counts.writes
-        did.history
+        old mid new store then s.tries.accounts.counts.writes did.history
         (λ base. did.does.clean refl base (λ p q nowhere. absurd nowhere)) e
-        (run (limits_of (units_on old.places)) (at_rest m) (adds_all did.added h) (opened_keeps m h
+        (run (limits_of store.store.units) (at_rest m) (adds_all did.added h) (opened_keeps m h
         steady rests) script (left_counts old mid s.tries.accounts.counts ∙ left))
+
+    pub opened_runs : (result : Result (Unit {0}) Stop)
+        → RunsScript (script_keeping mid.places) store mid result then new
+        → RunsOpened old new (ending_of result)
+    opened_runs result run = λ h script steady left m rests.
+        subst (λ (n : ℕ). Runs old.places n m script h [] old new (ending_of result))
+        (units_told h steady)
+        (opened_so result (subst (λ (n : ℕ). RunsScript (script_keeping n) store mid result then new)
+        s.tries.accounts.counts.places run) h script steady left m rests)
 
 -- an opening that fails leaves the records
 pub unopened_runs : (old new : Told) (end : End) → (n : IsNotOpened end old new)
     → RunsOpened old new (Err (Chip n.fault))
 unopened_runs old new end n = λ h script steady left m rests.
     let did = n.tries.steps m h steady rests in
-    none_failed old.places m script h did.added did.does.silent did.each_moment
+    none_failed old.places (units_at (now h) old.places) m script h did.added did.does.silent
+    did.each_moment
     (λ base good. did.does.lawful.lawful base good (λ p q nowhere. absurd nowhere))
     old new did.history (left_counts old new n.tries.accounts.counts ∙ left) did.steady did.ends
     n.fault
@@ -464,14 +485,16 @@ module _ (old new : Told) (is : IsUntouched old new) where
 
   pub untouched_runs : RunsOpened old new (Err OutOfMemory)
   untouched_runs = λ h script steady left m rests.
-      none_wanting old.places m script h [] refl (still_each old.places m h rests)
+      none_wanting old.places (units_at (now h) old.places) m script h [] refl
+      (still_each old.places m h rests)
       (λ base good. good)
       old new told_still (left_still script left) (λ unrisen. steady_still h steady)
       (λ unrisen. rests)
 
   pub untouched_stops : (e : ImageFault) → RunsOpened old new (Err (Chip e))
   untouched_stops e = λ h script steady left m rests.
-      none_failed old.places m script h [] refl (still_each old.places m h rests)
+      none_failed old.places (units_at (now h) old.places) m script h [] refl
+      (still_each old.places m h rests)
       (λ base good. good)
       old new told_still (left_still script left) (λ unrisen. steady_still h steady)
       (λ unrisen. rests) e
@@ -479,10 +502,13 @@ module _ (old new : Told) (is : IsUntouched old new) where
 -- ---- over a chip that was formatted first
 
 module _ (old mid new : Told) (f : WasFormatted old mid) where
+  abbrev first : Story
+  first = format_events old.places (units_on old.places)
+
   -- the story of a chip that was formatted rests on no records
   pub fresh_story : (h : History) → IsSteady h old
-      → IsSteady (adds_all (format_events old.places) h) mid
-      × StoryRests old.places empty (adds_all (format_events old.places) h)
+      → IsSteady (adds_all first h) mid
+      × StoryRests old.places empty (adds_all first h)
   fresh_story h steady =
       let did = f.formats h in (
         subst (λ (s : Story). IsSteady (adds_all s h) mid) did.done.exact (did.steady (λ is. cc) steady),
@@ -490,35 +516,46 @@ module _ (old mid new : Told) (f : WasFormatted old mid) where
             did.done.rests,
       )
 
+  -- and the chip says that it has all units, none of its places being spare
+  pub fresh_units : (h : History)
+      → units_at (now (adds_all first h)) old.places ≡ units_on old.places
+  fresh_units h =
+      let did = f.formats h in
+      subst (λ (s : Story). units_at (now (adds_all s h)) old.places ≡ units_on old.places)
+      did.done.exact
+      (laid_says_its_units (now (adds_all did.added h)) old.places
+      (first_layout (units_on old.places)) did.done.fresh.mirrors.laid)
+
   -- what the chip tells grew by its events
   pub told_format : (h : History) → mid.history
-      ≡ option_map (adds_all (format_events old.places)) old.history
+      ≡ option_map (adds_all first) old.history
   told_format h = let did = f.formats h in did.history
       ∙ ap (λ (s : Story). option_map (adds_all s) old.history) did.done.exact
 
   pub lawful_format : (h : History) (base : Story) → IsLawful base
-      → IsLawful (format_events old.places ++ base)
+      → IsLawful (first ++ base)
   lawful_format h base good = let did = f.formats h in subst (λ (s : Story). IsLawful
       (s ++ base)) did.done.exact (did.lawful base good)
 
   -- a run from there on is one after the events of the format
   after_format : {ending : Ending} (script : List ℕ) (h : History)
-      → Runs old.places empty script (adds_all (format_events old.places) h) [] mid new ending
-      → Runs old.places empty script h (format_events old.places) old new ending
+      → Runs old.places (units_on old.places) empty script (adds_all first h) [] mid new ending
+      → Runs old.places (units_on old.places) empty script h first old new ending
   after_format {ending} script h r = let last : History = adds_all r.added
-      (adds_all (format_events old.places) h) in record {
+      (adds_all first h) in record {
         added = r.added;
         history = r.history ∙ ap (option_map (adds_all r.added)) (sym (same_history mid.history)
             ∙ told_format h);
         each_moment = r.each_moment;
         replies = r.replies;
         is_prefix = r.is_prefix;
-        lawful = λ base good. r.lawful (format_events old.places ++ base) (lawful_format h base
+        lawful = λ base good. r.lawful (first ++ base) (lawful_format h base
             good);
         steady = λ unrisen. r.steady (earlier unrisen);
         rests = λ unrisen. r.rests (earlier unrisen);
         ends = ends_state (λ s. Unrisen mid new → StoryRests old.places s.map last) (λ s. Unrisen old
-            new → StoryRests old.places s.map last) old.places empty script (pieces r.added)
+            new → StoryRests old.places s.map last) (units_on old.places) empty script
+            (pieces r.added)
             (λ s so unrisen. so (earlier unrisen)) ending r.ends;
         read = r.read;
         unread = r.unread;
@@ -533,9 +570,12 @@ module _ (old mid new : Told) (f : WasFormatted old mid) where
   pub formatted_runs : {ending : Ending} → RunsOpened mid new ending → RunsFormatted old new ending
   formatted_runs {ending} runs = λ h script steady left.
       let fresh = fresh_story h steady in
-      after_format script h (subst (λ (q : ℕ). Runs q empty script
-      (adds_all (format_events old.places) h) [] mid new ending) f.counts.places
-      (runs (adds_all (format_events old.places) h) script fresh.0
+      after_format script h
+      (subst (λ (n : ℕ). Runs old.places n empty script (adds_all first h) [] mid new ending)
+      (fresh_units h)
+      (subst (λ (q : ℕ). Runs q (units_at (now (adds_all first h)) q) empty script
+      (adds_all first h) [] mid new ending) f.counts.places
+      (runs (adds_all first h) script fresh.0
       (left_counts old mid f.counts ∙ left) empty
-      (subst (λ (q : ℕ). StoryRests q empty (adds_all (format_events old.places) h))
-      (sym f.counts.places) fresh.1)))
+      (subst (λ (q : ℕ). StoryRests q empty (adds_all first h))
+      (sym f.counts.places) fresh.1))))

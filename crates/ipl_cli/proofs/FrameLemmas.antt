@@ -24,7 +24,7 @@ module _ (old mid new : Told) (only : new ≡ but_noted mid new.beside.noted) wh
 
   pub asked_noted : (asked : AskedFor) → DoesAsAsked asked old mid → DoesAsAsked asked old new
   asked_noted None d = tt
-  asked_noted (Some Format) d = tt
+  asked_noted (Some (Format spares)) d = tt
   asked_noted (Some (Run frames true)) d = with_noted _ _ frames d
   asked_noted (Some (Run frames false)) d = with_noted _ _ frames d
   asked_noted (Some Serial) d = tt

@@ -6,6 +6,7 @@ use Rattle.chip_trait.specs.Lawful.{IsLawful}
 use Rattle.chip_trait.specs.Story.{Story}
 use Rattle.chip_trait.specs.Told.{History, Told, Appends, FailsToSay, adds, adds_all}
 use Rattle.chip_trait.proofs.HistoryLemmas.{same_history, history_then}
+use Rattle.ipl_base.specs.Places.{units_on}
 use Rattle.ipl_base.specs.declared.fault.FormatFault.{FormatFault}
 use Rattle.ipl_base.specs.declared.fault.ImageFault.{ImageFault}
 use Rattle.ipl_meaning.specs.Tables.{Tables}
@@ -87,9 +88,9 @@ adds_noted old mid new did only =
 abbrev some_history : History
 some_history = record { start = λ p s. []; story = [] }
 
-pub adds_format : {T : Type 0} (places : ℕ) (old : Told) (result : Result T FormatFault) (new : Told)
-    → ((h : History) → Formats places h old result new) → AddsLawful old new
-adds_format places old result new formats =
+pub adds_format : {T : Type 0} (places units : ℕ) (old : Told) (result : Result T FormatFault)
+    (new : Told) → ((h : History) → Formats places units h old result new) → AddsLawful old new
+adds_format places units old result new formats =
     let did = formats some_history in record {
       added = did.added;
       history = did.history;
@@ -122,14 +123,15 @@ unstarted_adds end old new (inr (inl did)) =
     }) stops.noted
 unstarted_adds end old new (inr (inr (formatted, formats, did))) =
     adds_then old formatted new
-    (adds_format {T = Unit {0}} old.places old (Ok tt) formatted formats.formats)
+    (adds_format {T = Unit {0}} old.places (units_on old.places) old (Ok tt) formatted
+    formats.formats)
     (unopened_adds end formatted new did)
 
 -- ---- a run
 
 -- after an opening that leaves clean what the store counts so
 pub opened_adds : (old mid new : Told) (before then : ScriptStore) (done : Bool) → StartsOpened old before mid
-    → LeavesTidy script_keeping before then mid new done → AddsLawful old new
+    → LeavesTidy (script_keeping mid.places) before then mid new done → AddsLawful old new
 opened_adds old mid new before then done opened run =
     let first = opened.tries.tidy in record {
       added = run.added ++ first.added;
@@ -143,10 +145,11 @@ opened_adds old mid new before then done opened run =
 
 -- after a format
 pub formatted_adds : (old mid new : Told) (before then : ScriptStore) (done : Bool)
-    → StartsFormatted old before mid → LeavesTidy script_keeping before then mid new done
+    → StartsFormatted old before mid
+    → LeavesTidy (script_keeping mid.places) before then mid new done
     → AddsLawful old new
 formatted_adds old mid new before then done started run =
     adds_then old started.formatted new
-    (adds_format {T = Unit {0}} old.places old (Ok tt) started.formatted
+    (adds_format {T = Unit {0}} old.places (units_on old.places) old (Ok tt) started.formatted
     started.formats.formats)
     (opened_adds started.formatted mid new before then done started.opened run)

@@ -21,17 +21,18 @@ module _ (old mid : Told) (noted : Option (List ℕ)) where
   abbrev then : Told
   then = but_noted mid noted
 
-  format_cause : (e : ImageFault) → FormatCause e old mid → FormatCause e old then
-  format_cause image.Geometry c = c
-  format_cause image.NotFormatted c = c
-  format_cause (image.Missing u) c = c
-  format_cause (image.Chip ReadFault) c = c
-  format_cause (image.Chip Stopped) c = c
-  format_cause (image.Chip (Damaged p s stored computed)) c = c
-  format_cause (image.Chip (Malformed p s)) c = c
-  format_cause (image.Chip (WornOut n)) c = c
-  format_cause image.Spent c = c
-  format_cause (image.NoSpare n) c = c
+  format_cause : (spares : ℕ) (e : ImageFault) → FormatCause spares e old mid
+      → FormatCause spares e old then
+  format_cause spares image.Geometry c = c
+  format_cause spares image.NotFormatted c = c
+  format_cause spares (image.Missing u) c = c
+  format_cause spares (image.Chip ReadFault) c = c
+  format_cause spares (image.Chip Stopped) c = c
+  format_cause spares (image.Chip (Damaged p s stored computed)) c = c
+  format_cause spares (image.Chip (Malformed p s)) c = c
+  format_cause spares (image.Chip (WornOut n)) c = c
+  format_cause spares image.Spent c = c
+  format_cause spares (image.NoSpare n) c = c
 
   formatted_cause : (e : ImageFault) → FormattedCause e old mid → FormattedCause e old then
   formatted_cause image.Geometry c = c
@@ -41,7 +42,8 @@ module _ (old mid : Told) (noted : Option (List ℕ)) where
   formatted_cause (image.Chip Stopped) c = c
   formatted_cause (image.Chip (Damaged p s stored computed)) c = c
   formatted_cause (image.Chip (Malformed p s)) c = c
-  formatted_cause (image.Chip (WornOut n)) c = c
+  formatted_cause (image.Chip (WornOut n)) c =
+      record { count = c.count; exact = c.exact; rose = c.rose }
   formatted_cause image.Spent c = c
   formatted_cause (image.NoSpare n) c = c
 
@@ -53,25 +55,26 @@ module _ (old mid : Told) (noted : Option (List ℕ)) where
   opened_cause (image.Chip Stopped) c = c
   opened_cause (image.Chip (Damaged p s stored computed)) c = c
   opened_cause (image.Chip (Malformed p s)) c = c
-  opened_cause (image.Chip (WornOut n)) c = c
+  opened_cause (image.Chip (WornOut n)) c =
+      record { count = c.count; exact = c.exact; rose = c.rose }
   opened_cause image.Spent c = c
   opened_cause (image.NoSpare n) c = c
 
   request_cause : (request : Request) (end : End) → RequestCause request end old mid
       → RequestCause request end old then
   request_cause request Words c = c
-  request_cause Format (Chip e) c = format_cause e c
+  request_cause (Format spares) (Chip e) c = format_cause spares e c
   request_cause (Run frames true) (Chip e) c = formatted_cause e c
   request_cause (Run frames false) (Chip e) c = opened_cause e c
   request_cause Serial (Chip e) c = c
   request_cause (Trial seed count frames) (Chip e) c = formatted_cause e c
   request_cause request OutOfMemory c = c
-  request_cause Format Script c = c
+  request_cause (Format spares) Script c = c
   request_cause (Run frames formats) Script c = c
   request_cause Serial Script c = c
   request_cause (Trial seed count frames) Script c = c
   request_cause request Output c = c
-  request_cause Format TooLong c = c
+  request_cause (Format spares) TooLong c = c
   request_cause (Run frames formats) TooLong c = record { grew = c.grew; told = c.told }
   request_cause Serial TooLong c = record { grew = c.grew; told = c.told }
   request_cause (Trial seed count frames) TooLong c = c
@@ -86,9 +89,9 @@ module _ (old mid : Told) (noted : Option (List ℕ)) where
   steady_noted : {h : History} → IsSteady h mid → IsSteady h then
   steady_noted steady = record { holds = steady.holds; settled = steady.settled }
 
-  runs_noted : {places : ℕ} {m : Map} {script : List ℕ} {h : History} {first : List _}
-      {ending : Ending} → Runs places m script h first old mid ending
-      → Runs places m script h first old then ending
+  runs_noted : {places units : ℕ} {m : Map} {script : List ℕ} {h : History} {first : List _}
+      {ending : Ending} → Runs places units m script h first old mid ending
+      → Runs places units m script h first old then ending
   runs_noted r = record {
     added = r.added;
     history = r.history;
@@ -106,8 +109,8 @@ module _ (old mid : Told) (noted : Option (List ℕ)) where
     all = r.all;
   }
 
-  stops_noted : {places : ℕ} {h : History} {ending : Ending} → StopsEarly places h old mid ending
-      → StopsEarly places h old then ending
+  stops_noted : {places units : ℕ} {h : History} {ending : Ending}
+      → StopsEarly places units h old mid ending → StopsEarly places units h old then ending
   stops_noted s = record {
     stopped = s.stopped;
     fault = s.fault;
@@ -134,8 +137,8 @@ module _ (old mid : Told) (noted : Option (List ℕ)) where
     all = t.all;
   }
 
-  laid_out_noted : {places : ℕ} {h : History} {done : Bool} → IsLaidOut places h old mid done
-      → IsLaidOut places h old then done
+  laid_out_noted : {places units : ℕ} {h : History} {done : Bool}
+      → IsLaidOut places units h old mid done → IsLaidOut places units h old then done
   laid_out_noted l = record {
     added = l.added;
     says = l.says;
@@ -143,6 +146,7 @@ module _ (old mid : Told) (noted : Option (List ℕ)) where
     settled = l.settled;
     steady = λ steady. steady_noted (l.steady steady);
     rests = l.rests;
+    count = l.count;
     lawful = l.lawful;
     left_is = l.left_is;
     all = l.all;
@@ -165,7 +169,8 @@ module _ (old mid : Told) (noted : Option (List ℕ)) where
   opened_noted : {ending : Ending} → RunsOpened old mid ending → RunsOpened old then ending
   opened_noted runs = λ h script steady left m rests. runs_noted (runs h script steady left m rests)
 
-  stopped_noted : {ending : Ending} → IsStopped old mid ending → IsStopped old then ending
+  stopped_noted : {units : ℕ} {ending : Ending} → IsStopped units old mid ending
+      → IsStopped units old then ending
   stopped_noted stops = λ h. stops_noted (stops h)
 
   either_noted : {ending : Ending} → RunsOrStops old mid ending → RunsOrStops old then ending
@@ -174,25 +179,27 @@ module _ (old mid : Told) (noted : Option (List ℕ)) where
     | inr stops ↦ inr (stops_noted stops)
   ]
 
-  lays_out_noted : {done : Bool} → LaysOut old mid done → LaysOut old then done
-  lays_out_noted lays = λ h. laid_out_noted (lays h)
+  lays_out_noted : (spares : ℕ) {done : Bool} → LaysOut spares old mid done
+      → LaysOut spares old then done
+  lays_out_noted spares lays = λ h. laid_out_noted (lays h)
 
   refused_noted : {e : ImageFault} → IsRefused e old mid → IsRefused e old then
   refused_noted refused = λ f has. let is = refused f has in (looks_noted is.0, is.1)
 
-  format_left : (ending : Ending) → FormatLeaves ending old mid → FormatLeaves ending old then
-  format_left (Ok u) l = lays_out_noted l
-  format_left (Err Words) l = l
-  format_left (Err (Chip image.Geometry)) l = untouched_noted l
-  format_left (Err (Chip image.NotFormatted)) l = stopped_noted l
-  format_left (Err (Chip (image.Missing u))) l = stopped_noted l
-  format_left (Err (Chip (image.Chip e))) l = stopped_noted l
-  format_left (Err (Chip image.Spent)) l = stopped_noted l
-  format_left (Err (Chip (image.NoSpare n))) l = stopped_noted l
-  format_left (Err OutOfMemory) l = untouched_noted l
-  format_left (Err Script) l = l
-  format_left (Err Output) l = lays_out_noted l
-  format_left (Err TooLong) l = l
+  format_left : (spares : ℕ) (ending : Ending) → FormatLeaves spares ending old mid
+      → FormatLeaves spares ending old then
+  format_left spares (Ok u) l = lays_out_noted spares l
+  format_left spares (Err Words) l = l
+  format_left spares (Err (Chip image.Geometry)) l = untouched_noted l
+  format_left spares (Err (Chip image.NotFormatted)) l = stopped_noted l
+  format_left spares (Err (Chip (image.Missing u))) l = stopped_noted l
+  format_left spares (Err (Chip (image.Chip e))) l = stopped_noted l
+  format_left spares (Err (Chip image.Spent)) l = stopped_noted l
+  format_left spares (Err (Chip (image.NoSpare n))) l = stopped_noted l
+  format_left spares (Err OutOfMemory) l = untouched_noted l
+  format_left spares (Err Script) l = l
+  format_left spares (Err Output) l = lays_out_noted spares l
+  format_left spares (Err TooLong) l = l
 
   formatted_left : (ending : Ending) → FormattedLeaves ending old mid
       → FormattedLeaves ending old then
@@ -257,7 +264,7 @@ module _ (old mid : Told) (noted : Option (List ℕ)) where
   end_left : (asked : AskedFor) (ending : Ending) → EndLeaves asked ending old mid
       → EndLeaves asked ending old then
   end_left None ending l = untouched_noted l
-  end_left (Some Format) ending l = format_left ending l
+  end_left (Some (Format spares)) ending l = format_left spares ending l
   end_left (Some (Run frames true)) ending l = formatted_left ending l
   end_left (Some (Run frames false)) ending l = opened_left ending l
   end_left (Some Serial) ending l = serial_left old mid noted ending l

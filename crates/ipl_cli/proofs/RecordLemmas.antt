@@ -3,6 +3,7 @@ use Rattle.std.proofs.Common.{◌≡◌, ℕ, [], List, Some, Ok, sym, subst}
 use Rattle.std.specs.FinMap.{empty}
 use Rattle.chip_trait.specs.Story.{Contents, held}
 use Rattle.chip_trait.specs.Told.{History, Told, IsConsistent, Unrisen, adds_all}
+use Rattle.ipl_base.specs.Places.{units_on}
 use Rattle.ipl_rules.specs.State.{Map}
 use Rattle.ipl_meaning.proofs.StoryLemmas.{held_stands}
 use Rattle.unit_io.specs.Leads.{IsSteady}
@@ -20,30 +21,36 @@ steady_start x t consistent told = record { holds = told; settled = consistent.s
 
 module _ (old new : Told) (consistent : IsConsistent old) where
   -- a run that is done leaves what it rests on
-  module _ (m : Map) (script : List ℕ) (x : Contents) (first : List _)
-      (r : Runs old.places m script (starts_at x) first old new (Ok tt)) (unrisen : Unrisen old new) where
+  module _ (units : ℕ) (m : Map) (script : List ℕ) (x : Contents) (first : List _)
+      (r : Runs old.places units m script (starts_at x) first old new (Ok tt))
+      (unrisen : Unrisen old new) where
     abbrev last : History
     last = adds_all r.added (adds_all first (starts_at x))
 
-    holds_records : HoldsRecords old.places (records_after old.places m script) new
+    holds_records : HoldsRecords old.places (records_after units m script) new
     holds_records = record {
       contents = held last.start last.story;
       told = (r.steady unrisen).holds;
-      stands = held_stands old.places (records_after old.places m script) last (r.ends unrisen).each;
+      stands = held_stands old.places (records_after units m script) last (r.ends unrisen).each;
     }
 
   pub opened_records : AtStatus (RunsOpened old new) 0 → EndsWithRecords FromItsRecords old new
-  opened_records at m script has left unrisen =
+  opened_records at units m script from left unrisen =
+      let has = from.holds in
       let x = has.contents in
       let runs = subst (λ (e : Ending). RunsOpened old new e) (done_at_zero at.0 (sym at.1)) at.2 in
-      holds_records m script x []
+      holds_records units m script x []
+      (subst (λ (n : ℕ). Runs old.places n m script (starts_at x) [] old new (Ok tt))
+      (sym from.units_are)
       (runs (starts_at x) script (steady_start x old consistent has.told) left m
-      (images_rest old.places m x has.stands)) unrisen
+      (images_rest old.places m x has.stands))) unrisen
 
   pub formatted_records : RunsFormatted old new (Ok tt) → EndsWithRecords FromNoRecords old new
-  formatted_records runs m script (none, has) left unrisen =
+  formatted_records runs units m script (none, many, has) left unrisen =
       let x = has.0 in
       let told = has.1 in
-      subst (λ (n : Map). HoldsRecords old.places (records_after old.places n script) new) (sym none)
-      (holds_records empty script x (format_events old.places)
-      (runs (starts_at x) script (steady_start x old consistent told) left) unrisen)
+      subst (λ (n : Map). HoldsRecords old.places (records_after units n script) new) (sym none)
+      (subst (λ (n : ℕ). HoldsRecords old.places (records_after n empty script) new) (sym many)
+      (holds_records (units_on old.places) empty script x
+      (format_events old.places (units_on old.places))
+      (runs (starts_at x) script (steady_start x old consistent told) left) unrisen))

@@ -1,5 +1,5 @@
 -- How the program starts a run, and why it doesn't.
-use Rattle.std.proofs.Common.{◌≡◌, ◌≤◌, ◌<◌, ◌+◌, ◌^◌, ℕ, true, false, Some, None, Result, Ok, Err, inl, inr, refl, sym, ◌∙◌, ap, subst, arith}
+use Rattle.std.proofs.Common.{◌≡◌, ◌≤◌, ◌<◌, ◌+◌, ◌-◌, ◌^◌, ℕ, true, false, length, Some, None, Result, Ok, Err, inl, inr, refl, sym, ◌∙◌, ap, subst, arith}
 use Rattle.std.specs.Prelude.{◌&&◌, nat_le, OnOk, IfErr, IsErrOf, is_ok}
 use Rattle.std.proofs.lemmas.Bool.{cases_Bool, cases_eq, and_parts}
 use Rattle.std.proofs.lemmas.Bool.Decides.{nat_tests}
@@ -7,7 +7,8 @@ use Rattle.std.specs.FinMap.{empty}
 use Rattle.chip_trait.specs.Story.{Story, Contents, held}
 use Rattle.chip_trait.specs.Told.{History, Told, Beside, Counts, Grew, Rose, adds_all}
 use Rattle.ipl_base.specs.Calls.{IsFailedCall}
-use Rattle.ipl_base.specs.Places.{IsGeometry, units_on}
+use Rattle.ipl_base.specs.Places.{IsGeometry, IsSpared, KeepsUnits, units_on, spares_on}
+use Rattle.ipl_base.proofs.UnitLemmas.{units_are_kept}
 use Rattle.ipl_base.specs.declared.fault.ChipFault.{ChipFault}
 use Rattle.ipl_base.specs.declared.fault.ChipFault.TheVariants.{ReadFault, Stopped, Damaged, Malformed, WornOut}
 use Rattle.ipl_base.specs.declared.fault.FormatFault.{FormatFault}
@@ -23,6 +24,7 @@ use Rattle.ipl_meaning.specs.FirstTables.{first_layout}
 use Rattle.ipl_meaning.proofs.FormattedLemmas.{no_sector}
 use Rattle.ipl_meaning.proofs.StoryLemmas.{held_stands}
 use Rattle.unit_io.specs.Leads.{IsSteady}
+use Rattle.opening_rules.specs.Chosen.{units_at}
 use Rattle.opening_rules.specs.Faults.{first_fault, greatest_found}
 use Rattle.opening_rules.specs.LaidOut.{layout_in}
 use Rattle.opening_rules.specs.Laws.{IsByteChart}
@@ -39,12 +41,14 @@ use Rattle.store_trait.specs.Onward.{Further}
 use Rattle.store_trait.proofs.DrawLemmas.{numbers_last}
 use Rattle.store_trait.specs.declared.fault.Fault.{Fault}
 use Rattle.store_trait.specs.declared.fault.Fault.TheVariants as fault
-use Rattle.status_renewal.specs.Recovers.{FailsByCallAlone, OpeningCause}
+use Rattle.place_taking.proofs.SpendingLemmas.{or_right}
+use Rattle.selective_merge.specs.Homes.{WearCause}
+use Rattle.status_renewal.specs.Recovers.{FailsByCallAlone, OpeningCause, tells_wear}
 use Rattle.status_renewal.proofs.ReadyLemmas.{layouts_say}
-use Rattle.store_steps.specs.Keeps.{limits_of}
+use Rattle.store_steps.specs.Keeps.{IsWornCount, FaultTells, StoreCause, limits_of}
 use Rattle.script_run.specs.declared.fault.Stop.{Stop}
 use Rattle.script_run.specs.declared.fault.Stop.TheVariants as stop
-use Rattle.script_run.specs.Goes.{StopCause, CompletesOver, HasRead, ReadsAll, RunsScript}
+use Rattle.script_run.specs.Goes.{StopCause, KeepsSome, CompletesOver, HasRead, ReadsAll, RunsScript}
 use Rattle.page_frames.specs.Pages.{tables_in}
 use Rattle.ipl_store.specs.declared.store.Store.{Store}
 use Rattle.ipl_store.specs.Calls.{counter_of, IsSound}
@@ -55,9 +59,9 @@ use Rattle.program_end.specs.declared.end.End.{End}
 use Rattle.program_end.specs.declared.end.End.TheVariants.{Words, Chip, OutOfMemory, Script, Output, TooLong}
 use Rattle.command_line.specs.declared.asked.Request.TheVariants.{Run}
 use Rattle.ipl_cli.specs.Ending.{Ending, StopsEarly, StopRose, format_end}
-use Rattle.ipl_cli.specs.Top.{IsLaidWell, RestsWithNumbersLeft, IsMetLater, LaidCause, StrayCause, OpenedCause, AnewCause, FormattedCause, IsTooLong, RequestCause, EndCause, RunsOpened, IsRefused, OpenedRuns, FormattedLeaves, OpenedLeaves}
+use Rattle.ipl_cli.specs.Top.{IsLaidWell, RestsWithNumbersLeft, IsMetLater, LaidCause, StrayCause, OpenedCause, WornOutCause, AnewCause, FormattedCause, IsTooLong, RequestCause, EndCause, RunsOpened, IsRefused, OpenedRuns, FormattedLeaves, OpenedLeaves}
 use Rattle.ipl_cli.specs.Runs.{ClosesFor, StartsOpened, IsNotOpened, WasFormatted, IsNotFormatted, StartsFormatted, IsNotStarted, RunsOver, end_of, ending_of}
-use Rattle.ipl_cli.proofs.EndLemmas.{left_counts, stopped_early, opened_keeps, opened_runs, unopened_runs, untouched_stops, formatted_runs, fresh_story}
+use Rattle.ipl_cli.proofs.EndLemmas.{left_counts, stopped_early, units_told, opened_keeps, opened_runs, unopened_runs, untouched_stops, formatted_runs, fresh_story, fresh_units}
 
 -- ---- counts
 
@@ -161,7 +165,7 @@ module _ (t : Told) (sound : RestsWithNumbersLeft t) where
   opened_excused (image.Chip Stopped) new c = inr (inl c)
   opened_excused (image.Chip (Damaged p s stored computed)) new c = absurd (sector_never c.1)
   opened_excused (image.Chip (Malformed p s)) new c = absurd (sector_never c)
-  opened_excused (image.Chip (WornOut n)) new c = inr (inr c.1)
+  opened_excused (image.Chip (WornOut n)) new c = inr (inr c.rose)
   opened_excused image.Spent new c = absurd (laid_never image.Spent c)
   opened_excused (image.NoSpare n) new c = absurd (laid_never (image.NoSpare n) c)
 
@@ -219,7 +223,25 @@ module _ (old new : Told) (end : End) (n : IsNotOpened end old new) where
       | inr none ↦ unfailed (n.tries.complete x told m none.0 (says x told m none.0 stands))
     ])
 
-  unopened_by : (f : ImageFault) → n.fault ≡ f → OpeningCause f old new → OpenedCause f old new
+  -- too many places are worn, by the tables that it left
+  worn_by : (k : ℕ) → n.fault ≡ image.Chip (WornOut k) → WearCause n.tables.places k old new
+      → WornOutCause k old new
+  worn_by k is cause = record {
+    count = record {
+      units = length n.tables.places.current;
+      keeps = n.tries.units;
+      one_more = cause.0 ∙ ap (λ (p : ℕ). 1 + spares_on p (length n.tables.places.current)) n.tries.all;
+    };
+    exact = λ m h steady rests. cause.0
+        ∙ ap (λ (p : ℕ). 1 + spares_on p (length n.tables.places.current)) n.tries.all
+        ∙ ap (λ (u : ℕ). 1 + spares_on old.places u)
+        (n.tries.costs.units (or_right false (tells_wear n.fault) (ap tells_wear is))
+        (held h.start h.story) steady.holds);
+    rose = cause.2;
+  }
+
+  unopened_by : (f : ImageFault) → n.fault ≡ f → OpeningCause n.tables.places f old new
+      → OpenedCause f old new
   unopened_by image.Geometry is cause = laid_cause image.Geometry (λ c same. cc) is
   unopened_by image.NotFormatted is cause = laid_cause image.NotFormatted (λ c same. cc) is
   unopened_by (image.Missing u) is cause = laid_cause (image.Missing u) (λ c same. cc) is
@@ -230,7 +252,7 @@ module _ (old new : Told) (end : End) (n : IsNotOpened end old new) where
     sector_cause (Damaged p s stored computed) (λ none. none) is,
   )
   unopened_by (image.Chip (Malformed p s)) is cause = sector_cause (Malformed p s) (λ none. none) is
-  unopened_by (image.Chip (WornOut k)) is cause = cause.worn k refl
+  unopened_by (image.Chip (WornOut k)) is cause = worn_by k is (cause.worn k refl)
   unopened_by image.Spent is cause = laid_cause image.Spent (λ c same. cc) is
   unopened_by (image.NoSpare k) is cause = laid_cause (image.NoSpare k) (λ c same. cc) is
 
@@ -258,19 +280,25 @@ module _ (old mid : Told) (store : ScriptStore) (s : StartsOpened old store mid)
 
   module _ (then : ScriptStore) (new : Told) where
     abbrev Completes : Stop → Type 0
-    Completes e = CompletesOver script_keeping {T = Unit {0}} SCRIPT_DRAWS store mid (Err e) then
-        new
+    Completes e = CompletesOver (script_keeping mid.places) {T = Unit {0}} SCRIPT_DRAWS store mid
+        (Err e) then new
+
+    -- it keeps the records on which a history rests
+    keeps_some : (m : Map) (h : History) → IsSteady h old → StoryRests old.places m h
+        → KeepsSome (script_keeping mid.places) (limits_of store.store.units) store mid
+    keeps_some m h steady rests = subst (λ (n : ℕ).
+        KeepsSome (script_keeping n) (limits_of store.store.units) store mid)
+        (sym s.tries.accounts.counts.places) (record {
+          state = at_rest m;
+          history = adds_all (s.tries.steps m h steady rests).added h;
+          holds = opened_keeps old mid store s m h steady rests;
+        })
 
     -- the store of a sound chip fails only where a call of the chip failed, and says so
     excused : (f : Fault) → Completes (stop.Store f) → RestsWithNumbersLeft old → SaysFailedCall f
     excused f completes sound =
-        let did = s.tries.steps sound.map sound.history sound.steady sound.rests in
-        let held = opened_keeps old mid store s sound.map sound.history sound.steady sound.rests in
-        let done = completes (limits_of (units_on old.places)) (record {
-          state = at_rest sound.map;
-          history = adds_all did.added sound.history;
-          holds = held;
-        }) in
+        let done = completes (limits_of store.store.units)
+        (keeps_some sound.map sound.history sound.steady sound.rests) in
         let number : counter_of store.store ≤ greatest_found (now sound.history) old.places + 1 + 2 ^ 14 =
         s.opens.number _ sound.steady.holds in
         let next : next_number store ≡ counter_of store.store = rw s.running.up refl in
@@ -282,31 +310,55 @@ module _ (old mid : Told) (store : ScriptStore) (s : StartsOpened old store mid)
       unsound = λ sound. other (excused f completes sound);
     }
 
-    chip_met : (c : ChipFault) → (¬ IsFailedCall c → IsMetLater old)
-        → script_keeping.cause (fault.Chip c) mid new → OpenedCause (image.Chip c) old new
-    chip_met ReadFault met cause = reads_earlier old mid new s.tries.accounts.counts cause
-    chip_met Stopped met cause = writes_earlier old mid new s.tries.accounts.counts cause
-    chip_met (Damaged p q stored computed) met cause = (cause, inr (met (λ none. none)))
-    chip_met (Malformed p q) met cause = inr (met (λ none. none))
-    chip_met (WornOut n) met cause = (cause.0, worn_earlier old mid new s.tries.accounts.counts cause.1)
+    -- a fault of the store tells what it may, wherever a history rests on records
+    abbrev Tells : Fault → Type 0
+    Tells f = (m : Map) (h : History) → IsSteady h old → StoryRests old.places m h
+        → FaultTells (spares_on old.places (units_at (now h) old.places)) f
+
+    tells_so : (f : Fault) → Completes (stop.Store f) → Tells f
+    tells_so f completes m h steady rests =
+        subst (λ (u : ℕ). FaultTells (spares_on old.places u) f) (units_told old mid store s h steady)
+        (subst (λ (p : ℕ). FaultTells (spares_on p store.store.units) f)
+        s.tries.accounts.counts.places
+        ((completes (limits_of store.store.units) (keeps_some m h steady rests)).tells f refl))
+
+    -- so many places are worn
+    worn_met : (n : ℕ) → IsWornCount mid.places n → Rose mid.worn_erases new.worn_erases
+        → ((m : Map) (h : History) → IsSteady h old → StoryRests old.places m h
+        → n ≡ 1 + spares_on old.places (units_at (now h) old.places)) → WornOutCause n old new
+    worn_met n count rose exact = record {
+      count = subst (λ (p : ℕ). IsWornCount p n) s.tries.accounts.counts.places count;
+      exact = exact;
+      rose = worn_earlier old mid new s.tries.accounts.counts rose;
+    }
+
+    chip_met : (c : ChipFault) → (¬ IsFailedCall c → IsMetLater old) → Tells (fault.Chip c)
+        → StoreCause mid.places (fault.Chip c) mid new → OpenedCause (image.Chip c) old new
+    chip_met ReadFault met tells cause = reads_earlier old mid new s.tries.accounts.counts cause
+    chip_met Stopped met tells cause = writes_earlier old mid new s.tries.accounts.counts cause
+    chip_met (Damaged p q stored computed) met tells cause = (cause, inr (met (λ none. none)))
+    chip_met (Malformed p q) met tells cause = inr (met (λ none. none))
+    chip_met (WornOut n) met tells cause = worn_met n cause.0 cause.1 tells
 
     image_met : (e : ImageFault) → (¬ SaysFailedCall (fault.Image e) → IsMetLater old)
-        → script_keeping.cause (fault.Image e) mid new → OpenedCause e old new
-    image_met image.Geometry met cause = inr (met (λ none. none))
-    image_met image.NotFormatted met cause = inr (met (λ none. none))
-    image_met (image.Missing u) met cause = inr (met (λ none. none))
-    image_met (image.Chip c) met cause = chip_met c met cause
-    image_met image.Spent met cause = inr (met (λ none. none))
-    image_met (image.NoSpare k) met cause = inr (met (λ none. none))
+        → Tells (fault.Image e) → StoreCause mid.places (fault.Image e) mid new
+        → OpenedCause e old new
+    image_met image.Geometry met tells cause = inr (met (λ none. none))
+    image_met image.NotFormatted met tells cause = inr (met (λ none. none))
+    image_met (image.Missing u) met tells cause = inr (met (λ none. none))
+    image_met (image.Chip c) met tells cause = chip_met c met tells cause
+    image_met image.Spent met tells cause = inr (met (λ none. none))
+    image_met (image.NoSpare k) met tells cause = inr (met (λ none. none))
 
     -- why the run stops
-    stop_cause : (frames : ℕ) (e : Stop) → Completes e → StopCause script_keeping mid new e
+    stop_cause : (frames : ℕ) (e : Stop) → Completes e
+        → StopCause (script_keeping mid.places) mid new e
         → (e ≡ stop.Store fault.Spent → ⊥) → (e ≡ stop.TooLong → IsTooLong mid new)
         → RequestCause (Run frames false) (end_of e) old new
     stop_cause frames (stop.Store (fault.Chip c)) completes cause unspent long = chip_met c
-        (later (fault.Chip c) completes) cause
+        (later (fault.Chip c) completes) (tells_so (fault.Chip c) completes) cause
     stop_cause frames (stop.Store (fault.Image e)) completes cause unspent long = image_met e
-        (later (fault.Image e) completes) cause
+        (later (fault.Image e) completes) (tells_so (fault.Image e) completes) cause
     stop_cause frames (stop.Store fault.Spent) completes cause unspent long = absurd (unspent refl)
     stop_cause frames stop.Script completes cause unspent long = script_earlier old mid new
         s.tries.accounts.counts cause
@@ -316,8 +368,8 @@ module _ (old mid : Told) (store : ScriptStore) (s : StartsOpened old store mid)
         s.tries.accounts.counts (long refl)
 
     pub over_cause : (frames : ℕ) (result : Result (Unit {0}) Stop)
-        → CompletesOver script_keeping SCRIPT_DRAWS store mid result then new
-        → IfErr result (λ e. StopCause script_keeping mid new e)
+        → CompletesOver (script_keeping mid.places) SCRIPT_DRAWS store mid result then new
+        → IfErr result (λ e. StopCause (script_keeping mid.places) mid new e)
         → (IsErrOf result (stop.Store fault.Spent) → ⊥)
         → (IsErrOf result stop.TooLong → IsTooLong mid new)
         → EndCause (Some (Run frames false)) (ending_of result) old new
@@ -419,22 +471,29 @@ module _ (t : Told) where
 -- ---- a chip that is formatted first
 
 -- the numbers of a chip that was just formatted are few
-fresh_bytes : (places : ℕ) (c : Chart) → IsGeometry places → IsFresh places c → IsByteChart places c
-fresh_bytes places c fits fresh p s sector low within read is =
-    let there : formatted places p s ≡ Some sector = sym (fresh.same p s low within) ∙ is in
+fresh_bytes : (places units : ℕ) (c : Chart) → IsGeometry places → KeepsUnits places units
+    → IsFresh places units c → IsByteChart places c
+fresh_bytes places units c fits keeps fresh p s sector low within read is =
+    let there : formatted units p s ≡ Some sector = sym (fresh.same p s low within) ∙ is in
     elim (cases_eq s 0) [
-      | inl first ↦ formatted_bytes places fits.0 fits.1 p s sector low within (inl first) there
-      | inr other ↦ absurd (no_sector places fits.0 fits.1 p s sector other there)
+      | inl first ↦ formatted_bytes places units fits.0 fits.1 keeps p s sector low within (inl first)
+          there
+      | inr other ↦ absurd (no_sector places units fits.0 fits.1 keeps p s sector other there)
     ]
 
-fresh_number : (places : ℕ) (c : Chart) → IsGeometry places → IsFresh places c
-    → greatest_found c places < 2 ^ 62
-fresh_number places c fits fresh = elim (greatest_is_found c places (first_layout places)
-    (fresh_bytes places c fits fresh) fresh.mirrors.laid) [
+fresh_number : (places units : ℕ) (c : Chart) → IsGeometry places → KeepsUnits places units
+    → IsFresh places units c → greatest_found c places < 2 ^ 62
+fresh_number places units c fits keeps fresh = elim (greatest_is_found c places (first_layout units)
+    (fresh_bytes places units c fits keeps fresh) fresh.mirrors.laid) [
       | inl none ↦ omega (arith, none)
-      | inr found ↦ let low : greatest_found c places < units_on places + 2 =
-          fresh.mirrors.numbers.above (greatest_found c places) found in omega (arith, low, fits.1)
+      | inr found ↦ let low : greatest_found c places < units + 2 =
+          fresh.mirrors.numbers.above (greatest_found c places) found in
+          omega (arith, low, fits.1, keeps.1)
     ]
+
+-- where all units are kept no place is spare, and one worn one is one too many
+none_spare : (places : ℕ) → 1 + spares_on places (units_on places) ≡ 1
+none_spare places = omega arith
 
 module _ (old mid : Told) (f : WasFormatted old mid) where
   -- it is sound
@@ -443,16 +502,28 @@ module _ (old mid : Told) (f : WasFormatted old mid) where
       let story = fresh_story old mid mid f h steady in
       let did = f.formats h in record {
         map = empty;
-        history = adds_all (format_events old.places) h;
+        history = adds_all (format_events old.places (units_on old.places)) h;
         steady = story.0;
-        rests = subst (λ (q : ℕ). StoryRests q empty (adds_all (format_events old.places) h))
+        rests = subst (λ (q : ℕ).
+            StoryRests q empty (adds_all (format_events old.places (units_on old.places)) h))
             (sym f.counts.places) story.1;
-        left = subst (λ (q : ℕ). greatest_found (now (adds_all (format_events old.places) h)) q < 2
-            ^ 62) (sym f.counts.places)
-            (fresh_number old.places (now (adds_all (format_events old.places) h)) f.fits
-            (subst (λ (s : Story). IsFresh old.places (now (adds_all s h))) did.done.exact
-            did.done.fresh));
+        left = subst (λ (q : ℕ). greatest_found
+            (now (adds_all (format_events old.places (units_on old.places)) h)) q < 2 ^ 62)
+            (sym f.counts.places)
+            (fresh_number old.places (units_on old.places)
+            (now (adds_all (format_events old.places (units_on old.places)) h)) f.fits
+            (units_are_kept old.places f.fits)
+            (subst (λ (s : Story). IsFresh old.places (units_on old.places) (now (adds_all s h)))
+            did.done.exact did.done.fresh));
       }
+
+  -- and says that it has all units
+  units_anew : (h : History)
+      → units_at (now (adds_all (format_events old.places (units_on old.places)) h)) mid.places
+      ≡ units_on mid.places
+  units_anew h = subst (λ (q : ℕ).
+      units_at (now (adds_all (format_events old.places (units_on old.places)) h)) q ≡ units_on q)
+      (sym f.counts.places) (fresh_units old mid mid f h)
 
   module _ (new : Told) where
     laid_anew : (e : ImageFault) → LaidCause e mid → AnewCause old
@@ -470,7 +541,18 @@ module _ (old mid : Told) (f : WasFormatted old mid) where
     anew_by (image.Chip (Damaged p s stored computed)) c =
         (c.0, sector_anew c.1)
     anew_by (image.Chip (Malformed p s)) c = sector_anew c
-    anew_by (image.Chip (WornOut n)) c = (c.0, worn_earlier old mid new f.counts c.1)
+    anew_by (image.Chip (WornOut n)) c = record {
+      count = subst (λ (p : ℕ). IsWornCount p n) f.counts.places c.count;
+      exact = λ h steady.
+          let story = fresh_story old mid mid f h steady in
+          c.exact empty (adds_all (format_events old.places (units_on old.places)) h) story.0
+          (subst (λ (q : ℕ).
+          StoryRests q empty (adds_all (format_events old.places (units_on old.places)) h))
+          (sym f.counts.places) story.1)
+          ∙ ap (λ (u : ℕ). 1 + spares_on mid.places u) (units_anew h)
+          ∙ none_spare mid.places;
+      rose = worn_earlier old mid new f.counts c.rose;
+    }
     anew_by image.Spent c = laid_anew image.Spent c
     anew_by (image.NoSpare k) c = laid_anew (image.NoSpare k) c
 
@@ -559,7 +641,19 @@ module _ (old new : Told) (end : End) (n : IsNotFormatted end old new) where
       → (e : ImageFault) × (end ≡ Chip e) × FormattedCause e old new
   stopped_at format.Geometry is rose = absurd rose
   stopped_at format.Stopped is rose = (image.Chip Stopped, is, rose)
-  stopped_at (format.Worn p) is rose = (image.Chip (WornOut 1), is, (refl, rose))
+  stopped_at (format.Worn p) is rose = (
+    image.Chip (WornOut 1),
+    is,
+    record {
+      count = record {
+        units = units_on old.places;
+        keeps = units_are_kept old.places n.fits;
+        one_more = sym (none_spare old.places);
+      };
+      exact = λ h steady. refl;
+      rose = rose;
+    },
+  )
 
   pub stopped_end : (e : ImageFault) × (end ≡ Chip e) × FormattedCause e old new
   stopped_end = stopped_at n.fault n.end_is n.rose
@@ -568,7 +662,11 @@ module _ (old new : Told) (end : End) (n : IsNotFormatted end old new) where
   stopped_left =
       let (e, is, cause) = stopped_end in
       subst (λ (last : End). FormattedLeaves (Err last) old new) (sym is)
-      (inr (n.fits, λ h script steady left. inr (subst (λ (last : End). StopsEarly old.places h old new (Err last)) is (n.stops h))))
+      (inr (
+        n.fits,
+        λ h script steady left. inr (subst (λ (last : End).
+            StopsEarly old.places (units_on old.places) h old new (Err last)) is (n.stops h)),
+      ))
 
   pub stopped_cause : (frames : ℕ) → RequestCause (Run frames true) end old new
   stopped_cause frames =
@@ -597,26 +695,41 @@ module _ (old new : Told) where
 abbrev failed : FormatFault → Result (Unit {0}) FormatFault
 failed fault = Err fault
 
+-- where none of the places is spare there are all units
+all_units : (places : ℕ) → units_on places - 0 ≡ units_on places
+all_units places = omega arith
+
+spared_by : {places : ℕ} → IsGeometry places → IsSpared places 0
+spared_by fits = (fits, omega arith, omega (arith, fits.0))
+
 module _ (old new : Told) (fits : IsGeometry old.places) (counts : Counts old new) where
+  -- with no place to spare
+  abbrev Formatted : Result (Unit {0}) FormatFault → ℕ → Type 0
+  Formatted result units = (h : History) → Formats {A = Unit {0}} old.places units h old result new
+
   -- a format of a chip that fits is done
-  pub was_formatted : ((h : History)
-      → Formats {A = Unit {0}} old.places h old (Ok tt) new) → WasFormatted old new
-  was_formatted formats = record { fits = fits; counts = counts; formats = formats }
+  pub was_formatted : Formatted (Ok tt) (units_on old.places - 0) → WasFormatted old new
+  was_formatted formats = record {
+    fits = fits;
+    counts = counts;
+    formats = subst (Formatted (Ok tt)) (all_units old.places) formats;
+  }
 
   -- or a write failed, or a place is worn
-  pub not_formatted : (f : FormatFault) → (failed f ≡ failed format.Geometry → ¬ IsGeometry
-      old.places) → (failed f ≡ failed format.Stopped → Rose old.write_faults new.write_faults)
+  pub not_formatted : (f : FormatFault)
+      → (failed f ≡ failed format.Geometry → ¬ IsSpared old.places 0)
+      → (failed f ≡ failed format.Stopped → Rose old.write_faults new.write_faults)
       → ((p : ℕ) → failed f ≡ failed (format.Worn p) → Rose old.worn_erases new.worn_erases)
-      → ((h : History) → Formats {A = Unit {0}} old.places h old (Err f) new)
-      → IsNotFormatted (format_end f) old new
-  not_formatted format.Geometry other rose worn formats = absurd (other refl fits)
+      → Formatted (Err f) (units_on old.places - 0) → IsNotFormatted (format_end f) old new
+  not_formatted format.Geometry other rose worn formats = absurd (other refl (spared_by fits))
   not_formatted format.Stopped other rose worn formats = record {
     fault = format.Stopped;
     end_is = refl;
     fits = fits;
     counts = counts;
     rose = rose refl;
-    stops = stopped_early format.Stopped old new counts (rose refl) formats;
+    stops = stopped_early (units_on old.places) format.Stopped old new counts (rose refl)
+        (subst (Formatted (Err format.Stopped)) (all_units old.places) formats);
   }
   not_formatted (format.Worn p) other rose worn formats = record {
     fault = format.Worn p;
@@ -624,7 +737,8 @@ module _ (old new : Told) (fits : IsGeometry old.places) (counts : Counts old ne
     fits = fits;
     counts = counts;
     rose = worn p refl;
-    stops = stopped_early (format.Worn p) old new counts (worn p refl) formats;
+    stops = stopped_early (units_on old.places) (format.Worn p) old new counts (worn p refl)
+        (subst (Formatted (Err (format.Worn p))) (all_units old.places) formats);
   }
 
 -- a chip of which a store was opened
@@ -651,11 +765,13 @@ module _ (before then : ScriptStore) (old new : Told) where
   too_long grew read = record { grew = grew; told = λ source left. (read source left).1 }
 
   pub runs_over : (result : Result (Unit {0}) Stop) → next_number before ≤ FOUND_NUMBER
-      → RunsScript script_keeping before old result then new
-      → LeavesTidy script_keeping before then old new (is_ok result)
-      → Draws script_keeping SCRIPT_DRAWS before (IsErrOf result (stop.Store fault.Spent)) then
-      → CompletesOver script_keeping SCRIPT_DRAWS before old result then new → Further old new
-      → IfErr result (λ e. StopCause script_keeping old new e)
+      → RunsScript (script_keeping old.places) before old result then new
+      → LeavesTidy (script_keeping old.places) before then old new (is_ok result)
+      → Draws (script_keeping old.places) SCRIPT_DRAWS before
+      (IsErrOf result (stop.Store fault.Spent)) then
+      → CompletesOver (script_keeping old.places) SCRIPT_DRAWS before old result then new
+      → Further old new
+      → IfErr result (λ e. StopCause (script_keeping old.places) old new e)
       → (IsErrOf result stop.TooLong → Grew old.beside.script_bytes 4294967295
       new.beside.script_bytes) → (IsErrOf result stop.TooLong → HasRead 4294967295 old new)
       → OnOk result (ReadsAll old new)
@@ -675,11 +791,12 @@ module _ (before then : ScriptStore) (old new : Told) where
 
   -- one that is done read all of the script
   pub ran_over : next_number before ≤ FOUND_NUMBER
-      → RunsScript script_keeping before old (Ok tt) then new
-      → LeavesTidy script_keeping before then old new true
-      → Draws script_keeping SCRIPT_DRAWS before (IsErrOf {T = Unit {0}} (Ok tt)
+      → RunsScript (script_keeping old.places) before old (Ok tt) then new
+      → LeavesTidy (script_keeping old.places) before then old new true
+      → Draws (script_keeping old.places) SCRIPT_DRAWS before (IsErrOf {T = Unit {0}} (Ok tt)
       (stop.Store fault.Spent)) then
-      → CompletesOver script_keeping {T = Unit {0}} SCRIPT_DRAWS before old (Ok tt) then new
+      → CompletesOver (script_keeping old.places) {T = Unit {0}} SCRIPT_DRAWS before old (Ok tt) then
+      new
       → Further old new → ReadsAll old new → RunsOver (Ok tt) before old then new
   ran_over low run tidy draws completes further read =
       runs_over (Ok tt) low run tidy draws completes further tt (λ is. absurd cc) (λ is. absurd cc) read

@@ -11,6 +11,7 @@ use Rattle.chip_trait.specs.declared.event.Event.TheVariants.{Erase}
 use Rattle.chip_trait.specs.Told.{Told, IsConsistent, Rose, Unrisen, adds_all}
 use Rattle.chip_trait.proofs.HistoryLemmas.{same_history, history_then}
 use Rattle.ipl_base.specs.Places.{IsGeometry, units_on}
+use Rattle.ipl_base.proofs.UnitLemmas.{units_are_kept}
 use Rattle.ipl_base.specs.declared.fault.FormatFault.{FormatFault}
 use Rattle.ipl_base.specs.declared.fault.FormatFault.TheVariants as format
 use Rattle.ipl_rules.specs.State.{State, at_rest}
@@ -43,12 +44,12 @@ each_counted : (event : ℕ → Event) (n : ℕ) → length (each_below event n)
 each_counted event zero = refl
 each_counted event (suc k) = ap suc (each_counted event k)
 
-worn_are_few : (places p : ℕ) → 5 ≤ places → p < places
-    → length (worn_events p) ≤ length (format_events places)
-worn_are_few places p least low =
+worn_are_few : (places units p : ℕ) → p < places
+    → length (worn_events p) ≤ length (format_events places units)
+worn_are_few places units p low =
     let all = each_counted Erase places in
     let some = each_counted Erase p in
-    let joined_up = length-append (heading_events places) (clearing_events places) in
+    let joined_up = length-append (heading_events units) (clearing_events places) in
     omega (arith, all, some, joined_up, low)
 
 module _ (old new : Told) where
@@ -67,28 +68,31 @@ module _ (old new : Told) where
             r.each_moment later e split y (cut_by x y e (e ++ []) (append-nil e) image);
       }
 
+  abbrev first : Story
+  first = format_events old.places (units_on old.places)
+
   module _ (x : Contents) (script : List ℕ) where
     -- the script was run
     run_survives : (ending : Ending)
-        → Runs old.places empty script (starts_at x) (format_events old.places) old new ending
+        → Runs old.places (units_on old.places) empty script (starts_at x) first old new ending
         → SurvivesFormat script x old new
     run_survives ending r = record {
-      added = r.added ++ format_events old.places;
-      grew = r.history ∙ history_then r.added (format_events old.places) old.history;
+      added = r.added ++ first;
+      grew = r.history ∙ history_then r.added first old.history;
       holds = λ unrisen. (r.steady unrisen).holds
-          ∙ ap (λ (s : Story). Some (held x (r.added ++ s))) (append-nil (format_events old.places));
+          ∙ ap (λ (s : Story). Some (held x (r.added ++ s))) (append-nil first);
       cut = λ later e y split image. r.each_moment later e
-          (append_cancel_right (later ++ e) r.added (format_events old.places)
-          (append_assoc later e (format_events old.places) ∙ split)) y
-          (cut_by x y (e ++ format_events old.places) (e ++ (format_events old.places ++ []))
-          (ap (λ (s : Story). e ++ s) (append-nil (format_events old.places))) image);
+          (append_cancel_right (later ++ e) r.added first
+          (append_assoc later e first ∙ split)) y
+          (cut_by x y (e ++ first) (e ++ (first ++ []))
+          (ap (λ (s : Story). e ++ s) (append-nil first)) image);
     }
 
     -- it wasn't: nothing was said, and no more than the format's own events are there
     none_survives : (added : Story) → new.history ≡ option_map (adds_all added) old.history
         → (Unrisen old new → new.contents ≡ Some (held x added))
-        → length added ≤ length (format_events old.places)
-        → (length added ≡ length (format_events old.places) → IsGeometry old.places)
+        → length added ≤ length first
+        → (length added ≡ length first → IsGeometry old.places)
         → SurvivesFormat script x old new
     none_survives added grew holds few fits = record {
       added = added;
@@ -96,15 +100,16 @@ module _ (old new : Told) where
       holds = holds;
       cut = λ later e y split image.
           let counted = ap length split in
-          let parts = length-append later (e ++ format_events old.places) in
-          let inner = length-append e (format_events old.places) in
+          let parts = length-append later (e ++ first) in
+          let inner = length-append e first in
           let none = nil_from_length e (omega (arith, counted, parts, inner, few)) in
           let whole = fits (omega (arith, counted, parts, inner, few)) in
-          let rests = format_rests old.places x whole in
+          let rests = format_rests old.places (units_on old.places) whole
+          (units_are_kept old.places whole) x in
           let stands = rests.each y (subst
-          (λ (s : Story). IsNoChanceImage (says sector_in) x (s ++ format_events old.places) y)
+          (λ (s : Story). IsNoChanceImage (says sector_in) x (s ++ first) y)
           none image) in
-          subst (λ (s : Story). StandsAfterAnswered old.places empty script (said s) y) (sym none)
+          subst (λ (s : Story). StandsAfterAnswered old.places (units_on old.places) empty script (said s) y) (sym none)
           (near_silent (λ (s : State). Stands old.places (chart_of y) s.map)
           (limits_of (units_on old.places)) (at_rest empty) (commands_of script) stands);
     }
@@ -119,7 +124,8 @@ module _ (old new : Told) where
     module _ (fits : IsGeometry old.places) (steady : IsSteady (starts_at x) old) (stopped : Told)
         (noted : new ≡ but_noted stopped new.beside.noted) where
       abbrev Left : FormatFault → Type 0
-      Left fault = Formats {A = Unit {0}} old.places (starts_at x) old (Err fault) stopped
+      Left fault =
+          Formats {A = Unit {0}} old.places (units_on old.places) (starts_at x) old (Err fault) stopped
 
       grew_by : (fault : FormatFault) (f : Left fault)
           → new.history ≡ option_map (adds_all f.added) old.history
@@ -136,11 +142,11 @@ module _ (old new : Told) where
 
       worn_survives : (p : ℕ) → Left (format.Worn p) → SurvivesFormat script x old new
       worn_survives p f =
-          let few = worn_are_few old.places p fits.0 f.came.0 in
+          let few = worn_are_few old.places (units_on old.places) p f.came.0 in
           none_survives f.added (grew_by (format.Worn p) f)
           (λ unrisen. ap (λ (t : Told). t.contents) noted ∙ (f.steady (λ is. cc) steady).holds
           ∙ ap (λ (s : Story). Some (held x s)) (append-nil f.added))
-          (subst (λ (s : Story). length s ≤ length (format_events old.places)) (sym f.came.1) few)
+          (subst (λ (s : Story). length s ≤ length first) (sym f.came.1) few)
           (λ whole. fits)
 
       stopped_by : (fault : FormatFault) → Left fault → StopRose fault old stopped
@@ -150,7 +156,8 @@ module _ (old new : Told) where
       stopped_by (format.Worn p) f rose = worn_survives p f
 
     stopped_survives : {ending : Ending} → IsGeometry old.places → IsSteady (starts_at x) old
-        → StopsEarly old.places (starts_at x) old new ending → SurvivesFormat script x old new
+        → StopsEarly old.places (units_on old.places) (starts_at x) old new ending
+        → SurvivesFormat script x old new
     stopped_survives fits steady stops =
         stopped_by fits steady stops.stopped stops.noted stops.fault stops.formats stops.rose
 

@@ -2,7 +2,7 @@
 use Rattle.std.proofs.Common.{◌≡◌, ◌≢◌, ◌⊎◌, ◌==◌, ◌^◌, ℕ, true, false, Some, None, Result, Ok, Err, inl, inr, refl, sym, ◌∙◌, ap, subst, arith}
 use Rattle.std.proofs.lemmas.Bool.{cases_lt}
 use Rattle.chip_trait.specs.Told.{History, Told, Counts, Rose, Grew, IsConsistent}
-use Rattle.ipl_base.specs.Places.{IsGeometry}
+use Rattle.ipl_base.specs.Places.{IsGeometry, IsSpared}
 use Rattle.ipl_base.specs.declared.fault.ChipFault.TheVariants.{ReadFault, Stopped, Damaged, Malformed, WornOut}
 use Rattle.ipl_base.specs.declared.fault.ImageFault.{ImageFault}
 use Rattle.ipl_base.specs.declared.fault.ImageFault.TheVariants as image
@@ -21,10 +21,10 @@ use Rattle.command_line.specs.declared.asked.Request.{Request}
 use Rattle.command_line.specs.declared.asked.Request.TheVariants.{Format, Run, Serial, Trial}
 use Rattle.program_end.specs.Ends.{status_of, fault_status}
 use Rattle.program_end.specs.declared.end.End.TheVariants.{Words, Chip, OutOfMemory, Script, Output, TooLong}
-use Rattle.ipl_cli.specs.Ending.{AskedFor, AsksOpened, AsksFormatted, AsksAnew, AtStatus, Ending, IsUntouched, but_noted, format_end, status_at}
+use Rattle.ipl_cli.specs.Ending.{AskedFor, AsksOpened, AsksFormatted, AsksAnew, AtStatus, Ending, IsUntouched, but_noted, format_end, status_at, units_beside}
 use Rattle.ipl_cli.specs.Trials.{TrialLeaves}
 use Rattle.ipl_cli.specs.Views.{ViewsTold, OnlyViews, OnlyHears, SerialLeaves}
-use Rattle.ipl_cli.specs.Top.{HasFault, IsLaidWell, LaidCause, StrayCause, OpenedCause, FormatCause, AnewCause, FormattedCause, ChipCause, IsTooLong, EndCause, RunsOpened, RunsFormatted, LaysOut, OnlyLooks, EndsAtFault, FormatLeaves, FormattedLeaves, OpenedLeaves, EndLeaves, Ends, RefusesFaults, StrayCause, SpentCause, IsMetLater, IsUnfit, IsSilent, EndsUnfit, UntouchedOrRuns, IsCalm, IsTold, Suffices, EndsInTime}
+use Rattle.ipl_cli.specs.Top.{HasFault, IsLaidWell, LaidCause, StrayCause, OpenedCause, FormatCause, AnewCause, FormattedCause, ChipCause, IsTooLong, EndCause, RunsOpened, RunsFormatted, LaysOut, OnlyLooks, EndsAtFault, FormatLeaves, FormattedLeaves, OpenedLeaves, EndLeaves, Ends, RefusesFaults, StrayCause, SpentCause, IsMetLater, IsUnfit, IsSilent, LacksUnits, EndsUnfit, UntouchedOrRuns, IsCalm, IsTold, Suffices, EndsInTime}
 use Rattle.ipl_cli.proofs.EndLemmas.{stopped_early, untouched_runs}
 use Rattle.ipl_cli.proofs.StartLemmas.{opened_excused, stands_well}
 use Rattle.ipl_cli.proofs.ViewLemmas.{untouched_hears, hears_views, hears_only}
@@ -39,7 +39,7 @@ untouched old new is = subst (λ (t : Told). t ≡ but_noted old t.beside.noted)
 -- memory was wanting for the words
 pub no_memory : (asked : AskedFor) (t : Told) → EndLeaves asked (Err OutOfMemory) t t
 no_memory None t = refl
-no_memory (Some Format) t = refl
+no_memory (Some (Format spares)) t = refl
 no_memory (Some (Run frames true)) t = refl
 no_memory (Some (Run frames false)) t = refl
 no_memory (Some Serial) t = untouched_hears t t refl
@@ -48,17 +48,20 @@ no_memory (Some (Trial seed count frames)) t = refl
 abbrev failed : FormatFault → Result (Unit {0}) FormatFault
 failed fault = Err fault
 
-pub failed_format : (old new : Told) → Counts old new → (fault : FormatFault)
+pub failed_format : (spares : ℕ) (old new : Told) → Counts old new → (fault : FormatFault)
     → (failed fault ≡ failed format.Geometry → new ≡ old)
     → (failed fault ≡ failed format.Stopped → Rose old.write_faults new.write_faults)
     → ((p : ℕ) → failed fault ≡ failed (format.Worn p) → Rose old.worn_erases new.worn_erases)
-    → ((h : History) → Formats {A = Unit {0}} old.places h old (Err fault) new)
-    → FormatLeaves (Err (format_end fault)) old new
-failed_format old new counts format.Geometry same rose worn formats = untouched old new (same refl)
-failed_format old new counts format.Stopped same rose worn formats = stopped_early format.Stopped
-    old new counts (rose refl) formats
-failed_format old new counts (format.Worn p) same rose worn formats = stopped_early (format.Worn p)
-    old new counts (worn p refl) formats
+    → ((h : History)
+    → Formats {A = Unit {0}} old.places (units_beside old.places spares) h old (Err fault) new)
+    → FormatLeaves spares (Err (format_end fault)) old new
+failed_format spares old new counts format.Geometry same rose worn formats =
+    untouched old new (same refl)
+failed_format spares old new counts format.Stopped same rose worn formats =
+    stopped_early (units_beside old.places spares) format.Stopped old new counts (rose refl) formats
+failed_format spares old new counts (format.Worn p) same rose worn formats =
+    stopped_early (units_beside old.places spares) (format.Worn p) old new counts (worn p refl)
+    formats
 
 -- ---- by the status
 
@@ -153,10 +156,10 @@ module _ (old new : Told) where
   stops_by (Err Output) l is = absurd (omega (arith, is))
   stops_by (Err TooLong) l is = absurd (omega (arith, is))
 
-  formats_by : (ending : Ending) → FormatLeaves ending old new → status_at ending ≡ 0
-      → LaysOut old new true
-  formats_by (Ok u) l is = l
-  formats_by (Err end) l is = absurd (omega (arith, is, above_zero end))
+  formats_by : (spares : ℕ) (ending : Ending) → FormatLeaves spares ending old new
+      → status_at ending ≡ 0 → LaysOut spares old new true
+  formats_by spares (Ok u) l is = l
+  formats_by spares (Err end) l is = absurd (omega (arith, is, above_zero end))
 
   views_by : (ending : Ending) → SerialLeaves ending old new
       → ViewsTold old new (status_at ending == 0)
@@ -233,34 +236,34 @@ module _ (old new : Told) where
   opened_spent (image.NoSpare n) c is = absurd (omega (arith, is))
 
   -- a format meets no fault of what the chip holds
-  format_image : (e : ImageFault) → FormatCause e old new
-      → (fault_status e ≡ 4 → ¬ IsGeometry old.places) × (fault_status e ≡ 3 → Rose old.write_faults
+  format_image : (spares : ℕ) (e : ImageFault) → FormatCause spares e old new
+      → (fault_status e ≡ 4 → ¬ IsSpared old.places spares) × (fault_status e ≡ 3 → Rose old.write_faults
       new.write_faults) × (fault_status e ≢ 9)
-  format_image image.Geometry c = (
+  format_image spares image.Geometry c = (
     λ is. c,
     λ is. absurd (omega (arith, is)),
     λ is. omega
         (arith, is),
   )
-  format_image image.NotFormatted c = absurd c
-  format_image (image.Missing u) c = absurd c
-  format_image (image.Chip ReadFault) c = absurd c
-  format_image (image.Chip Stopped) c = (
+  format_image spares image.NotFormatted c = absurd c
+  format_image spares (image.Missing u) c = absurd c
+  format_image spares (image.Chip ReadFault) c = absurd c
+  format_image spares (image.Chip Stopped) c = (
     λ is. absurd (omega (arith, is)),
     λ is. c,
     λ is. omega
         (arith, is),
   )
-  format_image (image.Chip (Damaged p s stored computed)) c = absurd c
-  format_image (image.Chip (Malformed p s)) c = absurd c
-  format_image (image.Chip (WornOut n)) c = (
+  format_image spares (image.Chip (Damaged p s stored computed)) c = absurd c
+  format_image spares (image.Chip (Malformed p s)) c = absurd c
+  format_image spares (image.Chip (WornOut n)) c = (
     λ is. absurd (omega (arith, is)),
     λ is. absurd (omega (arith, is)),
     λ is. omega
         (arith, is),
   )
-  format_image image.Spent c = absurd c
-  format_image (image.NoSpare n) c = absurd c
+  format_image spares image.Spent c = absurd c
+  format_image spares (image.NoSpare n) c = absurd c
 
   -- a run over a chip that was formatted meets one only where it isn't told, or a call failed
   formatted_image : (e : ImageFault) → FormattedCause e old new → fault_status e ≡ 4
@@ -312,22 +315,22 @@ module _ (old new : Told) where
   opened_worn (image.Chip Stopped) c is = absurd (omega (arith, is))
   opened_worn (image.Chip (Damaged p s stored computed)) c is = absurd (omega (arith, is))
   opened_worn (image.Chip (Malformed p s)) c is = absurd (omega (arith, is))
-  opened_worn (image.Chip (WornOut n)) c is = c.1
+  opened_worn (image.Chip (WornOut n)) c is = c.rose
   opened_worn image.Spent c is = absurd (omega (arith, is))
   opened_worn (image.NoSpare n) c is = absurd (omega (arith, is))
 
-  format_worn : (e : ImageFault) → FormatCause e old new → fault_status e ≡ 10
+  format_worn : (spares : ℕ) (e : ImageFault) → FormatCause spares e old new → fault_status e ≡ 10
       → Rose old.worn_erases new.worn_erases
-  format_worn image.Geometry c is = absurd (omega (arith, is))
-  format_worn image.NotFormatted c is = absurd c
-  format_worn (image.Missing u) c is = absurd c
-  format_worn (image.Chip ReadFault) c is = absurd c
-  format_worn (image.Chip Stopped) c is = absurd (omega (arith, is))
-  format_worn (image.Chip (Damaged p s stored computed)) c is = absurd c
-  format_worn (image.Chip (Malformed p s)) c is = absurd c
-  format_worn (image.Chip (WornOut n)) c is = c.1
-  format_worn image.Spent c is = absurd c
-  format_worn (image.NoSpare n) c is = absurd c
+  format_worn spares image.Geometry c is = absurd (omega (arith, is))
+  format_worn spares image.NotFormatted c is = absurd c
+  format_worn spares (image.Missing u) c is = absurd c
+  format_worn spares (image.Chip ReadFault) c is = absurd c
+  format_worn spares (image.Chip Stopped) c is = absurd (omega (arith, is))
+  format_worn spares (image.Chip (Damaged p s stored computed)) c is = absurd c
+  format_worn spares (image.Chip (Malformed p s)) c is = absurd c
+  format_worn spares (image.Chip (WornOut n)) c is = c.1
+  format_worn spares image.Spent c is = absurd c
+  format_worn spares (image.NoSpare n) c is = absurd c
 
   formatted_worn : (e : ImageFault) → FormattedCause e old new → fault_status e ≡ 10
       → Rose old.worn_erases new.worn_erases
@@ -338,7 +341,7 @@ module _ (old new : Told) where
   formatted_worn (image.Chip Stopped) c is = absurd (omega (arith, is))
   formatted_worn (image.Chip (Damaged p s stored computed)) c is = absurd (omega (arith, is))
   formatted_worn (image.Chip (Malformed p s)) c is = absurd (omega (arith, is))
-  formatted_worn (image.Chip (WornOut n)) c is = c.1
+  formatted_worn (image.Chip (WornOut n)) c is = c.rose
   formatted_worn image.Spent c is = absurd (omega (arith, is))
   formatted_worn (image.NoSpare n) c is = absurd (omega (arith, is))
 
@@ -398,8 +401,10 @@ module _ (asked : AskedFor) (old new : Told) (status : ℕ) (e : Ends asked old 
       → AtStatus (λ ending. TrialLeaves seed count ending old new) status
   end_trials seed count frames is = (e.ending, e.status_is, leaves_of (Trial seed count frames) is)
 
-  pub end_formats : asked ≡ Some Format → status ≡ 0 → LaysOut old new true
-  end_formats is at = formats_by old new e.ending (leaves_of Format is) (sym e.status_is ∙ at)
+  pub end_formats : (spares : ℕ) → asked ≡ Some (Format spares) → status ≡ 0
+      → LaysOut spares old new true
+  end_formats spares is at = formats_by old new spares e.ending (leaves_of (Format spares) is)
+      (sym e.status_is ∙ at)
 
   pub end_views : asked ≡ Some Serial → ViewsTold old new (status == 0)
   end_views is = subst (λ (n : ℕ). ViewsTold old new (n == 0)) (sym e.status_is) (views_by old new
@@ -434,7 +439,8 @@ module _ (old new : Told) where
   wanting_by (Some request) (Ok u) c l is = absurd (omega (arith, is))
   wanting_by (Some request) (Err Words) c l is = absurd c
   wanting_by (Some request) (Err (Chip e)) c l is = absurd (omega (arith, is, chip_status e))
-  wanting_by (Some Format) (Err OutOfMemory) c l is = wanting_untouched (Some Format) l
+  wanting_by (Some (Format spares)) (Err OutOfMemory) c l is = wanting_untouched
+      (Some (Format spares)) l
   wanting_by (Some (Run frames true)) (Err OutOfMemory) c l is = wanting_untouched
       (Some (Run frames true)) l
   wanting_by (Some (Run frames false)) (Err OutOfMemory) c l is = wanting_untouched
@@ -446,19 +452,22 @@ module _ (old new : Told) where
   wanting_by (Some request) (Err Output) c l is = absurd (omega (arith, is))
   wanting_by (Some request) (Err TooLong) c l is = absurd (omega (arith, is))
 
-  -- another number of places was left alone
-  format_other : (e : ImageFault) → FormatCause e old new → FormatLeaves (Err (Chip e)) old new
-      → fault_status e ≡ 4 → IsUntouched old new
-  format_other image.Geometry c l is = l
-  format_other image.NotFormatted c l is = absurd c
-  format_other (image.Missing u) c l is = absurd c
-  format_other (image.Chip ReadFault) c l is = absurd c
-  format_other (image.Chip Stopped) c l is = absurd (omega (arith, is))
-  format_other (image.Chip (Damaged p s stored computed)) c l is = absurd c
-  format_other (image.Chip (Malformed p s)) c l is = absurd c
-  format_other (image.Chip (WornOut n)) c l is = absurd (omega (arith, is))
-  format_other image.Spent c l is = absurd c
-  format_other (image.NoSpare n) c l is = absurd c
+  -- another number of places was left alone, and one of which no unit was left
+  abbrev IsMisfit : AskedFor → Type 0
+  IsMisfit asked = (¬ IsGeometry old.places) ⊎ LacksUnits asked old
+
+  format_other : (spares : ℕ) (e : ImageFault) → FormatCause spares e old new
+      → FormatLeaves spares (Err (Chip e)) old new → fault_status e ≡ 4 → IsUntouched old new
+  format_other spares image.Geometry c l is = l
+  format_other spares image.NotFormatted c l is = absurd c
+  format_other spares (image.Missing u) c l is = absurd c
+  format_other spares (image.Chip ReadFault) c l is = absurd c
+  format_other spares (image.Chip Stopped) c l is = absurd (omega (arith, is))
+  format_other spares (image.Chip (Damaged p s stored computed)) c l is = absurd c
+  format_other spares (image.Chip (Malformed p s)) c l is = absurd c
+  format_other spares (image.Chip (WornOut n)) c l is = absurd (omega (arith, is))
+  format_other spares image.Spent c l is = absurd c
+  format_other spares (image.NoSpare n) c l is = absurd c
 
   formatted_other : (e : ImageFault) → FormattedLeaves (Err (Chip e)) old new
       → ¬ IsGeometry old.places → IsUntouched old new
@@ -470,17 +479,26 @@ module _ (old new : Told) where
   trial_other seed count e (inl other) misfit = other.2
   trial_other seed count e (inr tried) misfit = absurd (misfit tried.0)
 
+  -- where no format is asked for the number of places is another one
+  outside : (request : Request) → ((spares : ℕ) → Some request ≡ Some (Format spares) → ⊥)
+      → IsMisfit (Some request) → ¬ IsGeometry old.places
+  outside request apart (inl misfit) = misfit
+  outside request apart (inr (spares, is, lacks)) = absurd (apart spares is)
+
   chip_other : (request : Request) (e : ImageFault) → ChipCause request e old new
       → EndLeaves (Some request) (Err (Chip e)) old new → fault_status e ≡ 4
-      → ¬ IsGeometry old.places → IsUntouched old new
-  chip_other Format e c l is misfit = format_other e c l is
-  chip_other (Run frames true) e c l is misfit = formatted_other e l misfit
-  chip_other (Run frames false) e c l is misfit = l.other misfit
+      → IsMisfit (Some request) → IsUntouched old new
+  chip_other (Format spares) e c l is misfit = format_other spares e c l is
+  chip_other (Run frames true) e c l is misfit =
+      formatted_other e l (outside (Run frames true) (λ spares same. cc) misfit)
+  chip_other (Run frames false) e c l is misfit =
+      l.other (outside (Run frames false) (λ spares same. cc) misfit)
   chip_other Serial e c l is misfit = l
-  chip_other (Trial seed count frames) e c l is misfit = trial_other seed count e l misfit
+  chip_other (Trial seed count frames) e c l is misfit = trial_other seed count e l
+      (outside (Trial seed count frames) (λ spares same. cc) misfit)
 
   other_by : (asked : AskedFor) (ending : Ending) → EndCause asked ending old new
-      → EndLeaves asked ending old new → status_at ending ≡ 4 → ¬ IsGeometry old.places
+      → EndLeaves asked ending old new → status_at ending ≡ 4 → IsMisfit asked
       → IsUntouched old new
   other_by None ending c l is misfit = l
   other_by (Some request) (Ok u) c l is misfit = absurd (omega (arith, is))
@@ -512,7 +530,7 @@ module _ (old new : Told) where
   -- what ends with a fault of the chip, by the request
   chip_by : (request : Request) (e : ImageFault) → ChipCause request e old new → fault_status e ≡ 3
       → CallFailed old new
-  chip_by Format e c is = inr ((format_image old new e c).1 is)
+  chip_by (Format spares) e c is = inr ((format_image old new spares e c).1 is)
   chip_by (Run frames true) e c is = formatted_chip old new e c is
   chip_by (Run frames false) e c is = opened_chip old new e c is
   chip_by (Trial seed count frames) e c is = formatted_chip old new e c is
@@ -520,28 +538,30 @@ module _ (old new : Told) where
 
   worn_by : (request : Request) (e : ImageFault) → ChipCause request e old new → fault_status e ≡ 10
       → Rose old.worn_erases new.worn_erases
-  worn_by Format e c is = format_worn old new e c is
+  worn_by (Format spares) e c is = format_worn old new spares e c is
   worn_by (Run frames true) e c is = formatted_worn old new e c is
   worn_by (Run frames false) e c is = opened_worn old new e c is
   worn_by (Trial seed count frames) e c is = formatted_worn old new e c is
   worn_by Serial e c is = absurd (omega (arith, is, ap fault_status c.0))
 
   abbrev Imaged : AskedFor → Type 0
-  Imaged asked = (¬ IsGeometry old.places) ⊎ (AsksOpened asked × StrayCause old) ⊎
-      (AsksAnew asked × AnewCause old)
+  Imaged asked = (¬ IsGeometry old.places) ⊎ LacksUnits asked old
+      ⊎ (AsksOpened asked × StrayCause old) ⊎ (AsksAnew asked × AnewCause old)
 
   image_by : (request : Request) (e : ImageFault) → ChipCause request e old new → fault_status e ≡ 4
       → Imaged (Some request)
-  image_by Format e c is = inl ((format_image old new e c).0 is)
+  image_by (Format spares) e c is =
+      inr (inl (spares, refl, (format_image old new spares e c).0 is))
   image_by (Run frames true) e c is = elim (formatted_image old new e c is) [
     | inl other ↦ inl other
-    | inr anew ↦ inr (inr (inl (frames, refl), anew))
+    | inr anew ↦ inr (inr (inr (inl (frames, refl), anew)))
   ]
   image_by (Trial seed count frames) e c is = elim (formatted_image old new e c is) [
     | inl other ↦ inl other
-    | inr anew ↦ inr (inr (inr (seed, count, frames, refl), anew))
+    | inr anew ↦ inr (inr (inr (inr (seed, count, frames, refl), anew)))
   ]
-  image_by (Run frames false) e c is = inr (inl ((frames, refl), opened_image old new e c is))
+  image_by (Run frames false) e c is =
+      inr (inr (inl ((frames, refl), opened_image old new e c is)))
   image_by Serial e c is = inl c.1
 
   abbrev Spends : AskedFor → Type 0
@@ -549,7 +569,7 @@ module _ (old new : Told) where
 
   spent_by : (request : Request) (e : ImageFault) → ChipCause request e old new → fault_status e ≡ 9
       → Spends (Some request)
-  spent_by Format e c is = absurd ((format_image old new e c).2 is)
+  spent_by (Format spares) e c is = absurd ((format_image old new spares e c).2 is)
   spent_by (Run frames true) e c is = inr (inl (frames, refl), formatted_spent old new e c is)
   spent_by (Trial seed count frames) e c is = inr (
     inr (seed, count, frames, refl),
@@ -580,7 +600,7 @@ module _ (old new : Told) where
   script_by (Some request) (Err Words) c is = absurd c
   script_by (Some request) (Err (Chip e)) c is = absurd (omega (arith, is, chip_status e))
   script_by (Some request) (Err OutOfMemory) c is = absurd (omega (arith, is))
-  script_by (Some Format) (Err Script) c is = absurd c
+  script_by (Some (Format spares)) (Err Script) c is = absurd c
   script_by (Some (Run frames formats)) (Err Script) c is = c
   script_by (Some Serial) (Err Script) c is = c
   script_by (Some (Trial seed count frames)) (Err Script) c is = absurd c
@@ -607,7 +627,7 @@ module _ (old new : Told) where
   long_by (Some request) (Err OutOfMemory) c is = absurd (omega (arith, is))
   long_by (Some request) (Err Script) c is = absurd (omega (arith, is))
   long_by (Some request) (Err Output) c is = absurd (omega (arith, is))
-  long_by (Some Format) (Err TooLong) c is = absurd c
+  long_by (Some (Format spares)) (Err TooLong) c is = absurd c
   long_by (Some (Run frames formats)) (Err TooLong) c is = c
   long_by (Some Serial) (Err TooLong) c is = c
   long_by (Some (Trial seed count frames)) (Err TooLong) c is = absurd c
@@ -646,17 +666,18 @@ module _ (old new : Told) (consistent : IsConsistent old) (calm : IsCalm old new
   never_rose (inr (inl written)) = calm.writes written
   never_rose (inr (inr worn)) = calm.worn worn
 
-  format_never : IsGeometry old.places → (e : ImageFault) → ¬ FormatCause e old new
-  format_never fits image.Geometry c = c fits
-  format_never fits image.NotFormatted c = c
-  format_never fits (image.Missing u) c = c
-  format_never fits (image.Chip ReadFault) c = c
-  format_never fits (image.Chip Stopped) c = calm.writes c
-  format_never fits (image.Chip (Damaged p s stored computed)) c = c
-  format_never fits (image.Chip (Malformed p s)) c = c
-  format_never fits (image.Chip (WornOut n)) c = calm.worn c.1
-  format_never fits image.Spent c = c
-  format_never fits (image.NoSpare n) c = c
+  format_never : (spares : ℕ) → IsSpared old.places spares → (e : ImageFault)
+      → ¬ FormatCause spares e old new
+  format_never spares fits image.Geometry c = c fits
+  format_never spares fits image.NotFormatted c = c
+  format_never spares fits (image.Missing u) c = c
+  format_never spares fits (image.Chip ReadFault) c = c
+  format_never spares fits (image.Chip Stopped) c = calm.writes c
+  format_never spares fits (image.Chip (Damaged p s stored computed)) c = c
+  format_never spares fits (image.Chip (Malformed p s)) c = c
+  format_never spares fits (image.Chip (WornOut n)) c = calm.worn c.1
+  format_never spares fits image.Spent c = c
+  format_never spares fits (image.NoSpare n) c = c
 
   anew_never : IsTold old → ¬ AnewCause old
   anew_never told anew = anew (starts_at told.contents)
@@ -674,13 +695,13 @@ module _ (old new : Told) (consistent : IsConsistent old) (calm : IsCalm old new
   formatted_never told (image.Chip Stopped) c = calm.writes c
   formatted_never told (image.Chip (Damaged p s stored computed)) c = anew_never told c.1
   formatted_never told (image.Chip (Malformed p s)) c = anew_never told c
-  formatted_never told (image.Chip (WornOut n)) c = calm.worn c.1
+  formatted_never told (image.Chip (WornOut n)) c = calm.worn c.rose
   formatted_never told image.Spent c = anew_never told c
   formatted_never told (image.NoSpare n) c = anew_never told c
 
   chip_never : (request : Request) → Suffices request old → (e : ImageFault)
       → ¬ ChipCause request e old new
-  chip_never Format holds e c = format_never holds e c
+  chip_never (Format spares) holds e c = format_never spares holds e c
   chip_never (Run frames true) holds e c = formatted_never holds e c
   chip_never (Run frames false) holds e c = never_rose (opened_excused old holds e new c)
   chip_never Serial holds e c = c.1 holds
@@ -697,12 +718,12 @@ module _ (old new : Told) (consistent : IsConsistent old) (calm : IsCalm old new
   complete_by request holds time (Err Words) c = absurd c
   complete_by request holds time (Err (Chip e)) c = absurd (chip_never request holds e c)
   complete_by request holds time (Err OutOfMemory) c = inr refl
-  complete_by Format holds time (Err Script) c = absurd c
+  complete_by (Format spares) holds time (Err Script) c = absurd c
   complete_by (Run frames formats) holds time (Err Script) c = absurd (calm.script c)
   complete_by Serial holds time (Err Script) c = absurd (calm.script c)
   complete_by (Trial seed count frames) holds time (Err Script) c = absurd c
   complete_by request holds time (Err Output) c = absurd (calm.says c)
-  complete_by Format holds time (Err TooLong) c = absurd c
+  complete_by (Format spares) holds time (Err TooLong) c = absurd c
   complete_by (Run frames formats) holds time (Err TooLong) c = absurd (never_long time c)
   complete_by Serial holds time (Err TooLong) c = absurd (never_long time c)
   complete_by (Trial seed count frames) holds time (Err TooLong) c = absurd c
@@ -714,7 +735,8 @@ module _ (asked : AskedFor) (old new : Told) (status : ℕ) (e : Ends asked old 
   pub end_wanting : status ≡ 5 → OnlyHears old new × (asked ≢ Some Serial → IsUntouched old new)
   end_wanting at = wanting_by old new asked e.ending e.cause e.leaves (sym e.status_is ∙ at)
 
-  pub end_other : status ≡ 4 → ¬ IsGeometry old.places → IsUntouched old new
+  pub end_other : status ≡ 4 → (¬ IsGeometry old.places) ⊎ LacksUnits asked old
+      → IsUntouched old new
   end_other at = other_by old new asked e.ending e.cause e.leaves (sym e.status_is ∙ at)
 
   pub end_words : status ≡ 2 → asked ≡ None
@@ -734,14 +756,12 @@ module _ (asked : AskedFor) (old new : Told) (status : ℕ) (e : Ends asked old 
       (sym e.status_is ∙ at) in
       worn_by old new request fault cause at_10
 
-  pub end_image : status ≡ 4 → (¬ IsGeometry old.places) ⊎ (AsksOpened asked × StrayCause old) ⊎
-      (AsksAnew asked × AnewCause old)
+  pub end_image : status ≡ 4 → Imaged old new asked
   end_image at =
       let (request, fault, is, at_4, cause) = fault_by old new 4 (omega arith) (omega arith)
       (omega arith) (omega arith) (omega arith) (omega arith) asked e.ending e.cause
       (sym e.status_is ∙ at) in
-      subst (λ (a : AskedFor). (¬ IsGeometry old.places) ⊎ (AsksOpened a × StrayCause old) ⊎
-      (AsksAnew a × AnewCause old)) (sym is) (image_by old new request fault cause at_4)
+      subst (Imaged old new) (sym is) (image_by old new request fault cause at_4)
 
   pub end_spent : status ≡ 9 → (AsksOpened asked × SpentCause old) ⊎ (AsksAnew asked × AnewCause old)
   end_spent at =
@@ -751,16 +771,19 @@ module _ (asked : AskedFor) (old new : Told) (status : ℕ) (e : Ends asked old 
       subst (λ (a : AskedFor). (AsksOpened a × SpentCause old) ⊎ (AsksAnew a × AnewCause old)) (sym is) (spent_by old new request fault cause at_9)
 
   -- at 4 and 9 what the chip held was at fault
-  unfit_at_4 : IsConsistent old → (¬ IsGeometry old.places) ⊎ (AsksOpened asked × StrayCause old)
-      ⊎ (AsksAnew asked × AnewCause old) → IsGeometry old.places → EndsUnfit asked old
+  unfit_at_4 : IsConsistent old → Imaged old new asked → IsGeometry old.places
+      → EndsUnfit asked old
   unfit_at_4 consistent (inl other) fits = absurd (other fits)
-  unfit_at_4 consistent (inr (inl (asks, stray))) fits = inl (asks, stray_unfit old consistent stray)
-  unfit_at_4 consistent (inr (inr (asks, anew))) fits = inr (asks, anew_silent old consistent anew)
+  unfit_at_4 consistent (inr (inl lacks)) fits = inr (inr lacks)
+  unfit_at_4 consistent (inr (inr (inl (asks, stray)))) fits =
+      inl (asks, stray_unfit old consistent stray)
+  unfit_at_4 consistent (inr (inr (inr (asks, anew)))) fits =
+      inr (inl (asks, anew_silent old consistent anew))
 
   unfit_at_9 : IsConsistent old → (AsksOpened asked × SpentCause old)
       ⊎ (AsksAnew asked × AnewCause old) → EndsUnfit asked old
   unfit_at_9 consistent (inl (asks, spent)) = inl (asks, spent_unfit old consistent spent)
-  unfit_at_9 consistent (inr (asks, anew)) = inr (asks, anew_silent old consistent anew)
+  unfit_at_9 consistent (inr (asks, anew)) = inr (inl (asks, anew_silent old consistent anew))
 
   pub end_unfit : IsConsistent old → (status ≡ 4) ⊎ (status ≡ 9) → IsGeometry old.places
       → EndsUnfit asked old

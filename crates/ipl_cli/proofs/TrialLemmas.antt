@@ -1,5 +1,5 @@
 -- What a trial leaves, and why it ends.
-use Rattle.std.proofs.Common.{◌≡◌, ◌≤◌, ℕ, true, [], ◌∷◌, List, ◌++◌, Some, Result, Ok, Err, inl, inr, refl, sym, ◌∙◌, ap, subst, arith, append_assoc}
+use Rattle.std.proofs.Common.{◌≡◌, ◌≤◌, ℕ, true, [], ◌∷◌, List, ◌++◌, Some, Result, Ok, Err, inl, inr, refl, sym, ◌∙◌, ap, subst, append_assoc}
 use Rattle.std.specs.Prelude.{IfErr, IsErrOf}
 use Rattle.std.specs.FinMap.{empty}
 use Rattle.std.specs.Option.{option_map}
@@ -12,15 +12,14 @@ use Rattle.chip_trait.specs.Told.{History, Told, Beside, IsPrefix, adds_all, Unr
 use Rattle.chip_trait.proofs.HistoryLemmas.{same_history, history_then}
 use Rattle.chip_trait.proofs.MomentLemmas.{at_both, at_weaker}
 use Rattle.chip_trait.proofs.SaidLemmas.{silent-part}
-use Rattle.ipl_base.specs.Places.{units_on, places_for}
+use Rattle.ipl_base.specs.Places.{units_on}
 use Rattle.ipl_base.specs.declared.fault.ImageFault.{ImageFault}
-use Rattle.ipl_rules.specs.State.{State, Limits, Map, at_rest}
+use Rattle.ipl_rules.specs.State.{State, Limits, at_rest}
 use Rattle.ipl_model.specs.declared.command.Command.{Command}
 use Rattle.ipl_model.specs.Run.{joined as joined_text}
 use Rattle.ipl_format.specs.Sector.{sector_in}
-use Rattle.ipl_meaning.specs.Chart.{chart_of}
-use Rattle.ipl_meaning.specs.Rests.{EachStands, StoryRests}
-use Rattle.ipl_meaning.specs.Stands.{Stands}
+use Rattle.ipl_meaning.specs.Rests.{now, EachStands, StoryRests}
+use Rattle.opening_rules.specs.Chosen.{units_at}
 use Rattle.unit_io.specs.Leads.{IsSteady}
 use Rattle.restart.specs.Events.{format_events}
 use Rattle.store_trait.specs.Keeping.{Stays, SCRIPT_DRAWS}
@@ -35,7 +34,7 @@ use Rattle.script_run.specs.Goes.{Along, CompletesOver}
 use Rattle.script_run.specs.Run.{SaysLines, IsUnsaid}
 use Rattle.script_run.proofs.RunLemmas.{says_none, says_prefix}
 use Rattle.script_store.specs.declared.store.ScriptStore.{ScriptStore}
-use Rattle.script_store.specs.Keeps.{IsRunning, script_keeping, next_number}
+use Rattle.script_store.specs.Keeps.{KeepsScript, script_keeping, next_number}
 use Rattle.store_trait.specs.Keeping.{FOUND_NUMBER}
 use Rattle.trial_commands.specs.Words.{trial_commands}
 use Rattle.trial_run.specs.Trial.{StandsBehind as StandsBehindOf, TrialLeaves as LeavesOf, TrialEnds, EndsInWork, RunsTrial, IsTrialStop}
@@ -46,28 +45,17 @@ use Rattle.ipl_cli.specs.Ending.{Ending, StopsEarly}
 use Rattle.ipl_cli.specs.Top.{IsTooLong, RequestCause, EndCause}
 use Rattle.ipl_cli.specs.Trials.{commands_on, state_after, summary, StandsBehind, EndsAlong, EndsTrial, Trials, TrialsFormatted, TrialLeaves}
 use Rattle.ipl_cli.specs.Runs.{ClosesFor, StartsOpened, IsNotOpened, WasFormatted, StartsFormatted, IsNotStarted, TriesOver, ending_of}
-use Rattle.ipl_cli.proofs.EndLemmas.{Kept, kept, pieces_behind, history_behind, all_done, left_counts, opened_keeps, fresh_story, told_format, lawful_format}
+use Rattle.ipl_cli.proofs.EndLemmas.{Kept, kept, pieces_behind, history_behind, all_done, left_counts, units_told, opened_keeps, fresh_story, fresh_units, told_format, lawful_format}
 use Rattle.ipl_cli.proofs.StartLemmas.{cause_anew, over_cause, not_started_cause, stopped_end}
 
 -- ---- what the chip stands for
 
-module _ (places : ℕ) (least : 5 ≤ places) (commands : List Command) where
-  -- a store of the units that are kept on so many places is made for these places
-  stands_on : (x : Contents) (m : Map) → Stands (places_for (units_on places)) (chart_of x) m
-      → Stands places (chart_of x) m
-  stands_on x m stands = subst (λ (q : ℕ). Stands q (chart_of x) m) (omega (arith, least)) stands
-
-  behind : (lines : List (List ℕ)) (x : Contents)
-      → StandsBehindOf script_keeping (limits_of (units_on places)) (at_rest empty) commands lines x
-      → StandsBehind places commands lines x
-  behind [] x (done, later, are, stands) = (
-    done,
-    later,
-    are,
-    stands_on x (state_after places
-        done).map stands,
-  )
-  behind (line ∷ lines) x stands = stands_on x (state_after places commands).map stands
+behind : (places : ℕ) (commands : List Command) (lines : List (List ℕ)) (x : Contents)
+    → StandsBehindOf (script_keeping places) (limits_of (units_on places)) (at_rest empty) commands
+    lines x
+    → StandsBehind places commands lines x
+behind places commands [] x (done, later, are, stands) = (done, later, are, stands)
+behind places commands (line ∷ lines) x stands = stands
 
 -- ---- events that say nothing, before a trial
 
@@ -118,20 +106,20 @@ module _ (places : ℕ) (commands : List Command) (h : History) (first : Story)
 
   -- then the commands were done
 
-  module _ (old mid new : Told) (before then : ScriptStore) (least : 5 ≤ places)
+  module _ (old mid new : Told) (before then : ScriptStore)
       (later : old.write_faults ≤ mid.write_faults)
       (told : mid.history ≡ option_map (adds_all first) old.history)
-      (clean : (base : Story) → AreClean (script_keeping.clean before) (first ++ base))
+      (clean : (base : Story) → AreClean ((script_keeping places).clean before) (first ++ base))
       (left : new.beside.left ≡ old.beside.left) where
     module _ (R : History → State → Type 0) (result : Result (Unit {0}) Stop)
-        (stays : (k : History) (s : State) → R k s → Stays script_keeping limits then mid new k s)
-        (leaves : LeavesOf script_keeping limits (at_rest empty) commands before (adds_all first h)
+        (stays : (k : History) (s : State) → R k s → Stays (script_keeping places) limits then mid new k s)
+        (leaves : LeavesOf (script_keeping places) limits (at_rest empty) commands before (adds_all first h)
         R then mid new result) where
       abbrev last : History
       last = adds_all leaves.added (adds_all first h)
 
       kept_last : (s : State) → R last s → Unrisen old new → Kept places new last s
-      kept_last s so unrisen = kept places least then new s last
+      kept_last s so unrisen = kept places limits then new s last
           (stays last s so (unrisen_later old mid new later unrisen))
 
       all_pieces : pieces (leaves.added ++ first) ≡ pieces leaves.added
@@ -144,12 +132,12 @@ module _ (places : ℕ) (commands : List Command) (h : History) (first : Story)
       all_history = history_behind first leaves.added h
 
       later_found : AtEachMoment (λ f. Found (f ++ first)) leaves.added
-      later_found = at_weaker (λ e. Leaves (says sector_in) (StandsBehindOf script_keeping limits
+      later_found = at_weaker (λ e. Leaves (says sector_in) (StandsBehindOf (script_keeping places) limits
           (at_rest empty) commands (pieces e)) (adds_all first h) e) (λ f. Found (f ++ first))
           leaves.added (λ f found x image.
           subst (λ (lines : List (List ℕ)). StandsBehind places commands lines x)
           (sym (pieces_behind first f silent))
-          (behind places least commands (pieces f) x
+          (behind places commands (pieces f) x
           (found x (subst (λ (s : Story). IsNoChanceImage (says sector_in) h.start s x)
           (append_assoc f first h.story) image)))) leaves.each_moment
 
@@ -160,7 +148,7 @@ module _ (places : ℕ) (commands : List Command) (h : History) (first : Story)
       rested s so = λ unrisen. subst (λ (k : History). StoryRests places s.map k) all_history
           (kept_last s so unrisen).rests
 
-      along : EndsInWork script_keeping limits (at_rest empty) commands (adds_all first h)
+      along : EndsInWork (script_keeping places) limits (at_rest empty) commands (adds_all first h)
           leaves.added (R last) → EndsAlong Resting places commands (pieces (leaves.added ++ first))
       along e = record {
         done = e.done;
@@ -171,7 +159,7 @@ module _ (places : ℕ) (commands : List Command) (h : History) (first : Story)
         rests = rested (state_after places e.done) e.rests;
       }
 
-      ends_by : (r : Result (Unit {0}) Stop) → TrialEnds script_keeping r limits (at_rest empty)
+      ends_by : (r : Result (Unit {0}) Stop) → TrialEnds (script_keeping places) r limits (at_rest empty)
           commands (adds_all first h) leaves.added (R last)
           → EndsTrial (ending_of r) Resting places commands (pieces (leaves.added ++ first))
       ends_by (Ok u) e = rested (state_after places commands) e.rests
@@ -187,7 +175,7 @@ module _ (places : ℕ) (commands : List Command) (h : History) (first : Story)
       ends_by (Err stop.TooLong) e = absurd e
 
       steady_by : (r : Result (Unit {0}) Stop)
-          → TrialEnds script_keeping r limits (at_rest empty) commands (adds_all first h)
+          → TrialEnds (script_keeping places) r limits (at_rest empty) commands (adds_all first h)
           leaves.added (R last) → Unrisen old new → IsSteady last new
       steady_by (Ok u) e unrisen = (kept_last (state_after places commands) e.rests
           unrisen).steady
@@ -224,48 +212,75 @@ module _ (places : ℕ) (commands : List Command) (h : History) (first : Story)
 
 -- ---- over a chip that was opened
 
--- over a history that leaves what the chip holds and rests on no records
-abbrev TrialsOpened : List Command → Told → Told → Ending → Type 0
-TrialsOpened commands old new ending = (h : History) → IsSteady h old
-    → StoryRests old.places empty h
-    → Trials old.places commands h [] old new ending
+-- over a history that leaves what the chip holds and rests on no records, where the chip says that none
+-- of its places is spare
+abbrev TrialsOpened : ℕ → ℕ → Told → Told → Ending → Type 0
+TrialsOpened seed count old new ending = (h : History) → IsSteady h old
+    → StoryRests old.places empty h → units_at (now h) old.places ≡ units_on old.places
+    → Trials old.places (commands_on old.places seed count) h [] old new ending
 
 module _ (old mid : Told) (store : ScriptStore) (s : StartsOpened old store mid)
-    (then : ScriptStore) (new : Told) (commands : List Command) (onward : Onward mid new) where
+    (then : ScriptStore) (new : Told) (seed count : ℕ) (onward : Onward mid new) where
   left_alone : new.beside.left ≡ old.beside.left
   left_alone = ap (λ (b : Beside). b.left) onward.keeps ∙ left_counts old mid
       s.tries.accounts.counts
 
-  opened_trial : (result : Result (Unit {0}) Stop)
-      → RunsTrial script_keeping commands store mid result then new
-      → TrialsOpened commands old new (ending_of result)
-  opened_trial (Ok u) run = λ h steady rests.
+  -- the store keeps no records, with all units
+  keeps_none : (h : History) (steady : IsSteady h old) (rests : StoryRests old.places empty h)
+      → store.store.units ≡ units_on old.places
+      → KeepsScript old.places (limits_of (units_on old.places)) store mid
+      (adds_all (s.tries.steps empty h steady rests).added h) (at_rest empty)
+  keeps_none h steady rests many = subst (λ (u : ℕ). KeepsScript old.places (limits_of u) store mid
+      (adds_all (s.tries.steps empty h steady rests).added h) (at_rest empty)) many
+      (opened_keeps old mid store s empty h steady rests)
+
+  abbrev Ran : Result (Unit {0}) Stop → ℕ → Type 0
+  Ran result units = RunsTrial (script_keeping old.places) (trial_commands units seed count) store
+      mid result then new
+
+  opened_so : (result : Result (Unit {0}) Stop) → Ran result (units_on old.places)
+      → (h : History) → IsSteady h old → StoryRests old.places empty h
+      → store.store.units ≡ units_on old.places
+      → Trials old.places (commands_on old.places seed count) h [] old new (ending_of result)
+  opened_so (Ok u) run h steady rests many =
       let did = s.tries.steps empty h steady rests in
-      tried_by old.places commands h did.added did.does.silent did.each_moment
+      tried_by old.places (commands_on old.places seed count) h did.added did.does.silent
+      did.each_moment
       (λ base good. did.does.lawful.lawful base good (λ p q nowhere. absurd nowhere))
-      old mid new store then s.running.sound.made.geometry.0 s.tries.accounts.counts.writes
+      old mid new store then s.tries.accounts.counts.writes
       did.history (λ base. did.does.clean refl base (λ p q nowhere. absurd nowhere)) left_alone
-      (script_keeping.holds (limits_of (units_on old.places)) then new) (Ok tt) (λ k state held unrisen.
-      held)
-      (run (limits_of (units_on old.places)) (at_rest empty) (adds_all did.added h) (opened_keeps old mid
-      store s empty h steady rests))
-  opened_trial (Err e) run = λ h steady rests.
+      (KeepsScript old.places (limits_of (units_on old.places)) then new) (Ok tt)
+      (λ k state held unrisen. held)
+      (run (limits_of (units_on old.places)) (at_rest empty) (adds_all did.added h)
+      (keeps_none h steady rests many))
+  opened_so (Err e) run h steady rests many =
       let did = s.tries.steps empty h steady rests in
-      tried_by old.places commands h did.added did.does.silent did.each_moment
+      tried_by old.places (commands_on old.places seed count) h did.added did.does.silent
+      did.each_moment
       (λ base good. did.does.lawful.lawful base good (λ p q nowhere. absurd nowhere))
-      old mid new store then s.running.sound.made.geometry.0 s.tries.accounts.counts.writes
+      old mid new store then s.tries.accounts.counts.writes
       did.history (λ base. did.does.clean refl base (λ p q nowhere. absurd nowhere)) left_alone
-      (Stays script_keeping (limits_of (units_on old.places)) then mid new) (Err e)
+      (Stays (script_keeping old.places) (limits_of (units_on old.places)) then mid new) (Err e)
       (λ k state stays. stays)
-      (run (limits_of (units_on old.places)) (at_rest empty) (adds_all did.added h) (opened_keeps old mid
-      store s empty h steady rests))
+      (run (limits_of (units_on old.places)) (at_rest empty) (adds_all did.added h)
+      (keeps_none h steady rests many))
+
+  opened_trial : (result : Result (Unit {0}) Stop)
+      → RunsTrial (script_keeping mid.places) (trial_commands store.store.units seed count) store
+      mid result then new → TrialsOpened seed count old new (ending_of result)
+  opened_trial result run = λ h steady rests all.
+      let many = units_told old mid store s h steady ∙ all in
+      opened_so result (subst (Ran result) many (subst (λ (n : ℕ). RunsTrial (script_keeping n)
+      (trial_commands store.store.units seed count) store mid result then new)
+      s.tries.accounts.counts.places run)) h steady rests many
 
 -- an opening that fails leaves no records
-unopened_trial : (commands : List Command) (old new : Told) (end : End)
-    → (n : IsNotOpened end old new) → TrialsOpened commands old new (Err (Chip n.fault))
-unopened_trial commands old new end n = λ h steady rests.
+unopened_trial : (seed count : ℕ) (old new : Told) (end : End)
+    → (n : IsNotOpened end old new) → TrialsOpened seed count old new (Err (Chip n.fault))
+unopened_trial seed count old new end n = λ h steady rests all.
     let did = n.tries.steps empty h steady rests in
-    none_tried old.places commands h did.added did.does.silent did.each_moment
+    none_tried old.places (commands_on old.places seed count) h did.added did.does.silent
+    did.each_moment
     (λ base good. did.does.lawful.lawful base good (λ p q nowhere. absurd nowhere))
     old new n.fault did.history (left_counts old new n.tries.accounts.counts) did.steady did.ends
 
@@ -288,41 +303,45 @@ ends_so Q R places commands lines f (Err Script) e = e
 ends_so Q R places commands lines f (Err Output) e = (e.0, f _ e.1)
 ends_so Q R places commands lines f (Err TooLong) e = e
 
-module _ (old mid new : Told) (f : WasFormatted old mid) (commands : List Command) where
+module _ (old mid new : Told) (f : WasFormatted old mid) (seed count : ℕ) where
+  abbrev first : Story
+  first = format_events old.places (units_on old.places)
+
+  abbrev commands : List Command
+  commands = commands_on old.places seed count
+
   after_format : {ending : Ending} (h : History)
-      → Trials old.places commands (adds_all (format_events old.places) h) [] mid new ending
-      → Trials old.places commands h (format_events old.places) old new ending
-  after_format {ending} h t = let last : History = adds_all t.added
-      (adds_all (format_events old.places) h) in record {
-        added = t.added;
-        history = t.history ∙ ap (option_map (adds_all t.added)) (sym (same_history mid.history)
-            ∙ told_format old mid new f h);
-        each_moment = t.each_moment;
-        lines = t.lines;
-        is_prefix = t.is_prefix;
-        lawful = λ base good. t.lawful (format_events old.places ++ base) (lawful_format old mid new f h
-            base good);
-        steady = λ unrisen. t.steady (earlier unrisen);
-        ends = ends_so (λ s. Unrisen mid new → StoryRests old.places s.map last) (λ s. Unrisen old new
-            → StoryRests old.places s.map last) old.places commands (pieces t.added) (λ s so unrisen. so
-            (earlier unrisen)) ending t.ends;
-        left_is = t.left_is ∙ left_counts old mid f.counts;
-        all = t.all;
-      }
+      → Trials old.places commands (adds_all first h) [] mid new ending
+      → Trials old.places commands h first old new ending
+  after_format {ending} h t = let last : History = adds_all t.added (adds_all first h) in record {
+    added = t.added;
+    history = t.history ∙ ap (option_map (adds_all t.added)) (sym (same_history mid.history)
+        ∙ told_format old mid new f h);
+    each_moment = t.each_moment;
+    lines = t.lines;
+    is_prefix = t.is_prefix;
+    lawful = λ base good. t.lawful (first ++ base) (lawful_format old mid new f h base good);
+    steady = λ unrisen. t.steady (earlier unrisen);
+    ends = ends_so (λ s. Unrisen mid new → StoryRests old.places s.map last) (λ s. Unrisen old new
+        → StoryRests old.places s.map last) old.places commands (pieces t.added)
+        (λ s so unrisen. so (earlier unrisen)) ending t.ends;
+    left_is = t.left_is ∙ left_counts old mid f.counts;
+    all = t.all;
+  }
     where
       earlier : Unrisen old new → Unrisen mid new
       earlier = unrisen_later old mid new f.counts.writes
 
-  formatted_trial : {ending : Ending} → TrialsOpened commands mid new ending → (h : History)
-      → IsSteady h old
-      → Trials old.places commands h (format_events old.places) old new ending
+  formatted_trial : {ending : Ending} → TrialsOpened seed count mid new ending → (h : History)
+      → IsSteady h old → Trials old.places commands h first old new ending
   formatted_trial {ending} trials h steady =
       let fresh = fresh_story old mid new f h steady in
-      after_format h (subst (λ (q : ℕ). Trials q commands (adds_all (format_events old.places)
-      h) [] mid new ending) f.counts.places
-      (trials (adds_all (format_events old.places) h) fresh.0
-      (subst (λ (q : ℕ). StoryRests q empty (adds_all (format_events old.places) h))
-      (sym f.counts.places) fresh.1)))
+      after_format h (subst (λ (q : ℕ). Trials q (commands_on q seed count) (adds_all first h) []
+      mid new ending) f.counts.places
+      (trials (adds_all first h) fresh.0
+      (subst (λ (q : ℕ). StoryRests q empty (adds_all first h)) (sym f.counts.places) fresh.1)
+      (subst (λ (q : ℕ). units_at (now (adds_all first h)) q ≡ units_on q) (sym f.counts.places)
+      (fresh_units old mid new f h))))
 
 -- ---- a trial that isn't started
 
@@ -346,14 +365,15 @@ module _ (old new : Told) (seed count : ℕ) where
       (inr (
         stopped.fits,
         λ h steady. inr (subst
-            (λ (last : End). StopsEarly old.places h old new (Err last)) is (stopped.stops h)),
+            (λ (last : End). StopsEarly old.places (units_on old.places) h old new (Err last)) is
+            (stopped.stops h)),
       ))
   trial_not_started end (inr (inr (formatted, f, n))) = subst (λ (e : End). TrialLeaves seed count
       (Err e) old new) (sym n.end_is)
       (inr (
         f.fits,
-        λ h steady. inl (formatted_trial old formatted new f (commands_on old.places seed count)
-            (unopened_trial (commands_on old.places seed count) formatted new end n) h steady),
+        λ h steady. inl (formatted_trial old formatted new f seed count
+            (unopened_trial seed count formatted new end n) h steady),
       ))
 
   -- no script is read
@@ -392,10 +412,6 @@ module _ (old new : Told) (seed count : ℕ) where
 
 module _ (old mid : Told) (store : ScriptStore) (s : StartsFormatted old store mid)
     (then : ScriptStore) (new : Told) (seed count : ℕ) where
-  -- the number of places stays, and so do the commands
-  same_places : mid.places ≡ old.places
-  same_places = s.opened.tries.accounts.counts.places ∙ s.formats.counts.places
-
   leaves_by : (result : Result (Unit {0}) Stop) → IfErr result IsTrialStop
       → TrialsFormatted seed count old new (ending_of result)
       → TrialLeaves seed count (ending_of result) old new
@@ -418,14 +434,10 @@ module _ (old mid : Told) (store : ScriptStore) (s : StartsFormatted old store m
 
   pub tried_left : (ending : Ending) → TriesOver seed count ending store mid then new
       → TrialLeaves seed count ending old new
-  tried_left ending t =
-      let commands : List Command = commands_on old.places seed count in
-      let run = subst (λ (n : ℕ). RunsTrial script_keeping (commands_on n seed count) store mid
-      t.result then new) same_places t.trial in
-      subst (λ (e : Ending). TrialLeaves seed count e old new) (sym t.ending_is) (leaves_by t.result
-      t.stops
-      (formatted_trial old s.formatted new s.formats commands (opened_trial s.formatted mid store
-      s.opened then new commands t.onward t.result run)))
+  tried_left ending t = subst (λ (e : Ending). TrialLeaves seed count e old new) (sym t.ending_is)
+      (leaves_by t.result t.stops
+      (formatted_trial old s.formatted new s.formats seed count
+      (opened_trial s.formatted mid store s.opened then new seed count t.onward t.result t.trial)))
 
   never_long : (result : Result (Unit {0}) Stop) → IfErr result IsTrialStop
       → IsErrOf result stop.TooLong → IsTooLong mid new
@@ -459,18 +471,19 @@ module _ (old mid : Told) (store : ScriptStore) (s : StartsFormatted old store m
 
 -- a trial over a store whose numbers last
 module _ (seed count units : ℕ) (before then : ScriptStore) (old new : Told)
-    (running : IsRunning old.places before) (units_are : units ≡ before.store.units)
+    (units_are : units ≡ before.store.units)
     (low : next_number before ≤ FOUND_NUMBER) where
   pub tries_over : (result : Result (Unit {0}) Stop)
-      → RunsTrial script_keeping (trial_commands units seed count) before old result then new
-      → Along script_keeping Onward SCRIPT_DRAWS before old result then new
-      → CompletesOver script_keeping SCRIPT_DRAWS before old result then new
+      → RunsTrial (script_keeping old.places) (trial_commands units seed count) before old result
+      then new
+      → Along (script_keeping old.places) Onward SCRIPT_DRAWS before old result then new
+      → CompletesOver (script_keeping old.places) SCRIPT_DRAWS before old result then new
       → IfErr result IsTrialStop → TriesOver seed count (ending_of result) before old then new
   tries_over result run goes completes stops = record {
     result = result;
     ending_is = refl;
-    trial = subst (λ (n : ℕ). RunsTrial script_keeping (trial_commands n seed count) before old
-        result then new) (omega (arith, units_are, running.sound.made.units)) run;
+    trial = subst (λ (n : ℕ). RunsTrial (script_keeping old.places) (trial_commands n seed count)
+        before old result then new) units_are run;
     tidy = goes.tidy;
     completes = completes;
     cause = goes.cause;

@@ -4,8 +4,7 @@ use Rattle.std.specs.Prelude.{IsErrOf, is_ok}
 use Rattle.chip_trait.specs.Story.{joined}
 use Rattle.chip_trait.specs.Told.{Told}
 use Rattle.chip_trait.proofs.HistoryLemmas.{same_history}
-use Rattle.ipl_base.specs.Places.{KeepsUnits, units_on}
-use Rattle.ipl_base.proofs.UnitLemmas.{count_is}
+use Rattle.ipl_base.specs.Places.{units_on}
 use Rattle.ipl_model.specs.Plain.{limits_for}
 use Rattle.store_trait.proofs.OnwardLemmas.{further_none}
 use Rattle.script_run.proofs.RunLemmas.{says_none, says_prefix}
@@ -36,11 +35,10 @@ module _ (old new : Told) where
   Says units result = (script : List ℕ) → old.beside.left ≡ Some script
       → SaysView (limits_for units) script old result new
 
-  views_told : (units : ℕ) → KeepsUnits old.places units → (result : Result (Unit {0}) ViewStop)
+  views_told : (units : ℕ) → units ≡ units_on old.places → (result : Result (Unit {0}) ViewStop)
       → Says units result → ViewsTold old new (is_ok result)
-  views_told units keeps result says = λ script left. views_of script result
-      (subst (λ (n : ℕ). SaysView (limits_for n) script old result new)
-      (count_is old.places units keeps) (says script left))
+  views_told units all result says = λ script left. views_of script result
+      (subst (λ (n : ℕ). SaysView (limits_for n) script old result new) all (says script left))
 
   abbrev failed : ViewStop → Result (Unit {0}) ViewStop
   failed fault = Err fault
@@ -48,32 +46,32 @@ module _ (old new : Told) where
   only_viewed : OnlySays old new → OnlyViews old new
   only_viewed says = record { viewed = new; says = says; noted = refl }
 
-  pub said_view : (units : ℕ) → KeepsUnits old.places units → Says units (Ok tt) → OnlySays old new
+  pub said_view : (units : ℕ) → units ≡ units_on old.places → Says units (Ok tt) → OnlySays old new
       → SerialLeaves (Ok tt) old new
-  said_view units keeps says only = (views_told units keeps (Ok tt) says, only_viewed only)
+  said_view units all says only = (views_told units all (Ok tt) says, only_viewed only)
 
-  pub failed_view : (units : ℕ) → KeepsUnits old.places units → (fault : ViewStop)
+  pub failed_view : (units : ℕ) → units ≡ units_on old.places → (fault : ViewStop)
       → Says units (Err fault) → OnlySays old new
       → (IsErrOf (failed fault) stop.OutOfMemory → ReadsScript old new)
       → SerialLeaves (Err (view_end fault)) old new
-  failed_view units keeps stop.OutOfMemory says only early = record {
+  failed_view units all stop.OutOfMemory says only early = record {
     heard = new;
     reads = early
         refl;
     noted = refl;
   }
-  failed_view units keeps stop.Script says only early = (
-    views_told units keeps (Err stop.Script)
+  failed_view units all stop.Script says only early = (
+    views_told units all (Err stop.Script)
         says,
     only_viewed only,
   )
-  failed_view units keeps stop.TooLong says only early = (
-    views_told units keeps (Err stop.TooLong)
+  failed_view units all stop.TooLong says only early = (
+    views_told units all (Err stop.TooLong)
         says,
     only_viewed only,
   )
-  failed_view units keeps stop.Output says only early = (
-    views_told units keeps (Err stop.Output)
+  failed_view units all stop.Output says only early = (
+    views_told units all (Err stop.Output)
         says,
     only_viewed only,
   )

@@ -1,6 +1,7 @@
 -- How the program ends, and what is noted of it.
-use Rattle.std.specs.Prelude.{◌≡◌, ◌⊎◌, ℕ, true, false, List, [], Option, Some, Result, Ok, Err}
+use Rattle.std.specs.Prelude.{◌≡◌, ◌⊎◌, ◌-◌, ℕ, true, false, List, [], Option, Some, Result, Ok, Err}
 use Rattle.chip_trait.specs.Told.{History, Told, Counts, Rose}
+use Rattle.ipl_base.specs.Places.{units_on}
 use Rattle.ipl_base.specs.declared.fault.ChipFault.TheVariants.{Stopped, WornOut}
 use Rattle.ipl_base.specs.declared.fault.FormatFault.{FormatFault}
 use Rattle.ipl_base.specs.declared.fault.FormatFault.TheVariants as format
@@ -55,6 +56,12 @@ IsUntouched old new = new ≡ but_noted old new.beside.noted
 abbrev pub AtStatus : (Ending → Type 0) → ℕ → Type 0
 AtStatus P status = (ending : Ending) × (status ≡ status_at ending) × P ending
 
+-- ---- a format
+
+-- for how many units a format lays so many places out, with so many of them to spare
+abbrev pub units_beside : ℕ → ℕ → ℕ
+units_beside places spares = units_on places - spares
+
 -- ---- a format that was stopped
 
 -- the end that a failed format is
@@ -69,18 +76,19 @@ StopRose format.Geometry old new = ⊥
 StopRose format.Stopped old new = Rose old.write_faults new.write_faults
 StopRose (format.Worn p) old new = Rose old.worn_erases new.worn_erases
 
--- What a format leaves that was stopped, and the program ends so. Since a write failed: an earlier
--- part of its events, or all; or at a worn place: exactly the erases of those below it, and that it
--- was found worn. Nothing was said, and nothing read of the script.
-pub record StopsEarly (places : ℕ) (h : History) (old new : Told) (ending : Ending) : Type 0 where
+-- What a format for so many units leaves that was stopped, and the program ends so. Since a write
+-- failed: an earlier part of its events, or all; or at a worn place: exactly the erases of those below
+-- it, and that it was found worn. Nothing was said, and nothing read of the script.
+pub record StopsEarly (places units : ℕ) (h : History) (old new : Told) (ending : Ending)
+    : Type 0 where
   pub stopped : Told
   pub fault : FormatFault
   pub ending_is : ending ≡ Err (format_end fault)
-  pub formats : Formats {A = Unit {0}} places h old (Err fault) stopped
+  pub formats : Formats {A = Unit {0}} places units h old (Err fault) stopped
   pub counts : Counts old stopped
   pub rose : StopRose fault old stopped
   pub noted : new ≡ but_noted stopped new.beside.noted
 
 -- a format was stopped, whatever history is looked at
-abbrev pub IsStopped : Told → Told → Ending → Type 0
-IsStopped old new ending = (h : History) → StopsEarly old.places h old new ending
+abbrev pub IsStopped : ℕ → Told → Told → Ending → Type 0
+IsStopped units old new ending = (h : History) → StopsEarly old.places units h old new ending

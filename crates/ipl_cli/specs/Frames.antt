@@ -22,7 +22,7 @@ pub record DoesWith (Starts : Told → ScriptStore → Told → Type 0)
 -- a run and a trial are done by a store of as many frames as the words ask for
 abbrev pub DoesAsAsked : AskedFor → Told → Told → Type 0
 DoesAsAsked None old new = Unit {0}
-DoesAsAsked (Some Format) old new = Unit {0}
+DoesAsAsked (Some (Format spares)) old new = Unit {0}
 DoesAsAsked (Some (Run frames true)) old new =
     DoesWith StartsFormatted (RunsOver (Ok tt)) frames old new
 DoesAsAsked (Some (Run frames false)) old new =

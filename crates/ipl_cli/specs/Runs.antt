@@ -1,7 +1,7 @@
 -- How the program starts and runs.
 use Rattle.std.specs.Prelude.{ℕ, ◌≡◌, ◌⊎◌, Result, Ok, Err, OnOk, IfErr, IsErrOf, is_ok}
 use Rattle.chip_trait.specs.Told.{History, Told, Counts}
-use Rattle.ipl_base.specs.Places.{IsGeometry}
+use Rattle.ipl_base.specs.Places.{IsGeometry, units_on}
 use Rattle.ipl_base.specs.declared.fault.FormatFault.{FormatFault}
 use Rattle.ipl_base.specs.declared.fault.ImageFault.{ImageFault}
 use Rattle.ipl_base.specs.declared.fault.ImageFault.TheVariants as image
@@ -19,12 +19,12 @@ use Rattle.ipl_store.specs.Calls.{IsSound}
 use Rattle.ipl_store.specs.Openings.{Opens, Tries}
 use Rattle.script_store.specs.declared.store.ScriptStore.{ScriptStore}
 use Rattle.script_store.specs.Keeps.{IsRunning, script_keeping}
+use Rattle.trial_commands.specs.Words.{trial_commands}
 use Rattle.trial_run.specs.Trial.{RunsTrial, IsTrialStop}
 use Rattle.program_end.specs.declared.end.End.{End}
 use Rattle.program_end.specs.declared.end.End.TheVariants.{Words, Chip, OutOfMemory, Script, Output, TooLong}
 use Rattle.ipl_cli.specs.Ending.{Ending, IsStopped, StopRose, format_end}
 use Rattle.ipl_cli.specs.Top.{IsTooLong}
-use Rattle.ipl_cli.specs.Trials.{commands_on}
 
 -- ---- the start
 
@@ -58,11 +58,12 @@ abbrev pub OpensOver : Result ScriptStore End → Told → Told → Type 0
 OpensOver (Ok store) old new = StartsOpened old store new
 OpensOver (Err end) old new = IsNotOpened end old new
 
--- The chip was formatted.
+-- The chip was formatted, with no place to spare.
 pub record WasFormatted (old new : Told) : Type 0 where
   pub fits : IsGeometry old.places
   pub counts : Counts old new
-  pub formats : (h : History) → Formats {A = Unit {0}} old.places h old (Ok tt) new
+  pub formats : (h : History)
+      → Formats {A = Unit {0}} old.places (units_on old.places) h old (Ok tt) new
 
 -- a format was stopped, since a write failed or a place is worn, and it ends so
 pub record IsNotFormatted (end : End) (old new : Told) : Type 0 where
@@ -71,7 +72,7 @@ pub record IsNotFormatted (end : End) (old new : Told) : Type 0 where
   pub fits : IsGeometry old.places
   pub counts : Counts old new
   pub rose : StopRose fault old new
-  pub stops : IsStopped old new (Err end)
+  pub stops : IsStopped (units_on old.places) old new (Err end)
 
 -- the chip was formatted, or it wasn't
 abbrev pub FormatsFirst : Result (Unit {0}) End → Told → Told → Type 0
@@ -112,10 +113,10 @@ pub record RunsOver (ending : Ending) (before : ScriptStore) (old : Told) (then 
     (new : Told) : Type 0 where
   pub result : Result (Unit {0}) Stop
   pub ending_is : ending ≡ ending_of result
-  pub runs : RunsScript script_keeping before old result then new
-  pub tidy : LeavesTidy script_keeping before then old new (is_ok result)
-  pub completes : CompletesOver script_keeping SCRIPT_DRAWS before old result then new
-  pub cause : IfErr result (λ s. StopCause script_keeping old new s)
+  pub runs : RunsScript (script_keeping old.places) before old result then new
+  pub tidy : LeavesTidy (script_keeping old.places) before then old new (is_ok result)
+  pub completes : CompletesOver (script_keeping old.places) SCRIPT_DRAWS before old result then new
+  pub cause : IfErr result (λ s. StopCause (script_keeping old.places) old new s)
   pub unspent : IsErrOf result (stop.Store fault.Spent) → ⊥
   pub long : IsErrOf result stop.TooLong → IsTooLong old new
   pub further : Further old new
@@ -123,18 +124,17 @@ pub record RunsOver (ending : Ending) (before : ScriptStore) (old : Told) (then 
 
 -- ---- the trial
 
--- The commands of a seed were done over a store, to the end of the trial or to where it stopped,
--- and
--- it ends so.
+-- The commands of a seed on the store's units were done over it, to the end of the trial or to where
+-- it stopped, and it ends so.
 pub record TriesOver (seed count : ℕ) (ending : Ending) (before : ScriptStore) (old : Told)
     (then : ScriptStore) (new : Told) : Type 0 where
   pub result : Result (Unit {0}) Stop
   pub ending_is : ending ≡ ending_of result
-  pub trial : RunsTrial script_keeping (commands_on old.places seed count) before old result then
-      new
-  pub tidy : LeavesTidy script_keeping before then old new (is_ok result)
-  pub completes : CompletesOver script_keeping SCRIPT_DRAWS before old result then new
-  pub cause : IfErr result (λ s. StopCause script_keeping old new s)
+  pub trial : RunsTrial (script_keeping old.places) (trial_commands before.store.units seed count)
+      before old result then new
+  pub tidy : LeavesTidy (script_keeping old.places) before then old new (is_ok result)
+  pub completes : CompletesOver (script_keeping old.places) SCRIPT_DRAWS before old result then new
+  pub cause : IfErr result (λ s. StopCause (script_keeping old.places) old new s)
   pub unspent : IsErrOf result (stop.Store fault.Spent) → ⊥
   pub stops : IfErr result IsTrialStop
   pub onward : Onward old new

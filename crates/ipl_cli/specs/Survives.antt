@@ -13,29 +13,30 @@ use Rattle.ipl_model.specs.Run.{answered, map_after}
 use Rattle.ipl_format.specs.Sector.{sector_in}
 use Rattle.ipl_meaning.specs.Chart.{chart_of}
 use Rattle.ipl_meaning.specs.Stands.{Stands}
+use Rattle.opening_rules.specs.Chosen.{units_at}
 use Rattle.restart.specs.Events.{format_events}
 use Rattle.store_steps.specs.Keeps.{limits_of}
 
--- The contents stand for the records after r commands of the script, from the records m, or after one
--- more: r is the greatest number of commands with whose replies the bytes begin.
-abbrev pub StandsAfterAnswered : ℕ → Map → List ℕ → List ℕ → Contents → Type 0
-StandsAfterAnswered places m script bytes y =
-    let limits = limits_of (units_on places) in
+-- The contents stand for the records after r commands of the script, from the records m and on so many
+-- units, or after one more: r is the greatest number of commands with whose replies the bytes begin.
+abbrev pub StandsAfterAnswered : ℕ → ℕ → Map → List ℕ → List ℕ → Contents → Type 0
+StandsAfterAnswered places units m script bytes y =
+    let limits = limits_of units in
     let r = answered limits (at_rest m) (commands_of script) bytes in
     Stands places (chart_of y) (map_after limits m script r)
     ⊎ Stands places (chart_of y) (map_after limits m script (suc r))
 
--- A run over a chip that held x. There are events by which what is told of its history grew, and which
--- make of x what it holds at the end, unless a write failed. Wherever among them the power is cut,
--- within a chip operation too, what that leaves, but by chance, stands for the records after the
--- commands whose replies were said by then, or after one more.
+-- A run over a chip that held x, on as many units as that says. There are events by which what is told
+-- of its history grew, and which make of x what it holds at the end, unless a write failed. Wherever
+-- among them the power is cut, within a chip operation too, what that leaves, but by chance, stands for
+-- the records after the commands whose replies were said by then, or after one more.
 pub record SurvivesFrom (m : Map) (script : List ℕ) (x : Contents) (old new : Told) : Type 0 where
   pub added : Story
   pub grew : new.history ≡ option_map (adds_all added) old.history
   pub holds : Unrisen old new → new.contents ≡ Some (held x added)
   pub cut : (later e : Story) (y : Contents) → later ++ e ≡ added
       → IsNoChanceImage (says sector_in) x e y
-      → StandsAfterAnswered old.places m script (said e) y
+      → StandsAfterAnswered old.places (units_at (chart_of x) old.places) m script (said e) y
 
 -- so over every chip that tells what it holds, where that stands for records
 abbrev pub Survives : Told → Told → Type 0
@@ -43,15 +44,16 @@ Survives old new = (x : Contents) (m : Map) (script : List ℕ) → old.contents
     → Stands old.places (chart_of x) m → old.beside.left ≡ Some script
     → SurvivesFrom m script x old new
 
--- The same over a chip that is formatted first, from the format's last barrier on: whatever it held,
--- from no records.
+-- The same over a chip that is formatted first, with no place to spare, from the format's last barrier
+-- on: whatever it held, from no records.
 pub record SurvivesFormat (script : List ℕ) (x : Contents) (old new : Told) : Type 0 where
   pub added : Story
   pub grew : new.history ≡ option_map (adds_all added) old.history
   pub holds : Unrisen old new → new.contents ≡ Some (held x added)
-  pub cut : (later e : Story) (y : Contents) → later ++ (e ++ format_events old.places) ≡ added
-      → IsNoChanceImage (says sector_in) x (e ++ format_events old.places) y
-      → StandsAfterAnswered old.places empty script (said e) y
+  pub cut : (later e : Story) (y : Contents)
+      → later ++ (e ++ format_events old.places (units_on old.places)) ≡ added
+      → IsNoChanceImage (says sector_in) x (e ++ format_events old.places (units_on old.places)) y
+      → StandsAfterAnswered old.places (units_on old.places) empty script (said e) y
 
 -- so over every chip that tells what it holds
 abbrev pub SurvivesAnew : Told → Told → Type 0

@@ -8,7 +8,7 @@ use Rattle.chip_trait.specs.Story.{Story, Contents, pieces, said}
 use Rattle.chip_trait.specs.Moment.{AtEachMoment, Leaves}
 use Rattle.chip_trait.specs.Lawful.{IsLawful}
 use Rattle.chip_trait.specs.Told.{History, Told, Grew, IsPrefix, Rose, adds_all, Unrisen}
-use Rattle.ipl_base.specs.Places.{IsGeometry, units_on}
+use Rattle.ipl_base.specs.Places.{IsGeometry, IsSpared, units_on, spares_on}
 use Rattle.ipl_base.specs.declared.fault.ChipFault.TheVariants.{ReadFault, Stopped, Damaged, Malformed, WornOut}
 use Rattle.ipl_base.specs.declared.fault.ImageFault.{ImageFault}
 use Rattle.ipl_base.specs.declared.fault.ImageFault.TheVariants as image
@@ -21,10 +21,11 @@ use Rattle.ipl_meaning.specs.Stands.{Stands}
 use Rattle.ipl_meaning.specs.Rests.{now, StoryRests}
 use Rattle.unit_io.specs.Leads.{IsSteady}
 use Rattle.unit_io.specs.Reads.{OfContents}
+use Rattle.opening_rules.specs.Chosen.{units_at}
 use Rattle.opening_rules.specs.Faults.{first_fault, greatest_found}
 use Rattle.restart.specs.Events.{format_events}
 use Rattle.restart.specs.Looks.{OnlyReads}
-use Rattle.store_steps.specs.Keeps.{limits_of}
+use Rattle.store_steps.specs.Keeps.{IsWornCount, limits_of}
 use Rattle.script_run.specs.Run.{SaysLines, EndsBetween, EndsUnsaid}
 use Rattle.script_run.specs.Goes.{ReadsAll}
 use Rattle.command_line.specs.declared.asked.Request.{Request}
@@ -32,7 +33,7 @@ use Rattle.command_line.specs.declared.asked.Request.TheVariants.{Format, Run, S
 use Rattle.program_end.specs.declared.end.End.{End}
 use Rattle.program_end.specs.declared.end.End.TheVariants.{Words, Chip, OutOfMemory, Script, Output, TooLong}
 use Rattle.program_end.specs.Ends.{fault_status}
-use Rattle.ipl_cli.specs.Ending.{AskedFor, AsksOpened, AsksAnew, Ending, StopsEarly, IsStopped, IsUntouched, but_noted, note_at, status_at}
+use Rattle.ipl_cli.specs.Ending.{AskedFor, AsksOpened, AsksAnew, Ending, StopsEarly, IsStopped, IsUntouched, but_noted, note_at, status_at, units_beside}
 use Rattle.ipl_cli.specs.Trials.{TrialLeaves}
 use Rattle.ipl_cli.specs.Views.{ViewedCause, SerialLeaves}
 
@@ -69,9 +70,15 @@ IsUnfit old = OfContents old (λ x. (m : Map) → Stands old.places (chart_of x)
 abbrev pub IsSilent : Told → Type 0
 IsSilent old = OfContents old (λ x. ⊥)
 
--- what a chip of 5 to 1,028 places held that a run ended at with 4 or 9
+-- a format is asked for of more places to spare than leave a unit, or of another number of places
+abbrev pub LacksUnits : AskedFor → Told → Type 0
+LacksUnits asked old =
+    (spares : ℕ) × (asked ≡ Some (Format spares)) × ¬ IsSpared old.places spares
+
+-- what a chip of 5 to 1,028 places held that a run ended at with 4 or 9, or a format that left no unit
 abbrev pub EndsUnfit : AskedFor → Told → Type 0
 EndsUnfit asked old = (AsksOpened asked × IsUnfit old) ⊎ (AsksAnew asked × IsSilent old)
+    ⊎ LacksUnits asked old
 
 -- No write has failed; a history that leaves what the chip holds rests on records; and no number
 -- that is found is 2^62 or more.
@@ -98,9 +105,18 @@ LaidCause e old = IsAtFault old e ⊎ IsMetLater old
 abbrev pub StrayCause : Told → Type 0
 StrayCause old = IsStray old ⊎ IsMetLater old
 
--- an erase found its place worn, and no other place is spare
+-- an erase found its place worn, where no place is spare
 abbrev pub WornCause : ℕ → Told → Told → Type 0
 WornCause n old new = (n ≡ 1) × Rose old.worn_erases new.worn_erases
+
+-- So many places are worn, of the last of which an erase found it: one more than are spare beside as
+-- many units as may be kept. Over a history that leaves what the chip holds and rests on records, as
+-- many as the chip says.
+pub record WornOutCause (n : ℕ) (old new : Told) : Type 0 where
+  pub count : IsWornCount old.places n
+  pub exact : (m : Map) (h : History) → IsSteady h old → StoryRests old.places m h
+      → n ≡ 1 + spares_on old.places (units_at (now h) old.places)
+  pub rose : Rose old.worn_erases new.worn_erases
 
 -- when a fault of the chip ends a run that opens it
 abbrev pub OpenedCause : ImageFault → Told → Told → Type 0
@@ -112,27 +128,34 @@ OpenedCause (image.Chip Stopped) old new = Rose old.write_faults new.write_fault
 OpenedCause (image.Chip (Damaged p s stored computed)) old new =
     (stored ≢ computed) × StrayCause old
 OpenedCause (image.Chip (Malformed p s)) old new = StrayCause old
-OpenedCause (image.Chip (WornOut n)) old new = WornCause n old new
+OpenedCause (image.Chip (WornOut n)) old new = WornOutCause n old new
 OpenedCause image.Spent old new = LaidCause image.Spent old
 OpenedCause (image.NoSpare n) old new = LaidCause (image.NoSpare n) old
 
--- when a fault of the chip ends a format
-abbrev pub FormatCause : ImageFault → Told → Told → Type 0
-FormatCause image.Geometry old new = ¬ IsGeometry old.places
-FormatCause image.NotFormatted old new = ⊥
-FormatCause (image.Missing u) old new = ⊥
-FormatCause (image.Chip ReadFault) old new = ⊥
-FormatCause (image.Chip Stopped) old new = Rose old.write_faults new.write_faults
-FormatCause (image.Chip (Damaged p s stored computed)) old new = ⊥
-FormatCause (image.Chip (Malformed p s)) old new = ⊥
-FormatCause (image.Chip (WornOut n)) old new = WornCause n old new
-FormatCause image.Spent old new = ⊥
-FormatCause (image.NoSpare n) old new = ⊥
+-- when a fault of the chip ends a format with so many places to spare
+abbrev pub FormatCause : ℕ → ImageFault → Told → Told → Type 0
+FormatCause spares image.Geometry old new = ¬ IsSpared old.places spares
+FormatCause spares image.NotFormatted old new = ⊥
+FormatCause spares (image.Missing u) old new = ⊥
+FormatCause spares (image.Chip ReadFault) old new = ⊥
+FormatCause spares (image.Chip Stopped) old new = Rose old.write_faults new.write_faults
+FormatCause spares (image.Chip (Damaged p s stored computed)) old new = ⊥
+FormatCause spares (image.Chip (Malformed p s)) old new = ⊥
+FormatCause spares (image.Chip (WornOut n)) old new = WornCause n old new
+FormatCause spares image.Spent old new = ⊥
+FormatCause spares (image.NoSpare n) old new = ⊥
 
 -- What was just formatted is at fault: the chip doesn't tell what it holds, or a write had failed
 -- before.
 abbrev pub AnewCause : Told → Type 0
 AnewCause old = (h : History) → ¬ IsSteady h old
+
+-- So many places are worn, of the last of which an erase found it: one more than are spare beside as
+-- many units as may be kept; and one, where no write had failed before and the chip tells what it holds.
+pub record WornAnewCause (n : ℕ) (old new : Told) : Type 0 where
+  pub count : IsWornCount old.places n
+  pub exact : (h : History) → IsSteady h old → n ≡ 1
+  pub rose : Rose old.worn_erases new.worn_erases
 
 -- when a fault of the chip ends a run that formats it first, or a trial
 abbrev pub FormattedCause : ImageFault → Told → Told → Type 0
@@ -144,13 +167,13 @@ FormattedCause (image.Chip Stopped) old new = Rose old.write_faults new.write_fa
 FormattedCause (image.Chip (Damaged p s stored computed)) old new =
     (stored ≢ computed) × AnewCause old
 FormattedCause (image.Chip (Malformed p s)) old new = AnewCause old
-FormattedCause (image.Chip (WornOut n)) old new = WornCause n old new
+FormattedCause (image.Chip (WornOut n)) old new = WornAnewCause n old new
 FormattedCause image.Spent old new = AnewCause old
 FormattedCause (image.NoSpare n) old new = AnewCause old
 
 -- when a fault of the chip ends what was asked
 abbrev pub ChipCause : Request → ImageFault → Told → Told → Type 0
-ChipCause Format e old new = FormatCause e old new
+ChipCause (Format spares) e old new = FormatCause spares e old new
 ChipCause (Run frames true) e old new = FormattedCause e old new
 ChipCause (Run frames false) e old new = OpenedCause e old new
 ChipCause (Trial seed count frames) e old new = FormattedCause e old new
@@ -166,13 +189,13 @@ abbrev pub RequestCause : Request → End → Told → Told → Type 0
 RequestCause request Words old new = ⊥
 RequestCause request (Chip e) old new = ChipCause request e old new
 RequestCause request OutOfMemory old new = Unit {0}
-RequestCause Format Script old new = ⊥
+RequestCause (Format spares) Script old new = ⊥
 RequestCause (Run frames formats) Script old new =
     Rose old.beside.script_faults new.beside.script_faults
 RequestCause Serial Script old new = Rose old.beside.script_faults new.beside.script_faults
 RequestCause (Trial seed count frames) Script old new = ⊥
 RequestCause request Output old new = Rose old.beside.say_faults new.beside.say_faults
-RequestCause Format TooLong old new = ⊥
+RequestCause (Format spares) TooLong old new = ⊥
 RequestCause (Run frames formats) TooLong old new = IsTooLong old new
 RequestCause Serial TooLong old new = IsTooLong old new
 RequestCause (Trial seed count frames) TooLong old new = ⊥
@@ -186,73 +209,73 @@ EndCause (Some request) (Err end) old new = RequestCause request end old new
 
 -- ---- the headline
 
--- the lines that answer a script on so many places, from these records and no open session
+-- the lines that answer a script on so many units, from these records and no open session
 abbrev pub answers : ℕ → Map → List ℕ → List (List ℕ)
-answers places m script =
-    lines (limits_of (units_on places)) (at_rest m) (commands_of script)
+answers units m script = lines (limits_of units) (at_rest m) (commands_of script)
 
 -- this is so of the model's state after the commands of which the bytes have the whole replies, or
 -- after one more
 abbrev pub IsAbout : (State → Type 0) → ℕ → Map → List ℕ → List ℕ → Type 0
-IsAbout Q places m script bytes =
-    IsNear Q (limits_of (units_on places)) (at_rest m) (commands_of script) bytes
+IsAbout Q units m script bytes =
+    IsNear Q (limits_of units) (at_rest m) (commands_of script) bytes
 
--- the contents stand for the records of such a state
-abbrev pub StandsAbout : ℕ → Map → List ℕ → List ℕ → Contents → Type 0
-StandsAbout places m script bytes x =
-    IsAbout (λ s. Stands places (chart_of x) s.map) places m script bytes
+-- the contents of a chip of so many places, with so many units, stand for the records of such a state
+abbrev pub StandsAbout : ℕ → ℕ → Map → List ℕ → List ℕ → Contents → Type 0
+StandsAbout places units m script bytes x =
+    IsAbout (λ s. Stands places (chart_of x) s.map) units m script bytes
 
 -- the first commands of the script were answered with these lines, each said whole; Q is so of the
 -- state after them
 abbrev pub IsBetween : (State → Type 0) → ℕ → Map → List ℕ → List (List ℕ) → Type 0
-IsBetween Q places m script said =
-    EndsBetween (limits_of (units_on places)) (at_rest m) (commands_of script) said Q
+IsBetween Q units m script said =
+    EndsBetween (limits_of units) (at_rest m) (commands_of script) said Q
 
 -- How far the script was answered, by the end: all of it; up to a line that couldn't be said, of a
 -- command that is done; or up to a command that isn't done. Q is so of the state then.
 abbrev pub EndsBy : Ending → (State → Type 0) → ℕ → Map → List ℕ → List (List ℕ) → Type 0
-EndsBy (Ok u) Q places m script said =
-    Q (after_all (limits_of (units_on places)) (at_rest m) (commands_of script))
-EndsBy (Err Words) Q places m script said = IsBetween Q places m script said
-EndsBy (Err (Chip e)) Q places m script said = IsBetween Q places m script said
-EndsBy (Err OutOfMemory) Q places m script said = IsBetween Q places m script said
-EndsBy (Err Script) Q places m script said = IsBetween Q places m script said
-EndsBy (Err Output) Q places m script said =
-    EndsUnsaid (limits_of (units_on places)) (at_rest m) (commands_of script) said Q
-EndsBy (Err TooLong) Q places m script said = IsBetween Q places m script said
+EndsBy (Ok u) Q units m script said =
+    Q (after_all (limits_of units) (at_rest m) (commands_of script))
+EndsBy (Err Words) Q units m script said = IsBetween Q units m script said
+EndsBy (Err (Chip e)) Q units m script said = IsBetween Q units m script said
+EndsBy (Err OutOfMemory) Q units m script said = IsBetween Q units m script said
+EndsBy (Err Script) Q units m script said = IsBetween Q units m script said
+EndsBy (Err Output) Q units m script said =
+    EndsUnsaid (limits_of units) (at_rest m) (commands_of script) said Q
+EndsBy (Err TooLong) Q units m script said = IsBetween Q units m script said
 
--- What a run of a script leaves, from these records on, after these first events on a chip that
--- holds what this history leaves. What the chip tells grew by these events. Whatever moment the
--- power is cut at, within a chip operation too, the chip stands for the records after the commands
--- whose replies were said, or after one more. What is said is a beginning of the model's text, line
--- by line. No sector is programmed twice between erases of its place. Where no write failed, the chip
--- holds at the end what the history then leaves; that rests on such records, and by how the run ended
--- exactly on those of the commands that are done: the next run may begin there. Where all is done,
--- the whole text is said, and the script was read to its end.
-pub record Runs (places : ℕ) (m : Map) (script : List ℕ) (h : History) (first : Story)
+-- What a run of a script leaves, from these records on and on so many units, after these first events
+-- on a chip of so many places that holds what this history leaves. What the chip tells grew by these
+-- events. Whatever moment the power is cut at, within a chip operation too, the chip stands for the
+-- records after the commands whose replies were said, or after one more. What is said is a beginning of
+-- the model's text, line by line. No sector is programmed twice between erases of its place. Where no
+-- write failed, the chip holds at the end what the history then leaves; that rests on such records, and
+-- by how the run ended exactly on those of the commands that are done: the next run may begin there.
+-- Where all is done, the whole text is said, and the script was read to its end.
+pub record Runs (places units : ℕ) (m : Map) (script : List ℕ) (h : History) (first : Story)
     (old new : Told) (ending : Ending) : Type 0 where
   pub added : Story
   pub history : new.history
       ≡ option_map (adds_all added) (option_map (adds_all first) old.history)
   pub each_moment : AtEachMoment
-      (λ e. Leaves (says sector_in) (StandsAbout places m script (said e)) (adds_all first h) e)
+      (λ e. Leaves (says sector_in) (StandsAbout places units m script (said e))
+      (adds_all first h) e)
       added
-  pub replies : SaysLines (answers places m script) (pieces added)
-  pub is_prefix : IsPrefix (said added) (joined (answers places m script))
+  pub replies : SaysLines (answers units m script) (pieces added)
+  pub is_prefix : IsPrefix (said added) (joined (answers units m script))
   pub lawful : (base : Story) → IsLawful base → IsLawful (added ++ (first ++ base))
   pub steady : Unrisen old new → IsSteady (adds_all added (adds_all first h)) new
   pub rests : Unrisen old new
-      → IsAbout (λ s. StoryRests places s.map (adds_all added (adds_all first h))) places m script
+      → IsAbout (λ s. StoryRests places s.map (adds_all added (adds_all first h))) units m script
       (said added)
   pub ends : EndsBy ending
       (λ s. Unrisen old new → StoryRests places s.map (adds_all added (adds_all first h)))
-      places m script (pieces added)
+      units m script (pieces added)
   pub read : List ℕ
   pub unread : List ℕ
   pub script_is : script ≡ read ++ unread
   pub left_is : new.beside.left ≡ Some unread
   pub all : ending ≡ Ok tt
-      → (pieces added ≡ answers places m script) × (said added ≡ joined (answers places m script))
+      → (pieces added ≡ answers units m script) × (said added ≡ joined (answers units m script))
       × (unread ≡ [])
 
 -- over each history that leaves what the chip holds, where no write has failed, and a script that is
@@ -261,22 +284,23 @@ abbrev pub OverTold : (ℕ → List ℕ → History → Type 0) → Told → Typ
 OverTold P old = (h : History) (script : List ℕ) → IsSteady h old
     → old.beside.left ≡ Some script → P old.places script h
 
--- The chip was opened, and the script was run: from the records on which such a history rests. All
--- events are in this, those of the opening too.
+-- The chip was opened, and the script was run: from the records on which such a history rests, on as
+-- many units as the chip says. All events are in this, those of the opening too.
 abbrev pub RunsOpened : Told → Told → Ending → Type 0
 RunsOpened old new ending = OverTold
     (λ places script h. (m : Map) → StoryRests places m h
-    → Runs places m script h [] old new ending) old
+    → Runs places (units_at (now h) places) m script h [] old new ending) old
 
--- the chip was formatted, and the script was run from no records on
+-- the chip was formatted with no place to spare, and the script was run from no records on
 abbrev pub RunsFormatted : Told → Told → Ending → Type 0
 RunsFormatted old new ending = OverTold
-    (λ places script h. Runs places empty script h (format_events places) old new ending) old
+    (λ places script h. Runs places (units_on places) empty script h
+    (format_events places (units_on places)) old new ending) old
 
--- the records after all commands of a script, on so many places, from these records on
+-- the records after all commands of a script, on so many units, from these records on
 abbrev pub records_after : ℕ → Map → List ℕ → Map
-records_after places m script =
-    (after_all (limits_of (units_on places)) (at_rest m) (commands_of script)).map
+records_after units m script =
+    (after_all (limits_of units) (at_rest m) (commands_of script)).map
 
 -- the chip tells what it holds, and that stands for these records
 pub record HoldsRecords (places : ℕ) (m : Map) (t : Told) : Type 0 where
@@ -286,24 +310,27 @@ pub record HoldsRecords (places : ℕ) (m : Map) (t : Told) : Type 0 where
 
 -- Over a chip that tells what it holds, and a script that is told: where no write failed, the chip
 -- holds the records after all commands at the end.
-abbrev pub EndsWithRecords : (Told → Map → Type 0) → Told → Told → Type 0
-EndsWithRecords From old new = (m : Map) (script : List ℕ) → From old m
+abbrev pub EndsWithRecords : (Told → ℕ → Map → Type 0) → Told → Told → Type 0
+EndsWithRecords From old new = (units : ℕ) (m : Map) (script : List ℕ) → From old units m
     → old.beside.left ≡ Some script → Unrisen old new
-    → HoldsRecords old.places (records_after old.places m script) new
+    → HoldsRecords old.places (records_after units m script) new
 
--- it begins with the records that the chip holds
-abbrev pub FromItsRecords : Told → Map → Type 0
-FromItsRecords old m = HoldsRecords old.places m old
+-- it begins with the records that the chip holds, and with as many units as that says
+pub record FromItsRecords (old : Told) (units : ℕ) (m : Map) : Type 0 where
+  pub holds : HoldsRecords old.places m old
+  pub units_are : units ≡ units_at (chart_of holds.contents) old.places
 
--- it begins with none, whatever the chip holds
-abbrev pub FromNoRecords : Told → Map → Type 0
-FromNoRecords old m = (m ≡ empty) × ((x : Contents) × (old.contents ≡ Some x))
+-- it begins with none, whatever the chip holds, and with no place to spare
+abbrev pub FromNoRecords : Told → ℕ → Map → Type 0
+FromNoRecords old units m = (m ≡ empty) × (units ≡ units_on old.places)
+    × ((x : Contents) × (old.contents ≡ Some x))
 
 -- the script was run, or a part of it, or the format before it was stopped
 abbrev pub RunsOrStops : Told → Told → Ending → Type 0
 RunsOrStops old new ending = OverTold
-    (λ places script h. Runs places empty script h (format_events places) old new ending
-    ⊎ StopsEarly places h old new ending) old
+    (λ places script h. Runs places (units_on places) empty script h
+    (format_events places (units_on places)) old new ending
+    ⊎ StopsEarly places (units_on places) h old new ending) old
 
 -- ---- a format
 
@@ -311,38 +338,45 @@ RunsOrStops old new ending = OverTold
 abbrev pub ok_line : List ℕ
 ok_line = codes "ok\n"
 
--- What a format leaves of a chip, after this history: no record, whatever the power is cut at from
--- then on. It said its line, or a beginning of it, or nothing, and read nothing of the script. Where
--- the chip held what the history left, it holds what it leaves then.
-pub record IsLaidOut (places : ℕ) (h : History) (old new : Told) (done : Bool) : Type 0 where
+-- What a format for so many units leaves of a chip, after this history: no record, whatever the power
+-- is cut at from then on, and the chip says that it has so many. It said its line, or a beginning of it,
+-- or nothing, and read nothing of the script. Where the chip held what the history left, it holds what
+-- it leaves then.
+pub record IsLaidOut (places units : ℕ) (h : History) (old new : Told) (done : Bool)
+    : Type 0 where
   pub added : Story
   pub says : (added ≡ []) ⊎ ((part : List ℕ) × IsPrefix part ok_line × (added ≡ Said part ∷ []))
   pub history : new.history
-      ≡ option_map (adds_all added) (option_map (adds_all (format_events places)) old.history)
+      ≡ option_map (adds_all added) (option_map (adds_all (format_events places units)) old.history)
   pub settled : new.settled ≡ old.settled
-  pub steady : IsSteady h old → IsSteady (adds_all added (adds_all (format_events places) h)) new
-  pub rests : StoryRests places empty (adds_all added (adds_all (format_events places) h))
+  pub steady : IsSteady h old
+      → IsSteady (adds_all added (adds_all (format_events places units) h)) new
+  pub rests : StoryRests places empty (adds_all added (adds_all (format_events places units) h))
+  pub count : units_at (now (adds_all added (adds_all (format_events places units) h))) places
+      ≡ units
   pub lawful : (base : Story) → IsLawful base
-      → IsLawful (added ++ (format_events places ++ base))
+      → IsLawful (added ++ (format_events places units ++ base))
   pub left_is : new.beside.left ≡ old.beside.left
   pub all : done ≡ true → added ≡ Said ok_line ∷ []
 
--- whatever history is looked at
-abbrev pub LaysOut : Told → Told → Bool → Type 0
-LaysOut old new done = (h : History) → IsLaidOut old.places h old new done
+-- with so many places to spare, whatever history is looked at
+abbrev pub LaysOut : ℕ → Told → Told → Bool → Type 0
+LaysOut spares old new done =
+    (h : History) → IsLaidOut old.places (units_beside old.places spares) h old new done
 
 -- ---- what is left
 
--- what a format leaves
-abbrev pub FormatLeaves : Ending → Told → Told → Type 0
-FormatLeaves (Ok u) old new = LaysOut old new true
-FormatLeaves (Err Words) old new = ⊥
-FormatLeaves (Err (Chip image.Geometry)) old new = IsUntouched old new
-FormatLeaves (Err (Chip e)) old new = IsStopped old new (Err (Chip e))
-FormatLeaves (Err OutOfMemory) old new = IsUntouched old new
-FormatLeaves (Err Script) old new = ⊥
-FormatLeaves (Err Output) old new = LaysOut old new false
-FormatLeaves (Err TooLong) old new = ⊥
+-- what a format leaves, with so many places to spare
+abbrev pub FormatLeaves : ℕ → Ending → Told → Told → Type 0
+FormatLeaves spares (Ok u) old new = LaysOut spares old new true
+FormatLeaves spares (Err Words) old new = ⊥
+FormatLeaves spares (Err (Chip image.Geometry)) old new = IsUntouched old new
+FormatLeaves spares (Err (Chip e)) old new =
+    IsStopped (units_beside old.places spares) old new (Err (Chip e))
+FormatLeaves spares (Err OutOfMemory) old new = IsUntouched old new
+FormatLeaves spares (Err Script) old new = ⊥
+FormatLeaves spares (Err Output) old new = LaysOut spares old new false
+FormatLeaves spares (Err TooLong) old new = ⊥
 
 -- what a run leaves over a chip that is formatted first; another number of places was left alone
 abbrev pub FormattedLeaves : Ending → Told → Told → Type 0
@@ -397,14 +431,13 @@ OpenedLeaves (Err TooLong) old new = OpenedRuns old new (Err TooLong)
 -- what the program leaves, wherever it ends
 abbrev pub EndLeaves : AskedFor → Ending → Told → Told → Type 0
 EndLeaves None ending old new = IsUntouched old new
-EndLeaves (Some Format) ending old new = FormatLeaves ending old new
+EndLeaves (Some (Format spares)) ending old new = FormatLeaves spares ending old new
 EndLeaves (Some (Run frames true)) ending old new = FormattedLeaves ending old new
 EndLeaves (Some (Run frames false)) ending old new = OpenedLeaves ending old new
 EndLeaves (Some Serial) ending old new = SerialLeaves ending old new
 EndLeaves (Some (Trial seed count frames)) ending old new = TrialLeaves seed count ending old new
 
--- How the program ends: with its status and its line, which is noted alone; for a cause; and what
--- it
+-- How the program ends: with its status and its line, which is noted alone; for a cause; and what it
 -- leaves.
 pub record Ends (asked : AskedFor) (old new : Told) (status : ℕ) : Type 0 where
   pub ending : Ending
@@ -436,9 +469,8 @@ RefusesFaults old new status = (e : ImageFault) → HasFault old e
 abbrev pub SpentCause : Told → Type 0
 SpentCause old = IsSpent old ⊎ IsMetLater old
 
--- nothing was done to a chip of another number of places, or it was formatted and the script run,
--- or
--- a part of that
+-- nothing was done to a chip of another number of places, or it was formatted and the script run, or a
+-- part of that
 abbrev pub UntouchedOrRuns : Told → Told → Ending → Type 0
 UntouchedOrRuns old new ending = ((¬ IsGeometry old.places) × IsUntouched old new)
     ⊎ RunsOrStops old new ending
@@ -459,10 +491,11 @@ pub record IsTold (t : Told) : Type 0 where
   pub contents : Contents
   pub told : t.contents ≡ Some contents
 
--- what a request asks of the chip: 5 to 1,028 places; where commands are done, that it tells what it
--- holds; and where it is opened, that a history of that rests on records, with numbers left
+-- what a request asks of the chip: 5 to 1,028 places, and a unit besides those to spare; where commands
+-- are done, that it tells what it holds; and where it is opened, that a history of that rests on
+-- records, with numbers left
 abbrev pub Suffices : Request → Told → Type 0
-Suffices Format old = IsGeometry old.places
+Suffices (Format spares) old = IsSpared old.places spares
 Suffices (Run frames true) old = IsTold old
 Suffices (Run frames false) old = RestsWithNumbersLeft old
 Suffices Serial old = IsGeometry old.places

@@ -25,7 +25,7 @@ use Rattle.trial_commands.specs.Summary.{trial_lines}
 use Rattle.program_end.specs.declared.end.End.TheVariants.{Words, Chip, OutOfMemory, Script, Output, TooLong}
 use Rattle.ipl_cli.specs.Ending.{Ending, StopsEarly, IsUntouched}
 
--- the commands of a seed, so many, on so many places
+-- the commands of a seed, so many, on so many places, none of which is spare
 abbrev pub commands_on : ℕ → ℕ → ℕ → List Command
 commands_on places seed count = trial_commands (units_on places) seed count
 
@@ -101,15 +101,15 @@ pub record Trials (places : ℕ) (commands : List Command) (h : History) (first 
 -- over each history that leaves what the chip holds, where no write has failed, after a format
 abbrev pub TrialsFormatted : ℕ → ℕ → Told → Told → Ending → Type 0
 TrialsFormatted seed count old new ending = (h : History) → IsSteady h old
-    → Trials old.places (commands_on old.places seed count) h (format_events old.places) old new
-    ending
+    → Trials old.places (commands_on old.places seed count) h
+    (format_events old.places (units_on old.places)) old new ending
 
 -- the trial was done, or a part of it, or the format before it was stopped
 abbrev pub TrialsOrStops : ℕ → ℕ → Told → Told → Ending → Type 0
 TrialsOrStops seed count old new ending = (h : History) → IsSteady h old
-    → Trials old.places (commands_on old.places seed count) h (format_events old.places) old new
-    ending
-    ⊎ StopsEarly old.places h old new ending
+    → Trials old.places (commands_on old.places seed count) h
+    (format_events old.places (units_on old.places)) old new ending
+    ⊎ StopsEarly old.places (units_on old.places) h old new ending
 
 -- what a trial leaves; another number of places was left alone
 abbrev pub TrialLeaves : ℕ → ℕ → Ending → Told → Told → Type 0

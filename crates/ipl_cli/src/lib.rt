@@ -24,7 +24,7 @@
 //! of the commands alone.
 //!
 //! Proved, by `top`: `formats`: a format says `ok` at 0, and then the chip's story rests on no
-//! records.
+//! records, and the chip says that it has all units but those that are spare.
 //!
 //! Proved, by `top`: `ends` and the other clauses: over every desk: each status has its cause, and
 //! exactly its line is noted; at 2 and 5 nothing is asked of the chip, said or read, but that at 5
@@ -33,9 +33,10 @@
 //! `--format`, and the status is that of its first fault, or 5, or 3 where a read failed. A run
 //! that opens a chip which tells what it holds ends with 4 or 9 only where that stood for no
 //! records, or a number of 2^62 or more was among it (`unfit`); a failed call is told as such. At 10
-//! an erase found its place worn (`worn`). Where no count rises, the script ends in time and the
-//! chip is such as the words ask for, the status is 0, or 5. At 0 a run or a trial was done by a
-//! store of as many frames as were asked (`framed`).
+//! an erase found its place worn (`worn`), and the line says how many are, one more than are spare.
+//! Where no count rises, the script ends in time and the chip is such as the words ask for, the
+//! status is 0, or 5. At 0 a run or a trial was done by a store of as many frames as were asked
+//! (`framed`).
 //!
 //! Proved, by `top`: `views`, `untouched`: the serial view of a script, run from no records: over
 //! every desk that tells its script, what is said is a beginning of its lines, one by one, and at 0

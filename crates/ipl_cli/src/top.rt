@@ -2,6 +2,7 @@
 ghost use Rattle.std.specs.Prelude.{◌≡◌, ◌≢◌, ◌<◌, ◌≤◌, ◌⊎◌, ◌+◌, ◌++◌, ◌==◌, true, false, map, List, ℕ, Some, None, Ok, IfOk, IfErr, OnOk};
 ghost use Rattle.std.specs.String.{string_bytes};
 ghost use Rattle.chip_trait.specs.Told.{Counts, Grew, Rose};
+ghost use Rattle.ipl_base.specs.declared.limits.TheConstants.{MOST_SPARES};
 ghost use Rattle.ipl_base.specs.Places.{IsGeometry};
 ghost use Rattle.store_trait.specs.Keeping.{FOUND_NUMBER};
 ghost use Rattle.store_trait.specs.Onward.{Further};
@@ -18,14 +19,14 @@ ghost use Rattle.ipl_cli.specs.Views.{ViewsTold, OnlyViews, OnlyHears, SerialLea
 ghost use Rattle.ipl_cli.specs.Top.{NoneFalls, EndCause, RequestCause, FormatLeaves, FormattedLeaves, OpenedLeaves, EndLeaves};
 ghost use Rattle.ipl_cli.specs.Top.{RunsOpened, RunsFormatted, UntouchedOrRuns, RefusesFaults, IsLaidWell, LaysOut};
 ghost use Rattle.ipl_cli.specs.Top.{EndsWithRecords, FromItsRecords, FromNoRecords};
-ghost use Rattle.ipl_cli.specs.Top.{StrayCause, SpentCause, AnewCause, EndsUnfit, IsCalm, Suffices, EndsInTime, Ends};
+ghost use Rattle.ipl_cli.specs.Top.{StrayCause, SpentCause, AnewCause, LacksUnits, EndsUnfit, IsCalm, Suffices, EndsInTime, Ends};
 ghost use Rattle.ipl_cli.specs.Survives.{Survives, SurvivesAnew};
 ghost use Rattle.ipl_cli.specs.Frames.{DoesWith, DoesAsAsked};
 ghost use Rattle.ipl_cli.specs.Runs.{StartsFormatted, StartsOpened, ClosesFor, FormatsFirst, OpensOver, IsNotStarted, RunsOver, TriesOver, end_of};
 
 use chip_trait::Desk;
 use command_line::{Request, request};
-use ipl_base::{ChipFault, FormatFault, Geometry, ImageFault};
+use ipl_base::{ChipFault, FormatFault, Geometry, ImageFault, MOST_UNITS};
 use ipl_store::Store;
 use program_end::{End, NoteLine, status};
 use restart::format;
@@ -50,14 +51,15 @@ fn format_end(fault: FormatFault) -> End
     }
 }
 
-/// Formats the chip, and says so.
-fn format_chip<D: Desk>(desk: &mut D) -> Result<(), End>
-    ensures leaves { FormatLeaves result (D.told desk.old) (D.told desk.new) }
-    ensures cause { EndCause (Some Format) result (D.told desk.old) (D.told desk.new) }
+/// Formats the chip, with at most 64 places to spare, and says so.
+fn format_chip<D: Desk>(spares: u32, desk: &mut D) -> Result<(), End>
+    requires few { spares ≤ MOST_SPARES }
+    ensures leaves { FormatLeaves spares result (D.told desk.old) (D.told desk.new) }
+    ensures cause { EndCause (Some (Format spares)) result (D.told desk.old) (D.told desk.new) }
     ensures further { Further (D.told desk.old) (D.told desk.new) }
     ensures lawful { AddsLawful (D.told desk.old) (D.told desk.new) }
 {
-    match format(desk) {
+    match format(desk, spares) {
         Ok(()) => match desk.say(OK_LINE) {
             Ok(()) => Ok(()),
             Err(_) => Err(End::Output),
@@ -82,12 +84,12 @@ fn closed(alloc: Global, places: u32, frames: u32) -> Result<Store, End>
     }
 }
 
-/// Formats the chip, before it is opened.
+/// Formats the chip with no place to spare, before it is opened.
 fn format_first<D: Desk>(desk: &mut D) -> Result<(), End>
     requires fits { IsGeometry (D.told desk.old).places }
     ensures formats { FormatsFirst result (D.told desk.old) (D.told desk.new) }
 {
-    match format(desk) {
+    match format(desk, 0) {
         Ok(()) => Ok(()),
         Err(fault) => Err(format_end(fault)),
     }
@@ -208,7 +210,8 @@ fn trial_over<D: Desk>(
     requires left { next_number store.old ≤ FOUND_NUMBER }
     ensures tries { TriesOver seed count result store.old (D.told desk.old) store.new (D.told desk.new) }
 {
-    let units = store.units();
+    let units = store.unit_count();
+    prove!(units <= MOST_UNITS);
     match run_trial(store, desk, units, seed, count) {
         Ok(()) => Ok(()),
         Err(stop) => Err(end_of(stop)),
@@ -278,7 +281,7 @@ fn run<D: Desk>(alloc: Global, words: &[String], desk: &mut D) -> Result<(), End
     };
     match request {
         None => Err(End::Words),
-        Some(Request::Format) => format_chip(desk),
+        Some(Request::Format { spares }) => format_chip(spares, desk),
         Some(
             Request::Run {
                 frames,
@@ -332,8 +335,9 @@ pub fn top<D: Desk>(alloc: Global, words: &[String], desk: &mut D) -> u8
     // this says nothing.
     ensures lawful { AddsLawful (D.told desk.old) (D.told desk.new) }
 
-    // The headline, over a chip that is opened: wherever the program ends. At 0 the whole script was
-    // run, at 7 a line of a reply couldn't be said, and else it ended between commands.
+    // The headline, over a chip that is opened, on as many units as that says: wherever the program ends.
+    // At 0 the whole script was run, at 7 a line of a reply couldn't be said, and else it ended between
+    // commands.
     ensures opened { AsksOpened (requested (map string_bytes words.now))
         → AtStatus (RunsOpened (D.told desk.old) (D.told desk.new)) result }
 
@@ -379,9 +383,10 @@ pub fn top<D: Desk>(alloc: Global, words: &[String], desk: &mut D) -> u8
         → (result ≡ 3) ⊎ (result ≡ 4) ⊎ (result ≡ 9) ⊎ (result ≡ 10)
         → AtStatus (UntouchedOrRuns (D.told desk.old) (D.told desk.new)) result }
 
-    // A format says its line at 0, and the chip has no record then, whatever moment the power is cut at.
-    ensures formats { requested (map string_bytes words.now) ≡ Some Format → result ≡ 0
-        → LaysOut (D.told desk.old) (D.told desk.new) true }
+    // A format says its line at 0, and the chip has no record then, whatever moment the power is cut at,
+    // and says that it has all units but those that are spare.
+    ensures formats { (spares : ℕ) → requested (map string_bytes words.now) ≡ Some (Format spares)
+        → result ≡ 0 → LaysOut spares (D.told desk.old) (D.told desk.new) true }
 
     // A trial says its summary at 0, a beginning of it wherever it ends, and the chip has the records
     // of the commands that are done.
@@ -397,11 +402,13 @@ pub fn top<D: Desk>(alloc: Global, words: &[String], desk: &mut D) -> u8
         → OnlyViews (D.told desk.old) (D.told desk.new) }
 
     // At 2 nothing was asked of the chip, said or read, and so at 5, but that a view may have read its
-    // script. At 4 a chip of another number of places was left alone.
+    // script. At 4 a chip of another number of places was left alone, and one with no unit left by the
+    // places that a format is to spare.
     ensures early { result ≡ 2 → IsUntouched (D.told desk.old) (D.told desk.new) }
     ensures wanting { result ≡ 5 → OnlyHears (D.told desk.old) (D.told desk.new)
         × (requested (map string_bytes words.now) ≢ Some Serial → IsUntouched (D.told desk.old) (D.told desk.new)) }
     ensures other { result ≡ 4 → ¬ IsGeometry (D.told desk.old).places
+        ⊎ LacksUnits (requested (map string_bytes words.now)) (D.told desk.old)
         → IsUntouched (D.told desk.old) (D.told desk.new) }
 
     // Each status but 0 and 5 comes only for its cause.
@@ -411,10 +418,12 @@ pub fn top<D: Desk>(alloc: Global, words: &[String], desk: &mut D) -> u8
         ⊎ Rose (D.told desk.old).write_faults (D.told desk.new).write_faults }
     ensures image { result ≡ 4
         → ¬ IsGeometry (D.told desk.old).places
+        ⊎ LacksUnits (requested (map string_bytes words.now)) (D.told desk.old)
         ⊎ (AsksOpened (requested (map string_bytes words.now)) × StrayCause (D.told desk.old))
         ⊎ (AsksAnew (requested (map string_bytes words.now)) × AnewCause (D.told desk.old)) }
     // So over a chip of 5 to 1,028 places that tells what it holds: at 4 and 9 that stood for no records, or
-    // a number of 2^62 or more was among it; and never where it was formatted first.
+    // a number of 2^62 or more was among it, or a format was to spare so many that no unit is left; and
+    // never where it was formatted first.
     ensures unfit { (result ≡ 4) ⊎ (result ≡ 9) → IsGeometry (D.told desk.old).places
         → EndsUnfit (requested (map string_bytes words.now)) (D.told desk.old) }
     ensures script { result ≡ 6 → Rose (D.told desk.old).beside.script_faults (D.told desk.new).beside.script_faults }

@@ -4,6 +4,7 @@ use Rattle.std.specs.List.{Contains}
 use Rattle.std.proofs.lemmas.Bool.{cases_lt}
 use Rattle.std.proofs.lemmas.List.{get_or-replicate, get_or_append_left, length-replicate}
 use Rattle.std.proofs.lemmas.List.FromFn.{length-range_with_len, get_or-range_with_len}
+use Rattle.ipl_base.specs.Places.{KeepsUnits}
 use Rattle.ipl_format.specs.Sector.{Sector}
 use Rattle.ipl_meaning.specs.Chart.{Chart}
 use Rattle.ipl_meaning.specs.Found.{IsRead, Mentions}
@@ -14,37 +15,37 @@ use Rattle.ipl_meaning.specs.FirstTables.{first_layout, first_tables}
 use Rattle.ipl_meaning.specs.TableLaws.{FirstTablesMirror}
 use Rattle.ipl_meaning.proofs.FormattedLemmas.{header_is, no_sector, laid, never_live}
 
-module _ (places : ℕ) (least : 5 ≤ places) (most : places ≤ 1028) where
+module _ (places units : ℕ) (least : 5 ≤ places) (most : places ≤ 1028) (keeps : KeepsUnits places units) where
   abbrev c : Chart
-  c = formatted places
+  c = formatted units
 
   abbrev t : Tables
-  t = first_tables places
+  t = first_tables places units
 
   -- a free place comes after the status place
-  free_after : (q : ℕ) → IsFree t.places q → places - 4 < q
-  free_after q free = elim (cases_lt q (places - 4 + 1)) [
+  free_after : (q : ℕ) → IsFree t.places q → units < q
+  free_after q free = elim (cases_lt q (units + 1)) [
     | inl low ↦ absurd (
-        let taken : get_or (replicate (places - 4 + 1) true ++ replicate 3 false) q true ≡ true =
-        get_or_append_left (replicate (places - 4 + 1) true) (replicate 3 false) true q (omega (arith, low, length-replicate (places - 4 + 1) true)) ∙ get_or-replicate (places - 4 + 1) q true true low in
+        let taken : get_or (replicate (units + 1) true ++ replicate (places - units - 1) false) q true ≡ true =
+        get_or_append_left (replicate (units + 1) true) (replicate (places - units - 1) false) true q (omega (arith, low, length-replicate (units + 1) true)) ∙ get_or-replicate (units + 1) q true true low in
         cc (taken, free))
     | inr high ↦ omega (arith, high)
   ]
 
-  no_spots : (u : ℕ) → u < places - 4 → spots_of t u ≡ []
-  no_spots u low = get_or-replicate (places - 4) u [] [] low
+  no_spots : (u : ℕ) → u < units → spots_of t u ≡ []
+  no_spots u low = get_or-replicate (units) u [] [] low
 
-  no_masks : (u : ℕ) → u < places - 4 → masks_in t.places u ≡ replicate 15 0
-  no_masks u low = get_or-replicate (places - 4) u (replicate 15 0) [] low
+  no_masks : (u : ℕ) → u < units → masks_in t.places u ≡ replicate 15 0
+  no_masks u low = get_or-replicate (units) u (replicate 15 0) [] low
 
-  no_list : (u : ℕ) → u < places - 4 → masks_of t u ≡ []
-  no_list u low = get_or-replicate (places - 4) u [] [] low
+  no_list : (u : ℕ) → u < units → masks_of t u ≡ []
+  no_list u low = get_or-replicate (units) u [] [] low
 
   none_listed : {X : Type 0} (x : X) → ¬ Contains [] x
   none_listed x (k, within, is) = omega (arith, within)
 
   none_counted : (p s : ℕ) → ¬ IsCountedClean t p s
-  none_counted p s (small, inl (u, less, is, first)) = omega (arith, small, first, get_or-replicate {A = ℕ} (places - 4) u 15 0 (omega (arith, less, length-range_with_len 0 (places - 4))))
+  none_counted p s (small, inl (u, less, is, first)) = omega (arith, small, first, get_or-replicate {A = ℕ} (units) u 15 0 (omega (arith, less, length-range_with_len 0 (units))))
   none_counted p s (small, inr (inl (first, is, above))) = none_listed (p, first) is
   none_counted p s (small, inr (inr (is, above))) = omega (arith, small, above)
 
@@ -55,36 +56,36 @@ module _ (places : ℕ) (least : 5 ≤ places) (most : places ≤ 1028) where
   own_only x n kind (inr (inr (inl six))) = absurd (omega (arith, kind, six.0))
   own_only x n kind (inr (inr (inr five))) = absurd (omega (arith, kind, five.0))
 
-  header_below : (p : ℕ) (x : Sector) (n : ℕ) → c p 0 ≡ Some x → Mentions x n → n < places - 4 + 2
-  header_below p x n there mentions = elim (header_is places least most p x there) [
-    | inl (low, is) ↦ elim (own_only (first_head places p) n (omega arith) (rw (← is) at mentions)) [ inl own ↦ omega (arith, own, low) | inr own ↦ omega (arith, own, low) ]
-    | inr (at, is) ↦ elim (own_only (first_status places) n (omega arith) (rw (← is) at mentions)) [ inl own ↦ omega (arith, own) | inr own ↦ omega (arith, own) ]
+  header_below : (p : ℕ) (x : Sector) (n : ℕ) → c p 0 ≡ Some x → Mentions x n → n < units + 2
+  header_below p x n there mentions = elim (header_is places units least most keeps p x there) [
+    | inl (low, is) ↦ elim (own_only (first_head units p) n (omega arith) (rw (← is) at mentions)) [ inl own ↦ omega (arith, own, low) | inr own ↦ omega (arith, own, low) ]
+    | inr (at, is) ↦ elim (own_only (first_status units) n (omega arith) (rw (← is) at mentions)) [ inl own ↦ omega (arith, own) | inr own ↦ omega (arith, own) ]
   ]
 
-  read_below : (p s : ℕ) (x : Sector) (n : ℕ) → IsRead places c (first_layout places) p s x → Mentions x n → n < places - 4 + 2
+  read_below : (p s : ℕ) (x : Sector) (n : ℕ) → IsRead places c (first_layout units) p s x → Mentions x n → n < units + 2
   read_below p s x n (inl (header, low, there, fits)) mentions = header_below p x n there mentions
-  read_below p s x n (inr (inl (at, w))) mentions = absurd (no_sector places least most _ s x (λ none. omega (arith, w.where_it_is.0, none)) w.here)
-  read_below p s x n (inr (inr (low, small, there, kind, inl (u, less, at, region)))) mentions = absurd (no_sector places least most p s x (λ none. omega (arith, region, none)) there)
-  read_below p s x n (inr (inr (low, small, there, kind, inr (over, number)))) mentions = absurd (no_sector places least most p s x (λ none. omega (arith, number, none)) there)
+  read_below p s x n (inr (inl (at, w))) mentions = absurd (no_sector places units least most keeps _ s x (λ none. omega (arith, w.where_it_is.0, none)) w.here)
+  read_below p s x n (inr (inr (low, small, there, kind, inl (u, less, at, region)))) mentions = absurd (no_sector places units least most keeps p s x (λ none. omega (arith, region, none)) there)
+  read_below p s x n (inr (inr (low, small, there, kind, inr (over, number)))) mentions = absurd (no_sector places units least most keeps p s x (λ none. omega (arith, number, none)) there)
 
-  mirror : Mirrors places c (first_layout places) t
+  mirror : Mirrors places c (first_layout units) t
   mirror = record {
-    laid = laid places least most;
+    laid = laid places units least most keeps;
     directory = record {
-      units = length-range_with_len 0 (places - 4);
-      logs = length-replicate (places - 4) 15;
-      all = omega (arith, length-append (replicate (places - 4 + 1) true) (replicate 3 false), length-replicate (places - 4 + 1) true, length-replicate 3 false, least);
+      units = length-range_with_len 0 (units);
+      logs = length-replicate (units) 15;
+      all = omega (arith, keeps.1, length-append (replicate (units + 1) true) (replicate (places - units - 1) false), length-replicate (units + 1) true, length-replicate (places - units - 1) false, keeps.1);
       counts = length-replicate places 1;
-      current = λ u low. get_or-range_with_len 0 (places - 4) u 0 low ∙ (let e : 0 + u ≡ u = omega arith in e);
-      heads = length-range_with_len 1 (places - 4);
-      generation = λ u low. get_or-range_with_len 1 (places - 4) u 0 low ∙ (let e : 1 + u ≡ u + 1 = omega arith in e);
+      current = λ u low. get_or-range_with_len 0 (units) u 0 low ∙ (let e : 0 + u ≡ u = omega arith in e);
+      heads = length-range_with_len 1 (units);
+      generation = λ u low. get_or-range_with_len 1 (units) u 0 low ∙ (let e : 1 + u ≡ u + 1 = omega arith in e);
       not_home = λ q free u low is. omega (arith, free_after q free, low, is);
       not_status = λ q free is. omega (arith, free_after q free, is);
       not_overflow = λ q free is. none_listed q is;
     };
     overflow = record {
-      units = length-replicate (places - 4) [];
-      listed = λ u p s x low live. absurd (never_live places least most u u (u + 1) p s x live);
+      units = length-replicate (units) [];
+      listed = λ u p s x low live. absurd (never_live places units least most keeps u u (u + 1) p s x live);
       only = λ u p s low is. absurd (none_listed (p, s) (rw (no_spots u low) at is));
       once = λ u low. rw (no_spots u low) (λ i j d before within. absurd (omega (arith, within)));
       few = λ u low. rw (no_spots u low) (omega arith);
@@ -101,8 +102,8 @@ module _ (places : ℕ) (least : 5 ≤ places) (most : places ≤ 1028) where
       waits = λ k none within. absurd (omega (arith, within));
     };
     masks = record {
-      units = length-replicate (places - 4) (replicate 15 0);
-      lists = length-replicate (places - 4) [];
+      units = length-replicate (units) (replicate 15 0);
+      lists = length-replicate (units) [];
       sectors = λ u low. rw (no_masks u low) (length-replicate {A = ℕ} 15 0);
       home = λ u s low least most. rw (no_masks u low) (get_or-replicate {A = ℕ} 15 (s - 241) 0 0 (omega (arith, least, most)));
       elsewhere = λ u low. rw (no_list u low, no_spots u low) refl;
@@ -111,4 +112,4 @@ module _ (places : ℕ) (least : 5 ≤ places) (most : places ≤ 1028) where
   }
 
 pub first_tables_mirror : FirstTablesMirror
-first_tables_mirror places least most = mirror places least most
+first_tables_mirror places units least most keeps = mirror places units least most keeps

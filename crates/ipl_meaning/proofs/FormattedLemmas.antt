@@ -5,6 +5,7 @@ use Rattle.std.proofs.lemmas.List.{get_or-replicate, get_or_past}
 use Rattle.std.proofs.lemmas.List.Elements.{All-replicate}
 use Rattle.std.specs.Ordering.{nat_cmp}
 use Rattle.std.specs.FinMap.{empty, get-empty}
+use Rattle.ipl_base.specs.Places.{KeepsUnits}
 use Rattle.ipl_format.specs.Sector.{Sector}
 use Rattle.ipl_format.specs.Header.{AreErases, IsCount, AreRetired}
 use Rattle.ipl_base.specs.declared.limits.TheConstants.{VERSION}
@@ -18,22 +19,22 @@ use Rattle.ipl_meaning.specs.Formatted.{no_pieces, first_head, first_status, for
 use Rattle.ipl_meaning.specs.FirstTables.{first_layout}
 use Rattle.ipl_meaning.specs.Laws.{FormattedChipsAreEmpty}
 
-module _ (places : ℕ) (least : 5 ≤ places) (most : places ≤ 1028) where
+module _ (places units : ℕ) (least : 5 ≤ places) (most : places ≤ 1028) (keeps : KeepsUnits places units) where
   abbrev c : Chart
-  c = formatted places
+  c = formatted units
 
-  unit_here : (p : ℕ) → p < places - 4 → c p 0 ≡ Some (first_head places p)
-  unit_here p low = rw (lt-ltb p (places - 4) low) refl
+  unit_here : (p : ℕ) → p < units → c p 0 ≡ Some (first_head units p)
+  unit_here p low = rw (lt-ltb p (units) low) refl
 
-  status_here : c (places - 4) 0 ≡ Some (first_status places)
-  status_here = rw (le-ltb (places - 4) (places - 4) (omega arith), eq-eqb (places - 4) (places - 4) refl) refl
+  status_here : c (units) 0 ≡ Some (first_status units)
+  status_here = rw (le-ltb (units) (units) (omega arith), eq-eqb (units) (units) refl) refl
 
-  pub header_is : (p : ℕ) (x : Sector) → c p 0 ≡ Some x → ((p < places - 4) × (first_head places p ≡ x)) ⊎ ((p ≡ places - 4) × (first_status places ≡ x))
-  header_is p x there = elim (cases_lt p (places - 4)) [
-    | inl low ↦ inl (low, let same : Some (first_head places p) ≡ Some x = rw (lt-ltb p (places - 4) low) at there in cc same)
-    | inr high ↦ elim (cases_eq p (places - 4)) [
-      | inl at ↦ inr (at, let same : Some (first_status places) ≡ Some x = rw (le-ltb p (places - 4) high, eq-eqb p (places - 4) at) at there in cc same)
-      | inr apart ↦ absurd (let none : None ≡ Some x = rw (le-ltb p (places - 4) high, ne_eqb p (places - 4) apart) at there in cc none)
+  pub header_is : (p : ℕ) (x : Sector) → c p 0 ≡ Some x → ((p < units) × (first_head units p ≡ x)) ⊎ ((p ≡ units) × (first_status units ≡ x))
+  header_is p x there = elim (cases_lt p (units)) [
+    | inl low ↦ inl (low, let same : Some (first_head units p) ≡ Some x = rw (lt-ltb p (units) low) at there in cc same)
+    | inr high ↦ elim (cases_eq p (units)) [
+      | inl at ↦ inr (at, let same : Some (first_status units) ≡ Some x = rw (le-ltb p (units) high, eq-eqb p (units) at) at there in cc same)
+      | inr apart ↦ absurd (let none : None ≡ Some x = rw (le-ltb p (units) high, ne_eqb p (units) apart) at there in cc none)
     ]
   ]
 
@@ -44,28 +45,28 @@ module _ (places : ℕ) (least : 5 ≤ places) (most : places ≤ 1028) where
   never_live u home generation p s x live = no_sector p s x (λ none. elim live.counts [ inl at_home ↦ omega (arith, at_home.1, none) | inr over ↦ omega (arith, over.1, none) ]) live.here
 
   abbrev shape : ℕ → Shape
-  shape u = record { home = u; head = first_head places u; pieces = no_pieces; log = [] }
+  shape u = record { home = u; head = first_head units u; pieces = no_pieces; log = [] }
 
   abbrev it : Layout
-  it = record { status = places - 4; head = first_status places; committed = λ tid. false; count = places - 4; units = shape }
+  it = record { status = units; head = first_status units; committed = λ tid. false; count = units; units = shape }
 
   -- each place counts as erased once, and none is retired
   once : AreErases VERSION 1
   once = record { fits = omega arith; once = λ before. refl }
 
-  none_retired : AreRetired VERSION places (places - 4) []
+  none_retired : AreRetired VERSION places (units) []
   none_retired = record {
     rising = λ i j none before within. absurd (omega (arith, within));
     within = λ k none within. absurd (omega (arith, within));
     few = omega arith;
-    spare = omega (arith, least);
+    spare = omega (arith, keeps.1);
     none = λ before. refl;
   }
 
-  unit : (u : ℕ) → u < places - 4 → IsUnit c places (places - 4) u (shape u)
+  unit : (u : ℕ) → u < units → IsUnit c places (units) u (shape u)
   unit u low = record {
     chosen = record {
-      within = omega (arith, low);
+      within = omega (arith, keeps.1, low);
       here = unit_here u low;
       fits = (refl, refl);
       best = λ q other less there fits. elim (header_is q other there) [
@@ -79,7 +80,7 @@ module _ (places : ℕ) (least : 5 ≤ places) (most : places ≤ 1028) where
       carried = 0;
       erases = 1;
       bytes = refl;
-      fits = omega (arith, most);
+      fits = omega (arith, most, keeps.1);
       fifteen = refl;
       each = All-replicate IsCount 15 0 (omega arith);
       few = omega arith;
@@ -99,9 +100,9 @@ module _ (places : ℕ) (least : 5 ≤ places) (most : places ≤ 1028) where
   laid = record {
     least = least;
     most = most;
-    count = omega (arith, least);
+    count = keeps;
     chosen = record {
-      within = omega (arith, least);
+      within = omega (arith, keeps.1);
       here = status_here;
       fits = refl;
       best = λ q other less there fits. elim (header_is q other there) [
@@ -109,7 +110,7 @@ module _ (places : ℕ) (least : 5 ≤ places) (most : places ≤ 1028) where
         | inr status ↦ inr (ap (λ (z : Sector). z.serial) (sym status.1), omega (arith, status.0))
       ];
     };
-    counts = record { erases = 1; retired = []; bytes = refl; fits = omega (arith, most); counted = once; listed = none_retired };
+    counts = record { erases = 1; retired = []; bytes = refl; fits = omega (arith, most, keeps.1); counted = once; listed = none_retired };
     commits = record {
       spelled = λ s x w. absurd (no_sector _ s x (λ none. omega (arith, w.where_it_is.0, none)) w.here);
       told = λ tid is_so. absurd (cc is_so);
@@ -156,15 +157,15 @@ module _ (places : ℕ) (least : 5 ≤ places) (most : places ≤ 1028) where
   }
 
 -- its pages show no record
-pub formatted_pages_are_empty : (places : ℕ) → 5 ≤ places → places ≤ 1028 → Says places (formatted places) (first_layout places) empty
-formatted_pages_are_empty places least most = record {
-  pages = λ u page low few. shows places least most u page;
+pub formatted_pages_are_empty : (places units : ℕ) → 5 ≤ places → places ≤ 1028 → KeepsUnits places units → Says places (formatted units) (first_layout units) empty
+formatted_pages_are_empty places units least most keeps = record {
+  pages = λ u page low few. shows places units least most keeps u page;
   nowhere_else = λ n high. get-empty nat_cmp n;
 }
 
 pub formatted_chips_are_empty : FormattedChipsAreEmpty
-formatted_chips_are_empty places least most = record {
-  layout = first_layout places;
-  laid = laid places least most;
-  says = formatted_pages_are_empty places least most;
+formatted_chips_are_empty places units least most keeps = record {
+  layout = first_layout units;
+  laid = laid places units least most keeps;
+  says = formatted_pages_are_empty places units least most keeps;
 }

@@ -7,10 +7,10 @@ use Rattle.ipl_format.specs.Sector.{Sector}
 use Rattle.ipl_meaning.specs.Chart.{Chart}
 use Rattle.ipl_meaning.specs.Layout.{Layout, IsLiveIn}
 use Rattle.ipl_meaning.specs.Steps.{SameBut, IsIdle, ComesToNothing}
-use Rattle.ipl_meaning.specs.Tables.{IsFree, one_more, Tables, overflow_places, IsCountedClean}
+use Rattle.ipl_meaning.specs.Tables.{IsFree, one_more, inserted, Tables, overflow_places, IsCountedClean}
 use Rattle.ipl_meaning.specs.Mirrors.{Mirrors}
 use Rattle.ipl_meaning.specs.TableSteps.{with_next, with_erases, taken}
-use Rattle.ipl_meaning.specs.MovingLaws.{TablesFollowIdlePlaces, PlacesMayBeTaken, CountsAreFree}
+use Rattle.ipl_meaning.specs.MovingLaws.{TablesFollowIdlePlaces, PlacesMayBeTaken, CountsAreFree, RetiredAreFree, PlacesMayBeRetired}
 use Rattle.ipl_meaning.proofs.IdleLemmas.{idle_places_do_not_count}
 use Rattle.ipl_meaning.proofs.CounterLemmas.{bare_places_keep_the_counter}
 use Rattle.ipl_meaning.proofs.MirrorLemmas.{map_contains}
@@ -144,3 +144,30 @@ counts_are_free places c it t erases mirrors sized = record {
   masks = let was = mirrors.masks in record { units = was.units; lists = was.lists; sectors = was.sectors; home = was.home; elsewhere = was.elsewhere };
   counted_clean = mirrors.counted_clean;
 }
+
+pub retired_are_free : RetiredAreFree
+retired_are_free places c it t retired mirrors = record {
+  laid = mirrors.laid;
+  directory = let was = mirrors.directory in record {
+    units = was.units;
+    logs = was.logs;
+    all = was.all;
+    counts = was.counts;
+    current = was.current;
+    heads = was.heads;
+    generation = was.generation;
+    not_home = was.not_home;
+    not_status = was.not_status;
+    not_overflow = was.not_overflow;
+  };
+  overflow = let was = mirrors.overflow in record { units = was.units; listed = was.listed; only = was.only; once = was.once; few = was.few; in_overflow = was.in_overflow; headed = was.headed; two = was.two; apart = was.apart };
+  status = let was = mirrors.status in record { place = was.place; generation = was.generation; numbers = was.numbers };
+  numbers = let was = mirrors.numbers in record { above = was.above; below = was.below; once = was.once; waits = was.waits };
+  masks = let was = mirrors.masks in record { units = was.units; lists = was.lists; sectors = was.sectors; home = was.home; elsewhere = was.elsewhere };
+  counted_clean = mirrors.counted_clean;
+}
+
+pub places_may_be_retired : PlacesMayBeRetired
+places_may_be_retired places c it t p mirrors low =
+    retired_are_free places c it (with_erases (taken t p) t.places.erases) (inserted p t.places.retired)
+    (counts_are_free places c it (taken t p) t.places.erases (places_may_be_taken places c it t p mirrors low) mirrors.directory.counts)

@@ -1,40 +1,40 @@
 -- The tables of a chip that was just formatted, no sector being known as clean.
-use Rattle.std.specs.Prelude.{ℕ, ◌+◌, true, false, [], ◌++◌, replicate}
+use Rattle.std.specs.Prelude.{ℕ, ◌+◌, ◌-◌, true, false, [], ◌++◌, replicate}
 use Rattle.std.specs.List.{range_with_len}
 use Rattle.ipl_base.specs.declared.limits.TheConstants.{SECTORS, LOG_SECTORS}
-use Rattle.ipl_base.specs.Places.{units_on}
 use Rattle.ipl_meaning.specs.Layout.{Layout}
 use Rattle.ipl_meaning.specs.Formatted.{no_pieces, first_head, first_status}
 use Rattle.ipl_meaning.specs.Tables.{Tables}
 
 -- how a formatted chip is laid out
 abbrev pub first_layout : ℕ → Layout
-first_layout places = record {
-  status = units_on places;
-  head = first_status places;
+first_layout units = record {
+  status = units;
+  head = first_status units;
   committed = λ tid. false;
-  count = units_on places;
-  units = λ u. record { home = u; head = first_head places u; pieces = no_pieces; log = [] };
+  count = units;
+  units = λ u. record { home = u; head = first_head units u; pieces = no_pieces; log = [] };
 }
 
 -- its tables
-abbrev pub first_tables : ℕ → Tables
-first_tables places = record {
+abbrev pub first_tables : ℕ → ℕ → Tables
+first_tables places units = record {
   places = record {
-    current = range_with_len 0 (units_on places);
-    in_use = replicate (units_on places + 1) true ++ replicate 3 false;
+    current = range_with_len 0 units;
+    in_use = replicate (units + 1) true ++ replicate (places - units - 1) false;
     erases = replicate places 1;
-    written = replicate (units_on places) LOG_SECTORS;
-    generations = range_with_len 1 (units_on places);
-    masks = replicate (units_on places) (replicate LOG_SECTORS 0);
+    retired = [];
+    written = replicate units LOG_SECTORS;
+    generations = range_with_len 1 units;
+    masks = replicate units (replicate LOG_SECTORS 0);
   };
-  overflow = record { spots = replicate (units_on places) []; masks = replicate (units_on places) []; in_use = [] };
+  overflow = record { places = places; spots = replicate units []; masks = replicate units []; in_use = [] };
   status = record {
-    place = units_on places;
-    generation = units_on places + 1;
+    place = units;
+    generation = units + 1;
     numbers = [];
     first = SECTORS;
   };
-  next = units_on places + 2;
+  next = units + 2;
   active = [];
 }

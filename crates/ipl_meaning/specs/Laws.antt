@@ -13,6 +13,7 @@ use Rattle.ipl_meaning.specs.Allowed.{IsAllowed}
 use Rattle.ipl_meaning.specs.Values.{Values}
 use Rattle.ipl_meaning.specs.Stands.{Shows, Says, Stands}
 use Rattle.ipl_meaning.specs.Formatted.{formatted}
+use Rattle.ipl_base.specs.Places.{KeepsUnits}
 use Rattle.ipl_meaning.specs.Steps.{IsPart, SameBut, SameOff, LeftAt, SameWithin, KeepsPages, with_unit, with_log, with_status, with_committed, entry_at, IsIdle, ComesToNothing, MayLog, MayCommit, MaySeal, IsSameUnit, IsMerged, MaySwitch, KeepsNumbers, MayOpenOverflow}
 
 -- a chart stands for one map at most
@@ -131,4 +132,5 @@ OverflowHeadersWait =
 
 -- a formatted chip stands for the empty map
 abbrev pub FormattedChipsAreEmpty : Type 0
-FormattedChipsAreEmpty = (places : ℕ) → LEAST_PLACES ≤ places → places ≤ MOST_PLACES → Stands places (formatted places) empty
+FormattedChipsAreEmpty = (places units : ℕ) → LEAST_PLACES ≤ places → places ≤ MOST_PLACES → KeepsUnits places units
+    → Stands places (formatted units) empty

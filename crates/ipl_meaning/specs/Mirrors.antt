@@ -66,10 +66,11 @@ pub record MirrorsMasks (it : Layout) (t : Tables) : Type 0 where
   pub elsewhere : (u : ℕ) → u < it.count
       → masks_of t u ≡ map (mask_at_spot (it.units u).log) (spots_of t u)
 
--- no place is lost: each that is in use is a unit's, the status place or an overflow place
+-- no place is lost: each that is in use is a unit's, the status place, an overflow place or a retired one
 abbrev pub NoneIsLost : ℕ → Tables → Type 0
 NoneIsLost places t = (p : ℕ) → p < places → ¬ IsFree t.places p
     → Contains t.places.current p ⊎ (p ≡ t.status.place) ⊎ Contains (overflow_places t) p
+    ⊎ Contains t.places.retired p
 
 -- the tables say what the chart is laid out as
 pub record Mirrors (places : ℕ) (c : Chart) (it : Layout) (t : Tables) : Type 0 where

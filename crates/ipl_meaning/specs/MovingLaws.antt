@@ -9,7 +9,7 @@ use Rattle.ipl_meaning.specs.Found.{MentionsBelow, IsPlaceBelow}
 use Rattle.ipl_meaning.specs.Steps.{SameBut, with_unit, with_status, IsIdle, MaySwitch, MayOpenOverflow}
 use Rattle.ipl_meaning.specs.Tables.{IsFree, Tables, overflow_places}
 use Rattle.ipl_meaning.specs.Mirrors.{Mirrors}
-use Rattle.ipl_meaning.specs.TableSteps.{IsReady, with_next, with_erases, taken, IsMoved, TellsShape, IsRenewed, with_overflow, CountedMove}
+use Rattle.ipl_meaning.specs.TableSteps.{IsReady, with_next, with_erases, with_all_retired, without_worn, taken, IsMoved, TellsShape, IsRenewed, with_overflow, CountedMove}
 
 -- a place that is no one's may change, but for a header, and numbers may be drawn
 abbrev pub TablesFollowIdlePlaces : Type 0
@@ -27,6 +27,16 @@ PlacesMayBeTaken = (places : ℕ) (c : Chart) (it : Layout) (t : Tables) (p : �
 abbrev pub CountsAreFree : Type 0
 CountsAreFree = (places : ℕ) (c : Chart) (it : Layout) (t : Tables) (erases : List ℕ) → Mirrors places c it t
     → length erases ≡ places → Mirrors places c it (with_erases t erases)
+
+-- nor are retired places
+abbrev pub RetiredAreFree : Type 0
+RetiredAreFree = (places : ℕ) (c : Chart) (it : Layout) (t : Tables) (retired : List ℕ) → Mirrors places c it t
+    → Mirrors places c it (with_all_retired t retired)
+
+-- a place that is found worn may be retired
+abbrev pub PlacesMayBeRetired : Type 0
+PlacesMayBeRetired = (places : ℕ) (c : Chart) (it : Layout) (t : Tables) (p : ℕ) → Mirrors places c it t → p < places
+    → Mirrors places c it (without_worn t p)
 
 -- the tables mirror the chart after the header of a unit's new place
 abbrev pub TablesFollowMerges : Type 0

@@ -1,6 +1,7 @@
 -- What the tables give: the conditions of each step.
 use Rattle.std.specs.Prelude.{ℕ, ◌≡◌, ◌⊎◌, ◌<◌, ◌≤◌, Bool, IsTrue, List, length, slice_index, None, Contains}
 use Rattle.ipl_base.specs.declared.limits.TheConstants.{SECTORS, LEAST_PLACES, MOST_PLACES, LOG_SECTORS, OVERFLOW_SECTORS}
+use Rattle.ipl_base.specs.Places.{KeepsUnits}
 use Rattle.ipl_format.specs.Sector.{Sector}
 use Rattle.ipl_format.specs.Record.{Record}
 use Rattle.ipl_format.specs.Commit.{SpellsCommit}
@@ -70,5 +71,5 @@ OverflowHeadersMayGo =
 
 -- the first tables mirror a formatted chip
 abbrev pub FirstTablesMirror : Type 0
-FirstTablesMirror = (places : ℕ) → LEAST_PLACES ≤ places → places ≤ MOST_PLACES
-    → Mirrors places (formatted places) (first_layout places) (first_tables places)
+FirstTablesMirror = (places units : ℕ) → LEAST_PLACES ≤ places → places ≤ MOST_PLACES → KeepsUnits places units
+    → Mirrors places (formatted units) (first_layout units) (first_tables places units)

@@ -7,7 +7,7 @@ use Rattle.ipl_format.specs.Header.{SpellsDataHeader}
 use Rattle.ipl_meaning.specs.Chart.{Chart, IsDataHeader, IsLive}
 use Rattle.ipl_meaning.specs.Layout.{Entry, Shape, Layout, AllRise, IsEntry}
 use Rattle.ipl_meaning.specs.Masks.{mask_at}
-use Rattle.ipl_meaning.specs.Tables.{IsFree, with_use, with_erased, with_written, with_mask, Tables, spots_of, masks_of, overflow_places, first_log, IsCountedClean}
+use Rattle.ipl_meaning.specs.Tables.{IsFree, with_use, with_erased, with_retired, with_written, with_mask, Tables, spots_of, masks_of, overflow_places, first_log, IsCountedClean}
 use Rattle.ipl_meaning.specs.Mirrors.{AreApart}
 
 -- a log sector as the counter and the open sessions make it
@@ -54,6 +54,7 @@ abbrev pub after_overflow_log : Tables → ℕ → ℕ → ℕ → ℕ → ℕ �
 after_overflow_log t u p s mask next = record {
   places = t.places;
   overflow = record {
+    places = t.overflow.places;
     spots = slice_set t.overflow.spots u (spots_of t u ++ (p, s) ∷ []);
     masks = slice_set t.overflow.masks u (masks_of t u ++ mask ∷ []);
     in_use = map (with_next_spot p) t.overflow.in_use;
@@ -96,6 +97,14 @@ with_next t next = record { places = t.places; overflow = t.overflow; status = t
 abbrev pub with_erases : Tables → List ℕ → Tables
 with_erases t erases = record { places = record t.places { erases = erases }; overflow = t.overflow; status = t.status; next = t.next; active = t.active }
 
+-- these places are retired
+abbrev pub with_all_retired : Tables → List ℕ → Tables
+with_all_retired t retired = record { places = record t.places { retired = retired }; overflow = t.overflow; status = t.status; next = t.next; active = t.active }
+
+-- the place was taken and found worn: it is retired
+abbrev pub without_worn : Tables → ℕ → Tables
+without_worn t p = record { places = with_retired (with_use t.places p true) p; overflow = t.overflow; status = t.status; next = t.next; active = t.active }
+
 -- the place was taken, and erased for it
 abbrev pub taken : Tables → ℕ → Tables
 taken t p = record { places = with_erased (with_use t.places p true) p; overflow = t.overflow; status = t.status; next = t.next; active = t.active }
@@ -106,10 +115,12 @@ pub record IsMoved (t after : Tables) (u p used : ℕ) : Type 0 where
   pub written : after.places.written ≡ slice_set t.places.written u used
   pub all : length after.places.in_use ≡ length t.places.in_use
   pub erases : after.places.erases ≡ t.places.erases
+  pub retired : after.places.retired ≡ t.places.retired
   -- what is free now was free, or was the unit's place, or was an overflow place that no list names any more
   pub free : (q : ℕ) → IsFree after.places q
       → IsFree t.places q ⊎ (q ≡ slice_index t.places.current u)
       ⊎ (Contains (overflow_places t) q × ¬ Contains (overflow_places after) q)
+  pub sized : after.overflow.places ≡ t.overflow.places
   pub spots : after.overflow.spots ≡ slice_set t.overflow.spots u []
   pub some : All (Contains t.overflow.in_use) after.overflow.in_use
   pub two : length after.overflow.in_use ≤ OVERFLOW_PLACES
@@ -138,6 +149,7 @@ pub record IsRenewed (t after : Tables) (p own from : ℕ) : Type 0 where
   pub masks : after.places.masks ≡ t.places.masks
   pub all : length after.places.in_use ≡ length t.places.in_use
   pub erases : after.places.erases ≡ t.places.erases
+  pub retired : after.places.retired ≡ t.places.retired
   -- what is free now was free, or was the status place
   pub free : (q : ℕ) → IsFree after.places q → IsFree t.places q ⊎ (q ≡ t.status.place)
   pub overflow : after.overflow ≡ t.overflow
@@ -151,7 +163,12 @@ pub record IsRenewed (t after : Tables) (p own from : ℕ) : Type 0 where
 abbrev pub with_overflow : Tables → ℕ → ℕ → Tables
 with_overflow t p next = record {
   places = t.places;
-  overflow = record { spots = t.overflow.spots; masks = t.overflow.masks; in_use = t.overflow.in_use ++ (p, 1) ∷ [] };
+  overflow = record {
+    places = t.overflow.places;
+    spots = t.overflow.spots;
+    masks = t.overflow.masks;
+    in_use = t.overflow.in_use ++ (p, 1) ∷ [];
+  };
   status = t.status;
   next = next;
   active = t.active;

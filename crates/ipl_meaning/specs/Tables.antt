@@ -1,13 +1,14 @@
 -- What the tables in memory say, as lists.
-use Rattle.std.specs.Prelude.{ℕ, ◌≡◌, ◌⊎◌, ◌<◌, ◌≤◌, ◌+◌, ◌-◌, ◌^◌, nat_lt, if◌then◌else◌, Bool, true, false, List, [], map, length, slice_index, slice_index_or, slice_set, Contains}
+use Rattle.std.specs.Prelude.{ℕ, ◌≡◌, ◌⊎◌, ◌<◌, ◌≤◌, ◌+◌, ◌-◌, ◌^◌, ◌==◌, nat_lt, if◌then◌else◌, Bool, true, false, List, [], ◌∷◌, map, length, slice_index, slice_index_or, slice_set, Contains}
 use Rattle.ipl_base.specs.declared.limits.TheConstants.{SECTORS, FIRST_LOG_SECTOR}
 
--- the place of each unit, whether each place is in use, how often each place was erased, how many of the last 15 sectors of
+-- the place of each unit, whether each place is in use, how often each place was erased, which places are retired, how many of the last 15 sectors of
 -- each unit's place count as written, the generation of each unit, and by unit which pages each of these sectors names
 pub record Places : Type 0 where
   pub current : List ℕ
   pub in_use : List Bool
   pub erases : List ℕ
+  pub retired : List ℕ
   pub written : List ℕ
   pub generations : List ℕ
   pub masks : List (List ℕ)
@@ -28,6 +29,16 @@ one_more erases = if nat_lt erases (2 ^ 32 - 1) then erases + 1 else erases
 abbrev pub with_erased : Places → ℕ → Places
 with_erased it p = record it { erases = slice_set it.erases p (one_more (slice_index it.erases p)) }
 
+-- the place among others that rise
+abbrev pub inserted : ℕ → List ℕ → List ℕ
+inserted p [] = p ∷ []
+inserted p (q ∷ places) =
+    if nat_lt p q then p ∷ (q ∷ places) else if p == q then q ∷ places else q ∷ inserted p places
+
+-- the place is retired: it was found worn, and is taken no more
+abbrev pub with_retired : Places → ℕ → Places
+with_retired it p = record it { retired = inserted p it.retired }
+
 -- one more log sector of the unit is written
 abbrev pub with_written : Places → ℕ → Places
 with_written it u = record it { written = slice_set it.written u (slice_index it.written u + 1) }
@@ -46,6 +57,8 @@ with_masks it u masks = record it { masks = slice_set it.masks u masks }
 
 -- the log sectors in overflow places
 pub record OverflowLists : Type 0 where
+  -- how many places the chip has
+  pub places : ℕ
   -- by unit, where its log sectors in overflow places stand
   pub spots : List (List (ℕ × ℕ))
   -- and which pages each of these names

@@ -6,7 +6,7 @@ ghost use Rattle.ipl_meaning.specs.RecordLaws.{TheLastGivesTheValue, MergesCarry
 ghost use Rattle.ipl_meaning.specs.CounterLaws.{NewGenerationsWakeNothing, NewSerialsAreGreatest, NewNumbersWait, LogSectorsKeepTheCounter, CommitSectorsKeepTheCounter, HeadersKeepTheCounter, BarePlacesKeepTheCounter};
 ghost use Rattle.ipl_meaning.specs.TableLaws.{FreePlacesAreIdle, LogSectorsMayGoHome, LogSectorsMayGoElsewhere, CommitSectorsMayGo, HeadersMayGo, StatusHeadersMayGo, OverflowHeadersMayGo, FirstTablesMirror};
 ghost use Rattle.ipl_meaning.specs.FollowingLaws.{TablesFollowHomeLogs, TablesFollowOverflowLogs, TablesFollowCommits, CountedFollow};
-ghost use Rattle.ipl_meaning.specs.MovingLaws.{TablesFollowIdlePlaces, PlacesMayBeTaken, CountsAreFree, TablesFollowMerges, TablesFollowRenewals, TablesFollowOverflows, CountedFollowMerges, CountedFollowRenewals, CountedFollowOverflows};
+ghost use Rattle.ipl_meaning.specs.MovingLaws.{TablesFollowIdlePlaces, PlacesMayBeTaken, CountsAreFree, RetiredAreFree, PlacesMayBeRetired, TablesFollowMerges, TablesFollowRenewals, TablesFollowOverflows, CountedFollowMerges, CountedFollowRenewals, CountedFollowOverflows};
 ghost use Rattle.ipl_meaning.specs.AgreeingLaws.{CountedAreUntouched, CountedMayBeProgrammed, TidyAfterPrograms, TidyAfterMoves, TidyAfterBarriers, TidyAfterErases, TidyAfterWorns, ProgramsAgree, BarriersAgree, ReadsAgree, SaysAgree, ErasesAgree, WornsAgree};
 
 /// A chart is laid out in one way and stands for one map at most; what keeps its pages keeps the map; a page is rebuilt from
@@ -139,6 +139,8 @@ pub fn moving_laws()
     ensures idle_places { TablesFollowIdlePlaces }
     ensures taken { PlacesMayBeTaken }
     ensures counts { CountsAreFree }
+    ensures retired { RetiredAreFree }
+    ensures worn { PlacesMayBeRetired }
     ensures merges { TablesFollowMerges }
     ensures renewals { TablesFollowRenewals }
     ensures overflows { TablesFollowOverflows }

@@ -7,6 +7,7 @@ use Rattle.ipl_rules.specs.State.{State}
 use Rattle.ipl_meaning.specs.Chart.{chart_of}
 use Rattle.ipl_meaning.specs.Stands.{Says}
 use Rattle.number_set.specs.Numbers.{among}
+use Rattle.place_taking.specs.Spending.{is_worn_out}
 use Rattle.page_rebuild.specs.Loaded.{load_fault}
 use Rattle.buffer_pool.specs.Pools.{AreOnce, with_use}
 use Rattle.frame_changes.proofs.FrameLemmas.{pins_keep_frames}
@@ -53,7 +54,7 @@ pub has_brought : (u page : ℕ) (old : Store) (pages : Pages) (before after : T
     → AreOnce old.transactions.pages.pool.buffers
     → Upholds 14 old.transactions.pages before done pages after → OnOk done (IsFramed pages u page)
     → (frames_in old.transactions.pages u page ≡ None → OnOk done (IsFresh pages u page))
-    → AsksToBring u page old.transactions.pages pages before after
+    → AsksToBring u page (is_worn_out done) old.transactions.pages pages before after
     → new ≡ record (with_pages old pages) { down = new.down }
     → EndsAs done old.down result new.down
     → OnOk result (HasBrought u page old before new after)
@@ -139,6 +140,7 @@ moves_then next n m most old mid new before between after done did same turned c
       leads = turns.leads;
       tidy = turns.tidy;
       order = turns.order;
+      units = turns.units;
       limit = turns.pins.limit;
       least = turns.least;
       drawn = few;

@@ -3,32 +3,34 @@ use Rattle.std.proofs.Common.{◌≡◌, inl, inr, ℕ, ◌+◌, ◌≤◌, ◌|
 use Rattle.std.proofs.lemmas.Bool.Decides.{nat_tests}
 use Rattle.chip_trait.specs.Told.{History, Told}
 use Rattle.chip_trait.proofs.CountsLemmas.{counts_none}
-use Rattle.ipl_base.specs.Places.{KeepsUnits, places_for}
+use Rattle.ipl_base.specs.Places.{KeepsUnits}
 use Rattle.ipl_base.specs.declared.fault.ChipFault.{ChipFault}
 use Rattle.ipl_base.specs.declared.fault.Refusal.{Refusal}
 use Rattle.ipl_base.specs.declared.fault.StoreFault.{StoreFault}
-use Rattle.ipl_base.specs.declared.fault.StoreFault.TheVariants.{Down, Spent, Chip}
+use Rattle.ipl_base.specs.declared.fault.StoreFault.TheVariants.{Down, Spent, Refused, Chip}
 use Rattle.ipl_rules.specs.State.{State}
 use Rattle.buffer_pool.specs.Holding.{KeepsPins}
 use Rattle.buffer_pool.specs.Uses.{IsUsedLast}
 use Rattle.store_trait.specs.Keeping.{LAST_NUMBER}
 use Rattle.chip_trait.specs.Story.{Contents}
-use Rattle.ipl_meaning.specs.Chart.{Chart, chart_of}
+use Rattle.ipl_meaning.specs.Chart.{Chart}
 use Rattle.ipl_meaning.specs.Layout.{Layout}
-use Rattle.ipl_meaning.specs.Stands.{Says}
-use Rattle.ipl_meaning.specs.Tables.{Tables}
+use Rattle.ipl_meaning.specs.Tables.{Places, Tables}
 use Rattle.unit_io.specs.Accounts.{Accounts}
 use Rattle.unit_io.specs.Charts.{Charts}
+use Rattle.unit_io.specs.Costs.{Spends}
 use Rattle.unit_io.specs.Reads.{OfContents}
+use Rattle.place_taking.specs.Spending.{is_worn_out}
 use Rattle.merge_rules.specs.Faults.{FailsByChipAlone}
 use Rattle.selective_merge.specs.Throughout.{ChartsThroughout}
 use Rattle.steps.specs.Steps.{Tidies}
 use Rattle.steps.proofs.TablesLemmas.{tables_none, tables_then, tables_answered, tables_fewer}
-use Rattle.store_steps.specs.Advances.{MemoryFits, TurnsMapOf, LeadsTo}
+use Rattle.store_steps.specs.Advances.{TurnsMapOf, LeadsTo}
 use Rattle.store_steps.specs.Keeps.{ShowsState}
 use Rattle.store_steps.proofs.AdvanceLemmas.{answers_advance, calls_advance, failures_advance}
 use Rattle.store_steps.proofs.KeeperLemmas.{nothing_keeps_states}
 use Rattle.store_steps.proofs.LeadLemmas.{keepers_lead_still}
+use Rattle.page_writing.specs.Spending.{ErasesAndLogs}
 use Rattle.page_frames.specs.declared.pages.Pages.{Pages}
 use Rattle.page_frames.specs.Complete.{Completes}
 use Rattle.page_frames.specs.Faulty.{FailsByPage, TellsFaults}
@@ -37,8 +39,8 @@ use Rattle.transactions.specs.declared.transactions.Transactions.{Transactions}
 use Rattle.transactions.specs.Turns.{memory_in, CompletesFor, IsInOrder, TellsFaultsFor, Turns, TurnsInMemory}
 use Rattle.transactions.proofs.TurnLemmas.{completes_for, tells_for}
 use Rattle.ipl_store.specs.declared.store.Store.{Store}
-use Rattle.ipl_store.specs.Calls.{memory_of_store, view_of, counter_of, IsMade, IsSound, early_fault, entry_fault, down_fault, puts_down, EndsAs, IsOfTheChip, EndsFor, KeepsHolds, Calls}
-use Rattle.ipl_store.specs.Shown.{IsUsedLastIn}
+use Rattle.ipl_store.specs.Calls.{memory_of_store, view_of, counter_of, IsMade, IsSound, early_fault, ends_worn_out, entry_fault, down_fault, puts_down, tells_wear, EndsAs, IsOfTheChip, EndsFor, KeepsHolds, Calls}
+use Rattle.ipl_store.specs.Shown.{CostsOnePage, IsUsedLastIn}
 
 -- ---- before anything is done
 
@@ -52,9 +54,27 @@ calls_refused early next most store told result fault is answer sound = record {
       let one : fault ≡ first = cc same in (answer ∙ ap Err one, refl, refl);
   serves = λ none. let no : Some fault ≡ None = sym is ∙ none in absurd (cc no);
   sound = sound;
+  units = refl;
   tidy = tables_none (tables_in store.transactions.pages) result told;
   counts = counts_none told;
 }
+
+-- its fault doesn't tell that too many places are worn
+unworn : (down spent : Bool) (refusal : Option Refusal) (fault : StoreFault)
+    → early_fault (if down then Some Down else (if spent then Some Spent else None)) refusal
+    ≡ Some fault → tells_wear fault ≡ false
+unworn true spent refusal fault is =
+    let which : Down ≡ fault = cc is in ap tells_wear (sym which)
+unworn false true refusal fault is =
+    let which : Spent ≡ fault = cc is in ap tells_wear (sym which)
+unworn false false (Some r) fault is =
+    let which : Refused r ≡ fault = cc is in ap tells_wear (sym which)
+unworn false false None fault is = absurd (cc is)
+
+pub early_unworn : (store : Store) (refusal : Option Refusal) (fault : StoreFault)
+    → early_fault (entry_fault store) refusal ≡ Some fault → tells_wear fault ≡ false
+early_unworn store refusal fault is =
+    unworn store.down (nat_lt LAST_NUMBER (counter_of store)) refusal fault is
 
 -- what is known where a call is let in
 passed_down : (down : Bool) (refusal : Option Refusal)
@@ -93,10 +113,11 @@ pub record Moves (next : State → State) (most : ℕ) (old : Transactions) (bef
   pub leads : LeadsTo next (memory_in old) before done (memory_in new) after
   pub tidy : Tidies (tables_in old.pages) done (tables_in new.pages) before after
   pub order : IsInOrder before.places new
+  pub units : length new.pages.parts.directory.current ≡ length old.pages.parts.directory.current
   pub limit : new.pages.pool.limit ≡ old.pages.pool.limit
   pub least : old.pages.parts.counter ≤ new.pages.parts.counter
   pub drawn : new.pages.parts.counter ≤ old.pages.parts.counter + most
-  pub accounts : Accounts PageCause done before after
+  pub accounts : Accounts (PageCause new.pages.parts.directory) done before after
   pub complete : CompletesFor old done before
   pub faults : TellsFaultsFor old done before new.pages
 
@@ -108,6 +129,7 @@ writes_move next most old new before after done did complete faults = record {
   leads = did.leads;
   tidy = did.tidy;
   order = did.order;
+  units = did.units;
   limit = did.pins.limit;
   least = did.least;
   drawn = did.drawn;
@@ -135,6 +157,7 @@ memory_moves next most old new told did order least drawn = record {
   tidy = tables_fewer {T = Unit {0}} {E = ChipFault} (tables_in old.pages) (tables_in old.pages) (tables_in new.pages) (Ok tt) told
       told did.fewer (tables_none {T = Unit {0}} {E = ChipFault} (tables_in old.pages) (Ok tt) told);
   order = did.order told.places order;
+  units = ap (λ (d : Places). length d.current) did.directory;
   limit = did.pins.limit;
   least = least;
   drawn = drawn;
@@ -153,6 +176,7 @@ pages_move most old pages before after result order did complete faults = record
   leads = keepers_lead_still (memory_in old) _ _ result before after did.keeps;
   tidy = did.tidy;
   order = record { ready = did.ready; active = did.active ∙ order.active };
+  units = did.units;
   limit = did.pins.limit;
   least = did.least;
   drawn = did.drawn;
@@ -163,10 +187,17 @@ pages_move most old pages before after result order did complete faults = record
 
 -- ---- the end of a call
 
-same_answer : (done : Result (Unit {0}) ChipFault) (was is : Bool)
+pub same_answer : (done : Result (Unit {0}) ChipFault) (was is : Bool)
     (result : Result (Unit {0}) StoreFault) → EndsAs done was result is → is_ok done ≡ is_ok result
 same_answer (Ok v) was is result ends = ap is_ok (sym ends.0)
 same_answer (Err e) was is result ends = ap is_ok (sym ends.0)
+
+-- it tells that too many places are worn where its work does
+pub ended_worn : (done : Result (Unit {0}) ChipFault) (was is : Bool)
+    (result : Result (Unit {0}) StoreFault) → EndsAs done was result is
+    → ends_worn_out result ≡ is_worn_out done
+ended_worn (Ok v) was is result ends = ap ends_worn_out ends.0
+ended_worn (Err e) was is result ends = ap ends_worn_out ends.0
 
 not_down : (stopped : Bool) → (stopped || false) ≡ stopped
 not_down true = refl
@@ -174,8 +205,8 @@ not_down false = refl
 
 ends_for : (done : Result (Unit {0}) ChipFault) (was : Bool)
     (result : Result (Unit {0}) StoreFault) (new : Store) (before after : Told) → was ≡ false
-    → IfErr done (λ e. PageCause e before after) → EndsAs done was result new.down
-    → EndsFor before result new after
+    → IfErr done (λ e. PageCause new.transactions.pages.parts.directory e before after)
+    → EndsAs done was result new.down → EndsFor before result new after
 ends_for (Ok v) was result new before after up cause ends =
     subst (λ (r : Result (Unit {0}) StoreFault). EndsFor before r new after) (sym ends.0)
     (ends.1 ∙ up)
@@ -212,14 +243,11 @@ blamed_so x it (Err e) was is result ends a b same blamed =
 
 -- work that is complete, where store and contents show a state
 shown_complete : (store : Store) (before : Told) (done : Result (Unit {0}) ChipFault)
-    → KeepsUnits before.places store.units → CompletesFor store.transactions done before
-    → OfContents before (λ x. (state : State) → ShowsState (view_of store) state x
+    → CompletesFor store.transactions done before
+    → OfContents before (λ x. (state : State) → ShowsState before.places (view_of store) state x
     → FailsByChipAlone done)
-shown_complete store before done suits complete x told state shown =
-    complete x told shown.layout state
-    (subst (λ (n : ℕ). MemoryFits n (chart_of x) shown.layout (memory_of_store store) state) suits
-    shown.fits)
-    (subst (λ (n : ℕ). Says n (chart_of x) shown.layout state.map) suits shown.says)
+shown_complete store before done complete x told state shown =
+    complete x told shown.layout state shown.fits shown.says
 
 module _ (next : State → State) (most : ℕ) (old : Store) (t : Transactions) (kept : List ℕ)
     (before after : Told) (done : Result (Unit {0}) ChipFault)
@@ -231,17 +259,23 @@ module _ (next : State → State) (most : ℕ) (old : Store) (t : Transactions) 
   moved : new.transactions ≡ t
   moved = ap (λ (s : Store). s.transactions) rest
 
+  as_many : new.units ≡ old.units
+  as_many = ap (λ (s : Store). s.units) rest
+
+  as_counted : length new.transactions.pages.parts.directory.current ≡ new.units
+  as_counted = ap (λ (it : Transactions). length it.pages.parts.directory.current) moved
+      ∙ moves.units ∙ sound.count up ∙ sym as_many
+
   made : IsMade before.places new
   made =
       let was = sound.made in record {
         geometry = was.geometry;
-        units = ap (λ (s : Store). places_for s.units) rest ∙ was.units;
+        units = subst (KeepsUnits before.places) (sym as_many) was.units;
         scratch = ap (λ (s : Store). s.scratch) rest ∙ was.scratch;
         directory = ap (λ (it : Transactions). length it.pages.parts.directory.in_use) moved
             ∙ moves.order.ready.known.suits.all;
-        overflow = ap (λ (it : Transactions). places_for (length it.pages.parts.overflow.spots)) moved
-            ∙ ap places_for moves.order.ready.known.suits.overflow
-            ∙ moves.order.ready.known.suits.units;
+        overflow = ap (λ (it : Transactions). it.pages.parts.overflow.places) moved
+            ∙ moves.order.ready.known.suits.sized;
         frames = ap (λ (s : Store). s.frames) rest ∙ was.frames ∙ sym moves.limit
             ∙ ap (λ (it : Transactions). it.pages.pool.limit) (sym moved);
         two = subst (λ (n : ℕ). 2 ≤ n) (sym (ap (λ (s : Store). s.frames) rest)) was.two;
@@ -257,13 +291,17 @@ module _ (next : State → State) (most : ℕ) (old : Store) (t : Transactions) 
           (subst (λ (it : Transactions).
           LeadsTo next (memory_in old.transactions) before done (memory_in it) after) (sym moved)
           moves.leads);
-      ends = ends_for done old.down result new before after up moves.accounts.cause ends;
+      ends = ends_for done old.down result new before after up
+          (subst (λ (it : Transactions).
+          IfErr done (λ e. PageCause it.pages.parts.directory e before after)) (sym moved)
+          moves.accounts.cause) ends;
+      counted = as_counted;
       least = subst (λ (it : Transactions). counter_of old ≤ it.pages.parts.counter) (sym moved)
           moves.least;
       drawn = subst (λ (it : Transactions). it.pages.parts.counter ≤ counter_of old + most)
           (sym moved) moves.drawn;
       complete = λ x told state shown. failed_so done old.down new.down result ends
-          (shown_complete old before done sound.made.units moves.complete x told state shown);
+          (shown_complete old before done moves.complete x told state shown);
       faults = λ x told it state fits. blamed_so x it done old.down new.down result
           ends (tables_in t.pages) (tables_in new.transactions.pages)
           (ap (λ (it : Transactions). tables_in it.pages) (sym moved))
@@ -272,7 +310,9 @@ module _ (next : State → State) (most : ℕ) (old : Store) (t : Transactions) 
     sound = record {
       made = made;
       order = λ still. subst (IsInOrder before.places) (sym moved) moves.order;
+      count = λ still. as_counted;
     };
+    units = as_many;
     tidy = tables_answered (tables_in old.transactions.pages) (tables_in new.transactions.pages) done
         result before after (same_answer done old.down new.down result ends)
         (subst (λ (it : Transactions).
@@ -313,6 +353,7 @@ let_in_calls early next most old before result new after none calls = record {
   refuses = λ fault is. let no : None ≡ Some fault = sym none ∙ is in absurd (cc no);
   serves = λ let_in. calls.serves refl;
   sound = calls.sound;
+  units = calls.units;
   tidy = calls.tidy;
   counts = calls.counts;
 }
@@ -330,12 +371,14 @@ calls_as early next most old before v w new after did = record {
         leads = answers_advance (TurnsMapOf next) next (memory_of_store old) (memory_of_store new)
             (Ok v) (Ok w) before after refl serves.leads;
         ends = serves.ends;
+        counted = serves.counted;
         least = serves.least;
         drawn = serves.drawn;
         complete = λ x told state shown. tt;
         faults = λ x told it state fits. tt;
       };
   sound = did.sound;
+  units = did.units;
   tidy = did.tidy;
   counts = did.counts;
 }
@@ -353,12 +396,14 @@ calls_fail_as early next most old before fault new after did = record {
         leads = answers_advance (TurnsMapOf next) next (memory_of_store old) (memory_of_store new)
             (Err fault) (Err fault) before after refl serves.leads;
         ends = serves.ends;
+        counted = serves.counted;
         least = serves.least;
         drawn = serves.drawn;
         complete = serves.complete;
         faults = serves.faults;
       };
   sound = did.sound;
+  units = did.units;
   tidy = did.tidy;
   counts = did.counts;
 }
@@ -377,6 +422,7 @@ idle_calls most store told early sound up none =
           (memory_in store.transactions).frames told);
       tidy = tables_none {T = Unit {0}} {E = ChipFault} (tables_in store.transactions.pages) (Ok tt) told;
       order = sound.order up;
+      units = refl;
       limit = refl;
       least = omega arith;
       drawn = omega arith;
@@ -441,6 +487,30 @@ ended_used u page old new t kept done result rest ends used =
     (subst (λ (it : Transactions). OnOk done (IsUsedLast it.pages.pool u page))
     (sym (ap (λ (s : Store). s.transactions) rest)) used)
 
+-- what its work asks of the chip, by the pages then
+pub ended_asks : (Asks : Bool → Pages → Type 0) (old new : Store) (t : Transactions) (kept : List ℕ)
+    (done : Result (Unit {0}) ChipFault) (result : Result (Unit {0}) StoreFault)
+    → new ≡ record old { transactions = t; kept = kept; down = new.down }
+    → EndsAs done old.down result new.down → Asks (is_worn_out done) t.pages
+    → Asks (ends_worn_out result) new.transactions.pages
+ended_asks Asks old new t kept done result rest ends asks =
+    subst (λ (b : Bool). Asks b new.transactions.pages)
+    (sym (ended_worn done old.down new.down result ends))
+    (subst (λ (it : Transactions). Asks (is_worn_out done) it.pages)
+    (sym (ap (λ (s : Store). s.transactions) rest)) asks)
+
+-- and what it costs
+pub ended_costs : (old new : Store) (t : Transactions) (kept : List ℕ) (before after : Told)
+    (done : Result (Unit {0}) ChipFault) (result : Result (Unit {0}) StoreFault)
+    → new ≡ record old { transactions = t; kept = kept; down = new.down }
+    → EndsAs done old.down result new.down
+    → Spends (ErasesAndLogs old.transactions.pages.parts.directory t.pages.parts.directory
+    (is_worn_out done)) before after
+    → CostsOnePage (ends_worn_out result) old new before after
+ended_costs old new t kept before after done result rest ends costs =
+    ended_asks (λ worn_out pages. Spends (ErasesAndLogs old.transactions.pages.parts.directory
+    pages.parts.directory worn_out) before after) old new t kept done result rest ends costs
+
 -- ---- a call that keeps each state, and then one in memory
 
 -- what leaves the map leaves one of two
@@ -468,6 +538,7 @@ calls_joined early next most old mid t before after none up first did drawn = re
         (kept_either next) (λ places state k is. is) first.counts
         (first.serves refl).leads (second.serves refl).leads;
     ends = up;
+    counted = second.sound.count up;
     least = omega (arith, (first.serves refl).least, drawn);
     drawn = omega (arith, (first.serves refl).drawn, drawn);
     complete = λ x told state shown. tt;
@@ -475,6 +546,7 @@ calls_joined early next most old mid t before after none up first did drawn = re
   };
   sound = subst (λ (n : ℕ). IsSound n (record mid { transactions = t })) first.counts.places
       second.sound;
+  units = first.units;
   tidy = tables_then {U = Unit {0}} {F = StoreFault} (Unit {0}) StoreFault (tables_in old.transactions.pages)
       (tables_in mid.transactions.pages) (tables_in t.pages) tt (Ok tt) before after after first.counts
       first.tidy second.tidy;
@@ -500,12 +572,14 @@ failed_calls early next most old before fault new after none calls = record {
             (TurnsMapOf next) (memory_of_store old) (memory_of_store new) (λ state. state) next
             fault fault before after (kept_either next) did.leads;
         ends = did.ends;
+        counted = did.counted;
         least = did.least;
         drawn = did.drawn;
         complete = did.complete;
         faults = did.faults;
       };
   sound = calls.sound;
+  units = calls.units;
   tidy = calls.tidy;
   counts = calls.counts;
 }

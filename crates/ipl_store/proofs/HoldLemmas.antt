@@ -175,6 +175,7 @@ repooled_calls early next most old before mid new after none pool calls =
                 (memory_of (tables_in mid.transactions.pages) f mid.transactions.sessions) after)
                 (sym same) did.leads;
             ends = did.ends;
+            counted = did.counted;
             least = did.least;
             drawn = did.drawn;
             complete = did.complete;
@@ -200,7 +201,9 @@ repooled_calls early next most old before mid new after none pool calls =
               };
               active = was.active;
             };
+        count = calls.sound.count;
       };
+      units = calls.units;
       tidy = calls.tidy;
       counts = calls.counts;
     })

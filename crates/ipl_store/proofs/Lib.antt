@@ -6,3 +6,4 @@ pub mod BroughtLemmas
 pub mod RoomLemmas
 pub mod PutLemmas
 pub mod HoldLemmas
+pub mod MergeLemmas

@@ -5,7 +5,7 @@ use Rattle.std.proofs.lemmas.Bool.{cases_lt}
 use Rattle.std.proofs.lemmas.List.{get_or-replicate, get_or_past, length-replicate}
 use Rattle.chip_trait.specs.Story.{Contents}
 use Rattle.chip_trait.specs.Told.{History, Told}
-use Rattle.ipl_base.specs.Places.{KeepsUnits, places_for}
+use Rattle.ipl_base.specs.Places.{KeepsUnits}
 use Rattle.ipl_base.specs.declared.fault.ChipFault.{ChipFault}
 use Rattle.ipl_rules.specs.Operations.{after_restart}
 use Rattle.ipl_rules.specs.State.{Map, at_rest}
@@ -20,6 +20,7 @@ use Rattle.ipl_meaning.specs.Tables.{Tables}
 use Rattle.ipl_meaning.specs.Values.{Values}
 use Rattle.ipl_meaning.proofs.OnceLemmas.{laid_once}
 use Rattle.ipl_meaning.proofs.StandsLemmas.{kept_pages_keep_the_map}
+use Rattle.opening_rules.specs.Chosen.{units_at}
 use Rattle.opening_rules.specs.Faults.{greatest_found}
 use Rattle.opening_rules.specs.LaidOut.{layout_in}
 use Rattle.record_locks.specs.Held.{Held, number_of, numbers_in}
@@ -154,32 +155,42 @@ module _ (places : ℕ) (t : Tables) (old new : Told)
           subst (λ (n : ℕ). StoryRests n m h → Preserves {T = Unit {0}} {E = ChipFault} n m
           before.tables t h (Ok tt) old new) (sym suits ∙ same) (preserved m h steady) rests
 
-module _ (units : ℕ) (t : Tables) (old new : Told)
-    (tells : RecoversTold (places_for units) old (Ok tt) t new)
-    (steps : RecoversInSteps (places_for units) old (Ok tt) t new)
-    (holds : HoldsOpened (places_for units) t) where
+module _ (places units : ℕ) (t : Tables) (old new : Told)
+    (tells : RecoversTold places old (Ok tt) t new)
+    (steps : RecoversInSteps places old (Ok tt) t new)
+    (holds : HoldsOpened places t) (many : length t.places.current ≡ units) where
+  -- as many as the status header says
+  pub opened_counts : OfContents old (λ x. units ≡ units_at (chart_of x) places)
+  opened_counts x told =
+      let (y, there, is) = tells x told in
+      sym many ∙ is.mirrors.directory.units ∙ is.count
+
   -- over contents that stood for a map
   pub opened_shows : (m : Map) (x y : Contents) → old.contents ≡ Some x
-      → Stands (places_for units) (chart_of x) m → new.contents ≡ Some y
-      → ShowsState (opened_with units t (replicate 32 None)) (at_rest m) y
+      → Stands places (chart_of x) m → new.contents ≡ Some y
+      → ShowsState places (opened_with units t (replicate 32 None)) (at_rest m) y
   opened_shows m x y told stands then =
-      let (it, mirrors, says) = opened_says (places_for units) t old new tells steps holds m x y told
-      stands then in record {
+      let (it, mirrors, says) = opened_says places t old new tells steps holds m x y told stands then
+      in record {
         layout = it;
-        fits = openings_fit (places_for units) (chart_of y) it t (replicate 32 None) m mirrors
+        count = sym mirrors.directory.units ∙ many;
+        fits = openings_fit places (chart_of y) it t (replicate 32 None) m mirrors
             holds.known.none_lost holds.active none_open (empty_slots_are_at_rest m);
         says = says;
       }
 
   -- and over a history then that rests on it
   pub opened_keeps : (m : Map) (k : History) (x : Contents) → old.contents ≡ Some x
-      → Stands (places_for units) (chart_of x) m → IsSteady k new → StoryRests (places_for units) m k
+      → Stands places (chart_of x) m → IsSteady k new → StoryRests places m k
       → IsTidy k.story t
-      → KeepsStore (limits_of units) (opened_with units t (replicate 32 None)) new k (at_rest m)
+      → KeepsStore places (limits_of units) (opened_with units t (replicate 32 None)) new k
+      (at_rest m)
   opened_keeps m k x told stands =
-      opened_stores_keep units t (replicate 32 None) new k m holds.known.none_lost holds.active
-      none_open (empty_slots_are_at_rest m)
-      (λ y then. opened_says (places_for units) t old new tells steps holds m x y told stands then)
+      opened_stores_keep places units t (replicate 32 None) new k m holds.known.none_lost
+      holds.active none_open (empty_slots_are_at_rest m)
+      (λ y then.
+      let (it, mirrors, says) = opened_says places t old new tells steps holds m x y told stands then
+      in (it, sym mirrors.directory.units ∙ many, mirrors, says))
 
 -- ---- as its fields have it
 
@@ -196,7 +207,8 @@ fresh_view store fresh = λ i. record {
 -- ---- the store
 
 module _ (places : ℕ) (store : Store) (made : IsMade places store) (fresh : IsFresh store)
-    (holds : HoldsOpened places (tables_in store.transactions.pages)) where
+    (holds : HoldsOpened places (tables_in store.transactions.pages))
+    (many : length store.transactions.pages.parts.directory.current ≡ store.units) where
   no_frame : (u page : ℕ) → frames_in store.transactions.pages u page ≡ None
   no_frame u page = ap (λ (slots : List (Option Buffer)). option_map frame_in
       (buffer_in slots u page)) fresh.empty
@@ -224,6 +236,7 @@ module _ (places : ℕ) (store : Store) (made : IsMade places store) (fresh : Is
       };
       active = holds.active ∙ ap numbers_in (sym fresh.idle);
     };
+    count = λ up. many;
   }
 
   -- and it has the records for which the chip stood
@@ -234,31 +247,21 @@ module _ (places : ℕ) (store : Store) (made : IsMade places store) (fresh : Is
       → counter_of store ≤ 2 ^ 63 + 2 ^ 14 → Opens places old store new
   fresh_opens old new tells steps number left = record {
     fresh = fresh;
+    units = opened_counts places store.units t old new tells steps holds many;
     shows = λ m x told stands y then.
-        subst (λ (v : View). ShowsState v (at_rest m) y) (fresh_view store fresh)
-        (opened_shows store.units t old new tells_here steps_here holds_here m x y told
-        (subst (λ (n : ℕ). Stands n (chart_of x) m) (sym made.units) stands) then);
+        subst (λ (v : View). ShowsState places v (at_rest m) y) (fresh_view store fresh)
+        (opened_shows places store.units t old new tells steps holds many m x y told stands then);
     keeps = λ m k x told stands steady rests tidy.
-        subst (λ (v : View). KeepsStore (limits_of store.units) v new k (at_rest m))
+        subst (λ (v : View). KeepsStore places (limits_of store.units) v new k (at_rest m))
         (fresh_view store fresh)
-        (opened_keeps store.units t old new tells_here steps_here holds_here m k x told
-        (subst (λ (n : ℕ). Stands n (chart_of x) m) (sym made.units) stands) steady
-        (subst (λ (n : ℕ). StoryRests n m k) (sym made.units) rests) tidy);
+        (opened_keeps places store.units t old new tells steps holds many m k x told stands steady
+        rests tidy);
     number = number;
     left = left;
   }
     where
       t : Tables
       t = tables_in store.transactions.pages
-
-      tells_here : RecoversTold (places_for store.units) old (Ok tt) t new
-      tells_here = subst (λ (n : ℕ). RecoversTold n old (Ok tt) t new) (sym made.units) tells
-
-      steps_here : RecoversInSteps (places_for store.units) old (Ok tt) t new
-      steps_here = subst (λ (n : ℕ). RecoversInSteps n old (Ok tt) t new) (sym made.units) steps
-
-      holds_here : HoldsOpened (places_for store.units) t
-      holds_here = subst (λ (n : ℕ). HoldsOpened n t) (sym made.units) holds
 
   -- a store that stood for states stands for them with no session open
   pub fresh_restarts : (before : Memory) (old new : Told) → old.places ≡ places
@@ -272,24 +275,26 @@ module _ (places : ℕ) (store : Store) (made : IsMade places store) (fresh : Is
 
 -- ---- a store whose tables an opening wrote
 
-abbrev pub recovered : Store → Parts → List ℕ → ℕ → Bool → Store
-recovered store parts kept scratch down = record store {
+abbrev pub recovered : Store → Parts → List ℕ → ℕ → ℕ → Bool → Store
+recovered store parts kept scratch units down = record store {
   transactions = record store.transactions {
     pages = record store.transactions.pages { parts = parts };
   };
   kept = kept;
   scratch = scratch;
+  units = units;
   down = down;
 }
 
-pub made_recovered : (places : ℕ) (store : Store) (parts : Parts) (kept : List ℕ) (scratch : ℕ)
-    (down : Bool) → IsMade places store
+pub made_recovered : (places : ℕ) (store : Store) (parts : Parts) (kept : List ℕ)
+    (scratch units : ℕ) (down : Bool) → IsMade places store
     → (scratch ≡ store.scratch) × (length parts.directory.in_use ≡ places)
-    × KeepsUnits places (length parts.overflow.spots)
-    → IsMade places (recovered store parts kept scratch down)
-made_recovered places store parts kept scratch down made sized = record {
+    × (parts.overflow.places ≡ places)
+    → KeepsUnits places units
+    → IsMade places (recovered store parts kept scratch units down)
+made_recovered places store parts kept scratch units down made sized suits = record {
   geometry = made.geometry;
-  units = made.units;
+  units = suits;
   scratch = sized.0 ∙ made.scratch;
   directory = sized.1;
   overflow = sized.2;

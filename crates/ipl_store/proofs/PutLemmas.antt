@@ -17,6 +17,7 @@ use Rattle.unit_io.specs.Costs.{Costs, Spends}
 use Rattle.buffer_pool.specs.Holding.{KeepsPins}
 use Rattle.buffer_pool.specs.Uses.{IsUsedLast}
 use Rattle.buffer_pool.proofs.HoldingLemmas.{nothing_keeps, both_keep}
+use Rattle.place_taking.specs.Spending.{is_worn_out, tells_worn}
 use Rattle.selective_merge.specs.declared.parts.Parts.{Parts}
 use Rattle.selective_merge.specs.Moving.{tables_of}
 use Rattle.selective_merge.specs.Spotting.{HasHomeSpot}
@@ -24,6 +25,8 @@ use Rattle.page_writing.specs.Spending.{ErasesAndLogs}
 use Rattle.pending_writes.specs.Frames.{Frame, Frames}
 use Rattle.pending_writes.specs.Room.{overfills_at}
 use Rattle.store_steps.specs.Advances.{memory_of, LeadsTo}
+use Rattle.store_steps.specs.Keeps.{limits_of}
+use Rattle.store_steps.specs.Refusals.{sessions_refuse_put}
 use Rattle.page_frames.specs.Pages.{tables_in, frames_in, IsFramed, KeepsFramedFor}
 use Rattle.page_frames.proofs.AskLemmas.{one_of_none}
 use Rattle.page_frames.proofs.UseLemmas.{none_leaves, framed_then}
@@ -31,11 +34,11 @@ use Rattle.transactions.specs.declared.transactions.Transactions.{Transactions}
 use Rattle.transactions.specs.Costs.{HasRoomFor, AsksToWrite}
 use Rattle.transactions.specs.Turns.{memory_in, CompletesFor, TellsFaultsFor, Turns}
 use Rattle.ipl_store.specs.declared.store.Store.{Store}
-use Rattle.ipl_store.specs.Calls.{counter_of, IsSound, EndsAs, KeepsHolds, Calls}
+use Rattle.ipl_store.specs.Calls.{counter_of, ends_worn_out, tells_wear, IsSound, EndsAs, KeepsHolds, Calls}
 use Rattle.ipl_store.specs.Puts.{found_room, put_fault, put_next, TellsRoom, HasBrought, BringsPageOf, PutsBy}
-use Rattle.ipl_store.specs.Shown.{Fetches, AsksFor, IsUsedLastIn}
+use Rattle.ipl_store.specs.Shown.{Fetches, AsksFor, CostsOnePage, IsUsedLastIn}
 use Rattle.ipl_store.proofs.BroughtLemmas.{moves_then}
-use Rattle.ipl_store.proofs.CallLemmas.{calls_as, calls_fail_as, calls_refused, failed_calls, let_in_calls, moved_calls}
+use Rattle.ipl_store.proofs.CallLemmas.{calls_as, calls_fail_as, calls_refused, early_unworn, failed_calls, let_in_calls, moved_calls}
 use Rattle.ipl_store.proofs.RoomLemmas.{early_found, chip_found, full_told}
 use Rattle.ipl_store.proofs.ShownLemmas.{write_asks_nothing}
 
@@ -51,19 +54,22 @@ pub record Puts (s n : ℕ) (bytes : List ℕ) (old : Store) (before : Told)
   pub used : OnOk found (IsUsedLastIn new (home_of n).unit (home_of n).page)
   pub stays : KeepsFramedFor (home_of n).unit (home_of n).page old.transactions.pages
       new.transactions.pages
-  pub asks : AsksToWrite n (Some bytes) old.transactions.pages before after
+  pub asks : AsksToWrite n (Some bytes) (ends_worn_out found) old.transactions.pages
+      new.transactions.pages before after
 
 -- ---- nothing was written
 
 -- the page was brought, or wasn't, and no more was asked
-looked_asks : (n : ℕ) (change : Change) (store : Store) (before after : Told)
-    → AsksFor n store before after → AsksToWrite n change store.transactions.pages before after
-looked_asks n change store before after asks = record {
+looked_asks : (n : ℕ) (change : Change) (worn_out : Bool) (store new : Store)
+    (before after : Told) → AsksFor n store before after
+    → CostsOnePage worn_out store new before after
+    → AsksToWrite n change worn_out store.transactions.pages new.transactions.pages before after
+looked_asks n change worn_out store new before after asks costs = record {
   idle = λ room. asks.idle (subst IsSome (sym room.there) refl);
   free = λ absent free. asks.free free;
   home = λ framed clean. subst (λ (t : Told). Spends (Costs 0 1 0 (5 ∷ [])) before t)
       (sym (asks.idle framed)) (one_of_none before);
-  costs = asks.costs;
+  costs = costs;
 }
 
 -- it was refused before its page was looked at
@@ -81,7 +87,9 @@ refused_put s n bytes old before fault is sound =
       framed = tt;
       used = tt;
       stays = none_leaves (home_of n).unit (home_of n).page old.transactions.pages;
-      asks = write_asks_nothing n (Some bytes) old.transactions.pages before;
+      asks = write_asks_nothing n (Some bytes) (tells_wear fault) old.transactions.pages before
+          (early_unworn old
+          (sessions_refuse_put (limits_of old.units) old.transactions.sessions s n bytes) fault is);
     })
 
 -- its page wasn't brought
@@ -103,7 +111,7 @@ unbrought_put s n bytes old before fault new after none did asks =
       framed = tt;
       used = tt;
       stays = did.stays;
-      asks = looked_asks n (Some bytes) old before after asks;
+      asks = looked_asks n (Some bytes) (tells_wear fault) old new before after asks did.costs;
     })
 
 -- that the page was brought, as the laws of puts ask for it
@@ -140,13 +148,13 @@ full_put s n bytes old before new after none sound first asks did full = record 
     sessions = same_sessions (home_of n).unit (home_of n).page old before new after did;
   };
   full = λ early. full_told n bytes old before (tables_in new.transactions.pages)
-      (frames_in new.transactions.pages) did.frame after sound.made.units
+      (frames_in new.transactions.pages) did.frame after
       (brings n old before new after did) true full;
   holds = first.holds;
   framed = subst IsSome (sym did.there) refl;
   used = first.used;
   stays = first.stays;
-  asks = looked_asks n (Some bytes) old before after asks;
+  asks = looked_asks n (Some bytes) false old new before after asks first.costs;
 }
 
 -- ---- it was written
@@ -160,9 +168,10 @@ pub record HasWritten (s n : ℕ) (bytes : List ℕ) (mid : Transactions) (betwe
   pub framed : OnOk done (IsFramed t.pages (home_of n).unit (home_of n).page)
   pub used : OnOk done (IsUsedLast t.pages.pool (home_of n).unit (home_of n).page)
   pub stays : KeepsFramedFor (home_of n).unit (home_of n).page mid.pages t.pages
-  pub asks : AsksToWrite n (Some bytes) mid.pages between after
+  pub asks : AsksToWrite n (Some bytes) (is_worn_out done) mid.pages t.pages between after
   pub sessions : OnErr done (t.sessions ≡ mid.sessions)
-  pub idle : HasRoomFor mid.pages n (Some bytes) → t.pages.parts.counter ≡ mid.pages.parts.counter
+  pub idle : HasRoomFor mid.pages n (Some bytes)
+      → (t.pages.parts ≡ mid.pages.parts) × (is_worn_out done ≡ false)
 
 module _ (s n : ℕ) (bytes : List ℕ) (old : Store) (before : Told) (mid : Store) (between : Told)
     (done : Result (Unit {0}) ChipFault) (t : Transactions) (after : Told)
@@ -185,28 +194,39 @@ module _ (s n : ℕ) (bytes : List ℕ) (old : Store) (before : Told) (mid : Sto
       by_frame : (o : Option Frame)
           → frames_in old.transactions.pages (home_of n).unit (home_of n).page ≡ o
           → t.pages.parts.counter ≤ counter_of old + 14
-      by_frame None none = omega (arith, wrote.idle (fresh_room none), did.upholds.drawn)
+      by_frame None none = omega (
+        arith,
+        ap (λ (p : Parts). p.counter) (wrote.idle (fresh_room none)).0,
+        did.upholds.drawn,
+      )
       by_frame (Some f) there =
           let (only, idle) = did.asks.idle (subst IsSome (sym there) refl) in
           omega (arith, ap (λ (p : Parts). p.counter) only.parts, wrote.turns.drawn)
 
   -- and little is asked of the chip
-  joined_asks : AsksToWrite n (Some bytes) old.transactions.pages before after
+  joined_asks : AsksToWrite n (Some bytes) (is_worn_out done) old.transactions.pages t.pages before
+      after
   joined_asks = by_frame (frames_in old.transactions.pages (home_of n).unit (home_of n).page) refl
     where
       by_frame : (o : Option Frame)
           → frames_in old.transactions.pages (home_of n).unit (home_of n).page ≡ o
-          → AsksToWrite n (Some bytes) old.transactions.pages before after
+          → AsksToWrite n (Some bytes) (is_worn_out done) old.transactions.pages t.pages before after
       by_frame None none =
-          let idle : after ≡ between = wrote.asks.idle (fresh_room none) in record {
+          let idle : after ≡ between = wrote.asks.idle (fresh_room none) in
+          let (same, still) = wrote.idle (fresh_room none) in record {
             idle = λ room. let no : None ≡ Some room.frame = sym none ∙ room.there in
                 absurd (cc no);
             free = λ absent free. subst (λ (k : Told). Spends (Costs 0 0 0 []) before k) (sym idle)
                 (did.asks.free free);
             home = λ framed clean. absurd (false≢true (subst IsSome none framed));
-            costs = subst (λ (k : Told).
-                Spends (ErasesAndLogs old.transactions.pages.parts.directory) before k) (sym idle)
-                did.asks.costs;
+            costs = subst (λ (k : Told). Spends (ErasesAndLogs
+                old.transactions.pages.parts.directory t.pages.parts.directory (is_worn_out done))
+                before k) (sym idle)
+                (subst (λ (b : Bool). Spends (ErasesAndLogs old.transactions.pages.parts.directory
+                t.pages.parts.directory b) before between) (sym still)
+                (subst (λ (p : Parts). Spends (ErasesAndLogs
+                old.transactions.pages.parts.directory p.directory false) before between)
+                (sym same) did.asks.costs));
           }
       by_frame (Some f) there =
           let framed : IsFramed old.transactions.pages (home_of n).unit (home_of n).page =
@@ -223,10 +243,11 @@ module _ (s n : ℕ) (bytes : List ℕ) (old : Store) (before : Told) (mid : Sto
                 (wrote.asks.home (subst IsSome (sym did.there) refl)
                 (subst (λ (p : Parts). HasHomeSpot (tables_of p) (home_of n).unit) (sym only.parts)
                 clean));
-            costs = subst (λ (k : Told).
-                Spends (ErasesAndLogs old.transactions.pages.parts.directory) k after) idle
-                (subst (λ (p : Parts). Spends (ErasesAndLogs p.directory) between after) only.parts
-                wrote.asks.costs);
+            costs = subst (λ (k : Told). Spends (ErasesAndLogs
+                old.transactions.pages.parts.directory t.pages.parts.directory (is_worn_out done))
+                k after) idle
+                (subst (λ (p : Parts). Spends (ErasesAndLogs p.directory t.pages.parts.directory
+                (is_worn_out done)) between after) only.parts wrote.asks.costs);
           }
 
   -- a write that failed leaves the numbers of the open sessions
@@ -315,7 +336,7 @@ written_put s n bytes old before mid between (Ok v) t after result new none up s
             between (Ok tt) (memory_in t) after) sessions wrote.turns.leads);
       };
       full = λ early. full_told n bytes old before (tables_in mid.transactions.pages)
-          (frames_in mid.transactions.pages) did.frame between sound.made.units
+          (frames_in mid.transactions.pages) did.frame between
           (brings n old before mid between did) false room;
       holds = end_holds s n bytes old before mid between (Ok v) t after did wrote short new moved
           first.holds;
@@ -325,7 +346,9 @@ written_put s n bytes old before mid between (Ok v) t after result new none up s
           (home_of n).page) (sym moved) wrote.used;
       stays = end_stays s n bytes old before mid between (Ok v) t after did wrote short new moved
           first.stays;
-      asks = joined_asks s n bytes old before mid between (Ok v) t after did wrote short;
+      asks = subst (λ (it : Transactions). AsksToWrite n (Some bytes) false old.transactions.pages
+          it.pages before after) (sym moved)
+          (joined_asks s n bytes old before mid between (Ok v) t after did wrote short);
     })
 written_put s n bytes old before mid between (Err e) t after result new none up sound first did room
     short wrote rest ends =
@@ -346,5 +369,7 @@ written_put s n bytes old before mid between (Err e) t after result new none up 
       used = tt;
       stays = end_stays s n bytes old before mid between (Err e) t after did wrote short new moved
           first.stays;
-      asks = joined_asks s n bytes old before mid between (Err e) t after did wrote short;
+      asks = subst (λ (it : Transactions). AsksToWrite n (Some bytes) (tells_worn e)
+          old.transactions.pages it.pages before after) (sym moved)
+          (joined_asks s n bytes old before mid between (Err e) t after did wrote short);
     })

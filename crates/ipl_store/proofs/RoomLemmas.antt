@@ -8,7 +8,7 @@ use Rattle.ipl_base.specs.declared.fault.Refusal.{Refusal}
 use Rattle.ipl_base.specs.declared.fault.StoreFault.{StoreFault}
 use Rattle.ipl_base.specs.declared.fault.StoreFault.TheVariants.{Down, Spent, Refused, Chip}
 use Rattle.ipl_base.specs.declared.fault.ChipFault.{ChipFault}
-use Rattle.ipl_base.specs.Places.{home_of, KeepsUnits, places_for}
+use Rattle.ipl_base.specs.Places.{home_of}
 use Rattle.ipl_format.proofs.ListLemmas.{both_true}
 use Rattle.ipl_rules.specs.Marks.{overfills}
 use Rattle.ipl_base.specs.Sizes.{size_in_page}
@@ -92,18 +92,18 @@ chip_found fault e is = subst (λ (f : StoreFault). found_room (Err f) ≡ Err f
 -- ---- what the frame tells
 
 pub full_told : (n : ℕ) (bytes : List ℕ) (old : Store) (before : Told) (t : Tables)
-    (frames : Frames) (f : Frame) (after : Told) → KeepsUnits before.places old.units
+    (frames : Frames) (f : Frame) (after : Told)
     → BringsPageOf n old before t frames f after → (full : Bool)
     → overfills_at (marks_in old.transactions.sessions) n bytes f.values ≡ full
-    → OfContents before (λ x. (state : State) → ShowsState (view_of old) state x
+    → OfContents before (λ x. (state : State) → ShowsState before.places (view_of old) state x
     → overfills state n bytes ≡ full)
-full_told n bytes old before t frames f after suits did full is x told state shown =
+full_told n bytes old before t frames f after did full is x told state shown =
     let home = home_of n in
     let slots = old.transactions.sessions in
-    let (y, held, had) = (did.keeps slots).fits (places_for old.units) (sym suits) tt x told in
+    let (y, held, had) = (did.keeps slots).fits before.places refl tt x told in
     let on = had shown.layout state shown.fits in
     let (low, few) = on.fits.framed.within home.unit home.page f did.there in
-    frames_tell_full (places_for old.units) (chart_of x) (chart_of y) shown.layout state.map
+    frames_tell_full before.places (chart_of x) (chart_of y) shown.layout state.map
     (memory_of t frames slots) state n bytes f on
     (shown.says.pages home.unit home.page (omega (arith, low, on.shows.count)) few) did.there
     ∙ is

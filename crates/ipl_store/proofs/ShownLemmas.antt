@@ -1,15 +1,16 @@
 -- What a store's frames tell of a name, after a call that kept each state.
-use Rattle.std.proofs.Common.{◌≡◌, ℕ, List, Option, Some, None, Result, Ok, Err, IsSome, OnOk, refl, sym, ◌∙◌, ap, subst, arith}
+use Rattle.std.proofs.Common.{◌≡◌, ℕ, Bool, false, List, Option, Some, None, Result, Ok, Err, IsSome, OnOk, refl, sym, ◌∙◌, ap, subst, arith}
 use Rattle.std.specs.FinMap.{get}
 use Rattle.chip_trait.specs.Story.{Contents}
 use Rattle.chip_trait.specs.Told.{Told}
 use Rattle.ipl_base.specs.declared.fault.ChipFault.{ChipFault}
 use Rattle.ipl_base.specs.declared.fault.StoreFault.{StoreFault}
-use Rattle.ipl_base.specs.Places.{home_of, KeepsUnits, places_for}
+use Rattle.ipl_base.specs.Places.{home_of}
 use Rattle.ipl_rules.specs.State.{State, see}
 use Rattle.ipl_format.specs.Record.{Change}
 use Rattle.ipl_meaning.specs.Chart.{chart_of}
 use Rattle.ipl_meaning.specs.Tables.{Tables}
+use Rattle.unit_io.specs.Costs.{Spends}
 use Rattle.unit_io.specs.Reads.{OfContents}
 use Rattle.pending_writes.specs.Pending.{name_at}
 use Rattle.pending_writes.specs.Frames.{Frame, Frames}
@@ -20,6 +21,7 @@ use Rattle.record_locks.specs.Held.{number_of}
 use Rattle.page_ops.specs.Pending.{seen_by}
 use Rattle.buffer_pool.specs.Uses.{IsUsedLast}
 use Rattle.buffer_pool.proofs.HoldingLemmas.{nothing_keeps, both_keep}
+use Rattle.page_writing.specs.Spending.{ErasesAndLogs}
 use Rattle.page_frames.specs.declared.pages.Pages.{Pages}
 use Rattle.page_frames.specs.Pages.{tables_in, frames_in, IsFramed, KeepsFramedFor}
 use Rattle.page_frames.proofs.AskLemmas.{one_of_none}
@@ -29,38 +31,39 @@ use Rattle.transactions.specs.declared.transactions.Transactions.{Transactions}
 use Rattle.transactions.specs.Costs.{AsksToWrite}
 use Rattle.transactions.specs.Turns.{TurnsInMemory}
 use Rattle.ipl_store.specs.declared.store.Store.{Store}
-use Rattle.ipl_store.specs.Calls.{view_of, IsSound}
+use Rattle.ipl_store.specs.Calls.{view_of, tells_wear, IsSound}
 use Rattle.ipl_store.proofs.CallLemmas.{calls_refused, let_in_calls, calls_as, calls_fail_as, failed_calls, calls_joined}
-use Rattle.ipl_store.specs.Shown.{ShowsName, FramesName, IsSeen, IsCommitted, Fetches, answered, AsksForPage, Looks}
+use Rattle.ipl_store.specs.Shown.{ShowsName, FramesName, IsSeen, IsCommitted, Fetches, answered, AsksLittle, CostsOnePage, Looks}
 
 name_of_home : (n : ℕ) → name_at (home_of n).unit (home_of n).page (home_of n).slot ≡ n
 name_of_home n = omega arith
 
 -- where all pages show the state, that of the name does
-pub name_shown : (store : View) (state : State) (n : ℕ) (x : Contents) → ShowsState store state x
-    → ShowsName store state n x
-name_shown store state n x shown = record {
+pub name_shown : (places : ℕ) (store : View) (state : State) (n : ℕ) (x : Contents)
+    → ShowsState places store state x → ShowsName places store state n x
+name_shown places store state n x shown = record {
   layout = shown.layout;
+  count = shown.count;
   fits = shown.fits;
   shows = λ low. shown.says.pages (home_of n).unit (home_of n).page
-      (omega (arith, low, shown.fits.mirrors.laid.count)) (omega arith);
+      (omega (arith, low, shown.count)) (omega arith);
 }
 
 pub shown_frames_tell : {T E : Type 0} (v : T) (n : ℕ) (store : View) (t : Tables)
-    (later : Frames) (f : Frame) (old new : Told) → KeepsUnits old.places store.units
+    (later : Frames) (f : Frame) (old new : Told)
     → KeepsState {T = T} {E = E} store.memory.tables store.memory.frames old (Ok v) t later new
     → later (home_of n).unit (home_of n).page ≡ Some f
-    → (state : State) → OfContents old (λ x. ShowsName store state n x
+    → (state : State) → OfContents old (λ x. ShowsName old.places store state n x
     → TellsName store.memory.slots state n f)
-shown_frames_tell v n store t later f old new suits keeper there state x told shown =
-    let places = places_for store.units in
+shown_frames_tell v n store t later f old new keeper there state x told shown =
     let home = home_of n in
-    let (y, told_then, had) = (keeper store.memory.slots).fits places (sym suits) tt x told in
+    let (y, told_then, had) = (keeper store.memory.slots).fits old.places refl tt x told in
     let on = had shown.layout state shown.fits in
     let low = (on.fits.framed.within home.unit home.page f there).0 in
-    let tells = frames_tell_state places (chart_of x) (chart_of y) shown.layout state.map
+    let tells = frames_tell_state old.places (chart_of x) (chart_of y) shown.layout state.map
     (record { tables = t; frames = later; slots = store.memory.slots }) state home.unit home.page
-    home.slot f on (shown.shows (omega (arith, low, on.fits.mirrors.laid.count))) there (omega arith) in
+    home.slot f on (shown.shows (omega (arith, low, on.shows.count, shown.count))) there
+    (omega arith) in
     let same = name_of_home n in record {
       committed = tells.committed ∙ ap (get state.map) same;
       seen = λ s tid mine. tells.seen s tid mine ∙ ap (see state s) same;
@@ -73,21 +76,21 @@ some_is None some = absurd (cc some)
 some_is (Some x) some = (x, refl)
 
 pub names_told : (n : ℕ) (old : Store) (pages : Pages) (before after : Told)
-    (done : Result (Unit {0}) ChipFault) (new : Store) → KeepsUnits before.places old.units
+    (done : Result (Unit {0}) ChipFault) (new : Store)
     → new.transactions.pages ≡ pages
     → KeepsState (tables_in old.transactions.pages) (frames_in old.transactions.pages) before done
     (tables_in pages) (frames_in pages) after
     → OnOk done (IsFramed pages (home_of n).unit (home_of n).page)
     → OnOk done (FramesName n old before new)
-names_told n old pages before after (Ok v) new suits is keeps framed =
+names_told n old pages before after (Ok v) new is keeps framed =
     let (f, there) = some_is (frames_in pages (home_of n).unit (home_of n).page) framed in
     record {
       frame = f;
       there = ap (λ (p : Pages). frames_in p (home_of n).unit (home_of n).page) is ∙ there;
       tells = shown_frames_tell v n (view_of old) (tables_in pages) (frames_in pages) f before after
-          suits keeps there;
+          keeps there;
     }
-names_told n old pages before after (Err e) new suits is keeps framed = tt
+names_told n old pages before after (Err e) new is keeps framed = tt
 
 -- ---- what is lent of it
 
@@ -102,6 +105,7 @@ looks_as early next n old before v new after did = record {
   framed = subst IsSome (sym did.names.there) refl;
   used = did.used;
   stays = did.stays;
+  costs = did.costs;
 }
 
 looks_fail : {U : Type 0} (early : Option StoreFault) (next : State → State) (n : ℕ)
@@ -114,6 +118,7 @@ looks_fail {U} early next n old before fault new after did = record {
   framed = tt;
   used = tt;
   stays = did.stays;
+  costs = did.costs;
 }
 
 pub looks_answered : {U : Type 0} (early : Option StoreFault) (next : State → State) (n : ℕ)
@@ -136,36 +141,47 @@ let_in_fetches early next n old before result new after none did = record {
   names = did.names;
   used = did.used;
   stays = did.stays;
+  costs = did.costs;
 }
+
+-- nothing was done
+pub costs_nothing : (store : Store) (worn_out : Bool) (told : Told) → worn_out ≡ false
+    → CostsOnePage worn_out store store told told
+costs_nothing store worn_out told still =
+    subst (λ (b : Bool). CostsOnePage b store store told told) (sym still)
+    (logs_of_reads store.transactions.pages.parts.directory
+    store.transactions.pages.parts.directory told told refl (nothing_spent told))
 
 -- one that was refused
 pub refused_fetches : (early : Option StoreFault) (next : State → State) (n : ℕ) (store : Store)
-    (told : Told) (fault : StoreFault) → early ≡ Some fault → IsSound told.places store
-    → Fetches early next n store told (Err fault) store told
-refused_fetches early next n store told fault is sound = record {
+    (told : Told) (fault : StoreFault) → early ≡ Some fault → tells_wear fault ≡ false
+    → IsSound told.places store → Fetches early next n store told (Err fault) store told
+refused_fetches early next n store told fault is unworn sound = record {
   calls = calls_refused early next 14 store told (Err fault) fault is refl sound;
   holds = nothing_keeps store.transactions.pages.pool;
   names = tt;
   used = tt;
   stays = none_leaves (home_of n).unit (home_of n).page store.transactions.pages;
+  costs = costs_nothing store (tells_wear fault) told unworn;
 }
 
 -- which asks nothing
-pub asks_nothing : (u page : ℕ) (store : Store) (told : Told) → AsksForPage u page store told told
+pub asks_nothing : (u page : ℕ) (store : Store) (told : Told) → AsksLittle u page store told told
 asks_nothing u page store told = record {
   idle = λ framed. refl;
   free = λ room. nothing_spent told;
-  costs = logs_of_reads store.transactions.pages.parts.directory told told (nothing_spent told);
 }
 
 -- and so does a write
-pub write_asks_nothing : (n : ℕ) (change : Change) (pages : Pages) (told : Told)
-    → AsksToWrite n change pages told told
-write_asks_nothing n change pages told = record {
+pub write_asks_nothing : (n : ℕ) (change : Change) (worn_out : Bool) (pages : Pages) (told : Told)
+    → worn_out ≡ false → AsksToWrite n change worn_out pages pages told told
+write_asks_nothing n change worn_out pages told still = record {
   idle = λ room. refl;
   free = λ absent room. nothing_spent told;
   home = λ framed clean. one_of_none told;
-  costs = logs_of_reads pages.parts.directory told told (nothing_spent told);
+  costs = subst (λ (b : Bool). Spends (ErasesAndLogs pages.parts.directory pages.parts.directory b)
+      told told) (sym still)
+      (logs_of_reads pages.parts.directory pages.parts.directory told told refl (nothing_spent told));
 }
 
 -- what the frame tells is what the session sees
@@ -194,6 +210,7 @@ failed_fetches early next n old before fault new after none did = record {
   names = tt;
   used = tt;
   stays = did.stays;
+  costs = did.costs;
 }
 
 -- the page was brought, and then something was done in memory that leaves all pages
@@ -217,4 +234,6 @@ shared_fetches early next n old mid t before after none did turns same = record 
       did.used;
   stays = subst (KeepsFramedFor (home_of n).unit (home_of n).page old.transactions.pages) (sym same)
       did.stays;
+  costs = subst (λ (p : Pages). Spends (ErasesAndLogs old.transactions.pages.parts.directory
+      p.parts.directory false) before after) (sym same) did.costs;
 }

@@ -21,6 +21,7 @@ use Rattle.buffer_pool.specs.Holding.{is_pinned, pinned_count, KeepsPins}
 use Rattle.store_trait.specs.Keeping.{LAST_NUMBER}
 use Rattle.store_steps.specs.Advances.{Memory, MemoryFits, LeadsTo}
 use Rattle.store_steps.specs.Keeps.{View, ShowsState}
+use Rattle.place_taking.specs.Spending.{tells_worn}
 use Rattle.steps.specs.Steps.{Tidies}
 use Rattle.page_frames.specs.Faulty.{FailsByPage}
 use Rattle.page_frames.specs.Pages.{tables_in, PageCause}
@@ -42,20 +43,23 @@ counter_of store = store.transactions.pages.parts.counter
 
 -- ---- the condition of all calls
 
--- the store is made for a chip of so many places, and for the units that are kept on them
+-- the store is made for a chip of so many places, on which as many units may be kept as it has
 pub record IsMade (places : ℕ) (store : Store) : Type 0 where
   pub geometry : IsGeometry places
   pub units : KeepsUnits places store.units
   pub scratch : store.scratch ≡ places
   pub directory : length store.transactions.pages.parts.directory.in_use ≡ places
-  pub overflow : KeepsUnits places (length store.transactions.pages.parts.overflow.spots)
+  pub overflow : store.transactions.pages.parts.overflow.places ≡ places
   pub frames : store.frames ≡ store.transactions.pages.pool.limit
   pub two : 2 ≤ store.frames
 
--- and one that isn't down has its memory in order, whatever the chip tells
+-- and one that isn't down has its memory in order, whatever the chip tells, and its tables have as many
+-- units
 pub record IsSound (places : ℕ) (store : Store) : Type 0 where
   pub made : IsMade places store
   pub order : store.down ≡ false → IsInOrder places store.transactions
+  pub count : store.down ≡ false
+      → length store.transactions.pages.parts.directory.current ≡ store.units
 
 -- ---- calls that end before they do anything
 
@@ -111,7 +115,7 @@ refuses_release units pool u page = first_of (bad_page units u page ∷ not_held
 
 -- ---- calls that do something
 
--- from such a fault on the store is down: a write failed, or no place could be taken
+-- from such a fault on the store is down: a write failed, or too many places are worn
 abbrev pub puts_down : ChipFault → Bool
 puts_down ReadFault = false
 puts_down Stopped = true
@@ -129,12 +133,25 @@ EndsAs (Err e) was result is = (result ≡ Err (Chip e)) × (is ≡ (puts_down e
 abbrev pub IsOfTheChip : StoreFault → Type 0
 IsOfTheChip fault = (e : ChipFault) × (fault ≡ Chip e) × IsFailedCall e
 
--- done, the store isn't down; else a fault of the chip ended the call, for its cause, and the store
--- is down exactly where a write failed or no place could be taken
+-- done, the store isn't down; else a fault of the chip ended the call, for its cause by the tables
+-- then, and the store is down exactly where a write failed or too many places are worn
 abbrev pub EndsFor : {T : Type 0} → Told → Result T StoreFault → Store → Told → Type 0
 EndsFor before result new after = MatchResult result (λ v. new.down ≡ false)
-    (λ fault. (e : ChipFault) × (fault ≡ Chip e) × PageCause e before after
+    (λ fault. (e : ChipFault) × (fault ≡ Chip e)
+    × PageCause new.transactions.pages.parts.directory e before after
     × (new.down ≡ puts_down e))
+
+-- the fault tells that too many places are worn
+abbrev pub tells_wear : StoreFault → Bool
+tells_wear Down = false
+tells_wear Spent = false
+tells_wear (Refused r) = false
+tells_wear (Chip e) = tells_worn e
+
+-- the call ended since too many places are worn
+abbrev pub ends_worn_out : {T : Type 0} → Result T StoreFault → Bool
+ends_worn_out (Ok v) = false
+ends_worn_out (Err fault) = tells_wear fault
 
 -- Over contents that the memory fits, whatever their pages say, the fault is of a page that didn't
 -- read well or had no room for its values, at the place where its unit is then; or a call of the
@@ -146,15 +163,18 @@ BlamesPages old before result new = OfContents before (λ x. (it : Layout) (stat
     × FailsByPage x it (tables_in new.transactions.pages) e))
 
 -- A call that is let in. It leads from each state that memory and chip stand for to the next one,
--- and at most so many numbers were drawn. Over contents that the memory shows a state of, it fails
--- only where a call of the chip failed; and else by a page that doesn't read well or has no room.
+-- at most so many numbers were drawn, and however it ends the tables have as many units as the store.
+-- Over contents that the memory shows a state of, it fails only where a call of the chip failed; and
+-- else by a page that doesn't read well or has no room.
 pub record Serves {T : Type 0} (next : State → State) (most : ℕ) (old : Store) (before : Told)
     (result : Result T StoreFault) (new : Store) (after : Told) : Type 0 where
   pub leads : LeadsTo next (memory_of_store old) before result (memory_of_store new) after
   pub ends : EndsFor before result new after
+  pub counted : length new.transactions.pages.parts.directory.current ≡ new.units
   pub least : counter_of old ≤ counter_of new
   pub drawn : counter_of new ≤ counter_of old + most
-  pub complete : OfContents before (λ x. (state : State) → ShowsState (view_of old) state x
+  pub complete : OfContents before (λ x. (state : State)
+      → ShowsState before.places (view_of old) state x
       → IfErr result IsOfTheChip)
   pub faults : BlamesPages old before result new
 
@@ -163,8 +183,8 @@ abbrev pub KeepsHolds : Store → Store → Type 0
 KeepsHolds old new = KeepsPins old.transactions.pages.pool new.transactions.pages.pool
 
 -- A call of a store: it ends early with this fault, and nothing was done; or it does what it is
--- for. The store is sound either way, and whatever the chip tells, its events are lawful by the
--- tables.
+-- for. The store is sound either way, with as many units, and whatever the chip tells, its events are
+-- lawful by the tables.
 pub record Calls {T : Type 0} (early : Option StoreFault) (next : State → State) (most : ℕ)
     (old : Store) (before : Told) (result : Result T StoreFault) (new : Store) (after : Told)
     : Type 0 where
@@ -172,6 +192,7 @@ pub record Calls {T : Type 0} (early : Option StoreFault) (next : State → Stat
       → (result ≡ Err fault) × (new ≡ old) × (after ≡ before)
   pub serves : early ≡ None → Serves next most old before result new after
   pub sound : IsSound before.places new
+  pub units : new.units ≡ old.units
   pub tidy : Tidies (tables_in old.transactions.pages) result (tables_in new.transactions.pages)
       before after
   pub counts : Counts before after

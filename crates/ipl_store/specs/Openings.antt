@@ -1,5 +1,5 @@
 -- What an opening of a chip leaves of a store.
-use Rattle.std.specs.Prelude.{ℕ, ◌≡◌, ◌⊎◌, ◌≤◌, ◌+◌, ◌^◌, false, true, [], replicate, None, Result, Ok, Err, MatchResult, OnOk, is_ok}
+use Rattle.std.specs.Prelude.{ℕ, ◌≡◌, ◌⊎◌, ◌≤◌, ◌+◌, ◌^◌, false, true, [], length, replicate, None, Result, Ok, Err, MatchResult, OnOk, is_ok}
 use Rattle.chip_trait.specs.Told.{History, Told}
 use Rattle.ipl_base.specs.declared.fault.ChipFault.{ChipFault}
 use Rattle.ipl_base.specs.declared.fault.ImageFault.{ImageFault}
@@ -7,7 +7,7 @@ use Rattle.ipl_base.specs.declared.fault.ImageFault.TheVariants.{Geometry}
 use Rattle.ipl_base.specs.declared.fault.OpenFault.{OpenFault}
 use Rattle.ipl_base.specs.declared.fault.OpenFault.TheVariants.{Image, OutOfMemory}
 use Rattle.ipl_base.specs.declared.limits.TheConstants.{SESSIONS}
-use Rattle.ipl_base.specs.Places.{IsGeometry, units_on}
+use Rattle.ipl_base.specs.Places.{IsGeometry, KeepsUnits}
 use Rattle.ipl_rules.specs.Operations.{after_restart}
 use Rattle.ipl_rules.specs.State.{Map, at_rest}
 use Rattle.ipl_meaning.specs.Agrees.{IsTidy}
@@ -15,15 +15,16 @@ use Rattle.ipl_meaning.specs.Chart.{chart_of}
 use Rattle.ipl_meaning.specs.Rests.{StoryRests}
 use Rattle.ipl_meaning.specs.Stands.{Stands}
 use Rattle.ipl_meaning.specs.Tables.{Tables, IsCountedClean}
+use Rattle.opening_rules.specs.Chosen.{units_at}
 use Rattle.opening_rules.specs.Faults.{greatest_found}
 use Rattle.restart.specs.Bytes.{ReadsBytes}
 use Rattle.unit_io.specs.Accounts.{Accounts}
 use Rattle.unit_io.specs.Costs.{Spends}
 use Rattle.unit_io.specs.Leads.{IsSteady}
 use Rattle.unit_io.specs.Reads.{OfContents}
-use Rattle.status_renewal.specs.Passes.{ErasesAtMost, HasErased}
+use Rattle.status_renewal.specs.Passes.{HasErased}
 use Rattle.steps.specs.Steps.{TidyWork}
-use Rattle.status_renewal.specs.Recovers.{CompletesOpening, RecoversTold, LooksAtFaults, RecoversInSteps, IsNowhere, OpeningCause}
+use Rattle.status_renewal.specs.Recovers.{CompletesOpening, ErasesOpening, RecoversTold, LooksAtFaults, RecoversInSteps, IsNowhere, OpeningCause}
 use Rattle.store_steps.specs.Advances.{Memory, LeadsTo}
 use Rattle.store_steps.specs.Keeps.{limits_of, ShowsState, KeepsStore}
 use Rattle.page_frames.specs.Pages.{tables_in}
@@ -36,17 +37,18 @@ pub record IsFresh (store : Store) : Type 0 where
   pub idle : store.transactions.sessions ≡ replicate SESSIONS None
   pub empty : store.transactions.pages.pool.buffers.slots ≡ []
 
--- A store of which a chip was opened. Where the contents before stood for a map, its memory and the
--- contents then show that map; and it keeps it over each history then that rests on it, and leaves
--- clean what the tables count as clean.
+-- A store of which a chip was opened. It has as many units as its status header says. Where the
+-- contents before stood for a map, its memory and the contents then show that map; and it keeps it over
+-- each history then that rests on it, and leaves clean what the tables count as clean.
 pub record Opens (places : ℕ) (old : Told) (store : Store) (new : Told) : Type 0 where
   pub fresh : IsFresh store
+  pub units : OfContents old (λ x. store.units ≡ units_at (chart_of x) places)
   pub shows : (m : Map) → OfContents old (λ x. Stands places (chart_of x) m
-      → OfContents new (ShowsState (view_of store) (at_rest m)))
+      → OfContents new (ShowsState places (view_of store) (at_rest m)))
   pub keeps : (m : Map) (k : History) → OfContents old (λ x. Stands places (chart_of x) m
       → IsSteady k new → StoryRests places m k
       → IsTidy k.story (tables_in store.transactions.pages)
-      → KeepsStore (limits_of store.units) (view_of store) new k (at_rest m))
+      → KeepsStore places (limits_of store.units) (view_of store) new k (at_rest m))
   pub number : OfContents old (λ x. counter_of store
       ≤ greatest_found (chart_of x) places + 1 + 2 ^ 14)
   pub left : counter_of store ≤ 2 ^ 63 + 2 ^ 14
@@ -59,7 +61,8 @@ Restarts before old after new = LeadsTo {T = Unit {0}} {E = ChipFault}
 -- What an opening does to the chip, which fails so or leaves these tables: what it tells, what a
 -- power cut leaves, that a faulty chip is only read, when it may fail, that what it read is bytes,
 -- that its events are lawful after any lawful ones, and done, leave clean what the tables count so;
--- how many erases it makes, done, one of the place that the status has then; and why it fails.
+-- how many erases it makes and what it retires, done, one of the place that the status has then; why
+-- it fails; and that the tables have as many units as may be kept.
 pub record Tries (places : ℕ) (old : Told) (result : Result (Unit {0}) ImageFault) (t : Tables)
     (new : Told) : Type 0 where
   pub tells : RecoversTold places old result t new
@@ -68,14 +71,17 @@ pub record Tries (places : ℕ) (old : Told) (result : Result (Unit {0}) ImageFa
   pub complete : CompletesOpening places result old
   pub bytes : ReadsBytes places old result
   pub tidy : Spends (TidyWork IsNowhere (IsCountedClean t) (is_ok result ≡ true)) old new
-  pub costs : Spends (ErasesAtMost (units_on places + 1)) old new
+  pub costs : ErasesOpening places result t.places old new
   pub renewed : OnOk result (Spends (HasErased t.status.place) old new)
-  pub accounts : Accounts OpeningCause result old new
+  pub accounts : Accounts (OpeningCause t.places) result old new
+  pub all : length t.places.in_use ≡ places
+  pub units : KeepsUnits places (length t.places.current)
 
--- a chip was opened again, or wasn't, and the store is down then
-abbrev pub Reopens : ℕ → Told → Result (Unit {0}) ImageFault → Store → Told → Type 0
-Reopens places old result store new = MatchResult result
-    (λ done. Opens places old store new) (λ e. store.down ≡ true)
+-- a chip was opened again; or it wasn't, and the store is down then and has the units that it had
+abbrev pub Reopens : ℕ → Store → Told → Result (Unit {0}) ImageFault → Store → Told → Type 0
+Reopens places before old result store new = MatchResult result
+    (λ done. Opens places old store new)
+    (λ e. (store.down ≡ true) × (store.units ≡ before.units))
 
 -- the chip's number of places can't be used, and it wasn't asked anything else; or it failed
 abbrev pub FailsToOpen : ℕ → Told → ImageFault → Told → Type 0

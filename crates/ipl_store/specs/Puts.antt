@@ -67,7 +67,7 @@ put_next s n bytes (Err fault) state = after_write state s (n, Some bytes)
 -- committed there, and by what all open sessions wrote.
 abbrev pub TellsRoom : ℕ → List ℕ → Store → Told → Result Bool StoreFault → Type 0
 TellsRoom n bytes old before found = IfOk found (λ room. OfContents before (λ x. (state : State)
-    → ShowsState (view_of old) state x → overfills state n bytes ≡ not room))
+    → ShowsState before.places (view_of old) state x → overfills state n bytes ≡ not room))
 
 -- ---- what was done
 
@@ -81,7 +81,7 @@ pub record HasBrought (u page : ℕ) (old : Store) (before : Told) (new : Store)
       new.transactions.pages after
   pub rest : new
       ≡ record old { transactions = record old.transactions { pages = new.transactions.pages } }
-  pub asks : AsksToBring u page old.transactions.pages new.transactions.pages before after
+  pub asks : AsksToBring u page false old.transactions.pages new.transactions.pages before after
   pub fresh : frames_in old.transactions.pages u page ≡ None → frame.log ≡ []
   pub same : IsFramed old.transactions.pages u page
       → frames_in new.transactions.pages ≡ frames_in old.transactions.pages

@@ -1,10 +1,10 @@
 -- What a store's frames tell of a name, and which pages are held.
-use Rattle.std.specs.Prelude.{ℕ, ◌≡◌, ◌<◌, ◌⊎◌, ◌↔◌, Option, Some, List, [], Result, Ok, Err, OnOk}
+use Rattle.std.specs.Prelude.{ℕ, ◌≡◌, ◌<◌, ◌⊎◌, ◌↔◌, Bool, Option, Some, List, [], Result, Ok, Err, OnOk}
 use Rattle.std.specs.FinMap.{get}
 use Rattle.chip_trait.specs.Story.{Contents}
 use Rattle.chip_trait.specs.Told.{Told}
 use Rattle.ipl_base.specs.declared.fault.StoreFault.{StoreFault}
-use Rattle.ipl_base.specs.Places.{home_of, places_for}
+use Rattle.ipl_base.specs.Places.{home_of}
 use Rattle.ipl_rules.specs.State.{State, see}
 use Rattle.ipl_meaning.specs.Chart.{chart_of}
 use Rattle.ipl_meaning.specs.Layout.{Layout}
@@ -20,15 +20,18 @@ use Rattle.store_steps.specs.Keeps.{View, TellsName}
 use Rattle.page_writing.specs.Spending.{ErasesAndLogs}
 use Rattle.page_frames.specs.Pages.{frames_in, IsFramed, KeepsFramedFor, HasFreeFrame}
 use Rattle.ipl_store.specs.declared.store.Store.{Store}
-use Rattle.ipl_store.specs.Calls.{view_of, KeepsHolds, Calls}
+use Rattle.ipl_store.specs.Calls.{view_of, KeepsHolds, Calls, ends_worn_out}
 
 -- ---- names
 
--- The memory fits what the chip holds, and the page of the name shows what the state has there. Of
--- other pages nothing is asked: they may not read well.
-pub record ShowsName (store : View) (state : State) (n : ℕ) (x : Contents) : Type 0 where
+-- The memory fits what the chip of so many places holds, which is laid out in as many units, and the
+-- page of the name shows what the state has there. Of other pages nothing is asked: they may not read
+-- well.
+pub record ShowsName (places : ℕ) (store : View) (state : State) (n : ℕ) (x : Contents)
+    : Type 0 where
   pub layout : Layout
-  pub fits : MemoryFits (places_for store.units) (chart_of x) layout store.memory state
+  pub count : layout.count ≡ store.units
+  pub fits : MemoryFits places (chart_of x) layout store.memory state
   pub shows : (home_of n).unit < store.units → Shows (chart_of x) layout.committed (home_of n).unit
       (layout.units (home_of n).unit) (home_of n).page
       (page_in state.map (home_of n).unit (home_of n).page)
@@ -38,19 +41,22 @@ pub record ShowsName (store : View) (state : State) (n : ℕ) (x : Contents) : T
 pub record FramesName (n : ℕ) (old : Store) (before : Told) (new : Store) : Type 0 where
   pub frame : Frame
   pub there : frames_in new.transactions.pages (home_of n).unit (home_of n).page ≡ Some frame
-  pub tells : (state : State) → OfContents before (λ x. ShowsName (view_of old) state n x
+  pub tells : (state : State) → OfContents before (λ x.
+      ShowsName before.places (view_of old) state n x
       → TellsName old.transactions.sessions state n frame)
 
 -- what a session sees of a name in each state that the store and the name's page in the chip's
 -- contents show
 abbrev pub IsSeen : ℕ → ℕ → Store → Told → Option (List ℕ) → Type 0
 IsSeen s n store told found = (state : State)
-    → OfContents told (λ x. ShowsName (view_of store) state n x → found ≡ see state s n)
+    → OfContents told (λ x. ShowsName told.places (view_of store) state n x
+    → found ≡ see state s n)
 
 -- the record of a name, likewise
 abbrev pub IsCommitted : ℕ → Store → Told → Option (List ℕ) → Type 0
 IsCommitted n store told found = (state : State)
-    → OfContents told (λ x. ShowsName (view_of store) state n x → found ≡ get state.map n)
+    → OfContents told (λ x. ShowsName told.places (view_of store) state n x
+    → found ≡ get state.map n)
 
 -- ---- pages
 
@@ -89,10 +95,27 @@ HoldsAgain (Err e) u page old new = new ≡ old
 abbrev pub IsUsedLastIn : Store → ℕ → ℕ → Type 0
 IsUsedLastIn store u page = IsUsedLast store.transactions.pages.pool u page
 
+-- ---- what is asked of the chip for a page
+
+-- nothing where it is in a frame, and only reads where a frame is free
+pub record AsksLittle (u page : ℕ) (store : Store) (before after : Told) : Type 0 where
+  pub idle : IsFramed store.transactions.pages u page → after ≡ before
+  pub free : HasFreeFrame store.transactions.pages → Spends (Costs 0 0 0 []) before after
+
+-- for that of a name
+abbrev pub AsksFor : ℕ → Store → Told → Told → Type 0
+AsksFor n store before after = AsksLittle (home_of n).unit (home_of n).page store before after
+
+-- and at most what writes the records of one page out, by the tables before and then
+abbrev pub CostsOnePage : Bool → Store → Store → Told → Told → Type 0
+CostsOnePage worn_out old new before after =
+    Spends (ErasesAndLogs old.transactions.pages.parts.directory
+    new.transactions.pages.parts.directory worn_out) before after
+
 -- ---- calls that bring a name's page into a frame
 
--- such a call; done, the frame tells the name, and its page is the one used last. Where the page is in
--- a frame or a frame is free, no page leaves its frame.
+-- Such a call; done, the frame tells the name, and its page is the one used last. Where the page is in
+-- a frame or a frame is free, no page leaves its frame. It costs at most to write one page out.
 pub record Fetches (early : Option StoreFault) (next : State → State) (n : ℕ) (old : Store)
     (before : Told) (result : Result (Unit {0}) StoreFault) (new : Store) (after : Told)
     : Type 0 where
@@ -102,25 +125,16 @@ pub record Fetches (early : Option StoreFault) (next : State → State) (n : ℕ
   pub used : OnOk result (IsUsedLastIn new (home_of n).unit (home_of n).page)
   pub stays : KeepsFramedFor (home_of n).unit (home_of n).page old.transactions.pages
       new.transactions.pages
-
--- What is asked of the chip for a page: nothing where it is in a frame, only reads where a frame is
--- free, and else what writes the records of one page out.
-pub record AsksForPage (u page : ℕ) (store : Store) (before after : Told) : Type 0 where
-  pub idle : IsFramed store.transactions.pages u page → after ≡ before
-  pub free : HasFreeFrame store.transactions.pages → Spends (Costs 0 0 0 []) before after
-  pub costs : Spends (ErasesAndLogs store.transactions.pages.parts.directory) before after
-
--- for that of a name
-abbrev pub AsksFor : ℕ → Store → Told → Told → Type 0
-AsksFor n store before after = AsksForPage (home_of n).unit (home_of n).page store before after
+  pub costs : CostsOnePage (ends_worn_out result) old new before after
 
 -- its answer, where one that lends what it found does all else
 abbrev pub answered : {U : Type 0} → Result (Unit {0}) StoreFault → U → Result U StoreFault
 answered (Ok v) found = Ok found
 answered (Err e) found = Err e
 
--- a call that lends what the frame has of the name; done, the page is in a frame and the one used
--- last, and no other page leaves one where it was there before or a frame was free
+-- A call that lends what the frame has of the name; done, the page is in a frame and the one used
+-- last, and no other page leaves one where it was there before or a frame was free. It costs at most to
+-- write one page out.
 pub record Looks {T : Type 0} (early : Option StoreFault) (next : State → State) (n : ℕ)
     (old : Store) (before : Told) (result : Result T StoreFault) (new : Store) (after : Told)
     : Type 0 where
@@ -130,3 +144,4 @@ pub record Looks {T : Type 0} (early : Option StoreFault) (next : State → Stat
   pub used : OnOk result (IsUsedLastIn new (home_of n).unit (home_of n).page)
   pub stays : KeepsFramedFor (home_of n).unit (home_of n).page old.transactions.pages
       new.transactions.pages
+  pub costs : CostsOnePage (ends_worn_out result) old new before after

@@ -51,7 +51,7 @@ impl Store {
         }
     }
 
-    /// The answer of work on the chip. Where a write failed, or no place could be taken, the store is
+    /// The answer of work on the chip. Where a write failed, or too many places are worn, the store is
     /// down from then on.
     pub(crate) fn end(&mut self, done: Result<(), ChipFault>) -> Result<(), StoreFault>
         ensures rest { self.new ≡ record self.old { down = self.new.down } }
@@ -69,7 +69,7 @@ impl Store {
     }
 }
 
-/// Whether a store is down after such a fault: a write failed, or no place could be taken.
+/// Whether a store is down after such a fault: a write failed, or too many places are worn.
 fn puts_down(fault: &ChipFault) -> bool
     ensures { result ≡ puts_down fault.now }
 {

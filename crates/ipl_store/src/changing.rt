@@ -9,7 +9,14 @@ ghost use Rattle.store_steps.specs.Keeps.{limits_of};
 ghost use Rattle.store_steps.specs.Refusals.{sessions_refuse_del};
 ghost use Rattle.page_frames.specs.Pages.{IsFramed, KeepsFramed, KeepsFramedFor};
 ghost use Rattle.transactions.specs.Costs.{AsksToWrite, CommitAsks};
-ghost use Rattle.ipl_store.specs.Calls.{IsSound, KeepsHolds, Calls, early_fault, entry_fault};
+ghost use Rattle.ipl_store.specs.Calls.{
+  IsSound,
+  KeepsHolds,
+  Calls,
+  early_fault,
+  ends_worn_out,
+  entry_fault,
+};
 ghost use Rattle.ipl_store.specs.Puts.{found_room, put_fault, put_next, PutsBy, TellsRoom};
 ghost use Rattle.ipl_store.specs.Shown.{IsUsedLastIn};
 
@@ -48,7 +55,8 @@ impl Store {
             (IsUsedLastIn self.new (home_of n).unit (home_of n).page) }
         ensures stays { KeepsFramedFor (home_of n).unit (home_of n).page
             self.old.transactions.pages self.new.transactions.pages }
-        ensures asks { AsksToWrite n (Some value.now) self.old.transactions.pages
+        ensures asks { AsksToWrite n (Some value.now) (ends_worn_out (found_room result))
+            self.old.transactions.pages self.new.transactions.pages
             (C.told chip.old) (C.told chip.new) }
     {
         self.admit(self.refuses_put(s, n, value))?;
@@ -78,8 +86,8 @@ impl Store {
         ensures used { OnOk result (IsUsedLastIn self.new (home_of n).unit (home_of n).page) }
         ensures stays { KeepsFramedFor (home_of n).unit (home_of n).page
             self.old.transactions.pages self.new.transactions.pages }
-        ensures asks { AsksToWrite n None self.old.transactions.pages (C.told chip.old)
-            (C.told chip.new) }
+        ensures asks { AsksToWrite n None (ends_worn_out result) self.old.transactions.pages
+            self.new.transactions.pages (C.told chip.old) (C.told chip.new) }
     {
         self.admit(self.refuses_del(s, n))?;
         passing_laws();
@@ -97,8 +105,8 @@ impl Store {
             self.old (C.told chip.old) result self.new (C.told chip.new) }
         ensures holds { KeepsHolds self.old self.new }
         ensures framed { KeepsFramed self.old.transactions.pages self.new.transactions.pages }
-        ensures asks { CommitAsks self.old.transactions (s ∷ []) (C.told chip.old)
-            (C.told chip.new) }
+        ensures asks { CommitAsks self.old.transactions (s ∷ []) (ends_worn_out result)
+            self.new.transactions.pages (C.told chip.old) (C.told chip.new) }
     {
         self.admit(self.refuses_end(s))?;
         passing_laws();
@@ -118,8 +126,8 @@ impl Store {
             self.old (C.told chip.old) result self.new (C.told chip.new) }
         ensures holds { KeepsHolds self.old self.new }
         ensures framed { KeepsFramed self.old.transactions.pages self.new.transactions.pages }
-        ensures asks { CommitAsks self.old.transactions sessions.now (C.told chip.old)
-            (C.told chip.new) }
+        ensures asks { CommitAsks self.old.transactions sessions.now (ends_worn_out result)
+            self.new.transactions.pages (C.told chip.old) (C.told chip.new) }
     {
         self.admit(self.refuses_batch(sessions))?;
         passing_laws();

@@ -10,13 +10,14 @@ ghost use Rattle.ipl_store.specs.Calls.{
   KeepsHolds,
   Calls,
   early_fault,
+  ends_worn_out,
   entry_fault,
   down_fault,
   is_held,
   refuses_hold,
   refuses_release,
 };
-ghost use Rattle.ipl_store.specs.Shown.{HoldsAgain, HoldsAlso, HoldsBut, IsRepooled, IsUsedLastIn, AsksForPage};
+ghost use Rattle.ipl_store.specs.Shown.{AsksLittle, CostsOnePage, HoldsAgain, HoldsAlso, HoldsBut, IsRepooled, IsUsedLastIn};
 
 use crate::Store;
 use crate::refusals::is_held;
@@ -42,7 +43,10 @@ impl Store {
         ensures again { is_held self.old.transactions.pages.pool unit page ≡ true
             → HoldsAgain result unit page self.old self.new × (C.told chip.new ≡ C.told chip.old) }
         // Nothing where the page is in a frame, and only reads where a frame is free.
-        ensures asks { AsksForPage unit page self.old (C.told chip.old) (C.told chip.new) }
+        ensures asks { AsksLittle unit page self.old (C.told chip.old) (C.told chip.new) }
+        // And at most what writes one page out.
+        ensures costs { CostsOnePage (ends_worn_out result) self.old self.new (C.told chip.old)
+            (C.told chip.new) }
     {
         self.admit(self.refuses_hold(unit, page))?;
         if is_held(&self.transactions.pages.pool, unit, page) {
@@ -90,7 +94,10 @@ impl Store {
         ensures stays { KeepsFramedFor unit page self.old.transactions.pages
             self.new.transactions.pages }
         // Nothing where the page is in a frame, and only reads where a frame is free.
-        ensures asks { AsksForPage unit page self.old (C.told chip.old) (C.told chip.new) }
+        ensures asks { AsksLittle unit page self.old (C.told chip.old) (C.told chip.new) }
+        // And at most what writes one page out.
+        ensures costs { CostsOnePage (ends_worn_out result) self.old self.new (C.told chip.old)
+            (C.told chip.new) }
     {
         let done = self.transactions.pages.bring(chip, unit, page);
         self.end(done)

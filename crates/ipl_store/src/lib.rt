@@ -12,18 +12,20 @@
 //! in a frame, exactly where the page has no room for it in each state that memory and contents
 //! show, and the state is as it was then. Else a call leads from each state for which memory and
 //! chip stand to the model's next one, or leaves it where it fails, and the store is down exactly
-//! where a write failed or no place could be taken; over a chip that tells what it holds, where
-//! memory and contents show a state, it fails only where a call of the chip failed. A get lends what the session sees, and asks
-//! the chip nothing where the page is in a frame. A begin draws one number. A commit, or a batch,
-//! which commits several sessions together, makes all their writes last and closes them; a power cut
-//! in it leaves the writes of all its sessions or of none. A batch costs one commit sector, as a
-//! commit does, and where the status place has a clean one, at most one erase and one log sector for
-//! each page in a frame that its sessions wrote, however many of them did. A get, a share, a put, a
+//! where a write failed or one place more is worn than are spare; over a chip that tells what it
+//! holds, where memory and contents show a state, it fails only where a call of the chip failed. A
+//! place that is found worn is retired, and the next free one is taken. A get lends what the session
+//! sees, and asks the chip nothing where the page is in a frame. A begin draws one number. A commit,
+//! or a batch, which commits several sessions together, makes all their writes last and closes them;
+//! a power cut in it leaves the writes of all its sessions or of none. A batch costs one commit
+//! sector, as a commit does, and where the status place has a clean one, at most one erase and one log
+//! sector for each page in a frame that its sessions wrote, however many of them did, and one erase
+//! more for each place that is retired. A get, a share, a put, a
 //! delete and a hold leave the page in a frame where they are done, as the one used last; where it
 //! was in one or a frame was free, no page leaves its frame, and one that leaves isn't held and was
 //! used longest ago; a begin, an abort, a commit, a batch, a merge and a release keep all pages in
-//! their frames. An opening gives the records for which the contents stand, with no session open,
-//! and a power cut in it leaves them.
+//! their frames. An opening gives the records for which the contents stand, with no session open and
+//! as many units as the chip says, and a power cut in it leaves them.
 #![tactic(auto)]
 
 mod admitting;

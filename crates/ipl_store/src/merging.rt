@@ -5,7 +5,7 @@ ghost use Rattle.unit_io.specs.Charts.{Charts};
 ghost use Rattle.unit_io.specs.Costs.{Spends};
 ghost use Rattle.ipl_rules.specs.Refusals.{refuses_merge};
 ghost use Rattle.selective_merge.specs.Merging.{Merges};
-ghost use Rattle.selective_merge.specs.Spending.{ErasesFor};
+ghost use Rattle.place_taking.specs.Spending.{ErasesFor};
 ghost use Rattle.store_steps.specs.Keeps.{limits_of};
 ghost use Rattle.page_frames.specs.Pages.{tables_in, KeepsFramed};
 ghost use Rattle.ipl_store.specs.Calls.{
@@ -13,6 +13,7 @@ ghost use Rattle.ipl_store.specs.Calls.{
   KeepsHolds,
   Calls,
   early_fault,
+  ends_worn_out,
   entry_fault,
 };
 
@@ -39,8 +40,9 @@ impl Store {
         ensures room { OnOk result
             (slice_index self.new.transactions.pages.parts.directory.written unit ≤ CARRIED_SECTORS) }
         ensures costs { Spends (ErasesFor self.old.transactions.pages.parts.directory
-            (slice_index self.new.transactions.pages.parts.directory.current unit) (is_ok result))
-            (C.told chip.old) (C.told chip.new) }
+            self.new.transactions.pages.parts.directory 3
+            (slice_index self.new.transactions.pages.parts.directory.current unit) (is_ok result)
+            (ends_worn_out result)) (C.told chip.old) (C.told chip.new) }
     {
         self.admit(self.refuses_merge(unit))?;
         passing_laws();

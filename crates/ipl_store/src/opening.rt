@@ -44,6 +44,7 @@ impl Store {
         ensures empty { self.new.transactions.pages.pool.buffers.slots ≡ [] }
         ensures active { self.new.transactions.pages.parts.active ≡ [] }
         ensures down { self.new.down ≡ true }
+        ensures units { self.new.units ≡ self.old.units }
         ensures frames { self.new.frames ≡ self.old.frames }
         ensures made { (places : ℕ) → IsMade places self.old → IsMade places self.new }
     {
@@ -54,12 +55,13 @@ impl Store {
     }
 
     /// Opens the chip, or what is left of it, whatever the memory has: all sessions are dropped, and
-    /// all holds. Where that fails the store is down.
+    /// all holds. The store has as many units as the chip says then. Where that fails the store is down,
+    /// and has as many as before.
     pub fn open_chip<C: Chip>(&mut self, chip: &mut C) -> Result<(), ImageFault>
         requires sound { IsSound (C.told chip.old).places self.old }
         ensures sound { IsSound (C.told chip.old).places self.new }
         ensures frames { self.new.frames ≡ self.old.frames }
-        ensures opens { Reopens (C.told chip.old).places (C.told chip.old) result self.new
+        ensures opens { Reopens (C.told chip.old).places self.old (C.told chip.old) result self.new
             (C.told chip.new) }
         ensures tries { Tries (C.told chip.old).places (C.told chip.old) result
             (tables_in self.new.transactions.pages) (C.told chip.new) }
@@ -68,12 +70,11 @@ impl Store {
             (memory_of_store self.new) (C.told chip.new)) }
     {
         self.forget();
-        recover(
-            chip,
-            &mut self.scratch,
-            &mut self.transactions.pages.parts,
-            &mut self.kept,
-        )?;
+        let parts = &mut self.transactions.pages.parts;
+        let recovered = recover(chip, &mut self.scratch, parts, &mut self.kept);
+        parts.directory.facts();
+        recovered?;
+        self.units = self.transactions.pages.parts.directory.units();
         self.down = false;
         Ok(())
     }
@@ -99,12 +100,12 @@ impl Store {
     }
 
     /// Opens the chip again, or what is left of it: all sessions are dropped, and all holds. Where
-    /// that fails the store is down.
+    /// that fails the store is down, and has as many units as before.
     pub fn reopen<C: Chip>(mut self, chip: &mut C) -> (Store, Result<(), ImageFault>)
         requires sound { IsSound (C.told chip.old).places self }
         ensures sound { IsSound (C.told chip.old).places result.0 }
         ensures frames { result.0.frames ≡ self.frames }
-        ensures opens { Reopens (C.told chip.old).places (C.told chip.old) result.1 result.0
+        ensures opens { Reopens (C.told chip.old).places self (C.told chip.old) result.1 result.0
             (C.told chip.new) }
         ensures tries { Tries (C.told chip.old).places (C.told chip.old) result.1
             (tables_in result.0.transactions.pages) (C.told chip.new) }

@@ -14,17 +14,19 @@ pub struct Store {
     pub(crate) kept: KeptNumbers,
     // What an opening notes of each place.
     pub(crate) scratch: Scratch,
+    // As the last opening that succeeded found it.
     pub(crate) units: u32,
     // So many pages may be in frames.
     pub(crate) frames: u32,
-    // A write failed, no place could be taken, or the chip wasn't opened again: nothing is done until
+    // A write failed, too many places are worn, or the chip wasn't opened again: nothing is done until
     // it is.
     pub(crate) down: bool,
 }
 
 impl Store {
-    /// The units of its chip.
-    pub fn units(&self) -> u32
+    /// How many units its chip has, as the last opening that succeeded found it. It answers also where
+    /// the store is down.
+    pub fn unit_count(&self) -> u32
         ensures { result ≡ self.now.units }
     {
         self.units

@@ -1,13 +1,12 @@
--- As many places as are in use are named, so one is free.
-use Rattle.std.proofs.Common.{◌≡◌, ◌<◌, ◌≤◌, ◌+◌, ◌==◌, ℕ, zero, suc, Bool, true, false, cond, not, List, [], ◌∷◌, ◌++◌, length, get_or, inl, inr, refl, sym, ◌∙◌, ap, subst, arith, length-append}
+-- As many places as are in use are named or retired, so that one may be taken.
+use Rattle.std.proofs.Common.{◌≡◌, ◌⊎◌, ◌<◌, ◌≤◌, ◌+◌, ◌==◌, ℕ, zero, suc, Bool, true, false, cond, not, List, [], ◌∷◌, ◌++◌, length, get_or, inl, inr, refl, sym, ◌∙◌, ap, subst, arith, length-append}
 use Rattle.std.specs.List.{Contains, count_by, filter}
 use Rattle.std.proofs.lemmas.Bool.{cases_Bool, eq-eqb, ne_eqb}
 use Rattle.std.proofs.lemmas.List.{length-map}
 use Rattle.std.proofs.lemmas.List.Elements.{Contains-append_left, Contains-append_right}
 use Rattle.std.proofs.lemmas.List.Sums.{length-filter, count_by-le-length, sum_by-cons}
 use Rattle.ipl_meaning.specs.Tables.{Tables, overflow_places, place_of}
-use Rattle.merge_rules.specs.Known.{IsNamed}
-use Rattle.merge_rules.specs.KnownLaws.{KnownPlacesLeaveOne}
+use Rattle.merge_rules.specs.KnownLaws.{KnownPlacesAreReady}
 
 passes_here : {X : Type 0} (p : X → Bool) (xs : List X) (x : X) → Contains xs x → p x ≡ true
     → Contains (filter p xs) x
@@ -66,31 +65,46 @@ used_are_few (true ∷ in_use) xs k each =
       sum_by-cons (λ b. count_if (not b)) true in_use,
     )
 
-abbrev named_places : Tables → List ℕ
-named_places t = t.places.current ++ t.status.place ∷ overflow_places t
+abbrev known_places : Tables → List ℕ
+known_places t =
+    t.places.current ++ t.status.place ∷ (overflow_places t ++ t.places.retired)
 
-named_is_there : (t : Tables) (p : ℕ) → IsNamed t p → Contains (named_places t) p
-named_is_there t p (inl home) =
-    Contains-append_left t.places.current (t.status.place ∷ overflow_places t) p home
-named_is_there t p (inr (inl is)) =
-    Contains-append_right t.places.current (t.status.place ∷ overflow_places t) p
-    (0, omega arith, sym is)
-named_is_there t p (inr (inr (i, within, is))) =
-    Contains-append_right t.places.current (t.status.place ∷ overflow_places t) p
-    (suc i, omega (arith, within), is)
+known_is_there : (t : Tables) (p : ℕ)
+    → Contains t.places.current p ⊎ (p ≡ t.status.place) ⊎ Contains (overflow_places t) p
+    ⊎ Contains t.places.retired p → Contains (known_places t) p
+known_is_there t p (inl home) =
+    Contains-append_left t.places.current
+    (t.status.place ∷ (overflow_places t ++ t.places.retired)) p home
+known_is_there t p (inr (inl is)) =
+    Contains-append_right t.places.current
+    (t.status.place ∷ (overflow_places t ++ t.places.retired)) p (0, omega arith, sym is)
+known_is_there t p (inr (inr (inl over))) =
+    let (i, within, is) =
+    Contains-append_left (overflow_places t) t.places.retired p over in
+    Contains-append_right t.places.current
+    (t.status.place ∷ (overflow_places t ++ t.places.retired)) p (suc i, omega (arith, within), is)
+known_is_there t p (inr (inr (inr retired))) =
+    let (i, within, is) =
+    Contains-append_right (overflow_places t) t.places.retired p retired in
+    Contains-append_right t.places.current
+    (t.status.place ∷ (overflow_places t ++ t.places.retired)) p (suc i, omega (arith, within), is)
 
-pub known_places_leave_one : KnownPlacesLeaveOne
-known_places_leave_one places t known =
-    let few = used_are_few t.places.in_use (named_places t) 0 (λ i low is.
-    subst (Contains (named_places t)) (omega arith)
-    (named_is_there t i (known.none_lost i (omega (arith, low, known.suits.all))
-    (λ free. let e : true ≡ false = sym is ∙ free in cc)))) in
-    omega (
-      arith,
-      few,
-      known.suits.all,
-      known.suits.units,
-      known.two,
-      length-map t.overflow.in_use place_of,
-      length-append t.places.current (t.status.place ∷ overflow_places t),
-    )
+pub known_places_are_ready : KnownPlacesAreReady
+known_places_are_ready places t known = record {
+  enough =
+      let few = used_are_few t.places.in_use (known_places t) 0 (λ i low is.
+      subst (Contains (known_places t)) (omega arith)
+      (known_is_there t i (known.none_lost i (omega (arith, low, known.suits.all))
+      (λ free. let e : true ≡ false = sym is ∙ free in cc)))) in
+      omega (
+        arith,
+        few,
+        known.suits.all,
+        known.suits.units.1,
+        known.two,
+        length-map t.overflow.in_use place_of,
+        length-append t.places.current (t.status.place ∷ (overflow_places t ++ t.places.retired)),
+        length-append (overflow_places t) t.places.retired,
+      );
+  apart = λ p has. (known.retired_apart p has).1;
+}

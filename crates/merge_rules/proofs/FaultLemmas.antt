@@ -20,11 +20,12 @@ use Rattle.ipl_meaning.specs.Last.{carried_count}
 use Rattle.ipl_meaning.specs.Layout.{Shape, Layout}
 use Rattle.ipl_meaning.specs.Mirrors.{MirrorsStatus}
 use Rattle.ipl_meaning.specs.Stands.{Shows, page_in}
-use Rattle.ipl_meaning.specs.Tables.{Tables}
+use Rattle.ipl_meaning.specs.Tables.{Places, Tables}
 use Rattle.ipl_meaning.specs.Values.{Values, after_records}
 use Rattle.ipl_meaning.proofs.RoomLemmas.{same_sizes}
 use Rattle.unit_io.specs.Faults.{page_fault, text_below, TellsChipFault, HoldsPage}
-use Rattle.unit_io.specs.Leads.{IsStopped, IsNotTaken}
+use Rattle.unit_io.specs.Leads.{IsStopped}
+use Rattle.place_taking.specs.Takes.{IsNotTaken}
 use Rattle.unit_io.proofs.HeldLemmas.{sound_pages_are_held, held_pages_read_well, spells_text}
 use Rattle.unit_io.proofs.SparesLemmas.{pages_alike, texts_alike}
 use Rattle.page_ops.specs.Rebuilt.{values_of, with_records, full_fault}
@@ -46,7 +47,7 @@ module _ (x y : Contents) (from : Source) (same : (s : ℕ) → y from.place s �
       (with_records from.committed page from.records (values_of from.version text)))
       (texts_alike x y from.place same page (slice_index from.pieces page)))
 
-  all_alike : pages_fault y from ≡ pages_fault x from
+  pub all_alike : pages_fault y from ≡ pages_fault x from
   all_alike = first_alike (page_fault_from y from) (page_fault_from x from) 15
       (λ page low. page_alike page)
 
@@ -141,10 +142,10 @@ pub fault_unread : (fault : Option ChipFault) (e : ChipFault) → e ≡ ReadFaul
 fault_unread fault e is = fault_failed fault e (subst IsFailedCall (sym is) tt)
 
 -- a place couldn't be taken
-pub fault_not_taken : (fault : Option ChipFault) (e : ChipFault) (old new : Told)
-    → IsNotTaken e old new → IsTheFault fault e
-fault_not_taken fault e old new (inl stopped) = fault_stopped fault e stopped.0
-fault_not_taken fault e old new (inr worn) =
+pub fault_not_taken : (fault : Option ChipFault) (after : Places) (e : ChipFault) (old new : Told)
+    → IsNotTaken after e old new → IsTheFault fault e
+fault_not_taken fault after e old new (inl stopped) = fault_stopped fault e stopped.0
+fault_not_taken fault after e old new (inr worn) =
     fault_failed fault e (subst IsFailedCall (sym worn.0) tt)
 
 -- a call that only writes, where nothing was wrong

@@ -45,15 +45,28 @@ module _ (places : ℕ) (t : Tables) (p next : ℕ) (known : KnowsPlaces places 
     | inr same ↦ inr same
   ]
 
-  named_still : (q : ℕ) → IsNamed t q → IsNamed grown q
-  named_still q (inl home) = inl home
-  named_still q (inr (inl status)) = inr (inl status)
-  named_still q (inr (inr over)) = inr (inr (subst (λ (l : List ℕ). Contains l q) (sym places_are)
-      (Contains-append_left (overflow_places t) (p ∷ []) q over)))
-
   named_new : IsNamed grown p
   named_new = inr (inr (subst (λ (l : List ℕ). Contains l p) (sym places_are)
       (Contains-append_right (overflow_places t) (p ∷ []) p (0, omega arith, refl))))
+
+  named_known : (q : ℕ) → IsNamed grown q
+      → Contains t.places.current q ⊎ (q ≡ t.status.place) ⊎ Contains (overflow_places grown) q
+      ⊎ Contains t.places.retired q
+  named_known q (inl home) = inl home
+  named_known q (inr (inl status)) = inr (inl status)
+  named_known q (inr (inr over)) = inr (inr (inl over))
+
+  known_still : (q : ℕ)
+      → Contains t.places.current q ⊎ (q ≡ t.status.place) ⊎ Contains (overflow_places t) q
+      ⊎ Contains t.places.retired q
+      → Contains t.places.current q ⊎ (q ≡ t.status.place) ⊎ Contains (overflow_places grown) q
+      ⊎ Contains t.places.retired q
+  known_still q (inl home) = inl home
+  known_still q (inr (inl status)) = inr (inl status)
+  known_still q (inr (inr (inl over))) =
+      inr (inr (inl (subst (λ (l : List ℕ). Contains l q) (sym places_are)
+      (Contains-append_left (overflow_places t) (p ∷ []) q over))))
+  known_still q (inr (inr (inr retired))) = inr (inr (inr retired))
 
   not_overflow : ¬ IsNamed t p
   not_overflow named = known.used p named free
@@ -64,16 +77,24 @@ module _ (places : ℕ) (t : Tables) (p next : ℕ) (known : KnowsPlaces places 
       all = length-set t.places.in_use p true ∙ known.suits.all;
       units = known.suits.units;
       overflow = known.suits.overflow;
+      sized = known.suits.sized;
     };
     none_lost = λ q less in_use. elim (cases_eq q p) [
-      | inl same ↦ subst (IsNamed grown) (sym same) named_new
-      | inr other ↦ named_still q (known.none_lost q less (λ was.
+      | inl same ↦ named_known q (subst (IsNamed grown) (sym same) named_new)
+      | inr other ↦ known_still q (known.none_lost q less (λ was.
           in_use (get_or-set_other t.places.in_use p q true true other ∙ was)))
     ];
     used = λ q named is. elim (named_before q named) [
       | inl before ↦ known.used q before (free_before t p q is).1
       | inr same ↦ (free_before t p q is).0 same
     ];
+    retired_apart = λ q has. let was = known.retired_apart q has in (
+      λ named. elim (named_before q named) [
+        | inl before ↦ was.0 before
+        | inr same ↦ was.1 (subst (IsFree t.places) (sym same) free)
+      ],
+      λ is. was.1 (free_before t p q is).1,
+    );
     homes_apart = known.homes_apart;
     overflows_apart = subst (AllPairs AreApart) (sym places_are)
         (all_pairs_push AreApart (overflow_places t) p known.overflows_apart

@@ -9,6 +9,10 @@ use Rattle.ipl_meaning.specs.Mirrors.{AreApart}
 use Rattle.ipl_meaning.specs.Tables.{IsFree, Tables, place_of, first_log, IsCountedClean}
 use Rattle.ipl_meaning.specs.TableSteps.{IsMoved, IsRenewed, CountedShrink, after_home_log, after_overflow_log, after_commit, taken, with_next, with_next_spot, with_overflow}
 use Rattle.ipl_meaning.proofs.MirrorLemmas.{map_contains}
+use Rattle.unit_directory.specs.Free.{AreNext, aside}
+use Rattle.unit_directory.proofs.AsideLemmas.{next_places_are_aside}
+use Rattle.place_taking.specs.Takes.{with_places}
+use Rattle.place_taking.proofs.JoinLemmas.{counted_alike}
 use Rattle.merge_rules.specs.Known.{IsNamed, KnowsPlaces}
 
 -- ---- lists
@@ -89,10 +93,12 @@ module _ (places : ℕ) (t : Tables) (known : KnowsPlaces places t) where
   counted_named q n (small, inr (inr (is, above))) = inr (inl is)
 
   -- and so not at one that is free
+  pub counted_in_use : (q n : ℕ) → IsCountedClean t q n → ¬ IsFree t.places q
+  counted_in_use q n counted = known.used q (counted_named q n counted)
+
   pub free_apart : (p q n : ℕ) → IsFree t.places p → IsCountedClean t q n → q ≢ p
   free_apart p q n free counted same =
-      known.used q (counted_named q n counted)
-      (subst (λ (k : ℕ). IsFree t.places k) (sym same) free)
+      counted_in_use q n counted (subst (λ (k : ℕ). IsFree t.places k) (sym same) free)
 
   -- ---- a sector that was written
 
@@ -172,19 +178,20 @@ module _ (places : ℕ) (t : Tables) (known : KnowsPlaces places t) where
 
   -- ---- a place that was free, erased and written
 
-  -- what is counted so still, and stands elsewhere; or stands there from this sector on
+  -- what is counted so still, and stands at a place in use; or stands there from this sector on
   abbrev pub StaysOrIsFrom : ℕ → ℕ → ℕ → ℕ → Type 0
-  StaysOrIsFrom p from q n = (IsCountedClean t q n × (q ≢ p)) ⊎ ((q ≡ p) × (from ≤ n))
+  StaysOrIsFrom p from q n =
+      (IsCountedClean t q n × (¬ IsFree t.places q)) ⊎ ((q ≡ p) × (from ≤ n))
 
-  stays : (p from q n : ℕ) → IsFree t.places p → IsCountedClean t q n → StaysOrIsFrom p from q n
-  stays p from q n free counted = inl (counted, free_apart p q n free counted)
+  stays : (p from q n : ℕ) → IsCountedClean t q n → StaysOrIsFrom p from q n
+  stays p from q n counted = inl (counted, counted_in_use q n counted)
 
   -- a unit's new place
   pub merged_clean : (after : Tables) (u p used next : ℕ) → u < length t.places.current
-      → length t.places.written ≡ length t.places.current → IsFree t.places p
+      → length t.places.written ≡ length t.places.current
       → IsMoved (with_next (taken t p) next) after u p used → (q n : ℕ) → IsCountedClean after q n
       → StaysOrIsFrom p (FIRST_LOG_SECTOR + used) q n
-  merged_clean after u p used next low logs free moved q n (small, inl (v, less, is, first)) =
+  merged_clean after u p used next low logs moved q n (small, inl (v, less, is, first)) =
       let there : v < length t.places.current = omega (
         arith,
         less,
@@ -210,10 +217,10 @@ module _ (places : ℕ) (t : Tables) (known : KnowsPlaces places t) where
             let home : q ≡ slice_index t.places.current v =
             is ∙ ap (λ (l : List ℕ). slice_index l v) moved.current
             ∙ get_or-set_other t.places.current u v p 0 apart in
-            stays p _ q n free (small, inl (v, there, home, omega (arith, first, count)))
+            stays p _ q n (small, inl (v, there, home, omega (arith, first, count)))
       ]
-  merged_clean after u p used next low logs free moved q n (small, inr (inl (first, is, above))) =
-      stays p _ q n free (
+  merged_clean after u p used next low logs moved q n (small, inr (inl (first, is, above))) =
+      stays p _ q n (
         small,
         inr (inl (
           first,
@@ -222,39 +229,60 @@ module _ (places : ℕ) (t : Tables) (known : KnowsPlaces places t) where
           above,
         )),
       )
-  merged_clean after u p used next low logs free moved q n (small, inr (inr (is, above))) =
-      stays p _ q n free (small, inr (inr (rw moved.status at is, rw moved.status at above)))
+  merged_clean after u p used next low logs moved q n (small, inr (inr (is, above))) =
+      stays p _ q n (small, inr (inr (rw moved.status at is, rw moved.status at above)))
 
   -- a new overflow place
-  pub opened_clean : (p next : ℕ) → IsFree t.places p → (q n : ℕ)
+  pub opened_clean : (p next : ℕ) → (q n : ℕ)
       → IsCountedClean (with_overflow (taken t p) p next) q n → StaysOrIsFrom p 1 q n
-  opened_clean p next free q n (small, inl (v, less, is, above)) =
-      stays p 1 q n free (small, inl (v, less, is, above))
-  opened_clean p next free q n (small, inr (inl (first, is, above))) =
+  opened_clean p next q n (small, inl (v, less, is, above)) =
+      stays p 1 q n (small, inl (v, less, is, above))
+  opened_clean p next q n (small, inr (inl (first, is, above))) =
       elim (Contains-append_cases t.overflow.in_use ((p, 1) ∷ []) (q, first) is) [
-        | inl old ↦ stays p 1 q n free (small, inr (inl (first, old, above)))
+        | inl old ↦ stays p 1 q n (small, inr (inl (first, old, above)))
         | inr (zero, _, new) ↦
             let place : p ≡ q = ap (λ (z : ℕ × ℕ). z.0) new in
             let number : 1 ≡ first = ap (λ (z : ℕ × ℕ). z.1) new in
             inr (sym place, omega (arith, number, above))
         | inr (suc k, within, new) ↦ absurd (omega (arith, within))
       ]
-  opened_clean p next free q n (small, inr (inr (is, above))) =
-      stays p 1 q n free (small, inr (inr (is, above)))
+  opened_clean p next q n (small, inr (inr (is, above))) =
+      stays p 1 q n (small, inr (inr (is, above)))
 
   -- the status place
-  pub renewed_clean : (after : Tables) (p own from next : ℕ) → IsFree t.places p
+  pub renewed_clean : (after : Tables) (p own from next : ℕ)
       → IsRenewed (with_next (taken t p) next) after p own from → (q n : ℕ)
       → IsCountedClean after q n → StaysOrIsFrom p from q n
-  renewed_clean after p own from next free renewed q n (small, inl (v, less, is, above)) =
+  renewed_clean after p own from next renewed q n (small, inl (v, less, is, above)) =
       let there : v < length t.places.current =
       omega (arith, less, ap (λ (l : List ℕ). length l) renewed.current) in
       let home : q ≡ slice_index t.places.current v = rw renewed.current at is in
       let first : first_log t v ≤ n = rw renewed.written at above in
-      stays p from q n free (small, inl (v, there, home, first))
-  renewed_clean after p own from next free renewed q n (small, inr (inl (first, is, above))) =
+      stays p from q n (small, inl (v, there, home, first))
+  renewed_clean after p own from next renewed q n (small, inr (inl (first, is, above))) =
       let listed : Contains t.overflow.in_use (q, first) = rw renewed.overflow at is in
-      stays p from q n free (small, inr (inl (first, listed, above)))
-  renewed_clean after p own from next free renewed q n (small, inr (inr (is, above))) =
+      stays p from q n (small, inr (inl (first, listed, above)))
+  renewed_clean after p own from next renewed q n (small, inr (inr (is, above))) =
       let first : from ≤ n = rw renewed.first at above in
       inr (is ∙ renewed.place, first)
+
+-- ---- places that were set aside before
+
+module _ (places : ℕ) (t : Tables) (known : KnowsPlaces places t) (worn : List ℕ)
+    (in_turn : AreNext t.places worn) where
+  -- the tables without them count the same
+  pub counted_before : (q n : ℕ) → IsCountedClean (with_places t (aside t.places worn)) q n
+      → IsCountedClean t q n
+  counted_before =
+      let facts = next_places_are_aside t.places worn in_turn in
+      counted_alike t (aside t.places worn) facts.current facts.written
+
+  -- and what stays so stands at a place that was in use before
+  pub stays_before : (p from q n : ℕ)
+      → (IsCountedClean (with_places t (aside t.places worn)) q n
+      × (¬ IsFree (aside t.places worn) q)) ⊎ ((q ≡ p) × (from ≤ n))
+      → StaysOrIsFrom places t known p from q n
+  stays_before p from q n (inl was) =
+      let counted = counted_before q n was.0 in
+      inl (counted, counted_in_use places t known q n counted)
+  stays_before p from q n (inr here) = inr here

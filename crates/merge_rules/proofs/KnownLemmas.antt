@@ -7,9 +7,11 @@ use Rattle.std.proofs.lemmas.List.Elements.{Contains-get_or}
 use Rattle.ipl_base.specs.Places.{KeepsUnits}
 use Rattle.ipl_meaning.specs.Mirrors.{AreApart, NoneIsLost}
 use Rattle.ipl_meaning.specs.Tables.{IsFree, Status, Tables, overflow_places, place_of}
-use Rattle.ipl_meaning.specs.TableSteps.{IsMoved, taken, with_next}
+use Rattle.ipl_meaning.specs.TableSteps.{IsMoved, taken, with_next, without_worn}
+use Rattle.unit_directory.proofs.AsideLemmas.{free_but, free_still}
+use Rattle.unit_directory.proofs.RetiredLemmas.{inserted_from, inserted_has, inserted_keeps}
 use Rattle.merge_rules.specs.Known.{IsNamed, KnowsPlaces}
-use Rattle.merge_rules.specs.KnownLaws.{KnownPlacesMove}
+use Rattle.merge_rules.specs.KnownLaws.{KnownPlacesMayBeAside, KnownPlacesMove}
 
 -- ---- a place that was taken
 
@@ -29,6 +31,60 @@ free_before t p q free =
     let apart : q ≢ p = λ same.
     taken_is_used t p (subst (λ (k : ℕ). IsFree (taken t p).places k) same free) in
     (apart, sym (get_or-set_other t.places.in_use p q true true apart) ∙ free)
+
+-- ---- a place that was found worn
+
+module _ (places : ℕ) (t : Tables) (p : ℕ) (known : KnowsPlaces places t)
+    (free : IsFree t.places p) where
+  abbrev aside_then : Tables
+  aside_then = without_worn t p
+
+  not_lost : NoneIsLost places aside_then
+  not_lost q less used = elim (cases_eq q p) [
+    | inl same ↦ inr (inr (inr (subst (Contains aside_then.places.retired) (sym same)
+        (inserted_has p t.places.retired))))
+    | inr other ↦ elim (known.none_lost q less
+        (λ was. used (free_still t.places p q other was))) [
+          | inl home ↦ inl home
+          | inr (inl status) ↦ inr (inl status)
+          | inr (inr (inl over)) ↦ inr (inr (inl over))
+          | inr (inr (inr retired)) ↦
+              inr (inr (inr (inserted_keeps p t.places.retired q retired)))
+        ]
+  ]
+
+  -- the tables know each place with it retired
+  knows_aside : KnowsPlaces places aside_then
+  knows_aside = record {
+    suits = record {
+      all = length-set t.places.in_use p true ∙ known.suits.all;
+      units = known.suits.units;
+      overflow = known.suits.overflow;
+      sized = known.suits.sized;
+    };
+    none_lost = not_lost;
+    used = λ q named is. known.used q named (free_but t.places p q is).1;
+    retired_apart = λ q has. elim (inserted_from p t.places.retired q has) [
+      | inl this ↦ (
+        λ named. known.used p (subst (IsNamed t) (sym this) named) free,
+        λ is. (free_but t.places p q is).0 (sym this),
+      )
+      | inr before ↦ let was = known.retired_apart q before in
+          (was.0, λ is. was.1 (free_but t.places p q is).1)
+    ];
+    homes_apart = known.homes_apart;
+    overflows_apart = known.overflows_apart;
+    no_home = known.no_home;
+    status_apart = known.status_apart;
+    two = known.two;
+    status_placed = known.status_placed;
+  }
+
+pub known_places_may_be_aside : KnownPlacesMayBeAside
+known_places_may_be_aside places t [] known next = known
+known_places_may_be_aside places t (p ∷ worn) known next =
+    known_places_may_be_aside places (without_worn t p) worn
+    (knows_aside places t p known next.0.free) next.1
 
 -- ---- a unit moves
 
@@ -155,6 +211,28 @@ module _ (places : ℕ) (t after : Tables) (u p used next : ℕ) (known : KnowsP
     | inr (inr (was, gone)) ↦ gone_then q was gone named
   ]
 
+  retired_then : (q : ℕ) → Contains after.places.retired q
+      → (¬ IsNamed after q) × (¬ IsFree after.places q)
+  retired_then q has =
+      let (not_named, not_free) = known.retired_apart q
+      (subst (λ (l : List ℕ). Contains l q) moved.retired has) in (
+        λ named. by_name named not_named not_free,
+        λ is. elim (moved.free q is) [
+          | inl was ↦ not_free (free_before t p q was).1
+          | inr (inl at) ↦ not_named (inl (subst (Contains t.places.current) (sym at) is_home))
+          | inr (inr (was, gone)) ↦ not_named (inr (inr was))
+        ],
+      )
+    where
+      by_name : IsNamed after q → ¬ IsNamed t q → ¬ IsFree t.places q → ⊥
+      by_name (inl home) not_named not_free = elim (home_then q home) [
+        | inl same ↦ not_free (subst (IsFree t.places) (sym same) free)
+        | inr (i, within, other, is) ↦ not_named (inl (i, within, is))
+      ]
+      by_name (inr (inl is)) not_named not_free = not_named (inr (inl (is ∙ status_then)))
+      by_name (inr (inr over)) not_named not_free =
+          not_named (inr (inr (overflow_then q over)))
+
   home_apart : (q : ℕ) → Contains (overflow_places after) q → ¬ Contains after.places.current q
   home_apart q over has = elim (home_then q has) [
     | inl same ↦
@@ -179,9 +257,11 @@ module _ (places : ℕ) (t after : Tables) (u p used next : ℕ) (known : KnowsP
       units = subst (KeepsUnits places) (sym as_many) known.suits.units;
       overflow = ap (λ (l : List (List (ℕ × ℕ))). length l) moved.spots
           ∙ (length-set t.overflow.spots u [] ∙ (known.suits.overflow ∙ sym as_many));
+      sized = moved.sized ∙ known.suits.sized;
     };
     none_lost = lost;
     used = used_then;
+    retired_apart = retired_then;
     homes_apart = subst (AllPairs AreApart) (sym moved.current)
         (apart_set t.places.current u p low (λ has. not_named (inl has)) known.homes_apart);
     overflows_apart = moved.apart;

@@ -1,16 +1,21 @@
 -- Laws of the places that the tables know.
-use Rattle.std.specs.Prelude.{ℕ, ◌<◌, length}
+use Rattle.std.specs.Prelude.{ℕ, ◌<◌, List, length}
 use Rattle.ipl_base.specs.declared.limits.TheConstants.{OVERFLOW_PLACES}
 use Rattle.ipl_meaning.specs.Mirrors.{NoneIsLost}
 use Rattle.ipl_meaning.specs.Tables.{IsFree, Tables}
 use Rattle.ipl_meaning.specs.TableSteps.{IsMoved, taken, with_next, with_overflow}
-use Rattle.unit_directory.specs.Free.{free_count}
+use Rattle.unit_directory.specs.Free.{AreNext, IsReadyToTake, aside}
+use Rattle.place_taking.specs.Takes.{with_places}
 use Rattle.merge_rules.specs.Known.{KnowsPlaces}
 
--- a place is free
-abbrev pub KnownPlacesLeaveOne : Type 0
-KnownPlacesLeaveOne = (places : ℕ) (t : Tables) → KnowsPlaces places t
-    → 0 < free_count t.places.in_use
+-- a place may be taken, however many are worn
+abbrev pub KnownPlacesAreReady : Type 0
+KnownPlacesAreReady = (places : ℕ) (t : Tables) → KnowsPlaces places t → IsReadyToTake t.places
+
+-- places that are found worn, each the next free one in its turn, may be set aside
+abbrev pub KnownPlacesMayBeAside : Type 0
+KnownPlacesMayBeAside = (places : ℕ) (t : Tables) (worn : List ℕ) → KnowsPlaces places t
+    → AreNext t.places worn → KnowsPlaces places (with_places t (aside t.places worn))
 
 -- a unit may move to a place that was free, where no place is lost by it
 abbrev pub KnownPlacesMove : Type 0

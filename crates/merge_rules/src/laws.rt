@@ -1,7 +1,7 @@
 //! The laws of merges, proved: a body that does nothing, and a contract that is the law.
 ghost use Rattle.merge_rules.specs.Laws.{FilledPlacesAreReady, StandsAfterFilling, TablesFollowFilling, MergesKeepTheLast, PacksAreTold};
 ghost use Rattle.merge_rules.specs.FaultLaws.{MergeableUnitsHaveNoFault, FaultsAreOfThePlace, SaidUnitsAreMergeable, MergeFaultsAreOfTheUnit};
-ghost use Rattle.merge_rules.specs.KnownLaws.{KnownPlacesLeaveOne, KnownPlacesMove, KnownPlacesTakeOverflows};
+ghost use Rattle.merge_rules.specs.KnownLaws.{KnownPlacesAreReady, KnownPlacesMayBeAside, KnownPlacesMove, KnownPlacesTakeOverflows};
 
 /// A place that was filled by a merge is ready for its header; with it the chip stands for the same
 /// map and the tables mirror it. Of each name the last record of an active number is in its log.
@@ -13,10 +13,11 @@ pub fn merge_laws()
     ensures told { PacksAreTold }
 {}
 
-/// Tables that know each place have a free one, and know each place once a unit has moved or there
-/// is a new overflow place.
+/// Where tables know each place, one may be taken, however many are worn; and they know each place once
+/// some are set aside, a unit has moved or there is a new overflow place.
 pub fn known_laws()
-    ensures free { KnownPlacesLeaveOne }
+    ensures ready { KnownPlacesAreReady }
+    ensures aside { KnownPlacesMayBeAside }
     ensures moves { KnownPlacesMove }
     ensures overflows { KnownPlacesTakeOverflows }
 {}

@@ -5,7 +5,8 @@
 //!
 //! Proved, by `merge_laws`, `known_laws`, `fault_laws`: a place that was filled for a merge stands
 //! for the same map with its header, and the tables follow; of each name the last record of an
-//! active number stays; tables that know each place have a free one, and go on knowing them;
+//! active number stays; where tables know each place one may be taken, however many
+//! are worn, and they go on knowing them;
 //! nothing is wrong with a unit whose pages show values, for which a page has room, and of which few
 //! log sectors would be carried.
 #![tactic(auto)]

@@ -6,7 +6,6 @@ use Rattle.std.proofs.lemmas.List.{length-map}
 use Rattle.std.proofs.lemmas.List.Elements.{All-contains}
 use Rattle.std.proofs.lemmas.Bool.{eq-eqb, and_parts, and_from}
 use Rattle.std.proofs.lemmas.Option.{same_Some}
-use Rattle.ipl_base.specs.Places.{units_on}
 use Rattle.ipl_format.specs.Sector.{Sector}
 use Rattle.ipl_meaning.specs.Chart.{Chart, IsLive, IsOverflow}
 use Rattle.ipl_meaning.specs.Layout.{Layout, Laid, IsListed, IsLiveIn}
@@ -14,7 +13,7 @@ use Rattle.ipl_meaning.specs.Found.{IsAbove}
 use Rattle.ipl_meaning.specs.Tables.{Tables, IsFree, spots_of, overflow_places, IsCountedClean}
 use Rattle.ipl_meaning.specs.Mirrors.{MirrorsMasks, Mirrors, AreApart}
 use Rattle.opening_rules.specs.First.{passes, count_below}
-use Rattle.opening_rules.specs.Chosen.{KeptHeader, Winner, header_at, current_at, status_at, head_of}
+use Rattle.opening_rules.specs.Chosen.{KeptHeader, Winner, header_at, current_at, status_at, units_at, head_of}
 use Rattle.opening_rules.specs.Live.{is_overflow_place, Mark, mark_of, mark_at, marks_in}
 use Rattle.opening_rules.specs.Faults.{is_in, holds_live}
 use Rattle.opening_rules.specs.LaidOut.{layout_in, committed_numbers}
@@ -56,7 +55,7 @@ module _ (places : ℕ) (c : Chart) (t : Tables) (it : AreOpened places c t) (la
   abbrev own : ℕ → Winner
   own u = record { place = (lay.units u).home; head = head_of places (lay.units u).head }
 
-  own_is : (u : ℕ) → u < units_on places → current u ≡ Some (own u)
+  own_is : (u : ℕ) → u < units_at c places → current u ≡ Some (own u)
   own_is u low =
       chosen_are_current c places u (lay.units u).home (lay.units u).head low (laid.each u low).chosen
 
@@ -65,13 +64,13 @@ module _ (places : ℕ) (c : Chart) (t : Tables) (it : AreOpened places c t) (la
   free_within : (p : ℕ) → IsFree t.places p → p < places
   free_within p free = omega (arith, free_low t.places.in_use p free, it.directory.all)
 
-  not_home : (p : ℕ) → IsFree t.places p → (u : ℕ) → u < units_on places → (lay.units u).home ≢ p
+  not_home : (p : ℕ) → IsFree t.places p → (u : ℕ) → u < units_at c places → (lay.units u).home ≢ p
   not_home p free u low =
-      ((it.directory.free p (free_within p free)).0 free).not_home u (own u) low (own_is u low)
+      ((it.directory.free p (free_within p free)).0 free).0.not_home u (own u) low (own_is u low)
 
   not_status : (p : ℕ) → IsFree t.places p → lay.status ≢ p
   not_status p free =
-      ((it.directory.free p (free_within p free)).0 free).not_status
+      ((it.directory.free p (free_within p free)).0 free).0.not_status
       (record { place = lay.status; head = head_of places lay.head })
       (chosen_are_status c places lay.status lay.head laid.chosen)
 
@@ -82,7 +81,7 @@ module _ (places : ℕ) (c : Chart) (t : Tables) (it : AreOpened places c t) (la
   -- ---- the spots of a unit
 
   -- at each of them a live sector of the unit stands, in an overflow place
-  spot_live : (u p s k : ℕ) → u < units_on places → spots u k ≡ Some (p, s)
+  spot_live : (u p s k : ℕ) → u < units_at c places → spots u k ≡ Some (p, s)
       → (p ≢ (lay.units u).home) × (sector : Sector) × IsLiveIn c places lay u p s sector
   spot_live u p s k low is =
       let spot = spot_from u (mark_at heads current c k) p s is in
@@ -109,7 +108,7 @@ module _ (places : ℕ) (c : Chart) (t : Tables) (it : AreOpened places c t) (la
       )
 
   -- and each such sector stands at one of them
-  live_spot : (u p s : ℕ) (sector : Sector) → u < units_on places → IsLiveIn c places lay u p s sector
+  live_spot : (u p s : ℕ) (sector : Sector) → u < units_at c places → IsLiveIn c places lay u p s sector
       → p ≢ (lay.units u).home → spots u (p * 256 + s) ≡ Some (p, s)
   live_spot u p s sector low live away =
       let k : ℕ = p * 256 + s in
@@ -126,10 +125,10 @@ module _ (places : ℕ) (c : Chart) (t : Tables) (it : AreOpened places c t) (la
       overflow live.of_unit
       ∙ ap Some (same_spot (k / 256) (k % 256) p s place number)
 
-  spots_are : (u : ℕ) → u < units_on places → spots_of t u ≡ spots_in c places u
+  spots_are : (u : ℕ) → u < units_at c places → spots_of t u ≡ spots_in c places u
   spots_are u low = it.overflow.spots_are u low
 
-  listed : (u p s : ℕ) (sector : Sector) → u < units_on places → IsLiveIn c places lay u p s sector
+  listed : (u p s : ℕ) (sector : Sector) → u < units_at c places → IsLiveIn c places lay u p s sector
       → p ≢ (lay.units u).home → Contains (spots_of t u) (p, s)
   listed u p s sector low live away =
       subst (λ (xs : List (ℕ × ℕ)). Contains xs (p, s)) (sym (spots_are u low))
@@ -137,13 +136,13 @@ module _ (places : ℕ) (c : Chart) (t : Tables) (it : AreOpened places c t) (la
       (live_spot u p s sector low live away))
 
   -- one of the spots, and its number
-  spot_at : (u p s : ℕ) → u < units_on places → Contains (spots_of t u) (p, s)
+  spot_at : (u p s : ℕ) → u < units_at c places → Contains (spots_of t u) (p, s)
       → (k : ℕ) × (k < places * 256) × (spots u k ≡ Some (p, s))
   spot_at u p s low has =
       all_from (spots u) (places * 256) (p, s)
       (subst (λ (xs : List (ℕ × ℕ)). Contains xs (p, s)) (spots_are u low) has)
 
-  only : (u p s : ℕ) → u < units_on places → Contains (spots_of t u) (p, s)
+  only : (u p s : ℕ) → u < units_at c places → Contains (spots_of t u) (p, s)
       → (p ≢ (lay.units u).home) × (sector : Sector) × IsLiveIn c places lay u p s sector
   only u p s low has = let at = spot_at u p s low has in spot_live u p s at.0 low at.2
 
@@ -156,14 +155,14 @@ module _ (places : ℕ) (c : Chart) (t : Tables) (it : AreOpened places c t) (la
       let number : k % 256 ≡ s = ap (λ (m : Mark). m.number) from.is ∙ spot.number in
       omega (arith, place, number)
 
-  once : (u : ℕ) → u < units_on places → AllPairs AreApart (spots_of t u)
+  once : (u : ℕ) → u < units_at c places → AllPairs AreApart (spots_of t u)
   once u low =
       subst (AllPairs AreApart) (sym (spots_are u low))
       (all_apart (spots u) (places * 256)
       (λ j k a before within first second.
       omega (arith, before, number_from u a.0 a.1 j first, number_from u a.0 a.1 k second)))
 
-  few : (u : ℕ) → u < units_on places → length (spots_of t u) ≤ 16
+  few : (u : ℕ) → u < units_at c places → length (spots_of t u) ≤ 16
   few u low =
       let log = (laid.each u low).log in
       let size : length (spots_of t u) ≡ count_below (λ k. passes any (spots u k)) (places * 256) =
@@ -187,7 +186,7 @@ module _ (places : ℕ) (c : Chart) (t : Tables) (it : AreOpened places c t) (la
       let held = listed_holds holds places t.overflow.in_use it.overflow.in_use_are p has in
       overflow_from c places p (and_parts _ _ held.0).0
 
-  in_overflow : (u p s : ℕ) → u < units_on places → Contains (spots_of t u) (p, s)
+  in_overflow : (u p s : ℕ) → u < units_at c places → Contains (spots_of t u) (p, s)
       → Contains (overflow_places t) p
   in_overflow u p s low has =
       let at = spot_at u p s low has in
@@ -208,7 +207,7 @@ module _ (places : ℕ) (c : Chart) (t : Tables) (it : AreOpened places c t) (la
   not_overflow : (p : ℕ) → IsFree t.places p → ¬ Contains (overflow_places t) p
   not_overflow p free has =
       let held = listed_holds holds places t.overflow.in_use it.overflow.in_use_are p has in
-      let none = ((it.directory.free p (free_within p free)).0 free).not_held in
+      let none = ((it.directory.free p (free_within p free)).0 free).0.not_held in
       let no_way : true ≡ false = sym held.0 ∙ none in cc no_way
 
   none_counted : (p s : ℕ) → ¬ IsCountedClean t p s
@@ -233,7 +232,7 @@ module _ (places : ℕ) (c : Chart) (t : Tables) (it : AreOpened places c t) (la
   none_active : (k : ℕ) → k < length t.active → ⊥
   none_active k within = omega (arith, within, ap length it.active)
 
-  home_low : (u : ℕ) → u < units_on places → (lay.units u).home < places
+  home_low : (u : ℕ) → u < units_at c places → (lay.units u).home < places
   home_low u low = (laid.each u low).chosen.within
 
   masks : MirrorsMasks lay t

@@ -1,7 +1,7 @@
 -- Each fault comes where its cause is.
-use Rattle.std.proofs.Common.{ℕ, ◌≡◌, ◌⊎◌, inl, inr, ◌/◌, ◌%◌, ◌^◌, nat_lt, nat_le, Bool, true, false, cond, ◌&&◌, Option, Some, None, refl, sym, ◌∙◌, ap, subst}
+use Rattle.std.proofs.Common.{ℕ, ◌≡◌, ◌≢◌, ◌⊎◌, inl, inr, ◌/◌, ◌%◌, ◌^◌, nat_lt, nat_le, Bool, true, false, cond, ◌&&◌, Option, Some, None, unwrap_or, refl, sym, ◌∙◌, ap, subst, arith, ◌==◌}
 use Rattle.std.specs.Option.{option_or}
-use Rattle.std.proofs.lemmas.Bool.{and_cases, leb-false, ltb-false}
+use Rattle.std.proofs.lemmas.Bool.{cases_lt, and_cases, leb-false, ltb-false, eq-eqb, not-true, both_ways}
 use Rattle.std.proofs.lemmas.Option.{same_Some}
 use Rattle.ipl_base.specs.declared.fault.ImageFault.{ImageFault}
 use Rattle.ipl_base.specs.declared.fault.ImageFault.TheVariants.{Geometry, NotFormatted, Missing, Spent, NoSpare}
@@ -10,16 +10,16 @@ use Rattle.ipl_meaning.specs.Chart.{Chart, IsDataHeader, IsStatusHeader}
 use Rattle.ipl_base.specs.First.{first_below}
 use Rattle.ipl_base.specs.Places.{units_on}
 use Rattle.opening_rules.specs.FirstLaws.{IsFirst}
-use Rattle.opening_rules.specs.Payloads.{is_commit_payload}
-use Rattle.opening_rules.specs.Chosen.{KeptHeader, Winner, current_at, status_at}
+use Rattle.opening_rules.specs.Payloads.{said_in, is_commit_payload}
+use Rattle.opening_rules.specs.Chosen.{KeptHeader, Winner, units_told, current_at, status_at, units_at}
 use Rattle.opening_rules.specs.ChosenLaws.{IsWinnerOf}
 use Rattle.opening_rules.specs.Live.{sectors, commit_at}
-use Rattle.opening_rules.specs.Faults.{malformed, size_fault, not_formatted, other_geometry, missing, bad_header, header_fault, commit_test, commit_fault, first_commit_fault, first_log_fault, greatest_found, spent, overflows_found, no_spare, first_fault}
+use Rattle.opening_rules.specs.Faults.{malformed, size_fault, not_formatted, keeps_units, status_geometry, says_other, other_geometry, missing, bad_header, header_fault, commit_test, commit_fault, first_commit_fault, first_log_fault, greatest_found, spent, overflows_found, no_spare, first_fault}
 use Rattle.opening_rules.specs.FaultLaws.{IsFirstBadLog}
 use Rattle.opening_rules.specs.CauseLaws.{HeaderCounts, IsCaused, FaultsAreCaused}
 use Rattle.opening_rules.proofs.FirstLemmas.{first_is_first}
 use Rattle.opening_rules.proofs.HeaderLemmas.{currents_are_chosen, statuses_are_chosen, none_is_status}
-use Rattle.opening_rules.proofs.PartLemmas.{if_none}
+use Rattle.opening_rules.proofs.PartLemmas.{if_none, keeps_to}
 use Rattle.opening_rules.proofs.FaultLemmas.{missing_is_least, bad_logs_are_first}
 
 or_some : {A : Type 0} (a b : Option A) (x : A) → option_or a b ≡ Some x → (a ≡ Some x) ⊎ (b ≡ Some x)
@@ -39,9 +39,22 @@ unformatted_some : (o : Option Winner) (fault : ImageFault) → not_formatted o 
 unformatted_some None fault e = (refl, same_Some NotFormatted fault e)
 unformatted_some (Some winner) fault e = cc
 
-geometry_some : (o : Option Winner) (fault : ImageFault) → other_geometry o ≡ Some fault → (winner : Winner) × (o ≡ Some winner) × (winner.head.foreign ≡ true) × (Geometry ≡ fault)
-geometry_some None fault e = cc
-geometry_some (Some winner) fault e = let parts = if_some_too winner.head.foreign Geometry fault e in (winner, refl, parts.0, parts.1)
+status_some : (places : ℕ) (o : Option Winner) (fault : ImageFault) → status_geometry places o ≡ Some fault
+    → (winner : Winner) × (o ≡ Some winner) × (keeps_units places (units_told places (Some winner)) ≡ false) × (Geometry ≡ fault)
+status_some places None fault e = cc
+status_some places (Some winner) fault e =
+    let parts = if_some (keeps_units places (units_told places (Some winner))) Geometry fault e in (winner, refl, parts.0, parts.1)
+
+geometry_some : (units : ℕ) (o : Option Winner) (fault : ImageFault) → other_geometry units o ≡ Some fault
+    → (winner : Winner) × (o ≡ Some winner) × (says_other units winner.head.said ≡ true) × (Geometry ≡ fault)
+geometry_some units None fault e = cc
+geometry_some units (Some winner) fault e =
+    let parts = if_some_too (says_other units winner.head.said) Geometry fault e in (winner, refl, parts.0, parts.1)
+
+-- another number that is said
+other_said : (units : ℕ) (o : Option ℕ) → says_other units o ≡ true → (said : ℕ) × (o ≡ Some said) × (said ≢ units)
+other_said units None is = absurd (cc is)
+other_said units (Some said) is = (said, refl, λ same. both_ways (said == units) (not-true (said == units) is) (eq-eqb said units same))
 
 missing_some : (u : ℕ) (o : Option Winner) (fault : ImageFault) → missing u o ≡ Some fault → Missing u ≡ fault
 missing_some u None fault e = same_Some (Missing u) fault e
@@ -71,29 +84,49 @@ module _ (c : Chart) (places : ℕ) (fault : ImageFault) where
 
   -- ---- headers
 
-  foreign_cause : (winner : Winner) (Fits : Sector → Type 0) → ((it : IsWinnerOf c places Fits winner) → HeaderCounts c places winner.place it.sector)
-      → IsWinnerOf c places Fits winner → winner.head.foreign ≡ true → IsCaused c places Geometry
-  foreign_cause winner Fits counts it foreign = inr (inr (record {
+  -- where the status header says no number, a chip with enough places keeps as many units as without spare places
+  wrong_cause : (winner : Winner) (it : IsWinnerOf c places IsStatusHeader winner) (o : Option ℕ) → said_in it.sector.payload ≡ o
+      → keeps_units places (unwrap_or o (units_on places)) ≡ false → IsCaused c places Geometry
+  wrong_cause winner it None said bad = elim (cases_lt places 5) [
+    | inl few ↦ inl few
+    | inr enough ↦ absurd (both_ways (keeps_units places (units_on places)) bad (keeps_to places (units_on places) (omega arith, omega arith, omega arith)))
+  ]
+  wrong_cause winner it (Some units) said bad = inr (inr (inl (record {
     place = winner.place;
     head = it.sector;
-    counts = counts it;
-    other = ap (λ (h : KeptHeader). h.foreign) (sym it.head) ∙ foreign;
-  }))
+    counts = it.counts;
+    units = units;
+    said = said;
+    refused = λ keeps. both_ways (keeps_units places units) bad (keeps_to places units keeps);
+  })))
 
   bad_cause : (winner : Winner) (Fits : Sector → Type 0) → ((it : IsWinnerOf c places Fits winner) → HeaderCounts c places winner.place it.sector)
       → IsWinnerOf c places Fits winner → winner.head.well ≡ false → IsCaused c places (malformed winner.place 0)
   bad_cause winner Fits counts it bad = inl (refl, record { head = it.sector; counts = counts it; bad = ap (λ (h : KeptHeader). h.well) (sym it.head) ∙ bad })
 
-  status_geometry : other_geometry (status_at c places) ≡ Some fault → IsCaused c places fault
-  status_geometry e =
-      let (winner, is, foreign, same) = geometry_some (status_at c places) fault e in
-      subst (IsCaused c places) same (foreign_cause winner IsStatusHeader (λ x. inl x.counts) (statuses_are_chosen c places winner is) foreign)
+  status_cause : status_geometry places (status_at c places) ≡ Some fault → IsCaused c places fault
+  status_cause e =
+      let (winner, is, bad, same) = status_some places (status_at c places) fault e in
+      let it = statuses_are_chosen c places winner is in
+      let said : winner.head.said ≡ said_in it.sector.payload = ap (λ (h : KeptHeader). h.said) it.head in
+      subst (IsCaused c places) same (wrong_cause winner it (said_in it.sector.payload) refl
+      (ap (λ (o : Option ℕ). keeps_units places (unwrap_or o (units_on places))) (sym said) ∙ bad))
 
-  unit_geometry : (u : ℕ) → other_geometry (current_at c places u) ≡ Some fault → IsCaused c places fault
-  unit_geometry u e =
-      let (winner, is, foreign, same) = geometry_some (current_at c places u) fault e in
-      let it = currents_are_chosen c places u winner is in
-      subst (IsCaused c places) same (foreign_cause winner (IsDataHeader u) (λ x. inr (u, it.0, x.counts)) it.1 foreign)
+  unit_cause : (u : ℕ) → other_geometry (units_at c places) (current_at c places u) ≡ Some fault → IsCaused c places fault
+  unit_cause u e =
+      let (winner, is, says, same) = geometry_some (units_at c places) (current_at c places u) fault e in
+      let (low, it) = currents_are_chosen c places u winner is in
+      let (units, said, other) = other_said (units_at c places) winner.head.said says in
+      subst (IsCaused c places) same (inr (inr (inr (record {
+        unit = u;
+        low = low;
+        place = winner.place;
+        head = it.sector;
+        counts = it.counts;
+        units = units;
+        said = ap (λ (h : KeptHeader). h.said) (sym it.head) ∙ said;
+        other = other;
+      }))))
 
   status_bad : bad_header (status_at c places) ≡ Some fault → IsCaused c places fault
   status_bad e =
@@ -112,7 +145,7 @@ module _ (c : Chart) (places : ℕ) (fault : ImageFault) where
       subst (IsCaused c places) same (λ p head within here. none_is_status c places p head none within here)
 
   abbrev geometries : ℕ → Option ImageFault
-  geometries u = other_geometry (current_at c places u)
+  geometries u = other_geometry (units_at c places) (current_at c places u)
 
   abbrev missings : ℕ → Option ImageFault
   missings u = missing u (current_at c places u)
@@ -120,26 +153,26 @@ module _ (c : Chart) (places : ℕ) (fault : ImageFault) where
   abbrev headers : ℕ → Option ImageFault
   headers u = bad_header (current_at c places u)
 
-  units_missing : first_fault c places ≡ Some fault → first_below missings (units_on places) ≡ Some fault → IsCaused c places fault
+  units_missing : first_fault c places ≡ Some fault → first_below missings (units_at c places) ≡ Some fault → IsCaused c places fault
   units_missing whole e =
-      let first : IsFirst missings (units_on places) fault = first_is_first missings (units_on places) fault e in
+      let first : IsFirst missings (units_at c places) fault = first_is_first missings (units_at c places) fault e in
       let same : Missing first.number ≡ fault = missing_some first.number (current_at c places first.number) fault first.here in
       subst (IsCaused c places) same (missing_is_least c places first.number (whole ∙ ap Some (sym same)))
 
   header_cause : first_fault c places ≡ Some fault → header_fault c places ≡ Some fault → IsCaused c places fault
-  header_cause whole e = elim (or_some (not_formatted (status_at c places)) (option_or (other_geometry (status_at c places)) (option_or (first_below geometries (units_on places))
-      (option_or (first_below missings (units_on places)) (option_or (first_below headers (units_on places)) (option_or (bad_header (status_at c places)) None))))) fault e) [
+  header_cause whole e = elim (or_some (not_formatted (status_at c places)) (option_or (status_geometry places (status_at c places)) (option_or (first_below geometries (units_at c places))
+      (option_or (first_below missings (units_at c places)) (option_or (first_below headers (units_at c places)) (option_or (bad_header (status_at c places)) None))))) fault e) [
         | inl here ↦ unformatted here
-        | inr rest ↦ elim (or_some (other_geometry (status_at c places)) (option_or (first_below geometries (units_on places))
-            (option_or (first_below missings (units_on places)) (option_or (first_below headers (units_on places)) (option_or (bad_header (status_at c places)) None)))) fault rest) [
-              | inl here ↦ status_geometry here
-              | inr more ↦ elim (or_some (first_below geometries (units_on places))
-                  (option_or (first_below missings (units_on places)) (option_or (first_below headers (units_on places)) (option_or (bad_header (status_at c places)) None))) fault more) [
-                    | inl here ↦ let first : IsFirst geometries (units_on places) fault = first_is_first geometries (units_on places) fault here in unit_geometry first.number first.here
-                    | inr last ↦ elim (or_some (first_below missings (units_on places)) (option_or (first_below headers (units_on places)) (option_or (bad_header (status_at c places)) None)) fault last) [
+        | inr rest ↦ elim (or_some (status_geometry places (status_at c places)) (option_or (first_below geometries (units_at c places))
+            (option_or (first_below missings (units_at c places)) (option_or (first_below headers (units_at c places)) (option_or (bad_header (status_at c places)) None)))) fault rest) [
+              | inl here ↦ status_cause here
+              | inr more ↦ elim (or_some (first_below geometries (units_at c places))
+                  (option_or (first_below missings (units_at c places)) (option_or (first_below headers (units_at c places)) (option_or (bad_header (status_at c places)) None))) fault more) [
+                    | inl here ↦ let first : IsFirst geometries (units_at c places) fault = first_is_first geometries (units_at c places) fault here in unit_cause first.number first.here
+                    | inr last ↦ elim (or_some (first_below missings (units_at c places)) (option_or (first_below headers (units_at c places)) (option_or (bad_header (status_at c places)) None)) fault last) [
                       | inl here ↦ units_missing whole here
-                      | inr spelled ↦ elim (or_some (first_below headers (units_on places)) (option_or (bad_header (status_at c places)) None) fault spelled) [
-                        | inl here ↦ let first : IsFirst headers (units_on places) fault = first_is_first headers (units_on places) fault here in unit_bad first.number first.here
+                      | inr spelled ↦ elim (or_some (first_below headers (units_at c places)) (option_or (bad_header (status_at c places)) None) fault spelled) [
+                        | inl here ↦ let first : IsFirst headers (units_at c places) fault = first_is_first headers (units_at c places) fault here in unit_bad first.number first.here
                         | inr status ↦ elim (or_some (bad_header (status_at c places)) None fault status) [
                           | inl here ↦ status_bad here
                           | inr nothing ↦ absurd (cc nothing)

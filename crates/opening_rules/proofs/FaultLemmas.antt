@@ -9,13 +9,12 @@ use Rattle.ipl_base.specs.declared.fault.ImageFault.TheVariants.{Geometry, NotFo
 use Rattle.ipl_format.specs.Sector.{Sector}
 use Rattle.ipl_meaning.specs.Chart.{Chart, IsStatusHeader}
 use Rattle.ipl_base.specs.First.{first_below}
-use Rattle.ipl_base.specs.Places.{units_on}
 use Rattle.opening_rules.specs.First.{passes, count_below}
 use Rattle.opening_rules.specs.FirstLaws.{IsFirst}
 use Rattle.opening_rules.specs.Payloads.{is_commit_payload, is_log_payload}
-use Rattle.opening_rules.specs.Chosen.{KeptHeader, Winner, header_at, current_at, status_at}
+use Rattle.opening_rules.specs.Chosen.{KeptHeader, Winner, header_at, units_told, current_at, status_at, units_at}
 use Rattle.opening_rules.specs.Live.{sectors, commit_at, live_at, Mark, mark_of, mark_at, marks}
-use Rattle.opening_rules.specs.Faults.{malformed, size_fault, not_formatted, other_geometry, missing, bad_header, header_fault, commit_test, commit_fault, first_commit_fault, clashes, shares_overflow, is_full, is_log_well, log_test, log_fault, first_log_fault, greatest_found, spent, overflows_found, no_spare, first_fault}
+use Rattle.opening_rules.specs.Faults.{malformed, size_fault, not_formatted, keeps_units, status_geometry, says_other, other_geometry, missing, bad_header, header_fault, commit_test, commit_fault, first_commit_fault, clashes, shares_overflow, is_full, is_log_well, log_test, log_fault, first_log_fault, greatest_found, spent, overflows_found, no_spare, first_fault}
 use Rattle.opening_rules.specs.FaultLaws.{well_at, is_overflow_of, HasCause, NotFormattedIsExact, MissingIsLeast, BadLogsAreFirst}
 use Rattle.opening_rules.proofs.FirstLemmas.{first_is_first}
 use Rattle.opening_rules.proofs.HeaderLemmas.{currents_are_chosen, none_is_current, statuses_are_chosen, none_is_status}
@@ -79,9 +78,13 @@ module _ (test : ImageFault → Bool) (geometry : test Geometry ≡ false) (chip
   size_other : passes test (size_fault places) ≡ false
   size_other = if_other test (nat_le 5 places && nat_le places 1028) Geometry geometry
 
-  geometry_other : (o : Option Winner) → passes test (other_geometry o) ≡ false
-  geometry_other None = refl
-  geometry_other (Some winner) = if_other_too test winner.head.foreign Geometry geometry
+  status_other : (o : Option Winner) → passes test (status_geometry places o) ≡ false
+  status_other None = refl
+  status_other (Some winner) = if_other test (keeps_units places (units_told places (Some winner))) Geometry geometry
+
+  geometry_other : (units : ℕ) (o : Option Winner) → passes test (other_geometry units o) ≡ false
+  geometry_other units None = refl
+  geometry_other units (Some winner) = if_other_too test (says_other units winner.head.said) Geometry geometry
 
   header_other : (o : Option Winner) → passes test (bad_header o) ≡ false
   header_other None = refl
@@ -126,13 +129,13 @@ module _ (test : ImageFault → Bool) (geometry : test Geometry ≡ false) (chip
 
 module _ (c : Chart) (places : ℕ) where
   abbrev geometries : Option ImageFault
-  geometries = first_below (λ u. other_geometry (current_at c places u)) (units_on places)
+  geometries = first_below (λ u. other_geometry (units_at c places) (current_at c places u)) (units_at c places)
 
   abbrev missings : Option ImageFault
-  missings = first_below (λ u. missing u (current_at c places u)) (units_on places)
+  missings = first_below (λ u. missing u (current_at c places u)) (units_at c places)
 
   abbrev headers : Option ImageFault
-  headers = first_below (λ u. bad_header (current_at c places u)) (units_on places)
+  headers = first_below (λ u. bad_header (current_at c places u)) (units_at c places)
 
   abbrev status : Option Winner
   status = status_at c places
@@ -148,33 +151,35 @@ module _ (c : Chart) (places : ℕ) where
   missing_found : (u : ℕ) → first_fault c places ≡ Some (Missing u) → missings ≡ Some (Missing u)
   missing_found u e =
       let fault : ImageFault = Missing u in
+      let strange = status_other is_missing refl (λ p s. refl) refl (λ n. refl) c places in
       let geometry = geometry_other is_missing refl (λ p s. refl) refl (λ n. refl) c places in
       let header = header_other is_missing refl (λ p s. refl) refl (λ n. refl) c places in
       let all = of_headers is_missing refl (λ p s. refl) refl (λ n. refl) c places fault refl e in
-      let after = later is_missing (not_formatted status) (option_or (other_geometry status) (option_or geometries (option_or missings (option_or headers (option_or (bad_header status) None)))))
+      let after = later is_missing (not_formatted status) (option_or (status_geometry places status) (option_or geometries (option_or missings (option_or headers (option_or (bad_header status) None)))))
       fault (unformatted_other status) refl all in
-      let then = later is_missing (other_geometry status) (option_or geometries (option_or missings (option_or headers (option_or (bad_header status) None)))) fault (geometry status) refl after in
+      let then = later is_missing (status_geometry places status) (option_or geometries (option_or missings (option_or headers (option_or (bad_header status) None)))) fault (strange status) refl after in
       let next = later is_missing geometries (option_or missings (option_or headers (option_or (bad_header status) None))) fault
-      (below_other is_missing (λ v. other_geometry (current_at c places v)) (units_on places) (λ v. geometry (current_at c places v))) refl then in
+      (below_other is_missing (λ v. other_geometry (units_at c places) (current_at c places v)) (units_at c places) (λ v. geometry (units_at c places) (current_at c places v))) refl then in
       sooner is_missing missings (option_or headers (option_or (bad_header status) None)) fault
       (or_other is_missing headers (option_or (bad_header status) None)
-      (below_other is_missing (λ v. bad_header (current_at c places v)) (units_on places) (λ v. header (current_at c places v)))
+      (below_other is_missing (λ v. bad_header (current_at c places v)) (units_at c places) (λ v. header (current_at c places v)))
       (or_other is_missing (bad_header status) None (header status) refl)) refl next
 
   unformatted_found : first_fault c places ≡ Some NotFormatted → not_formatted status ≡ Some NotFormatted
   unformatted_found e =
+      let strange = status_other is_unformatted refl (λ p s. refl) refl (λ n. refl) c places in
       let geometry = geometry_other is_unformatted refl (λ p s. refl) refl (λ n. refl) c places in
       let header = header_other is_unformatted refl (λ p s. refl) refl (λ n. refl) c places in
       let all = of_headers is_unformatted refl (λ p s. refl) refl (λ n. refl) c places NotFormatted refl e in
-      sooner is_unformatted (not_formatted status) (option_or (other_geometry status) (option_or geometries (option_or missings (option_or headers (option_or (bad_header status) None)))))
+      sooner is_unformatted (not_formatted status) (option_or (status_geometry places status) (option_or geometries (option_or missings (option_or headers (option_or (bad_header status) None)))))
       NotFormatted
-      (or_other is_unformatted (other_geometry status) (option_or geometries (option_or missings (option_or headers (option_or (bad_header status) None)))) (geometry status)
+      (or_other is_unformatted (status_geometry places status) (option_or geometries (option_or missings (option_or headers (option_or (bad_header status) None)))) (strange status)
       (or_other is_unformatted geometries (option_or missings (option_or headers (option_or (bad_header status) None)))
-      (below_other is_unformatted (λ v. other_geometry (current_at c places v)) (units_on places) (λ v. geometry (current_at c places v)))
+      (below_other is_unformatted (λ v. other_geometry (units_at c places) (current_at c places v)) (units_at c places) (λ v. geometry (units_at c places) (current_at c places v)))
       (or_other is_unformatted missings (option_or headers (option_or (bad_header status) None))
-      (below_other is_unformatted (λ v. missing v (current_at c places v)) (units_on places) (λ v. missing_other v (current_at c places v)))
+      (below_other is_unformatted (λ v. missing v (current_at c places v)) (units_at c places) (λ v. missing_other v (current_at c places v)))
       (or_other is_unformatted headers (option_or (bad_header status) None)
-      (below_other is_unformatted (λ v. bad_header (current_at c places v)) (units_on places) (λ v. header (current_at c places v)))
+      (below_other is_unformatted (λ v. bad_header (current_at c places v)) (units_at c places) (λ v. header (current_at c places v)))
       (or_other is_unformatted (bad_header status) None (header status) refl)))))
       refl all
 
@@ -192,10 +197,10 @@ there_too v (Some winner) e = (winner, refl)
 
 pub missing_is_least : MissingIsLeast
 missing_is_least c places u e =
-    let first : IsFirst (λ v. missing v (current_at c places v)) (units_on places) (Missing u) =
-    first_is_first (λ v. missing v (current_at c places v)) (units_on places) (Missing u) (missing_found c places u e) in
+    let first : IsFirst (λ v. missing v (current_at c places v)) (units_at c places) (Missing u) =
+    first_is_first (λ v. missing v (current_at c places v)) (units_at c places) (Missing u) (missing_found c places u e) in
     let (none, same) = missing_here first.number u (current_at c places first.number) first.here in
-    let low : u < units_on places = omega (arith, same, first.within) in
+    let low : u < units_at c places = omega (arith, same, first.within) in
     record {
       low = low;
       none = λ p head within here. none_is_current c places u p head low (sym (ap (current_at c places) same) ∙ none) within here;

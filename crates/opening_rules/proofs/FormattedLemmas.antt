@@ -2,7 +2,7 @@
 use Rattle.std.proofs.Common.{ℕ, inl, inr, ◌+◌, ◌<◌, ◌≤◌, [], ◌∷◌, ◌++◌, sym, ◌∙◌, ap, subst, arith}
 use Rattle.std.proofs.lemmas.Bool.{cases_eq}
 use Rattle.ipl_base.specs.declared.limits.TheConstants.{VERSION}
-use Rattle.ipl_base.specs.Places.{units_on}
+use Rattle.ipl_base.specs.Places.{KeepsUnits}
 use Rattle.ipl_format.specs.Numbers.{IsBytes, word}
 use Rattle.ipl_format.specs.Header.{data_header_bytes, erases_bytes, retired_bytes}
 use Rattle.ipl_format.specs.Sector.{Sector}
@@ -29,17 +29,17 @@ status_bytes units = bytes-append (word units ++ word 1) (0 ∷ [])
     (bytes-append (word units) (word 1) (bytes-word units) (bytes-word 1)) (bytes-cons 0 [] (omega arith) bytes-nil)
 
 -- the payloads of a chip that was just formatted are bytes
-pub formatted_bytes : (places : ℕ) → 5 ≤ places → places ≤ 1028 → IsByteChart places (formatted places)
-formatted_bytes places least most p s sector low within read is = elim (cases_eq s 0) [
-  | inr other ↦ absurd (no_sector places least most p s sector other is)
-  | inl first ↦ elim (header_is places least most p sector (ap (λ (t : ℕ). formatted places p t) (sym first) ∙ is)) [
-    | inl unit ↦ subst (λ (x : Sector). IsBytes x.payload) unit.1 (header_bytes (units_on places))
-    | inr status ↦ subst (λ (x : Sector). IsBytes x.payload) status.1 (status_bytes (units_on places))
+pub formatted_bytes : (places units : ℕ) → 5 ≤ places → places ≤ 1028 → KeepsUnits places units → IsByteChart places (formatted units)
+formatted_bytes places units least most keeps p s sector low within read is = elim (cases_eq s 0) [
+  | inr other ↦ absurd (no_sector places units least most keeps p s sector other is)
+  | inl first ↦ elim (header_is places units least most keeps p sector (ap (λ (t : ℕ). formatted units p t) (sym first) ∙ is)) [
+    | inl unit ↦ subst (λ (x : Sector). IsBytes x.payload) unit.1 (header_bytes units)
+    | inr status ↦ subst (λ (x : Sector). IsBytes x.payload) status.1 (status_bytes units)
   ]
 ]
 
 pub formatted_chips_have_no_fault : FormattedChipsHaveNoFault
-formatted_chips_have_no_fault places least most =
-    let it : Mirrors places (formatted places) (first_layout places) (first_tables places) = first_tables_mirror places least most in
-    laid_has_no_fault (formatted places) places (first_layout places) (formatted_bytes places least most) it.laid
-    (λ n found. let low : n < units_on places + 2 = it.numbers.above n found in omega (arith, low, most))
+formatted_chips_have_no_fault places units least most keeps =
+    let it : Mirrors places (formatted units) (first_layout units) (first_tables places units) = first_tables_mirror places units least most keeps in
+    laid_has_no_fault (formatted units) places (first_layout units) (formatted_bytes places units least most keeps) it.laid
+    (λ n found. let low : n < units + 2 = it.numbers.above n found in omega (arith, low, most, keeps.1))

@@ -1,11 +1,10 @@
 -- The headers of a chart: those that are chosen are those that count.
 use Rattle.std.proofs.Common.{ℕ, ◌≡◌, ◌⊎◌, inl, inr, ◌<◌, ◌≤◌, Bool, true, nat_lt, Option, Some, None, refl, sym, ◌∙◌, ap, subst, arith}
-use Rattle.std.proofs.lemmas.Bool.{cases_Bool, ltb-true, lt-ltb, le-leb, eqb-true, eq-eqb, and_parts, and_from, both_ways}
+use Rattle.std.proofs.lemmas.Bool.{cases_Bool, ltb-true, lt-ltb, le-leb, eqb-true, eq-eqb, and_parts, and_from, both_ways, cond-true, cond-false}
 use Rattle.std.proofs.lemmas.Option.{cond_some}
-use Rattle.ipl_base.specs.Places.{units_on}
 use Rattle.ipl_format.specs.Sector.{Sector}
 use Rattle.ipl_meaning.specs.Chart.{Chart, IsChosen, IsDataHeader, IsStatusHeader}
-use Rattle.opening_rules.specs.Chosen.{KeptHeader, Winner, chosen, head_of, header_in, header_at, is_header, is_data_of, is_status, current_at}
+use Rattle.opening_rules.specs.Chosen.{KeptHeader, Winner, chosen, head_of, header_in, header_at, is_header, is_data_of, is_status, current_at, units_at}
 use Rattle.opening_rules.specs.ChosenLaws.{IsWinnerOf, CurrentsAreChosen, ChosenAreCurrent, NoneIsCurrent, StatusesAreChosen, ChosenAreStatus, NoneIsStatus}
 use Rattle.opening_rules.proofs.ChosenLemmas.{IsBest, chosen_is_best, best_is_chosen, none_chosen}
 
@@ -94,14 +93,17 @@ data_is u places s is = (
   and_from _ _ (eq-eqb s.kind 1 is.0) (eq-eqb s.unit u is.1),
 )
 
-pub current_is : (c : Chart) (places u : ℕ) → u < units_on places → current_at c places u ≡ chosen (is_data_of u) (header_at c places) places
-current_is c places u low = rw (lt-ltb u (units_on places) low) refl
+pub current_is : (c : Chart) (places u : ℕ) → u < units_at c places → current_at c places u ≡ chosen (is_data_of u) (header_at c places) places
+current_is c places u low =
+    cond-true (nat_lt u (units_at c places)) (chosen (is_data_of u) (header_at c places) places) None (lt-ltb u (units_at c places) low)
 
 -- only a unit of the chip has one
-pub current_low : (c : Chart) (places u : ℕ) (winner : Winner) → current_at c places u ≡ Some winner → u < units_on places
-current_low c places u winner is = elim (cases_Bool (nat_lt u (units_on places))) [
-  | inl low ↦ ltb-true u (units_on places) low
-  | inr high ↦ absurd (let none : None ≡ Some winner = rw high at is in cc none)
+pub current_low : (c : Chart) (places u : ℕ) (winner : Winner) → current_at c places u ≡ Some winner → u < units_at c places
+current_low c places u winner is = elim (cases_Bool (nat_lt u (units_at c places))) [
+  | inl low ↦ ltb-true u (units_at c places) low
+  | inr high ↦ absurd (
+      let none : None ≡ Some winner = sym (cond-false (nat_lt u (units_at c places)) (chosen (is_data_of u) (header_at c places) places) None high) ∙ is in
+      cc none)
 ]
 
 pub currents_are_chosen : CurrentsAreChosen

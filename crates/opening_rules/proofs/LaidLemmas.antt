@@ -1,5 +1,5 @@
 -- A chart that is laid out has no fault.
-use Rattle.std.proofs.Common.{ℕ, suc, ◌≡◌, ◌≢◌, inl, inr, ◌+◌, ◌*◌, ◌/◌, ◌%◌, ◌^◌, ◌<◌, ◌≤◌, Bool, true, false, nat_le, ◌==◌, List, length, map, get_or, Option, Some, None, refl, sym, ◌∙◌, ap, ap₂, subst, arith, cond}
+use Rattle.std.proofs.Common.{ℕ, suc, ◌≡◌, ◌≢◌, inl, inr, ◌+◌, ◌*◌, ◌/◌, ◌%◌, ◌^◌, ◌<◌, ◌≤◌, Bool, true, false, ◌==◌, List, length, map, get_or, Option, Some, None, refl, sym, ◌∙◌, ap, ap₂, subst, arith, cond}
 use Rattle.std.specs.List.{Contains, count_by}
 use Rattle.std.specs.Option.{option_map}
 use Rattle.std.proofs.lemmas.Bool.{cases_Bool, cases_lt, cases_order, eqb-true, eq-eqb, lt-leb, and_parts, and_from, and_left, and_right, or_from, not_from_true, not_from_false, cond-true, cond-false}
@@ -7,26 +7,24 @@ use Rattle.std.proofs.lemmas.List.{get_or_default, length-map, get_or-map}
 use Rattle.std.proofs.lemmas.List.Elements.{All-contains}
 use Rattle.std.proofs.lemmas.Option.{same_Some}
 use Rattle.ipl_base.specs.declared.fault.ImageFault.TheVariants.{Geometry}
-use Rattle.ipl_base.specs.Places.{units_on}
-use Rattle.ipl_base.proofs.UnitLemmas.{count_is, unit_kept}
-use Rattle.ipl_format.specs.Numbers.{word_at}
+use Rattle.ipl_base.specs.Places.{KeepsUnits}
 use Rattle.ipl_format.specs.Record.{SpellsLog}
 use Rattle.ipl_format.specs.Sector.{Sector}
 use Rattle.ipl_meaning.specs.Chart.{Chart, IsLive, IsOverflow}
 use Rattle.ipl_meaning.specs.Layout.{Entry, AllRise, IsEntry, IsListed, IsInOverflow, Layout, Laid, IsLiveIn}
 use Rattle.ipl_meaning.specs.Found.{IsAbove}
 use Rattle.opening_rules.specs.First.{passes, count_below}
-use Rattle.opening_rules.specs.Payloads.{begins_with_other_units, is_data_payload, is_status_payload, is_commit_payload, is_log_payload}
-use Rattle.opening_rules.specs.Chosen.{KeptHeader, Winner, head_of, header_at, current_at, status_at, is_head_payload}
+use Rattle.opening_rules.specs.Payloads.{said_in, is_data_payload, is_status_payload, is_commit_payload, is_log_payload}
+use Rattle.opening_rules.specs.Chosen.{KeptHeader, Winner, head_of, header_at, units_told, current_at, status_at, units_at, is_head_payload}
 use Rattle.opening_rules.specs.Live.{sectors, commit_at, is_overflow_place, live_at, Mark, mark_of, mark_at, marks}
-use Rattle.opening_rules.specs.Faults.{malformed, not_formatted, other_geometry, missing, bad_header, commit_test, commit_fault, clashes, shares_overflow, is_full, is_log_well, log_test, greatest_found, is_in, holds_live, overflows_found}
-use Rattle.opening_rules.specs.Laws.{IsByteChart, LaidHasNoFault, LaidIsFineOrSpent}
+use Rattle.opening_rules.specs.Faults.{malformed, not_formatted, keeps_units, status_geometry, says_other, other_geometry, missing, bad_header, commit_test, commit_fault, clashes, shares_overflow, is_full, is_log_well, log_test, greatest_found, is_in, holds_live, overflows_found}
+use Rattle.opening_rules.specs.Laws.{IsByteChart, LaidHasNoFault, LaidIsFineOrSpent, LaidSaysItsUnits}
 use Rattle.opening_rules.proofs.PayloadLemmas.{spelled_data_passes, spelled_status_passes, spelled_commits_pass, spelled_logs_pass}
 use Rattle.opening_rules.proofs.HeaderLemmas.{current_low}
 use Rattle.opening_rules.proofs.BelowLemmas.{any_none, any_there, count_all, count_within}
 use Rattle.opening_rules.proofs.LiveLemmas.{sectors_are, commit_from, overflow_from, home_apart, live_from}
-use Rattle.opening_rules.proofs.NumberLemmas.{status_is, home_is, number_found}
-use Rattle.opening_rules.proofs.PartLemmas.{IsFormed, no_fault_from, spent_from}
+use Rattle.opening_rules.proofs.NumberLemmas.{status_is, units_are, home_is, number_found}
+use Rattle.opening_rules.proofs.PartLemmas.{IsFormed, keeps_to, no_fault_from, spent_from}
 
 -- ---- marks
 
@@ -73,8 +71,8 @@ rise_once log a b rise (i, low, first) (j, less, second) same = elim (cases_orde
 
 -- ---- payloads
 
-own_units : (units : ℕ) (payload : List ℕ) → word_at 0 payload ≡ units → begins_with_other_units units payload ≡ false
-own_units units payload same = and_right (nat_le 4 (length payload)) _ (not_from_true (word_at 0 payload == units) (eq-eqb (word_at 0 payload) units same))
+own_units : (units said : ℕ) (o : Option ℕ) → o ≡ Some said → said ≡ units → says_other units o ≡ false
+own_units units said o is same = ap (says_other units) is ∙ not_from_true (said == units) (eq-eqb said units same)
 
 commit_none : (p s : ℕ) (o : Option Sector) → ((sector : Sector) → o ≡ Some sector → is_commit_payload sector.payload ≡ true) → commit_test p s o ≡ None
 commit_none p s None each = refl
@@ -122,7 +120,7 @@ module _ (c : Chart) (places : ℕ) (it : Layout) (laid : Laid places c it) wher
   live_in : (k : ℕ) (sector : Sector) → live k ≡ Some sector → (sector.unit < it.count) × IsLiveIn c places it sector.unit (k / 256) (k % 256) sector
   live_in k sector is =
       let found = live_from c places k sector is in
-      let low = unit_kept places it.count sector.unit laid.count (current_low c places sector.unit found.winner found.current) in
+      let low : sector.unit < it.count = let less = current_low c places sector.unit found.winner found.current in omega (arith, less, units_are c places it laid) in
       let one : found.winner ≡ own sector.unit = same_Some found.winner (own sector.unit) (sym found.current ∙ home_is c places it laid sector.unit low) in
       (low, subst (λ (x : Winner). IsLive c places sector.unit x.place x.head.generation (k / 256) (k % 256) sector) one found.live)
 
@@ -233,29 +231,35 @@ module _ (c : Chart) (places : ℕ) (it : Layout) (laid : Laid places c it) wher
   abbrev status : Winner
   status = record { place = it.status; head = head_of places it.head }
 
-  status_well : is_status_payload it.head.version places (units_on places) it.head.payload ≡ true
-  status_well = subst (λ (n : ℕ). is_status_payload it.head.version places n it.head.payload ≡ true) (count_is places it.count laid.count)
-      (spelled_status_passes it.head.version places it.count it.head.payload laid.most laid.counts)
+  abbrev units : ℕ
+  units = units_at c places
 
-  data_well : (u : ℕ) → u < units_on places → is_data_payload (it.units u).head.version (units_on places) (it.units u).head.payload ≡ true
-  data_well u low = subst (λ (n : ℕ). is_data_payload (it.units u).head.version n (it.units u).head.payload ≡ true) (count_is places it.count laid.count)
-      (spelled_data_passes (it.units u).head.version it.count (it.units u).pieces (it.units u).head.payload (laid.each u (unit_kept places it.count u laid.count low)).counts).0
+  unit_low : (u : ℕ) → u < units → u < it.count
+  unit_low u low = omega (arith, low, units_are c places it laid)
 
-  status_geometry : other_geometry (Some status) ≡ None
-  status_geometry = cond-false (begins_with_other_units (units_on places) it.head.payload) (Some Geometry) None
-      (own_units (units_on places) it.head.payload (eqb-true _ _ (and_parts _ _ (and_parts _ _ status_well).1).0))
+  status_passes : (is_status_payload it.head.version places it.head.payload ≡ true) × (said_in it.head.payload ≡ Some it.count)
+  status_passes = let it_is = spelled_status_passes it.head.version places it.count it.head.payload laid.most laid.counts in (it_is.0, it_is.1)
 
-  data_geometry : (u : ℕ) → u < units_on places → other_geometry (Some (own u)) ≡ None
-  data_geometry u low = cond-false (begins_with_other_units (units_on places) (it.units u).head.payload) (Some Geometry) None
-      (own_units (units_on places) (it.units u).head.payload (eqb-true _ _ (and_parts _ _ (and_parts _ _ (data_well u low)).1).0))
+  data_passes : (u : ℕ) → u < units → (is_data_payload (it.units u).head.version (it.units u).head.payload ≡ true) × (said_in (it.units u).head.payload ≡ Some it.count)
+  data_passes u low =
+      let it_is = spelled_data_passes (it.units u).head.version it.count (it.units u).pieces (it.units u).head.payload (laid.each u (unit_low u low)).counts in (it_is.0, it_is.1)
+
+  status_kept : status_geometry places (Some status) ≡ None
+  status_kept = cond-true (keeps_units places (units_told places (Some status))) None (Some Geometry)
+      (keeps_to places (units_told places (Some status)) (subst (KeepsUnits places)
+      (sym (units_are c places it laid) ∙ ap (units_told places) (status_is c places it laid)) laid.count))
+
+  data_geometry : (u : ℕ) → u < units → other_geometry units (Some (own u)) ≡ None
+  data_geometry u low = cond-false (says_other units (said_in (it.units u).head.payload)) (Some Geometry) None
+      (own_units units it.count (said_in (it.units u).head.payload) (data_passes u low).1 (sym (units_are c places it laid)))
 
   status_good : bad_header (Some status) ≡ None
   status_good = cond-true (is_head_payload it.head.version places it.head.kind it.head.payload) None (Some (malformed it.status 0))
-      (ap (λ (kind : ℕ). is_head_payload it.head.version places kind it.head.payload) laid.chosen.fits ∙ status_well)
+      (ap (λ (kind : ℕ). is_head_payload it.head.version places kind it.head.payload) laid.chosen.fits ∙ status_passes.0)
 
-  data_good : (u : ℕ) → u < units_on places → bad_header (Some (own u)) ≡ None
+  data_good : (u : ℕ) → u < units → bad_header (Some (own u)) ≡ None
   data_good u low = cond-true (is_head_payload (it.units u).head.version places (it.units u).head.kind (it.units u).head.payload) None (Some (malformed (it.units u).home 0))
-      (ap (λ (kind : ℕ). is_head_payload (it.units u).head.version places kind (it.units u).head.payload) (laid.each u (unit_kept places it.count u laid.count low)).chosen.fits.0 ∙ data_well u low)
+      (ap (λ (kind : ℕ). is_head_payload (it.units u).head.version places kind (it.units u).head.payload) (laid.each u (unit_low u low)).chosen.fits.0 ∙ (data_passes u low).0)
 
   commit_good : (s : ℕ) → s < sectors → commit_fault c (Some status) s ≡ None
   commit_good s low = commit_none it.status s (commit_at c (Some status) s) (λ sector at.
@@ -276,13 +280,13 @@ module _ (c : Chart) (places : ℕ) (it : Layout) (laid : Laid places c it) wher
   pub is_formed : IsFormed c places
   is_formed =
       let status_here : status_at c places ≡ Some status = status_is c places it laid in
-      let home_here : (u : ℕ) → u < units_on places → current u ≡ Some (own u) = λ u low. home_is c places it laid u (unit_kept places it.count u laid.count low) in
+      let home_here : (u : ℕ) → u < units → current u ≡ Some (own u) = λ u low. home_is c places it laid u (unit_low u low) in
       record {
         least = laid.least;
         most = laid.most;
         formatted = ap not_formatted status_here;
-        geometry = ap other_geometry status_here ∙ status_geometry;
-        geometries = λ u low. ap other_geometry (home_here u low) ∙ data_geometry u low;
+        geometry = ap (status_geometry places) status_here ∙ status_kept;
+        geometries = λ u low. ap (other_geometry units) (home_here u low) ∙ data_geometry u low;
         there = λ u low. ap (missing u) (home_here u low);
         headers = λ u low. ap bad_header (home_here u low) ∙ data_good u low;
         header = ap bad_header status_here ∙ status_good;
@@ -299,3 +303,6 @@ laid_is_fine_or_spent c places it laid = elim (cases_lt (greatest_found c places
   | inl low ↦ inl (no_fault_from c places (record { formed = is_formed c places it laid; fresh = low }))
   | inr high ↦ inr (spent_from c places (is_formed c places it laid) high)
 ]
+
+pub laid_says_its_units : LaidSaysItsUnits
+laid_says_its_units c places it laid = units_are c places it laid

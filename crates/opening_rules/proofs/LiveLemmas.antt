@@ -2,10 +2,9 @@
 use Rattle.std.proofs.Common.{ℕ, ◌≡◌, ◌≢◌, ◌⊎◌, inl, inr, ◌/◌, ◌%◌, ◌<◌, ◌≤◌, Bool, true, nat_le, Option, Some, None, refl, sym, ◌∙◌, ap, arith, cond}
 use Rattle.std.proofs.lemmas.Bool.{cases_Bool, eqb-true, eq-eqb, leb-true, le-leb, and_parts, and_from, or_cases, or_left, or_right, cond-true, cond-false}
 use Rattle.std.proofs.lemmas.Option.{same_Some, cond_some}
-use Rattle.ipl_base.specs.Places.{units_on}
 use Rattle.ipl_format.specs.Sector.{Sector}
 use Rattle.ipl_meaning.specs.Chart.{Chart, IsChosen, IsDataHeader, IsOverflow, IsLive}
-use Rattle.opening_rules.specs.Chosen.{KeptHeader, Winner, head_of, header_at, current_at}
+use Rattle.opening_rules.specs.Chosen.{KeptHeader, Winner, head_of, header_at, current_at, units_at}
 use Rattle.opening_rules.specs.Live.{live_at, sectors, kept, is_commit_of, is_at, is_generation, is_log_spot_of, is_log_spot, is_log, seen, seen_at, is_overflow_place, is_place_of, is_live}
 use Rattle.opening_rules.specs.LiveLaws.{SectorsAre256, FoundCommitsCount, CommitsAreFound, FoundLogsAreLive, LiveLogsAreFound}
 use Rattle.opening_rules.proofs.HeaderLemmas.{header_there, header_kept, currents_are_chosen}
@@ -52,7 +51,7 @@ commit_to c winner s sector it =
 
 -- the current header of a unit stands at its place
 pub record IsHome (c : Chart) (places u : ℕ) (winner : Winner) : Type 0 where
-  pub low : u < units_on places
+  pub low : u < units_at c places
   pub sector : Sector
   pub chosen : IsChosen c places (IsDataHeader u) winner.place sector
   pub kept : winner.head ≡ head_of places sector

@@ -1,13 +1,15 @@
 -- A chart without a fault is laid out.
-use Rattle.std.proofs.Common.{ℕ, zero, suc, ◌≡◌, inl, inr, ◌+◌, ◌*◌, ◌/◌, ◌%◌, ◌<◌, ◌≤◌, Bool, true, false, nat_le, ◌==◌, ◌&&◌, List, [], ◌∷◌, map, Option, Some, None, refl, sym, ◌∙◌, ap, ap₂, subst, arith, cond, All}
-use Rattle.std.specs.Prelude.{IsTrue, unwrap_or, not, ◌||◌}
+use Rattle.std.proofs.Common.{ℕ, zero, suc, ◌≡◌, inl, inr, ◌+◌, ◌*◌, ◌/◌, ◌%◌, ◌<◌, ◌≤◌, Bool, true, false, nat_le, ◌==◌, ◌&&◌, List, [], ◌∷◌, map, Option, Some, None, unwrap_or, refl, sym, ◌∙◌, ap, ap₂, subst, arith, cond, All}
+use Rattle.std.specs.Prelude.{IsTrue, not, ◌||◌}
 use Rattle.std.specs.List.{Contains, list_any, count_by}
 use Rattle.std.specs.Option.{option_map}
-use Rattle.std.proofs.lemmas.Bool.{cases_Bool, eqb-true, eq-eqb, leb-false, and_parts, and_from, and_cases, or_parts, or_cases, or_left, or_right, not-true, cond-true, both_ways}
+use Rattle.std.proofs.lemmas.Bool.{cases_Bool, eqb-true, eq-eqb, leb-false, and_parts, and_from, and_cases, or_parts, or_cases, or_left, or_right, not-true, not-false, cond-true, both_ways}
 use Rattle.std.proofs.lemmas.List.{length-map, get_or-map}
 use Rattle.std.proofs.lemmas.Option.{same_Some, cond_some}
-use Rattle.ipl_base.specs.Places.{units_on}
-use Rattle.ipl_base.proofs.UnitLemmas.{units_are_kept}
+use Rattle.ipl_base.specs.declared.fault.ImageFault.TheVariants.{Geometry}
+use Rattle.ipl_base.specs.Places.{KeepsUnits, units_on}
+use Rattle.ipl_format.specs.Numbers.{word_at}
+use Rattle.ipl_format.specs.Header.{SpellsDataHeader, SpellsStatusHeader}
 use Rattle.ipl_format.specs.Record.{SpellsLog}
 use Rattle.ipl_format.specs.Commit.{SpellsCommit}
 use Rattle.ipl_format.specs.Sector.{Sector}
@@ -17,19 +19,19 @@ use Rattle.ipl_meaning.specs.Last.{is_number}
 use Rattle.ipl_meaning.specs.Layout.{Entry, Shape, IsEntry, IsListed, IsInOverflow, IsLog, IsUnit, IsCommitSector, IsCommitted, IsStatus, Layout, Laid}
 use Rattle.opening_rules.specs.First.{passes, count_below, joined_below}
 use Rattle.opening_rules.specs.Payloads.{is_log_payload, pieces_in, numbers_in, is_data_payload, is_status_payload, is_commit_payload}
-use Rattle.opening_rules.specs.Chosen.{KeptHeader, Winner, header_at, current_at, status_at, is_head_payload}
+use Rattle.opening_rules.specs.Chosen.{KeptHeader, Winner, header_at, units_told, current_at, status_at, units_at, is_head_payload}
 use Rattle.opening_rules.specs.Live.{is_at, sectors, commit_at, is_overflow_place, live_at, Mark, mark_of, mark_at, marks}
-use Rattle.opening_rules.specs.Faults.{malformed, not_formatted, missing, bad_header, commit_test, commit_fault, clashes, shares_overflow, is_full, is_log_well, log_test, is_in, holds_live}
+use Rattle.opening_rules.specs.Faults.{malformed, not_formatted, status_geometry, says_other, other_geometry, missing, bad_header, commit_test, commit_fault, clashes, shares_overflow, is_full, is_log_well, log_test, is_in, holds_live}
 use Rattle.opening_rules.specs.LaidOut.{numbers_of, committed_in, entry_of, entry_at, log_in, no_sector, place_of, sector_of, shape_in, layout_in}
 use Rattle.opening_rules.specs.Laws.{IsByteChart, NoFaultIsLaid, NoFaultIsFresh}
-use Rattle.opening_rules.proofs.PayloadLemmas.{data_payloads_are_spelled, status_payloads_are_spelled, commit_payloads_are_spelled, spelled_commits_pass, log_payloads_are_spelled}
+use Rattle.opening_rules.proofs.PayloadLemmas.{data_payloads_are_spelled, data_says, status_payloads_are_spelled, status_says, commit_payloads_are_spelled, spelled_commits_pass, log_payloads_are_spelled}
 use Rattle.opening_rules.proofs.HeaderLemmas.{statuses_are_chosen}
 use Rattle.opening_rules.proofs.BelowLemmas.{none_any, any_some, count_all, passing, passing_has, passing_count, joined_has, joined_from}
 use Rattle.opening_rules.proofs.SortLemmas.{AreApart, sorted_has, sorted_all, sorted_rises}
 use Rattle.opening_rules.proofs.LiveLemmas.{IsSeen, seen_spot, live_seen, sectors_are, commit_from, commit_to, IsHome, home_of, live_from, live_to, away_is_overflow}
 use Rattle.opening_rules.proofs.LaidLemmas.{mark_to}
 use Rattle.opening_rules.proofs.NumberLemmas.{found_below}
-use Rattle.opening_rules.proofs.PartLemmas.{HasNoFault, no_fault_parts, if_none}
+use Rattle.opening_rules.proofs.PartLemmas.{HasNoFault, units_kept, no_fault_parts, if_none}
 
 -- ---- single tests
 
@@ -40,6 +42,16 @@ formatted_from (Some winner) e = (winner, refl)
 there_from : (u : ℕ) (o : Option Winner) → missing u o ≡ None → (winner : Winner) × (o ≡ Some winner)
 there_from u None e = cc
 there_from u (Some winner) e = (winner, refl)
+
+-- a unit's header says no other number
+same_said : (units said : ℕ) (winner : Winner) → winner.head.said ≡ Some said → other_geometry units (Some winner) ≡ None → said ≡ units
+same_said units said winner is e =
+    let says : says_other units (Some said) ≡ false = ap (says_other units) (sym is) ∙ none_other (says_other units winner.head.said) e in
+    eqb-true said units (not-false (said == units) says)
+  where
+    none_other : (b : Bool) → cond b (Some Geometry) None ≡ None → b ≡ false
+    none_other true e = cc
+    none_other false e = refl
 
 header_well : (o : Option Winner) (winner : Winner) → o ≡ Some winner → bad_header o ≡ None → winner.head.well ≡ true
 header_well o winner is e = if_none winner.head.well (malformed winner.place 0) (ap bad_header (sym is) ∙ e)
@@ -251,7 +263,7 @@ module _ (c : Chart) (places : ℕ) (bytes : IsByteChart places c) (fine : HasNo
     is : current u ≡ Some winner
     home : IsHome c places u winner
 
-  has_home : (u : ℕ) → u < units_on places → HasHome u
+  has_home : (u : ℕ) → u < units_at c places → HasHome u
   has_home u low =
       let there = there_from u (current u) (fine.formed.there u low) in
       record { winner = there.0; is = there.1; home = home_of c places u there.0 there.1 }
@@ -259,7 +271,7 @@ module _ (c : Chart) (places : ℕ) (bytes : IsByteChart places c) (fine : HasNo
   sector_is : (o : Option Winner) (winner : Winner) (sector : Sector) → o ≡ Some winner → c winner.place 0 ≡ Some sector → sector_of c o ≡ sector
   sector_is o winner sector is here = ap (sector_of c) is ∙ ap (λ (x : Option Sector). unwrap_or x no_sector) here
 
-  unit_is : (u : ℕ) → u < units_on places → IsUnit c places (units_on places) u (shape_in c places u)
+  unit_is : (u : ℕ) → u < units_at c places → IsUnit c places (units_at c places) u (shape_in c places u)
   unit_is u low =
       let it = has_home u low in
       let head : Sector = it.home.sector in
@@ -267,18 +279,22 @@ module _ (c : Chart) (places : ℕ) (bytes : IsByteChart places c) (fine : HasNo
       let generation : it.winner.head.generation ≡ head.generation = ap (λ (h : KeptHeader). h.generation) it.home.kept in
       let well_is : is_head_payload head.version places head.kind head.payload ≡ true =
       ap (λ (h : KeptHeader). h.well) (sym it.home.kept) ∙ header_well (current u) it.winner it.is (fine.formed.headers u low) in
-      let passes_it : is_data_payload head.version (units_on places) head.payload ≡ true =
+      let passes_it : is_data_payload head.version head.payload ≡ true =
       ap (λ (kind : ℕ). is_head_payload head.version places kind head.payload) (sym it.home.chosen.fits.0) ∙ well_is in
+      let said : word_at 0 head.payload ≡ units_at c places = same_said (units_at c places) (word_at 0 head.payload) it.winner
+      (ap (λ (h : KeptHeader). h.said) it.home.kept ∙ data_says head.version head.payload passes_it)
+      (ap (other_geometry (units_at c places)) (sym it.is) ∙ fine.formed.geometries u low) in
       let shape : Shape = record { home = it.winner.place; head = head; pieces = pieces_in head.payload; log = log_in c places u } in
       let same : shape ≡ shape_in c places u = ap₂ (λ (p : ℕ) (s : Sector). let x : Shape = record { home = p; head = s; pieces = pieces_in s.payload; log = log_in c places u } in x)
       (sym (ap place_of it.is)) (sym (sector_is (current u) it.winner head it.is here)) in
-      subst (IsUnit c places (units_on places) u) same (record {
+      subst (IsUnit c places (units_at c places) u) same (record {
         chosen = it.home.chosen;
-        counts = data_payloads_are_spelled head.version (units_on places) head.payload (bytes it.winner.place 0 head it.home.chosen.within (omega arith) (inl refl) here) passes_it;
+        counts = subst (λ (n : ℕ). SpellsDataHeader head.version n (pieces_in head.payload) head.payload) said
+            (data_payloads_are_spelled head.version head.payload (bytes it.winner.place 0 head it.home.chosen.within (omega arith) (inl refl) here) passes_it);
         log = subst (λ (g : ℕ). IsLog c places u it.winner.place g (log_in c places u)) generation (is_log u it.winner it.is);
       })
 
-  in_overflow : (u : ℕ) → u < units_on places → All (IsInOverflow (passing (holds_live heads all_marks) places) (shape_in c places u).home) (shape_in c places u).log
+  in_overflow : (u : ℕ) → u < units_at c places → All (IsInOverflow (passing (holds_live heads all_marks) places) (shape_in c places u).home) (shape_in c places u).log
   in_overflow u low =
       let it = has_home u low in
       subst (λ (p : ℕ). All (IsInOverflow (passing (holds_live heads all_marks) places) p) (log_in c places u)) (sym (ap place_of it.is))
@@ -328,17 +344,21 @@ module _ (c : Chart) (places : ℕ) (bytes : IsByteChart places c) (fine : HasNo
         let generation : winner.head.generation ≡ head.generation = ap (λ (h : KeptHeader). h.generation) it.head in
         let well_is : is_head_payload head.version places head.kind head.payload ≡ true =
         ap (λ (h : KeptHeader). h.well) (sym it.head) ∙ header_well (status_at c places) winner is fine.formed.header in
-        let passes_it : is_status_payload head.version places (units_on places) head.payload ≡ true =
+        let passes_it : is_status_payload head.version places head.payload ≡ true =
         ap (λ (kind : ℕ). is_head_payload head.version places kind head.payload) (sym it.counts.fits) ∙ well_is in
-        let layout : Layout = record { status = winner.place; head = head; committed = committed_in c (Some winner); count = units_on places; units = shape_in c places } in
-        let same : layout ≡ layout_in c places = ap₂ (λ (o : Option Winner) (s : Sector). let x : Layout = record { status = place_of o; head = s; committed = committed_in c o; count = units_on places; units = shape_in c places } in x)
+        let units : units_at c places ≡ units_told places (Some winner) = ap (units_told places) is in
+        let said : units_at c places ≡ word_at 0 head.payload = units ∙ ap (λ (o : Option ℕ). unwrap_or o (units_on places))
+        (ap (λ (h : KeptHeader). h.said) it.head ∙ status_says head.version places head.payload passes_it) in
+        let layout : Layout = record { status = winner.place; head = head; committed = committed_in c (Some winner); count = units_at c places; units = shape_in c places } in
+        let same : layout ≡ layout_in c places = ap₂ (λ (o : Option Winner) (s : Sector). let x : Layout = record { status = place_of o; head = s; committed = committed_in c o; count = units_at c places; units = shape_in c places } in x)
         (sym is) (sym (sector_is (status_at c places) winner head is here)) in
         subst (Laid places c) same (record {
           least = fine.formed.least;
           most = fine.formed.most;
-          count = units_are_kept places (fine.formed.least, fine.formed.most);
+          count = subst (KeepsUnits places) (sym units) (units_kept places winner (ap (status_geometry places) (sym is) ∙ fine.formed.geometry));
           chosen = it.counts;
-          counts = status_payloads_are_spelled head.version places (units_on places) head.payload (bytes winner.place 0 head it.counts.within (omega arith) (inl refl) here) passes_it;
+          counts = subst (λ (n : ℕ). SpellsStatusHeader head.version places n head.payload) (sym said)
+              (status_payloads_are_spelled head.version places head.payload (bytes winner.place 0 head it.counts.within (omega arith) (inl refl) here) passes_it);
           commits = subst (λ (g : ℕ). IsStatus c winner.place g (committed_in c (Some winner))) generation status_is;
           each = unit_is;
           overflows = passing (holds_live heads all_marks) places;

@@ -1,11 +1,11 @@
 -- The greatest number found.
-use Rattle.std.proofs.Common.{ℕ, ◌≡◌, ◌⊎◌, inl, inr, ◌+◌, ◌*◌, ◌/◌, ◌%◌, ◌<◌, ◌≤◌, List, [], map, max, Option, Some, None, refl, sym, ◌∙◌, ap, ap₂, subst, arith, zero, suc, ◌∷◌}
+use Rattle.std.proofs.Common.{ℕ, ◌≡◌, ◌⊎◌, inl, inr, ◌+◌, ◌*◌, ◌/◌, ◌%◌, ◌<◌, ◌≤◌, List, [], map, max, Option, Some, None, unwrap_or, refl, sym, ◌∙◌, ap, ap₂, subst, arith, zero, suc, ◌∷◌}
 use Rattle.std.specs.List.{Contains}
 use Rattle.std.proofs.Math.Nat.{le-max_left, le-max_right}
 use Rattle.std.proofs.lemmas.Bool.{cases_Bool, leb-true, le-leb, and_parts, and_from, cond-true, cond-false}
 use Rattle.std.proofs.lemmas.Option.{same_Some}
 use Rattle.std.proofs.lemmas.List.{length-map, get_or-map}
-use Rattle.ipl_base.proofs.UnitLemmas.{unit_on, unit_kept}
+use Rattle.ipl_base.specs.Places.{units_on}
 use Rattle.ipl_format.specs.Sector.{Sector}
 use Rattle.ipl_format.specs.Record.{Record, SpellsLog}
 use Rattle.ipl_format.specs.Commit.{SpellsCommit}
@@ -14,11 +14,11 @@ use Rattle.ipl_meaning.specs.Chart.{Chart, IsHeader}
 use Rattle.ipl_meaning.specs.Layout.{Layout, Laid, IsCommitSector}
 use Rattle.ipl_meaning.specs.Found.{IsLogSpot, IsRead, Mentions, IsFoundNumber}
 use Rattle.opening_rules.specs.Payloads.{numbers_in, is_commit_payload, is_log_payload, numbers_told, tid_of, tids_told}
-use Rattle.opening_rules.specs.Chosen.{KeptHeader, Winner, head_of, header_at, current_at, status_at}
+use Rattle.opening_rules.specs.Chosen.{KeptHeader, Winner, head_of, header_at, units_told, current_at, status_at, units_at}
 use Rattle.opening_rules.specs.Live.{sectors, commit_at, seen, seen_at}
 use Rattle.opening_rules.specs.Faults.{head_number, commit_number, log_number, greatest_of_heads, greatest_of_commits, greatest_found}
 use Rattle.opening_rules.specs.Laws.{IsByteChart, GreatestIsAbove, GreatestIsFound}
-use Rattle.opening_rules.proofs.PayloadLemmas.{spelled_commits_pass, spelled_logs_pass, log_payloads_are_spelled}
+use Rattle.opening_rules.proofs.PayloadLemmas.{spelled_status_passes, spelled_commits_pass, spelled_logs_pass, log_payloads_are_spelled}
 use Rattle.opening_rules.proofs.HeaderLemmas.{header_there, header_kept, current_low, chosen_are_current, chosen_are_status}
 use Rattle.opening_rules.proofs.BelowLemmas.{max_cases, least-le, each-le, greatest_from, greatest_of-least, greatest_of-each, greatest_of_from}
 use Rattle.opening_rules.proofs.LiveLemmas.{seen_spot, sectors_are, MayStand, IsSeen, seen_from, seen_to, commit_from, commit_to}
@@ -101,11 +101,16 @@ module _ (c : Chart) (places : ℕ) (it : Layout) (laid : Laid places c it) wher
   pub status_is : status_at c places ≡ Some status
   status_is = chosen_are_status c places it.status it.head laid.chosen
 
+  -- the status header says how many units there are
+  pub units_are : units_at c places ≡ it.count
+  units_are = ap (units_told places) status_is
+      ∙ ap (λ (o : Option ℕ). unwrap_or o (units_on places)) (spelled_status_passes it.head.version places it.count it.head.payload laid.most laid.counts).1
+
   abbrev home : ℕ → Winner
   home u = record { place = (it.units u).home; head = head_of places (it.units u).head }
 
   pub home_is : (u : ℕ) → u < it.count → current_at c places u ≡ Some (home u)
-  home_is u low = chosen_are_current c places u (it.units u).home (it.units u).head (unit_on places it.count u laid.count low) (laid.each u low).chosen
+  home_is u low = chosen_are_current c places u (it.units u).home (it.units u).head (omega (arith, low, units_are)) (laid.each u low).chosen
 
   abbrev heads_greatest : ℕ
   heads_greatest = greatest_of_heads (header_at c places) places
@@ -210,7 +215,7 @@ module _ (c : Chart) (places : ℕ) (it : Layout) (laid : Laid places c it) wher
 
   spot_back : (p s : ℕ) → MayStand c places p s → IsLogSpot c it p s
   spot_back p s (inl (u, winner, is, same, high)) =
-      let low = unit_kept places it.count u laid.count (current_low c places u winner is) in
+      let low : u < it.count = let less = current_low c places u winner is in omega (arith, less, units_are) in
       let one : winner ≡ home u = same_Some winner (home u) (sym is ∙ home_is u low) in
       inl (u, low, same ∙ ap (λ (x : Winner). x.place) one, high)
   spot_back p s (inr over) = inr over

@@ -1,16 +1,16 @@
 -- No fault is no fault of each kind.
-use Rattle.std.proofs.Common.{ℕ, ◌≡◌, ◌*◌, ◌^◌, ◌<◌, ◌≤◌, nat_lt, nat_le, Bool, true, false, cond, ◌&&◌, Option, Some, None, refl}
+use Rattle.std.proofs.Common.{ℕ, ◌≡◌, ◌+◌, ◌*◌, ◌^◌, ◌<◌, ◌≤◌, nat_lt, nat_le, Bool, true, false, cond, ◌&&◌, Option, Some, None, refl}
 use Rattle.std.specs.Option.{option_or}
 use Rattle.std.proofs.lemmas.Bool.{leb-true, ltb-true, le-leb, lt-ltb, le-ltb, and_parts, and_from, cond-true, cond-false}
 use Rattle.ipl_base.specs.declared.fault.ImageFault.{ImageFault}
 use Rattle.ipl_base.specs.declared.fault.ImageFault.TheVariants.{Geometry, Spent, NoSpare}
 use Rattle.ipl_meaning.specs.Chart.{Chart}
 use Rattle.ipl_base.specs.First.{first_below}
-use Rattle.opening_rules.specs.Chosen.{header_at, current_at, status_at}
+use Rattle.opening_rules.specs.Chosen.{Winner, header_at, current_at, status_at, units_told, units_at}
 use Rattle.opening_rules.specs.Live.{sectors}
-use Rattle.opening_rules.specs.Faults.{size_fault, not_formatted, other_geometry, missing, bad_header, header_fault, commit_fault, first_commit_fault, log_fault, first_log_fault, greatest_found, spent, overflows_found, no_spare, first_fault}
+use Rattle.opening_rules.specs.Faults.{size_fault, not_formatted, keeps_units, status_geometry, other_geometry, missing, bad_header, header_fault, commit_fault, first_commit_fault, log_fault, first_log_fault, greatest_found, spent, overflows_found, no_spare, first_fault}
 use Rattle.ipl_base.proofs.FirstLemmas.{or_none, first_none, none_before}
-use Rattle.ipl_base.specs.Places.{units_on}
+use Rattle.ipl_base.specs.Places.{KeepsUnits}
 
 -- ---- six that are not there
 
@@ -33,6 +33,23 @@ pub if_none : {A : Type 0} (b : Bool) (x : A) → cond b None (Some x) ≡ None 
 if_none true x e = refl
 if_none false x e = cc
 
+-- ---- how many units are kept
+
+keeps_from : (places units : ℕ) → keeps_units places units ≡ true → KeepsUnits places units
+keeps_from places units is =
+    let a = and_parts (nat_le 1 units) (nat_le (units + 4) places && nat_le places (units + 4 + 64)) is in
+    let b = and_parts (nat_le (units + 4) places) (nat_le places (units + 4 + 64)) a.1 in
+    (leb-true 1 units a.0, leb-true (units + 4) places b.0, leb-true places (units + 4 + 64) b.1)
+
+pub keeps_to : (places units : ℕ) → KeepsUnits places units → keeps_units places units ≡ true
+keeps_to places units it =
+    and_from (nat_le 1 units) _ (le-leb 1 units it.0)
+    (and_from (nat_le (units + 4) places) _ (le-leb (units + 4) places it.1) (le-leb places (units + 4 + 64) it.2))
+
+-- the status header says a number that may be kept
+pub units_kept : (places : ℕ) (winner : Winner) → status_geometry places (Some winner) ≡ None → KeepsUnits places (units_told places (Some winner))
+units_kept places winner e = keeps_from places (units_told places (Some winner)) (if_none (keeps_units places (units_told places (Some winner))) Geometry e)
+
 -- ---- the parts
 
 -- each test passes but that of the numbers
@@ -40,10 +57,10 @@ pub record IsFormed (c : Chart) (places : ℕ) : Type 0 where
   pub least : 5 ≤ places
   pub most : places ≤ 1028
   pub formatted : not_formatted (status_at c places) ≡ None
-  pub geometry : other_geometry (status_at c places) ≡ None
-  pub geometries : (u : ℕ) → u < units_on places → other_geometry (current_at c places u) ≡ None
-  pub there : (u : ℕ) → u < units_on places → missing u (current_at c places u) ≡ None
-  pub headers : (u : ℕ) → u < units_on places → bad_header (current_at c places u) ≡ None
+  pub geometry : status_geometry places (status_at c places) ≡ None
+  pub geometries : (u : ℕ) → u < units_at c places → other_geometry (units_at c places) (current_at c places u) ≡ None
+  pub there : (u : ℕ) → u < units_at c places → missing u (current_at c places u) ≡ None
+  pub headers : (u : ℕ) → u < units_at c places → bad_header (current_at c places u) ≡ None
   pub header : bad_header (status_at c places) ≡ None
   pub commits : (s : ℕ) → s < sectors → commit_fault c (status_at c places) s ≡ None
   pub logs : (k : ℕ) → k < places * 256 → log_fault (header_at c places) (current_at c places) c k ≡ None
@@ -56,19 +73,19 @@ pub record HasNoFault (c : Chart) (places : ℕ) : Type 0 where
 
 module _ (c : Chart) (places : ℕ) where
   abbrev geometries_fault : Option ImageFault
-  geometries_fault = first_below (λ u. other_geometry (current_at c places u)) (units_on places)
+  geometries_fault = first_below (λ u. other_geometry (units_at c places) (current_at c places u)) (units_at c places)
 
   abbrev missing_fault : Option ImageFault
-  missing_fault = first_below (λ u. missing u (current_at c places u)) (units_on places)
+  missing_fault = first_below (λ u. missing u (current_at c places u)) (units_at c places)
 
   abbrev headers_fault : Option ImageFault
-  headers_fault = first_below (λ u. bad_header (current_at c places u)) (units_on places)
+  headers_fault = first_below (λ u. bad_header (current_at c places u)) (units_at c places)
 
   pub no_fault_parts : first_fault c places ≡ None → HasNoFault c places
   no_fault_parts e =
       let all = six_parts (size_fault places) (header_fault c places) (first_commit_fault c places) (first_log_fault c places) (spent (greatest_found c places))
       (no_spare (overflows_found c places)) e in
-      let heads = six_parts (not_formatted (status_at c places)) (other_geometry (status_at c places)) geometries_fault missing_fault headers_fault
+      let heads = six_parts (not_formatted (status_at c places)) (status_geometry places (status_at c places)) geometries_fault missing_fault headers_fault
       (bad_header (status_at c places)) all.1 in
       let bounds = and_parts (nat_le 5 places) (nat_le places 1028) (if_none (nat_le 5 places && nat_le places 1028) Geometry all.0) in
       record {
@@ -77,9 +94,9 @@ module _ (c : Chart) (places : ℕ) where
           most = leb-true places 1028 bounds.1;
           formatted = heads.0;
           geometry = heads.1;
-          geometries = none_before (λ u. other_geometry (current_at c places u)) (units_on places) heads.2;
-          there = none_before (λ u. missing u (current_at c places u)) (units_on places) heads.3;
-          headers = none_before (λ u. bad_header (current_at c places u)) (units_on places) heads.4;
+          geometries = none_before (λ u. other_geometry (units_at c places) (current_at c places u)) (units_at c places) heads.2;
+          there = none_before (λ u. missing u (current_at c places u)) (units_at c places) heads.3;
+          headers = none_before (λ u. bad_header (current_at c places u)) (units_at c places) heads.4;
           header = heads.5;
           commits = none_before (commit_fault c (status_at c places)) sectors all.2;
           logs = none_before (log_fault (header_at c places) (current_at c places) c) (places * 256) all.3;
@@ -93,12 +110,12 @@ module _ (c : Chart) (places : ℕ) where
     size_passes = cond-true (nat_le 5 places && nat_le places 1028) None (Some Geometry) (and_from _ _ (le-leb 5 places it.least) (le-leb places 1028 it.most))
 
     headers_pass : header_fault c places ≡ None
-    headers_pass = six_none (not_formatted (status_at c places)) (other_geometry (status_at c places)) geometries_fault missing_fault headers_fault (bad_header (status_at c places))
+    headers_pass = six_none (not_formatted (status_at c places)) (status_geometry places (status_at c places)) geometries_fault missing_fault headers_fault (bad_header (status_at c places))
         it.formatted
         it.geometry
-        (first_none (λ u. other_geometry (current_at c places u)) (units_on places) it.geometries)
-        (first_none (λ u. missing u (current_at c places u)) (units_on places) it.there)
-        (first_none (λ u. bad_header (current_at c places u)) (units_on places) it.headers)
+        (first_none (λ u. other_geometry (units_at c places) (current_at c places u)) (units_at c places) it.geometries)
+        (first_none (λ u. missing u (current_at c places u)) (units_at c places) it.there)
+        (first_none (λ u. bad_header (current_at c places u)) (units_at c places) it.headers)
         it.header
 
     commits_pass : first_commit_fault c places ≡ None

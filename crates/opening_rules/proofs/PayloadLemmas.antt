@@ -1,8 +1,8 @@
 -- The tests of payloads are their grammars.
-use Rattle.std.proofs.Common.{◌≡◌, inl, inr, ◌≤◌, ◌<◌, ℕ, zero, suc, ◌+◌, ◌*◌, ◌/◌, ◌%◌, true, false, eqb, List, [], ◌∷◌, ◌++◌, Option, Some, None, ◌∙◌, ap, ap₂, sym, refl, subst, arith, length, take, drop, get_or, All, length-drop}
+use Rattle.std.proofs.Common.{◌≡◌, inl, inr, ◌≤◌, ◌<◌, ℕ, zero, suc, ◌+◌, ◌*◌, ◌/◌, ◌%◌, Bool, true, false, eqb, leb, List, [], ◌∷◌, ◌++◌, Option, Some, None, cond, ◌∙◌, ap, ap₂, sym, refl, subst, arith, length, take, drop, get_or, All, length-drop}
 use Rattle.std.specs.List.{list_all, flat_map}
 use Rattle.std.specs.Option.{option_map_or}
-use Rattle.std.proofs.lemmas.Bool.{eqb-true, leb-true, eq-eqb, le-leb, and_parts, and_from, or_cases, or_left, or_right}
+use Rattle.std.proofs.lemmas.Bool.{eqb-true, leb-true, eq-eqb, le-leb, and_parts, and_from, or_cases, or_left, or_right, cond-true}
 use Rattle.std.proofs.lemmas.List.{take-append-drop, drop_at, nil_from_length}
 use Rattle.std.proofs.lemmas.List.Elements.{All-nil, All-cons, All-head, All-tail}
 use Rattle.ipl_format.specs.Numbers.{IsBytes, long, word_at, long_at}
@@ -10,7 +10,7 @@ use Rattle.ipl_format.specs.Record.{Record, IsRecord, SpellsLog, record_bytes, l
 use Rattle.ipl_format.specs.Commit.{IsLong}
 use Rattle.ipl_format.specs.Header.{IsCount}
 use Rattle.ipl_format.specs.Laws.{erases_size}
-use Rattle.ipl_format.proofs.HeaderOnceLemmas.{data_headers_have_sizes}
+use Rattle.ipl_format.proofs.HeaderOnceLemmas.{data_headers_have_sizes, status_headers_have_sizes}
 use Rattle.ipl_format.proofs.ListLemmas.{bytes-drop}
 use Rattle.ipl_format.proofs.NumberLemmas.{length-long, long_rebuilt, long_at-lt, long_again}
 use Rattle.ipl_format.proofs.PayloadLemmas.{commits_have_sizes}
@@ -18,9 +18,17 @@ use Rattle.log_records.specs.Reading.{record_at}
 use Rattle.log_records.proofs.RecordLemmas.{again, takes, shorter}
 use Rattle.log_records.proofs.RecordsLemmas.{records_list}
 use Rattle.unit_layout.proofs.HeaderLemmas.{data_read, data_number, data_parts}
-use Rattle.unit_layout.proofs.StatusLemmas.{status_spelled, status_passes}
-use Rattle.opening_rules.specs.Payloads.{pieces_in, is_count, numbers_within, is_list_within, is_log_payload}
+use Rattle.unit_layout.proofs.StatusLemmas.{status_spelled, status_passes, status_retired}
+use Rattle.unit_layout.specs.Retired.{is_status_length, may_be_retired, retired_in}
+use Rattle.opening_rules.specs.Payloads.{said_in, pieces_in, is_count, is_data_payload, is_status_payload, numbers_within, is_list_within, is_log_payload}
 use Rattle.opening_rules.specs.PayloadLaws.{DataPayloadsAreSpelled, SpelledDataPasses, StatusPayloadsAreSpelled, SpelledStatusPasses, CommitPayloadsAreSpelled, SpelledCommitsPass, LogPayloadsAreSpelled, SpelledLogsPass}
+
+-- ---- how many units are said
+
+-- a payload that has room for a number says it
+says : (payload : List ℕ) (units : ℕ) → 4 ≤ length payload → word_at 0 payload ≡ units → said_in payload ≡ Some units
+says payload units size number =
+    cond-true (leb 4 (length payload)) (Some (word_at 0 payload)) None (le-leb 4 (length payload) size) ∙ ap Some number
 
 -- ---- data headers
 
@@ -33,35 +41,55 @@ counts_pass [] each = refl
 counts_pass (x ∷ xs) each = and_from _ _ (le-leb x 16 (All-head IsCount x xs each)) (counts_pass xs (All-tail IsCount x xs each))
 
 pub data_payloads_are_spelled : DataPayloadsAreSpelled
-data_payloads_are_spelled version units payload all is =
+data_payloads_are_spelled version payload all is =
     let a = and_parts _ _ is in
-    let b = and_parts _ _ a.1 in
-    let d = and_parts _ _ b.1 in
-    (data_read version units (pieces_in payload) payload (eqb-true (length payload) (20 + erases_size version) a.0) all
-    (sym (eqb-true (word_at 0 payload) units b.0)) refl (counts_are (pieces_in payload) d.0) (leb-true (get_or payload 19 0) 12 d.1)).0
+    let d = and_parts _ _ a.1 in
+    (data_read version (word_at 0 payload) (pieces_in payload) payload (eqb-true (length payload) (20 + erases_size version) a.0) all
+    refl refl (counts_are (pieces_in payload) d.0) (leb-true (get_or payload 19 0) 12 d.1)).0
+
+-- what passes says a number of units
+pub data_says : (version : ℕ) (payload : List ℕ) → is_data_payload version payload ≡ true → said_in payload ≡ Some (word_at 0 payload)
+data_says version payload is =
+    let size = eqb-true (length payload) (20 + erases_size version) (and_parts _ _ is).0 in
+    says payload (word_at 0 payload) (omega (arith, size)) refl
 
 pub spelled_data_passes : SpelledDataPasses
 spelled_data_passes version units pieces payload it =
     let size = data_headers_have_sizes version payload units pieces it in
     let number = data_number version units pieces payload it in
     let (same, last) = data_parts version units pieces payload it in (
-      and_from _ _ (eq-eqb (length payload) (20 + erases_size version) size) (and_from _ _ (eq-eqb (word_at 0 payload) units number)
-          (and_from _ _ (ap (list_all is_count) same ∙ counts_pass pieces it.each) (le-leb (get_or payload 19 0) 12 (let few = it.few in omega (arith, few, last))))),
+      and_from _ _ (eq-eqb (length payload) (20 + erases_size version) size)
+          (and_from _ _ (ap (list_all is_count) same ∙ counts_pass pieces it.each) (le-leb (get_or payload 19 0) 12 (let few = it.few in omega (arith, few, last)))),
+      says payload units (omega (arith, size)) number,
       same,
     )
 
 -- ---- status headers
 
 pub status_payloads_are_spelled : StatusPayloadsAreSpelled
-status_payloads_are_spelled version places units payload all is =
+status_payloads_are_spelled version places payload all is =
     let a = and_parts _ _ is in
-    let b = and_parts _ _ a.1 in
-    (status_spelled version places units payload all a.0 (sym (eqb-true (word_at 0 payload) units b.0)) b.1).0
+    (status_spelled version places (word_at 0 payload) payload all a.0 refl a.1).0
+
+status_room : (version : ℕ) (payload : List ℕ) → is_status_length version payload ≡ true → 4 ≤ length payload
+status_room version payload is = room (leb 3 version) is
+  where
+    room : (later : Bool) → cond later (eqb (length payload) (9 + 4 * get_or payload 8 0)) (eqb (length payload) 4) ≡ true → 4 ≤ length payload
+    room true long = let size = eqb-true (length payload) (9 + 4 * get_or payload 8 0) long in omega (arith, size)
+    room false short = let size = eqb-true (length payload) 4 short in omega (arith, size)
+
+-- what passes says a number of units
+pub status_says : (version places : ℕ) (payload : List ℕ) → is_status_payload version places payload ≡ true → said_in payload ≡ Some (word_at 0 payload)
+status_says version places payload is = says payload (word_at 0 payload) (status_room version payload (and_parts _ _ is).0) refl
 
 pub spelled_status_passes : SpelledStatusPasses
 spelled_status_passes version places units payload low it =
     let passes = status_passes version places units payload (omega (arith, low)) it in
-    and_from _ _ passes.0 (and_from _ _ (eq-eqb (word_at 0 payload) units passes.1) passes.2)
+    let size = status_headers_have_sizes version places payload units it in (
+      and_from _ _ passes.0 (ap (λ (n : ℕ). may_be_retired places n (retired_in version payload)) passes.1 ∙ passes.2),
+      says payload units (omega (arith, size)) passes.1,
+      status_retired version places units payload (omega (arith, low)) it,
+    )
 
 -- ---- commit sectors
 

@@ -1,14 +1,14 @@
 -- What each fault says of a chart.
-use Rattle.std.specs.Prelude.{ℕ, ◌≡◌, ◌⊎◌, ◌<◌, ◌≤◌, ◌/◌, ◌%◌, ◌^◌, false, true, Some}
+use Rattle.std.specs.Prelude.{ℕ, ◌≡◌, ◌≢◌, ◌⊎◌, ◌<◌, ◌≤◌, ◌/◌, ◌%◌, ◌^◌, false, true, Some}
 use Rattle.ipl_base.specs.declared.limits.TheConstants.{SECTORS, LEAST_PLACES, MOST_PLACES, OVERFLOW_PLACES}
 use Rattle.ipl_base.specs.declared.fault.ChipFault.TheVariants.{ReadFault, Stopped, Damaged, Malformed, WornOut}
 use Rattle.ipl_base.specs.declared.fault.ImageFault.{ImageFault}
 use Rattle.ipl_base.specs.declared.fault.ImageFault.TheVariants.{Geometry, NotFormatted, Missing, Chip, Spent, NoSpare}
-use Rattle.ipl_base.specs.Places.{units_on}
+use Rattle.ipl_base.specs.Places.{KeepsUnits}
 use Rattle.ipl_format.specs.Sector.{Sector}
 use Rattle.ipl_meaning.specs.Chart.{Chart, IsChosen, IsDataHeader, IsStatusHeader}
-use Rattle.opening_rules.specs.Payloads.{begins_with_other_units, is_commit_payload}
-use Rattle.opening_rules.specs.Chosen.{Winner, is_head_payload, status_at}
+use Rattle.opening_rules.specs.Payloads.{said_in, is_commit_payload}
+use Rattle.opening_rules.specs.Chosen.{Winner, is_head_payload, status_at, units_at}
 use Rattle.opening_rules.specs.Live.{sectors, commit_at}
 use Rattle.opening_rules.specs.Faults.{malformed, greatest_found, overflows_found, first_fault}
 use Rattle.opening_rules.specs.FaultLaws.{IsLeastMissing, IsFirstBadLog}
@@ -17,14 +17,27 @@ use Rattle.opening_rules.specs.FaultLaws.{IsLeastMissing, IsFirstBadLog}
 abbrev pub HeaderCounts : Chart → ℕ → ℕ → Sector → Type 0
 HeaderCounts c places p head =
     IsChosen c places IsStatusHeader p head
-    ⊎ ((u : ℕ) × (u < units_on places) × IsChosen c places (IsDataHeader u) p head)
+    ⊎ ((u : ℕ) × (u < units_at c places) × IsChosen c places (IsDataHeader u) p head)
 
--- a header that counts was written for another number of units
-pub record HasOtherUnits (c : Chart) (places : ℕ) : Type 0 where
+-- the status header says a number of units that may not be kept on so many places
+pub record HasWrongUnits (c : Chart) (places : ℕ) : Type 0 where
   pub place : ℕ
   pub head : Sector
-  pub counts : HeaderCounts c places place head
-  pub other : begins_with_other_units (units_on places) head.payload ≡ true
+  pub counts : IsChosen c places IsStatusHeader place head
+  pub units : ℕ
+  pub said : said_in head.payload ≡ Some units
+  pub refused : ¬ KeepsUnits places units
+
+-- the header of a unit says another number of units than the status header
+pub record HasOtherUnits (c : Chart) (places : ℕ) : Type 0 where
+  pub unit : ℕ
+  pub low : unit < units_at c places
+  pub place : ℕ
+  pub head : Sector
+  pub counts : IsChosen c places (IsDataHeader unit) place head
+  pub units : ℕ
+  pub said : said_in head.payload ≡ Some units
+  pub other : units ≢ units_at c places
 
 -- the header at this place counts, and its payload is not in the grammar of its kind
 pub record HasBadHeader (c : Chart) (places p : ℕ) : Type 0 where
@@ -54,7 +67,7 @@ IsBadSector c places p s =
 -- the cause of each fault; those of failed calls have none here
 abbrev pub IsCaused : Chart → ℕ → ImageFault → Type 0
 IsCaused c places Geometry = (places < LEAST_PLACES) ⊎ (MOST_PLACES < places)
-    ⊎ HasOtherUnits c places
+    ⊎ HasWrongUnits c places ⊎ HasOtherUnits c places
 IsCaused c places NotFormatted = (p : ℕ) (head : Sector) → p < places → c p 0 ≡ Some head → ¬ IsStatusHeader head
 IsCaused c places (Missing u) = IsLeastMissing c places u
 IsCaused c places (Chip ReadFault) = ⊥

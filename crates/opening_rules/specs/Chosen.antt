@@ -1,10 +1,10 @@
 -- The headers of a chip, and which of them count.
-use Rattle.std.specs.Prelude.{ℕ, zero, suc, nat_lt, nat_le, ◌==◌, ◌&&◌, Bool, true, List, Option, Some, None, if◌then◌else◌}
+use Rattle.std.specs.Prelude.{ℕ, zero, suc, nat_lt, nat_le, ◌==◌, ◌&&◌, Bool, true, List, Option, Some, None, unwrap_or, if◌then◌else◌}
 use Rattle.ipl_base.specs.Places.{units_on}
 use Rattle.ipl_format.specs.Sector.{Sector}
 use Rattle.ipl_format.specs.Header.{erases_said}
 use Rattle.ipl_meaning.specs.Chart.{Chart}
-use Rattle.opening_rules.specs.Payloads.{begins_with_other_units, is_data_payload, is_status_payload}
+use Rattle.opening_rules.specs.Payloads.{said_in, is_data_payload, is_status_payload}
 
 -- what a table keeps of a header
 pub record KeptHeader : Type 0 where
@@ -12,8 +12,8 @@ pub record KeptHeader : Type 0 where
   pub unit : ℕ
   pub generation : ℕ
   pub serial : ℕ
-  -- it was written for another number of units
-  pub foreign : Bool
+  -- the number of units that it says, if it says one
+  pub said : Option ℕ
   -- its payload is in the grammar of its kind
   pub well : Bool
   -- how often its place was erased
@@ -28,8 +28,8 @@ pub record Winner : Type 0 where
 -- isn't tested
 abbrev pub is_head_payload : ℕ → ℕ → ℕ → List ℕ → Bool
 is_head_payload version places kind payload =
-    if kind == 1 then is_data_payload version (units_on places) payload
-    else if kind == 2 then is_status_payload version places (units_on places) payload
+    if kind == 1 then is_data_payload version payload
+    else if kind == 2 then is_status_payload version places payload
     else true
 
 -- what is kept of this one, on a chip of so many places
@@ -39,7 +39,7 @@ head_of places sector = record {
   unit = sector.unit;
   generation = sector.generation;
   serial = sector.serial;
-  foreign = begins_with_other_units (units_on places) sector.payload;
+  said = said_in sector.payload;
   well = is_head_payload sector.version places sector.kind sector.payload;
   erases = erases_said (Some sector);
 }
@@ -82,18 +82,32 @@ abbrev pub chosen : (KeptHeader → Bool) → (ℕ → Option KeptHeader) → �
 chosen fits heads zero = None
 chosen fits heads (suc n) = picked fits (chosen fits heads n) n (heads n)
 
--- the current header of each unit
-abbrev pub current_in : (ℕ → Option KeptHeader) → ℕ → ℕ → Option Winner
-current_in heads places u = if nat_lt u (units_on places) then chosen (is_data_of u) heads places else None
-
 -- the status header
 abbrev pub status_in : (ℕ → Option KeptHeader) → ℕ → Option Winner
 status_in heads places = chosen is_status heads places
 
--- the current header of each unit of a chart
-abbrev pub current_at : Chart → ℕ → ℕ → Option Winner
-current_at c places = current_in (header_at c places) places
+-- how many units are kept, which the status header says: where it doesn't say it, or there is none, as many as where no
+-- place is spare
+abbrev pub units_told : ℕ → Option Winner → ℕ
+units_told places None = units_on places
+units_told places (Some winner) = unwrap_or winner.head.said (units_on places)
+
+-- the same, by the headers
+abbrev pub units_in : (ℕ → Option KeptHeader) → ℕ → ℕ
+units_in heads places = units_told places (status_in heads places)
+
+-- the current header of each unit
+abbrev pub current_in : (ℕ → Option KeptHeader) → ℕ → ℕ → Option Winner
+current_in heads places u = if nat_lt u (units_in heads places) then chosen (is_data_of u) heads places else None
 
 -- the status header of a chart
 abbrev pub status_at : Chart → ℕ → Option Winner
 status_at c places = status_in (header_at c places) places
+
+-- how many units are kept on a chart of so many places
+abbrev pub units_at : Chart → ℕ → ℕ
+units_at c places = units_in (header_at c places) places
+
+-- the current header of each unit of a chart
+abbrev pub current_at : Chart → ℕ → ℕ → Option Winner
+current_at c places = current_in (header_at c places) places

@@ -1,9 +1,8 @@
 -- The headers that are chosen are those that count, and those that count are chosen.
 use Rattle.std.specs.Prelude.{ℕ, ◌≡◌, ◌<◌, Some, None}
-use Rattle.ipl_base.specs.Places.{units_on}
 use Rattle.ipl_format.specs.Sector.{Sector}
 use Rattle.ipl_meaning.specs.Chart.{Chart, IsChosen, IsDataHeader, IsStatusHeader}
-use Rattle.opening_rules.specs.Chosen.{Winner, head_of, current_at, status_at}
+use Rattle.opening_rules.specs.Chosen.{Winner, head_of, current_at, status_at, units_at}
 
 -- the winner is this sector, the header that counts at its place
 pub record IsWinnerOf (c : Chart) (places : ℕ) (Fits : Sector → Type 0) (winner : Winner) : Type 0 where
@@ -15,18 +14,18 @@ pub record IsWinnerOf (c : Chart) (places : ℕ) (Fits : Sector → Type 0) (win
 abbrev pub CurrentsAreChosen : Type 0
 CurrentsAreChosen =
     (c : Chart) (places u : ℕ) (winner : Winner) → current_at c places u ≡ Some winner
-    → (u < units_on places) × IsWinnerOf c places (IsDataHeader u) winner
+    → (u < units_at c places) × IsWinnerOf c places (IsDataHeader u) winner
 
 -- the one that counts is current
 abbrev pub ChosenAreCurrent : Type 0
 ChosenAreCurrent =
-    (c : Chart) (places u p : ℕ) (head : Sector) → u < units_on places → IsChosen c places (IsDataHeader u) p head
+    (c : Chart) (places u p : ℕ) (head : Sector) → u < units_at c places → IsChosen c places (IsDataHeader u) p head
     → current_at c places u ≡ Some (record { place = p; head = head_of places head })
 
 -- a unit without a current header has no header
 abbrev pub NoneIsCurrent : Type 0
 NoneIsCurrent =
-    (c : Chart) (places u p : ℕ) (head : Sector) → u < units_on places
+    (c : Chart) (places u p : ℕ) (head : Sector) → u < units_at c places
     → current_at c places u ≡ None
     → p < places → c p 0 ≡ Some head → ¬ IsDataHeader u head
 

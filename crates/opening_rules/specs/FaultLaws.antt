@@ -3,12 +3,11 @@ use Rattle.std.specs.Prelude.{ℕ, ◌≡◌, ◌⊎◌, ◌<◌, ◌≤◌, ◌
 use Rattle.ipl_base.specs.declared.limits.TheConstants.{SECTORS, LEAST_PLACES, MOST_PLACES, OVERFLOW_SECTORS}
 use Rattle.ipl_base.specs.declared.fault.ImageFault.{ImageFault}
 use Rattle.ipl_base.specs.declared.fault.ImageFault.TheVariants.{NotFormatted, Missing}
-use Rattle.ipl_base.specs.Places.{units_on}
 use Rattle.ipl_format.specs.Sector.{Sector}
 use Rattle.ipl_meaning.specs.Chart.{Chart, IsOverflow, IsChosen, IsDataHeader, IsStatusHeader}
 use Rattle.opening_rules.specs.First.{passes, count_below}
 use Rattle.opening_rules.specs.Payloads.{is_log_payload}
-use Rattle.opening_rules.specs.Chosen.{header_at, current_at}
+use Rattle.opening_rules.specs.Chosen.{header_at, current_at, units_at}
 use Rattle.opening_rules.specs.Live.{mark_of, mark_at, live_in, marks_in}
 use Rattle.opening_rules.specs.Faults.{malformed, is_log_well, first_log_fault, first_fault}
 
@@ -23,7 +22,7 @@ NotFormattedIsExact =
 
 -- the unit has no header, and all lower ones have one
 pub record IsLeastMissing (c : Chart) (places u : ℕ) : Type 0 where
-  pub low : u < units_on places
+  pub low : u < units_at c places
   pub none : (p : ℕ) (head : Sector) → p < places → c p 0 ≡ Some head → ¬ IsDataHeader u head
   pub lower : (v : ℕ) → v < u → (p : ℕ) × (head : Sector) × IsChosen c places (IsDataHeader v) p head
 

@@ -1,17 +1,16 @@
 -- What is at fault on a chart, in the order in which it is told.
-use Rattle.std.specs.Prelude.{ℕ, ◌≡◌, ◌*◌, ◌/◌, ◌%◌, ◌^◌, nat_lt, nat_le, ◌==◌, ◌&&◌, ◌||◌, not, Bool, true, false, List, [], ◌∷◌, max, Option, Some, None, if◌then◌else◌, Result, MatchResult}
+use Rattle.std.specs.Prelude.{ℕ, ◌≡◌, ◌+◌, ◌*◌, ◌/◌, ◌%◌, ◌^◌, nat_lt, nat_le, ◌==◌, ◌&&◌, ◌||◌, not, Bool, true, false, List, [], ◌∷◌, max, Option, Some, None, if◌then◌else◌, Result, MatchResult}
 use Rattle.std.specs.List.{list_any, count_by}
-use Rattle.ipl_base.specs.declared.limits.TheConstants.{SECTORS, LEAST_PLACES, MOST_PLACES, OVERFLOW_PLACES, OVERFLOW_SECTORS}
+use Rattle.ipl_base.specs.declared.limits.TheConstants.{SECTORS, LEAST_PLACES, MOST_PLACES, RESERVED_PLACES, MOST_SPARES, OVERFLOW_PLACES, OVERFLOW_SECTORS}
 use Rattle.ipl_base.specs.declared.fault.ChipFault.TheVariants.{ReadFault, Stopped, Damaged, Malformed, WornOut}
 use Rattle.ipl_base.specs.declared.fault.ImageFault.{ImageFault}
 use Rattle.ipl_base.specs.declared.fault.ImageFault.TheVariants.{Geometry, NotFormatted, Missing, Chip, Spent, NoSpare}
 use Rattle.ipl_format.specs.Sector.{Sector}
 use Rattle.ipl_meaning.specs.Chart.{Chart}
 use Rattle.ipl_base.specs.First.{first_below}
-use Rattle.ipl_base.specs.Places.{units_on}
 use Rattle.opening_rules.specs.First.{first_of, greatest_below, greatest_of, count_below}
 use Rattle.opening_rules.specs.Payloads.{is_commit_payload, is_log_payload, numbers_told, tids_told}
-use Rattle.opening_rules.specs.Chosen.{KeptHeader, Winner, header_at, current_at, status_at}
+use Rattle.opening_rules.specs.Chosen.{KeptHeader, Winner, header_at, current_at, status_at, units_told, units_at}
 use Rattle.opening_rules.specs.Live.{sectors, commit_at, seen_at, live_at, is_overflow_place, Mark, mark_of, marks, marks_in}
 
 -- the sector at fault
@@ -32,10 +31,25 @@ abbrev pub not_formatted : Option Winner → Option ImageFault
 not_formatted None = Some NotFormatted
 not_formatted (Some winner) = None
 
--- the header was written for another number of units
-abbrev pub other_geometry : Option Winner → Option ImageFault
-other_geometry None = None
-other_geometry (Some winner) = if winner.head.foreign then Some Geometry else None
+-- so many units may be kept on so many places
+abbrev pub keeps_units : ℕ → ℕ → Bool
+keeps_units places units =
+    nat_le 1 units && (nat_le (units + RESERVED_PLACES) places && nat_le places (units + RESERVED_PLACES + MOST_SPARES))
+
+-- the status header says a number of units that isn't kept on so many places
+abbrev pub status_geometry : ℕ → Option Winner → Option ImageFault
+status_geometry places None = None
+status_geometry places (Some winner) = if keeps_units places (units_told places (Some winner)) then None else Some Geometry
+
+-- another number of units is said, where one is
+abbrev pub says_other : ℕ → Option ℕ → Bool
+says_other units None = false
+says_other units (Some said) = not (said == units)
+
+-- the header of a unit says another number of units
+abbrev pub other_geometry : ℕ → Option Winner → Option ImageFault
+other_geometry units None = None
+other_geometry units (Some winner) = if says_other units winner.head.said then Some Geometry else None
 
 -- the unit has no current header
 abbrev pub missing : ℕ → Option Winner → Option ImageFault
@@ -47,12 +61,12 @@ abbrev pub bad_header : Option Winner → Option ImageFault
 bad_header None = None
 bad_header (Some winner) = if winner.head.well then None else Some (malformed winner.place 0)
 
--- what the headers are tested for
-abbrev pub header_tests : ℕ → Option Winner → (ℕ → Option Winner) → List (Option ImageFault)
-header_tests units status current =
+-- what the headers are tested for, on a chip of so many places that keeps so many units
+abbrev pub header_tests : ℕ → ℕ → Option Winner → (ℕ → Option Winner) → List (Option ImageFault)
+header_tests places units status current =
     not_formatted status
-    ∷ other_geometry status
-    ∷ first_below (λ u. other_geometry (current u)) units
+    ∷ status_geometry places status
+    ∷ first_below (λ u. other_geometry units (current u)) units
     ∷ first_below (λ u. missing u (current u)) units
     ∷ first_below (λ u. bad_header (current u)) units
     ∷ bad_header status
@@ -60,7 +74,7 @@ header_tests units status current =
 
 -- the first fault of the headers
 abbrev pub header_fault : Chart → ℕ → Option ImageFault
-header_fault c places = first_of (header_tests (units_on places) (status_at c places) (current_at c places))
+header_fault c places = first_of (header_tests places (units_at c places) (status_at c places) (current_at c places))
 
 -- ---- commit sectors
 

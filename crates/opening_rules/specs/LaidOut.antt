@@ -2,15 +2,15 @@
 use Rattle.std.specs.Prelude.{ℕ, zero, suc, ◌*◌, ◌/◌, ◌%◌, nat_lt, ◌==◌, Bool, List, [], ◌∷◌, Option, Some, None, if◌then◌else◌, unwrap_or}
 use Rattle.std.specs.List.{list_any}
 use Rattle.ipl_base.specs.declared.limits.TheConstants.{SECTORS}
-use Rattle.ipl_base.specs.Places.{units_on}
 use Rattle.ipl_format.specs.Sector.{Sector}
 use Rattle.log_records.specs.Reading.{records_of}
+use Rattle.unit_layout.specs.Retired.{retired_in}
 use Rattle.ipl_meaning.specs.Chart.{Chart}
 use Rattle.ipl_meaning.specs.Layout.{Entry, Shape, Layout}
 use Rattle.ipl_meaning.specs.Last.{is_number}
 use Rattle.opening_rules.specs.First.{joined_below}
 use Rattle.opening_rules.specs.Payloads.{pieces_in, numbers_in}
-use Rattle.opening_rules.specs.Chosen.{Winner, current_at, status_at}
+use Rattle.opening_rules.specs.Chosen.{Winner, current_at, status_at, units_at}
 use Rattle.opening_rules.specs.Live.{sectors, commit_at, live_in}
 
 -- ---- committed numbers
@@ -76,6 +76,11 @@ place_of (Some winner) = winner.place
 abbrev pub sector_of : Chart → Option Winner → Sector
 sector_of c winner = unwrap_or (c (place_of winner) 0) no_sector
 
+-- the places that the status header lists as retired
+abbrev pub retired_at : Chart → ℕ → List ℕ
+retired_at c places =
+    retired_in (sector_of c (status_at c places)).version (sector_of c (status_at c places)).payload
+
 -- the shape of a unit
 abbrev pub shape_in : Chart → ℕ → ℕ → Shape
 shape_in c places u = record {
@@ -91,6 +96,6 @@ layout_in c places = record {
   status = place_of (status_at c places);
   head = sector_of c (status_at c places);
   committed = committed_in c (status_at c places);
-  count = units_on places;
+  count = units_at c places;
   units = shape_in c places;
 }

@@ -3,6 +3,7 @@ use Rattle.std.specs.Prelude.{ℕ, ◌≡◌, ◌<◌, ◌≤◌, ◌⊎◌, ◌
 use Rattle.ipl_base.specs.declared.limits.TheConstants.{SECTORS, LEAST_PLACES, MOST_PLACES}
 use Rattle.chip_trait.specs.Story.{Contents}
 use Rattle.ipl_base.specs.declared.fault.ImageFault.TheVariants.{Spent}
+use Rattle.ipl_base.specs.Places.{KeepsUnits}
 use Rattle.ipl_format.specs.Numbers.{IsBytes}
 use Rattle.ipl_format.specs.Sector.{Sector}
 use Rattle.ipl_format.specs.Whole.{IsWhole}
@@ -10,7 +11,7 @@ use Rattle.ipl_meaning.specs.Chart.{Chart, chart_of}
 use Rattle.ipl_meaning.specs.Formatted.{formatted}
 use Rattle.ipl_meaning.specs.Layout.{Layout, Laid}
 use Rattle.ipl_meaning.specs.Found.{IsFoundNumber, IsAbove}
-use Rattle.opening_rules.specs.Chosen.{header_at, current_at, status_at}
+use Rattle.opening_rules.specs.Chosen.{header_at, current_at, status_at, units_at}
 use Rattle.opening_rules.specs.Live.{is_at, is_log_spot}
 use Rattle.opening_rules.specs.Faults.{first_fault, greatest_found}
 use Rattle.opening_rules.specs.LaidOut.{layout_in}
@@ -56,9 +57,15 @@ LaidIsFineOrSpent =
     (c : Chart) (places : ℕ) (it : Layout) → Laid places c it
     → (first_fault c places ≡ None) ⊎ (first_fault c places ≡ Some Spent)
 
--- a chip that was just formatted has none
+-- it keeps as many units as its status header says
+abbrev pub LaidSaysItsUnits : Type 0
+LaidSaysItsUnits = (c : Chart) (places : ℕ) (it : Layout) → Laid places c it → units_at c places ≡ it.count
+
+-- a chip that was just formatted has no fault
 abbrev pub FormattedChipsHaveNoFault : Type 0
-FormattedChipsHaveNoFault = (places : ℕ) → LEAST_PLACES ≤ places → places ≤ MOST_PLACES → first_fault (formatted places) places ≡ None
+FormattedChipsHaveNoFault =
+    (places units : ℕ) → LEAST_PLACES ≤ places → places ≤ MOST_PLACES → KeepsUnits places units
+    → first_fault (formatted units) places ≡ None
 
 -- no number found is above the greatest
 abbrev pub GreatestIsAbove : Type 0

@@ -1,5 +1,5 @@
 -- Tests of payloads, and what they hold, by computing.
-use Rattle.std.specs.Prelude.{ℕ, zero, suc, ◌+◌, ◌/◌, ◌%◌, ◌==◌, ◌&&◌, ◌||◌, not, nat_le, Bool, false, if◌then◌else◌, List, [], ◌∷◌, take, drop, length, slice_index, map}
+use Rattle.std.specs.Prelude.{ℕ, zero, suc, ◌+◌, ◌/◌, ◌%◌, ◌==◌, ◌&&◌, ◌||◌, nat_le, Bool, false, if◌then◌else◌, List, [], ◌∷◌, take, drop, length, slice_index, map, Option, Some, None}
 use Rattle.std.specs.List.{list_all}
 use Rattle.std.specs.Option.{option_map_or}
 use Rattle.ipl_base.specs.declared.limits.TheConstants.{PAGES, PAGE_SECTORS, CARRIED_SECTORS, COMMIT_NUMBERS}
@@ -11,9 +11,9 @@ use Rattle.log_records.specs.Reading.{record_at, records_of}
 
 -- ---- headers
 
--- it has room for a number of units, and begins with another one
-abbrev pub begins_with_other_units : ℕ → List ℕ → Bool
-begins_with_other_units units payload = nat_le 4 (length payload) && not (word_at 0 payload == units)
+-- the number of units that a payload says, which it begins with where it has room for one
+abbrev pub said_in : List ℕ → Option ℕ
+said_in payload = if nat_le 4 (length payload) then Some (word_at 0 payload) else None
 
 -- how many base sectors each page has
 abbrev pub pieces_in : List ℕ → List ℕ
@@ -23,19 +23,18 @@ pieces_in payload = take PAGES (drop 4 payload)
 abbrev pub is_count : ℕ → Bool
 is_count pieces = nat_le pieces PAGE_SECTORS
 
--- a data header's payload, on a chip of so many units: the number of units, a count for each of 15 pages, at most 12
--- carried log sectors, and from version 3 on how often its place was erased
-abbrev pub is_data_payload : ℕ → ℕ → List ℕ → Bool
-is_data_payload version units payload =
-    (length payload == 20 + erases_size version) && ((word_at 0 payload == units)
-    && (list_all is_count (pieces_in payload) && nat_le (slice_index payload 19) CARRIED_SECTORS))
+-- a data header's payload: a number of units, a count for each of 15 pages, at most 12 carried log sectors, and from
+-- version 3 on how often its place was erased
+abbrev pub is_data_payload : ℕ → List ℕ → Bool
+is_data_payload version payload =
+    (length payload == 20 + erases_size version)
+    && (list_all is_count (pieces_in payload) && nat_le (slice_index payload 19) CARRIED_SECTORS)
 
--- a status header's payload, on a chip of so many places: the number of units, and from version 3 on how often its place
--- was erased and which places are retired
-abbrev pub is_status_payload : ℕ → ℕ → ℕ → List ℕ → Bool
-is_status_payload version places units payload =
-    is_status_length version payload && ((word_at 0 payload == units)
-    && may_be_retired places units (retired_in version payload))
+-- a status header's payload, on a chip of so many places: a number of units, and from version 3 on how often its place
+-- was erased and which places are retired, no more than there are to spare beside so many units
+abbrev pub is_status_payload : ℕ → ℕ → List ℕ → Bool
+is_status_payload version places payload =
+    is_status_length version payload && may_be_retired places (word_at 0 payload) (retired_in version payload)
 
 -- ---- commit sectors
 

@@ -30,6 +30,7 @@ pub first_spots_are_added : (t : Tables) (u p s mask next : ℕ) → AllPairs Ar
     → after_add t.overflow u p s mask ≡ (after_overflow_log t u p s mask next).overflow
 first_spots_are_added t u p s mask next apart there =
     ap (λ (l : List (ℕ × ℕ)). record {
+      places = t.overflow.places;
       spots = set t.overflow.spots u (spots_in t.overflow u ++ (p, s) ∷ []);
       masks = set t.overflow.masks u (masks_at t.overflow u ++ mask ∷ []);
       in_use = l;

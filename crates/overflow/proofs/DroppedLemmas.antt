@@ -43,6 +43,7 @@ drops_move it u =
     let places : map place_of (after_drop it u).in_use ≡ filter (is_named rest)
     (map place_of it.in_use) = places_kept rest it.in_use in
     record {
+      sized = refl;
       some = All-filter (is_kept rest) (Contains it.in_use) it.in_use
           (All-contains_itself it.in_use);
       fewer = omega (

@@ -1,11 +1,11 @@
 -- What always holds of the table, after each call.
 use Rattle.std.proofs.Common.{◌≡◌, ℕ, ◌<◌, ◌+◌, List, [], ◌∷◌, ◌++◌, length, map, inl, inr, sym, ◌∙◌, ap, get_or, subst, arith, eqb, set}
-use Rattle.std.specs.List.{All, filter}
+use Rattle.std.specs.List.{filter}
 use Rattle.std.proofs.lemmas.Bool.{cases_Bool, cases_eq, cases_lt}
 use Rattle.std.proofs.lemmas.List.{length-set, length-map, length_push, get_or-set_same, get_or-set_other, get_or_past}
 use Rattle.std.proofs.lemmas.List.Elements.{All-nil, All-push, All-get_or, All-set, All-map, All-filter, All-weaker}
 use Rattle.std.proofs.lemmas.List.Sums.{length-filter, count_by-le-length}
-use Rattle.ipl_base.specs.Places.{places_for}
+use Rattle.ipl_base.specs.Places.{KeepsUnits}
 use Rattle.ipl_meaning.specs.Tables.{OverflowLists}
 use Rattle.overflow.specs.Lists.{IsSoundOverflow, IsFirst, AreFew, IsWithin, AreWithin, IsPlaceOf, clean_behind, after_add, after_drop, is_kept, spots_in, masks_at, without_unit}
 
@@ -22,29 +22,25 @@ place_still p s places o low = elim (cases_Bool (eqb o.0 p)) [
 ]
 
 pub sound_added : (it : OverflowLists) (u p s mask : ℕ) → IsSoundOverflow it → u < length it.spots
-    → length (spots_in it u) < 16 → p < places_for (length it.spots) → s < 256
+    → length (spots_in it u) < 16 → p < it.places → s < 256
     → IsSoundOverflow (after_add it u p s mask)
 sound_added it u p s mask sound unit few place low = record {
-  units = omega (arith, sound.units, length-set it.spots u (spots_in it u ++ (p, s) ∷ []));
+  places = sound.places;
+  units = subst (KeepsUnits it.places) (sym (length-set it.spots u (spots_in it u ++ (p, s) ∷ [])))
+      sound.units;
   few = All-set AreFew it.spots u (spots_in it u ++ (p, s) ∷ [])
       (omega (arith, length_push (spots_in it u) (p, s))) sound.few;
   two = omega (arith, sound.two, length-map it.in_use (clean_behind p s));
   firsts = All-map IsFirst (clean_behind p s) it.in_use
       (All-weaker IsFirst (λ o. IsFirst (clean_behind p s o))
       (first_still p s low) it.in_use sound.firsts);
-  within = subst (λ (k : ℕ). All (AreWithin (places_for k))
-      (set it.spots u (spots_in it u ++ (p, s) ∷ [])))
-      (sym (length-set it.spots u (spots_in it u ++ (p, s) ∷ [])))
-      (All-set (AreWithin (places_for (length it.spots))) it.spots u (spots_in it u ++ (p, s) ∷ [])
-      (All-push (IsWithin (places_for (length it.spots))) (spots_in it u) (p, s)
-      (All-get_or (AreWithin (places_for (length it.spots))) it.spots u [] unit sound.within)
-      (place, low)) sound.within);
-  placed = subst (λ (k : ℕ). All (IsPlaceOf (places_for k)) (map (clean_behind p s) it.in_use))
-      (sym (length-set it.spots u (spots_in it u ++ (p, s) ∷ [])))
-      (All-map (IsPlaceOf (places_for (length it.spots))) (clean_behind p s) it.in_use
-      (All-weaker (IsPlaceOf (places_for (length it.spots)))
-      (λ o. IsPlaceOf (places_for (length it.spots)) (clean_behind p s o))
-      (place_still p s (places_for (length it.spots))) it.in_use sound.placed));
+  within = All-set (AreWithin it.places) it.spots u (spots_in it u ++ (p, s) ∷ [])
+      (All-push (IsWithin it.places) (spots_in it u) (p, s)
+      (All-get_or (AreWithin it.places) it.spots u [] unit sound.within)
+      (place, low)) sound.within;
+  placed = All-map (IsPlaceOf it.places) (clean_behind p s) it.in_use
+      (All-weaker (IsPlaceOf it.places) (λ o. IsPlaceOf it.places (clean_behind p s o))
+      (place_still p s it.places) it.in_use sound.placed);
   lists = length-set it.masks u (masks_at it u ++ mask ∷ []) ∙ sound.lists
       ∙ sym (length-set it.spots u (spots_in it u ++ (p, s) ∷ []));
   each = λ v. elim (cases_eq v u) [
@@ -59,7 +55,8 @@ sound_added it u p s mask sound unit few place low = record {
 pub sound_dropped : (it : OverflowLists) (u : ℕ) → IsSoundOverflow it
     → IsSoundOverflow (after_drop it u)
 sound_dropped it u sound = record {
-  units = omega (arith, sound.units, length-set it.spots u []);
+  places = sound.places;
+  units = subst (KeepsUnits it.places) (sym (length-set it.spots u [])) sound.units;
   few = All-set AreFew it.spots u [] (omega arith) sound.few;
   two = omega (
     arith,
@@ -68,13 +65,8 @@ sound_dropped it u sound = record {
     count_by-le-length (is_kept (without_unit it u)) it.in_use,
   );
   firsts = All-filter (is_kept (without_unit it u)) IsFirst it.in_use sound.firsts;
-  within = subst (λ (k : ℕ). All (AreWithin (places_for k)) (set it.spots u []))
-      (sym (length-set it.spots u []))
-      (All-set (AreWithin (places_for (length it.spots))) it.spots u []
-      (All-nil (IsWithin (places_for (length it.spots)))) sound.within);
-  placed = subst (λ (k : ℕ). All (IsPlaceOf (places_for k)) (filter (is_kept (without_unit it u)) it.in_use))
-      (sym (length-set it.spots u []))
-      (All-filter (is_kept (without_unit it u)) (IsPlaceOf (places_for (length it.spots))) it.in_use sound.placed);
+  within = All-set (AreWithin it.places) it.spots u [] (All-nil (IsWithin it.places)) sound.within;
+  placed = All-filter (is_kept (without_unit it u)) (IsPlaceOf it.places) it.in_use sound.placed;
   lists = length-set it.masks u [] ∙ sound.lists ∙ sym (length-set it.spots u []);
   each = λ v. elim (cases_eq v u) [
     | inl same ↦ rw same (emptied it.masks u ∙ sym (emptied it.spots u))
@@ -93,14 +85,14 @@ sound_dropped it u sound = record {
 
 pub sound_after : (it : OverflowLists) (u p s mask : ℕ) (list : List (ℕ × ℕ)) (masks : List ℕ) (places : List (ℕ × ℕ))
     → IsSoundOverflow it → u < length it.spots → length (spots_in it u) < 16
-    → p < places_for (length it.spots) → s < 256
+    → p < it.places → s < 256
     → list ≡ spots_in it u ++ (p, s) ∷ [] → masks ≡ masks_at it u ++ mask ∷ [] → places ≡ map (clean_behind p s) it.in_use
-    → IsSoundOverflow (record { spots = set it.spots u list; masks = set it.masks u masks; in_use = places })
+    → IsSoundOverflow (record { places = it.places; spots = set it.spots u list; masks = set it.masks u masks; in_use = places })
 sound_after it u p s mask list masks places sound unit few place low is names are =
     rw (is, names, are) (sound_added it u p s mask sound unit few place low)
 
 pub sound_left : (it : OverflowLists) (u : ℕ) (list : List (ℕ × ℕ)) (masks : List ℕ) (places : List (ℕ × ℕ))
     → IsSoundOverflow it → list ≡ [] → masks ≡ []
     → places ≡ filter (is_kept (without_unit it u)) it.in_use
-    → IsSoundOverflow (record { spots = set it.spots u list; masks = set it.masks u masks; in_use = places })
+    → IsSoundOverflow (record { places = it.places; spots = set it.spots u list; masks = set it.masks u masks; in_use = places })
 sound_left it u list masks places sound is none are = rw (is, none, are) (sound_dropped it u sound)

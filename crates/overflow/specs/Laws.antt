@@ -1,7 +1,6 @@
 -- What the calls on overflow places come to in the words of the tables.
 use Rattle.std.specs.Prelude.{ℕ, ◌≡◌, ◌≢◌, ◌<◌, ◌≤◌, List, map, length, Some, None, All, AllPairs, Contains}
 use Rattle.ipl_base.specs.declared.limits.TheConstants.{SECTORS}
-use Rattle.ipl_base.specs.Places.{units_on}
 use Rattle.ipl_meaning.specs.Tables.{OverflowLists, Tables, place_of, overflow_places}
 use Rattle.ipl_meaning.specs.Mirrors.{AreApart}
 use Rattle.ipl_meaning.specs.TableSteps.{after_overflow_log}
@@ -35,6 +34,7 @@ FoundSpotsAreAdded = (it : OverflowLists) (u p s mask : ℕ)
 
 -- what a unit's move to a new place makes of the table
 pub record OverflowMoves (before after : OverflowLists) (u : ℕ) : Type 0 where
+  pub sized : after.places ≡ before.places
   pub some : All (Contains before.in_use) after.in_use
   pub fewer : length after.in_use ≤ length before.in_use
   pub apart : AllPairs AreApart (map place_of before.in_use)
@@ -56,5 +56,5 @@ DropsMove = (it : OverflowLists) (u : ℕ) → OverflowMoves it (after_drop it u
 
 -- an empty table is that of a formatted chip
 abbrev pub EmptyListsAreFirst : Type 0
-EmptyListsAreFirst = (places : ℕ)
-    → empty_lists (units_on places) ≡ (first_tables places).overflow
+EmptyListsAreFirst = (places units : ℕ)
+    → empty_lists places units ≡ (first_tables places units).overflow

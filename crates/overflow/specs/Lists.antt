@@ -2,7 +2,7 @@
 use Rattle.std.specs.Prelude.{ℕ, ◌≡◌, ◌<◌, ◌≤◌, ◌+◌, ◌==◌, Bool, not, max, nat_le, List, [], ◌∷◌, ◌++◌, map, length, slice_index_or, slice_set, replicate, Option, Some, None, All, if◌then◌else◌}
 use Rattle.std.specs.List.{list_any, filter}
 use Rattle.ipl_base.specs.declared.limits.TheConstants.{SECTORS, OVERFLOW_PLACES, OVERFLOW_SECTORS}
-use Rattle.ipl_base.specs.Places.{places_for}
+use Rattle.ipl_base.specs.Places.{IsGeometry, KeepsUnits}
 use Rattle.ipl_base.specs.declared.spot.Spot.{Spot}
 use Rattle.overflow.specs.declared.places.PlaceInUse.{PlaceInUse}
 use Rattle.overflow.specs.declared.spots.ShortSpot.{ShortSpot}
@@ -38,9 +38,10 @@ is_named spots p = list_any (names_place p) spots
 
 -- ---- what the calls do
 
--- no unit of so many has spots, and no place is in use
-abbrev pub empty_lists : ℕ → OverflowLists
-empty_lists units = record { spots = replicate units []; masks = replicate units []; in_use = [] }
+-- of a chip of so many places no unit of so many has spots, and no place is in use
+abbrev pub empty_lists : ℕ → ℕ → OverflowLists
+empty_lists places units =
+    record { places = places; spots = replicate units []; masks = replicate units []; in_use = [] }
 
 -- one more place is in use, clean from this sector on
 abbrev pub with_place : OverflowLists → ℕ → ℕ → OverflowLists
@@ -53,6 +54,7 @@ clean_behind p s it = if it.0 == p then (it.0, max it.1 (s + 1)) else it
 -- the spot is the unit's, behind its others, names these pages, and isn't clean any more
 abbrev pub after_add : OverflowLists → ℕ → ℕ → ℕ → ℕ → OverflowLists
 after_add it u p s mask = record {
+  places = it.places;
   spots = slice_set it.spots u (spots_in it u ++ (p, s) ∷ []);
   masks = slice_set it.masks u (masks_at it u ++ mask ∷ []);
   in_use = map (clean_behind p s) it.in_use;
@@ -69,6 +71,7 @@ is_kept spots place = is_named spots place.0
 -- the unit has no spots any more, and a place that no spot names then isn't in use any more
 abbrev pub after_drop : OverflowLists → ℕ → OverflowLists
 after_drop it u = record {
+  places = it.places;
   spots = without_unit it u;
   masks = slice_set it.masks u [];
   in_use = filter (is_kept (without_unit it u)) it.in_use;
@@ -130,14 +133,15 @@ AreWithin places spots = All (IsWithin places) spots
 abbrev pub IsPlaceOf : ℕ → ℕ × ℕ → Type 0
 IsPlaceOf places it = it.0 < places
 
--- at most 1024 units have at most 16 spots each, and at most two places are in use; all spots are
--- sectors of a chip that keeps so many units, and all places in use places of it
+-- as many units as may be kept on the chip's places have at most 16 spots each, and at most two places
+-- are in use; all spots are sectors of the chip, and all places in use places of it
 pub record IsSoundOverflow (it : OverflowLists) : Type 0 where
-  pub units : length it.spots ≤ 1024
+  pub places : IsGeometry it.places
+  pub units : KeepsUnits it.places (length it.spots)
   pub few : All AreFew it.spots
   pub two : length it.in_use ≤ OVERFLOW_PLACES
   pub firsts : All IsFirst it.in_use
-  pub within : All (AreWithin (places_for (length it.spots))) it.spots
-  pub placed : All (IsPlaceOf (places_for (length it.spots))) it.in_use
+  pub within : All (AreWithin it.places) it.spots
+  pub placed : All (IsPlaceOf it.places) it.in_use
   pub lists : length it.masks ≡ length it.spots
   pub each : (u : ℕ) → length (masks_at it u) ≡ length (spots_in it u)

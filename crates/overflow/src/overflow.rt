@@ -1,22 +1,27 @@
 //! The table of overflow places.
-ghost use Rattle.std.specs.Prelude.{◌≡◌, ◌≤◌, ◌<◌, [], ℕ, map, replicate, length, nat_lt, Contains, IfOk, IfSome, IfNone, None};
+ghost use Rattle.std.specs.Prelude.{◌≡◌, ◌≤◌, ◌<◌, [], ℕ, map, replicate, length, nat_lt, vec_capacity, Contains, IfOk, IfSome, IfNone, None};
 ghost use Rattle.std.specs.Option.{option_map};
 ghost use Rattle.ipl_base.specs.declared.limits.TheConstants.{OVERFLOW_SECTORS};
-ghost use Rattle.ipl_base.specs.Places.{places_for};
+ghost use Rattle.ipl_base.specs.Places.{KeepsUnits};
+ghost use Rattle.overflow.specs.Room.{HasRoom};
 ghost use Rattle.overflow.specs.Lists.{pair_of, spots_in, masks_at, empty_lists, with_place, after_add, after_drop, places_left, listed, first_spot, AreWithin, IsSoundOverflow};
 
 use crate::places::{PlaceInUse, first_spot, keep_named, places_left, use_spot};
 use crate::spots::{MaskList, SpotList};
 use arrayvec::ArrayVec;
-use ipl_base::{Geometry, OVERFLOW_PLACES, OVERFLOW_SECTORS, OutOfMemory, SECTORS, Spot};
+use ipl_base::{
+    Geometry, OVERFLOW_PLACES, OVERFLOW_SECTORS, OutOfMemory, RESERVED_PLACES, SECTORS, Spot,
+};
 use std::alloc::Global;
 use std::marker::Model;
 
 /// Where the log sectors in overflow places stand, by unit, at most 16 of each; and which places
 /// are overflow places in use, at most two, each with its first clean sector. A contract sees the
-/// spots as pairs of place and sector. Memory is taken by `new` alone, for all units at once.
+/// spots as pairs of place and sector, and how many places the chip has, always as many. Memory is
+/// taken by `new` alone, for as many units as are kept where no place is spare.
 #[derive(Drop)]
 pub struct Overflow {
+    places: u32,
     spots: Vec<SpotList>,
     masks: Vec<MaskList>,
     in_use: ArrayVec<PlaceInUse, OVERFLOW_PLACES>,
@@ -26,55 +31,59 @@ impl Model for Overflow {
     ghost use Rattle.std.specs.Prelude.{map};
     ghost use Rattle.ipl_meaning.specs.Tables.{OverflowLists};
     ghost use Rattle.overflow.specs.Lists.{first_of, IsSoundOverflow};
+    ghost use Rattle.overflow.specs.Room.{HasRoom};
 
     ghost Value = { OverflowLists };
 
     ghost view = { λ o. record {
+      places = o.places;
       spots = o.spots.items;
       masks = o.masks.items;
       in_use = map first_of o.in_use.items;
     } };
 
     ghost invariant = { λ o. IsSoundOverflow (record {
+      places = o.places;
       spots = o.spots.items;
       masks = o.masks.items;
       in_use = map first_of o.in_use.items;
-    }) };
+    })
+        × HasRoom o.places o.spots
+        × HasRoom o.places o.masks };
 }
 
 impl Overflow {
     /// No unit has a log sector in an overflow place, and no place is in use.
     pub fn new(alloc: Global, geometry: Geometry) -> Result<Overflow, OutOfMemory>
-        ensures { IfOk result (λ overflow. overflow ≡ empty_lists geometry.units) }
+        ensures { IfOk result (λ overflow. overflow ≡ empty_lists geometry.places geometry.units) }
     {
-        let units = geometry.units() as usize;
-        let mut spots = Vec::with_capacity(alloc, units)?;
-        for _ in 0..units {
-            spots.push_reserved(SpotList::new());
-        }
-        let masks = no_masks(alloc, units)?;
+        let places = geometry.places();
+        let units = geometry.units();
+        let most = (places - RESERVED_PLACES) as usize;
+        let mut spots = Vec::with_capacity(alloc, most)?;
+        let mut masks = Vec::with_capacity(alloc, most)?;
+        clear_spots(&mut spots, units);
+        clear_masks(&mut masks, units);
         Ok(Overflow {
+            places,
             spots,
             masks,
             in_use: ArrayVec::new(),
         })
     }
 
-    /// Makes it as `new` does. It takes no memory.
-    pub fn reset(&mut self)
-        ensures { self.new ≡ empty_lists (length self.old.spots) }
+    /// Makes it as `new` does, with so many units. It takes no memory.
+    pub fn set_units(&mut self, units: u32)
+        requires { KeepsUnits self.old.places units }
+        ensures { self.new ≡ empty_lists self.old.places units }
     {
-        for spots in self.spots.iter_mut() {
-            spots.clear();
-        }
-        for masks in self.masks.iter_mut() {
-            masks.clear();
-        }
+        clear_spots(&mut self.spots, units);
+        clear_masks(&mut self.masks, units);
         self.in_use = ArrayVec::new();
     }
 
-    /// What always holds: there are at most 1024 units, each with at most 16 spots, and at most two
-    /// places in use; all these are sectors and places of a chip that keeps so many units.
+    /// What always holds: there are as many units as may be kept on the chip's places, each with at most
+    /// 16 spots, and at most two places in use; all these are sectors and places of the chip.
     pub fn facts(&self)
         ensures { IsSoundOverflow self.now }
     {
@@ -86,7 +95,7 @@ impl Overflow {
         requires { unit < length self.now.spots }
         ensures spots { map pair_of result.items ≡ spots_in self.now unit }
         ensures few { length result.items ≤ OVERFLOW_SECTORS }
-        ensures within { AreWithin (places_for (length self.now.spots)) (spots_in self.now unit) }
+        ensures within { AreWithin self.now.places (spots_in self.now unit) }
     {
         let list = &self.spots[unit as usize];
         list.list()
@@ -119,7 +128,7 @@ impl Overflow {
         // What that comes to.
         ensures some { IfSome result (λ spot. Contains self.now.in_use (pair_of spot)) }
         ensures in_range { IfSome result (λ spot. (1 ≤ spot.sector) × (spot.sector < 256)) }
-        ensures placed { IfSome result (λ spot. spot.place < places_for (length self.now.spots)) }
+        ensures placed { IfSome result (λ spot. spot.place < self.now.places) }
         ensures lowest { IfSome result (λ spot.
             (p first : ℕ) → Contains self.now.in_use (p, first) → first < 256 → spot.place ≤ p) }
         ensures none { IfNone result
@@ -139,7 +148,7 @@ impl Overflow {
     /// to 255 are clean. That one more may be taken is a condition, which `may_add` tests.
     pub fn add_place(&mut self, place: u32)
         requires few { length self.old.in_use < 2 }
-        requires place { place < places_for (length self.old.spots) }
+        requires place { place < self.old.places }
         ensures { self.new ≡ with_place self.old place 1 }
     {
         self.in_use.push(PlaceInUse { place, first: 1 });
@@ -149,7 +158,7 @@ impl Overflow {
     /// known clean. That one more may be taken is a condition, which `may_add` tests.
     pub fn adopt_place(&mut self, place: u32)
         requires few { length self.old.in_use < 2 }
-        requires place { place < places_for (length self.old.spots) }
+        requires place { place < self.old.places }
         ensures { self.new ≡ with_place self.old place 256 }
     {
         let first = SECTORS;
@@ -161,7 +170,7 @@ impl Overflow {
     pub fn add(&mut self, unit: u32, spot: Spot, mask: u16)
         requires unit { unit < length self.old.spots }
         requires few { length (spots_in self.old unit) < OVERFLOW_SECTORS }
-        requires place { spot.place < places_for (length self.old.spots) }
+        requires place { spot.place < self.old.places }
         requires sector { spot.sector < 256 }
         ensures { self.new ≡ after_add self.old unit spot.place spot.sector mask }
     {
@@ -189,13 +198,27 @@ impl Overflow {
     }
 }
 
-/// No masks, for so many units.
-fn no_masks(alloc: Global, units: usize) -> Result<Vec<MaskList>, OutOfMemory>
-    ensures { IfOk result (λ masks. masks.items ≡ replicate units []) }
+/// Makes it a list of so many units without spots. It takes no memory: that there is room is a
+/// condition.
+fn clear_spots(spots: &mut Vec<SpotList>, units: u32)
+    requires { units ≤ vec_capacity spots.old }
+    ensures items { spots.new.items ≡ replicate units [] }
+    ensures room { vec_capacity spots.new ≡ vec_capacity spots.old }
 {
-    let mut masks = Vec::with_capacity(alloc, units)?;
+    spots.clear();
+    for _ in 0..units {
+        spots.push_reserved(SpotList::new());
+    }
+}
+
+/// The same, without masks.
+fn clear_masks(masks: &mut Vec<MaskList>, units: u32)
+    requires { units ≤ vec_capacity masks.old }
+    ensures items { masks.new.items ≡ replicate units [] }
+    ensures room { vec_capacity masks.new ≡ vec_capacity masks.old }
+{
+    masks.clear();
     for _ in 0..units {
         masks.push_reserved(MaskList::new());
     }
-    Ok(masks)
 }

@@ -1,10 +1,11 @@
 -- What calls on pages ask of the chip: one page written out, brought in, or made ready for a record.
-use Rattle.std.proofs.Common.{◌≡◌, ◌≢◌, ℕ, [], ◌∷◌, Result, Ok, inl, refl, sym, subst, arith}
+use Rattle.std.proofs.Common.{◌≡◌, ◌≢◌, ℕ, Bool, false, [], ◌∷◌, Result, Ok, inl, refl, sym, subst, arith}
 use Rattle.std.specs.Prelude.{IsSome}
 use Rattle.std.proofs.lemmas.Bool.{false≢true}
 use Rattle.chip_trait.specs.Told.{Told}
 use Rattle.ipl_base.specs.declared.fault.ChipFault.{ChipFault}
 use Rattle.ipl_format.specs.Record.{Record}
+use Rattle.place_taking.specs.Spending.{is_worn_out}
 use Rattle.unit_io.specs.Costs.{Costs, Spends}
 use Rattle.unit_io.proofs.CostLemmas.{costs_at_most, spends_weaker}
 use Rattle.buffer_pool.specs.Pools.{PoolView}
@@ -33,19 +34,20 @@ one_of_none t = spends_weaker (Costs 0 0 0 []) (Costs 0 1 0 (5 ∷ [])) t t
 pub none_to_write : (u page : ℕ) (pages : Pages) (t : Told)
     → AsksToWriteOut u page (Ok tt) pages pages t t
 none_to_write u page pages t = record {
-  idle = λ none. (refl, refl);
+  idle = λ none. (refl, refl, refl);
   home = λ has. (
     one_of_none t,
     inl (record {
       current = refl;
       in_use = refl;
       erases = refl;
+      retired = refl;
       written = refl;
       generations = refl;
       masks = λ v i low. refl;
     }),
   );
-  costs = logs_of_reads pages.parts.directory t t (nothing_spent t);
+  costs = logs_of_reads pages.parts.directory pages.parts.directory t t refl (nothing_spent t);
 }
 
 -- it has some
@@ -63,18 +65,20 @@ some_to_write u page result old new before after full costs = record {
 
 -- it is in a frame, and a use is counted
 pub used_asks : (u page : ℕ) (old : Pages) (p : PoolView) (t : Told) → UsesPage old.pool p u page
-    → AsksToBring u page old (record old { pool = p }) t t
+    → AsksToBring u page false old (record old { pool = p }) t t
 used_asks u page old p t uses = record {
   idle = λ there. (record { parts = refl; pool = uses }, refl);
   free = λ free. nothing_spent t;
-  costs = logs_of_reads old.parts.directory t t (nothing_spent t);
+  costs = logs_of_reads old.parts.directory old.parts.directory t t refl (nothing_spent t);
 }
 
 -- it is in none
-pub brought_asks : (u page : ℕ) (old new : Pages) (before after : Told) → ¬ IsFramed old u page
+pub brought_asks : (u page : ℕ) (worn_out : Bool) (old new : Pages) (before after : Told)
+    → ¬ IsFramed old u page
     → (HasFreeFrame old → Spends (Costs 0 0 0 []) before after)
-    → Spends (ErasesAndLogs old.parts.directory) before after → AsksToBring u page old new before after
-brought_asks u page old new before after absent reads costs = record {
+    → Spends (ErasesAndLogs old.parts.directory new.parts.directory worn_out) before after
+    → AsksToBring u page worn_out old new before after
+brought_asks u page worn_out old new before after absent reads costs = record {
   idle = λ there. absurd (absent there);
   free = reads;
   costs = costs;
@@ -84,32 +88,35 @@ brought_asks u page old new before after absent reads costs = record {
 
 -- it fits behind those in memory, and a use is counted
 pub fitting_asks : (u : ℕ) (r : Record) (old : Pages) (p : PoolView) (t : Told)
-    → UsesPage old.pool p u r.page → AsksToPrepare u r old (record old { pool = p }) t t
+    → UsesPage old.pool p u r.page → AsksToPrepare u r false old (record old { pool = p }) t t
 fitting_asks u r old p t uses = record {
-  idle = λ may. (record { parts = refl; pool = uses }, refl);
+  idle = λ may. (record { parts = refl; pool = uses }, refl, refl);
   free = λ none free. nothing_spent t;
   home = λ there has. one_of_none t;
-  costs = logs_of_reads old.parts.directory t t (nothing_spent t);
+  costs = logs_of_reads old.parts.directory old.parts.directory t t refl (nothing_spent t);
 }
 
 -- its page is in a frame, and its records are written out once the use is counted
 pub framed_asks : (u : ℕ) (r : Record) (result : Result (Unit {0}) ChipFault) (old used new : Pages)
     (before after : Told) → used.parts ≡ old.parts → ¬ MayPut (frames_in old) u r
     → IsFramed old u r.page
-    → AsksToWriteOut u r.page result used new before after → AsksToPrepare u r old new before after
+    → AsksToWriteOut u r.page result used new before after
+    → AsksToPrepare u r (is_worn_out result) old new before after
 framed_asks u r result old used new before after same full there asks = record {
   idle = λ may. absurd (full may);
   free = λ none free. absurd (false≢true (subst IsSome none there));
   home = λ framed has.
       (asks.home (subst (λ (p : Parts). HasHomeSpot (tables_of p) u) (sym same) has)).0;
-  costs = subst (λ (p : Parts). Spends (ErasesAndLogs p.directory) before after) same asks.costs;
+  costs = subst (λ (p : Parts). Spends
+      (ErasesAndLogs p.directory new.parts.directory (is_worn_out result)) before after) same asks.costs;
 }
 
 -- its page is in none
-pub fetched_asks : (u : ℕ) (r : Record) (old new : Pages) (before after : Told)
+pub fetched_asks : (u : ℕ) (r : Record) (worn_out : Bool) (old new : Pages) (before after : Told)
     → ¬ IsFramed old u r.page → (HasFreeFrame old → Spends (Costs 0 0 0 []) before after)
-    → Spends (ErasesAndLogs old.parts.directory) before after → AsksToPrepare u r old new before after
-fetched_asks u r old new before after absent reads costs = record {
+    → Spends (ErasesAndLogs old.parts.directory new.parts.directory worn_out) before after
+    → AsksToPrepare u r worn_out old new before after
+fetched_asks u r worn_out old new before after absent reads costs = record {
   idle = λ may. absurd (absent (subst IsSome (sym may.there) refl));
   free = λ none. reads;
   home = λ framed has. absurd (absent framed);

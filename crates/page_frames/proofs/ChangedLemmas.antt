@@ -1,15 +1,18 @@
 -- What pages cost that have records in memory, one after the other in the order of pages.
 use Rattle.std.proofs.Common.{◌≡◌, ◌<◌, ◌≤◌, ◌+◌, ◌*◌, ◌/◌, ◌%◌, ◌&&◌, ℕ, Bool, true, false, cond, List, [], ◌∷◌, ◌++◌, count_by, get_or, length, take, refl, sym, ◌∙◌, ap, subst, arith}
 use Rattle.std.specs.Prelude.{slice_index_or}
+use Rattle.std.proofs.lemmas.Bool.{false≢true}
 use Rattle.std.proofs.lemmas.List.Sums.{count_by_more_yes, count_by_more_no, sum_by-take-le}
 use Rattle.ipl_meaning.specs.Tables.{Places}
 use Rattle.chip_trait.specs.Told.{Told}
 use Rattle.ipl_format.specs.Record.{Record}
-use Rattle.unit_io.specs.Costs.{Costs, Spends}
-use Rattle.unit_io.proofs.CostLemmas.{costs_none, costs_then, costs_at_most, spends_none, spends_then, spends_weaker}
+use Rattle.unit_io.specs.Costs.{Spends}
+use Rattle.unit_io.proofs.CostLemmas.{costs_none, spends_none, spends_then, spends_weaker}
+use Rattle.place_taking.proofs.SpendingLemmas.{retiring_of, retiring_then, retiring_at_most, retires_none, retires_then}
 use Rattle.buffer_pool.specs.Index.{page_number}
 use Rattle.pending_writes.specs.Frames.{Frames, logs_of}
 use Rattle.page_writing.specs.Spending.{ErasesAndLogs}
+use Rattle.page_frames.specs.Asks.{ErasesAndLogsOf}
 use Rattle.page_frames.specs.Changed.{is_on_page, has_some, is_changed}
 
 -- how many of the first n pages in the order are changed
@@ -17,27 +20,35 @@ abbrev pub changed_below : ℕ → List ℕ → Frames → List ℕ → ℕ
 changed_below n names frames order = count_by (is_changed frames names) (take n order)
 
 -- what so many pages cost
-abbrev pub SpendsOn : ℕ → Told → Told → Type 0
-SpendsOn k = Spends (Costs k k (3 * k) (5 ∷ []))
+abbrev pub SpendsOn : ℕ → Places → Places → Bool → Told → Told → Type 0
+SpendsOn k first now worn_out = Spends (ErasesAndLogsOf k first now worn_out)
 
-pub none_below : (names order : List ℕ) (frames : Frames) (t : Told)
-    → SpendsOn (changed_below 0 names frames order) t t
-none_below names order frames t = spends_none (Costs 0 0 0 (5 ∷ [])) t (costs_none (5 ∷ []))
+pub none_below : (names order : List ℕ) (frames : Frames) (first : Places) (t : Told)
+    → SpendsOn (changed_below 0 names frames order) first first false t t
+none_below names order frames first t = spends_none (ErasesAndLogsOf 0 first first false) t (record {
+  costs = retiring_of first first 0 0 0 (5 ∷ []) [] refl (costs_none (5 ∷ []));
+  retires = retires_none first first false [] refl refl (λ p is. false≢true is);
+})
 
-fewer_below : (k n : ℕ) (before after : Told) → k ≤ n → SpendsOn k before after
-    → SpendsOn n before after
-fewer_below k n before after few = spends_weaker (Costs k k (3 * k) (5 ∷ []))
-    (Costs n n (3 * n) (5 ∷ [])) before after (λ added. costs_at_most k n k n (3 * k) (3 * n)
-    (5 ∷ []) (5 ∷ []) added (omega (arith, few)) (omega (arith, few)) (omega (arith, few))
-    (λ kind has. has))
+fewer_below : (k n : ℕ) (first now : Places) (worn_out : Bool) (before after : Told) → k ≤ n
+    → SpendsOn k first now worn_out before after → SpendsOn n first now worn_out before after
+fewer_below k n first now worn_out before after few =
+    spends_weaker (ErasesAndLogsOf k first now worn_out) (ErasesAndLogsOf n first now worn_out) before
+    after (λ added does. record {
+      costs = retiring_at_most first now k n k n (3 * k) (3 * n) (5 ∷ []) (5 ∷ []) added
+          (omega (arith, few)) (omega (arith, few)) (omega (arith, few)) (λ kind has. has) does.costs;
+      retires = does.retires;
+    })
 
 -- those below are among all
-pub spends_all : (n : ℕ) (names order : List ℕ) (frames : Frames) (before after : Told)
-    → SpendsOn (changed_below n names frames order) before after
-    → SpendsOn (count_by (is_changed frames names) order) before after
-spends_all n names order frames before after =
+pub spends_all : (n : ℕ) (names order : List ℕ) (frames : Frames) (first now : Places)
+    (worn_out : Bool) (before after : Told)
+    → SpendsOn (changed_below n names frames order) first now worn_out before after
+    → SpendsOn (count_by (is_changed frames names) order) first now worn_out before after
+spends_all n names order frames first now worn_out before after =
     fewer_below (changed_below n names frames order) (count_by (is_changed frames names) order)
-    before after (sum_by-take-le (λ number. cond (is_changed frames names number) 1 0) order n)
+    first now worn_out before after
+    (sum_by-take-le (λ number. cond (is_changed frames names number) 1 0) order n)
 
 -- ---- one page more
 
@@ -57,35 +68,50 @@ and_off true b off = off
 and_off false b off = refl
 
 -- it is none of the names'
-pub spends_passed : (n u page : ℕ) (names order : List ℕ) (frames : Frames) (before after : Told)
+pub spends_passed : (n u page : ℕ) (names order : List ℕ) (frames : Frames) (first now : Places)
+    (worn_out : Bool) (before after : Told)
     → n < length order → page < 15 → page_number u page ≡ slice_index_or order n 0
     → is_on_page names u page ≡ false
-    → SpendsOn (changed_below n names frames order) before after
-    → SpendsOn (changed_below (n + 1) names frames order) before after
-spends_passed n u page names order frames before after less few at off =
-    subst (λ (k : ℕ). SpendsOn k before after)
+    → SpendsOn (changed_below n names frames order) first now worn_out before after
+    → SpendsOn (changed_below (n + 1) names frames order) first now worn_out before after
+spends_passed n u page names order frames first now worn_out before after less few at off =
+    subst (λ (k : ℕ). SpendsOn k first now worn_out before after)
     (sym (count_by_more_no (is_changed frames names) order n 0 less
     (changed_at names frames u page (get_or order n 0) few at
     ∙ and_off (has_some (logs_of frames u page)) (is_on_page names u page) off)))
 
 -- or it is written out, however that ends
-costs_more : (n : ℕ) (before mid after : Told) (t : Places) → SpendsOn n before mid
-    → Spends (ErasesAndLogs t) mid after → SpendsOn (n + 1) before after
-costs_more n before mid after t = spends_then (Costs n n (3 * n) (5 ∷ [])) (ErasesAndLogs t)
-    (Costs (n + 1) (n + 1) (3 * (n + 1)) (5 ∷ [])) before mid after (λ later earlier one two.
-    costs_at_most (n + 1) (n + 1) (n + 1) (n + 1) (3 * n + 3) (3 * (n + 1)) (5 ∷ []) (5 ∷ [])
-    (later ++ earlier) (omega arith) (omega arith) (omega arith) (λ kind has. has)
-    (costs_then n 1 n 1 (3 * n) 3 (5 ∷ []) later earlier one two.costs))
+costs_more : (n : ℕ) (first mid last : Places) (worn_out : Bool) (before between after : Told)
+    → SpendsOn n first mid false before between
+    → Spends (ErasesAndLogs mid last worn_out) between after
+    → SpendsOn (n + 1) first last worn_out before after
+costs_more n first mid last worn_out before between after =
+    spends_then (ErasesAndLogsOf n first mid false) (ErasesAndLogs mid last worn_out)
+    (ErasesAndLogsOf (n + 1) first last worn_out) before between after (λ later earlier one two.
+    record {
+      costs = retiring_at_most first last (n + 1) (n + 1) (n + 1) (n + 1) (3 * n + 3) (3 * (n + 1))
+          (5 ∷ []) (5 ∷ []) (later ++ earlier) (omega arith) (omega arith) (omega arith)
+          (λ kind has. has)
+          (retiring_then first mid last n 1 n 1 (3 * n) 3 (5 ∷ []) later earlier one.costs two.costs);
+      retires = retires_then first mid last worn_out later earlier one.retires two.retires;
+    })
 
-pub spends_more : (n u page : ℕ) (names order : List ℕ) (frames now : Frames)
-    (before mid after : Told) (t : Places) → n < length order → page < 15
+-- where the page has no records, all stays as it is
+pub record StaysIdle (mid last : Places) (worn_out : Bool) (between after : Told) : Type 0 where
+  pub unworn : worn_out ≡ false
+  pub places : last ≡ mid
+  pub told : after ≡ between
+
+pub spends_more : (n u page : ℕ) (names order : List ℕ) (frames now : Frames) (first mid last : Places)
+    (worn_out : Bool) (before between after : Told) → n < length order → page < 15
     → page_number u page ≡ slice_index_or order n 0 → is_on_page names u page ≡ true
     → (logs_of frames u page ≡ [] → logs_of now u page ≡ [])
-    → (logs_of now u page ≡ [] → after ≡ mid) → Spends (ErasesAndLogs t) mid after
-    → SpendsOn (changed_below n names frames order) before mid
-    → SpendsOn (changed_below (n + 1) names frames order) before after
-spends_more n u page names order frames now before mid after t less few at on still idle costs
-    so_far = by_records (logs_of frames u page) refl
+    → (logs_of now u page ≡ [] → StaysIdle mid last worn_out between after)
+    → Spends (ErasesAndLogs mid last worn_out) between after
+    → SpendsOn (changed_below n names frames order) first mid false before between
+    → SpendsOn (changed_below (n + 1) names frames order) first last worn_out before after
+spends_more n u page names order frames now first mid last worn_out before between after less few at on
+    still idle costs so_far = by_records (logs_of frames u page) refl
   where
     is : (l : List Record) → logs_of frames u page ≡ l
         → is_changed frames names (get_or order n 0) ≡ (has_some l && is_on_page names u page)
@@ -93,12 +119,13 @@ spends_more n u page names order frames now before mid after t less few at on st
         ∙ ap (λ (records : List Record). has_some records && is_on_page names u page) here
 
     by_records : (l : List Record) → logs_of frames u page ≡ l
-        → SpendsOn (changed_below (n + 1) names frames order) before after
+        → SpendsOn (changed_below (n + 1) names frames order) first last worn_out before after
     by_records [] none =
-        subst (λ (told : Told). SpendsOn (changed_below (n + 1) names frames order) before told)
-        (sym (idle (still none)))
-        (subst (λ (k : ℕ). SpendsOn k before mid)
+        let stays = idle (still none) in
+        rw (stays.unworn, stays.places, stays.told)
+        (subst (λ (k : ℕ). SpendsOn k first mid false before between)
         (sym (count_by_more_no (is_changed frames names) order n 0 less (is [] none))) so_far)
-    by_records (r ∷ l) some = subst (λ (k : ℕ). SpendsOn k before after)
+    by_records (r ∷ l) some = subst (λ (k : ℕ). SpendsOn k first last worn_out before after)
         (sym (count_by_more_yes (is_changed frames names) order n 0 less (is (r ∷ l) some ∙ on)))
-        (costs_more (changed_below n names frames order) before mid after t so_far costs)
+        (costs_more (changed_below n names frames order) first mid last worn_out before between after
+        so_far costs)

@@ -206,7 +206,7 @@ written_at_home n u page names result first before mid between now after less fe
     by_records : (l : List Record) → logs_of (frames_in first) u page ≡ l
         → WroteAtHome (n + 1) names first before now after
     by_records [] none =
-        let (same, idle) = asks.idle (still none) in
+        let (done, same, idle) = asks.idle (still none) in
         subst (λ (p : Pages). WroteAtHome (n + 1) names first before p after) (sym same)
         (subst (λ (t : Told). WroteAtHome (n + 1) names first before mid t) (sym idle)
         (not_at_home n u page names first before mid between less few at (is [] none) so_far))

@@ -59,6 +59,7 @@ gone_upholds u page f old new t ready same there empty is pins = record {
         subst (λ parts. v < length parts.directory.current) (sym same) (ready.within v q g was);
     rest = rest_stays old.pool new.pool pins ready.rest;
   };
+  units = ap (λ parts. length parts.directory.current) same;
   active = ap (λ parts. parts.active) same;
   pins = pins;
   least = subst (λ parts. old.parts.counter ≤ parts.counter) (sym same) (omega arith);

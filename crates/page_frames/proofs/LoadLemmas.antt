@@ -1,5 +1,5 @@
 -- A page that is loaded into a frame.
-use Rattle.std.proofs.Common.{◌≡◌, ◌<◌, ◌++◌, ℕ, List, [], length, Option, Some, None, Result, Ok, Err, refl, sym, ◌∙◌, ap, subst, inl, inr, arith}
+use Rattle.std.proofs.Common.{◌≡◌, ◌<◌, ◌++◌, ℕ, List, [], length, false, Option, Some, None, Result, Ok, Err, IfErr, refl, sym, ◌∙◌, ap, subst, inl, inr, arith}
 use Rattle.std.specs.Option.{option_map_or}
 use Rattle.std.proofs.lemmas.List.{append-nil}
 use Rattle.chip_trait.specs.Told.{Told}
@@ -9,12 +9,13 @@ use Rattle.ipl_meaning.specs.Chart.{Chart, chart_of}
 use Rattle.ipl_meaning.specs.Layout.{Layout, records_of}
 use Rattle.ipl_meaning.specs.Last.{last_that}
 use Rattle.ipl_meaning.specs.Mirrors.{Mirrors}
-use Rattle.ipl_meaning.specs.Tables.{Tables}
+use Rattle.ipl_meaning.specs.Tables.{Places, Tables}
 use Rattle.ipl_meaning.specs.Values.{counts_for}
 use Rattle.number_set.specs.Numbers.{among}
 use Rattle.page_ops.specs.Frames.{FrameView, values_in, pending_in}
 use Rattle.page_rebuild.specs.Loaded.{IsLoaded, IsLoadCause}
 use Rattle.pending_writes.specs.Frames.{Frame, Frames, logs_of, with_frame_at, IsFrameOf, pending_of}
+use Rattle.place_taking.specs.Spending.{is_worn_out}
 use Rattle.status_renewal.specs.Passes.{RenewCause}
 use Rattle.steps.specs.Steps.{Tidies}
 use Rattle.steps.proofs.TablesLemmas.{tables_read}
@@ -34,18 +35,31 @@ use Rattle.page_frames.specs.declared.pages.Pages.{Pages}
 use Rattle.page_frames.specs.Pages.{tables_in, frames_in, IsReady, Upholds, PageCause}
 
 -- why it isn't loaded
-pub load_cause : (home : ℕ) (spots : List (ℕ × ℕ)) (page : ℕ) → page < 15 → (fault : ChipFault)
-    (old new : Told) → IsLoadCause home spots page fault old new → RenewCause fault old new
-load_cause home spots page few ReadFault old new (inl rose) = rose
-load_cause home spots page few ReadFault old new (inr rose) = rose
-load_cause home spots page few Stopped old new (inl none) = absurd none
-load_cause home spots page few Stopped old new (inr none) = absurd none
-load_cause home spots page few (Damaged p s stored computed) old new (inl none) = absurd none
-load_cause home spots page few (Damaged p s stored computed) old new (inr is) =
+pub load_cause : (after : Places) (home : ℕ) (spots : List (ℕ × ℕ)) (page : ℕ) → page < 15
+    → (fault : ChipFault) (old new : Told) → IsLoadCause home spots page fault old new
+    → RenewCause after fault old new
+load_cause after home spots page few ReadFault old new (inl rose) = rose
+load_cause after home spots page few ReadFault old new (inr rose) = rose
+load_cause after home spots page few Stopped old new (inl none) = absurd none
+load_cause after home spots page few Stopped old new (inr none) = absurd none
+load_cause after home spots page few (Damaged p s stored computed) old new (inl none) = absurd none
+load_cause after home spots page few (Damaged p s stored computed) old new (inr is) =
     (omega (arith, few, is.1), is.2)
-load_cause home spots page few (Malformed p s) old new cause = tt
-load_cause home spots page few (WornOut n) old new (inl none) = absurd none
-load_cause home spots page few (WornOut n) old new (inr none) = absurd none
+load_cause after home spots page few (Malformed p s) old new cause = tt
+load_cause after home spots page few (WornOut n) old new (inl none) = absurd none
+load_cause after home spots page few (WornOut n) old new (inr none) = absurd none
+
+-- too many places were worn for no load
+pub load_unworn : (home : ℕ) (spots : List (ℕ × ℕ)) (page : ℕ) (result : Result (Unit {0}) ChipFault)
+    (old new : Told) → IfErr result (λ fault. IsLoadCause home spots page fault old new)
+    → is_worn_out result ≡ false
+load_unworn home spots page (Ok v) old new cause = refl
+load_unworn home spots page (Err ReadFault) old new cause = refl
+load_unworn home spots page (Err Stopped) old new cause = refl
+load_unworn home spots page (Err (Damaged p s stored computed)) old new cause = refl
+load_unworn home spots page (Err (Malformed p s)) old new cause = refl
+load_unworn home spots page (Err (WornOut n)) old new (inl none) = absurd none
+load_unworn home spots page (Err (WornOut n)) old new (inr none) = absurd none
 
 -- what is loaded is the frame of a page without records in memory
 loaded_frame : (c : Chart) (it : Layout) (frames : Frames) (active : List ℕ) (u page : ℕ)
@@ -98,7 +112,7 @@ frames_uphold : (old new : Pages) (later : Frames) (result : Result (Unit {0}) C
     → ((v q : ℕ) (g : Frame) → later v q ≡ Some g → v < length old.parts.directory.current)
     → KeepsState (tables_in old) (frames_in old) before result (tables_in old) later after
     → ReadsAt Anywhere before after
-    → KeepsPins old.pool new.pool → Accounts PageCause result before after
+    → KeepsPins old.pool new.pool → Accounts (PageCause new.parts.directory) result before after
     → Upholds 0 old before result new after
 frames_uphold old new later result before after ready tables is within keeps reads pins accounts = record {
   keeps = subst (λ (t : Tables). KeepsState (tables_in old) (frames_in old) before result t
@@ -113,6 +127,7 @@ frames_uphold old new later result before after ready tables is within keeps rea
         (within v q g (ap (λ (F : Frames). F v q) (sym is) ∙ there));
     rest = rest_stays old.pool new.pool pins ready.rest;
   };
+  units = ap (λ (t : Tables). length t.places.current) tables;
   active = ap (λ (t : Tables). t.active) tables;
   pins = pins;
   least = let same = ap (λ (t : Tables). t.next) tables in omega (arith, same);
@@ -147,7 +162,7 @@ load_upholds u page view old new before after ready low few none tables is reads
 -- not done
 pub fail_upholds : (old new : Pages) (e : ChipFault) (before after : Told) → IsReady before.places old
     → tables_in new ≡ tables_in old → frames_in new ≡ frames_in old → ReadsAt Anywhere before after
-    → KeepsPins old.pool new.pool → RenewCause e before after
+    → KeepsPins old.pool new.pool → RenewCause new.parts.directory e before after
     → Upholds {T = Unit {0}} 0 old before (Err e) new after
 fail_upholds old new e before after ready tables is reads pins cause =
     frames_uphold old new (frames_in old) (Err e) before after ready tables is ready.within

@@ -1,11 +1,12 @@
 -- The pages of names, written out one after the other in the order of pages.
-use Rattle.std.proofs.Common.{◌≡◌, ◌<◌, ◌≤◌, ◌+◌, ◌*◌, ◌∷◌, ◌⊎◌, ◌==◌, ◌&&◌, ◌||◌, ℕ, zero, suc, Bool, true, false, List, [], All, Contains, Option, Some, None, Ok, Err, length, get_or, refl, sym, ◌∙◌, ap, inl, inr, arith}
-use Rattle.std.specs.Prelude.{slice_index_or}
+use Rattle.std.proofs.Common.{◌≡◌, ◌<◌, ◌≤◌, ◌+◌, ◌*◌, ◌∷◌, ◌⊎◌, ◌==◌, ◌&&◌, ◌||◌, ℕ, zero, suc, Bool, true, false, List, [], All, Contains, Option, Some, None, Result, Ok, Err, length, get_or, refl, sym, ◌∙◌, ap, inl, inr, arith}
+use Rattle.std.specs.Prelude.{slice_index_or, IsOk}
 use Rattle.std.specs.Option.{option_map, option_map_or}
 use Rattle.std.proofs.lemmas.Bool.{cases_eq, eq-eqb, false≢true}
 use Rattle.chip_trait.specs.Told.{Told}
 use Rattle.ipl_base.specs.Places.{home_of}
 use Rattle.ipl_base.specs.declared.fault.ChipFault.{ChipFault}
+use Rattle.place_taking.specs.Spending.{is_worn_out, tells_worn}
 use Rattle.buffer_pool.specs.Pools.{PoolView, IsThere, AreOnce}
 use Rattle.buffer_pool.specs.Index.{page_number}
 use Rattle.pending_writes.specs.Frames.{Frame, Frames, logs_of}
@@ -23,10 +24,10 @@ use Rattle.page_frames.specs.Pages.{frames_in, KeepsFramed, IsReady, Upholds, em
 use Rattle.page_frames.specs.Asks.{AsksToWriteOut, AsksToWriteNamesOut}
 use Rattle.page_frames.specs.Changed.{is_home, is_on_page, changed_pages, HasHomesFor}
 use Rattle.page_frames.proofs.HomesLemmas.{SpendsHome, WroteAtHome, none_at_home, home_all, passed_at_home, written_at_home}
-use Rattle.page_frames.proofs.ChangedLemmas.{changed_below, SpendsOn, none_below, spends_passed, spends_more, spends_all}
+use Rattle.page_frames.proofs.ChangedLemmas.{changed_below, SpendsOn, StaysIdle, none_below, spends_passed, spends_more, spends_all}
 use Rattle.page_frames.proofs.FrameLemmas.{emptied_out}
 use Rattle.page_frames.proofs.FramedLemmas.{out_framed}
-use Rattle.page_frames.proofs.UpholdLemmas.{units_stay, upholds_none, upholds_then, upholds_weaker}
+use Rattle.page_frames.proofs.UpholdLemmas.{upholds_none, upholds_then, upholds_weaker}
 
 -- of the first n pages in the order, those that are of the names have no records in memory
 abbrev pub AreOutBelow : ℕ → List ℕ → List ℕ → Frames → Type 0
@@ -44,7 +45,8 @@ pub record IsOutBelow (n : ℕ) (names : List ℕ) (first : Pages) (before : Tol
   pub framed : KeepsFramed first now
   pub still : (u page : ℕ) → logs_of (frames_in first) u page ≡ []
       → logs_of (frames_in now) u page ≡ []
-  pub spends : SpendsOn (changed_below n names (frames_in first) first.pool.order) before after
+  pub spends : SpendsOn (changed_below n names (frames_in first) first.pool.order)
+      first.parts.directory now.parts.directory false before after
   pub homes : HasHomesFor first names → WroteAtHome n names first before now after
 
 pub none_out : (names : List ℕ) (first : Pages) (before : Told) → IsReady before.places first
@@ -56,11 +58,22 @@ none_out names first before ready = record {
   out = λ u page k few less. absurd (omega (arith, less));
   framed = λ u page is. is;
   still = λ u page none. none;
-  spends = none_below names first.pool.order (frames_in first) before;
+  spends = none_below names first.pool.order (frames_in first) first.parts.directory before;
   homes = λ has. none_at_home names first before;
 }
 
 -- ---- one page more
+
+-- a page without records in memory leaves all as it is
+stays_idle : (u page : ℕ) (result : Result (Unit {0}) ChipFault) (mid now : Pages)
+    (between after : Told) → IsOk result × (now ≡ mid) × (after ≡ between)
+    → StaysIdle mid.parts.directory now.parts.directory (is_worn_out result) between after
+stays_idle u page (Ok v) mid now between after (done, same, told) = record {
+  unworn = refl;
+  places = ap (λ (pages : Pages). pages.parts.directory) same;
+  told = told;
+}
+stays_idle u page (Err e) mid now between after (done, same, told) = absurd (false≢true done)
 
 -- a page without records has none after another is written out
 still_out : (frames : Frames) (u page v q : ℕ) → logs_of frames v q ≡ []
@@ -119,7 +132,8 @@ passed_out n u page names first before now after less few at off so_far = record
       (λ on. absurd (false≢true (sym off ∙ on))) so_far.out;
   framed = so_far.framed;
   still = so_far.still;
-  spends = spends_passed n u page names first.pool.order (frames_in first) before after less few
+  spends = spends_passed n u page names first.pool.order (frames_in first) first.parts.directory
+      now.parts.directory false before after less few
       (at ∙ ap (λ (l : List ℕ). slice_index_or l n 0) so_far.order) off so_far.spends;
   homes = λ has. passed_at_home n u page names first before now after less few
       (at ∙ ap (λ (l : List ℕ). slice_index_or l n 0) so_far.order) off (so_far.homes has);
@@ -153,10 +167,12 @@ written_out n u page names first before mid between now after less on low few at
       framed = λ v q there. out_framed u page mid now is v q (so_far.framed v q there);
       still = λ v q none. ap (λ (F : Frames). logs_of F v q) is
           ∙ still_out (frames_in mid) u page v q (so_far.still v q none);
-      spends = spends_more n u page names first.pool.order (frames_in first) (frames_in mid) before
-          between after mid.parts.directory less few
+      spends = spends_more n u page names first.pool.order (frames_in first) (frames_in mid)
+          first.parts.directory mid.parts.directory now.parts.directory false before
+          between after less few
           (at ∙ ap (λ (l : List ℕ). slice_index_or l n 0) so_far.order) on (so_far.still u page)
-          (λ none. (asks.idle none).1) asks.costs so_far.spends;
+          (λ none. stays_idle u page (Ok tt) mid now between after (asks.idle none)) asks.costs
+          so_far.spends;
       homes = λ has. written_at_home n u page names (Ok tt) first before mid between now after less
           few (at ∙ ap (λ (l : List ℕ). slice_index_or l n 0) so_far.order) on low
           (so_far.still u page) asks has (so_far.homes has);
@@ -177,13 +193,17 @@ module _ (n u page : ℕ) (names : List ℕ) (e : ChipFault) (first : Pages) (be
     (at : page_number u page ≡ slice_index_or mid.pool.order n 0)
     (so_far : IsOutBelow n names first before mid between)
     (asks : AsksToWriteOut u page (Err e) mid now between after) where
-  unwritten_costs : SpendsOn (changed_pages first names) before after
+  unwritten_costs : SpendsOn (changed_pages first names) first.parts.directory now.parts.directory
+      (tells_worn e) before after
   unwritten_costs =
-      spends_all (n + 1) names first.pool.order (frames_in first) before after
-      (spends_more n u page names first.pool.order (frames_in first) (frames_in mid) before between
-      after mid.parts.directory less few
+      spends_all (n + 1) names first.pool.order (frames_in first) first.parts.directory
+      now.parts.directory (tells_worn e) before after
+      (spends_more n u page names first.pool.order (frames_in first) (frames_in mid)
+      first.parts.directory mid.parts.directory now.parts.directory (tells_worn e) before between
+      after less few
       (at ∙ ap (λ (l : List ℕ). slice_index_or l n 0) so_far.order) on (so_far.still u page)
-      (λ none. (asks.idle none).1) asks.costs so_far.spends)
+      (λ none. stays_idle u page (Err e) mid now between after (asks.idle none)) asks.costs
+      so_far.spends)
 
   unwritten_homes : u < length first.parts.directory.current → HasHomesFor first names
       → SpendsHome (changed_pages first names) before after
@@ -194,7 +214,7 @@ module _ (n u page : ℕ) (names : List ℕ) (e : ChipFault) (first : Pages) (be
       has (so_far.homes has)).spends
 
   pub unwritten_asks : u < length first.parts.directory.current
-      → AsksToWriteNamesOut names first before after
+      → AsksToWriteNamesOut names (tells_worn e) first now before after
   unwritten_asks low = record { costs = unwritten_costs; homes = unwritten_homes low }
 
 -- ---- pages in frames
@@ -224,7 +244,7 @@ pub framed_low : (most : ℕ) (first now : Pages) (before after : Told) (u page 
     → u < length first.parts.directory.current
 framed_low most first now before after u page did once there ready =
     let low = framed_unit most first now before after u page did once there in
-    omega (arith, low, units_stay before.places first now ready.known did.ready.known)
+    omega (arith, low, did.units)
 
 -- one that has a frame is in a buffer
 framed_there : (p : PoolView) (u page : ℕ) (f : Frame) → AreOnce p.buffers
@@ -291,9 +311,10 @@ names_out count names first before now after all once listed done i d within =
 -- and what they cost
 pub names_ask : (count : ℕ) (names : List ℕ) (first : Pages) (before : Told) (now : Pages)
     (after : Told) → IsOutBelow count names first before now after
-    → AsksToWriteNamesOut names first before after
+    → AsksToWriteNamesOut names false first now before after
 names_ask count names first before now after done = record {
-  costs = spends_all count names first.pool.order (frames_in first) before after done.spends;
+  costs = spends_all count names first.pool.order (frames_in first) first.parts.directory
+      now.parts.directory false before after done.spends;
   homes = λ has.
       home_all count names first.pool.order (frames_in first) before after (done.homes has).spends;
 }

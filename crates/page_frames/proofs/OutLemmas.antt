@@ -6,7 +6,7 @@ use Rattle.chip_trait.specs.Told.{Told}
 use Rattle.log_records.specs.View.{Versioned, Spells}
 use Rattle.ipl_base.specs.declared.fault.ChipFault.{ChipFault}
 use Rattle.ipl_base.specs.declared.fault.ChipFault.TheVariants.{ReadFault, Stopped, Damaged, Malformed, WornOut}
-use Rattle.ipl_meaning.specs.Tables.{Tables}
+use Rattle.ipl_meaning.specs.Tables.{Places, Tables}
 use Rattle.unit_io.specs.Accounts.{Accounts}
 use Rattle.selective_merge.specs.Moving.{Holds}
 use Rattle.status_renewal.specs.Passes.{RenewCause}
@@ -25,23 +25,23 @@ use Rattle.page_frames.specs.Pages.{tables_in, frames_in, IsReady, Upholds, Page
 use Rattle.page_frames.proofs.FrameLemmas.{emptied_there}
 use Rattle.page_frames.proofs.HeldLemmas.{some_of}
 use Rattle.page_frames.proofs.TableLemmas.{tables_uphold}
-use Rattle.page_frames.proofs.UpholdLemmas.{units_stay}
 
 -- ---- causes
 
-out_cause : (t : Tables) (u : ℕ) (fault : ChipFault) (old new : Told)
-    → WritingCause t u fault old new → RenewCause fault old new
-out_cause t u ReadFault old new rose = rose
-out_cause t u Stopped old new rose = rose
-out_cause t u (Damaged p s stored computed) old new is = (is.1, is.2)
-out_cause t u (Malformed p s) old new cause = tt
-out_cause t u (WornOut n) old new worn = worn
+out_cause : (after : Places) (t : Tables) (u : ℕ) (fault : ChipFault) (old new : Told)
+    → WritingCause after t u fault old new → RenewCause after fault old new
+out_cause after t u ReadFault old new rose = rose
+out_cause after t u Stopped old new rose = rose
+out_cause after t u (Damaged p s stored computed) old new is = (is.1, is.2)
+out_cause after t u (Malformed p s) old new cause = tt
+out_cause after t u (WornOut n) old new worn = worn
 
-out_accounts : (t : Tables) (u : ℕ) (result : Result (Unit {0}) ChipFault) (old new : Told)
-    → Accounts (WritingCause t u) result old new → Accounts PageCause result old new
-out_accounts t u (Ok v) old new did = record { counts = did.counts; cause = tt }
-out_accounts t u (Err e) old new did =
-    record { counts = did.counts; cause = out_cause t u e old new did.cause }
+out_accounts : (after : Places) (t : Tables) (u : ℕ) (result : Result (Unit {0}) ChipFault)
+    (old new : Told) → Accounts (WritingCause after t u) result old new
+    → Accounts (PageCause after) result old new
+out_accounts after t u (Ok v) old new did = record { counts = did.counts; cause = tt }
+out_accounts after t u (Err e) old new did =
+    record { counts = did.counts; cause = out_cause after t u e old new did.cause }
 
 -- ---- the state is kept
 
@@ -56,7 +56,7 @@ out_keeps : (t after : Tables) (frames : Frames) (u page : ℕ) (payload : Versi
     → Spells payload (logs_of frames u page)
     → WritesOut old.places u payload t after old result new
     → WritesOutInSteps old.places payload t after old result new
-    → Accounts (WritingCause t u) result old new
+    → Accounts (WritingCause after.places t u) result old new
     → KeepsState t frames old result after (frames_after result frames u page) new
 out_keeps t after frames u page payload old new result there spelled tells steps accounts =
     let (f, is) = some_of (frames u page) there in
@@ -76,14 +76,14 @@ pub out_failed : (u page : ℕ) (payload : Versioned) (old new : Pages) (e : Chi
     → Holds before.places (tables_in old) (tables_in new)
     → Tidies {T = Unit {0}} {E = ChipFault} (tables_in old) (Err e) (tables_in new) before after
     → (old.parts.counter ≤ new.parts.counter) × (new.parts.counter ≤ old.parts.counter + 14)
-    → Accounts {T = Unit {0}} (WritingCause (tables_in old) u) (Err e) before after
+    → Accounts {T = Unit {0}} (WritingCause new.parts.directory (tables_in old) u) (Err e) before after
     → Upholds {T = Unit {0}} 14 old before (Err e) new after
 out_failed u page payload old new e before after ready same there spelled tells steps holds
     tidy draws accounts =
-    tables_uphold 14 old new (Err e) before after ready same holds.known holds.active
+    tables_uphold 14 old new (Err e) before after ready same holds.known holds.units holds.active
     (out_keeps (tables_in old) (tables_in new) (frames_in old) u page payload before after
     (Err e) there spelled tells steps accounts) tidy draws
-    (out_accounts (tables_in old) u (Err e) before after accounts)
+    (out_accounts new.parts.directory (tables_in old) u (Err e) before after accounts)
 
 -- ---- done
 
@@ -102,7 +102,7 @@ pub out_done : (u page : ℕ) (payload : Versioned) (old new : Pages) (before af
     → Holds before.places (tables_in old) (tables_in new)
     → Tidies {T = Unit {0}} {E = ChipFault} (tables_in old) (Ok tt) (tables_in new) before after
     → (old.parts.counter ≤ new.parts.counter) × (new.parts.counter ≤ old.parts.counter + 14)
-    → Accounts {T = Unit {0}} {E = ChipFault} (WritingCause (tables_in old) u) (Ok tt) before after
+    → Accounts {T = Unit {0}} {E = ChipFault} (WritingCause new.parts.directory (tables_in old) u) (Ok tt) before after
     → Upholds {T = Unit {0}} 14 old before (Ok tt) new after
 out_done u page payload old new before after ready spelled did pins tells steps holds tidy draws
     accounts =
@@ -118,12 +118,13 @@ out_done u page payload old new before after ready spelled did pins tells steps 
             let was = emptied_there (frames_in old) u page v q f
             (ap (λ (F : Frames). F v q) (sym is) ∙ there) in
             let low = ready.within v q was.0 was.1 in
-            omega (arith, low, units_stay before.places old new ready.known holds.known);
+            omega (arith, low, holds.units);
         rest = rest_stays old.pool new.pool pins ready.rest;
       };
+      units = holds.units;
       active = holds.active;
       pins = pins;
       least = draws.0;
       drawn = draws.1;
-      accounts = out_accounts (tables_in old) u (Ok tt) before after accounts;
+      accounts = out_accounts new.parts.directory (tables_in old) u (Ok tt) before after accounts;
     }

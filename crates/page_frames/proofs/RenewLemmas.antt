@@ -54,7 +54,7 @@ turned_stopped places c y it t after is none active = record {
 -- what it makes of the tables, however it ends
 pub renew_turns : (places : ℕ) (t after : Tables) (result : Result (Unit {0}) ChipFault)
     (old new : Told) → HoldsRenewed places t result after → RenewsTold places t after old result new
-    → Accounts RenewCause result old new → Settled result old new
+    → Accounts (RenewCause after.places) result old new → Settled result old new
     → Charts (TurnsTables places t after) old new
 renew_turns places t after (Ok v) old new holds tells accounts settled x told =
     let (y, there, renews) = tells x told in (
@@ -64,7 +64,7 @@ renew_turns places t after (Ok v) old new holds tells accounts settled x told =
           (renews it mirrors) holds.known.none_lost holds.active,
     )
 renew_turns places t after (Err e) old new holds tells accounts settled x told =
-    let (y, there, stops) = tells (soft_end e old new accounts.cause settled) x told in (
+    let (y, there, stops) = tells (soft_end after.places e old new accounts.cause settled) x told in (
       y,
       there,
       λ it mirrors none. turned_stopped places (chart_of x) (chart_of y) it t after
@@ -75,7 +75,8 @@ renew_turns places t after (Err e) old new holds tells accounts settled x told =
 pub renew_keeps : (t after : Tables) (frames : Frames) (result : Result (Unit {0}) ChipFault)
     (old new : Told) → HoldsRenewed old.places t result after
     → RenewsTold old.places t after old result new
-    → KeepsInSteps old.places t after old result new → Accounts RenewCause result old new
+    → KeepsInSteps old.places t after old result new
+    → Accounts (RenewCause after.places) result old new
     → KeepsState t frames old result after frames new
 renew_keeps t after frames result old new holds tells steps accounts =
     table_calls_keep_states t after frames result old new

@@ -1,11 +1,11 @@
 -- Calls that know the tables alone keep each state, whatever frames there are.
-use Rattle.std.proofs.Common.{◌≡◌, ◌≢◌, ◌≤◌, ◌+◌, ◌^◌, ℕ, List, Result, Ok, Err, sym, ◌∙◌, ap, subst, arith}
+use Rattle.std.proofs.Common.{◌≡◌, ◌≢◌, ◌≤◌, ◌+◌, ◌^◌, ℕ, List, length, Result, Ok, Err, sym, ◌∙◌, ap, subst, arith}
 use Rattle.chip_trait.specs.Told.{Told}
 use Rattle.ipl_base.specs.declared.fault.ChipFault.{ChipFault}
 use Rattle.ipl_base.specs.declared.fault.ChipFault.TheVariants.{Stopped}
 use Rattle.ipl_meaning.specs.Chart.{chart_of}
 use Rattle.ipl_meaning.specs.Rests.{now, EachStands, StoryRests}
-use Rattle.ipl_meaning.specs.Tables.{Tables}
+use Rattle.ipl_meaning.specs.Tables.{Places, Tables}
 use Rattle.unit_io.specs.Accounts.{Accounts}
 use Rattle.unit_io.specs.Charts.{Charts}
 use Rattle.steps.specs.Steps.{Settled, RestsAgreeing, Tidies}
@@ -26,22 +26,21 @@ use Rattle.status_renewal.specs.Passes.{RenewsTold, HoldsRenewed, KeepsInSteps, 
 use Rattle.status_renewal.proofs.CauseLemmas.{merge_accounts}
 use Rattle.frame_changes.specs.Views.{frames_of}
 use Rattle.page_frames.proofs.RenewLemmas.{renew_keeps}
-use Rattle.page_frames.proofs.UpholdLemmas.{units_stay}
 use Rattle.page_frames.specs.declared.pages.Pages.{Pages}
 use Rattle.page_frames.specs.Pages.{tables_in, frames_in, IsReady, Upholds, PageCause}
 
 -- a merge that failed and left the write count as it was wasn't stopped
-unstopped : (place : ℕ) (spots : List (ℕ × ℕ)) (e : ChipFault) (old new : Told)
-    → MergeCause place spots e old new → Settled {T = Unit {0}} (Err e) old new → e ≢ Stopped
-unstopped place spots e old new cause unrisen is =
-    let rose = subst (λ (f : ChipFault). MergeCause place spots f old new) is cause in
+unstopped : (then : Places) (place : ℕ) (spots : List (ℕ × ℕ)) (e : ChipFault) (old new : Told)
+    → MergeCause then place spots e old new → Settled {T = Unit {0}} (Err e) old new → e ≢ Stopped
+unstopped then place spots e old new cause unrisen is =
+    let rose = subst (λ (f : ChipFault). MergeCause then place spots f old new) is cause in
     omega (arith, rose, unrisen)
 
 -- what a merge makes of the tables
 merge_turns : (places u place : ℕ) (spots : List (ℕ × ℕ)) (t after : Tables)
     (result : Result (Unit {0}) ChipFault) (old new : Told) → Holds places t after
     → ChartsThroughout (λ done. Merges places u t after) (StaysMirrored places t after) result old new
-    → Accounts (MergeCause place spots) result old new → Settled result old new
+    → Accounts (MergeCause after.places place spots) result old new → Settled result old new
     → Charts (TurnsTables places t after) old new
 merge_turns places u place spots t after (Ok v) old new holds tells accounts settled x told =
     let (y, there, did) = tells x told in (
@@ -51,7 +50,7 @@ merge_turns places u place spots t after (Ok v) old new holds tells accounts set
           (did it mirrors) holds.known.none_lost holds.active,
     )
 merge_turns places u place spots t after (Err e) old new holds tells accounts settled x told =
-    let (y, there, stays) = tells (unstopped place spots e old new accounts.cause settled) x told in (
+    let (y, there, stays) = tells (unstopped after.places place spots e old new accounts.cause settled) x told in (
       y,
       there,
       λ it mirrors none.
@@ -66,7 +65,7 @@ pub merge_keeps : (u place : ℕ) (spots : List (ℕ × ℕ)) (t after : Tables)
     → ChartsThroughout (λ done. Merges old.places u t after) (StaysMirrored old.places t after) result
     old new
     → MergesInSteps old.places u t after old result new
-    → Accounts (MergeCause place spots) result old new
+    → Accounts (MergeCause after.places place spots) result old new
     → KeepsState t frames old result after frames new
 merge_keeps u place spots t after frames result old new holds tells steps accounts =
     table_calls_keep_states t after frames result old new
@@ -84,12 +83,15 @@ merge_keeps u place spots t after frames result old new holds tells steps accoun
 -- they are ready still, in the same frames
 pub tables_uphold : (most : ℕ) (old new : Pages) (result : Result (Unit {0}) ChipFault)
     (before after : Told) → IsReady before.places old → new.pool ≡ old.pool
-    → KnowsPlaces before.places (tables_in new) → new.parts.active ≡ old.parts.active
+    → KnowsPlaces before.places (tables_in new)
+    → length new.parts.directory.current ≡ length old.parts.directory.current
+    → new.parts.active ≡ old.parts.active
     → KeepsState (tables_in old) (frames_in old) before result (tables_in new) (frames_in old) after
     → Tidies (tables_in old) result (tables_in new) before after
     → (old.parts.counter ≤ new.parts.counter) × (new.parts.counter ≤ old.parts.counter + most)
-    → Accounts PageCause result before after → Upholds most old before result new after
-tables_uphold most old new result before after ready same known active keeps tidy draws accounts = record {
+    → Accounts (PageCause new.parts.directory) result before after
+    → Upholds most old before result new after
+tables_uphold most old new result before after ready same known units active keeps tidy draws accounts = record {
   keeps = subst (λ (f : Frames). KeepsState (tables_in old) (frames_in old) before result
       (tables_in new) f after) (ap frames_of (sym same)) keeps;
   tidy = tidy;
@@ -98,9 +100,10 @@ tables_uphold most old new result before after ready same known active keeps tid
     within = λ u page f there.
         let was =
         ready.within u page f (ap (λ (p : PoolView). frames_of p u page) (sym same) ∙ there) in
-        omega (arith, was, units_stay before.places old new ready.known known);
+        omega (arith, was, units);
     rest = subst IsAtRest (sym same) ready.rest;
   };
+  units = units;
   active = active;
   pins = subst (KeepsPins old.pool) (sym same) (nothing_keeps old.pool);
   least = draws.0;
@@ -117,13 +120,14 @@ pub merge_upholds : (u : ℕ) (old new : Pages) (result : Result (Unit {0}) Chip
     → MergesInSteps before.places u (tables_in old) (tables_in new) before result after
     → Tidies (tables_in old) result (tables_in new) before after
     → (old.parts.counter ≤ new.parts.counter) × (new.parts.counter ≤ old.parts.counter + 13)
-    → (place : ℕ) (spots : List (ℕ × ℕ)) → Accounts (MergeCause place spots) result before after
+    → (place : ℕ) (spots : List (ℕ × ℕ))
+    → Accounts (MergeCause new.parts.directory place spots) result before after
     → Upholds 13 old before result new after
 merge_upholds u old new result before after ready same holds tells steps tidy draws place spots accounts =
-    tables_uphold 13 old new result before after ready same holds.known holds.active
+    tables_uphold 13 old new result before after ready same holds.known holds.units holds.active
     (merge_keeps u place spots (tables_in old) (tables_in new) (frames_in old) result before after
     holds tells steps accounts) tidy draws
-    (merge_accounts place spots before after result accounts)
+    (merge_accounts new.parts.directory place spots before after result accounts)
 
 -- a renewal
 pub renew_upholds : (old new : Pages) (result : Result (Unit {0}) ChipFault) (before after : Told)
@@ -133,8 +137,8 @@ pub renew_upholds : (old new : Pages) (result : Result (Unit {0}) ChipFault) (be
     → KeepsInSteps before.places (tables_in old) (tables_in new) before result after
     → Tidies (tables_in old) result (tables_in new) before after
     → (old.parts.counter ≤ new.parts.counter) × (new.parts.counter ≤ old.parts.counter + 2 ^ 14)
-    → Accounts RenewCause result before after → Upholds (2 ^ 14) old before result new after
+    → Accounts (RenewCause new.parts.directory) result before after → Upholds (2 ^ 14) old before result new after
 renew_upholds old new result before after ready same holds tells steps tidy draws accounts =
-    tables_uphold (2 ^ 14) old new result before after ready same holds.known holds.active
+    tables_uphold (2 ^ 14) old new result before after ready same holds.known holds.units holds.active
     (renew_keeps (tables_in old) (tables_in new) (frames_in old) result before after holds tells steps
     accounts) tidy draws accounts

@@ -1,24 +1,14 @@
 -- Calls that keep each state: nothing done, one after another, and causes.
-use Rattle.std.proofs.Common.{◌≡◌, ◌≤◌, ◌+◌, ℕ, length, Result, Ok, refl, ◌∙◌, subst, arith}
+use Rattle.std.proofs.Common.{◌≤◌, ◌+◌, ℕ, Result, Ok, refl, ◌∙◌, subst, arith}
 use Rattle.chip_trait.specs.Told.{Told}
 use Rattle.chip_trait.proofs.CountsLemmas.{counts_none}
-use Rattle.ipl_base.proofs.UnitLemmas.{one_count}
 use Rattle.ipl_base.specs.declared.fault.ChipFault.{ChipFault}
 use Rattle.buffer_pool.proofs.HoldingLemmas.{nothing_keeps, both_keep}
-use Rattle.merge_rules.specs.Known.{KnowsPlaces}
 use Rattle.status_renewal.proofs.CauseLemmas.{accounts_then}
 use Rattle.steps.proofs.TablesLemmas.{tables_none, tables_then}
 use Rattle.store_steps.proofs.KeeperLemmas.{nothing_keeps_states, keepers_are_joined}
 use Rattle.page_frames.specs.declared.pages.Pages.{Pages}
 use Rattle.page_frames.specs.Pages.{tables_in, frames_in, IsReady, Upholds}
-
--- tables that know the same chip are of as many units
-pub units_stay : (places : ℕ) (old new : Pages) → KnowsPlaces places (tables_in old)
-    → KnowsPlaces places (tables_in new)
-    → length new.parts.directory.current ≡ length old.parts.directory.current
-units_stay places old new was known =
-    one_count places (length new.parts.directory.current) (length old.parts.directory.current)
-    known.suits.units was.suits.units
 
 pub upholds_none : (most : ℕ) (pages : Pages) (t : Told) → IsReady t.places pages
     → Upholds most pages t (Ok (tt {0})) pages t
@@ -26,6 +16,7 @@ upholds_none most pages t ready = record {
   keeps = nothing_keeps_states (tables_in pages) (frames_in pages) t;
   tidy = tables_none {T = Unit {0}} {E = ChipFault} (tables_in pages) (Ok tt) t;
   ready = ready;
+  units = refl;
   active = refl;
   pins = nothing_keeps pages.pool;
   least = omega arith;
@@ -45,11 +36,12 @@ upholds_then n m first between last result old mid new one two = record {
   tidy = tables_then (Unit {0}) ChipFault (tables_in first) (tables_in between) (tables_in last) tt
       result old mid new one.accounts.counts one.tidy two.tidy;
   ready = subst (λ (k : ℕ). IsReady k last) one.accounts.counts.places two.ready;
+  units = two.units ∙ one.units;
   active = two.active ∙ one.active;
   pins = both_keep first.pool between.pool last.pool one.pins two.pins;
   least = omega (arith, one.least, two.least);
   drawn = omega (arith, one.drawn, two.drawn);
-  accounts = accounts_then old mid new result one.accounts.counts two.accounts;
+  accounts = accounts_then last.parts.directory old mid new result one.accounts.counts two.accounts;
 }
 
 -- fewer numbers were drawn
@@ -60,6 +52,7 @@ upholds_weaker n m first last result old new fewer did = record {
   keeps = did.keeps;
   tidy = did.tidy;
   ready = did.ready;
+  units = did.units;
   active = did.active;
   pins = did.pins;
   least = did.least;

@@ -35,6 +35,7 @@ used_upholds most old p t ready same pins = record {
     within = λ v q f found. ready.within v q f (ap (λ (F : Frames). F v q) (sym same) ∙ found);
     rest = rest_stays old.pool p pins ready.rest;
   };
+  units = refl;
   active = refl;
   pins = pins;
   least = omega arith;

@@ -1,9 +1,12 @@
 -- What calls on pages ask of the chip.
-use Rattle.std.specs.Prelude.{ℕ, ◌≡◌, ◌*◌, List, [], ◌∷◌, None, Result}
+use Rattle.std.specs.Prelude.{ℕ, ◌≡◌, ◌*◌, Bool, false, List, [], ◌∷◌, None, Result, IsOk}
+use Rattle.chip_trait.specs.Story.{Story}
 use Rattle.chip_trait.specs.Told.{Told}
 use Rattle.ipl_base.specs.declared.fault.ChipFault.{ChipFault}
 use Rattle.ipl_format.specs.Record.{Record}
+use Rattle.ipl_meaning.specs.Tables.{Places}
 use Rattle.unit_io.specs.Costs.{Costs, Spends}
+use Rattle.place_taking.specs.Spending.{RetiringCosts, RetiresWorn, is_worn_out}
 use Rattle.selective_merge.specs.Spotting.{HasHomeSpot}
 use Rattle.pending_writes.specs.Frames.{logs_of}
 use Rattle.frame_changes.specs.Changes.{MayPut}
@@ -14,38 +17,52 @@ use Rattle.page_frames.specs.Changed.{changed_pages, HasHomesFor}
 
 -- A page's records written out: nothing, and all stays as it is, where it has none in memory; where
 -- a log sector is clean at its unit's home, at most one program, of a log sector, with no erase and
--- no barrier; else at most the erase of the least worn free place too.
+-- no barrier; else at most the erase of the next free place in its turn too, and one more for each place
+-- that was retired.
 pub record AsksToWriteOut (u page : ℕ) (result : Result (Unit {0}) ChipFault) (old new : Pages)
     (before after : Told) : Type 0 where
-  pub idle : logs_of (frames_in old) u page ≡ [] → (new ≡ old) × (after ≡ before)
+  pub idle : logs_of (frames_in old) u page ≡ []
+      → IsOk result × (new ≡ old) × (after ≡ before)
   pub home : HasHomeSpot (tables_in old) u → Spends (Costs 0 1 0 (5 ∷ [])) before after
       × UsesHome result old.parts.directory new.parts.directory u
-  pub costs : Spends (ErasesAndLogs old.parts.directory) before after
+  pub costs : Spends
+      (ErasesAndLogs old.parts.directory new.parts.directory (is_worn_out result)) before after
 
 -- A page brought into a frame: nothing where it is in one, but that a use is counted; reads alone where
 -- a frame is free; and what writing one page out may cost in any case.
-pub record AsksToBring (u page : ℕ) (old new : Pages) (before after : Told) : Type 0 where
+pub record AsksToBring (u page : ℕ) (worn_out : Bool) (old new : Pages) (before after : Told)
+    : Type 0 where
   pub idle : IsFramed old u page → OnlyUses u page old new × (after ≡ before)
   pub free : HasFreeFrame old → Spends (Costs 0 0 0 []) before after
-  pub costs : Spends (ErasesAndLogs old.parts.directory) before after
+  pub costs : Spends (ErasesAndLogs old.parts.directory new.parts.directory worn_out) before after
 
 -- A page made ready for a record: nothing where it is in a frame and the record fits behind those in
--- memory, but that a use is counted; reads alone where it is in none and a frame is free; where it is
+-- memory, but that a use is counted, and no place is found worn; reads alone where it is in none and a frame is free; where it is
 -- in a frame and a log sector is clean at its unit's home, at most one program, of a log sector, with
 -- no erase and no barrier; and what writing one page out may cost in any case.
-pub record AsksToPrepare (u : ℕ) (r : Record) (old new : Pages) (before after : Told) : Type 0 where
-  pub idle : MayPut (frames_in old) u r → OnlyUses u r.page old new × (after ≡ before)
+pub record AsksToPrepare (u : ℕ) (r : Record) (worn_out : Bool) (old new : Pages)
+    (before after : Told) : Type 0 where
+  pub idle : MayPut (frames_in old) u r
+      → OnlyUses u r.page old new × (after ≡ before) × (worn_out ≡ false)
   pub free : frames_in old u r.page ≡ None → HasFreeFrame old → Spends (Costs 0 0 0 []) before after
   pub home : IsFramed old u r.page → HasHomeSpot (tables_in old) u
       → Spends (Costs 0 1 0 (5 ∷ [])) before after
-  pub costs : Spends (ErasesAndLogs old.parts.directory) before after
+  pub costs : Spends (ErasesAndLogs old.parts.directory new.parts.directory worn_out) before after
+
+-- At most one erase is tried for each of so many pages, and one more for each place that was retired;
+-- what is found worn is retired; of what wasn't erased before at most one log sector for each is
+-- programmed; and there are at most three barriers for each.
+pub record ErasesAndLogsOf (n : ℕ) (before after : Places) (worn_out : Bool) (added : Story)
+    : Type 0 where
+  pub costs : RetiringCosts before after n n (3 * n) (5 ∷ []) added
+  pub retires : RetiresWorn before after worn_out added
 
 -- The records of the pages of these names written out.
-pub record AsksToWriteNamesOut (names : List ℕ) (old : Pages) (before after : Told) : Type 0 where
-  -- at most one erase for each page of theirs that has records in memory, and one log sector
-  -- outside the places that are erased
-  pub costs : Spends (Costs (changed_pages old names) (changed_pages old names)
-      (3 * changed_pages old names) (5 ∷ [])) before after
+pub record AsksToWriteNamesOut (names : List ℕ) (worn_out : Bool) (old new : Pages)
+    (before after : Told) : Type 0 where
+  -- at most so much for each page of theirs that has records in memory
+  pub costs : Spends (ErasesAndLogsOf (changed_pages old names) old.parts.directory
+      new.parts.directory worn_out) before after
   -- and no erase where each unit has log sectors clean at home for its pages
   pub homes : HasHomesFor old names → Spends (Costs 0 (changed_pages old names) 0 (5 ∷ []))
       before after

@@ -6,7 +6,7 @@ use Rattle.ipl_base.specs.declared.fault.ChipFault.{ChipFault}
 use Rattle.ipl_meaning.specs.Chart.{chart_of}
 use Rattle.ipl_meaning.specs.Layout.{Layout}
 use Rattle.ipl_meaning.specs.Mirrors.{Mirrors}
-use Rattle.ipl_meaning.specs.Tables.{Tables}
+use Rattle.ipl_meaning.specs.Tables.{Places, Tables}
 use Rattle.unit_io.specs.Reads.{OfContents}
 use Rattle.slab.specs.Slab.{slab_len}
 use Rattle.buffer_pool.specs.Holding.{IsAtRest, KeepsPins}
@@ -79,28 +79,29 @@ pub record IsReady (places : ℕ) (pages : Pages) : Type 0 where
 
 -- ---- causes
 
--- why a call fails, whatever the chip tells: a read or a write failed, or an erase found its place
--- worn, and its count rose; or a sector isn't what it must be, and where it is damaged it is a base
--- sector whose sums differ
-abbrev pub PageCause : ChipFault → Told → Told → Type 0
+-- why a call fails, whatever the chip tells: a read or a write failed, or more places are worn than are
+-- spare, by the directory then, and its count rose; or a sector isn't what it must be, and where it is
+-- damaged it is a base sector whose sums differ
+abbrev pub PageCause : Places → ChipFault → Told → Told → Type 0
 PageCause = RenewCause
 
 -- ---- what each call keeps
 
 -- A call that keeps each state for which tables and frames stand, however it ends. Whatever the chip
--- tells: its events are lawful by the tables, the same sessions are open, the same pages are held, at
--- most so many numbers were drawn, and a fault has its cause.
+-- tells: its events are lawful by the tables, there are as many units, the same sessions are open, the
+-- same pages are held, at most so many numbers were drawn, and a fault has its cause.
 pub record Upholds {T : Type 0} (most : ℕ) (old : Pages) (before : Told) (result : Result T ChipFault)
     (new : Pages) (after : Told) : Type 0 where
   pub keeps : KeepsState (tables_in old) (frames_in old) before result
       (tables_in new) (frames_in new) after
   pub tidy : Tidies (tables_in old) result (tables_in new) before after
   pub ready : IsReady before.places new
+  pub units : length new.parts.directory.current ≡ length old.parts.directory.current
   pub active : new.parts.active ≡ old.parts.active
   pub pins : KeepsPins old.pool new.pool
   pub least : old.parts.counter ≤ new.parts.counter
   pub drawn : new.parts.counter ≤ old.parts.counter + most
-  pub accounts : Accounts PageCause result before after
+  pub accounts : Accounts (PageCause new.parts.directory) result before after
 
 -- ---- frames after a call
 

@@ -1,8 +1,9 @@
 //! A page is brought into a frame.
-ghost use Rattle.std.specs.Prelude.{◌≡◌, ◌<◌, ◌≤◌, ◌+◌, ◌^◌, ◌⊎◌, [], ℕ, length, None, IsOk, OnOk};
+ghost use Rattle.std.specs.Prelude.{◌≡◌, ◌<◌, ◌≤◌, ◌+◌, ◌^◌, ◌⊎◌, [], ℕ, length, false, None, IsOk, OnOk};
 ghost use Rattle.unit_io.specs.Accounts.{Accounts};
 ghost use Rattle.unit_io.specs.Costs.{Costs, Spends};
 ghost use Rattle.unit_io.specs.ReadsAt.{Anywhere, ReadsAt};
+ghost use Rattle.place_taking.specs.Spending.{is_worn_out};
 ghost use Rattle.merge_rules.specs.Known.{Suits};
 ghost use Rattle.buffer_pool.specs.Pools.{PoolView};
 ghost use Rattle.buffer_pool.specs.Holding.{IsAtRest, KeepsPins};
@@ -75,7 +76,8 @@ impl Pages {
         ensures idle { victim ≡ None
             → IsOk result × (self.new ≡ self.old) × (C.told chip.new ≡ C.told chip.old) }
         ensures status { self.new.parts.status ≡ self.old.parts.status }
-        ensures costs { Spends (ErasesAndLogs self.old.parts.directory)
+        ensures costs { Spends (ErasesAndLogs self.old.parts.directory
+            self.new.parts.directory (is_worn_out result))
             (C.told chip.old) (C.told chip.new) }
     {
         let Some((unit, page)) = victim else {
@@ -104,7 +106,9 @@ impl Pages {
         ensures pins { KeepsPins self.old.pool self.new.pool }
         ensures uses { used_of self.new.pool ≡ used_of self.old.pool }
         ensures reads { ReadsAt Anywhere (C.told chip.old) (C.told chip.new) }
-        ensures accounts { Accounts PageCause result (C.told chip.old) (C.told chip.new) }
+        ensures unworn { is_worn_out result ≡ false }
+        ensures accounts { Accounts (PageCause self.new.parts.directory) result
+            (C.told chip.old) (C.told chip.new) }
     {
         self.pool.facts();
         let Some(key) = self.pool.find(unit, page) else {
@@ -138,6 +142,7 @@ impl Pages {
         ensures tables { tables_in self.new ≡ tables_in self.old }
         ensures status { self.new.parts.status ≡ self.old.parts.status }
         ensures costs { Spends (Costs 0 0 0 []) (C.told chip.old) (C.told chip.new) }
+        ensures unworn { is_worn_out result ≡ false }
     {
         match self.load_frame(chip, unit, page) {
             Ok(()) => Ok(()),
@@ -166,7 +171,8 @@ impl Pages {
         ensures idle { HasFreeFrame self.old
             → Spends (Costs 0 0 0 []) (C.told chip.old) (C.told chip.new) }
         ensures status { self.new.parts.status ≡ self.old.parts.status }
-        ensures costs { Spends (ErasesAndLogs self.old.parts.directory)
+        ensures costs { Spends (ErasesAndLogs self.old.parts.directory
+            self.new.parts.directory (is_worn_out result))
             (C.told chip.old) (C.told chip.new) }
     {
         let victim = self.choose_victim();
@@ -194,7 +200,8 @@ impl Pages {
         ensures used { OnOk result (IsUsedLast self.new.pool unit page) }
         ensures framed { KeepsFramedFor unit page self.old self.new }
         ensures status { self.new.parts.status ≡ self.old.parts.status }
-        ensures asks { AsksToBring unit page self.old self.new (C.told chip.old) (C.told chip.new) }
+        ensures asks { AsksToBring unit page (is_worn_out result) self.old self.new
+            (C.told chip.old) (C.told chip.new) }
     {
         if is_framed(&self.pool, unit, page) {
             use_page(&mut self.pool, unit, page);
@@ -226,7 +233,7 @@ impl Pages {
         ensures used { OnOk result (IsUsedLast self.new.pool unit logged.now.page) }
         ensures framed { KeepsFramedFor unit logged.now.page self.old self.new }
         ensures status { self.new.parts.status ≡ self.old.parts.status }
-        ensures asks { AsksToPrepare unit (record_of logged.now) self.old self.new
+        ensures asks { AsksToPrepare unit (record_of logged.now) (is_worn_out result) self.old self.new
             (C.told chip.old) (C.told chip.new) }
     {
         short(logged);

@@ -20,7 +20,8 @@
 //! in a frame costs nothing, and one for which a frame is free only reads; in both cases every page
 //! stays in its frame. Where records are written out, a unit is merged or the status place is renewed,
 //! every page stays in its frame; the pages of sessions' names cost at most one erase and one log
-//! sector for each that has records in memory, whichever sessions have them, and no erase where each
+//! sector for each that has records in memory, whichever sessions have them, and one erase more for each
+//! place that is found worn, which is retired; and no erase where each
 //! unit has as many log sectors clean at home as it has such pages. A record of a page that is in a
 //! frame costs one log sector where one is clean at its unit's home, and nothing where it fits behind
 //! those in memory; the values of its frame stay.

@@ -24,8 +24,7 @@ impl Pages {
         requires { frames ≤ 64 }
         ensures directory { IfOk result (λ pages. length pages.parts.directory.in_use
             ≡ geometry.places) }
-        ensures overflow { IfOk result (λ pages. length pages.parts.overflow.spots
-            ≡ geometry.units) }
+        ensures overflow { IfOk result (λ pages. pages.parts.overflow.places ≡ geometry.places) }
         ensures active { IfOk result (λ pages. pages.parts.active ≡ []) }
         ensures empty { IfOk result (λ pages. pages.pool.buffers.slots ≡ []) }
         ensures limit { IfOk result (λ pages. pages.pool.limit ≡ frames) }

@@ -1,6 +1,7 @@
 //! The records of sessions, written out before they are committed.
 ghost use Rattle.std.specs.Prelude.{◌≡◌, ℕ, ◌<◌, ◌+◌, ◌*◌, ◌^◌, All, Contains, map, OnOk};
 ghost use Rattle.ipl_base.specs.declared.limits.TheConstants.{SESSIONS};
+ghost use Rattle.place_taking.specs.Spending.{is_worn_out};
 ghost use Rattle.record_locks.specs.Held.{written_by};
 ghost use Rattle.store_steps.specs.Numbers.{IsOut};
 ghost use Rattle.page_frames.specs.Asks.{AsksToWriteNamesOut};
@@ -69,7 +70,7 @@ impl Pages {
         ensures framed { KeepsFramed self.old self.new }
         ensures status { self.new.parts.status ≡ self.old.parts.status }
         ensures asks { AsksToWriteNamesOut (written_by sessions.now numbers.now)
-            self.old (C.told chip.old) (C.told chip.new) }
+            (is_worn_out result) self.old self.new (C.told chip.old) (C.told chip.new) }
     {
         for i in 0..self.pool.len() {
             self.pool.facts();

@@ -1,11 +1,11 @@
 //! Work on the tables that leaves the frames as they are: a clean sector for the next commit, and a
 //! merge.
-ghost use Rattle.std.specs.Prelude.{◌≡◌, ◌<◌, ◌≤◌, ◌+◌, ◌^◌, length, slice_index, is_ok, OnOk};
+ghost use Rattle.std.specs.Prelude.{◌≡◌, ◌<◌, ◌≤◌, ◌+◌, ◌^◌, length, slice_index, is_ok, IsOk, OnOk};
 ghost use Rattle.ipl_base.specs.declared.limits.TheConstants.{CARRIED_SECTORS};
 ghost use Rattle.unit_io.specs.Costs.{Spends};
+ghost use Rattle.place_taking.specs.Spending.{ErasesFor, is_worn_out};
 ghost use Rattle.txn_status.specs.Status.{room_of};
 ghost use Rattle.selective_merge.specs.Merging.{Merges, StaysMirrored, FailsAsMerge};
-ghost use Rattle.selective_merge.specs.Spending.{ErasesFor};
 ghost use Rattle.selective_merge.specs.Throughout.{ChartsThroughout};
 ghost use Rattle.status_renewal.specs.Passes.{ErasesAtMost};
 ghost use Rattle.page_frames.specs.Complete.{Completes};
@@ -35,8 +35,9 @@ impl Pages {
         ensures frames { self.new.pool ≡ self.old.pool }
         ensures framed { KeepsFramed self.old self.new }
         ensures idle { 0 < room_of self.old.parts.status
-            → (self.new ≡ self.old) × (C.told chip.new ≡ C.told chip.old) }
-        ensures costs { Spends (ErasesAtMost (length self.old.parts.directory.current + 1))
+            → IsOk result × (self.new ≡ self.old) × (C.told chip.new ≡ C.told chip.old) }
+        ensures costs { Spends (ErasesAtMost self.old.parts.directory self.new.parts.directory
+            (length self.old.parts.directory.current + 1) (is_worn_out result))
             (C.told chip.old) (C.told chip.new) }
     {
         if self.parts.status.room() > 0 {
@@ -62,8 +63,8 @@ impl Pages {
         ensures room { OnOk result (slice_index self.new.parts.directory.written unit ≤ CARRIED_SECTORS) }
         ensures frames { self.new.pool ≡ self.old.pool }
         ensures framed { KeepsFramed self.old self.new }
-        ensures costs { Spends (ErasesFor self.old.parts.directory
-            (slice_index self.new.parts.directory.current unit) (is_ok result))
+        ensures costs { Spends (ErasesFor self.old.parts.directory self.new.parts.directory 3
+            (slice_index self.new.parts.directory.current unit) (is_ok result) (is_worn_out result))
             (C.told chip.old) (C.told chip.new) }
     {
         merge(chip, &mut self.parts, unit)

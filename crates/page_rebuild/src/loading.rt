@@ -99,6 +99,7 @@ pub fn load<C: Chip>(
     requires unit { unit < length directory.now.current }
     requires size { length directory.now.in_use ≡ (C.told chip.old).places }
     requires units { length overflow.now.spots ≡ length directory.now.current }
+    requires sized { overflow.now.places ≡ (C.told chip.old).places }
     requires page { page < 15 }
 
     // What the frame has then, and the exact fault, where the tables mirror what the chip holds.

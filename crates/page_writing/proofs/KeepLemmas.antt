@@ -13,7 +13,7 @@ use Rattle.ipl_meaning.specs.Mirrors.{Mirrors, NoneIsLost}
 use Rattle.ipl_meaning.specs.Rests.{now}
 use Rattle.ipl_meaning.specs.Stands.{page_in}
 use Rattle.ipl_meaning.specs.Steps.{KeepsPages, with_log}
-use Rattle.ipl_meaning.specs.Tables.{Tables}
+use Rattle.ipl_meaning.specs.Tables.{Places, Tables}
 use Rattle.record_locks.specs.Held.{Slots, number_of}
 use Rattle.unit_io.specs.Charts.{Charts}
 use Rattle.steps.specs.Steps.{Settled}
@@ -58,7 +58,7 @@ unit_fits : (places : ℕ) (c y : Chart) (it : Layout) (t : Tables) (u : ℕ) (a
     → KeepsPages places c it y new → Fits places y new after frames slots state
 unit_fits places c y it t u after frames slots state new fits (inl same) mirrors none active keeps =
     subst (λ (l : Layout). Fits places y l after frames slots state) (sym same)
-    (other_steps_fit places c y it it t after frames slots state fits (λ v low. refl)
+    (other_steps_fit places c y it it t after frames slots state fits refl (λ v low. refl)
     (λ v low i d within. refl) (subst (λ (l : Layout). Mirrors places y l after) same mirrors) none
     active (subst (λ (l : Layout). KeepsPages places c it y l) same keeps))
 unit_fits places c y it t u after frames slots state new fits (inr (is, same)) mirrors none active
@@ -113,10 +113,10 @@ unwritten_fits t after frames e old new slots places settled same turns =
 
 -- ---- the law
 
-soft : (t : Tables) (u : ℕ) (e : ChipFault) (old new : Told)
-    → WritingCause t u e old new → Settled {T = Unit {0}} (Err e) old new → e ≢ Stopped
-soft t u e old new cause unrisen is =
-    let risen = writing_rose t u e old new cause is in omega (arith, risen, unrisen)
+soft : (after : Places) (t : Tables) (u : ℕ) (e : ChipFault) (old new : Told)
+    → WritingCause after t u e old new → Settled {T = Unit {0}} (Err e) old new → e ≢ Stopped
+soft after t u e old new cause unrisen is =
+    let risen = writing_rose after t u e old new cause is in omega (arith, risen, unrisen)
 
 pub writings_keep_states : WritingsKeepStates
 writings_keep_states t after frames u page f payload old new (Ok v) there spelled tells steps cause
@@ -148,7 +148,7 @@ writings_keep_states t after frames u page f payload old new (Err e) there spell
       fits = λ places same settled.
           unwritten_fits t after frames e old new slots places settled same
           (subst (λ (n : ℕ). Charts (TurnsTables n t after) old new) same
-          (tells (soft t u e old new cause settled)));
+          (tells (soft after.places t u e old new cause settled)));
       steps = λ places h it state same steady story.
           (subst (λ (n : ℕ). WritesOutInSteps n payload t after old (Err e) new) same steps)
           state.map it f.log h steady story.rests

@@ -3,7 +3,6 @@ use Rattle.std.proofs.Common.{◌≡◌, ◌<◌, ℕ, List, [], ◌∷◌, ◌+
 use Rattle.std.specs.List.{AllPairs, Contains}
 use Rattle.std.proofs.lemmas.List.{length-set, length-map}
 use Rattle.std.proofs.lemmas.List.Elements.{All-contains}
-use Rattle.ipl_base.specs.Places.{places_for}
 use Rattle.ipl_meaning.specs.Mirrors.{AreApart}
 use Rattle.ipl_meaning.specs.Tables.{Tables, IsCountedClean, overflow_places, spots_of, with_written, with_mask, first_log}
 use Rattle.ipl_meaning.specs.TableSteps.{after_overflow_log, with_next, with_next_spot}
@@ -11,7 +10,7 @@ use Rattle.ipl_meaning.proofs.CountedLemmas.{same_places}
 use Rattle.unit_directory.specs.Directory.{IsSoundDirectory}
 use Rattle.overflow.specs.Lists.{IsPlaceOf, IsSoundOverflow, after_add}
 use Rattle.overflow.specs.Laws.{FirstSpotsAreAdded}
-use Rattle.merge_rules.specs.Known.{Suits, KnowsPlaces}
+use Rattle.merge_rules.specs.Known.{Suits, IsNamed, KnowsPlaces}
 use Rattle.selective_merge.specs.Moving.{Holds}
 use Rattle.selective_merge.specs.Spotting.{IsHomeSpot, IsSpotFor}
 use Rattle.page_writing.specs.Writing.{IsAfterLog}
@@ -35,18 +34,18 @@ spot_within places t u p s suits low directory overflow (inl home) =
       omega (arith, home.left, home.sector),
     )
 spot_within places t u p s suits low directory overflow (inr over) =
-    let within = All-contains (IsPlaceOf (places_for (length t.overflow.spots))) t.overflow.in_use (p, s)
+    let within = All-contains (IsPlaceOf t.overflow.places) t.overflow.in_use (p, s)
     overflow.placed over.first in
-    (omega (arith, within, suits.overflow, suits.units), over.within.1)
+    (omega (arith, within, suits.sized), over.within.1)
 
 -- one that isn't at home
 pub elsewhere_within : (t : Tables) (u p s : ℕ) → IsSpotFor t u p s → ¬ IsHomeSpot t u p s
     → IsSoundOverflow t.overflow
-    → (length (spots_of t u) < 16) × (p < places_for (length t.overflow.spots)) × (s < 256)
+    → (length (spots_of t u) < 16) × (p < t.overflow.places) × (s < 256)
 elsewhere_within t u p s (inl home) other overflow = absurd (other home)
 elsewhere_within t u p s (inr over) other overflow = (
   over.few,
-  All-contains (IsPlaceOf (places_for (length t.overflow.spots))) t.overflow.in_use (p, s) overflow.placed
+  All-contains (IsPlaceOf t.overflow.places) t.overflow.in_use (p, s) overflow.placed
       over.first,
   over.within.1,
 )
@@ -102,6 +101,13 @@ pub log_active : (t after : Tables) (u p s mask next : ℕ) → IsAfterLog t aft
 log_active t after u p s mask next (inl (home, is)) = ap (λ (x : Tables). x.active) is
 log_active t after u p s mask next (inr (over, is)) = ap (λ (x : Tables). x.active) is
 
+log_units : (t after : Tables) (u p s mask next : ℕ) → IsAfterLog t after u p s mask next
+    → length after.places.current ≡ length t.places.current
+log_units t after u p s mask next (inl (home, is)) =
+    ap (λ (x : Tables). length x.places.current) is
+log_units t after u p s mask next (inr (over, is)) =
+    ap (λ (x : Tables). length x.places.current) is
+
 log_status : (t after : Tables) (u p s mask next : ℕ) → IsAfterLog t after u p s mask next
     → after.status ≡ t.status
 log_status t after u p s mask next (inl (home, is)) = ap (λ (x : Tables). x.status) is
@@ -115,9 +121,11 @@ known_drawn places t n known = record {
     all = known.suits.all;
     units = known.suits.units;
     overflow = known.suits.overflow;
+    sized = known.suits.sized;
   };
   none_lost = known.none_lost;
   used = known.used;
+  retired_apart = known.retired_apart;
   homes_apart = known.homes_apart;
   overflows_apart = known.overflows_apart;
   no_home = known.no_home;
@@ -129,11 +137,12 @@ known_drawn places t n known = record {
 pub holds_drawn : (places : ℕ) (t : Tables) (n : ℕ) → KnowsPlaces places t
     → Holds places t (with_next t n)
 holds_drawn places t n known =
-    record { active = refl; status = refl; known = known_drawn places t n known }
+    record { units = refl; active = refl; status = refl; known = known_drawn places t n known }
 
 pub holds_then : (places : ℕ) (t between after : Tables) → Holds places t between
     → Holds places between after → Holds places t after
 holds_then places t between after first second = record {
+  units = second.units ∙ first.units;
   active = second.active ∙ first.active;
   status = second.status ∙ first.status;
   known = second.known;
@@ -153,9 +162,11 @@ module _ (places : ℕ) (t : Tables) (u p s mask next : ℕ) (known : KnowsPlace
       all = known.suits.all;
       units = known.suits.units;
       overflow = known.suits.overflow;
+      sized = known.suits.sized;
     };
     none_lost = known.none_lost;
     used = known.used;
+    retired_apart = known.retired_apart;
     homes_apart = known.homes_apart;
     overflows_apart = known.overflows_apart;
     no_home = known.no_home;
@@ -173,6 +184,11 @@ module _ (places : ℕ) (t : Tables) (u p s mask next : ℕ) (known : KnowsPlace
   there : (q : ℕ) → Contains (overflow_places t) q → Contains (overflow_places over) q
   there q has = subst (λ (l : List ℕ). Contains l q) (sym (same_places p t.overflow.in_use)) has
 
+  named_before : (q : ℕ) → IsNamed over q → IsNamed t q
+  named_before q (inl home) = inl home
+  named_before q (inr (inl status)) = inr (inl status)
+  named_before q (inr (inr has)) = inr (inr (back q has))
+
   overflow_known : KnowsPlaces places over
   overflow_known = record {
     suits = record {
@@ -183,21 +199,23 @@ module _ (places : ℕ) (t : Tables) (u p s mask next : ℕ) (known : KnowsPlace
         known.suits.overflow,
         length-set t.overflow.spots u (spots_of t u ++ (p, s) ∷ []),
       );
+      sized = known.suits.sized;
     };
     none_lost = λ q low used. elim (known.none_lost q low used) [
       | inl home ↦ inl home
       | inr rest ↦ elim rest [
         | inl status ↦ inr (inl status)
-        | inr has ↦ inr (inr (there q has))
+        | inr others ↦ elim others [
+          | inl has ↦ inr (inr (inl (there q has)))
+          | inr retired ↦ inr (inr (inr retired))
+        ]
       ]
     ];
-    used = λ q named. elim named [
-      | inl home ↦ known.used q (inl home)
-      | inr rest ↦ elim rest [
-        | inl status ↦ known.used q (inr (inl status))
-        | inr has ↦ known.used q (inr (inr (back q has)))
-      ]
-    ];
+    used = λ q named. known.used q (named_before q named);
+    retired_apart = λ q has. (
+      λ named. (known.retired_apart q has).0 (named_before q named),
+      (known.retired_apart q has).1,
+    );
     homes_apart = known.homes_apart;
     overflows_apart = subst (λ (l : List ℕ). AllPairs AreApart l)
         (sym (same_places p t.overflow.in_use)) known.overflows_apart;
@@ -213,6 +231,7 @@ module _ (places : ℕ) (t : Tables) (u p s mask next : ℕ) (known : KnowsPlace
 
   pub log_holds : (after : Tables) → IsAfterLog t after u p s mask next → Holds places t after
   log_holds after is = record {
+    units = log_units t after u p s mask next is;
     active = log_active t after u p s mask next is;
     status = log_status t after u p s mask next is;
     known = log_known after is;

@@ -22,5 +22,5 @@ WritingsKeepStates = (t after : Tables) (frames : Frames) (u page : ℕ) (f : Fr
     → frames u page ≡ Some f → Spells payload f.log
     → WritesOut old.places u payload t after old result new
     → WritesOutInSteps old.places payload t after old result new
-    → IfErr result (λ fault. WritingCause t u fault old new)
+    → IfErr result (λ fault. WritingCause after.places t u fault old new)
     → KeepsState t frames old result after (frames_out result frames u page f) new

@@ -108,7 +108,8 @@ fn write_log<C: Chip>(
 /// no write failed, it rests on that map at the end: nothing makes sure of the sector, which is for
 /// the next barrier. Where it failed, the list is as it was; at most 14 numbers are drawn.
 ///
-/// It fails as `log_place` does, also where a place for it is worn, or where a write failed.
+/// It fails as `log_place` does, also where more places are worn than are spare, or where a write
+/// failed.
 pub fn write_out<C: Chip>(
     chip: &mut C,
     parts: &mut Parts,
@@ -145,7 +146,7 @@ pub fn write_out<C: Chip>(
         (C.told chip.old) (C.told chip.new) }
     ensures tidy { Tidies (tables_of parts.old) result (tables_of parts.new)
         (C.told chip.old) (C.told chip.new) }
-    ensures accounts { Accounts (WritingCause (tables_of parts.old) unit) result
+    ensures accounts { Accounts (WritingCause parts.new.directory (tables_of parts.old) unit) result
         (C.told chip.old) (C.told chip.new) }
 {
     let at = log_place(chip, parts, unit)?;

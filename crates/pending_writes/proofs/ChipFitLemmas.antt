@@ -21,7 +21,7 @@ use Rattle.pending_writes.proofs.RenewLemmas.{renewals_keep_pending}
 use Rattle.pending_writes.proofs.RoomLemmas.{room_kept}
 use Rattle.pending_writes.proofs.FrameLemmas.{log_sectors_keep_frames, other_steps_keep_frames}
 use Rattle.pending_writes.proofs.ActiveLemmas.{still_active, waits_for}
-use Rattle.pending_writes.proofs.FitLemmas.{sessions_are_sound, as_many_units, resting_pages_keep}
+use Rattle.pending_writes.proofs.FitLemmas.{sessions_are_sound, resting_pages_keep}
 use Rattle.pending_writes.proofs.SameLemmas.{pending_with_logs, frame_as, IsPlaced, placed, log_in, logs_with, frames_put, frames_still}
 
 -- ---- a log sector
@@ -83,14 +83,14 @@ log_sectors_fit places c y it t after frames slots state u page f e fits there i
 
 -- each unit has the records that it had, or those that a merge carries
 same_or_merged_fit : (places : ℕ) (c y : Chart) (it new : Layout) (t after : Tables) (frames : Frames) (slots : Slots)
-    (state : State) → Fits places c it t frames slots state
+    (state : State) → Fits places c it t frames slots state → new.count ≡ it.count
     → ((u : ℕ) → u < it.count → IsSameOrMerged (is_active t) (it.units u) (new.units u))
     → ((u : ℕ) → u < it.count → All (λ r. new.committed r.tid ≡ it.committed r.tid) (records_of (new.units u).log))
     → Mirrors places y new after → NoneIsLost places after → after.active ≡ t.active → KeepsPages places c it y new
     → Fits places y new after frames slots state
-same_or_merged_fit places c y it new t after frames slots state fits alike kept mirrors none_lost active keeps =
+same_or_merged_fit places c y it new t after frames slots state fits same alike kept mirrors none_lost active keeps =
     let still = still_active (number_of slots) t after active fits.active in
-    let count = as_many_units places c y it new fits.mirrors.laid mirrors.laid in
+    let count = sym same in
     record {
       mirrors = mirrors;
       none_lost = none_lost;
@@ -114,23 +114,23 @@ same_or_merged_fit places c y it new t after frames slots state fits alike kept 
 
 pub merges_fit : MergesFit
 merges_fit places c y it t after frames slots state u fresh fits its =
-    same_or_merged_fit places c y it (with_unit it u fresh) t after frames slots state fits
+    same_or_merged_fit places c y it (with_unit it u fresh) t after frames slots state fits refl
     (λ v low. merged_or_same (is_active t) it u v fresh its) (λ v low i d within. refl)
 
 pub other_steps_fit : OtherStepsFit
-other_steps_fit places c y it new t after frames slots state fits same kept =
-    same_or_merged_fit places c y it new t after frames slots state fits
+other_steps_fit places c y it new t after frames slots state fits count same kept =
+    same_or_merged_fit places c y it new t after frames slots state fits count
     (λ u low. inl (ap records_of (same u low)))
     (λ u low. subst (λ (l : List Entry). All (λ r. new.committed r.tid ≡ it.committed r.tid) (records_of l))
     (sym (same u low)) (kept u low))
 
 pub renewals_fit : RenewalsFit
-renewals_fit places h k it new t after frames slots state whole alike kept rests agrees none_lost active =
+renewals_fit places h k it new t after frames slots state whole count alike kept rests agrees none_lost active =
     let was = whole.fits in
     let keeps = resting_pages_keep places state.map h k it new whole.rests rests was.mirrors.laid
-    agrees.mirrors.laid in
+    agrees.mirrors.laid count in
     record {
-      fits = same_or_merged_fit places (now h) (now k) it new t after frames slots state was alike kept
+      fits = same_or_merged_fit places (now h) (now k) it new t after frames slots state was count alike kept
           agrees.mirrors none_lost active keeps;
       tidy = agrees.tidy;
       rests = rests;

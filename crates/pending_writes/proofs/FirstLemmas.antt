@@ -1,5 +1,5 @@
 -- A chip that was just formatted, with its first tables and no session.
-use Rattle.std.proofs.Common.{None, Option, ap, arith, false, get_or, inl, inr, refl, replicate, sym, true, ℕ, ◌+◌, ◌-◌, ◌∙◌, ◌≡◌, ◌≤◌}
+use Rattle.std.proofs.Common.{None, Option, ap, arith, false, get_or, inl, inr, refl, replicate, sym, true, ℕ, ◌+◌, ◌-◌, ◌∙◌, ◌≡◌}
 use Rattle.std.specs.FinMap.{empty, get-empty}
 use Rattle.std.specs.Option.{option_map}
 use Rattle.std.specs.Ordering.{nat_cmp}
@@ -7,7 +7,6 @@ use Rattle.std.proofs.lemmas.Bool.{cases_eq, cases_lt}
 use Rattle.std.proofs.lemmas.List.{get_or-append_right, get_or-replicate, get_or_past, length-replicate}
 use Rattle.std.proofs.lemmas.List.FromFn.{get_or-range_with_len, length-range_with_len}
 use Rattle.ipl_base.specs.declared.limits.TheConstants.{SESSIONS}
-use Rattle.ipl_base.specs.Places.{units_on}
 use Rattle.ipl_rules.specs.Marks.{marks_of}
 use Rattle.ipl_rules.specs.State.{Session, at_rest}
 use Rattle.record_locks.specs.Held.{Held, slot_marks}
@@ -59,25 +58,25 @@ empty_slots_are_at_rest m = record { names = names; marks = marked; locked = loc
 
 -- ---- the first tables
 
-none_lost : (places : ℕ) → 5 ≤ places → NoneIsLost places (first_tables places)
-none_lost places least p low used = elim (cases_lt p (units_on places)) [
+none_lost : (places units : ℕ) → NoneIsLost places (first_tables places units)
+none_lost places units p low used = elim (cases_lt p units) [
   | inl unit ↦ inl (
     p,
-    omega (arith, unit, length-range_with_len 0 (units_on places)),
-    get_or-range_with_len 0 (units_on places) p p unit ∙ omega arith,
+    omega (arith, unit, length-range_with_len 0 units),
+    get_or-range_with_len 0 units p p unit ∙ omega arith,
   )
-  | inr past ↦ elim (cases_eq p (units_on places)) [
+  | inr past ↦ elim (cases_eq p units) [
     | inl status ↦ inr (inl status)
     | inr later ↦ absurd (used (
-        let front = length-replicate (units_on places + 1) true in
-        get_or-append_right (replicate (units_on places + 1) true) (replicate 3 false) (units_on places + 1) p true front
+        let front = length-replicate (units + 1) true in
+        get_or-append_right (replicate (units + 1) true) (replicate (places - units - 1) false) (units + 1) p true front
         (omega (arith, past, later))
-        ∙ get_or-replicate 3 (p - (units_on places + 1)) false true (omega (arith, low, past, later))))
+        ∙ get_or-replicate (places - units - 1) (p - (units + 1)) false true (omega (arith, low, past, later))))
   ]
 ]
 
 pub first_stores_fit : FirstStoresFit
-first_stores_fit places least most =
-    openings_fit places (formatted places) (first_layout places) (first_tables places) (replicate 32 None) empty
-    (first_tables_mirror places least most) (none_lost places least) refl
+first_stores_fit places units least most keeps =
+    openings_fit places (formatted units) (first_layout units) (first_tables places units) (replicate 32 None) empty
+    (first_tables_mirror places units least most keeps) (none_lost places units) refl
     (λ s. ap (option_map (λ (h : Held). h.number)) (none_at 32 s)) (empty_slots_are_at_rest empty)

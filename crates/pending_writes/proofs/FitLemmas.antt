@@ -14,7 +14,7 @@ use Rattle.record_locks.proofs.StandingLemmas.{new_write_at}
 use Rattle.ipl_meaning.specs.Chart.{Chart, chart_of}
 use Rattle.ipl_meaning.specs.Laws.{AreOneLayout}
 use Rattle.ipl_meaning.specs.Last.{weight_of}
-use Rattle.ipl_meaning.specs.Layout.{Laid, Layout, Shape, records_of}
+use Rattle.ipl_meaning.specs.Layout.{Layout, Shape, records_of}
 use Rattle.ipl_meaning.specs.Rests.{now}
 use Rattle.ipl_meaning.specs.Stands.{Says, Shows, page_in}
 use Rattle.ipl_meaning.specs.Steps.{KeepsPages}
@@ -116,13 +116,8 @@ resting_pages_say places h it m rests laid =
     let one = laid_once places (now h) it stands.layout laid stands.laid in
     says_as places (now h) it stands.layout m one stands.says
 
--- any two layouts on so many places have as many units
-pub as_many_units : (places : ℕ) (c y : Chart) (it new : Layout) → Laid places c it → Laid places y new
-    → it.count ≡ new.count
-as_many_units places c y it new one two = omega (arith, one.count, two.count)
-
 -- where both say one map, each page is kept
-says_keep : (places : ℕ) (c y : Chart) (it new : Layout) (m : Map) → it.count ≡ new.count → Says places c it m
+says_keep : (places : ℕ) (c y : Chart) (it new : Layout) (m : Map) → new.count ≡ it.count → Says places c it m
     → Says places y new m → KeepsPages places c it y new
 says_keep places c y it new m count before after u page shown low few shows =
     let there = after.pages u page (omega (arith, low, count)) few in record {
@@ -136,8 +131,8 @@ says_keep places c y it new m count before after u page shown low few shows =
     }
 
 pub resting_pages_keep : RestingPagesKeep
-resting_pages_keep places m h k it new first second one two =
-    says_keep places (now h) (now k) it new m (as_many_units places (now h) (now k) it new one two)
+resting_pages_keep places m h k it new first second one two count =
+    says_keep places (now h) (now k) it new m count
     (resting_pages_say places h it m first one) (resting_pages_say places k new m second two)
 
 -- ---- frames

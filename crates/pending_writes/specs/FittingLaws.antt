@@ -1,10 +1,10 @@
 -- What a store gives whose memory and chip stand for a state, and that there is one.
-use Rattle.std.specs.Prelude.{ℕ, ◌≡◌, ◌<◌, ◌≤◌, ◌/◌, false, List, replicate, Some, None}
+use Rattle.std.specs.Prelude.{ℕ, ◌≡◌, ◌<◌, ◌≤◌, ◌+◌, ◌/◌, not, false, List, count_by, length, replicate, Some, None}
 use Rattle.std.specs.FinMap.{empty}
 use Rattle.ipl_base.specs.declared.limits.TheConstants.{LEAST_PLACES, MOST_PLACES, PAGE_LEN, PAGES, SLOTS, CARRIED_SECTORS, SESSIONS}
 use Rattle.chip_trait.specs.Story.{Contents}
 use Rattle.chip_trait.specs.Told.{History}
-use Rattle.ipl_base.specs.Places.{home_of}
+use Rattle.ipl_base.specs.Places.{home_of, KeepsUnits, spares_on}
 use Rattle.ipl_rules.specs.Marks.{Marks, marks, overfills}
 use Rattle.ipl_rules.specs.State.{Map, State, at_rest}
 use Rattle.ipl_format.specs.Record.{Record}
@@ -31,9 +31,16 @@ use Rattle.pending_writes.specs.Fits.{AreSessionsOf, is_active, Fits, FitsStory,
 
 -- ---- what it gives
 
--- a place is free, always
+-- one place more is free or retired than are spare
+abbrev pub SparesAreFreeOrRetired : Type 0
+SparesAreFreeOrRetired =
+    (places : ℕ) (c : Chart) (it : Layout) (t : Tables) → Mirrors places c it t → NoneIsLost places t
+    → 1 + spares_on places it.count ≤ count_by not t.places.in_use + length t.places.retired
+
+-- so a place is free, as long as no more are retired than are spare
 abbrev pub APlaceIsFree : Type 0
 APlaceIsFree = (places : ℕ) (c : Chart) (it : Layout) (t : Tables) → Mirrors places c it t → NoneIsLost places t
+    → length t.places.retired ≤ spares_on places it.count
     → (p : ℕ) × (p < places) × IsFree t.places p
 
 -- memory and chart fit whatever the records of the state are
@@ -104,11 +111,12 @@ abbrev pub RestingPagesSay : Type 0
 RestingPagesSay = (places : ℕ) (h : History) (it : Layout) (m : Map) → StoryRests places m h
     → Laid places (now h) it → Says places (now h) it m
 
--- and two stories that rest on one map keep all pages between any layouts of theirs
+-- and two stories that rest on one map keep all pages between any layouts of theirs that have as many units
 abbrev pub RestingPagesKeep : Type 0
 RestingPagesKeep =
     (places : ℕ) (m : Map) (h k : History) (it new : Layout) → StoryRests places m h → StoryRests places m k
-    → Laid places (now h) it → Laid places (now k) new → KeepsPages places (now h) it (now k) new
+    → Laid places (now h) it → Laid places (now k) new → new.count ≡ it.count
+    → KeepsPages places (now h) it (now k) new
 
 -- each frame tells the records of its page, and what each session sees of them
 abbrev pub FittingFramesTell : Type 0
@@ -134,6 +142,6 @@ EmptySlotsAreAtRest = (m : Map) → AreSessionsOf (replicate SESSIONS None) (at_
 
 -- a chip that was just formatted, with its first tables
 abbrev pub FirstStoresFit : Type 0
-FirstStoresFit = (places : ℕ) → LEAST_PLACES ≤ places → places ≤ MOST_PLACES
-    → Fits places (formatted places) (first_layout places) (first_tables places) (λ u page. None) (replicate SESSIONS None)
-    (at_rest empty)
+FirstStoresFit = (places units : ℕ) → LEAST_PLACES ≤ places → places ≤ MOST_PLACES → KeepsUnits places units
+    → Fits places (formatted units) (first_layout units) (first_tables places units) (λ u page. None)
+    (replicate SESSIONS None) (at_rest empty)

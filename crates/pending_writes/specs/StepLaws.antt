@@ -121,7 +121,7 @@ MergesFit =
 abbrev pub OtherStepsFit : Type 0
 OtherStepsFit =
     (places : ℕ) (c y : Chart) (it new : Layout) (t after : Tables) (frames : Frames) (slots : Slots) (state : State)
-    → Fits places c it t frames slots state
+    → Fits places c it t frames slots state → new.count ≡ it.count
     → ((u : ℕ) → u < it.count → (new.units u).log ≡ (it.units u).log) → KeepsNumbers it new.committed
     → Mirrors places y new after → NoneIsLost places after → after.active ≡ t.active → KeepsPages places c it y new
     → Fits places y new after frames slots state
@@ -131,7 +131,7 @@ OtherStepsFit =
 abbrev pub RenewalsFit : Type 0
 RenewalsFit =
     (places : ℕ) (h k : History) (it new : Layout) (t after : Tables) (frames : Frames) (slots : Slots) (state : State)
-    → FitsStory places h it t frames slots state
+    → FitsStory places h it t frames slots state → new.count ≡ it.count
     → ((u : ℕ) → u < it.count
     → IsSameOrMerged (is_active t) (it.units u) (new.units u))
     → ((u : ℕ) → u < it.count

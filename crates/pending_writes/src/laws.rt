@@ -1,7 +1,7 @@
 //! The laws of pending writes.
 ghost use Rattle.pending_writes.specs.PendingLaws.{BeginsKeepPending, SharesKeepPending, WritesKeepPending, LogSectorsKeepPending, MergesKeepPending, SameLogsKeepPending, RenewalsKeepPending, CommitsKeepPending, CommitsSayWrites, BatchesKeepPending, BatchesSayWrites, AbortsKeepPending, RestartsLeaveNone, RecordsStayPending, RecordsAreWrites, ChangedPagesSuffice, RecordsWeighNoMore};
 ghost use Rattle.pending_writes.specs.FrameLaws.{FramesTell, LoadsMakeFrames, BeginsKeepFrames, WritesKeepFrames, OtherWritesKeepFrames, LogSectorsKeepFrames, MergesKeepFrames, OtherStepsKeepFrames, CommitsKeepFrames, AbortsKeepFrames};
-ghost use Rattle.pending_writes.specs.FittingLaws.{APlaceIsFree, FitsWhateverTheMap, SessionsAreSound, WrittenPagesFit, LoadedPagesFit, FramesKeepMarks, MarksTellFullPages, PutsThatPassHaveRoom, SameValuesHaveRoom, MergesAreSmall, RestingPagesSay, RestingPagesKeep, FittingFramesTell, FittingContentsTell, EmptySlotsAreAtRest, FirstStoresFit};
+ghost use Rattle.pending_writes.specs.FittingLaws.{SparesAreFreeOrRetired, APlaceIsFree, FitsWhateverTheMap, SessionsAreSound, WrittenPagesFit, LoadedPagesFit, FramesKeepMarks, MarksTellFullPages, PutsThatPassHaveRoom, SameValuesHaveRoom, MergesAreSmall, RestingPagesSay, RestingPagesKeep, FittingFramesTell, FittingContentsTell, EmptySlotsAreAtRest, FirstStoresFit};
 ghost use Rattle.pending_writes.specs.StepLaws.{BeginsFit, SharesFit, WritesFit, AbortsFit, SessionNumbersFit, LoadsFit, EvictionsFit, OpeningsFit, LogSectorsFit, MergesFit, OtherStepsFit, RenewalsFit, BatchesFit};
 
 /// After each step of a store the records on the chip and in memory say what its open sessions
@@ -45,11 +45,12 @@ pub fn frame_laws()
     ensures aborts { AbortsKeepFrames }
 {}
 
-/// What a store gives whose memory and chip stand for a state: a free place, one writer of each
-/// name, room in the pages that sessions wrote, also with what is pending there, whether a put
+/// What a store gives whose memory and chip stand for a state: a free place, as long as no more are
+/// retired than are spare, one writer of each name, room in the pages that sessions wrote, also with what is pending there, whether a put
 /// finds its page full, merges that have room, pages that say the map, and frames that tell it.
 /// And that there is one.
 pub fn fitting_laws()
+    ensures spares { SparesAreFreeOrRetired }
     ensures free { APlaceIsFree }
     ensures any_map { FitsWhateverTheMap }
     ensures sound { SessionsAreSound }

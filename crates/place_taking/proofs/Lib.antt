@@ -1,2 +1,3 @@
-pub mod TakeLemmas
+pub mod SpendingLemmas
+pub mod TurnLemmas
 pub mod JoinLemmas

@@ -1,2 +1,4 @@
+pub mod Spending
 pub mod Takes
 pub mod Fills
+pub mod Turns

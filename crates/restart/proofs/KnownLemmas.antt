@@ -1,14 +1,14 @@
 -- The tables that were filled know each place, whatever the chip tells.
-use Rattle.std.proofs.Common.{◌≡◌, ◌≢◌, inl, inr, ◌≤◌, ◌<◌, ℕ, zero, suc, Bool, true, false, ◌||◌, ◌==◌, nat_lt, List, length, map, get_or, Option, Some, None, refl, sym, ◌∙◌, ap, subst, arith}
+use Rattle.std.proofs.Common.{◌≡◌, ◌≢◌, ◌⊎◌, inl, inr, ◌≤◌, ◌<◌, ℕ, zero, suc, Bool, true, false, ◌||◌, ◌==◌, nat_lt, List, [], length, map, get_or, Option, Some, None, refl, sym, ◌∙◌, ap, subst, arith}
 use Rattle.std.specs.List.{AllPairs, Contains}
-use Rattle.std.proofs.lemmas.Bool.{cases_eq, cases_Bool, eq-eqb, eqb-true, and_parts, or_cases, or_left, or_right}
+use Rattle.std.proofs.lemmas.Bool.{cases_eq, cases_Bool, eq-eqb, eqb-true, lt-ltb, and_parts, or_cases, or_left, or_right, cond-true}
 use Rattle.std.proofs.lemmas.List.{get_or_default}
 use Rattle.std.proofs.lemmas.Option.{same_Some}
-use Rattle.ipl_base.specs.Places.{KeepsUnits, units_on}
+use Rattle.ipl_base.specs.Places.{KeepsUnits}
 use Rattle.ipl_meaning.specs.Mirrors.{AreApart}
 use Rattle.ipl_meaning.specs.Tables.{Places, OverflowLists, Status, IsFree, place_of as place_in}
 use Rattle.opening_rules.specs.First.{at, all_below, count_below}
-use Rattle.opening_rules.specs.Chosen.{KeptHeader, Winner, is_status, is_data_of}
+use Rattle.opening_rules.specs.Chosen.{KeptHeader, Winner, is_status, is_data_of, units_in, chosen as all_of}
 use Rattle.opening_rules.specs.Live.{is_at, is_overflow_place}
 use Rattle.opening_rules.specs.LaidOut.{place_of}
 use Rattle.opening_rules.proofs.ChosenLemmas.{IsBest, chosen_is_best}
@@ -17,6 +17,7 @@ use Rattle.merge_rules.specs.Known.{IsNamed, KnowsPlaces}
 use Rattle.opened_tables.specs.Opened.{tables_of}
 use Rattle.opened_tables.proofs.SpotLemmas.{listed_holds, held_listed, places_apart, as_many}
 use Rattle.restart.specs.Notes.{Notes}
+use Rattle.restart.proofs.RetireLemmas.{AreAside}
 use Rattle.restart.specs.Filled.{is_home, is_used, AreUsed, AreAdopted}
 use Rattle.restart.specs.Shown.{AreChosen, is_held}
 
@@ -67,10 +68,12 @@ module _ (heads : List (Option KeptHeader)) (current : List (Option Winner)) (wi
       case None is = absurd (there u low is)
       case (Some w) is =
           let found = sym (ap (λ (cur : ℕ → Option Winner). cur u) chosen.current_are) ∙ is in
-          elim (cases_Bool (nat_lt u (units_on (length heads)))) [
-            | inl less ↦ (w, is, chosen_is_best (is_data_of u) (at heads) (length heads) w (rw less at found))
-            | inr past ↦ let no : None ≡ Some w = rw past at found in absurd (cc no)
-          ]
+          let less : nat_lt u (units_in (at heads) (length heads)) ≡ true = lt-ltb u (units_in (at heads) (length heads)) (omega (arith, low, chosen.units_are)) in (
+            w,
+            is,
+            chosen_is_best (is_data_of u) (at heads) (length heads) w
+                (sym (cond-true (nat_lt u (units_in (at heads) (length heads))) (all_of (is_data_of u) (at heads) (length heads)) None less) ∙ found),
+          )
 
   status_best : IsBest is_status (at heads) (length heads) winner
   status_best = chosen_is_best is_status (at heads) (length heads) winner (sym chosen.status_is)
@@ -193,19 +196,49 @@ module _ (heads : List (Option KeptHeader)) (current : List (Option Winner)) (wi
           ]
     ]
 
-    pub knows_places : KnowsPlaces places (tables_of d lists status next)
-    knows_places = record {
-      suits = record {
-        all = used.all;
-        units = omega (arith, adopted.units_are, keeps);
-        overflow = spots ∙ sym adopted.units_are;
-      };
-      none_lost = none_lost;
-      used = named_used;
-      homes_apart = homes_apart;
-      overflows_apart = places_apart held (length heads) lists.in_use in_use;
-      no_home = no_home;
-      status_apart = (status_no_home, status_no_overflow);
-      two = omega (arith, as_many held (length heads) lists.in_use in_use, few);
-      status_placed = omega (arith, placed, status_best.within, sized);
-    }
+    -- ---- once the places are retired that the status header lists
+
+    module _ (now : Places) (listed : List ℕ) (none : d.retired ≡ []) (it : AreAside d listed now) (all_listed : lists.places ≡ places) where
+      named_before : (p : ℕ) → IsNamed (tables_of now lists status next) p → IsNamed (tables_of d lists status next) p
+      named_before p is = subst (λ (xs : List ℕ). Contains xs p ⊎ (p ≡ status.place) ⊎ Contains (map place_in lists.in_use) p) it.keeps.current is
+
+      named_now : (p : ℕ) → IsNamed (tables_of d lists status next) p
+          → Contains now.current p ⊎ (p ≡ status.place) ⊎ Contains (map place_in lists.in_use) p ⊎ Contains now.retired p
+      named_now p (inl home) = inl (subst (λ (xs : List ℕ). Contains xs p) (sym it.keeps.current) home)
+      named_now p (inr (inl at_status)) = inr (inl at_status)
+      named_now p (inr (inr overflow)) = inr (inr (inl overflow))
+
+      none_lost_now : (p : ℕ) → p < places → ¬ IsFree now p
+          → Contains now.current p ⊎ (p ≡ status.place) ⊎ Contains (map place_in lists.in_use) p ⊎ Contains now.retired p
+      none_lost_now p low taken = elim (cases_Bool (get_or d.in_use p true)) [
+        | inl used_it ↦ named_now p (none_lost p low (λ free. let no : true ≡ false = sym used_it ∙ free in cc no))
+        | inr free ↦ elim (it.either p free) [
+          | inl still ↦ absurd (taken still)
+          | inr retired ↦ inr (inr (inr retired))
+        ]
+      ]
+
+      retired_apart : (p : ℕ) → Contains now.retired p → (¬ IsNamed (tables_of now lists status next) p) × ¬ IsFree now p
+      retired_apart p has = elim (it.retired p has) [
+        | inl before ↦ absurd (let low = before.1 in omega (arith, low, ap length none))
+        | inr retired ↦ (λ named. named_used p (named_before p named) retired.1, λ free. (it.free p free).1 retired.0)
+      ]
+
+      pub knows_places : KnowsPlaces places (tables_of now lists status next)
+      knows_places = record {
+        suits = record {
+          all = it.keeps.all ∙ used.all;
+          units = omega (arith, ap length it.keeps.current, adopted.units_are, keeps);
+          overflow = spots ∙ sym (ap length it.keeps.current ∙ adopted.units_are);
+          sized = all_listed;
+        };
+        none_lost = none_lost_now;
+        retired_apart = retired_apart;
+        used = λ p named free. named_used p (named_before p named) (it.free p free).0;
+        homes_apart = subst (AllPairs AreApart) (sym it.keeps.current) homes_apart;
+        overflows_apart = places_apart held (length heads) lists.in_use in_use;
+        no_home = λ p has home. no_home p has (subst (λ (xs : List ℕ). Contains xs p) it.keeps.current home);
+        status_apart = (λ home. status_no_home (subst (λ (xs : List ℕ). Contains xs status.place) it.keeps.current home), status_no_overflow);
+        two = omega (arith, as_many held (length heads) lists.in_use in_use, few);
+        status_placed = omega (arith, placed, status_best.within, sized);
+      }

@@ -16,6 +16,8 @@ pub mod LogLemmas
 pub mod MaskedLemmas
 pub mod FillLemmas
 pub mod CountLemmas
+pub mod HeaderLemmas
+pub mod RetireLemmas
 pub mod OpenLemmas
 pub mod OverflowLemmas
 pub mod KnownLemmas

@@ -1,12 +1,12 @@
 -- Live log sectors in overflow places, listed one after another.
-use Rattle.std.proofs.Common.{◌≡◌, inl, inr, ℕ, zero, suc, ◌+◌, ◌<◌, Bool, true, false, ◌&&◌, ◌==◌, cond, List, [], ◌∷◌, ◌++◌, map, length, get_or, set, replicate, Option, Some, None, refl, sym, ◌∙◌, ap, arith, get_or-set_same, get_or-set_other, length-set}
+use Rattle.std.proofs.Common.{◌≡◌, inl, inr, ℕ, zero, suc, ◌+◌, ◌<◌, Bool, true, false, ◌&&◌, ◌==◌, cond, List, [], ◌∷◌, ◌++◌, map, length, get_or, set, Option, Some, None, refl, sym, ◌∙◌, ap, arith, get_or-set_same, get_or-set_other, length-set}
 use Rattle.std.specs.List.{filter, count_by}
 use Rattle.std.proofs.lemmas.Bool.{cases_eq, eq-eqb, ne_eqb}
 use Rattle.std.proofs.lemmas.List.{append-nil, map-append, length-map, length_push}
 use Rattle.std.proofs.lemmas.List.Elements.{filter-append}
 use Rattle.std.proofs.lemmas.List.Sums.{length-filter}
 use Rattle.ipl_meaning.specs.Tables.{OverflowLists}
-use Rattle.overflow.specs.Lists.{empty_lists, spots_in}
+use Rattle.overflow.specs.Lists.{spots_in}
 use Rattle.opening_rules.specs.First.{with_one, all_below}
 use Rattle.opening_rules.specs.Live.{Mark}
 use Rattle.opened_tables.specs.Found.{spot_of}
@@ -48,6 +48,11 @@ listed_count in_overflow lists unit p s mask u low =
     ∙ one_length (spots_in lists u) (in_overflow && (unit == u)) (p, s)
 
 -- of as many units
+pub listed_places : (in_overflow : Bool) (lists : OverflowLists) (unit p s mask : ℕ)
+    → (listed in_overflow lists unit p s mask).places ≡ lists.places
+listed_places true lists unit p s mask = refl
+listed_places false lists unit p s mask = refl
+
 pub listed_units : (in_overflow : Bool) (lists : OverflowLists) (unit p s mask : ℕ)
     → length (listed in_overflow lists unit p s mask).spots ≡ length lists.spots
 listed_units true lists unit p s mask = length-set lists.spots unit (spots_in lists unit ++ (p, s) ∷ [])
@@ -58,14 +63,6 @@ pub listed_none : (in_overflow : Bool) (lists : OverflowLists) (unit p s mask : 
     → (listed in_overflow lists unit p s mask).in_use ≡ []
 listed_none true lists unit p s mask none = rw none refl
 listed_none false lists unit p s mask none = none
-
-empty_at : (n u : ℕ) → get_or (replicate n (let xs : List (ℕ × ℕ) = [] in xs)) u [] ≡ []
-empty_at zero u = refl
-empty_at (suc n) zero = refl
-empty_at (suc n) (suc u) = empty_at n u
-
-pub empty_spots : (lists : OverflowLists) (n u : ℕ) → lists ≡ empty_lists n → spots_in lists u ≡ []
-empty_spots lists n u is = ap (λ (it : OverflowLists). spots_in it u) is ∙ empty_at n u
 
 -- ---- the spots of marks
 

@@ -58,9 +58,9 @@ module _ (heads : ℕ → Option KeptHeader) (current : ℕ → Option Winner) (
   empty_spots_at (suc n) (suc u) = empty_spots_at n u
 
   -- at first nothing is found
-  pub masked_first : (n units : ℕ) (it : Places) (lists : OverflowLists) → ((u : ℕ) (winner : Winner) → current u ≡ Some winner → u < units)
-      → NoneNamed units it → lists ≡ empty_lists n → IsMasked heads current found 0 it lists
-  masked_first n units it lists low none is = record {
+  pub masked_first : (places n units : ℕ) (it : Places) (lists : OverflowLists) → ((u : ℕ) (winner : Winner) → current u ≡ Some winner → u < units)
+      → NoneNamed units it → lists ≡ empty_lists places n → IsMasked heads current found 0 it lists
+  masked_first places n units it lists low none is = record {
     home = λ u s winner there over least most.
         none u s (low u winner there) least most ∙ sym (zero_below (winner.place * 256 + s) (found u (winner.place * 256 + s)));
     elsewhere = λ u.

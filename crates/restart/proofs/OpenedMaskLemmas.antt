@@ -1,13 +1,12 @@
 -- The masks of all log sectors that were found are those of the chart.
 use Rattle.std.proofs.Common.{◌≡◌, ◌≢◌, ◌<◌, ◌+◌, ◌*◌, ◌-◌, ◌==◌, ℕ, false, List, [], map, length, get_or, Option, Some, None, refl, sym, ◌∙◌, ap, arith}
 use Rattle.std.proofs.lemmas.Bool.{eqb-true, and_parts, lt-ltb}
-use Rattle.ipl_base.specs.Places.{KeepsUnits, units_on}
 use Rattle.ipl_meaning.specs.Chart.{Chart}
 use Rattle.ipl_meaning.specs.Tables.{Places, OverflowLists}
 use Rattle.overflow.specs.Lists.{spots_in as listed_in, IsSoundOverflow}
 use Rattle.unit_directory.specs.Directory.{IsSoundDirectory}
 use Rattle.opening_rules.specs.First.{at}
-use Rattle.opening_rules.specs.Chosen.{KeptHeader, Winner, current_at}
+use Rattle.opening_rules.specs.Chosen.{KeptHeader, Winner, current_at, units_at}
 use Rattle.opening_rules.specs.Live.{is_overflow_place}
 use Rattle.opening_rules.specs.LaidOut.{place_of}
 use Rattle.opened_tables.specs.Found.{spots_in, mask_found}
@@ -26,8 +25,7 @@ not_overflow o head is kind = rw (is, kind) refl
 
 module _ (c : Chart) (places : ℕ) (heads : List (Option KeptHeader)) (current : List (Option Winner)) (status : Winner)
     (shows : ShowsHeaders c places heads current status) (chosen : AreChosen heads current status)
-    (there : (u : ℕ) → u < length current → at current u ≢ None) (sized : length heads ≡ places)
-    (keeps : KeepsUnits places (length current)) where
+    (there : (u : ℕ) → u < length current → at current u ≢ None) (sized : length heads ≡ places) where
   same_mask : (u k : ℕ) → mask_by (at heads) (at current) c u k ≡ mask_found c places u k
   same_mask u k =
       to_chart c places heads current status shows
@@ -43,15 +41,15 @@ module _ (c : Chart) (places : ℕ) (heads : List (Option KeptHeader)) (current 
   pub opened_masks : (before d : Places) (found lists : OverflowLists) → IsSoundDirectory d → IsSoundOverflow lists
       → length d.current ≡ length current → length lists.spots ≡ length current → d.masks ≡ before.masks
       → lists.masks ≡ found.masks → lists.spots ≡ found.spots
-      → ((u : ℕ) → u < units_on places → get_or lists.spots u [] ≡ spots_in c places u)
+      → ((u : ℕ) → u < units_at c places → get_or lists.spots u [] ≡ spots_in c places u)
       → IsMasked (at heads) (at current) (mask_by (at heads) (at current) c) (places * 256) before found
       → AreOpenedMasks places c d lists
   opened_masks before d found lists sound sound_lists units spots same same_lists same_spots spots_are masked = record {
-    units = omega (arith, sound.masks, units, keeps);
-    lists = omega (arith, sound_lists.lists, spots, keeps);
-    sectors = λ u low. sound.sectors u (omega (arith, low, units, keeps));
+    units = omega (arith, sound.masks, units, shows.units_are);
+    lists = omega (arith, sound_lists.lists, spots, shows.units_are);
+    sectors = λ u low. sound.sectors u (omega (arith, low, units, shows.units_are));
     home = λ u s low least most.
-        let (w, w_is, best) = home_of heads current status chosen there u (omega (arith, low, keeps)) in
+        let (w, w_is, best) = home_of heads current status chosen there u (omega (arith, low, shows.units_are)) in
         let kind = and_parts (w.head.kind == 1) (w.head.unit == u) best.of_kind in
         let apart = not_overflow (at heads w.place) w.head best.here (eqb-true w.head.kind 1 kind.0) in
         let at_w : place_of (current_at c places u) ≡ w.place = ap place_of (ap (λ (cur : ℕ → Option Winner). cur u) (sym shows.current_are) ∙ w_is) in

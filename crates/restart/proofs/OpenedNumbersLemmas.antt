@@ -1,10 +1,9 @@
 -- The committed numbers that were found are those that the logs of the chart's layout have.
-use Rattle.std.proofs.Common.{◌≡◌, ◌⊎◌, inl, inr, ◌<◌, ◌*◌, ◌/◌, ◌%◌, ◌==◌, ◌++◌, ℕ, zero, suc, Bool, List, [], ◌∷◌, length, Option, Some, None, refl, sym, ◌∙◌, ap, subst, arith}
+use Rattle.std.proofs.Common.{◌≡◌, ◌⊎◌, inl, inr, ◌<◌, ◌*◌, ◌/◌, ◌%◌, ◌==◌, ◌++◌, ℕ, zero, suc, Bool, List, [], ◌∷◌, Option, Some, None, refl, sym, ◌∙◌, ap, subst, arith}
 use Rattle.std.specs.Prelude.{◌↔◌, IsTrue}
 use Rattle.std.specs.List.{Contains}
 use Rattle.std.proofs.lemmas.Bool.{cases_Bool, cases_eq, eq-eqb}
 use Rattle.std.proofs.lemmas.Option.{same_Some}
-use Rattle.ipl_base.specs.Places.{KeepsUnits}
 use Rattle.ipl_format.specs.Record.{Record}
 use Rattle.ipl_format.specs.Sector.{Sector}
 use Rattle.log_records.specs.Reading.{records_of as records_in}
@@ -161,12 +160,12 @@ module _ (c : Chart) (places : ℕ) where
       (r, record_to (log_in c places sector.unit) entry r (sorted_has (entry_at c places sector.unit) (places * 256) k entry low here) has, is)
 
 module _ (c : Chart) (places : ℕ) (heads : List (Option KeptHeader)) (current : List (Option Winner)) (status : Winner)
-    (shows : ShowsHeaders c places heads current status) (keeps : KeepsUnits places (length current)) (numbers : List ℕ)
+    (shows : ShowsHeaders c places heads current status) (numbers : List ℕ)
     (committed_are : (tid : ℕ) → IsTrue ((layout_in c places).committed tid) ↔ Contains numbers tid) where
   unit_there : (u : ℕ) (winner : Winner) → current_at c places u ≡ Some winner → u < (layout_in c places).count
   unit_there u winner is =
       let low = at_low current u winner (ap (λ (cur : ℕ → Option Winner). cur u) shows.current_are ∙ is) in
-      omega (arith, low, keeps)
+      omega (arith, low, shows.units_are)
 
   all_numbers : List ℕ
   all_numbers = numbers_below numbers (header_at c places) (current_at c places) c (places * 256)

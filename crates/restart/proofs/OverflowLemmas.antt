@@ -1,7 +1,6 @@
 -- The overflow lists, filled place by place.
 use Rattle.std.proofs.Common.{◌≡◌, inl, inr, ◌≤◌, ◌<◌, ◌+◌, ◌*◌, ℕ, zero, suc, Bool, true, cond, List, [], length, get_or, Option, Some, None, refl, sym, ◌∙◌, ap, arith}
 use Rattle.std.proofs.lemmas.Bool.{cases_eq}
-use Rattle.ipl_base.specs.Places.{KeepsUnits}
 use Rattle.ipl_meaning.specs.Chart.{Chart}
 use Rattle.ipl_meaning.specs.Tables.{OverflowLists}
 use Rattle.overflow.specs.Lists.{spots_in}
@@ -57,11 +56,12 @@ module _ (c : Chart) (places : ℕ) (heads : List (Option KeptHeader)) (current 
       (held_is heads notes found (marks (at heads) (at current) c (places * 256)) noted p)
 
   -- the lists, as an opening finds them
-  pub opened_overflow : (lists : OverflowLists) (units : ℕ) → KeepsUnits places units → length found.spots ≡ units
-      → length heads ≡ places → lists.spots ≡ found.spots
+  pub opened_overflow : (lists : OverflowLists) → length found.spots ≡ length current
+      → length heads ≡ places → lists.places ≡ places → lists.spots ≡ found.spots
       → lists.in_use ≡ all_below (overflow_at (is_held heads notes)) (length heads) → IsOpenedOverflow places c lists
-  opened_overflow lists units keeps size all same in_use = record {
-    units = omega (arith, ap length same, size, keeps);
+  opened_overflow lists size all places_are same in_use = record {
+    places_are = places_are;
+    units = ap length same ∙ size ∙ shows.units_are;
     spots_are = λ u low. ap (λ (xs : List (List (ℕ × ℕ))). get_or xs u []) same ∙ spots_found u;
     in_use_are = in_use ∙ ap (all_below (overflow_at (is_held heads notes))) all
         ∙ all_alike (overflow_at (is_held heads notes)) (overflow_at of_chart) places

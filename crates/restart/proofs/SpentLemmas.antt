@@ -7,14 +7,13 @@ use Rattle.chip_trait.specs.Told.{Told}
 use Rattle.ipl_base.specs.declared.fault.ImageFault.{ImageFault}
 use Rattle.ipl_base.specs.declared.fault.ImageFault.TheVariants.{Geometry, Spent}
 use Rattle.ipl_base.specs.First.{first_below}
-use Rattle.ipl_base.specs.Places.{units_on}
 use Rattle.ipl_format.specs.Sector.{Sector}
 use Rattle.ipl_meaning.specs.Chart.{Chart, chart_of}
 use Rattle.opening_rules.specs.First.{first_of}
-use Rattle.opening_rules.specs.Chosen.{KeptHeader, Winner, current_at, status_at}
+use Rattle.opening_rules.specs.Chosen.{KeptHeader, Winner, units_told, current_at, status_at, units_at}
 use Rattle.opening_rules.specs.Live.{sectors, Mark, mark_of, marks, commit_at, live_at}
 use Rattle.opening_rules.specs.Payloads.{is_commit_payload}
-use Rattle.opening_rules.specs.Faults.{TellsImageFault, is_image, malformed, not_formatted, other_geometry, missing, bad_header, header_fault, commit_test, commit_fault, is_log_well, log_test, log_fault, first_fault}
+use Rattle.opening_rules.specs.Faults.{TellsImageFault, is_image, malformed, not_formatted, keeps_units, status_geometry, says_other, other_geometry, missing, bad_header, header_fault, commit_test, commit_fault, is_log_well, log_test, log_fault, first_fault}
 use Rattle.opening_rules.specs.Laws.{IsByteChart}
 use Rattle.opening_rules.proofs.TellsLemmas.{tells_past, tells_here}
 use Rattle.unit_io.specs.Reads.{OfContents}
@@ -47,9 +46,13 @@ foreign_unspent : (foreign : Bool) → (if foreign then Some Geometry else None)
 foreign_unspent true = λ is. absurd (cc is)
 foreign_unspent false = λ is. absurd (cc is)
 
-other_unspent : (o : Option Winner) → other_geometry o ≢ Some Spent
-other_unspent None = λ is. absurd (cc is)
-other_unspent (Some winner) = foreign_unspent winner.head.foreign
+status_unspent : (places : ℕ) (o : Option Winner) → status_geometry places o ≢ Some Spent
+status_unspent places None = λ is. absurd (cc is)
+status_unspent places (Some winner) = if_unspent (keeps_units places (units_told places (Some winner))) Geometry (λ is. absurd (cc is))
+
+other_unspent : (units : ℕ) (o : Option Winner) → other_geometry units o ≢ Some Spent
+other_unspent units None = λ is. absurd (cc is)
+other_unspent units (Some winner) = foreign_unspent (says_other units winner.head.said)
 
 missing_unspent : (u : ℕ) (o : Option Winner) → missing u o ≢ Some Spent
 missing_unspent u None = λ is. absurd (cc is)
@@ -62,10 +65,10 @@ bad_unspent (Some winner) = if_unspent winner.head.well (malformed winner.place 
 pub header_unspent : (c : Chart) (places : ℕ) → header_fault c places ≢ Some Spent
 header_unspent c places =
     or_unspent _ _ (not_formatted_unspent (status_at c places))
-    (or_unspent _ _ (other_unspent (status_at c places))
-    (or_unspent _ _ (below_unspent _ (units_on places) (λ u. other_unspent (current_at c places u)))
-    (or_unspent _ _ (below_unspent _ (units_on places) (λ u. missing_unspent u (current_at c places u)))
-    (or_unspent _ _ (below_unspent _ (units_on places) (λ u. bad_unspent (current_at c places u)))
+    (or_unspent _ _ (status_unspent places (status_at c places))
+    (or_unspent _ _ (below_unspent _ (units_at c places) (λ u. other_unspent (units_at c places) (current_at c places u)))
+    (or_unspent _ _ (below_unspent _ (units_at c places) (λ u. missing_unspent u (current_at c places u)))
+    (or_unspent _ _ (below_unspent _ (units_at c places) (λ u. bad_unspent (current_at c places u)))
     (or_unspent _ _ (bad_unspent (status_at c places)) none_unspent)))))
 
 commit_test_unspent : (p s : ℕ) (o : Option Sector) → commit_test p s o ≢ Some Spent

@@ -5,7 +5,6 @@ use Rattle.chip_trait.specs.declared.event.Event.TheVariants.{Erase}
 use Rattle.chip_trait.specs.Story.{Story}
 use Rattle.chip_trait.specs.Image.{is_sound, is_worn}
 use Rattle.chip_trait.specs.Told.{History, adds_all}
-use Rattle.ipl_base.specs.Places.{units_on}
 use Rattle.ipl_meaning.specs.Chart.{Chart}
 use Rattle.ipl_meaning.specs.Layout.{Layout, Laid}
 use Rattle.ipl_meaning.specs.Rests.{now, WornAreIdle}
@@ -23,12 +22,12 @@ sound_erases story (suc k) p low = elim (cases_eq k p) [
 ]
 
 -- and a barrier came after
-mended : (places : ℕ) (story : Story) (k p : ℕ) → p < places → is_worn ((each_below (header_event places) k ++ clearing_events places) ++ story) p ≡ false
-mended places story zero p low = rw (sound_erases story places p low) (and_right (is_worn (each_below Erase places ++ story) p) false refl)
-mended places story (suc k) p low = mended places story k p low
+mended : (places units : ℕ) (story : Story) (k p : ℕ) → p < places → is_worn ((each_below (header_event units) k ++ clearing_events places) ++ story) p ≡ false
+mended places units story zero p low = rw (sound_erases story places p low) (and_right (is_worn (each_below Erase places ++ story) p) false refl)
+mended places units story (suc k) p low = mended places units story k p low
 
-none_worn : (places : ℕ) (story : Story) (p : ℕ) → p < places → is_worn (format_events places ++ story) p ≡ false
-none_worn places story p low = rw (mended places story (units_on places) p low) refl
+none_worn : (places units : ℕ) (story : Story) (p : ℕ) → p < places → is_worn (format_events places units ++ story) p ≡ false
+none_worn places units story p low = rw (mended places units story units p low) refl
 
 -- ---- outside it
 
@@ -40,8 +39,8 @@ outside_is_idle places c it p laid above = record {
 }
 
 -- after a format, whatever was worn before
-pub worn_are_idle : (places : ℕ) (h : History) → WornAreIdle places (format_events places ++ h.story) (now (adds_all (format_events places) h))
-worn_are_idle places h it laid p worn = elim (cases_lt p places) [
-  | inl low ↦ absurd (false≢true (sym (none_worn places h.story p low) ∙ worn))
-  | inr above ↦ outside_is_idle places (now (adds_all (format_events places) h)) it p laid above
+pub worn_are_idle : (places units : ℕ) (h : History) → WornAreIdle places (format_events places units ++ h.story) (now (adds_all (format_events places units) h))
+worn_are_idle places units h it laid p worn = elim (cases_lt p places) [
+  | inl low ↦ absurd (false≢true (sym (none_worn places units h.story p low) ∙ worn))
+  | inr above ↦ outside_is_idle places (now (adds_all (format_events places units) h)) it p laid above
 ]

@@ -1,12 +1,12 @@
 -- A directory as an opening fills it, by the headers that count and the places that hold live log sectors.
-use Rattle.std.specs.Prelude.{ℕ, zero, suc, ◌≡◌, ◌<◌, ◌≤◌, ◌+◌, ◌==◌, ◌||◌, Bool, true, false, List, length, slice_index, slice_index_or, Option, Some, None}
+use Rattle.std.specs.Prelude.{ℕ, zero, suc, ◌≡◌, ◌<◌, ◌≤◌, ◌+◌, ◌==◌, ◌||◌, Bool, true, false, if◌then◌else◌, List, [], ◌∷◌, length, slice_index, slice_index_or, Option, Some, None}
 use Rattle.ipl_base.specs.declared.limits.TheConstants.{LOG_SECTORS}
 use Rattle.ipl_meaning.specs.Tables.{Places}
 use Rattle.opening_rules.specs.Chosen.{KeptHeader, Winner}
 use Rattle.opening_rules.specs.Live.{is_at}
 use Rattle.opening_rules.specs.LaidOut.{place_of}
 use Rattle.opened_tables.specs.Found.{generation_of}
-use Rattle.unit_directory.specs.Free.{free_count}
+use Rattle.unit_directory.specs.Free.{free_count, put_aside}
 
 -- one of the first n units has its header at the place
 abbrev pub is_home : (ℕ → Option Winner) → ℕ → ℕ → Bool
@@ -37,8 +37,18 @@ pub record AreCounted (heads : ℕ → Option KeptHeader) (places : ℕ) (it : P
 abbrev pub with_counts : Places → List ℕ → Places
 with_counts it erases = record it { erases = erases }
 
--- what the directory has of the units is as it was
+-- the place is retired, where it is free
+abbrev pub with_aside : Places → ℕ → Places
+with_aside it p = if slice_index_or it.in_use p true then it else put_aside it p
+
+-- each of these places is
+abbrev pub with_all_aside : Places → List ℕ → Places
+with_all_aside it [] = it
+with_all_aside it (p ∷ places) = with_all_aside (with_aside it p) places
+
+-- what the directory has of the units is as it was, and the same places are retired
 pub record SameUnits (old new : Places) : Type 0 where
+  pub retired : new.retired ≡ old.retired
   pub current : new.current ≡ old.current
   pub written : new.written ≡ old.written
   pub generations : new.generations ≡ old.generations

@@ -3,6 +3,7 @@ pub mod Events
 pub mod Fresh
 pub mod Looks
 pub mod Bytes
+pub mod Kept
 pub mod Taken
 pub mod Notes
 pub mod Masked

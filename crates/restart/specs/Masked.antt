@@ -8,10 +8,12 @@ use Rattle.opening_rules.specs.Chosen.{KeptHeader, Winner}
 use Rattle.opening_rules.specs.Live.{is_overflow_place, live_at}
 use Rattle.opened_tables.specs.Found.{mask_of_sector}
 
--- each unit has the place and the generation that it had, and which are in use and how far they are written is the same
+-- each unit has the place and the generation that it had, and which are in use or retired and how far they are written is
+-- the same
 pub record SamePlaces (old new : Places) : Type 0 where
   pub current : new.current ≡ old.current
   pub in_use : new.in_use ≡ old.in_use
+  pub retired : new.retired ≡ old.retired
   pub written : new.written ≡ old.written
   pub generations : new.generations ≡ old.generations
 

@@ -8,17 +8,22 @@ ghost use Rattle.opening_rules.specs.Live.{is_overflow_place};
 ghost use Rattle.opened_tables.specs.Found.{overflow_at};
 ghost use Rattle.restart.specs.Notes.{places_of, holds_one};
 ghost use Rattle.restart.specs.Shown.{is_held as is_held_place};
-ghost use Rattle.restart.specs.Filled.{is_home, is_used, erases_by, with_counts, AreUsed, AreCounted, SameUnits, AreAdopted};
+ghost use Rattle.unit_layout.specs.Retired.{may_be_retired};
+ghost use Rattle.unit_directory.specs.Free.{spares_of};
+ghost use Rattle.restart.specs.Kept.{retired_of};
+ghost use Rattle.restart.specs.Filled.{is_home, is_used, erases_by, with_counts, with_aside, with_all_aside, AreUsed, AreCounted, SameUnits, AreAdopted};
 ghost use Rattle.restart.specs.Masked.{NoneNamed};
 
+use crate::head_sector::HeadSector;
 use crate::kept::{Header, Winner};
 use crate::live::is_overflow_place;
 use crate::noted::Noted;
+use ipl_format::word_at;
 use overflow::Overflow;
 use unit_directory::Directory;
 
 /// Gives each unit the place and the generation of its header, with no log sector known clean, nor one
-/// that names a page. Nothing else is in use then.
+/// that names a page. Nothing else is in use then, and no place is retired.
 pub(crate) fn adopt_all(directory: &mut Directory, current: &[Option<Winner>])
     requires units { KeepsUnits (length directory.old.in_use) (length current.now) }
     requires places { length directory.old.in_use ≤ MOST_PLACES }
@@ -28,9 +33,10 @@ pub(crate) fn adopt_all(directory: &mut Directory, current: &[Option<Winner>])
     ensures used { AreUsed (is_home (at current.now) (length current.now)) (length directory.old.in_use)
         (length current.now) directory.new.in_use }
     ensures blank { NoneNamed (length current.now) directory.new }
+    ensures none { directory.new.retired ≡ [] }
 {
     directory.facts();
-    directory.reset();
+    directory.set_units(current.len() as u32);
     for unit in 0..current.len() {
         match current[unit] {
             Some(winner) => directory.adopt(unit as u32, winner.place(), winner.generation()),
@@ -116,17 +122,45 @@ pub(crate) fn fill_places(
     count_erases(directory, heads);
 }
 
+/// Retires a place that is listed as retired, if it is free.
+fn retire_free(directory: &mut Directory, place: u32)
+    requires place { place < length directory.old.in_use }
+    requires few { length directory.old.retired < spares_of directory.old }
+    ensures { directory.new ≡ with_aside directory.old place }
+{
+    let free = directory.free_count();
+    directory.take(place);
+    // It was free where one place is free less.
+    if directory.free_count() < free {
+        directory.retire(place);
+    }
+}
+
+/// Retires the places that the status header lists as retired and that are free.
+pub(crate) fn retire_listed(directory: &mut Directory, status: &HeadSector)
+    requires none { directory.old.retired ≡ [] }
+    requires listed { may_be_retired (length directory.old.in_use) (length directory.old.current)
+        (retired_of status.now) ≡ true }
+    ensures { directory.new ≡ with_all_aside directory.old (retired_of status.now) }
+{
+    let listed = status.listed();
+    for i in 0..listed.len() / 4 {
+        retire_free(directory, word_at(listed, 4 * i));
+    }
+}
+
 /// Lists a place, if it is an overflow place that holds live log sectors.
 fn list_place(overflow: &mut Overflow, heads: &[Option<Header>], noted: &Noted, place: u32)
     requires heads { place < length heads.now }
     requires places { place < places_of noted.now }
-    requires keeps { KeepsUnits (length heads.now) (length overflow.old.spots) }
+    requires listed { overflow.old.places ≡ length heads.now }
     requires room { is_held_place heads.now noted.now place ≡ true
         → length overflow.old.in_use < 2 }
     ensures in_use { overflow.new.in_use ≡ with_one overflow.old.in_use
         (overflow_at (is_held_place heads.now noted.now) place) }
     ensures spots { overflow.new.spots ≡ overflow.old.spots }
     ensures masks { overflow.new.masks ≡ overflow.old.masks }
+    ensures places { overflow.new.places ≡ overflow.old.places }
 {
     if is_held(heads, noted, place) {
         overflow.adopt_place(place);
@@ -137,13 +171,14 @@ fn list_place(overflow: &mut Overflow, heads: &[Option<Header>], noted: &Noted, 
 pub(crate) fn list_places(overflow: &mut Overflow, heads: &[Option<Header>], noted: &Noted)
     requires small { length heads.now ≤ MOST_PLACES }
     requires places { places_of noted.now ≡ length heads.now }
-    requires keeps { KeepsUnits (length heads.now) (length overflow.old.spots) }
+    requires listed { overflow.old.places ≡ length heads.now }
     requires two { count_below (is_held_place heads.now noted.now) (length heads.now) ≤ 2 }
     requires none { overflow.old.in_use ≡ [] }
     ensures in_use { overflow.new.in_use
         ≡ all_below (overflow_at (is_held_place heads.now noted.now)) (length heads.now) }
     ensures spots { overflow.new.spots ≡ overflow.old.spots }
     ensures masks { overflow.new.masks ≡ overflow.old.masks }
+    ensures places { overflow.new.places ≡ overflow.old.places }
 {
     for place in 0..heads.len() {
         list_place(overflow, heads, noted, place as u32);

@@ -20,7 +20,7 @@ ghost use Rattle.overflow.specs.Lists.{spots_in};
 ghost use Rattle.unit_io.specs.ReadsAt.{ReadsOnce};
 ghost use Rattle.txn_status.specs.ReadingIn.{IsAt};
 ghost use Rattle.restart.specs.Looks.{Looks, HasCause, MayHoldLog};
-ghost use Rattle.restart.specs.Notes.{units_of, AreSized, overflow_count_of, listed, IsNoted, IsRoomy};
+ghost use Rattle.restart.specs.Notes.{units_of, HasRoom, AreSized, overflow_count_of, listed, IsNoted, IsRoomy};
 ghost use Rattle.restart.specs.Masked.{SamePlaces, NoneNamed, masked, IsMasked};
 ghost use Rattle.restart.specs.Collected.{records_at, AreKept};
 ghost use Rattle.restart.specs.Scanned.{IsScanned};
@@ -86,7 +86,7 @@ fn list_log(
     requires sector { spot.sector < 256 }
     requires unit { unit < length overflow.old.spots }
     requires units { length directory.old.current ≡ length overflow.old.spots }
-    requires keeps { KeepsUnits (length heads.now) (length overflow.old.spots) }
+    requires places { overflow.old.places ≡ length heads.now }
     requires few { is_overflow_place (at heads.now spot.place) ≡ true
         → overflow_count_of overflow.old unit < OVERFLOW_SECTORS }
     requires home { is_overflow_place (at heads.now spot.place) ≡ false → 241 ≤ spot.sector }
@@ -359,7 +359,9 @@ pub(crate) fn scan<C: Chip>(
 ) -> Result<Gathered, ImageFault>
     requires size { geometry.places ≡ (C.told chip.old).places }
     requires heads { length heads.now ≡ geometry.places }
-    requires sized { AreSized (length current.now) geometry.places noted.old overflow.old }
+    requires keeps { KeepsUnits geometry.places (length current.now) }
+    requires noted { HasRoom geometry.places noted.old }
+    requires overflow { overflow.old.places ≡ geometry.places }
     requires units { length directory.old.current ≡ length current.now }
     requires blank { NoneNamed (length current.now) directory.old }
     ensures scanned { IfOk result (λ all. OfContents (C.told chip.old) (λ x.
@@ -376,7 +378,7 @@ pub(crate) fn scan<C: Chip>(
         (C.told chip.old) (C.told chip.new) }
 {
     noted.clear();
-    overflow.reset();
+    overflow.set_units(current.len() as u32);
     numbers.clear();
     let mut gathered = Gathered {
         greatest: least,

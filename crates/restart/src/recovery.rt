@@ -1,14 +1,13 @@
 //! The opening of a chip.
 ghost use Rattle.std.specs.Prelude.{◌≡◌, ◌≢◌, ◌<◌, ◌≤◌, ◌*◌, ◌^◌, ℕ, [], length, Some, None, IfOk, IfErr, OnOk};
 ghost use Rattle.chip_trait.specs.Told.{Told};
-ghost use Rattle.ipl_base.specs.Places.{KeepsUnits};
+ghost use Rattle.ipl_base.specs.Places.{KeepsUnits, units_on};
 ghost use Rattle.ipl_base.specs.declared.fault.ImageFault.TheVariants.{Spent};
 ghost use Rattle.ipl_meaning.specs.Chart.{chart_of};
 ghost use Rattle.ipl_meaning.specs.Layout.{Laid};
 ghost use Rattle.ipl_meaning.specs.Mirrors.{Mirrors};
 ghost use Rattle.unit_io.specs.Reads.{OfContents};
 ghost use Rattle.opening_rules.specs.First.{at, count_below};
-ghost use Rattle.opening_rules.specs.Chosen.{Winner as Chosen};
 ghost use Rattle.opening_rules.specs.Live.{marks};
 ghost use Rattle.opening_rules.specs.Faults.{TellsImageFault, header_fault, first_fault};
 ghost use Rattle.opening_rules.specs.LaidOut.{layout_in};
@@ -19,24 +18,26 @@ ghost use Rattle.restart.specs.Looks.{Looks, HasCause, IsHeaderSpot, IsBehindHea
 ghost use Rattle.txn_status.specs.ReadingIn.{status_in};
 ghost use Rattle.merge_rules.specs.Known.{KnowsPlaces};
 ghost use Rattle.opened_tables.specs.Opened.{AreOpened, tables_of};
-ghost use Rattle.restart.specs.Notes.{units_of, places_of, AreSized, IsNoted};
+ghost use Rattle.restart.specs.Notes.{HasRoom, AreSized, IsNoted};
+ghost use Rattle.restart.specs.Kept.{counted_in};
 ghost use Rattle.restart.specs.Masked.{SamePlaces, NoneNamed, mask_by, IsMasked};
-ghost use Rattle.restart.specs.Shown.{ShowsHeaders, AreChosen, is_held, number_by, fault_by};
+ghost use Rattle.restart.specs.Shown.{ShowsHeaders, HeadersCount, is_held, number_by, fault_by};
 ghost use Rattle.restart.specs.Opened.{HasFree, NoneIsClean};
 ghost use Rattle.restart.specs.Collected.{numbers_below, AreKept, AreCollected};
 
 use crate::choosing::choose;
 use crate::collecting::Gathered;
 use crate::commits::read_commits;
-use crate::filling::{adopt_all, fill_places, list_places};
-use crate::headers::check_headers;
+use crate::filling::{adopt_all, fill_places, list_places, retire_listed};
+use crate::head_sector::HeadSector;
+use crate::headers::{check_headers, check_status};
 use crate::kept::{Header, Winner};
 use crate::logs::scan;
 use crate::looking::read_heads;
 use crate::noted::Noted;
 use crate::verdict::{check_found, greatest_in};
 use chip_trait::Chip;
-use ipl_base::{Counter, Geometry, ImageFault, OutOfMemory};
+use ipl_base::{Counter, Geometry, ImageFault, OutOfMemory, RESERVED_PLACES};
 use kept_numbers::KeptNumbers;
 use overflow::Overflow;
 use std::alloc::Global;
@@ -44,33 +45,37 @@ use std::marker::Model;
 use txn_status::Status;
 use unit_directory::Directory;
 
-/// Reads the headers, tests those that count, and answers the status header.
+/// Reads the headers, tests those that count, and answers the status header, whose sector is kept. The headers of units stand
+/// at the beginning of the table then, of as many units as the status header says.
 fn read_headers<C: Chip>(
     chip: &mut C,
     geometry: Geometry,
     heads: &mut [Option<Header>],
-    current: &mut [Option<Winner>],
+    table: &mut [Option<Winner>],
+    kept: &mut HeadSector,
 ) -> Result<Winner, ImageFault>
     requires size { geometry.places ≡ (C.told chip.old).places }
     requires heads { length heads.old ≡ geometry.places }
-    requires current { KeepsUnits geometry.places (length current.old) }
-    ensures shown { IfOk result (λ status. OfContents (C.told chip.old) (λ x.
-        ShowsHeaders (chart_of x) geometry.places heads.new current.new status)) }
-    ensures chosen { IfOk result (λ status. AreChosen heads.new current.new status) }
+    requires table { length table.old ≡ units_on geometry.places }
+    ensures shown { IfOk result (λ status. OfContents (C.told chip.old) (λ x. ShowsHeaders
+        (chart_of x) geometry.places heads.new (counted_in geometry.places status table.new) status)) }
+    ensures counts { IfOk result (λ status.
+        HeadersCount geometry.places heads.new table.new status kept.new) }
+    ensures sector { IfOk result (λ status. OfContents (C.told chip.old) (λ x.
+        kept.new ≡ chart_of x status.place 0)) }
     ensures fault { OfContents (C.told chip.old) (λ x.
         TellsImageFault (header_fault (chart_of x) geometry.places) result) }
     ensures whole { OnOk result (OfContents (C.told chip.old) (λ x.
         (p : ℕ) → p < geometry.places → IsWhole (x p 0))) }
-    ensures status { IfOk result (λ status. status.place < geometry.places) }
-    ensures within { OnOk result ((u : ℕ) (winner : Chosen)
-        → at current.new u ≡ Some winner → winner.place < geometry.places) }
-    ensures there { OnOk result ((u : ℕ) → u < length current.new → at current.new u ≢ None) }
     ensures looks { Looks HasCause result (C.told chip.old) (C.told chip.new) }
     ensures once { ReadsOnce IsHeaderSpot (C.told chip.old) (C.told chip.new) }
+    ensures size { length table.new ≡ length table.old }
 {
-    read_heads(chip, geometry, heads)?;
-    let status = choose(heads, current);
-    let status = check_headers(status, current)?;
+    let status = read_heads(chip, geometry, heads, kept)?;
+    let status = check_status(geometry, status)?;
+    let current = &mut table[..status.units(geometry) as usize];
+    choose(heads, current);
+    check_headers(&status, current)?;
     Ok(status)
 }
 
@@ -90,7 +95,9 @@ fn read_rest<C: Chip>(
 ) -> Result<Gathered, ImageFault>
     requires size { geometry.places ≡ (C.told chip.old).places }
     requires heads { length heads.now ≡ geometry.places }
-    requires sized { AreSized (length current.now) geometry.places noted.old overflow.old }
+    requires keeps { KeepsUnits geometry.places (length current.now) }
+    requires noted { HasRoom geometry.places noted.old }
+    requires overflow { overflow.old.places ≡ geometry.places }
     requires units { length directory.old.current ≡ length current.now }
     requires blank { NoneNamed (length current.now) directory.old }
     requires winner { winner.now.place < geometry.places }
@@ -119,7 +126,8 @@ fn read_rest<C: Chip>(
     ensures left { IfOk result (λ all. all.greatest < 2 ^ 63) }
     ensures two { OnOk result (count_below (is_held heads.now noted.new) (length heads.now) ≤ 2) }
     ensures none { OnOk result (overflow.new.in_use ≡ []) }
-    ensures sized { AreSized (length current.now) geometry.places noted.new overflow.new }
+    ensures sized { OnOk result (AreSized (length current.now) geometry.places noted.new overflow.new) }
+    ensures room { HasRoom geometry.places noted.new × (overflow.new.places ≡ geometry.places) }
     ensures looks { Looks HasCause result (C.told chip.old) (C.told chip.new) }
     ensures once { ((s : ℕ) → ¬ MayHoldLog (at heads.now) (at current.now) winner.now.place s)
         → ReadsOnce IsBehindHeader (C.told chip.old) (C.told chip.new) }
@@ -138,7 +146,7 @@ fn open<C: Chip>(
     chip: &mut C,
     geometry: Geometry,
     heads: &mut [Option<Header>],
-    current: &mut [Option<Winner>],
+    table: &mut [Option<Winner>],
     noted: &mut Noted,
     directory: &mut Directory,
     overflow: &mut Overflow,
@@ -148,7 +156,9 @@ fn open<C: Chip>(
 ) -> Result<bool, ImageFault>
     requires size { geometry.places ≡ (C.told chip.old).places }
     requires heads { length heads.old ≡ geometry.places }
-    requires sized { AreSized (length current.old) geometry.places noted.old overflow.old }
+    requires table { length table.old ≡ units_on geometry.places }
+    requires noted { HasRoom geometry.places noted.old }
+    requires overflow { overflow.old.places ≡ geometry.places }
     requires directory { length directory.old.in_use ≡ geometry.places }
     ensures fault { OfContents (C.told chip.old) (λ x.
         TellsImageFault (first_fault (chart_of x) geometry.places) result) }
@@ -170,16 +180,20 @@ fn open<C: Chip>(
     ensures free { OnOk result (HasFree directory.new) }
     ensures left { OnOk result (counter.new ≤ 2 ^ 63) }
     ensures size { length directory.new.in_use ≡ geometry.places }
-    ensures sized { AreSized (length current.new) geometry.places noted.new overflow.new }
+    ensures table { length table.new ≡ length table.old }
+    ensures room { HasRoom geometry.places noted.new × (overflow.new.places ≡ geometry.places) }
     ensures looks { Looks HasCause result (C.told chip.old) (C.told chip.new) }
     ensures once { ReadsOnce Anywhere (C.told chip.old) (C.told chip.new) }
 {
-    let winner = read_headers(chip, geometry, heads, current)?;
+    let mut kept = HeadSector::none();
+    let winner = read_headers(chip, geometry, heads, table, &mut kept)?;
+    let current = &table[..winner.units(geometry) as usize];
     adopt_all(directory, current);
     let gathered = read_rest(
         chip, geometry, heads, current, &winner, noted, directory, overflow, status, numbers,
     )?;
     fill_places(directory, heads, &winner, noted);
+    retire_listed(directory, &kept);
     list_places(overflow, heads, noted);
     directory.facts();
     overflow.facts();
@@ -188,7 +202,8 @@ fn open<C: Chip>(
 }
 
 /// The scratch memory of an opening: what is kept of each header, the header of each unit that counts, and what is noted of
-/// live log sectors. A contract sees the number of places, 5 to 1028. Memory is taken by `new` alone.
+/// live log sectors. A contract sees the number of places, 5 to 1028. Memory is taken by `new` alone, for as many units as are
+/// kept where no place is spare.
 #[derive(Drop)]
 pub struct Scratch {
     geometry: Geometry,
@@ -203,9 +218,8 @@ impl Model for Scratch {
     ghost view = { λ s. s.geometry.places };
 
     ghost invariant = { λ s. (length s.heads.items ≡ s.geometry.places)
-        × KeepsUnits s.geometry.places (length s.current.items)
-        × KeepsUnits s.geometry.places (units_of s.noted)
-        × (places_of s.noted ≡ s.geometry.places) };
+        × (length s.current.items ≡ units_on s.geometry.places)
+        × HasRoom s.geometry.places s.noted };
 }
 
 impl Scratch {
@@ -214,7 +228,8 @@ impl Scratch {
         ensures { IfOk result (λ scratch. scratch ≡ geometry.places) }
     {
         let heads = vec![in alloc; None; geometry.places() as usize]?;
-        let current = vec![in alloc; None; geometry.units() as usize]?;
+        let units = geometry.places() - RESERVED_PLACES;
+        let current = vec![in alloc; None; units as usize]?;
         let noted = Noted::new(alloc, geometry)?;
         Ok(Scratch {
             geometry,
@@ -227,15 +242,16 @@ impl Scratch {
 
 /// Opens a chip, for whose number of places the scratch memory and the tables were made: finds what
 /// it holds, or tells the first thing that is wrong. It writes nothing and takes no memory, and each
-/// sector is read at most once.
+/// sector is read at most once. The tables then are of as many units as the chip keeps.
 ///
 /// Of a chip without a fault the directory then has the place of each unit, with no log sector known
-/// clean; the status place and the overflow places that hold live log sectors are in use too, and all
-/// other places are free; and each place counts as erased as often as its header says, once where that
-/// doesn't say it. The overflow table lists each unit's live log sectors in overflow places,
-/// and these places; the status has the committed numbers; and no sector of these places is known
-/// clean. The counter is the number after the greatest that was found. After a fault, all of them
-/// hold anything, but are made for as many places as before.
+/// clean; the status place and the overflow places that hold live log sectors are in use too. Of the
+/// other places those are retired that the status header lists, and the others are free. Each place
+/// counts as erased as often as its header says, once where that doesn't say it. The overflow table
+/// lists each unit's live log sectors in overflow places, and these places; the status has the
+/// committed numbers; and no sector of these places is known clean. The counter is the number after
+/// the greatest that was found. After a fault, all of them hold anything, but are made for as many
+/// places as before.
 ///
 /// The numbers that are kept then are the committed ones that live log records have, where those are
 /// at most 3,840. It answers false where they are more, and what is kept says nothing then.
@@ -253,7 +269,7 @@ pub fn recover<C: Chip>(
 ) -> Result<bool, ImageFault>
     requires scratch { scratch.old ≡ (C.told chip.old).places }
     requires directory { length directory.old.in_use ≡ (C.told chip.old).places }
-    requires overflow { KeepsUnits (C.told chip.old).places (length overflow.old.spots) }
+    requires overflow { overflow.old.places ≡ (C.told chip.old).places }
 
     // It fails exactly with the first fault of the chip's contents, unless a read failed.
     ensures fault { OfContents (C.told chip.old) (λ x.
@@ -276,7 +292,8 @@ pub fn recover<C: Chip>(
     ensures bytes { ReadsBytes (C.told chip.old).places (C.told chip.old) result }
 
     // Whether the chip tells its contents or not, the tables know each of its places and count no
-    // sector as clean, a place is free, and numbers are left.
+    // sector as clean, a place may be taken, however many of the spare ones are worn, and numbers are
+    // left.
     ensures known { OnOk result (KnowsPlaces (C.told chip.old).places
         (tables_of directory.new overflow.new status.new counter.new)) }
     ensures unclean { OnOk result (NoneIsClean
@@ -290,7 +307,7 @@ pub fn recover<C: Chip>(
     ensures once { ReadsOnce Anywhere (C.told chip.old) (C.told chip.new) }
     ensures sized { (scratch.new ≡ scratch.old)
         × (length directory.new.in_use ≡ length directory.old.in_use)
-        × (length overflow.new.spots ≡ length overflow.old.spots) }
+        × (overflow.new.places ≡ overflow.old.places) }
 {
     open(
         chip,

@@ -21,10 +21,10 @@ SoFar k n before old then new = Along k {T = Unit {0}} Onward n before old (Ok t
 module _ {S : Type 0} {k : Keeping S} where
   -- nothing was done
   pub along_none : {n : ℕ} {store : S} {t : Told} → Along k {T = Unit {0}} Onward n store t (Ok tt) store t
-  along_none {n} {store} {t} = record { tidy = tidy_same k store t t true refl; draws = record { most = omega arith; spent = λ is. cc }; suited = λ places suits. suits; beside = onward_none t; cause = tt; never = λ is. cc }
+  along_none {n} {store} {t} = record { tidy = tidy_same k store t t true refl; draws = record { most = omega arith; spent = λ is. cc }; suited = λ suits. suits; beside = onward_none t; cause = tt; never = λ is. cc }
 
   -- the store did its work
-  pub along_work : {n : ℕ} {before then : S} {old new : Told} → k.counter then ≤ max (k.counter before) FOUND_NUMBER + n → ((places : ℕ) → k.suits before places → k.suits then places) → Counts old new
+  pub along_work : {n : ℕ} {before then : S} {old new : Told} → k.counter then ≤ max (k.counter before) FOUND_NUMBER + n → (k.suits before → k.suits then) → Counts old new
       → LeavesTidy k before then old new true → Along k {T = Unit {0}} Onward n before old (Ok tt) then new
   along_work {n} {before} {then} {old} {new} most suited counts tidy =
       record { tidy = tidy; draws = record { most = most; spent = λ is. cc }; suited = suited; beside = onward_counts old new counts; cause = tt; never = λ is. cc }
@@ -69,7 +69,7 @@ module _ {S : Type 0} {k : Keeping S} where
   along_then {T} {n} {m} {before} {between} {then} {old} {mid} {new} {result} first next = record {
     tidy = tidy_then k before between then old mid new (is_ok result) first.tidy next.tidy;
     draws = record { most = omega (arith, first.draws.most, next.draws.most); spent = λ is. let low = next.draws.spent is in omega (arith, first.draws.most, low) };
-    suited = on_ok_weaker result (λ next_suited places suits. next_suited places (first.suited places suits)) next.suited;
+    suited = on_ok_weaker result (λ next_suited suits. next_suited (first.suited suits)) next.suited;
     beside = onward_then old mid new first.beside next.beside;
     cause = causes_earlier k old mid new result (further_onward old mid first.beside) next.cause;
     never = next.never;

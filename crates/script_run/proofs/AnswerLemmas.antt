@@ -211,7 +211,7 @@ module _ {S : Type 0} (k : Keeping S) (limits : Limits) (state : State) where
   -- a command that is answered without work, as a refusal is
   pub works_at_once : (c : Command) (store : S) (h : History) (t : Told) (r : Reply) → step limits state c ≡ (state, r ∷ []) → k.holds limits store t h state → WorksFor k limits state c store h (Ok r) store t t
   unfolding work_none
-  works_at_once c store h t r is holds = record { leaves = work_none c store h t holds; ends = (subst (k.holds limits store t h) (sym (ap (λ (p : Stepped). p.0) is)) holds, ap (λ (p : Stepped). p.1) is); drawn = omega arith; excuse = tt }
+  works_at_once c store h t r is holds = record { leaves = work_none c store h t holds; ends = (subst (k.holds limits store t h) (sym (ap (λ (p : Stepped). p.0) is)) holds, ap (λ (p : Stepped). p.1) is); drawn = omega arith; excuse = tt; tells = tt }
 
   module _ (a b names : ℕ) (is : names ≡ limits.names) where
     list_lines : a < names → b < names → rows_lines state.map a (b + 1 - a) ++ reply_text reply.End ∷ [] ≡ reply_lines limits state (command.List a b)

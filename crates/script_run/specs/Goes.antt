@@ -51,14 +51,14 @@ module _ {S : Type 0} (k : Keeping S) where
   StopCause old new stop.TooLong = min (old.beside.script_bytes + 4294967295) (2 ^ 64 - 1) ≤ new.beside.script_bytes
 
   -- What goes along with each part of a run, whatever it does and whatever the chip tells: what is added is lawful by the
-  -- sectors that the store counts as clean, at most n numbers were drawn, the store suits as many places as before where the
-  -- part was done, beside the chip no more happened than R tells, and a stop has its cause. A part never finds the script too
+  -- sectors that the store counts as clean, at most n numbers were drawn, the store suits its chip still where the part was
+  -- done, beside the chip no more happened than R tells, and a stop has its cause. A part never finds the script too
   -- long.
   pub record Along {T : Type 0} (R : Told → Told → Type 0) (n : ℕ) (before : S) (old : Told)
       (result : Result T Stop) (then : S) (new : Told) : Type 0 where
     pub tidy : LeavesTidy k before then old new (is_ok result)
     pub draws : Draws k n before (IsErrOf result (stop.Store Spent)) then
-    pub suited : OnOk result ((places : ℕ) → k.suits before places → k.suits then places)
+    pub suited : OnOk result (k.suits before → k.suits then)
     pub beside : R old new
     pub cause : IfErr result (λ s. StopCause old new s)
     pub never : IsErrOf result stop.TooLong → ⊥
@@ -70,12 +70,13 @@ module _ {S : Type 0} (k : Keeping S) where
     pub holds : k.holds limits store t history state
 
   -- What a part of a run does with a store that keeps a state: it draws at most n numbers; it stops
-  -- with a fault of the store only where a call of the chip failed, which it says, as long as numbers are left; and where it
-  -- is done, the store keeps a state again.
+  -- with a fault of the store only where a call of the chip failed, which it says, as long as numbers are left, and only as a
+  -- store may fail under these limits; and where it is done, the store keeps a state again.
   pub record Completes {T : Type 0} (limits : Limits) (n : ℕ) (before : S) (old : Told) (result : Result T Stop)
       (then : S) (new : Told) : Type 0 where
     pub drawn : k.counter then ≤ k.counter before + n
     pub excuse : (fault : Fault) → IsErrOf result (stop.Store fault) → Excuses k n before old new fault
+    pub tells : (fault : Fault) → IsErrOf result (stop.Store fault) → k.tells limits fault
     pub again : OnOk result (KeepsSome limits then new)
 
   -- wherever it keeps a state

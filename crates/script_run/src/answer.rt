@@ -34,12 +34,14 @@ fn say_reply<D: Desk>(desk: &mut D, reply: &Reply) -> Result<(), Failed>
 
 /// Does the work of a command that has one line as its reply, and says the reply.
 fn answer_one<S: Store, D: Desk>(store: &mut S, desk: &mut D, command: &Command) -> Result<(), Stop>
+    ghost places: { ℕ }
     requires single { IsSingle command.now }
-    requires suits { S.keeping.suits store.old (D.told desk.old).places }
-    ensures answers { Answers S.keeping (command.now ∷ []) store.old (D.told desk.old) result store.new
+    requires places { (D.told desk.old).places ≡ places }
+    requires suits { (S.keeping places).suits store.old }
+    ensures answers { Answers (S.keeping places) (command.now ∷ []) store.old (D.told desk.old) result store.new
         (D.told desk.new) }
-    ensures along { Along S.keeping Onward WORK_DRAWS store.old (D.told desk.old) result store.new (D.told desk.new) }
-    ensures completes { CompletesOver S.keeping WORK_DRAWS store.old (D.told desk.old) result store.new
+    ensures along { Along (S.keeping places) Onward WORK_DRAWS store.old (D.told desk.old) result store.new (D.told desk.new) }
+    ensures completes { CompletesOver (S.keeping places) WORK_DRAWS store.old (D.told desk.old) result store.new
         (D.told desk.new) }
 {
     let reply = store.work(desk, command)?;
@@ -51,15 +53,17 @@ fn answer_one<S: Store, D: Desk>(store: &mut S, desk: &mut D, command: &Command)
 
 /// Says the record of a name, where there is one.
 fn say_row<S: Store, D: Desk>(store: &mut S, desk: &mut D, n: u32) -> Result<(), Stop>
-    requires { S.keeping.suits store.old (D.told desk.old).places }
+    ghost places: { ℕ }
+    requires places { (D.told desk.old).places ≡ places }
+    requires suits { (S.keeping places).suits store.old }
     ensures says { (limits : Limits) → n < limits.names
-        → SaysUnder S.keeping limits (λ state. row_lines n (get state.map n)) store.old
+        → SaysUnder (S.keeping places) limits (λ state. row_lines n (get state.map n)) store.old
         (D.told desk.old) result store.new (D.told desk.new) }
-    ensures along { Along S.keeping Onward LOOK_UP_DRAWS store.old (D.told desk.old) result store.new
+    ensures along { Along (S.keeping places) Onward LOOK_UP_DRAWS store.old (D.told desk.old) result store.new
         (D.told desk.new) }
     ensures completes { (limits : Limits) → n < limits.names
-        → KeepsSome S.keeping limits store.old (D.told desk.old)
-        → Completes S.keeping limits LOOK_UP_DRAWS store.old (D.told desk.old) result store.new
+        → KeepsSome (S.keeping places) limits store.old (D.told desk.old)
+        → Completes (S.keeping places) limits LOOK_UP_DRAWS store.old (D.told desk.old) result store.new
         (D.told desk.new) }
 {
     match store.look_up(desk, n)? {
@@ -78,15 +82,17 @@ fn say_rows<S: Store, D: Desk>(
     first: u32,
     end: u32,
 ) -> Result<(), Stop>
-    requires { S.keeping.suits store.old (D.told desk.old).places }
+    ghost places: { ℕ }
+    requires places { (D.told desk.old).places ≡ places }
+    requires suits { (S.keeping places).suits store.old }
     ensures says { (limits : Limits) → end ≤ limits.names
-        → SaysUnder S.keeping limits (λ state. rows_lines state.map first (end - first)) store.old
+        → SaysUnder (S.keeping places) limits (λ state. rows_lines state.map first (end - first)) store.old
         (D.told desk.old) result store.new (D.told desk.new) }
-    ensures along { Along S.keeping Onward (LOOK_UP_DRAWS * (end - first)) store.old
+    ensures along { Along (S.keeping places) Onward (LOOK_UP_DRAWS * (end - first)) store.old
         (D.told desk.old) result store.new (D.told desk.new) }
     ensures completes { (limits : Limits) → end ≤ limits.names
-        → KeepsSome S.keeping limits store.old (D.told desk.old)
-        → Completes S.keeping limits (LOOK_UP_DRAWS * (end - first)) store.old (D.told desk.old)
+        → KeepsSome (S.keeping places) limits store.old (D.told desk.old)
+        → Completes (S.keeping places) limits (LOOK_UP_DRAWS * (end - first)) store.old (D.told desk.old)
         result store.new (D.told desk.new) }
 {
     for n in first..end {
@@ -97,12 +103,14 @@ fn say_rows<S: Store, D: Desk>(
 
 /// Answers a list: its records and then a line that ends it, or a refusal.
 fn list<S: Store, D: Desk>(store: &mut S, desk: &mut D, first: u32, last: u32) -> Result<(), Stop>
-    requires { S.keeping.suits store.old (D.told desk.old).places }
-    ensures answers { Answers S.keeping (command.List first last ∷ []) store.old (D.told desk.old) result store.new
+    ghost places: { ℕ }
+    requires places { (D.told desk.old).places ≡ places }
+    requires suits { (S.keeping places).suits store.old }
+    ensures answers { Answers (S.keeping places) (command.List first last ∷ []) store.old (D.told desk.old) result store.new
         (D.told desk.new) }
-    ensures along { Along S.keeping Onward COMMAND_DRAWS store.old (D.told desk.old) result store.new
+    ensures along { Along (S.keeping places) Onward COMMAND_DRAWS store.old (D.told desk.old) result store.new
         (D.told desk.new) }
-    ensures completes { CompletesOver S.keeping COMMAND_DRAWS store.old (D.told desk.old) result store.new
+    ensures completes { CompletesOver (S.keeping places) COMMAND_DRAWS store.old (D.told desk.old) result store.new
         (D.told desk.new) }
 {
     let names = store.names();
@@ -121,12 +129,14 @@ fn list<S: Store, D: Desk>(store: &mut S, desk: &mut D, first: u32, last: u32) -
 
 /// Answers one command.
 fn answer<S: Store, D: Desk>(store: &mut S, desk: &mut D, command: &Command) -> Result<(), Stop>
-    requires { S.keeping.suits store.old (D.told desk.old).places }
-    ensures answers { Answers S.keeping (command.now ∷ []) store.old (D.told desk.old) result store.new
+    ghost places: { ℕ }
+    requires places { (D.told desk.old).places ≡ places }
+    requires suits { (S.keeping places).suits store.old }
+    ensures answers { Answers (S.keeping places) (command.now ∷ []) store.old (D.told desk.old) result store.new
         (D.told desk.new) }
-    ensures along { Along S.keeping Onward COMMAND_DRAWS store.old (D.told desk.old) result store.new
+    ensures along { Along (S.keeping places) Onward COMMAND_DRAWS store.old (D.told desk.old) result store.new
         (D.told desk.new) }
-    ensures completes { CompletesOver S.keeping COMMAND_DRAWS store.old (D.told desk.old) result store.new
+    ensures completes { CompletesOver (S.keeping places) COMMAND_DRAWS store.old (D.told desk.old) result store.new
         (D.told desk.new) }
 {
     match command {
@@ -137,12 +147,14 @@ fn answer<S: Store, D: Desk>(store: &mut S, desk: &mut D, command: &Command) -> 
 
 /// Answers one line, if it is a command.
 pub fn answer_line<S: Store, D: Desk>(store: &mut S, desk: &mut D, line: &[u8]) -> Result<(), Stop>
-    requires { S.keeping.suits store.old (D.told desk.old).places }
-    ensures answers { Answers S.keeping (commands_in (line_of line.now)) store.old
+    ghost places: { ℕ }
+    requires places { (D.told desk.old).places ≡ places }
+    requires suits { (S.keeping places).suits store.old }
+    ensures answers { Answers (S.keeping places) (commands_in (line_of line.now)) store.old
         (D.told desk.old) result store.new (D.told desk.new) }
-    ensures along { Along S.keeping Onward COMMAND_DRAWS store.old (D.told desk.old) result store.new
+    ensures along { Along (S.keeping places) Onward COMMAND_DRAWS store.old (D.told desk.old) result store.new
         (D.told desk.new) }
-    ensures completes { CompletesOver S.keeping COMMAND_DRAWS store.old (D.told desk.old) result store.new
+    ensures completes { CompletesOver (S.keeping places) COMMAND_DRAWS store.old (D.told desk.old) result store.new
         (D.told desk.new) }
 {
     match parse(line) {

@@ -32,12 +32,14 @@ fn end_line<S: Store, D: Desk>(
     desk: &mut D,
     line: &mut LineBuffer,
 ) -> Result<(), Stop>
-    requires { S.keeping.suits store.old (D.told desk.old).places }
-    ensures takes { TakesBytes S.keeping (10 ∷ []) store.old line.old (D.told desk.old) result store.new line.new
+    ghost places: { ℕ }
+    requires places { (D.told desk.old).places ≡ places }
+    requires suits { (S.keeping places).suits store.old }
+    ensures takes { TakesBytes (S.keeping places) (10 ∷ []) store.old line.old (D.told desk.old) result store.new line.new
         (D.told desk.new) }
-    ensures along { Along S.keeping Onward COMMAND_DRAWS store.old (D.told desk.old) result store.new
+    ensures along { Along (S.keeping places) Onward COMMAND_DRAWS store.old (D.told desk.old) result store.new
         (D.told desk.new) }
-    ensures completes { CompletesOver S.keeping COMMAND_DRAWS store.old (D.told desk.old) result store.new
+    ensures completes { CompletesOver (S.keeping places) COMMAND_DRAWS store.old (D.told desk.old) result store.new
         (D.told desk.new) }
 {
     let answered = answer_line(store, desk, line.bytes());
@@ -53,12 +55,14 @@ fn take_piece<S: Store, D: Desk>(
     line: &mut LineBuffer,
     piece: &[u8],
 ) -> Result<(), Stop>
-    requires { S.keeping.suits store.old (D.told desk.old).places }
-    ensures takes { TakesBytes S.keeping piece.now store.old line.old (D.told desk.old) result store.new line.new
+    ghost places: { ℕ }
+    requires places { (D.told desk.old).places ≡ places }
+    requires suits { (S.keeping places).suits store.old }
+    ensures takes { TakesBytes (S.keeping places) piece.now store.old line.old (D.told desk.old) result store.new line.new
         (D.told desk.new) }
-    ensures along { Along S.keeping Onward (COMMAND_DRAWS * length piece.now) store.old
+    ensures along { Along (S.keeping places) Onward (COMMAND_DRAWS * length piece.now) store.old
         (D.told desk.old) result store.new (D.told desk.new) }
-    ensures completes { CompletesOver S.keeping (COMMAND_DRAWS * length piece.now) store.old
+    ensures completes { CompletesOver (S.keeping places) (COMMAND_DRAWS * length piece.now) store.old
         (D.told desk.old) result store.new (D.told desk.new) }
 {
     let mut at = 0;
@@ -78,17 +82,19 @@ fn take_next<S: Store, D: Desk>(
     line: &mut LineBuffer,
     piece: &mut [u8],
 ) -> Result<usize, Stop>
+    ghost places: { ℕ }
     requires some { 0 < length piece.old }
-    requires suits { S.keeping.suits store.old (D.told desk.old).places }
-    ensures takes { TakesNext S.keeping store.old line.old (D.told desk.old) result store.new line.new
+    requires places { (D.told desk.old).places ≡ places }
+    requires suits { (S.keeping places).suits store.old }
+    ensures takes { TakesNext (S.keeping places) store.old line.old (D.told desk.old) result store.new line.new
         (D.told desk.new) }
-    ensures along { Along S.keeping Further (COMMAND_DRAWS * length piece.old) store.old
+    ensures along { Along (S.keeping places) Further (COMMAND_DRAWS * length piece.old) store.old
         (D.told desk.old) result store.new (D.told desk.new) }
-    ensures completes { CompletesOver S.keeping (COMMAND_DRAWS * length piece.old) store.old
+    ensures completes { CompletesOver (S.keeping places) (COMMAND_DRAWS * length piece.old) store.old
         (D.told desk.old) result store.new (D.told desk.new) }
-    ensures drew { IfOk result (λ n. S.keeping.counter store.new
-        ≤ max (S.keeping.counter store.old) FOUND_NUMBER + COMMAND_DRAWS * n) }
-    ensures completed { IfOk result (λ n. CompletesOver S.keeping (COMMAND_DRAWS * n) store.old
+    ensures drew { IfOk result (λ n. (S.keeping places).counter store.new
+        ≤ max ((S.keeping places).counter store.old) FOUND_NUMBER + COMMAND_DRAWS * n) }
+    ensures completed { IfOk result (λ n. CompletesOver (S.keeping places) (COMMAND_DRAWS * n) store.old
         (D.told desk.old) result store.new (D.told desk.new)) }
     ensures bytes { IfOk result
         (λ n. Grew (D.told desk.old).beside.script_bytes n (D.told desk.new).beside.script_bytes) }
@@ -108,14 +114,16 @@ fn take_next<S: Store, D: Desk>(
 /// Runs the rest of a script: to its end, where the last line may lack its line feed, or to the first fault. Whatever
 /// moment the power is cut at, the chip stands for the records after the commands whose replies were said, or after one more.
 pub fn run_script<S: Store, D: Desk>(store: &mut S, desk: &mut D) -> Result<(), Stop>
-    requires { S.keeping.suits store.old (D.told desk.old).places }
-    ensures run { RunsScript S.keeping store.old (D.told desk.old) result store.new (D.told desk.new) }
-    ensures tidy { LeavesTidy S.keeping store.old store.new (D.told desk.old) (D.told desk.new) (is_ok result) }
-    ensures draws { Draws S.keeping SCRIPT_DRAWS store.old (IsErrOf result (Stop.Store Fault.Spent)) store.new }
-    ensures completes { CompletesOver S.keeping SCRIPT_DRAWS store.old (D.told desk.old) result store.new
+    ghost places: { ℕ }
+    requires places { (D.told desk.old).places ≡ places }
+    requires suits { (S.keeping places).suits store.old }
+    ensures run { RunsScript (S.keeping places) store.old (D.told desk.old) result store.new (D.told desk.new) }
+    ensures tidy { LeavesTidy (S.keeping places) store.old store.new (D.told desk.old) (D.told desk.new) (is_ok result) }
+    ensures draws { Draws (S.keeping places) SCRIPT_DRAWS store.old (IsErrOf result (Stop.Store Fault.Spent)) store.new }
+    ensures completes { CompletesOver (S.keeping places) SCRIPT_DRAWS store.old (D.told desk.old) result store.new
         (D.told desk.new) }
     ensures further { Further (D.told desk.old) (D.told desk.new) }
-    ensures cause { IfErr result (λ stop. StopCause S.keeping (D.told desk.old) (D.told desk.new) stop) }
+    ensures cause { IfErr result (λ stop. StopCause (S.keeping places) (D.told desk.old) (D.told desk.new) stop) }
     ensures exact { IsErrOf result Stop.TooLong
         → Grew (D.told desk.old).beside.script_bytes 4294967295 (D.told desk.new).beside.script_bytes }
     ensures long { IsErrOf result Stop.TooLong → HasRead 4294967295 (D.told desk.old) (D.told desk.new) }

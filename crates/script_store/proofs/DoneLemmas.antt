@@ -1,5 +1,5 @@
 -- What the work of commands has done by itself.
-use Rattle.std.proofs.Common.{◌≡◌, ◌⊎◌, ◌<◌, ◌*◌, ℕ, Option, Some, None, List, Result, Ok, Err, IfOk, OnOk, inl, inr, refl, ap, subst}
+use Rattle.std.proofs.Common.{◌≡◌, ◌⊎◌, ◌<◌, ◌*◌, ℕ, Bool, Option, Some, None, List, Result, Ok, Err, IfOk, OnOk, inl, inr, refl, ap, subst}
 use Rattle.std.specs.Prelude.{is_ok, slice_index}
 use Rattle.chip_trait.specs.Told.{Told}
 use Rattle.ipl_base.specs.declared.fault.Refusal.{Refusal}
@@ -9,7 +9,7 @@ use Rattle.ipl_model.specs.Step.{found_reply}
 use Rattle.ipl_meaning.specs.Tables.{Places}
 use Rattle.unit_io.specs.Costs.{Spends}
 use Rattle.unit_io.proofs.CostLemmas.{spends_weaker}
-use Rattle.selective_merge.specs.Spending.{ErasesFor}
+use Rattle.place_taking.specs.Spending.{ErasesFor}
 use Rattle.store_steps.specs.Keeps.{limits_of}
 use Rattle.ipl_store.specs.Calls.{Calls, early_fault, entry_fault, refuses_name}
 use Rattle.ipl_store.specs.Shown.{IsSeen, IsCommitted}
@@ -43,17 +43,18 @@ seen_done s n a before (Err (store.Chip e)) seen = tt
 -- ---- a merge
 
 -- which, done, erased the place where the unit stands
-pub merge_done : (u : ℕ) (first : Places) (b : ScriptStore) (before after : Told)
-    (result : Result (Unit {0}) StoreFault)
-    → Spends (ErasesFor first (slice_index b.store.transactions.pages.parts.directory.current u)
-    (is_ok result)) before after
+pub merge_done : (u : ℕ) (first : Places) (worn_out : Bool) (b : ScriptStore)
+    (before after : Told) (result : Result (Unit {0}) StoreFault)
+    → Spends (ErasesFor first b.store.transactions.pages.parts.directory 3
+    (slice_index b.store.transactions.pages.parts.directory.current u) (is_ok result) worn_out)
+    before after
     → IfOk (reply_of result) (λ r. IsRefused r ⊎ HasMoved u b before after)
-merge_done u first b before after (Ok v) spends = inr (spends_weaker _ _ before after
+merge_done u first worn_out b before after (Ok v) spends = inr (spends_weaker _ _ before after
     (λ added did. did.erased refl) spends)
-merge_done u first b before after (Err store.Down) spends = tt
-merge_done u first b before after (Err store.Spent) spends = tt
-merge_done u first b before after (Err (store.Refused r)) spends = inl (r, refl)
-merge_done u first b before after (Err (store.Chip e)) spends = tt
+merge_done u first worn_out b before after (Err store.Down) spends = tt
+merge_done u first worn_out b before after (Err store.Spent) spends = tt
+merge_done u first worn_out b before after (Err (store.Refused r)) spends = inl (r, refl)
+merge_done u first worn_out b before after (Err (store.Chip e)) spends = tt
 
 -- ---- a record that is looked up
 

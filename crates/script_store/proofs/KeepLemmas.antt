@@ -1,5 +1,5 @@
 -- How the store of a script keeps a state, from how the store of records does.
-use Rattle.std.proofs.Common.{ℕ, ◌≡◌, ◌≤◌, ◌<◌, ◌+◌, ◌^◌, max, arith, Bool, true, false, ◌∷◌, [], Option, List, Result, MatchResult, Ok, Err, OnOk, is_ok, if◌then◌else◌, sym, ap, subst}
+use Rattle.std.proofs.Common.{ℕ, ◌≡◌, ◌≤◌, ◌<◌, ◌+◌, ◌^◌, max, arith, Bool, true, false, ◌∷◌, [], Option, List, Result, MatchResult, Ok, Err, is_ok, if◌then◌else◌, sym, ap, subst}
 use Rattle.std.specs.FinMap.{get}
 use Rattle.std.proofs.lemmas.Bool.{true≢false, false≢true}
 use Rattle.std.proofs.lemmas.Result.{IfErr-weaker}
@@ -13,10 +13,10 @@ use Rattle.store_trait.specs.Keeping.{FOUND_NUMBER, LAST_NUMBER, WORK_DRAWS, LOO
 use Rattle.ipl_base.specs.declared.fault.StoreFault.{StoreFault}
 use Rattle.steps.specs.Steps.{Tidies}
 use Rattle.page_frames.specs.Pages.{tables_in}
-use Rattle.store_steps.specs.Keeps.{store_keeping}
+use Rattle.store_steps.specs.Keeps.{KeepsStore, store_keeping}
 use Rattle.ipl_store.specs.Calls.{view_of, counter_of}
 use Rattle.script_store.specs.declared.store.ScriptStore.{ScriptStore}
-use Rattle.script_store.specs.Keeps.{IsRunning, next_number, script_keeping}
+use Rattle.script_store.specs.Keeps.{KeepsScript, next_number, script_keeping}
 
 -- ---- numbers
 
@@ -40,10 +40,10 @@ within_found : (a b n m : ℕ) → n ≤ b → n ≤ max a b + m
 within_found a b n m few = omega (arith, few)
 
 -- a call of a store that isn't down drew at most so many, and told that they are used up where they are
-pub draws_few : (n : ℕ) (IsSpent : Type 0) (a b : ScriptStore) → a.store.down ≡ false
+pub draws_few : (places n : ℕ) (IsSpent : Type 0) (a b : ScriptStore) → a.store.down ≡ false
     → counter_of b.store ≤ counter_of a.store + n
-    → (IsSpent → LAST_NUMBER < counter_of a.store) → Draws script_keeping n a IsSpent b
-draws_few n IsSpent a b up drawn late = record {
+    → (IsSpent → LAST_NUMBER < counter_of a.store) → Draws (script_keeping places) n a IsSpent b
+draws_few places n IsSpent a b up drawn late = record {
   most = within_max (next_number a) FOUND_NUMBER (next_number b) n most;
   spent = λ is. past_max (next_number a) FOUND_NUMBER LAST_NUMBER n
       (subst (λ (k : ℕ). LAST_NUMBER < k) (sym (counted_up a up)) (late is));
@@ -53,54 +53,42 @@ draws_few n IsSpent a b up drawn late = record {
     most = omega (arith, drawn, counted_few b, counted_up a up)
 
 -- one that opened the chip again
-pub draws_found : (n : ℕ) (IsSpent : Type 0) (a b : ScriptStore) → next_number b ≤ FOUND_NUMBER
-    → (IsSpent → ⊥) → Draws script_keeping n a IsSpent b
-draws_found n IsSpent a b left never = record {
+pub draws_found : (places n : ℕ) (IsSpent : Type 0) (a b : ScriptStore)
+    → next_number b ≤ FOUND_NUMBER → (IsSpent → ⊥) → Draws (script_keeping places) n a IsSpent b
+draws_found places n IsSpent a b left never = record {
   most = within_found (next_number a) FOUND_NUMBER (next_number b) n left;
   spent = λ is. absurd (never is);
 }
 
--- ---- going on
-
--- a store that runs for a chip runs for no other one
-pub suits_still : {T : Type 0} (a b : ScriptStore) (places : ℕ) → IsRunning places a
-    → (result : Result T Fault) → OnOk result (IsRunning places b)
-    → OnOk result ((others : ℕ) → IsRunning others a → IsRunning others b)
-suits_still a b places runs (Err fault) running = tt
-suits_still a b places runs (Ok v) running = λ others also.
-    let was = runs.sound.made.units in
-    let is = also.sound.made.units in
-    subst (λ (n : ℕ). IsRunning n b) (omega (arith, was, is)) running
-
 -- ---- what is added
 
 -- an answer of the store that is done where the call was
-pub tidy_so : {T U : Type 0} (a b : ScriptStore) (old new : Told) (result : Result T StoreFault)
-    (answer : Result U Fault) → is_ok result ≡ is_ok answer
+pub tidy_so : {T U : Type 0} (places : ℕ) (a b : ScriptStore) (old new : Told)
+    (result : Result T StoreFault) (answer : Result U Fault) → is_ok result ≡ is_ok answer
     → Tidies (tables_in a.store.transactions.pages) result (tables_in b.store.transactions.pages) old new
-    → LeavesTidy script_keeping a b old new (is_ok answer)
-tidy_so a b old new (Ok v) (Ok w) same did = record {
+    → LeavesTidy (script_keeping places) a b old new (is_ok answer)
+tidy_so places a b old new (Ok v) (Ok w) same did = record {
   added = did.added;
   history = did.history;
   lawful = did.does.lawful;
   clean = λ done. record { clean = λ base is clean. did.does.clean tt base clean };
 }
-tidy_so a b old new (Err e) (Err f) same did = record {
+tidy_so places a b old new (Err e) (Err f) same did = record {
   added = did.added;
   history = did.history;
   lawful = did.does.lawful;
   clean = λ done. absurd (false≢true done);
 }
-tidy_so a b old new (Ok v) (Err f) same did = absurd (true≢false same)
-tidy_so a b old new (Err e) (Ok w) same did = absurd (false≢true same)
+tidy_so places a b old new (Ok v) (Err f) same did = absurd (true≢false same)
+tidy_so places a b old new (Err e) (Ok w) same did = absurd (false≢true same)
 
 -- ---- work, and looking up
 
-module _ (a b : ScriptStore) (old new : Told) (up : a.store.down ≡ false)
+module _ (places : ℕ) (a b : ScriptStore) (old new : Told) (up : a.store.down ≡ false)
     (units : b.store.units ≡ a.store.units) where
   abbrev leaves_so : (P : Contents → Type 0) (h : History) (done : Bool)
-      → WorkLeaves store_keeping P (view_of a.store) h (view_of b.store) old new done
-      → WorkLeaves script_keeping P a h b old new done
+      → WorkLeaves (store_keeping places) P (view_of a.store) h (view_of b.store) old new done
+      → WorkLeaves (script_keeping places) P a h b old new done
   leaves_so P h done leaves = record {
     added = leaves.added;
     history = leaves.history;
@@ -122,50 +110,54 @@ module _ (a b : ScriptStore) (old new : Told) (up : a.store.down ≡ false)
   few_so n few = subst (λ (k : ℕ). k + n < 2 ^ 63) (counted_up a up) few
 
   pub works_so : (c : Command) (result : Result Reply Fault)
-      → Works store_keeping c (view_of a.store) old result (view_of b.store) new
-      → Works script_keeping c a old result b new
+      → Works (store_keeping places) c (view_of a.store) old result (view_of b.store) new
+      → Works (script_keeping places) c a old result b new
   works_so c result works limits state h keeps =
       let did = works limits state h keeps.kept in record {
         leaves = leaves_so _ h (is_ok result) did.leaves;
         ends = by_end result (adds_all did.leaves.added h) did.ends;
         drawn = drawn_so WORK_DRAWS did.drawn;
-        excuse = IfErr-weaker result (Excuses store_keeping WORK_DRAWS (view_of a.store) old new)
-            (Excuses script_keeping WORK_DRAWS a old new)
+        excuse = IfErr-weaker result
+            (Excuses (store_keeping places) WORK_DRAWS (view_of a.store) old new)
+            (Excuses (script_keeping places) WORK_DRAWS a old new)
             (λ fault excuse few. excuse (few_so WORK_DRAWS few)) did.excuse;
+        tells = did.tells;
       }
     where
       by_end : (r : Result Reply Fault) (k : History) → MatchResult r
-          (λ reply. store_keeping.holds limits (view_of b.store) new k (step limits state c).0
+          (λ reply. KeepsStore places limits (view_of b.store) new k (step limits state c).0
           × ((step limits state c).1 ≡ reply ∷ []))
-          (λ fault. Stays store_keeping limits (view_of b.store) old new k state)
+          (λ fault. Stays (store_keeping places) limits (view_of b.store) old new k state)
           → MatchResult r
-          (λ reply. script_keeping.holds limits b new k (step limits state c).0
+          (λ reply. KeepsScript places limits b new k (step limits state c).0
           × ((step limits state c).1 ≡ reply ∷ []))
-          (λ fault. Stays script_keeping limits b old new k state)
+          (λ fault. Stays (script_keeping places) limits b old new k state)
       by_end (Ok reply) k ends = (record { kept = ends.0; few = few_still keeps.few }, ends.1)
       by_end (Err fault) k stays =
           λ unrisen. record { kept = stays unrisen; few = few_still keeps.few }
 
   pub looks_up_so : (n : ℕ) (result : Result (Option (List ℕ)) Fault)
-      → LooksUp store_keeping n (view_of a.store) old result (view_of b.store) new
-      → LooksUp script_keeping n a old result b new
+      → LooksUp (store_keeping places) n (view_of a.store) old result (view_of b.store) new
+      → LooksUp (script_keeping places) n a old result b new
   looks_up_so n result looks limits state h keeps low =
       let did = looks limits state h keeps.kept low in record {
         leaves = leaves_so _ h (is_ok result) did.leaves;
         ends = by_end result (adds_all did.leaves.added h) did.ends;
         drawn = drawn_so LOOK_UP_DRAWS did.drawn;
-        excuse = IfErr-weaker result (Excuses store_keeping LOOK_UP_DRAWS (view_of a.store) old new)
-            (Excuses script_keeping LOOK_UP_DRAWS a old new)
+        excuse = IfErr-weaker result
+            (Excuses (store_keeping places) LOOK_UP_DRAWS (view_of a.store) old new)
+            (Excuses (script_keeping places) LOOK_UP_DRAWS a old new)
             (λ fault excuse few. excuse (few_so LOOK_UP_DRAWS few)) did.excuse;
+        tells = did.tells;
       }
     where
       by_end : (r : Result (Option (List ℕ)) Fault) (k : History) → MatchResult r
-          (λ found. store_keeping.holds limits (view_of b.store) new k state
+          (λ found. KeepsStore places limits (view_of b.store) new k state
           × (found ≡ get state.map n))
-          (λ fault. Stays store_keeping limits (view_of b.store) old new k state)
+          (λ fault. Stays (store_keeping places) limits (view_of b.store) old new k state)
           → MatchResult r
-          (λ found. script_keeping.holds limits b new k state × (found ≡ get state.map n))
-          (λ fault. Stays script_keeping limits b old new k state)
+          (λ found. KeepsScript places limits b new k state × (found ≡ get state.map n))
+          (λ fault. Stays (script_keeping places) limits b old new k state)
       by_end (Ok found) k ends = (record { kept = ends.0; few = few_still keeps.few }, ends.1)
       by_end (Err fault) k stays =
           λ unrisen. record { kept = stays unrisen; few = few_still keeps.few }

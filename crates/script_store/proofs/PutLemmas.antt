@@ -72,13 +72,14 @@ module _ (s n : ℕ) (bytes : List ℕ) (a b : ScriptStore) (before after : Told
     -- its page was brought, and found full, or written
     put_work : (room : Bool) → By (Ok room)
         → counter_of b.store ≤ counter_of a.store + WORK_DRAWS
-        → Works store_keeping c (view_of a.store) before (Ok (put_reply room)) (view_of b.store) after
+        → Works (store_keeping before.places) c (view_of a.store) before (Ok (put_reply room))
+        (view_of b.store) after
     put_work true did few = written_puts_are_work s n bytes (view_of a.store) (view_of b.store)
-        did.tables did.frames did.frame before did.mid after runs.sound.made.units units runs.up
+        did.tables did.frames did.frame before did.mid after units runs.up
         did.brings.counts did.brings.keeps did.brings.there free did.room did.leads
         (λ h state keeps. few)
     put_work false did few = full_puts_are_work s n bytes (view_of a.store) (view_of b.store)
-        did.frame before after runs.sound.made.units units runs.up did.sessions did.brings.keeps
+        did.frame before after units runs.up did.sessions did.brings.keeps
         did.brings.there free did.full (λ h state keeps. few)
 
     put_served : (found : Result Bool StoreFault) → Served found → By found
@@ -91,7 +92,7 @@ module _ (s n : ℕ) (bytes : List ℕ) (a b : ScriptStore) (before after : Told
         (put_work room by
         (few_drawn put_reply c next 14 a b before after runs (omega arith) units did.drawn))
         (record { sound = sound; up = did.ends })
-        (tidy_so a b before after (Ok room) (Ok (put_reply room)) refl tidy) counts
+        (tidy_so before.places a b before after (Ok room) (Ok (put_reply room)) refl tidy) counts
     put_served (Err fault) did by sound tidy counts =
         served_does put_reply c (put_next s n bytes (Err fault)) 14 a b before after runs (omega arith)
         units (λ state sessions.

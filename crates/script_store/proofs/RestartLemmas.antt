@@ -1,40 +1,41 @@
 -- A chip that is opened again is the work of a restart.
-use Rattle.std.proofs.Common.{ℕ, ◌≡◌, ◌⊎◌, inl, inr, ◌≤◌, ◌<◌, ◌+◌, ◌^◌, arith, Bool, true, false, [], None, Some, Result, Ok, Err, OnOk, if◌then◌else◌, refl, sym, ◌∙◌, ap, subst}
+use Rattle.std.proofs.Common.{ℕ, ◌≡◌, ◌⊎◌, inl, inr, ◌≤◌, ◌<◌, ◌+◌, ◌^◌, arith, Bool, true, false, [], None, Some, Result, Ok, Err, OnOk, length, if◌then◌else◌, refl, sym, ◌∙◌, ap, subst}
 use Rattle.chip_trait.specs.Story.{Contents, held}
 use Rattle.chip_trait.specs.Told.{History, Told}
 use Rattle.ipl_base.specs.declared.fault.ChipFault.TheVariants.{ReadFault, Stopped, Damaged, Malformed, WornOut}
-use Rattle.ipl_base.specs.Places.{KeepsUnits, places_for}
+use Rattle.ipl_base.specs.Places.{KeepsUnits, spares_on}
 use Rattle.ipl_base.specs.declared.fault.ImageFault.{ImageFault}
 use Rattle.ipl_base.specs.declared.fault.ImageFault.TheVariants as image
 use Rattle.ipl_rules.specs.Operations.{after_restart}
-use Rattle.ipl_rules.specs.State.{Map}
+use Rattle.ipl_rules.specs.State.{Map, State}
 use Rattle.ipl_model.specs.declared.command.Command.TheVariants as command
 use Rattle.ipl_model.specs.declared.reply.Reply.{Reply}
 use Rattle.ipl_model.specs.declared.reply.Reply.TheVariants as reply
 use Rattle.ipl_meaning.specs.Chart.{Chart, chart_of}
-use Rattle.ipl_meaning.specs.Found.{IsFoundNumber, IsAbove}
+use Rattle.ipl_meaning.specs.Found.{IsAbove}
 use Rattle.ipl_meaning.specs.Layout.{Layout, Laid}
 use Rattle.ipl_meaning.specs.Rests.{StoryRests}
-use Rattle.ipl_meaning.specs.Stands.{Says}
-use Rattle.ipl_meaning.specs.Tables.{Tables, IsCountedClean}
+use Rattle.ipl_meaning.specs.Tables.{Places, Tables, IsCountedClean}
+use Rattle.opening_rules.specs.Chosen.{units_at}
 use Rattle.opening_rules.specs.Faults.{first_fault, greatest_found}
 use Rattle.opening_rules.specs.LaidOut.{layout_in}
 use Rattle.opening_rules.specs.Laws.{IsByteChart}
-use Rattle.opening_rules.proofs.LaidLemmas.{laid_has_no_fault, laid_is_fine_or_spent}
+use Rattle.opening_rules.proofs.LaidLemmas.{laid_has_no_fault, laid_is_fine_or_spent, laid_says_its_units}
 use Rattle.opening_rules.proofs.NoFaultLemmas.{no_fault_is_laid}
 use Rattle.opening_rules.proofs.NumberLemmas.{greatest_is_found}
 use Rattle.unit_io.specs.Leads.{IsSteady}
 use Rattle.page_frames.specs.Pages.{tables_in}
 use Rattle.steps.specs.Laws.{Preserves}
-use Rattle.status_renewal.specs.Recovers.{IsOpeningFault, FailsByCallAlone, OpeningCause}
+use Rattle.place_taking.proofs.SpendingLemmas.{or_right}
+use Rattle.status_renewal.specs.Recovers.{IsOpeningFault, FailsByCallAlone, OpeningCause, tells_wear}
 use Rattle.status_renewal.proofs.ReadyLemmas.{layouts_say}
 use Rattle.store_trait.specs.declared.fault.Fault.{Fault}
 use Rattle.store_trait.specs.declared.fault.Fault.TheVariants.{Image}
 use Rattle.store_trait.specs.Keeping.{FOUND_NUMBER, WORK_DRAWS, ChipRose, SaysFailedCall, Works}
 use Rattle.store_steps.specs.Advances.{memory_of, TurnsMapOf}
-use Rattle.store_steps.specs.Keeps.{View, ImageCause, DrawsFew, IsExcused, ShowsState, store_keeping}
+use Rattle.store_steps.specs.Keeps.{View, ImageCause, ImageTells, DrawsFew, IsExcused, KeepsStore, ShowsState, limits_of, store_keeping}
 use Rattle.store_steps.proofs.AdvanceLemmas.{answers_advance}
-use Rattle.store_steps.proofs.KeepLemmas.{leads_are_work}
+use Rattle.store_steps.proofs.KeepLemmas.{at_limits, leads_are_work}
 use Rattle.store_steps.proofs.FaultLemmas.{faults_that_leave_down}
 use Rattle.ipl_store.specs.Calls.{memory_of_store, view_of, counter_of, IsSound}
 use Rattle.ipl_store.specs.Openings.{Opens, Reopens, Restarts, Tries}
@@ -53,8 +54,16 @@ restarted (Err e) = Err (Image e)
 
 abbrev none_clean : ℕ → Tables
 none_clean next = record {
-  places = record { current = []; in_use = []; erases = []; written = []; generations = []; masks = [] };
-  overflow = record { spots = []; masks = []; in_use = [] };
+  places = record {
+    current = [];
+    in_use = [];
+    erases = [];
+    retired = [];
+    written = [];
+    generations = [];
+    masks = [];
+  };
+  overflow = record { places = 0; spots = []; masks = []; in_use = [] };
   status = record { place = 0; generation = 0; numbers = []; first = 256 };
   next = next;
   active = [];
@@ -78,8 +87,8 @@ module _ (a b : ScriptStore) (old new : Told) (up : a.store.down ≡ false)
   }
 
   pub works_down : (fault : Fault)
-      → Works store_keeping command.Restart (view_of a.store) old (Err fault) left new
-      → Works script_keeping command.Restart a old (Err fault) b new
+      → Works (store_keeping old.places) command.Restart (view_of a.store) old (Err fault) left new
+      → Works (script_keeping old.places) command.Restart a old (Err fault) b new
   works_down fault works limits state h keeps =
       let did = works limits state h keeps.kept in record {
         leaves = record {
@@ -105,6 +114,7 @@ module _ (a b : ScriptStore) (old new : Told) (up : a.store.down ≡ false)
         drawn = let none = none_drawn in omega (arith, none);
         excuse = λ few. did.excuse (subst (λ (k : ℕ). k + WORK_DRAWS < 2 ^ 63)
             (ap (λ (is : Bool). if is then 0 else counter_of a.store) up) few);
+        tells = did.tells;
       }
     where
       none_drawn : next_number b ≡ 0
@@ -123,42 +133,70 @@ never_else : (e : ImageFault) → ¬ SaysFailedCall (Image e)
 never_else e other fails = other (says_call e (fails (λ by. other (says_call e by))))
 
 -- where no call of the chip failed it would have been done
-rose_for : (e : ImageFault) (before after : Told) → OpeningCause e before after
+rose_for : (d : Places) (e : ImageFault) (before after : Told) → OpeningCause d e before after
     → (¬ FailsByCallAlone e → FailsByCallAlone e)
     → ChipRose before after × SaysFailedCall (Image e)
-rose_for (image.Chip ReadFault) before after cause fails = (inl (cause.read refl), tt)
-rose_for (image.Chip Stopped) before after cause fails = (inr (inl (cause.stopped refl)), tt)
-rose_for (image.Chip (Damaged p s stored computed)) before after cause fails =
+rose_for d (image.Chip ReadFault) before after cause fails = (inl (cause.read refl), tt)
+rose_for d (image.Chip Stopped) before after cause fails = (inr (inl (cause.stopped refl)), tt)
+rose_for d (image.Chip (Damaged p s stored computed)) before after cause fails =
     absurd (never_else (image.Chip (Damaged p s stored computed)) (λ none. none) fails)
-rose_for (image.Chip (Malformed p s)) before after cause fails =
+rose_for d (image.Chip (Malformed p s)) before after cause fails =
     absurd (never_else (image.Chip (Malformed p s)) (λ none. none) fails)
-rose_for (image.Chip (WornOut n)) before after cause fails =
-    (inr (inr (cause.worn n refl).1), tt)
-rose_for image.Geometry before after cause fails =
+rose_for d (image.Chip (WornOut n)) before after cause fails =
+    (inr (inr (cause.worn n refl).2), tt)
+rose_for d image.Geometry before after cause fails =
     absurd (never_else image.Geometry (λ none. none) fails)
-rose_for image.NotFormatted before after cause fails =
+rose_for d image.NotFormatted before after cause fails =
     absurd (never_else image.NotFormatted (λ none. none) fails)
-rose_for (image.Missing u) before after cause fails =
+rose_for d (image.Missing u) before after cause fails =
     absurd (never_else (image.Missing u) (λ none. none) fails)
-rose_for image.Spent before after cause fails =
+rose_for d image.Spent before after cause fails =
     absurd (never_else image.Spent (λ none. none) fails)
-rose_for (image.NoSpare n) before after cause fails =
+rose_for d (image.NoSpare n) before after cause fails =
     absurd (never_else (image.NoSpare n) (λ none. none) fails)
 
--- and its cause
-image_cause : (e : ImageFault) (before after : Told) → OpeningCause e before after
-    → ImageCause e before after
-image_cause (image.Chip ReadFault) before after cause = cause.read refl
-image_cause (image.Chip Stopped) before after cause = cause.stopped refl
-image_cause (image.Chip (Damaged p s stored computed)) before after cause =
+-- and its cause, where the tables then are of so many places, and as many units as may be kept
+image_cause : (places : ℕ) (d : Places) (e : ImageFault) (before after : Told)
+    → length d.in_use ≡ places → KeepsUnits places (length d.current)
+    → OpeningCause d e before after → ImageCause places e before after
+image_cause places d (image.Chip ReadFault) before after all keeps cause = cause.read refl
+image_cause places d (image.Chip Stopped) before after all keeps cause = cause.stopped refl
+image_cause places d (image.Chip (Damaged p s stored computed)) before after all keeps cause =
     cause.damaged p s stored computed refl
-image_cause (image.Chip (Malformed p s)) before after cause = tt
-image_cause (image.Chip (WornOut n)) before after cause = cause.worn n refl
-image_cause image.Geometry before after cause = tt
-image_cause image.NotFormatted before after cause = tt
-image_cause (image.Missing u) before after cause = tt
-image_cause image.Spent before after cause = tt
-image_cause (image.NoSpare n) before after cause = tt
+image_cause places d (image.Chip (Malformed p s)) before after all keeps cause = tt
+image_cause places d (image.Chip (WornOut n)) before after all keeps cause =
+    let worn = cause.worn n refl in (
+      record {
+        units = length d.current;
+        keeps = keeps;
+        one_more = worn.0 ∙ ap (λ (k : ℕ). 1 + spares_on k (length d.current)) all;
+      },
+      worn.2,
+    )
+image_cause places d image.Geometry before after all keeps cause = tt
+image_cause places d image.NotFormatted before after all keeps cause = tt
+image_cause places d (image.Missing u) before after all keeps cause = tt
+image_cause places d image.Spent before after all keeps cause = tt
+image_cause places d (image.NoSpare n) before after all keeps cause = tt
+
+-- it tells no other number of worn places than one more than are spare, where the tables then have
+-- so many units
+image_tells : (places units : ℕ) (d : Places) (e : ImageFault) (before after : Told)
+    → length d.in_use ≡ places → (tells_wear e ≡ true → length d.current ≡ units)
+    → OpeningCause d e before after → ImageTells (spares_on places units) e
+image_tells places units d (image.Chip ReadFault) before after all many cause = tt
+image_tells places units d (image.Chip Stopped) before after all many cause = tt
+image_tells places units d (image.Chip (Damaged p s stored computed)) before after all many cause =
+    tt
+image_tells places units d (image.Chip (Malformed p s)) before after all many cause = tt
+image_tells places units d (image.Chip (WornOut n)) before after all many cause =
+    (cause.worn n refl).0 ∙ ap (λ (k : ℕ). 1 + spares_on k (length d.current)) all
+    ∙ ap (λ (k : ℕ). 1 + spares_on places k) (many refl)
+image_tells places units d image.Geometry before after all many cause = tt
+image_tells places units d image.NotFormatted before after all many cause = tt
+image_tells places units d (image.Missing u) before after all many cause = tt
+image_tells places units d image.Spent before after all many cause = tt
+image_tells places units d (image.NoSpare n) before after all many cause = tt
 
 -- the fault is that the numbers are used up, or the chart has none
 spent_or_none : (places : ℕ) (x : Contents) (it : Layout) (e : ImageFault)
@@ -193,22 +231,29 @@ module _ (a b : ScriptStore) (before after : Told) (runs : IsRunning before.plac
   abbrev last : View
   last = view_of b.store
 
-  units : b.store.units ≡ a.store.units
-  units = let was = runs.sound.made.units in let are = sound.made.units in omega (arith, was, are)
-
-  suits : KeepsUnits before.places a.store.units
-  suits = runs.sound.made.units
+  -- a chip on which the store kept a state says as many units as it had
+  as_many : (state : State) (h : History)
+      → KeepsStore before.places (limits_of first.units) first before h state
+      → units_at (chart_of (held h.start h.story)) before.places ≡ a.store.units
+  as_many state h keeps =
+      let shown = (keeps.up runs.up).shows in
+      laid_says_its_units (chart_of (held h.start h.story)) before.places shown.layout
+      shown.fits.mirrors.laid ∙ shown.count
 
   opened_does : Opens before.places before b.store after
       → Tries before.places before (Ok tt) t after
       → Restarts (memory_of_store a.store) before (memory_of_store b.store) after
       → Does command.Restart a before (Ok reply.Ok) b after
   opened_does opens tries leads = record {
-    works = works_so a b before after runs.up units command.Restart (Ok reply.Ok)
+    works = λ limits state h keeps.
+        let kept = at_limits before.places limits first before h state keeps.kept in
+        let units = opens.units _ kept.steady.holds ∙ as_many state h kept in
+        works_so before.places a b before after runs.up units command.Restart (Ok reply.Ok)
         (leads_are_work command.Restart (λ state. after_restart state) first last (Ok reply.Ok)
-        before after suits units runs.up (answers_advance (TurnsMapOf (λ state. after_restart state))
-        (λ state. after_restart state) first.memory last.memory (Ok tt) (Ok reply.Ok) before after
-        refl leads) (λ h state keeps. refl) few tt);
+        before after units runs.up
+        (answers_advance (TurnsMapOf (λ state. after_restart state)) (λ state. after_restart state)
+        first.memory last.memory (Ok tt) (Ok reply.Ok) before after refl leads)
+        (λ h state keeps. refl) few tt) limits state h keeps;
     tidy = record {
       added = tries.tidy.added;
       history = tries.tidy.history;
@@ -221,7 +266,7 @@ module _ (a b : ScriptStore) (before after : Told) (runs : IsRunning before.plac
             tries.tidy.does.clean refl base (λ p s nowhere. absurd nowhere);
       };
     };
-    draws = draws_found WORK_DRAWS _ a b found (λ spent. absurd (cc spent));
+    draws = draws_found before.places WORK_DRAWS _ a b found (λ spent. absurd (cc spent));
     running = record { sound = sound; up = opens.fresh.up };
     counts = tries.accounts.counts;
     cause = tt;
@@ -235,24 +280,18 @@ module _ (a b : ScriptStore) (before after : Told) (runs : IsRunning before.plac
           let x = held h.start h.story in
           let told = keeps.steady.holds in
           let shown = (keeps.up runs.up).shows in
-          let bytes = subst (λ (n : ℕ). IsByteChart n (chart_of x)) (sym suits) (tries.bytes x told) in
-          let below = few_found (places_for a.store.units) (chart_of x) shown.layout
-          (counter_of a.store) bytes shown.fits.mirrors.laid shown.fits.mirrors.numbers.above in
-          let number = subst (λ (n : ℕ).
-          counter_of b.store ≤ greatest_found (chart_of x) n + 1 + 2 ^ 14)
-          (sym suits) (opens.number x told) in
-          omega (arith, below, number)
+          let below = few_found before.places (chart_of x) shown.layout (counter_of a.store)
+          (tries.bytes x told) shown.fits.mirrors.laid shown.fits.mirrors.numbers.above in
+          let number = opens.number x told in omega (arith, below, number)
 
-  failed_does : (e : ImageFault) → b.store.down ≡ true
+  failed_does : (e : ImageFault) → b.store.down ≡ true → b.store.units ≡ a.store.units
       → Tries before.places before (Err e) t after → Does command.Restart a before (Err (Image e)) b after
-  failed_does e down tries = record {
+  failed_does e down units tries = record {
     works = works_down a b before after runs.up units down (Image e)
         (faults_that_leave_down command.Restart first
-        (left a b before after runs.up units down) (Image e) before after suits units
+        (left a b before after runs.up units down) (Image e) before after units
         runs.up refl
-        (λ h it state steady story. subst (λ (n : ℕ). StoryRests n state.map h
-        → Preserves {T = Reply} n state.map first.memory.tables (none_clean (counter_of a.store)) h
-        (Err (Image e)) before after) (sym suits) (preserved state.map h steady) story.rests)
+        (λ h it state steady story. preserved state.map h steady story.rests)
         (omega arith) excused);
     tidy = record {
       added = tries.tidy.added;
@@ -263,11 +302,12 @@ module _ (a b : ScriptStore) (before after : Told) (runs : IsRunning before.plac
       };
       clean = λ done. absurd (cc done);
     };
-    draws = draws_found WORK_DRAWS _ a b
+    draws = draws_found before.places WORK_DRAWS _ a b
         (let none = none_drawn in omega (arith, none)) (λ spent. absurd (cc spent));
     running = tt;
     counts = tries.accounts.counts;
-    cause = image_cause e before after tries.accounts.cause;
+    cause = image_cause before.places t.places e before after tries.all tries.units
+        tries.accounts.cause;
   }
     where
       none_drawn : next_number b ≡ 0
@@ -295,7 +335,12 @@ module _ (a b : ScriptStore) (before after : Told) (runs : IsRunning before.plac
           }
 
       excused : IsExcused WORK_DRAWS first before after (Image e)
-      excused h state keeps low = rose_for e before after tries.accounts.cause fails
+      excused h state keeps = (
+        λ low. rose_for t.places e before after tries.accounts.cause (fails low),
+        image_tells before.places a.store.units t.places e before after tries.all
+            (λ worn. tries.costs.units (or_right false (tells_wear e) worn) x told
+            ∙ as_many state h keeps) tries.accounts.cause,
+      )
         where
           x : Contents
           x = held h.start h.story
@@ -303,40 +348,36 @@ module _ (a b : ScriptStore) (before after : Told) (runs : IsRunning before.plac
           told : before.contents ≡ Some x
           told = keeps.steady.holds
 
-          shown : ShowsState first state x
+          shown : ShowsState before.places first state x
           shown = (keeps.up runs.up).shows
 
           laid : Laid before.places (chart_of x) shown.layout
-          laid = subst (λ (n : ℕ). Laid n (chart_of x) shown.layout) suits
-              shown.fits.mirrors.laid
+          laid = shown.fits.mirrors.laid
 
-          above : IsAbove before.places (chart_of x) shown.layout (2 ^ 63)
-          above n found =
-              let below = shown.fits.mirrors.numbers.above n (subst (λ (k : ℕ).
-              IsFoundNumber k (chart_of x) shown.layout n) (sym suits) found) in
-              omega (arith, below, low)
+          above : counter_of a.store + WORK_DRAWS < 2 ^ 63
+              → IsAbove before.places (chart_of x) shown.layout (2 ^ 63)
+          above low n found =
+              let below = shown.fits.mirrors.numbers.above n found in omega (arith, below, low)
 
-          says : Says before.places (chart_of x) shown.layout state.map
-          says = subst (λ (n : ℕ). Says n (chart_of x) shown.layout state.map) suits shown.says
-
-          fails : ¬ FailsByCallAlone e → FailsByCallAlone e
-          fails unfailed =
+          fails : counter_of a.store + WORK_DRAWS < 2 ^ 63 → ¬ FailsByCallAlone e
+              → FailsByCallAlone e
+          fails low unfailed =
               let fault = tries.tells x told unfailed in
               let bytes = tries.bytes x told (λ is. unfailed (ReadFault, is, tt))
               (λ is. unfailed (Stopped, is, tt))
               (spent_or_none before.places x shown.layout e laid fault) in
-              let none = laid_has_no_fault (chart_of x) before.places shown.layout bytes laid above
-              in
+              let none = laid_has_no_fault (chart_of x) before.places shown.layout bytes laid
+              (above low) in
               let in_it = no_fault_is_laid (chart_of x) before.places bytes none in
               tries.complete x told state.map none
               (layouts_say before.places (chart_of x) (layout_in (chart_of x) before.places)
-              state.map in_it (record { layout = shown.layout; laid = laid; says = says }))
+              state.map in_it (record { layout = shown.layout; laid = laid; says = shown.says }))
 
   -- a restart
   pub restart_does : (result : Result (Unit {0}) ImageFault)
-      → Reopens before.places before result b.store after
+      → Reopens before.places a.store before result b.store after
       → Tries before.places before result t after
       → OnOk result (Restarts (memory_of_store a.store) before (memory_of_store b.store) after)
       → Does command.Restart a before (restarted result) b after
   restart_does (Ok v) opens tries leads = opened_does opens tries leads
-  restart_does (Err e) down tries leads = failed_does e down tries
+  restart_does (Err e) closed tries leads = failed_does e closed.0 closed.1 tries

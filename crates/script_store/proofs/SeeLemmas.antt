@@ -1,5 +1,5 @@
 -- Looking records up: what sessions see, and what is committed.
-use Rattle.std.proofs.Common.{ℕ, ◌≡◌, ◌⊎◌, inl, inr, ◌≤◌, ◌<◌, ◌*◌, ◌+◌, arith, Bool, true, false, nat_le, Option, None, Some, List, ◌∷◌, [], Result, Ok, Err, IfOk, if◌then◌else◌, refl, sym, ap, subst}
+use Rattle.std.proofs.Common.{ℕ, ◌≡◌, ◌⊎◌, inl, inr, ◌≤◌, ◌<◌, ◌*◌, ◌+◌, arith, Bool, true, false, nat_le, Option, None, Some, List, ◌∷◌, [], Result, Ok, Err, IfOk, if◌then◌else◌, refl, sym, ◌∙◌, ap, subst}
 use Rattle.std.proofs.lemmas.Bool.Decides.{nat_tests}
 use Rattle.chip_trait.specs.Story.{Contents}
 use Rattle.chip_trait.specs.Told.{History, Told, Counts}
@@ -13,6 +13,7 @@ use Rattle.ipl_rules.specs.State.{State, Limits, see}
 use Rattle.ipl_model.specs.declared.command.Command.TheVariants as command
 use Rattle.ipl_model.specs.declared.reply.Reply.TheVariants as reply
 use Rattle.ipl_model.specs.Step.{found_reply}
+use Rattle.ipl_meaning.specs.Tables.{Places}
 use Rattle.unit_io.specs.Reads.{OfContents}
 use Rattle.steps.specs.Steps.{Tidies}
 use Rattle.page_frames.specs.Pages.{tables_in, PageCause}
@@ -31,7 +32,7 @@ use Rattle.ipl_store.proofs.ShownLemmas.{name_shown}
 use Rattle.script_store.specs.declared.store.ScriptStore.{ScriptStore}
 use Rattle.script_store.specs.Keeps.{IsRunning, script_keeping, not_found, looked_up, Finds}
 use Rattle.script_store.proofs.KeepLemmas.{looks_up_so, draws_few, tidy_so}
-use Rattle.script_store.proofs.WorkLemmas.{chip_rose, chip_cause, IsEntry, up_entry}
+use Rattle.script_store.proofs.WorkLemmas.{AreCounted, chip_rose, chip_cause, chip_tells, IsEntry, up_entry}
 
 -- ---- a call that lends what it found, once that is copied
 
@@ -50,12 +51,14 @@ calls_copied copy early next most old before (Ok found) new after calls = record
         leads = answers_advance (TurnsMapOf next) next (memory_of_store old) (memory_of_store new)
             (Ok found) (Ok (copy found)) before after refl did.leads;
         ends = did.ends;
+        counted = did.counted;
         least = did.least;
         drawn = did.drawn;
         complete = λ x told state shown. tt;
         faults = λ x told it state fits. tt;
       };
   sound = calls.sound;
+  units = calls.units;
   tidy = calls.tidy;
   counts = calls.counts;
 }
@@ -68,12 +71,14 @@ calls_copied {U = U} copy early next most old before (Err e) new after calls = r
         leads = answers_advance (TurnsMapOf next) next (memory_of_store old) (memory_of_store new)
             (Err e) (Err e) before after refl did.leads;
         ends = did.ends;
+        counted = did.counted;
         least = did.least;
         drawn = did.drawn;
         complete = did.complete;
         faults = did.faults;
       };
   sound = calls.sound;
+  units = calls.units;
   tidy = calls.tidy;
   counts = calls.counts;
 }
@@ -108,10 +113,11 @@ pub seen_replies : (s n : ℕ) (old : Store) (before : Told)
     (result : Result (Option (List ℕ)) StoreFault)
     → IfOk result (λ found. IsSeen s n old before found)
     → IfOk result (λ found. (state : State) → OfContents before (λ x.
-    ShowsState (view_of old) state x → found_reply (see state s n) ∷ [] ≡ found_reply found ∷ []))
+    ShowsState before.places (view_of old) state x
+    → found_reply (see state s n) ∷ [] ≡ found_reply found ∷ []))
 seen_replies s n old before (Ok found) seen = λ state x told shown.
     ap (λ (value : Option (List ℕ)). found_reply value ∷ [])
-    (sym (seen state x told (name_shown (view_of old) state n x shown)))
+    (sym (seen state x told (name_shown before.places (view_of old) state n x shown)))
 seen_replies s n old before (Err fault) seen = tt
 
 -- ---- a record is looked up
@@ -121,10 +127,11 @@ either_way (inl a) = a
 either_way (inr a) = a
 
 -- a power cut leaves the records, of which the next ones are the same
-abbrev leaves_same : (P : Contents → Type 0) (first last : View) (h : History) (old new : Told)
-    (done : Bool) → WorkLeaves store_keeping (λ x. P x ⊎ P x) first h last old new done
-    → WorkLeaves store_keeping P first h last old new done
-leaves_same P first last h old new done leaves = record {
+abbrev leaves_same : (places : ℕ) (P : Contents → Type 0) (first last : View) (h : History)
+    (old new : Told) (done : Bool)
+    → WorkLeaves (store_keeping places) (λ x. P x ⊎ P x) first h last old new done
+    → WorkLeaves (store_keeping places) P first h last old new done
+leaves_same places P first last h old new done leaves = record {
   added = leaves.added;
   history = leaves.history;
   each_moment = λ later e split x image. either_way (leaves.each_moment later e split x image);
@@ -153,10 +160,10 @@ module _ (n : ℕ) (a b : ScriptStore) (before after : Told) (runs : IsRunning b
 
   spent_finds : LAST_NUMBER < counter_of a.store → Finds n a before (Err Spent) a before
   spent_finds late = record {
-    looks_up = looks_up_so a a before before runs.up refl n (Err Spent)
+    looks_up = looks_up_so before.places a a before before runs.up refl n (Err Spent)
         (idle_faults_look_up n first before late);
-    tidy = tidy_same script_keeping a before before false refl;
-    draws = draws_few LOOK_UP_DRAWS _ a a runs.up (omega arith) (λ is. late);
+    tidy = tidy_same (script_keeping before.places) a before before false refl;
+    draws = draws_few before.places LOOK_UP_DRAWS _ a a runs.up (omega arith) (λ is. late);
     running = tt;
     counts = counts_none before;
     cause = tt;
@@ -165,11 +172,12 @@ module _ (n : ℕ) (a b : ScriptStore) (before after : Told) (runs : IsRunning b
   refused_finds : (r : Refusal) → refuses_name (limits_of a.store.units) n ≡ Some r
       → Finds n a before (Ok None) a before
   refused_finds r is = record {
-    looks_up = looks_up_so a a before before runs.up refl n (Ok None)
+    looks_up = looks_up_so before.places a a before before runs.up refl n (Ok None)
         (λ limits state h keeps low. absurd (low_is_free a.store.units n r is
         (subst (λ (l : Limits). n < l.names) keeps.limits_are low)));
-    tidy = tidy_same script_keeping a before before true refl;
-    draws = draws_few LOOK_UP_DRAWS _ a a runs.up (omega arith) (λ spent. absurd (cc spent));
+    tidy = tidy_same (script_keeping before.places) a before before true refl;
+    draws = draws_few before.places LOOK_UP_DRAWS _ a a runs.up (omega arith)
+        (λ spent. absurd (cc spent));
     running = runs;
     counts = counts_none before;
     cause = tt;
@@ -179,12 +187,12 @@ module _ (n : ℕ) (a b : ScriptStore) (before after : Told) (runs : IsRunning b
     done_finds : (found : Option (List ℕ))
         → Serves (λ state. state) 14 a.store before (Ok found) b.store after
         → IsCommitted n a.store before found → IsRunning before.places b
-        → LeavesTidy script_keeping a b before after true
+        → LeavesTidy (script_keeping before.places) a b before after true
         → (counts : Counts before after) → Finds n a before (Ok found) b after
     done_finds found did committed running tidy counts = record {
-      looks_up = looks_up_so a b before after runs.up units n (Ok found) looks;
+      looks_up = looks_up_so before.places a b before after runs.up units n (Ok found) looks;
       tidy = tidy;
-      draws = draws_few LOOK_UP_DRAWS _ a b runs.up few (λ spent. absurd (cc spent));
+      draws = draws_few before.places LOOK_UP_DRAWS _ a b runs.up few (λ spent. absurd (cc spent));
       running = running;
       counts = counts;
       cause = tt;
@@ -193,66 +201,85 @@ module _ (n : ℕ) (a b : ScriptStore) (before after : Told) (runs : IsRunning b
         few : counter_of b.store ≤ counter_of a.store + LOOK_UP_DRAWS
         few = let drawn = did.drawn in omega (arith, drawn)
 
-        works : Works store_keeping command.Syntax first before (Ok reply.Syntax) last after
+        works : Works (store_keeping before.places) command.Syntax first before (Ok reply.Syntax)
+            last after
         works = leads_are_work command.Syntax (λ state. state) first last (Ok reply.Syntax) before after
-            runs.sound.made.units units runs.up
+            units runs.up
             (answers_advance (TurnsMapOf (λ state. state)) (λ state. state) first.memory
             last.memory (Ok found) (Ok reply.Syntax) before after refl did.leads)
             (λ h state keeps. refl)
             (λ h state keeps. let drawn = did.drawn in omega (arith, drawn)) tt
 
-        looks : LooksUp store_keeping n first before (Ok found) last after
+        looks : LooksUp (store_keeping before.places) n first before (Ok found) last after
         looks limits state h keeps low =
             let did_work = works limits state h keeps in
             let here = is_at first before h state runs.up
-            (at_limits limits first before h state keeps) in record {
-              leaves = leaves_same _ first last h before after true did_work.leaves;
+            (at_limits before.places limits first before h state keeps) in record {
+              leaves = leaves_same before.places _ first last h before after true did_work.leaves;
               ends = (
                 did_work.ends.0,
                 committed state _ here.steady.holds
-                    (name_shown first state n _ here.shown),
+                    (name_shown before.places first state n _ here.shown),
               );
               drawn = few;
               excuse = tt;
+              tells = tt;
             }
 
     failed_finds : (e : ChipFault)
         → (did : Serves {T = Option (List ℕ)} (λ state. state) 14 a.store before
         (Err (store.Chip e)) b.store after)
-        → PageCause e before after → LeavesTidy script_keeping a b before after false
+        → PageCause b.store.transactions.pages.parts.directory e before after
+        → IsSound before.places b.store
+        → LeavesTidy (script_keeping before.places) a b before after false
         → (counts : Counts before after) → Finds n a before (Err (Chip e)) b after
-    failed_finds e did cause tidy counts = record {
-      looks_up = looks_up_so a b before after runs.up units n (Err (Chip e)) looks;
+    failed_finds e did cause sound tidy counts = record {
+      looks_up = looks_up_so before.places a b before after runs.up units n (Err (Chip e)) looks;
       tidy = tidy;
-      draws = draws_few LOOK_UP_DRAWS _ a b runs.up few (λ spent. absurd (cc spent));
+      draws = draws_few before.places LOOK_UP_DRAWS _ a b runs.up few (λ spent. absurd (cc spent));
       running = tt;
       counts = counts;
-      cause = chip_cause e before after cause;
+      cause = chip_cause before.places a.store.units d e before after are cause;
     }
       where
+        d : Places
+        d = b.store.transactions.pages.parts.directory
+
+        are : AreCounted before.places a.store.units d
+        are = record {
+          all = sound.made.directory;
+          current = did.counted ∙ units;
+          keeps = runs.sound.made.units;
+        }
+
         few : counter_of b.store ≤ counter_of a.store + LOOK_UP_DRAWS
         few = let drawn = did.drawn in omega (arith, drawn)
 
-        works : Works store_keeping command.Syntax first before (Err (Chip e)) last after
+        works : Works (store_keeping before.places) command.Syntax first before (Err (Chip e)) last
+            after
         works = leads_are_work command.Syntax (λ state. state) first last (Err (Chip e)) before after
-            runs.sound.made.units units runs.up
+            units runs.up
             (answers_advance (TurnsMapOf (λ state. state)) (λ state. state) first.memory
             last.memory (Err (store.Chip e)) (Err (Chip e)) before after refl did.leads)
             (λ h state keeps. refl)
             (λ h state keeps. let drawn = did.drawn in omega (arith, drawn))
-            (λ h state keeps low. chip_rose e before after
-            (did.complete _ keeps.steady.holds state (keeps.up runs.up).shows) cause)
+            (λ h state keeps. (
+              λ low. chip_rose d e before after
+                  (did.complete _ keeps.steady.holds state (keeps.up runs.up).shows) cause,
+              chip_tells before.places a.store.units d e before after are cause,
+            ))
 
-        looks : LooksUp store_keeping n first before (Err (Chip e)) last after
+        looks : LooksUp (store_keeping before.places) n first before (Err (Chip e)) last after
         looks limits state h keeps low =
             let did_work = works limits state h keeps in
             let here = is_at first before h state runs.up
-            (at_limits limits first before h state keeps) in record {
-              leaves = leaves_same _ first last h before after false did_work.leaves;
+            (at_limits before.places limits first before h state keeps) in record {
+              leaves = leaves_same before.places _ first last h before after false did_work.leaves;
               ends = did_work.ends;
               drawn = few;
-              excuse = λ low. chip_rose e before after
+              excuse = λ low. chip_rose d e before after
                   (did.complete _ here.steady.holds state here.shown) cause;
+              tells = did_work.tells;
             }
 
     served_finds : (result : Result (Option (List ℕ)) StoreFault)
@@ -263,13 +290,15 @@ module _ (n : ℕ) (a b : ScriptStore) (before after : Told) (runs : IsRunning b
         before after → Counts before after → Finds n a before (looked_up result) b after
     served_finds (Ok found) did committed sound tidy counts =
         done_finds found did committed (record { sound = sound; up = did.ends })
-        (tidy_so {U = Option (List ℕ)} a b before after (Ok found) (Ok found) refl tidy) counts
+        (tidy_so {U = Option (List ℕ)} before.places a b before after (Ok found) (Ok found) refl
+        tidy) counts
     served_finds (Err fault) did committed sound tidy counts =
-        let (e, is_chip, cause, stopped) = did.ends in
+        let (e, is_chip, cause, down) = did.ends in
         subst (λ (f : StoreFault). Serves {T = Option (List ℕ)} (λ state. state) 14 a.store before
         (Err f) b.store after → Finds n a before (not_found f) b after) (sym is_chip)
-        (λ of_chip. failed_finds e of_chip cause (tidy_so {T = Option (List ℕ)} {U = Option (List ℕ)}
-        a b before after (Err fault) (Err (Chip e)) refl tidy) counts) did
+        (λ of_chip. failed_finds e of_chip cause sound
+        (tidy_so {T = Option (List ℕ)} {U = Option (List ℕ)} before.places a b before after
+        (Err fault) (Err (Chip e)) refl tidy) counts) did
 
   -- ---- the call
 
@@ -292,7 +321,7 @@ module _ (n : ℕ) (a b : ScriptStore) (before after : Told) (runs : IsRunning b
         let (answer, same, still) = calls.refuses (store.Refused r) refl in
         idle_finds (store.Refused r) (refused_finds r is) answer same still
     by_refusal None is calls =
-        served_finds (omega (arith, calls.sound.made.units, runs.sound.made.units)) result
+        served_finds calls.units result
         (calls.serves refl) committed calls.sound calls.tidy calls.counts
 
     by_entry : (entry : Option StoreFault) → IsEntry a entry

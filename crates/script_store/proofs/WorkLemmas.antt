@@ -1,9 +1,10 @@
 -- Calls of the store are the work of their commands.
-use Rattle.std.proofs.Common.{ℕ, ◌≡◌, ◌≢◌, ◌⊎◌, inl, inr, ◌≤◌, ◌<◌, ◌+◌, arith, Bool, true, false, nat_lt, ◌∷◌, [], List, Option, None, Some, Result, Ok, Err, IfOk, if◌then◌else◌, refl, sym, ◌∙◌, ap, subst}
+use Rattle.std.proofs.Common.{ℕ, ◌≡◌, ◌≢◌, ◌⊎◌, inl, inr, ◌≤◌, ◌<◌, ◌+◌, arith, Bool, true, false, nat_lt, ◌∷◌, [], List, length, Option, None, Some, Result, Ok, Err, IfOk, if◌then◌else◌, refl, sym, ◌∙◌, ap, subst}
 use Rattle.std.proofs.lemmas.Bool.Decides.{nat_tests}
 use Rattle.chip_trait.specs.Told.{Told, Counts}
 use Rattle.chip_trait.proofs.CountsLemmas.{counts_none}
 use Rattle.ipl_base.specs.Calls.{IsFailedCall}
+use Rattle.ipl_base.specs.Places.{KeepsUnits, spares_on}
 use Rattle.ipl_base.specs.declared.fault.ChipFault.{ChipFault}
 use Rattle.ipl_base.specs.declared.fault.ChipFault.TheVariants.{ReadFault, Stopped, Damaged, Malformed, WornOut}
 use Rattle.ipl_base.specs.declared.fault.Refusal.{Refusal}
@@ -16,6 +17,8 @@ use Rattle.ipl_model.specs.declared.command.Command.TheVariants as command
 use Rattle.ipl_model.specs.declared.reply.Reply.{Reply}
 use Rattle.ipl_model.specs.declared.reply.Reply.TheVariants as reply
 use Rattle.ipl_model.specs.Step.{Stepped, accepted, step}
+use Rattle.ipl_meaning.specs.Tables.{Places}
+use Rattle.unit_directory.specs.Free.{spares_of}
 use Rattle.unit_io.specs.Reads.{OfContents}
 use Rattle.pending_writes.specs.Fits.{AreSessionsOf}
 use Rattle.steps.specs.Steps.{Tidies}
@@ -24,7 +27,7 @@ use Rattle.store_trait.specs.declared.fault.Fault.TheVariants.{Chip, Spent}
 use Rattle.store_trait.specs.Keeping.{LAST_NUMBER, WORK_DRAWS, ChipRose, Works, LeavesTidy}
 use Rattle.store_trait.proofs.TidyLemmas.{tidy_same}
 use Rattle.store_steps.specs.Advances.{TurnsMapOf}
-use Rattle.store_steps.specs.Keeps.{View, limits_of, ShowsState, StoreCause, store_keeping}
+use Rattle.store_steps.specs.Keeps.{View, limits_of, ChipTells, ShowsState, StoreCause, store_keeping}
 use Rattle.store_steps.specs.Refusals.{finds_full, sessions_refuse}
 use Rattle.store_steps.proofs.AdvanceLemmas.{answers_advance}
 use Rattle.store_steps.proofs.LeadLemmas.{answers_are_alike, memory_leads}
@@ -40,28 +43,59 @@ use Rattle.script_store.proofs.KeepLemmas.{works_so, draws_few, tidy_so}
 -- ---- faults of the chip
 
 -- a fault of a call of the chip has its excuse, and says so
-call_rose : (e : ChipFault) (before after : Told) → IsFailedCall e → PageCause e before after
-    → ChipRose before after × IsFailedCall e
-call_rose ReadFault before after failed cause = (inl cause, tt)
-call_rose Stopped before after failed cause = (inr (inl cause), tt)
-call_rose (Damaged p s stored computed) before after none cause = absurd none
-call_rose (Malformed p s) before after none cause = absurd none
-call_rose (WornOut n) before after failed cause = (inr (inr cause.1), tt)
+call_rose : (d : Places) (e : ChipFault) (before after : Told) → IsFailedCall e
+    → PageCause d e before after → ChipRose before after × IsFailedCall e
+call_rose d ReadFault before after failed cause = (inl cause, tt)
+call_rose d Stopped before after failed cause = (inr (inl cause), tt)
+call_rose d (Damaged p s stored computed) before after none cause = absurd none
+call_rose d (Malformed p s) before after none cause = absurd none
+call_rose d (WornOut n) before after failed cause = (inr (inr cause.2), tt)
 
-pub chip_rose : (e : ChipFault) (before after : Told) → IsOfTheChip (store.Chip e)
-    → PageCause e before after → ChipRose before after × IsFailedCall e
-chip_rose e before after (f, is, failed) cause =
+pub chip_rose : (d : Places) (e : ChipFault) (before after : Told) → IsOfTheChip (store.Chip e)
+    → PageCause d e before after → ChipRose before after × IsFailedCall e
+chip_rose d e before after (f, is, failed) cause =
     let same : e ≡ f = cc is in
-    call_rose e before after (subst IsFailedCall (sym same) failed) cause
+    call_rose d e before after (subst IsFailedCall (sym same) failed) cause
+
+-- the tables are of a chip of so many places, with so many units, of which as many may be kept
+pub record AreCounted (places units : ℕ) (d : Places) : Type 0 where
+  pub all : length d.in_use ≡ places
+  pub current : length d.current ≡ units
+  pub keeps : KeepsUnits places units
+
+-- so as many places are spare
+spares_are : (places units : ℕ) (d : Places) → AreCounted places units d
+    → spares_of d ≡ spares_on places units
+spares_are places units d are =
+    ap (λ (n : ℕ). spares_on n (length d.current)) are.all ∙ ap (spares_on places) are.current
 
 -- and its cause
-pub chip_cause : (e : ChipFault) (before after : Told) → PageCause e before after
-    → StoreCause (Chip e) before after
-chip_cause ReadFault before after cause = cause
-chip_cause Stopped before after cause = cause
-chip_cause (Damaged p s stored computed) before after cause = cause.1
-chip_cause (Malformed p s) before after cause = tt
-chip_cause (WornOut n) before after cause = cause
+pub chip_cause : (places units : ℕ) (d : Places) (e : ChipFault) (before after : Told)
+    → AreCounted places units d → PageCause d e before after
+    → StoreCause places (Chip e) before after
+chip_cause places units d ReadFault before after are cause = cause
+chip_cause places units d Stopped before after are cause = cause
+chip_cause places units d (Damaged p s stored computed) before after are cause = cause.1
+chip_cause places units d (Malformed p s) before after are cause = tt
+chip_cause places units d (WornOut n) before after are cause = (
+  record {
+    units = units;
+    keeps = are.keeps;
+    one_more = omega (arith, cause.0, spares_are places units d are);
+  },
+  cause.2,
+)
+
+-- and it tells no other number of worn places than one more than are spare
+pub chip_tells : (places units : ℕ) (d : Places) (e : ChipFault) (before after : Told)
+    → AreCounted places units d → PageCause d e before after
+    → ChipTells (spares_on places units) e
+chip_tells places units d ReadFault before after are cause = tt
+chip_tells places units d Stopped before after are cause = tt
+chip_tells places units d (Damaged p s stored computed) before after are cause = tt
+chip_tells places units d (Malformed p s) before after are cause = tt
+chip_tells places units d (WornOut n) before after are cause =
+    omega (arith, cause.0, spares_are places units d are)
 
 -- ---- how a call may end early
 
@@ -101,7 +135,7 @@ early_up a entry refusal (inl none) is =
 served_up : {T : Type 0} (before : Told) (result : Result T StoreFault) (new : Store)
     (after : Told) → EndsFor before result new after → result ≢ Err store.Down
 served_up before (Ok found) new after ends is = cc is
-served_up before (Err fault) new after (e, of_chip, cause, stopped) is =
+served_up before (Err fault) new after (e, of_chip, cause, down) is =
     let same : fault ≡ store.Down = cc is in
     let no : store.Chip e ≡ store.Down = sym of_chip ∙ same in cc no
 
@@ -138,10 +172,10 @@ both_are x state replies state_is is =
 module _ (c : Command) (a : ScriptStore) (told : Told) (runs : IsRunning told.places a) where
   spent_does : LAST_NUMBER < counter_of a.store → Does c a told (Err Spent) a told
   spent_does late = record {
-    works = works_so a a told told runs.up refl c (Err Spent)
+    works = works_so told.places a a told told runs.up refl c (Err Spent)
         (idle_faults_are_work c (view_of a.store) told late);
-    tidy = tidy_same script_keeping a told told false refl;
-    draws = draws_few WORK_DRAWS _ a a runs.up (omega arith) (λ is. late);
+    tidy = tidy_same (script_keeping told.places) a told told false refl;
+    draws = draws_few told.places WORK_DRAWS _ a a runs.up (omega arith) (λ is. late);
     running = tt;
     counts = counts_none told;
     cause = tt;
@@ -151,16 +185,17 @@ module _ (c : Command) (a : ScriptStore) (told : Told) (runs : IsRunning told.pl
       → sessions_refuse (limits_of a.store.units) a.store.transactions.sessions c ≡ Some r
       → Does c a told (Ok (reply.Refused r)) a told
   refused_does r is = record {
-    works = works_so a a told told runs.up refl c (Ok (reply.Refused r))
+    works = works_so told.places a a told told runs.up refl c (Ok (reply.Refused r))
         (leads_are_work c (λ state. (step (limits_of a.store.units) state c).0) (view_of a.store)
-        (view_of a.store) (Ok (reply.Refused r)) told told runs.sound.made.units refl runs.up
+        (view_of a.store) (Ok (reply.Refused r)) told told refl runs.up
         (refusals_lead a.store.units c r (view_of a.store).memory told is)
         (λ h state keeps. says_it (step (limits_of a.store.units) state c) _
         (ap (λ (y : Stepped). y.1) (refusals_answer (limits_of a.store.units)
         a.store.transactions.sessions state c r (keeps.up runs.up).sessions is)))
         (λ h state keeps. omega arith) tt);
-    tidy = tidy_same script_keeping a told told true refl;
-    draws = draws_few WORK_DRAWS _ a a runs.up (omega arith) (λ spent. absurd (cc spent));
+    tidy = tidy_same (script_keeping told.places) a told told true refl;
+    draws = draws_few told.places WORK_DRAWS _ a a runs.up (omega arith)
+        (λ spent. absurd (cc spent));
     running = runs;
     counts = counts_none told;
     cause = tt;
@@ -173,17 +208,18 @@ module _ (a : ScriptStore) (told : Told) (runs : IsRunning told.places a) where
 
   pub syntax_does : Does command.Syntax a told (Ok reply.Syntax) a told
   syntax_does = record {
-    works = works_so a a told told runs.up refl command.Syntax (Ok reply.Syntax)
+    works = works_so told.places a a told told runs.up refl command.Syntax (Ok reply.Syntax)
         (leads_are_work command.Syntax (λ state. state) same same (Ok reply.Syntax) told told
-        runs.sound.made.units refl runs.up
+        refl runs.up
         (answers_are_alike (λ state. state) same.memory same.memory
         (Ok tt) (Ok reply.Syntax) told told refl
         (memory_leads (λ state. state) same.memory same.memory told
         (λ places c it state settled fits. fits) (λ places c it state fits. refl)
         (λ p s counted. counted)))
         (λ h state keeps. refl) (λ h state keeps. omega arith) tt);
-    tidy = tidy_same script_keeping a told told true refl;
-    draws = draws_few WORK_DRAWS _ a a runs.up (omega arith) (λ spent. absurd (cc spent));
+    tidy = tidy_same (script_keeping told.places) a told told true refl;
+    draws = draws_few told.places WORK_DRAWS _ a a runs.up (omega arith)
+        (λ spent. absurd (cc spent));
     running = runs;
     counts = counts_none told;
     cause = tt;
@@ -203,7 +239,7 @@ module _ {T : Type 0} (say : T → Reply) (c : Command) (next : State → State)
 
   -- what the store found is the model's reply, and what it keeps then the next state
   abbrev IsWork : T → Type 0
-  IsWork found = Works store_keeping c first before (Ok (say found)) last after
+  IsWork found = Works (store_keeping before.places) c first before (Ok (say found)) last after
 
   -- the model's step leaves the next state's map
   abbrev StepsToMap : Type 0
@@ -215,12 +251,14 @@ module _ {T : Type 0} (say : T → Reply) (c : Command) (next : State → State)
   few_drawn drawn = omega (arith, drawn, few)
 
   pub done_does : (found : T) (did : Serves next most a.store before (Ok found) b.store after)
-      → IsWork found → IsRunning before.places b → LeavesTidy script_keeping a b before after true
+      → IsWork found → IsRunning before.places b
+      → LeavesTidy (script_keeping before.places) a b before after true
       → (counts : Counts before after) → Does c a before (Ok (say found)) b after
   done_does found did works running tidy counts = record {
-    works = works_so a b before after runs.up units c (Ok (say found)) works;
+    works = works_so before.places a b before after runs.up units c (Ok (say found)) works;
     tidy = tidy;
-    draws = draws_few WORK_DRAWS _ a b runs.up (few_drawn did.drawn) (λ spent. absurd (cc spent));
+    draws = draws_few before.places WORK_DRAWS _ a b runs.up (few_drawn did.drawn)
+        (λ spent. absurd (cc spent));
     running = running;
     counts = counts;
     cause = tt;
@@ -228,23 +266,39 @@ module _ {T : Type 0} (say : T → Reply) (c : Command) (next : State → State)
 
   failed_does : StepsToMap → (e : ChipFault)
       (did : Serves {T = T} next most a.store before (Err (store.Chip e)) b.store after)
-      → PageCause e before after → LeavesTidy script_keeping a b before after false
+      → PageCause b.store.transactions.pages.parts.directory e before after
+      → IsSound before.places b.store
+      → LeavesTidy (script_keeping before.places) a b before after false
       → (counts : Counts before after) → Does c a before (Err (Chip e)) b after
-  failed_does steps e did cause tidy counts = record {
-    works = works_so a b before after runs.up units c (Err (Chip e))
-        (leads_are_work c next first last (Err (Chip e)) before after runs.sound.made.units
+  failed_does steps e did cause sound tidy counts = record {
+    works = works_so before.places a b before after runs.up units c (Err (Chip e))
+        (leads_are_work c next first last (Err (Chip e)) before after
         units runs.up (answers_advance (TurnsMapOf next) next first.memory
         last.memory (Err (store.Chip e)) (Err (Chip e)) before after refl did.leads)
         (λ h state keeps. steps state (keeps.up runs.up).sessions)
         (λ h state keeps. few_drawn did.drawn)
-        (λ h state keeps low. chip_rose e before after
-        (did.complete _ keeps.steady.holds state (keeps.up runs.up).shows) cause));
+        (λ h state keeps. (
+          λ low. chip_rose d e before after
+              (did.complete _ keeps.steady.holds state (keeps.up runs.up).shows) cause,
+          chip_tells before.places a.store.units d e before after are cause,
+        )));
     tidy = tidy;
-    draws = draws_few WORK_DRAWS _ a b runs.up (few_drawn did.drawn) (λ spent. absurd (cc spent));
+    draws = draws_few before.places WORK_DRAWS _ a b runs.up (few_drawn did.drawn)
+        (λ spent. absurd (cc spent));
     running = tt;
     counts = counts;
-    cause = chip_cause e before after cause;
+    cause = chip_cause before.places a.store.units d e before after are cause;
   }
+    where
+      d : Places
+      d = b.store.transactions.pages.parts.directory
+
+      are : AreCounted before.places a.store.units d
+      are = record {
+        all = sound.made.directory;
+        current = did.counted ∙ units;
+        keeps = runs.sound.made.units;
+      }
 
   pub served_does : StepsToMap → (result : Result T StoreFault)
       → Serves next most a.store before result b.store after → IfOk result IsWork
@@ -253,13 +307,14 @@ module _ {T : Type 0} (say : T → Reply) (c : Command) (next : State → State)
       before after → Counts before after → Does c a before (answer_of say result) b after
   served_does steps (Ok found) did works sound tidy counts =
       done_does found did works (record { sound = sound; up = did.ends })
-      (tidy_so a b before after (Ok found) (Ok (say found)) refl tidy) counts
+      (tidy_so before.places a b before after (Ok found) (Ok (say found)) refl tidy) counts
   served_does steps (Err fault) did works sound tidy counts =
-      let (e, is_chip, cause, stopped) = did.ends in
+      let (e, is_chip, cause, down) = did.ends in
       subst (λ (f : StoreFault). Serves {T = T} next most a.store before (Err f) b.store after
       → Does c a before (ended f) b after) (sym is_chip)
-      (λ of_chip. failed_does steps e of_chip cause
-      (tidy_so {T = T} {U = Reply} a b before after (Err fault) (Err (Chip e)) refl tidy) counts) did
+      (λ of_chip. failed_does steps e of_chip cause sound
+      (tidy_so {T = T} {U = Reply} before.places a b before after (Err fault) (Err (Chip e)) refl
+      tidy) counts) did
 
 -- ---- the work of a command that asks no page for room
 
@@ -283,7 +338,8 @@ module _ {T : Type 0} (say : T → Reply) (c : Command) (next : State → State)
 
   -- what the store found is the model's reply
   abbrev Replies : T → Type 0
-  Replies found = (state : State) → OfContents before (λ x. ShowsState (view_of a.store) state x
+  Replies found = (state : State) → OfContents before (λ x.
+      ShowsState before.places (view_of a.store) state x
       → (accepted state c).1 ≡ say found ∷ [])
 
   pub accepted_work : (result : Result T StoreFault)
@@ -292,7 +348,7 @@ module _ {T : Type 0} (say : T → Reply) (c : Command) (next : State → State)
   accepted_work (Err fault) did replies = tt
   accepted_work (Ok found) did replies =
       leads_are_work c next (view_of a.store) (view_of b.store) (Ok (say found)) before after
-      runs.sound.made.units units runs.up (answers_advance (TurnsMapOf next) next
+      units runs.up (answers_advance (TurnsMapOf next) next
       (view_of a.store).memory (view_of b.store).memory (Ok found) (Ok (say found)) before after
       refl did.leads)
       (λ h state keeps. steps_on state (keeps.up runs.up).sessions
@@ -336,7 +392,7 @@ module _ {T : Type 0} (say : T → Reply) (c : Command) (refusal : Option Refusa
           idle_does (store.Refused r) (refused_does c a before runs r (sym refuses ∙ is))
           answer same still
       by_refusal None is none = works (early_is None None none is) (sym refuses ∙ is)
-          (omega (arith, calls.sound.made.units, runs.sound.made.units))
+          calls.units
 
       pub by_entry : IsEntry a entry → Does c a before (answer_of say result) b after
       by_entry (inl none) = by_refusal refusal refl none
@@ -355,7 +411,7 @@ module _ {T : Type 0} (say : T → Reply) (c : Command) (refusal : Option Refusa
     (roomy : (state : State) → finds_full state c ≡ false)
     (nexts : (state : State) → (accepted state c).0 ≡ next state)
     (replies : IfOk result (λ found. (state : State)
-    → OfContents before (λ x. ShowsState (view_of a.store) state x
+    → OfContents before (λ x. ShowsState before.places (view_of a.store) state x
     → (accepted state c).1 ≡ say found ∷ []))) where
   by_call : (entry : Option StoreFault) → IsEntry a entry
       → Calls (early_fault entry refusal) next most a.store before result b.store after

@@ -5,7 +5,7 @@ use Rattle.chip_trait.specs.Chart.{says}
 use Rattle.chip_trait.specs.Told.{History, Told, Counts, adds_all}
 use Rattle.ipl_base.specs.declared.fault.StoreFault.{StoreFault}
 use Rattle.ipl_base.specs.declared.fault.StoreFault.TheVariants as store
-use Rattle.ipl_base.specs.Places.{places_for}
+use Rattle.ipl_base.specs.Places.{spares_on}
 use Rattle.ipl_rules.specs.State.{State, Limits}
 use Rattle.ipl_model.specs.declared.command.Command.{Command}
 use Rattle.ipl_model.specs.declared.reply.Reply.{Reply}
@@ -18,7 +18,7 @@ use Rattle.store_trait.specs.declared.fault.Fault.{Fault}
 use Rattle.store_trait.specs.declared.fault.Fault.TheVariants.{Chip, Spent}
 use Rattle.store_trait.specs.Onward.{Still, sayings}
 use Rattle.store_trait.specs.Keeping.{Keeping, WORK_DRAWS, LOOK_UP_DRAWS, Draws, Works, LooksUp, LeavesTidy}
-use Rattle.store_steps.specs.Keeps.{KeepsStore, StoreCause, keeps_each, keeps_still, cause_longer}
+use Rattle.store_steps.specs.Keeps.{KeepsStore, StoreCause, FaultTells, keeps_each, keeps_still, cause_longer}
 use Rattle.ipl_store.specs.Calls.{view_of, counter_of, IsSound}
 use Rattle.script_store.specs.declared.store.ScriptStore.{ScriptStore}
 
@@ -29,10 +29,10 @@ pub record IsRunning (places : ℕ) (s : ScriptStore) : Type 0 where
   pub sound : IsSound places s.store
   pub up : s.store.down ≡ false
 
--- it keeps the state, with at most 1,024 units
-pub record KeepsScript (limits : Limits) (s : ScriptStore) (t : Told) (h : History) (state : State)
-    : Type 0 where
-  pub kept : KeepsStore limits (view_of s.store) t h state
+-- it keeps the state over a chip of so many places, with at most 1,024 units
+pub record KeepsScript (places : ℕ) (limits : Limits) (s : ScriptStore) (t : Told) (h : History)
+    (state : State) : Type 0 where
+  pub kept : KeepsStore places limits (view_of s.store) t h state
   pub few : s.store.units ≤ 1024
 
 -- the next number that it draws; a store that is down draws none
@@ -40,28 +40,30 @@ abbrev pub next_number : ScriptStore → ℕ
 next_number s = if s.store.down then 0 else counter_of s.store
 
 -- what is said and what is read of a script changes nothing
-pub script_still : (limits : Limits) (s : ScriptStore) (old new : Told) (h : History) (state : State)
-    → (still : Still old new) → KeepsScript limits s old h state
-    → KeepsScript limits s new (adds_all (sayings still.pieces) h) state
-script_still limits s old new h state still keeps = record {
-  kept = keeps_still limits (view_of s.store) old new h state still keeps.kept;
+pub script_still : (places : ℕ) (limits : Limits) (s : ScriptStore) (old new : Told) (h : History)
+    (state : State) → (still : Still old new) → KeepsScript places limits s old h state
+    → KeepsScript places limits s new (adds_all (sayings still.pieces) h) state
+script_still places limits s old new h state still keeps = record {
+  kept = keeps_still places limits (view_of s.store) old new h state still keeps.kept;
   few = keeps.few;
 }
 
--- such a store, as a run knows it
-abbrev pub script_keeping : Keeping ScriptStore
-script_keeping = record {
+-- such a store over a chip of so many places, as a run knows it
+abbrev pub script_keeping : ℕ → Keeping ScriptStore
+script_keeping places = record {
   checks = says sector_in;
-  stands = λ limits x m. Stands (places_for limits.units) (chart_of x) m;
-  holds = KeepsScript;
-  suits = λ s places. IsRunning places s;
+  stands = λ limits x m. Stands places (chart_of x) m;
+  holds = KeepsScript places;
+  suits = IsRunning places;
   clean = λ s p sector. IsCountedClean (view_of s.store).memory.tables p sector;
   counter = next_number;
   does = λ e. Unit {0};
-  cause = StoreCause;
-  each = λ limits s t h state keeps. keeps_each limits (view_of s.store) t h state keeps.kept;
-  still = script_still;
-  caused = cause_longer;
+  cause = StoreCause places;
+  tells = λ limits fault. FaultTells (spares_on places limits.units) fault;
+  each = λ limits s t h state keeps.
+      keeps_each places limits (view_of s.store) t h state keeps.kept;
+  still = script_still places;
+  caused = cause_longer places;
 }
 
 -- ---- answers
@@ -98,19 +100,19 @@ looked_up (Err fault) = not_found fault
 -- what the work of a command leaves
 pub record Does (c : Command) (old : ScriptStore) (before : Told) (result : Result Reply Fault)
     (new : ScriptStore) (after : Told) : Type 0 where
-  pub works : Works script_keeping c old before result new after
-  pub tidy : LeavesTidy script_keeping old new before after (is_ok result)
-  pub draws : Draws script_keeping WORK_DRAWS old (IsErrOf result Spent) new
+  pub works : Works (script_keeping before.places) c old before result new after
+  pub tidy : LeavesTidy (script_keeping before.places) old new before after (is_ok result)
+  pub draws : Draws (script_keeping before.places) WORK_DRAWS old (IsErrOf result Spent) new
   pub running : OnOk result (IsRunning before.places new)
   pub counts : Counts before after
-  pub cause : IfErr result (λ fault. StoreCause fault before after)
+  pub cause : IfErr result (λ fault. StoreCause before.places fault before after)
 
 -- what looking a record up leaves
 pub record Finds (n : ℕ) (old : ScriptStore) (before : Told)
     (result : Result (Option (List ℕ)) Fault) (new : ScriptStore) (after : Told) : Type 0 where
-  pub looks_up : LooksUp script_keeping n old before result new after
-  pub tidy : LeavesTidy script_keeping old new before after (is_ok result)
-  pub draws : Draws script_keeping LOOK_UP_DRAWS old (IsErrOf result Spent) new
+  pub looks_up : LooksUp (script_keeping before.places) n old before result new after
+  pub tidy : LeavesTidy (script_keeping before.places) old new before after (is_ok result)
+  pub draws : Draws (script_keeping before.places) LOOK_UP_DRAWS old (IsErrOf result Spent) new
   pub running : OnOk result (IsRunning before.places new)
   pub counts : Counts before after
-  pub cause : IfErr result (λ fault. StoreCause fault before after)
+  pub cause : IfErr result (λ fault. StoreCause before.places fault before after)

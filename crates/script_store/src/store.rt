@@ -28,23 +28,24 @@ impl ScriptStore {
         ScriptStore { store }
     }
 
-    /// The units of its chip.
-    pub fn units(&self) -> u32
+    /// How many units its chip has, as the last opening that succeeded found it.
+    pub fn unit_count(&self) -> u32
         ensures { result ≡ self.now.store.units }
     {
-        self.store.units()
+        self.store.unit_count()
     }
 
     /// Names are numbers below this: those of all units of its chip.
     pub(crate) fn limit(&self) -> u32
         ensures most { result ≤ 983040 }
-        ensures limit { (limits : Limits) (t : Told) (h : History) (state : State)
-            → KeepsScript limits self.now t h state → result ≡ limits.names }
+        ensures limit { (places : ℕ) (limits : Limits) (t : Told) (h : History) (state : State)
+            → KeepsScript places limits self.now t h state → result ≡ limits.names }
     {
-        if self.store.units() > MOST_UNITS {
+        let units = self.store.unit_count();
+        if units > MOST_UNITS {
             return 0;
         }
-        UNIT_NAMES * self.store.units()
+        UNIT_NAMES * units
     }
 
     /// Does the work of a command that has one line as its reply, and answers that line.
@@ -83,16 +84,16 @@ impl store_trait::Store for ScriptStore {
     fn work<C: Chip>(&mut self, chip: &mut C, command: &Command) -> Result<Reply, Fault>
         requires single { IsSingle command.now }
         requires suits { IsRunning (C.told chip.old).places self.old }
-        ensures draws { Draws script_keeping WORK_DRAWS self.old (IsErrOf result Spent) self.new }
-        ensures works { Works script_keeping command.now self.old (C.told chip.old) result self.new
-            (C.told chip.new) }
-        ensures tidy { LeavesTidy script_keeping self.old self.new (C.told chip.old)
-            (C.told chip.new) (is_ok result) }
-        ensures suited { OnOk result ((places : ℕ) → IsRunning places self.old
-            → IsRunning places self.new) }
+        ensures draws { Draws (script_keeping (C.told chip.old).places) WORK_DRAWS self.old
+            (IsErrOf result Spent) self.new }
+        ensures works { Works (script_keeping (C.told chip.old).places) command.now self.old
+            (C.told chip.old) result self.new (C.told chip.new) }
+        ensures tidy { LeavesTidy (script_keeping (C.told chip.old).places) self.old self.new
+            (C.told chip.old) (C.told chip.new) (is_ok result) }
+        ensures suited { OnOk result (IsRunning (C.told chip.old).places self.new) }
         ensures counts { Counts (C.told chip.old) (C.told chip.new) }
-        ensures cause { IfErr result (λ fault. StoreCause fault (C.told chip.old)
-            (C.told chip.new)) }
+        ensures cause { IfErr result (λ fault. StoreCause (C.told chip.old).places fault
+            (C.told chip.old) (C.told chip.new)) }
         // And what it has done by itself, also where not all pages of the chip read well.
         ensures done { IfOk result (λ reply. HasDone command.now self.old (C.told chip.old) reply
             self.new (C.told chip.new)) }
@@ -102,17 +103,16 @@ impl store_trait::Store for ScriptStore {
 
     fn look_up<C: Chip>(&mut self, chip: &mut C, n: u32) -> Result<Option<Value>, Fault>
         requires { IsRunning (C.told chip.old).places self.old }
-        ensures draws { Draws script_keeping LOOK_UP_DRAWS self.old (IsErrOf result Spent)
-            self.new }
-        ensures looks_up { LooksUp script_keeping n self.old (C.told chip.old) result self.new
-            (C.told chip.new) }
-        ensures tidy { LeavesTidy script_keeping self.old self.new (C.told chip.old)
-            (C.told chip.new) (is_ok result) }
-        ensures suited { OnOk result ((places : ℕ) → IsRunning places self.old
-            → IsRunning places self.new) }
+        ensures draws { Draws (script_keeping (C.told chip.old).places) LOOK_UP_DRAWS self.old
+            (IsErrOf result Spent) self.new }
+        ensures looks_up { LooksUp (script_keeping (C.told chip.old).places) n self.old
+            (C.told chip.old) result self.new (C.told chip.new) }
+        ensures tidy { LeavesTidy (script_keeping (C.told chip.old).places) self.old self.new
+            (C.told chip.old) (C.told chip.new) (is_ok result) }
+        ensures suited { OnOk result (IsRunning (C.told chip.old).places self.new) }
         ensures counts { Counts (C.told chip.old) (C.told chip.new) }
-        ensures cause { IfErr result (λ fault. StoreCause fault (C.told chip.old)
-            (C.told chip.new)) }
+        ensures cause { IfErr result (λ fault. StoreCause (C.told chip.old).places fault
+            (C.told chip.old) (C.told chip.new)) }
         // What the name's own page shows, also where others don't read well.
         ensures done { IfOk result (λ found. HasFound n self.old (C.told chip.old) found) }
     {

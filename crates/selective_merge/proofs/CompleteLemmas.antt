@@ -8,6 +8,7 @@ use Rattle.ipl_meaning.specs.Chart.{chart_of}
 use Rattle.ipl_meaning.specs.Layout.{Shape}
 use Rattle.ipl_meaning.specs.Tables.{IsFree, Places, Tables}
 use Rattle.unit_io.specs.Charts.{Spares}
+use Rattle.place_taking.specs.Spending.{SparesUsed}
 use Rattle.merge_rules.specs.Faults.{fault_with, merge_fault, TellsTheFault}
 use Rattle.merge_rules.specs.Merged.{source_of}
 use Rattle.merge_rules.specs.Moved.{Source}
@@ -16,7 +17,6 @@ use Rattle.merge_rules.proofs.FaultLemmas.{tells_fault, mergeable_units_have_no_
 use Rattle.selective_merge.specs.declared.home.Home.{Home}
 use Rattle.selective_merge.specs.Homes.{from_home, IsHomeOf}
 use Rattle.selective_merge.specs.Merging.{TellsMergeFault, FailsAsMerge, CompletesMerge}
-use Rattle.selective_merge.specs.Spending.{SparesUsed}
 use Rattle.selective_merge.proofs.WholeLemmas.{source_is}
 
 -- what was read of the unit is what it is merged from
@@ -60,6 +60,14 @@ pub used_spared : (before : Places) (p : ℕ) (old new : Told) → IsFree before
 used_spared before p old new free spares x told =
     let (y, told_y, same) = spares x told in
     (y, told_y, λ q s used. same q s (λ at. used (subst (IsFree before) (sym at) free)))
+
+-- and then what is written there
+pub used_then : (before : Places) (p : ℕ) (old mid new : Told) → IsFree before p
+    → SparesUsed before old mid → Spares p mid new → SparesUsed before old new
+used_then before p old mid new free first second x told =
+    let (y, told_y, one) = first x told in
+    let (z, told_z, two) = used_spared before p mid new free second y told_y in
+    (z, told_z, λ q s used. two q s used ∙ one q s used)
 
 -- a call behind reads
 pub spared_behind : {T : Type 0} (before : Places) (old mid new : Told)

@@ -5,12 +5,14 @@ use Rattle.std.proofs.lemmas.List.Elements.{Contains-get_or}
 use Rattle.ipl_meaning.specs.Mirrors.{NoneIsLost}
 use Rattle.ipl_meaning.specs.Tables.{Places, IsFree, one_more, with_use, with_erased, Tables}
 use Rattle.ipl_meaning.specs.TableSteps.{IsMoved, taken, with_erases, with_next}
-use Rattle.unit_directory.specs.Free.{free_count}
+use Rattle.unit_directory.specs.Free.{AreNext, free_count}
 use Rattle.unit_directory.specs.Laws.{UsesTake}
+use Rattle.unit_directory.proofs.AsideLemmas.{next_places_are_aside, next_places_leave_ready}
 use Rattle.merge_rules.specs.Known.{KnowsPlaces}
 use Rattle.merge_rules.specs.KnownLaws.{KnownPlacesMove}
-use Rattle.merge_rules.proofs.KnownLemmas.{free_before}
-use Rattle.selective_merge.specs.Moving.{Holds, NoneIsLostBut}
+use Rattle.merge_rules.proofs.CountLemmas.{known_places_are_ready}
+use Rattle.merge_rules.proofs.KnownLemmas.{free_before, known_places_may_be_aside}
+use Rattle.selective_merge.specs.Moving.{Holds, NoneIsLostBut, set_aside}
 
 -- ---- a place given back
 
@@ -47,9 +49,11 @@ knows_next places t erases next known = record {
     all = known.suits.all;
     units = known.suits.units;
     overflow = known.suits.overflow;
+    sized = known.suits.sized;
   };
   none_lost = known.none_lost;
   used = known.used;
+  retired_apart = known.retired_apart;
   homes_apart = known.homes_apart;
   overflows_apart = known.overflows_apart;
   no_home = known.no_home;
@@ -67,6 +71,7 @@ taken_but t p n places known q less other used =
 pub held_back : (places : ℕ) (t after : Tables) (erases : List ℕ) (n : ℕ) → after ≡ recounted t erases n
     → KnowsPlaces places t → Holds places t after
 held_back places t after erases n is known = record {
+  units = ap (λ (x : Tables). length x.places.current) is;
   active = ap (λ (x : Tables). x.active) is;
   status = ap (λ (x : Tables). x.status) is;
   known = subst (KnowsPlaces places) (sym is) (knows_next places t erases n known);
@@ -84,6 +89,7 @@ pub held_moved : KnownPlacesMove → (places : ℕ) (t after : Tables) (u p used
     → IsMoved (with_next (taken t p) next) after u p used → NoneIsLost places after
     → Holds places t after
 held_moved moves places t after u p used next known low within free moved lost = record {
+  units = ap (λ (l : List ℕ). length l) moved.current ∙ length-set t.places.current u p;
   active = moved.active;
   status = moved.status;
   known = moves places t after u p used next known low within free moved lost;
@@ -100,3 +106,34 @@ more_free places t after u p known low free takes more =
     let rest = more (λ is. home_used places t u known low
     (free_before t p (slice_index t.places.current u) is).1) in
     omega (arith, one, rest)
+
+-- ---- places that were set aside before
+
+pub units_aside : (t : Tables) (worn : List ℕ) → AreNext t.places worn
+    → length (set_aside t worn).places.current ≡ length t.places.current
+units_aside t worn in_turn =
+    ap (λ (l : List ℕ). length l) (next_places_are_aside t.places worn in_turn).current
+
+pub known_aside : (places : ℕ) (t : Tables) (worn : List ℕ) → KnowsPlaces places t
+    → AreNext t.places worn → KnowsPlaces places (set_aside t worn)
+known_aside places t worn known in_turn = known_places_may_be_aside places t worn known in_turn
+
+-- what holds of the tables without them holds of those before
+pub held_aside : (places : ℕ) (t after : Tables) (worn : List ℕ) → AreNext t.places worn
+    → Holds places (set_aside t worn) after → Holds places t after
+held_aside places t after worn in_turn held = record {
+  units = held.units ∙ units_aside t worn in_turn;
+  active = held.active;
+  status = held.status;
+  known = held.known;
+}
+
+-- as many are free or retired
+pub as_many_aside : (places : ℕ) (t : Tables) (worn : List ℕ) → KnowsPlaces places t
+    → AreNext t.places worn
+    → free_count (set_aside t worn).places.in_use + length (set_aside t worn).places.retired
+    ≡ free_count t.places.in_use + length t.places.retired
+as_many_aside places t worn known in_turn =
+    let leaves =
+    next_places_leave_ready t.places worn (known_places_are_ready places t known) in_turn in
+    omega (arith, leaves.fewer, leaves.more)

@@ -1,5 +1,5 @@
 -- A merge, once the unit is written: what the chip stands for, and what the tables say.
-use Rattle.std.proofs.Common.{◌≡◌, ◌≢◌, ◌⊎◌, ◌<◌, ◌≤◌, ◌+◌, ℕ, true, List, [], ◌++◌, length, get_or, slice_index, slice_set, Some, None, Ok, Err, inl, inr, refl, sym, ◌∙◌, ap, ap₂, subst, arith}
+use Rattle.std.proofs.Common.{◌≡◌, ◌⊎◌, ◌<◌, ◌≤◌, ◌+◌, ℕ, true, List, [], ◌++◌, length, get_or, slice_index, slice_set, Some, None, Ok, Err, inl, inr, refl, sym, ◌∙◌, ap, ap₂, subst, arith}
 use Rattle.std.specs.List.{All, Contains}
 use Rattle.std.proofs.lemmas.Bool.{cases_eq}
 use Rattle.std.proofs.lemmas.List.{get_or-set_same, get_or-set_other, length-set, length-map}
@@ -14,19 +14,22 @@ use Rattle.ipl_base.specs.declared.fault.ChipFault.{ChipFault}
 use Rattle.ipl_format.specs.Record.{Record, IsRecord}
 use Rattle.ipl_format.specs.Sector.{Sector}
 use Rattle.ipl_rules.specs.State.{Map}
-use Rattle.ipl_meaning.specs.Agrees.{IsTidy}
 use Rattle.ipl_meaning.specs.Chart.{Chart}
 use Rattle.ipl_meaning.specs.Layout.{Layout, records_of}
 use Rattle.ipl_meaning.specs.Mirrors.{Mirrors}
 use Rattle.ipl_meaning.specs.Rests.{now}
-use Rattle.ipl_meaning.specs.Steps.{IsIdle, KeepsPages}
-use Rattle.ipl_meaning.specs.Tables.{Places, IsFree, with_use, with_erased, OverflowLists, Status, Tables, overflow_places, IsCountedClean}
+use Rattle.ipl_meaning.specs.Steps.{KeepsPages}
+use Rattle.ipl_meaning.specs.Tables.{Places, IsFree, with_use, with_erased, OverflowLists, Status, Tables, IsCountedClean}
 use Rattle.ipl_meaning.specs.TableSteps.{IsMoved, taken, with_next}
-use Rattle.ipl_meaning.proofs.IdleFollowLemmas.{counted_apart, counts_are_free, tables_follow_idle_places}
+use Rattle.ipl_meaning.proofs.IdleFollowLemmas.{counts_are_free, tables_follow_idle_places}
 use Rattle.ipl_meaning.proofs.IdleLemmas.{idle_places_do_not_count}
 use Rattle.ipl_meaning.proofs.MirrorLemmas.{free_places_are_idle}
-use Rattle.unit_io.specs.Spots.{Rewrites}
-use Rattle.merge_rules.specs.Merged.{source_of, packs_in, IsToMerge, IsWritten, IsMergedUnit}
+use Rattle.unit_directory.specs.Free.{AreNext, aside}
+use Rattle.unit_directory.proofs.AsideLemmas.{next_places_are_aside}
+use Rattle.steps.specs.Steps.{RestsAgreeing}
+use Rattle.place_taking.specs.Spending.{WritesFree}
+use Rattle.place_taking.proofs.JoinLemmas.{counted_alike, counted_used}
+use Rattle.merge_rules.specs.Merged.{source_of, packs_in, IsToMerge, IsUnitHead, IsWritten, IsMergedUnit}
 use Rattle.merge_rules.specs.Moved.{Source, IsUnsealed}
 use Rattle.merge_rules.specs.Packs.{packs_of, payloads_of, masks_of_packs, payload_of}
 use Rattle.merge_rules.proofs.MergeLemmas.{tables_follow_filling}
@@ -35,9 +38,10 @@ use Rattle.merge_rules.proofs.PacksLemmas.{packs_all, all_records}
 use Rattle.selective_merge.specs.Packing.{masks_of_payloads}
 use Rattle.selective_merge.proofs.MaskedLemmas.{packs_masks}
 use Rattle.selective_merge.specs.Merging.{StepsMerging}
-use Rattle.selective_merge.specs.Moving.{TellsUnit}
+use Rattle.selective_merge.specs.Moving.{TellsUnit, set_aside}
 use Rattle.selective_merge.specs.Throughout.{KeepsThroughout}
 use Rattle.selective_merge.proofs.HeldLemmas.{recounted}
+use Rattle.selective_merge.proofs.TakenLemmas.{aside_mirrors}
 
 -- ---- what is clean then
 
@@ -181,92 +185,6 @@ merged_there places it t u p g serial n after c z used moved tells more is =
       keeps = rw is.gains follows.1;
     }
 
--- ---- what is left
-
-module _ (places : ℕ) (m : Map) (it : Layout) (t : Tables) (u p g serial n : ℕ) (h : History)
-    (old new : Told) (mirrors : Mirrors places (now h) it t) (tidy : IsTidy h.story t)
-    (free : IsFree t.places p) where
-  idle : IsIdle places (now h) it p
-  idle = free_places_are_idle places (now h) it t p mirrors free
-
-  no_overflow : ¬ Contains (overflow_places t) p
-  no_overflow = mirrors.directory.not_overflow p free
-
-  apart : (q s : ℕ) → IsCountedClean t q s → q ≢ p
-  apart = counted_apart places (now h) it t p mirrors idle no_overflow
-
-  -- the merge was done
-  pub merged_steps : (after : Tables) → u < it.count → n ≡ length (packs_in t (it.units u))
-      → IsMoved (with_next (taken t p) g) after u p n
-      → TellsPacks t after u g (packs_in t (it.units u)) → serial + n ≤ after.next
-      → KeepsThroughout {T = Unit {0}} {E = ChipFault} places m (Rewrites p (241 + n))
-      (λ done c y. IsWritten places c y it t u p g serial) (IsUnsealed p) h (Ok tt) old new
-      → StepsMerging {T = Unit {0}} places m it t u after h (Ok tt) old new
-  merged_steps after low used moved tells more did = record {
-    added = did.added;
-    history = did.history;
-    each_moment = did.each_moment;
-    does = record {
-      silent = did.does.silent;
-      lawful = record { lawful = λ base is clean. did.does.lawful base is };
-      clean = λ done. clean;
-    };
-    steady = did.steady;
-    ends = λ done. record {
-      rests = (did.ends tt).0;
-      unit = merged_there places it t u p g serial n after (now h) (now (adds_all did.added h))
-          used moved tells more (did.ends tt).1;
-      tidy = clean h.story tidy;
-    };
-  }
-    where
-      clean : (base : Story) → AreClean (IsCountedClean t) base
-          → AreClean (IsCountedClean after) (did.added ++ base)
-      clean base before q s counted =
-          elim (counted_after t after u p n g moved (omega (arith, low, mirrors.directory.units))
-          (omega (arith, low, mirrors.directory.logs)) q s counted) [
-            | inl was ↦ did.does.others base q s (apart q s was) (before q s was)
-            | inr (at, above) ↦ rw at (did.does.fresh refl base s above)
-          ]
-
-  -- it wasn't: the place was given back
-  pub merge_failed : (after : Tables) (erases : List ℕ) (next : ℕ) (e f : ChipFault)
-      → after ≡ recounted t erases next → length erases ≡ length t.places.erases → t.next ≤ next
-      → KeepsThroughout {T = Unit {0}} places m (Rewrites p (241 + n))
-      (λ done c y. IsWritten places c y it t u p g serial) (IsUnsealed p) h (Err e) old new
-      → StepsMerging {T = Unit {0}} places m it t u after h (Err f) old new
-  merge_failed after erases next e f is sized more did = record {
-    added = did.added;
-    history = did.history;
-    each_moment = did.each_moment;
-    does = record {
-      silent = did.does.silent;
-      lawful = record { lawful = λ base is clean. did.does.lawful base is };
-      clean = λ unrisen. clean;
-    };
-    steady = did.steady;
-    ends = λ unrisen.
-        let ends = did.ends unrisen in record {
-          rests = ends.0;
-          agrees = record {
-            mirrors = rw is (counts_are_free places (now (adds_all did.added h)) it (with_next t next)
-                erases
-                (tables_follow_idle_places places (now h) it t p (now (adds_all did.added h)) next
-                mirrors idle no_overflow ends.1.others ends.1.bare more)
-                (sized ∙ mirrors.directory.counts));
-            tidy = clean h.story tidy;
-          };
-        };
-  }
-    where
-      same : (q s : ℕ) → IsCountedClean after q s → IsCountedClean t q s
-      same q s counted = rw is at counted
-
-      clean : (base : Story) → AreClean (IsCountedClean t) base
-          → AreClean (IsCountedClean after) (did.added ++ base)
-      clean base before q s counted =
-          did.does.others base q s (apart q s (same q s counted)) (before q s (same q s counted))
-
 -- the tables mirror it, where the place was given back, and each page is shown still
 pub stays_mirrored : (places : ℕ) (c y : Chart) (it : Layout) (t after : Tables) (erases : List ℕ)
     (p next : ℕ) → IsFree t.places p → after ≡ recounted t erases next
@@ -290,3 +208,118 @@ stays_mirrored places c y it t after erases p next free is sized more left mirro
   where
     never : (head : Sector) → y p 0 ≡ Some head → ⊥
     never head here = let e : None ≡ Some head = sym left.bare ∙ here in cc
+
+-- a unit that was merged from tables with places set aside was merged from those before
+pub merged_before : (places : ℕ) (it : Layout) (t : Tables) (worn : List ℕ) (u : ℕ) (after : Tables)
+    (c z : Chart) → AreNext t.places worn → IsMergedUnit places c z it (set_aside t worn) u after
+    → IsMergedUnit places c z it t u after
+merged_before places it t worn u after c z in_turn is =
+    let facts = next_places_are_aside t.places worn in_turn in record {
+      place = is.place;
+      head = is.head;
+      pieces = is.pieces;
+      serial = is.serial;
+      low = is.low;
+      free = ((facts.free is.place).0 is.free).0;
+      head_is = subst (λ (l : List ℕ). IsUnitHead (length l) u is.head.generation is.pieces
+          (length (packs_in t (it.units u))) (slice_index after.places.erases is.place) is.head)
+          facts.current is.head_is;
+      new = is.new;
+      later = is.later;
+      mirrors = is.mirrors;
+      keeps = is.keeps;
+    }
+
+-- ---- what is left
+
+module _ (places : ℕ) (m : Map) (it : Layout) (t : Tables) (worn : List ℕ) (u p g serial n : ℕ)
+    (h : History) (old new : Told) (here : RestsAgreeing places m it t h)
+    (in_turn : AreNext t.places worn) (free : IsFree (set_aside t worn).places p) where
+  abbrev between : Tables
+  between = set_aside t worn
+
+  mirrors : Mirrors places (now h) it between
+  mirrors = aside_mirrors places (now h) it t worn here.agrees.mirrors in_turn
+
+  -- what counts as clean then did before, and stands at a place that was in use
+  was_counted : (q s : ℕ) → IsCountedClean between q s → IsCountedClean t q s
+  was_counted =
+      let facts = next_places_are_aside t.places worn in_turn in
+      counted_alike t (aside t.places worn) facts.current facts.written
+
+  in_use : (q s : ℕ) → IsCountedClean t q s → ¬ IsFree t.places q
+  in_use = counted_used places m it h t here
+
+  -- the merge was done
+  pub merged_steps : (after : Tables) → u < it.count → n ≡ length (packs_in t (it.units u))
+      → IsMoved (with_next (taken between p) g) after u p n
+      → TellsPacks between after u g (packs_in t (it.units u)) → serial + n ≤ after.next
+      → KeepsThroughout {T = Unit {0}} {E = ChipFault} places m (WritesFree t.places p (241 + n))
+      (λ done c y. IsWritten places c y it between u p g serial) (IsUnsealed p) h (Ok tt) old new
+      → StepsMerging {T = Unit {0}} places m it t u after h (Ok tt) old new
+  merged_steps after low used moved tells more did = record {
+    added = did.added;
+    history = did.history;
+    each_moment = did.each_moment;
+    does = record {
+      silent = did.does.spares.silent;
+      lawful = record { lawful = λ base is clean. did.does.spares.lawful base is };
+      clean = λ done. clean;
+    };
+    steady = did.steady;
+    ends = λ done. record {
+      rests = (did.ends tt).0;
+      unit = merged_before places it t worn u after (now h) (now (adds_all did.added h)) in_turn
+          (merged_there places it between u p g serial n after (now h) (now (adds_all did.added h))
+          used moved tells more (did.ends tt).1);
+      tidy = clean h.story here.agrees.tidy;
+    };
+  }
+    where
+      clean : (base : Story) → AreClean (IsCountedClean t) base
+          → AreClean (IsCountedClean after) (did.added ++ base)
+      clean base before q s counted =
+          elim (counted_after between after u p n g moved
+          (omega (arith, low, mirrors.directory.units))
+          (omega (arith, low, mirrors.directory.logs)) q s counted) [
+            | inl then ↦ let was = was_counted q s then in
+                did.does.spares.others base q s (in_use q s was) (before q s was)
+            | inr (at, above) ↦ rw at (did.does.fresh refl base s above)
+          ]
+
+  -- it wasn't: the place was given back
+  pub merge_failed : (after : Tables) (erases : List ℕ) (next : ℕ) (e f : ChipFault)
+      → after ≡ recounted between erases next → length erases ≡ length between.places.erases
+      → t.next ≤ next
+      → KeepsThroughout {T = Unit {0}} places m (WritesFree t.places p (241 + n))
+      (λ done c y. IsWritten places c y it between u p g serial) (IsUnsealed p) h (Err e) old new
+      → StepsMerging {T = Unit {0}} places m it t u after h (Err f) old new
+  merge_failed after erases next e f is sized more did = record {
+    added = did.added;
+    history = did.history;
+    each_moment = did.each_moment;
+    does = record {
+      silent = did.does.spares.silent;
+      lawful = record { lawful = λ base is clean. did.does.spares.lawful base is };
+      clean = λ unrisen. clean;
+    };
+    steady = did.steady;
+    ends = λ unrisen.
+        let ends = did.ends unrisen in record {
+          rests = ends.0;
+          agrees = record {
+            mirrors = (stays_mirrored places (now h) (now (adds_all did.added h)) it between after erases
+                p next free is sized more ends.1 mirrors).0;
+            tidy = clean h.story here.agrees.tidy;
+          };
+        };
+  }
+    where
+      same : (q s : ℕ) → IsCountedClean after q s → IsCountedClean t q s
+      same q s counted = was_counted q s (rw is at counted)
+
+      clean : (base : Story) → AreClean (IsCountedClean t) base
+          → AreClean (IsCountedClean after) (did.added ++ base)
+      clean base before q s counted =
+          did.does.spares.others base q s (in_use q s (same q s counted))
+          (before q s (same q s counted))

@@ -4,7 +4,6 @@ use Rattle.std.specs.List.{AllPairs, Contains}
 use Rattle.std.proofs.lemmas.Bool.{cases_Bool, cases_eq}
 use Rattle.std.proofs.lemmas.List.{get_or-set_same, get_or-map, get_or-set_other, length-map, length-set, set-set}
 use Rattle.std.proofs.lemmas.List.Elements.{Contains-get_or}
-use Rattle.ipl_base.specs.Places.{places_for}
 use Rattle.ipl_meaning.specs.Mirrors.{AreApart}
 use Rattle.ipl_meaning.specs.Tables.{Places, IsFree, Status, OverflowLists, Tables, overflow_places, place_of, with_written, with_masks}
 use Rattle.ipl_meaning.specs.TableSteps.{IsMoved, with_next}
@@ -80,7 +79,7 @@ in_use_moved it u p generation used d is = ap (λ (x : Places). length x.in_use)
 
 -- an overflow place that is left is one of the chip's
 pub left_within : DropsMove → (it : OverflowLists) (u : ℕ) (left : List (Option ℕ)) (i n : ℕ)
-    → IsSoundOverflow it → listed left ≡ places_left it u → places_for (length it.spots) ≡ n
+    → IsSoundOverflow it → listed left ≡ places_left it u → it.places ≡ n
     → IfSome (get_or left i None) (λ p. p < n)
 left_within drops it u left i n sound is sized = case (get_or left i None) refl
   where
@@ -103,6 +102,7 @@ frees_masked before after last o u masks same is = rw same (record {
   written = is.written;
   generations = is.generations;
   erases = is.erases;
+  retired = is.retired;
   all = is.all;
   free = is.free;
   still = is.still;
@@ -143,6 +143,9 @@ module _ (drops : DropsMove) (t after : Tables) (u p generation used : ℕ) (one
   current_is : after.places.current ≡ slice_set t.places.current u p
   current_is = is.second.current ∙ is.first.current ∙ ap (λ (x : Places). x.current) is.home
 
+  pub retired_is : after.places.retired ≡ t.places.retired
+  retired_is = is.second.retired ∙ is.first.retired ∙ ap (λ (x : Places). x.retired) is.home
+
   gone : (q : ℕ) → Contains (listed left) q
       → Contains (overflow_places t) q × ¬ Contains (overflow_places after) q
   gone q has =
@@ -159,6 +162,8 @@ module _ (drops : DropsMove) (t after : Tables) (u p generation used : ℕ) (one
         all = is.second.all ∙ is.first.all ∙ ap (λ (x : Places). length x.in_use) is.home
             ∙ length-set t.places.in_use (slice_index t.places.current u) false;
         erases = is.second.erases ∙ is.first.erases ∙ ap (λ (x : Places). x.erases) is.home;
+        retired = retired_is;
+        sized = ap (λ (x : OverflowLists). x.places) is.dropped;
         free = λ q free. elim (is.second.free q free) [
           | inl was ↦ elim (is.first.free q was) [
             | inl before ↦ elim (cases_eq q (slice_index t.places.current u)) [
@@ -211,8 +216,9 @@ module _ (drops : DropsMove) (t after : Tables) (u p generation used : ℕ) (one
 
     named_still : q ≢ slice_index t.places.current u
         → Contains t.places.current q ⊎ (q ≡ t.status.place) ⊎ Contains (overflow_places t) q
+        ⊎ Contains t.places.retired q
         → Contains after.places.current q ⊎ (q ≡ after.status.place)
-        ⊎ Contains (overflow_places after) q
+        ⊎ Contains (overflow_places after) q ⊎ Contains after.places.retired q
     named_still apart (inl (v, there, at)) =
         inl (rw current_is (
           v,
@@ -221,9 +227,11 @@ module _ (drops : DropsMove) (t after : Tables) (u p generation used : ℕ) (one
         ))
     named_still apart (inr (inl at)) =
         inr (inl (at ∙ sym (ap (λ (s : Status). s.place) is.status)))
-    named_still apart (inr (inr over)) =
+    named_still apart (inr (inr (inr retired))) =
+        inr (inr (inr (subst (λ (l : List ℕ). Contains l q) (sym retired_is) retired)))
+    named_still apart (inr (inr (inl over))) =
         elim (cases_Bool (among (overflow_places after) q)) [
-          | inl kept ↦ inr (inr (among_contains (overflow_places after) q kept))
+          | inl kept ↦ inr (inr (inl (among_contains (overflow_places after) q kept)))
           | inr none ↦
               let lost : ¬ Contains (overflow_places after) q = λ has.
               let e : true ≡ false = sym (contains_among (overflow_places after) q has) ∙ none in cc in
@@ -242,7 +250,7 @@ module _ (drops : DropsMove) (t after : Tables) (u p generation used : ℕ) (one
 
     pub none_lost : NoneIsLostBut p places t
         → Contains after.places.current q ⊎ (q ≡ after.status.place)
-        ⊎ Contains (overflow_places after) q
+        ⊎ Contains (overflow_places after) q ⊎ Contains after.places.retired q
     none_lost none = elim (cases_eq q p) [
       | inl same ↦ inl (subst (Contains after.places.current) (sym same) here)
       | inr other ↦ elim (cases_eq q (slice_index t.places.current u)) [
@@ -263,6 +271,8 @@ moved_from t after u p used low high less moved = record {
   written = moved.written;
   all = moved.all;
   erases = moved.erases;
+  retired = moved.retired;
+  sized = moved.sized;
   free = moved.free;
   spots = moved.spots;
   some = moved.some;

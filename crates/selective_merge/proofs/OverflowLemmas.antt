@@ -1,5 +1,5 @@
 -- A new overflow place.
-use Rattle.std.proofs.Common.{◌≡◌, ◌≢◌, ◌⊎◌, ◌<◌, ◌≤◌, ◌+◌, ℕ, zero, suc, true, [], ◌∷◌, ◌++◌, length, slice_index, None, Some, Result, Ok, Err, IfErr, IfOk, OnOk, is_ok, inl, inr, refl, sym, ◌∙◌, ap, subst, arith}
+use Rattle.std.proofs.Common.{◌≡◌, ◌⊎◌, ◌<◌, ◌≤◌, ◌+◌, ℕ, zero, suc, List, [], ◌∷◌, ◌++◌, length, slice_index, None, Some, Result, Ok, Err, IfErr, IfOk, OnOk, is_ok, inl, inr, refl, sym, ◌∙◌, ap, subst, arith}
 use Rattle.std.specs.List.{Contains}
 use Rattle.std.proofs.lemmas.Bool.{eq-eqb}
 use Rattle.std.proofs.lemmas.List.Elements.{Contains-append_cases}
@@ -23,7 +23,7 @@ use Rattle.ipl_meaning.specs.Stands.{Stands}
 use Rattle.ipl_meaning.specs.Steps.{KeepsPages}
 use Rattle.ipl_meaning.specs.Tables.{Places, OverflowLists, IsFree, Tables, IsCountedClean}
 use Rattle.ipl_meaning.specs.TableSteps.{taken, with_overflow}
-use Rattle.ipl_meaning.proofs.IdleFollowLemmas.{counted_apart, tables_follow_idle_places, places_may_be_taken}
+use Rattle.ipl_meaning.proofs.IdleFollowLemmas.{tables_follow_idle_places, places_may_be_taken}
 use Rattle.ipl_meaning.proofs.IdleLemmas.{idle_places_do_not_count}
 use Rattle.ipl_meaning.proofs.MirrorLemmas.{free_places_are_idle, overflow_headers_may_go}
 use Rattle.ipl_meaning.proofs.OverflowFollowLemmas.{tables_follow_overflows}
@@ -31,20 +31,24 @@ use Rattle.ipl_meaning.proofs.StandsLemmas.{stands_after_overflows}
 use Rattle.ipl_meaning.proofs.StoryLemmas.{held_stands, either_is_kept}
 use Rattle.ipl_meaning.proofs.SwitchLemmas.{overflow_headers_wait}
 use Rattle.ipl_meaning.proofs.WornLemmas.{worn_by_layout, idle_after_overflows}
-use Rattle.unit_directory.specs.Free.{IsNextFree}
+use Rattle.unit_directory.specs.Free.{AreNext, aside}
+use Rattle.unit_directory.proofs.AsideLemmas.{next_places_are_aside}
 use Rattle.txn_status.specs.Switching.{HasCounts}
 use Rattle.unit_io.specs.Charts.{Charts, IsCleared, Gains}
 use Rattle.unit_io.specs.Leads.{IsSteady, SwitchesMap, IsStopped}
-use Rattle.unit_io.specs.Spots.{Programs, Clears, Rewrites, IsSpot}
+use Rattle.unit_io.specs.Spots.{Programs, IsSpot}
 use Rattle.unit_io.proofs.LeadsLemmas.{leads_weaker}
 use Rattle.steps.specs.Steps.{Steps, RestsAgreeing}
-use Rattle.place_taking.specs.Takes.{TakesPlace}
+use Rattle.place_taking.specs.Spending.{WritesFree}
+use Rattle.place_taking.specs.Takes.{ClearsNext, TakesPlace}
+use Rattle.place_taking.proofs.JoinLemmas.{counted_alike, counted_used, writes_taken}
 use Rattle.merge_rules.proofs.KnownLemmas.{taken_is_used}
+use Rattle.selective_merge.specs.Moving.{set_aside}
 use Rattle.selective_merge.specs.Placing.{IsOpened, OpensPlace, SaysErases, RestsOpened}
 use Rattle.selective_merge.specs.Throughout.{KeepsThroughout}
 use Rattle.selective_merge.proofs.FillLemmas.{clean_bare, worn_apart}
 use Rattle.selective_merge.proofs.SealLemmas.{says_of}
-use Rattle.selective_merge.proofs.TakenLemmas.{cleared_mirrors, taken_so_far, rewrites_below}
+use Rattle.selective_merge.proofs.TakenLemmas.{aside_mirrors, cleared_mirrors, taken_so_far}
 use Rattle.selective_merge.proofs.ThroughoutLemmas.{so_far_and, keeps_written, keeps_then, charts_then}
 
 -- ---- on the chip
@@ -197,34 +201,32 @@ opened_counted t p next q n (small, inr (inl (first, has, above))) =
 opened_counted t p next q n (small, inr (inr status)) = inl (small, inr (inr status))
 
 -- what a power cut leaves
-module _ (p units erases g : ℕ) (m : Map) (it : Layout) (t : Tables) (h : History) (old mid new : Told)
-    (next : IsNextFree t.places p) (steady : IsSteady h old)
-    (here : RestsAgreeing old.places m it t h) (takes : TakesPlace t.places old (Ok p) mid)
+module _ (p units erases g : ℕ) (m : Map) (it : Layout) (t : Tables) (after : Places) (h : History)
+    (old mid new : Told) (free : IsFree t.places p) (steady : IsSteady h old)
+    (here : RestsAgreeing old.places m it t h) (takes : TakesPlace t.places old (Ok p) after mid)
     (counts : Counts old mid) (result : Result (Unit {0}) ChipFault)
     (opens : OpensPlace mid.places p units erases g mid result new)
     (stopped : IfErr result (λ fault. IsStopped fault mid new)) where
-  free : IsFree t.places p
-  free = next.free
-
   -- the place taken, and its header
-  opened_all : KeepsThroughout old.places m (Rewrites p 1) (λ done. WasOpened p units erases g) (λ c y. ⊥) h
-      result old new
+  opened_all : KeepsThroughout old.places m (WritesFree t.places p 1) (λ done. WasOpened p units erases g)
+      (λ c y. ⊥) h result old new
   opened_all =
       let Mirror : Chart → Type 0 = λ c. Mirrors old.places c it t in
-      let first = so_far_and old.places m h (Clears p true) (IsCleared p) Mirror old mid
-      here.agrees.mirrors (taken_so_far t p m it h old mid next steady here takes) in
+      let first = so_far_and old.places m h (ClearsNext t.places (Ok p)) (IsCleared p) Mirror old mid
+      here.agrees.mirrors (taken_so_far t after p m it h old mid steady here takes) in
       let k = adds_all first.added h in
       let there = (first.ends tt).1 in
       let says = subst (λ (q : ℕ). OpensPlace q p units erases g mid result new) counts.places opens in
-      keeps_then old.places m h (Clears p true) (Programs p (IsSpot 0)) (Rewrites p 1)
+      keeps_then old.places m h (ClearsNext t.places (Ok p)) (Programs p (IsSpot 0))
+      (WritesFree t.places p 1)
       (λ c y. IsCleared p c y × Mirror c) (λ (done : Unit {0}). IsOpened p units erases g)
       (λ done. WasOpened p units erases g) (λ c y. ⊥) (λ c y. ⊥) old mid new result first counts
       (keeps_written old.places m k (Programs p (IsSpot 0)) (λ done. IsOpened p units erases g) (λ c y. ⊥) mid
       new result
       (says m it k (first.steady tt) (first.ends tt).0
       (cleared_mirrors old.places (now h) (now k) it t p there.1 free there.0).laid
-      (λ s. first.does.fresh refl h.story s)) stopped)
-      (λ a b one two. rewrites_below t p 1 (IsSpot 0) (is_ok result) b a next
+      (λ s. first.does.fresh h.story s (omega arith))) stopped)
+      (λ a b one two. writes_taken t.places p 1 (IsSpot 0) (is_ok result) (is_ok result) b a free
       (λ s above spot. omega (arith, above, spot)) one two)
       (each result) (λ c d e is none. none)
     where
@@ -234,41 +236,40 @@ module _ (p units erases g : ℕ) (m : Map) (it : Layout) (t : Tables) (h : Hist
       each (Ok done) = λ c d e is opened. record { bare = d; cleared = is.0; opened = opened }
       each (Err e) = tt
 
-  apart : (q s : ℕ) → IsCountedClean t q s → q ≢ p
-  apart = counted_apart old.places (now h) it t p here.agrees.mirrors
-      (free_places_are_idle old.places (now h) it t p here.agrees.mirrors free)
-      (here.agrees.mirrors.directory.not_overflow p free)
-
 -- the place was opened
-pub opened_steps : (p units erases g : ℕ) (m : Map) (it : Layout) (t after : Tables) (h : History)
-    (old mid new : Told) → IsNextFree t.places p → (steady : IsSteady h old)
-    → RestsAgreeing old.places m it t h → TakesPlace t.places old (Ok p) mid → Counts old mid
+pub opened_steps : (p units erases g : ℕ) (m : Map) (it : Layout) (t then : Tables) (worn : List ℕ)
+    (after : Places) (h : History) (old mid new : Told) → AreNext t.places worn
+    → IsFree (set_aside t worn).places p → (steady : IsSteady h old)
+    → RestsAgreeing old.places m it t h → TakesPlace t.places old (Ok p) after mid → Counts old mid
     → OpensPlace mid.places p units erases g mid (Ok tt) new → (T : Type 0) (v : T) → p < old.places
-    → t.next ≤ g → length t.overflow.in_use < 2 → after ≡ with_overflow (taken t p) p (g + 1)
-    → HasCounts (taken t p) p units erases
-    → Steps {T = T} {E = ChipFault} (EachStands old.places m) t after
-    (λ v k. RestsOpened old.places m (now h) it after p k)
-    (λ k. RestsAgreeing old.places m it after k) h (Ok v) old new
-opened_steps p units erases g m it t after h old mid new next steady here takes counts opens T v within newer
-    two is has =
-    let did = opened_all p units erases g m it t h old mid new next steady here takes counts (Ok tt) opens tt in
-    let free = next.free in
-    let there = opened_mirrors old.places p units erases g (now h) (now (adds_all did.added h)) it t
-    here.agrees.mirrors free within newer two (did.ends tt).1 in
+    → t.next ≤ g → length t.overflow.in_use < 2
+    → then ≡ with_overflow (taken (set_aside t worn) p) p (g + 1)
+    → HasCounts (taken (set_aside t worn) p) p units erases
+    → Steps {T = T} {E = ChipFault} (EachStands old.places m) t then
+    (λ v k. RestsOpened old.places m (now h) it then p k)
+    (λ k. RestsAgreeing old.places m it then k) h (Ok v) old new
+opened_steps p units erases g m it t then worn after h old mid new in_turn free steady here takes counts
+    opens T v within newer two is has =
+    let facts = next_places_are_aside t.places worn in_turn in
+    let did = opened_all p units erases g m it t after h old mid new ((facts.free p).0 free).0 steady here
+    takes counts (Ok tt) opens tt in
+    let there = opened_mirrors old.places p units erases g (now h) (now (adds_all did.added h)) it
+    (set_aside t worn) (aside_mirrors old.places (now h) it t worn here.agrees.mirrors in_turn) free
+    within newer two (did.ends tt).1 in
     let clean : (base : Story) → AreClean (IsCountedClean t) base
-    → AreClean (IsCountedClean after) (did.added ++ base) = λ base before q s counted.
-    elim (opened_counted t p (g + 1) q s (rw is at counted)) [
-      | inl was ↦ did.does.others base q s
-          (apart p units erases g m it t h old mid new next steady here takes counts (Ok tt) opens tt q s was)
-          (before q s was)
+    → AreClean (IsCountedClean then) (did.added ++ base) = λ base before q s counted.
+    elim (opened_counted (set_aside t worn) p (g + 1) q s (rw is at counted)) [
+      | inl between ↦
+          let was = counted_alike t (aside t.places worn) facts.current facts.written q s between in
+          did.does.spares.others base q s (counted_used old.places m it h t here q s was) (before q s was)
       | inr (at, above) ↦ rw at (did.does.fresh refl base s above)
     ] in record {
       added = did.added;
       history = did.history;
       each_moment = did.each_moment;
       does = record {
-        silent = did.does.silent;
-        lawful = record { lawful = λ base lawful clean. did.does.lawful base lawful };
+        silent = did.does.spares.silent;
+        lawful = record { lawful = λ base lawful clean. did.does.spares.lawful base lawful };
         clean = λ done. clean;
       };
       steady = λ done. did.steady tt;
@@ -276,29 +277,30 @@ opened_steps p units erases g m it t after h old mid new next steady here takes 
         rests = (did.ends tt).0;
         agrees = record { mirrors = rw is there.0; tidy = clean h.story here.agrees.tidy };
         keeps = there.1;
-        says = opened_says p units erases g (now h) (now (adds_all did.added h)) t after (g + 1) has is
-            (did.ends tt).1;
+        says = opened_says p units erases g (now h) (now (adds_all did.added h)) (set_aside t worn) then
+            (g + 1) has is (did.ends tt).1;
       };
     }
 
 -- it wasn't: a write failed
-pub open_failed : (p units erases g : ℕ) (m : Map) (it : Layout) (t after : Tables) (h : History)
-    (old mid new : Told) → IsNextFree t.places p → (steady : IsSteady h old)
-    → RestsAgreeing old.places m it t h → TakesPlace t.places old (Ok p) mid → Counts old mid
+pub open_failed : (p units erases g : ℕ) (m : Map) (it : Layout) (t then : Tables) (after : Places)
+    (h : History) (old mid new : Told) → IsFree t.places p → (steady : IsSteady h old)
+    → RestsAgreeing old.places m it t h → TakesPlace t.places old (Ok p) after mid → Counts old mid
     → (T : Type 0) (e f : ChipFault) → IsStopped e mid new
     → OpensPlace mid.places p units erases g mid (Err e) new
-    → Steps {T = T} {E = ChipFault} (EachStands old.places m) t after
-    (λ v k. RestsOpened old.places m (now h) it after p k)
-    (λ k. RestsAgreeing old.places m it after k) h (Err f) old new
-open_failed p units erases g m it t after h old mid new next steady here takes counts T e f stopped opens =
-    let did = opened_all p units erases g m it t h old mid new next steady here takes counts (Err e) opens
-    stopped in record {
+    → Steps {T = T} {E = ChipFault} (EachStands old.places m) t then
+    (λ v k. RestsOpened old.places m (now h) it then p k)
+    (λ k. RestsAgreeing old.places m it then k) h (Err f) old new
+open_failed p units erases g m it t then after h old mid new free steady here takes counts T e f stopped
+    opens =
+    let did = opened_all p units erases g m it t after h old mid new free steady here takes counts (Err e)
+    opens stopped in record {
       added = did.added;
       history = did.history;
       each_moment = did.each_moment;
       does = record {
-        silent = did.does.silent;
-        lawful = record { lawful = λ base lawful clean. did.does.lawful base lawful };
+        silent = did.does.spares.silent;
+        lawful = record { lawful = λ base lawful clean. did.does.spares.lawful base lawful };
         clean = λ unrisen. absurd (did.ends unrisen).1;
       };
       steady = did.steady;

@@ -10,12 +10,12 @@ use Rattle.ipl_meaning.specs.Layout.{Layout, Shape}
 use Rattle.ipl_meaning.specs.Mirrors.{Mirrors}
 use Rattle.ipl_meaning.specs.Steps.{KeepsPages, with_unit}
 use Rattle.ipl_meaning.specs.Tables.{IsFree, OverflowLists, Tables, spots_of}
-use Rattle.ipl_meaning.specs.TableSteps.{taken, with_overflow}
+use Rattle.unit_directory.proofs.AsideLemmas.{next_places_are_aside}
 use Rattle.ipl_meaning.proofs.MirrorLemmas.{map_contains}
 use Rattle.merge_rules.specs.Merged.{IsMergedUnit, merged_layout, merged_shape}
 use Rattle.merge_rules.specs.Packs.{among}
 use Rattle.selective_merge.specs.Placing.{SaysErases, HasRoom, IsElsewhere, IsPlaced}
-use Rattle.selective_merge.specs.Spotting.{HasHomeSpot, IsHomeSpot, IsOverflowSpot, HasCleanSpot, IsLowest, MayOverflow}
+use Rattle.selective_merge.specs.Spotting.{HasHomeSpot, IsHomeSpot, IsOverflowSpot, HasCleanSpot, IsLowest, MayOverflow, OpensNext}
 
 -- ---- what is to be had
 
@@ -30,14 +30,14 @@ nothing_clean t u none two (few, inr less) =
 
 -- the first sector of a new overflow place is one for the unit
 pub new_spot : (t after : Tables) (u p s next : ℕ) → length (spots_of t u) < 16 → s ≡ 1
-    → after ≡ with_overflow (taken t p) p next → IsOverflowSpot after u p s
-new_spot t after u p s next few one is = record {
+    → OpensNext t after p next → IsOverflowSpot after u p s
+new_spot t after u p s next few one opens = record {
   first = subst (λ (o : OverflowLists). Contains o.in_use (p, s))
-      (sym (ap (λ (x : Tables). x.overflow) is))
+      (sym (ap (λ (x : Tables). x.overflow) opens.tables_are))
       (subst (λ (k : ℕ). Contains (t.overflow.in_use ++ (p, 1) ∷ []) (p, k)) (sym one)
       (Contains-append_right t.overflow.in_use ((p, 1) ∷ []) (p, 1) (0, omega arith, refl)));
   within = (omega (arith, one), omega (arith, one));
-  few = subst (λ (x : Tables). length (spots_of x u) < 16) (sym is) few;
+  few = subst (λ (x : Tables). length (spots_of x u) < 16) (sym opens.tables_are) few;
 }
 
 -- ---- room
@@ -114,16 +114,20 @@ elsewhere_clean places c it t u p s (spot, lowest) mirrors = record {
 pub elsewhere_opened : (places : ℕ) (c y : Chart) (it : Layout) (t after : Tables)
     (u p s next : ℕ)
     → (length (spots_of t u) < 16) × (¬ HasCleanSpot t) × (length t.overflow.in_use < 2)
-    → (s ≡ 1) × IsFree t.places p × (after ≡ with_overflow (taken t p) p next)
+    → (s ≡ 1) × OpensNext t after p next
     → Mirrors places y it after → KeepsPages places c it y it → SaysErases after p y
     → IsElsewhere places c y it t u after p s
-elsewhere_opened places c y it t after u p s next (few, none, two) (one, free, is) mirrors keeps says =
+elsewhere_opened places c y it t after u p s next (few, none, two) (one, opens) mirrors keeps says =
     record {
       room = room_opened places c y it t u after mirrors keeps;
       overflow = λ may. record {
-        spot = new_spot t after u p s next few one is;
+        spot = new_spot t after u p s next few one opens;
         clean = λ has. absurd (none has);
-        new = λ _. (free, one, (next, is));
+        new = λ _. (
+          (((next_places_are_aside t.places opens.worn opens.in_turn).free p).0 opens.next_free.free).0,
+          one,
+          (next, opens),
+        );
       };
       merged = λ never. absurd (never (few, inr two));
       says = λ was. says;

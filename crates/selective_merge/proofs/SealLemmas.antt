@@ -1,5 +1,5 @@
 -- A place sealed.
-use Rattle.std.proofs.Common.{◌≡◌, ◌≤◌, ◌*◌, ℕ, List, length, slice_index, true, None, Result, Ok, Err, IfErr, IfOk, OnOk, is_ok, refl, sym, ◌∙◌, ap, subst, arith}
+use Rattle.std.proofs.Common.{◌≡◌, ◌≤◌, ◌*◌, ℕ, List, length, true, None, Result, Ok, Err, IfErr, IfOk, OnOk, is_ok, refl, sym, ◌∙◌, ap, subst, arith}
 use Rattle.std.proofs.lemmas.List.{length-map}
 use Rattle.chip_trait.specs.Chart.{with_sector}
 use Rattle.chip_trait.specs.Lawful.{Clean, age}
@@ -131,17 +131,6 @@ worn_after_filling places c it t u p head pieces serial m k may rests clean =
 
 -- ---- a unit written
 
--- the same header, by other words for its numbers
-same_head : (units v u w g h : ℕ) (pieces : List ℕ) (carried k erases e : ℕ) (head : Sector)
-    → units ≡ v → u ≡ w → g ≡ h → carried ≡ k → erases ≡ e
-    → IsUnitHead units u g pieces carried erases head → IsUnitHead v w h pieces k e head
-same_head units v u w g h pieces carried k erases e head one two three four five is =
-    subst (λ (x : ℕ). IsUnitHead x w h pieces k e head) one
-    (subst (λ (x : ℕ). IsUnitHead units x h pieces k e head) two
-    (subst (λ (x : ℕ). IsUnitHead units u x pieces k e head) three
-    (subst (λ (x : ℕ). IsUnitHead units u g pieces x e head) four
-    (subst (λ (x : ℕ). IsUnitHead units u g pieces carried x head) five is))))
-
 module _ (places units erases p g serial carried : ℕ) (from : Source) (payloads : List Versioned)
     (pieces : List ℕ) (few : IsFew pieces) (carried_is : carried ≡ length payloads) where
   -- what is known of a place that was filled gives what a merge asks
@@ -159,9 +148,8 @@ module _ (places units erases p g serial carried : ℕ) (from : Source) (payload
         low = what.low;
         free = what.free;
         within = what.within;
-        head_is = same_head units (length t.places.current) from.unit u g head.generation pieces carried
-            (length (packs_in t (it.units u))) erases (slice_index (taken t p).places.erases p) head
-            (sym all.units_are) unit (sym gen) (carried_is ∙ many) (sym all.erases_are) is;
+        head_is = rw (all.units_are, all.erases_are, ← many, ← carried_is, ← unit)
+            (subst (λ (k : ℕ). IsUnitHead units from.unit k pieces carried erases head) (sym gen) is);
         new = omega (arith, what.new, gen);
         later = omega (arith, what.later, gen);
         few = few;

@@ -1,5 +1,5 @@
 -- What calls spend, one after another.
-use Rattle.std.proofs.Common.{◌≡◌, ℕ, Bool, true, false, [], ◌∷◌, ◌++◌, ◌||◌, arith, refl, sym, ◌∙◌, ap, subst}
+use Rattle.std.proofs.Common.{◌≡◌, ◌≤◌, ℕ, Bool, true, false, [], ◌∷◌, ◌++◌, Err, arith, refl, ◌∙◌, subst}
 use Rattle.std.specs.List.{All}
 use Rattle.std.proofs.lemmas.Bool.{false≢true}
 use Rattle.std.proofs.lemmas.List.Elements.{All-head, All-tail}
@@ -7,13 +7,17 @@ use Rattle.chip_trait.specs.declared.event.Event.{Event}
 use Rattle.chip_trait.specs.declared.event.Event.TheVariants.{Read, Program, Erase, Worn, Barrier, Said}
 use Rattle.chip_trait.specs.Story.{Story}
 use Rattle.chip_trait.specs.Told.{Told}
+use Rattle.ipl_base.specs.declared.fault.ChipFault.{ChipFault}
+use Rattle.ipl_base.specs.declared.fault.ChipFault.TheVariants.{ReadFault, Stopped, Damaged, Malformed, WornOut}
 use Rattle.ipl_meaning.specs.Tables.{Places}
-use Rattle.unit_directory.specs.Free.{IsNextFree}
-use Rattle.unit_io.specs.Costs.{ErasesOnce, ProgramsAt, Spends, is_erased, is_tried}
-use Rattle.unit_io.specs.ReadsAt.{IsReadAt, ReadsAt}
-use Rattle.unit_io.proofs.CostLemmas.{costs_at_most, costs_none, costs_reads, costs_then, erased_joined, nothing_at, once_at_most, spends_at_then, spends_none, spends_then, spends_weaker, tried_joined}
+use Rattle.unit_io.specs.Costs.{Costs, ProgramsAt, Spends, erases}
+use Rattle.unit_io.specs.ReadsAt.{IsCauseAt, IsReadAt, ReadsAt}
+use Rattle.unit_io.proofs.CostLemmas.{costs_none, costs_reads, erased_joined, nothing_at, spends_at_then, spends_none, spends_then, spends_weaker}
+use Rattle.place_taking.specs.Spending.{ErasesFree, ErasesFor, tells_worn}
 use Rattle.place_taking.specs.Takes.{ErasesNext}
-use Rattle.selective_merge.specs.Spending.{ErasesFree, ErasesFor}
+use Rattle.place_taking.proofs.JoinLemmas.{costs_of_untaken}
+use Rattle.place_taking.proofs.SpendingLemmas.{none_found, or_left, retiring_at_most, retiring_of, retiring_then, retires_behind, retires_none, tries_behind, tries_none}
+use Rattle.selective_merge.specs.Homes.{MoveCause}
 
 -- ---- reads
 
@@ -31,23 +35,6 @@ at_reads At place kind (e ∷ older) reads =
         record { only = rest.only; programmed = rest.programmed; barred = rest.barred }
     by_event (Program p s bytes) is rest = absurd is
     by_event (Erase p) is rest = absurd is
-    by_event Barrier is rest = absurd is
-    by_event (Worn q) is rest = absurd is
-    by_event (Said piece) is rest = absurd is
-
--- nor do they try an erase
-reads_try_none : (At : ℕ → ℕ → Type 0) (p : ℕ) (added : Story) → All (IsReadAt At) added
-    → is_tried added p ≡ false
-reads_try_none At p [] reads = refl
-reads_try_none At p (e ∷ older) reads =
-    by_event e (All-head (IsReadAt At) e older reads)
-    (reads_try_none At p older (All-tail (IsReadAt At) e older reads))
-  where
-    by_event : (e : Event) → IsReadAt At e → is_tried older p ≡ false
-        → is_tried (e ∷ older) p ≡ false
-    by_event (Read q s) is rest = rest
-    by_event (Program q s bytes) is rest = absurd is
-    by_event (Erase q) is rest = absurd is
     by_event Barrier is rest = absurd is
     by_event (Worn q) is rest = absurd is
     by_event (Said piece) is rest = absurd is
@@ -70,141 +57,141 @@ programs_behind At place n kind old mid new did =
     (spends_at_then place 0 n 0 0 kind old mid new (spends_read At place kind old mid did))
 
 -- what is tried behind reads
-or_false : (a : Bool) → (a || false) ≡ true → a ≡ true
-or_false true is = refl
-or_false false is = absurd (false≢true is)
+reads_erase_none : (At : ℕ → ℕ → Type 0) (added : Story) → All (IsReadAt At) added
+    → erases added ≤ 0
+reads_erase_none At added reads = (costs_reads At [] added reads).erased
 
-free_behind : (At : ℕ → ℕ → Type 0) (before : Places) (later earlier : Story)
-    → All (IsReadAt At) earlier → ErasesFree before later → ErasesFree before (later ++ earlier)
-free_behind At before later earlier reads does = record {
-  costs = costs_then 0 1 0 0 0 3 [] later earlier (costs_reads At [] earlier reads) does.costs;
-  next = λ p is. does.next p (or_false (is_tried later p)
-      (ap (λ (b : Bool). is_tried later p || b) (sym (reads_try_none At p earlier reads))
-      ∙ sym (tried_joined later earlier p) ∙ is));
-}
+free_behind : (At : ℕ → ℕ → Type 0) (before after : Places) (worn_out : Bool)
+    (later earlier : Story) → All (IsReadAt At) earlier → ErasesFree before after 3 worn_out later
+    → ErasesFree before after 3 worn_out (later ++ earlier)
+free_behind At before after worn_out later earlier reads does =
+    let none = reads_erase_none At earlier reads in record {
+      costs = retiring_then before before after 0 1 0 0 0 3 [] later earlier
+          (retiring_of before before 0 0 0 [] earlier refl (costs_reads At [] earlier reads)) does.costs;
+      tries = tries_behind before after later earlier none does.tries;
+      retires = retires_behind before after worn_out later earlier none does.retires;
+    }
 
-pub erases_free_behind : (At : ℕ → ℕ → Type 0) (before : Places) (old mid new : Told)
-    → ReadsAt At old mid → Spends (ErasesFree before) mid new → Spends (ErasesFree before) old new
-erases_free_behind At before old mid new did =
-    spends_then (All (IsReadAt At)) (ErasesFree before) (ErasesFree before) old mid new
-    (λ later earlier reads does. free_behind At before later earlier reads does)
+pub erases_free_behind : (At : ℕ → ℕ → Type 0) (before after : Places) (worn_out : Bool)
+    (old mid new : Told) → ReadsAt At old mid → Spends (ErasesFree before after 3 worn_out) mid new
+    → Spends (ErasesFree before after 3 worn_out) old new
+erases_free_behind At before after worn_out old mid new did =
+    spends_then (All (IsReadAt At)) (ErasesFree before after 3 worn_out)
+    (ErasesFree before after 3 worn_out) old mid new
+    (λ later earlier reads does. free_behind At before after worn_out later earlier reads does)
     (record { added = did.added; does = did.each; history = did.history })
 
-pub erases_for_behind : (At : ℕ → ℕ → Type 0) (before : Places) (place : ℕ) (done : Bool)
-    (old mid new : Told) → ReadsAt At old mid → Spends (ErasesFor before place done) mid new
-    → Spends (ErasesFor before place done) old new
-erases_for_behind At before place done old mid new did =
-    spends_then (All (IsReadAt At)) (ErasesFor before place done) (ErasesFor before place done) old
-    mid new (λ later earlier reads does. record {
-      erases = free_behind At before later earlier reads does.erases;
-      erased = λ is. erased_joined later earlier place
-          ∙ ap (λ (b : Bool). b || is_erased earlier place) (does.erased is);
+pub erases_for_behind : (At : ℕ → ℕ → Type 0) (before after : Places) (place : ℕ)
+    (done worn_out : Bool) (old mid new : Told) → ReadsAt At old mid
+    → Spends (ErasesFor before after 3 place done worn_out) mid new
+    → Spends (ErasesFor before after 3 place done worn_out) old new
+erases_for_behind At before after place done worn_out old mid new did =
+    spends_then (All (IsReadAt At)) (ErasesFor before after 3 place done worn_out)
+    (ErasesFor before after 3 place done worn_out) old mid new (λ later earlier reads does. record {
+      erases = free_behind At before after worn_out later earlier reads does.erases;
+      erased = λ is. erased_joined later earlier place ∙ or_left _ _ (does.erased is);
     }) (record { added = did.added; does = did.each; history = did.history })
 
--- ---- what a call tries to erase
+-- ---- a call that takes no place
 
-free_read : (At : ℕ → ℕ → Type 0) (before : Places) (added : Story) → All (IsReadAt At) added
-    → ErasesFree before added
-free_read At before added reads = record {
-  costs = costs_at_most 0 1 0 0 0 3 [] [] added (omega arith) (omega arith) (omega arith)
-      (λ kind has. has) (costs_reads At [] added reads);
-  next = λ p is. absurd (false≢true (sym (reads_try_none At p added reads) ∙ is));
+free_none : (before : Places) (worn_out : Bool) (added : Story) → worn_out ≡ false
+    → erases added ≤ 0 → Costs 0 0 0 [] added → ErasesFree before before 3 worn_out added
+free_none before worn_out added still none costs = record {
+  costs = retiring_at_most before before 0 1 0 0 0 3 [] [] added (omega arith) (omega arith)
+      (omega arith) (λ kind has. has) (retiring_of before before 0 0 0 [] added refl costs);
+  tries = tries_none before before added none refl;
+  retires = retires_none before before worn_out added refl still (λ p. none_found p added none);
 }
+
+-- a fault of a read is no worn place
+pub read_not_worn : (At : ℕ → ℕ → Type 0) (fault : ChipFault) (old new : Told)
+    → IsCauseAt At fault old new → tells_worn fault ≡ false
+read_not_worn At ReadFault old new cause = refl
+read_not_worn At Stopped old new cause = refl
+read_not_worn At (Damaged p s stored computed) old new cause = refl
+read_not_worn At (Malformed p s) old new cause = refl
+read_not_worn At (WornOut n) old new cause = absurd cause
+
+-- nor is one of writing to a place that was taken
+pub move_not_worn : (place : ℕ) (fault : ChipFault) (old new : Told)
+    → MoveCause place fault old new → tells_worn fault ≡ false
+move_not_worn place ReadFault old new cause = refl
+move_not_worn place Stopped old new cause = refl
+move_not_worn place (Damaged p s stored computed) old new cause = refl
+move_not_worn place (Malformed p s) old new cause = refl
+move_not_worn place (WornOut n) old new cause = absurd cause
 
 -- reads alone
-pub frees_read : (At : ℕ → ℕ → Type 0) (before : Places) (old new : Told) → ReadsAt At old new
-    → Spends (ErasesFree before) old new
-frees_read At before old new did = record {
+pub frees_read : (At : ℕ → ℕ → Type 0) (before : Places) (worn_out : Bool) (old new : Told)
+    → worn_out ≡ false → ReadsAt At old new → Spends (ErasesFree before before 3 worn_out) old new
+frees_read At before worn_out old new still did = record {
   added = did.added;
-  does = free_read At before did.added did.each;
+  does = free_none before worn_out did.added still (reads_erase_none At did.added did.each)
+      (costs_reads At [] did.added did.each);
   history = did.history;
 }
 
-pub for_read : (At : ℕ → ℕ → Type 0) (before : Places) (place : ℕ) (old new : Told)
-    → ReadsAt At old new → Spends (ErasesFor before place false) old new
-for_read At before place old new did = record {
-  added = did.added;
-  does = record {
-    erases = free_read At before did.added did.each;
-    erased = λ is. absurd (false≢true is);
-  };
-  history = did.history;
-}
+pub for_read : (At : ℕ → ℕ → Type 0) (before : Places) (place : ℕ) (worn_out : Bool)
+    (old new : Told) → worn_out ≡ false → ReadsAt At old new
+    → Spends (ErasesFor before before 3 place false worn_out) old new
+for_read At before place worn_out old new still did =
+    let free = frees_read At before worn_out old new still did in record {
+      added = free.added;
+      does = record { erases = free.does; erased = λ is. absurd (false≢true is) };
+      history = free.history;
+    }
 
 -- nothing at all
-pub frees_none : (before : Places) (t : Told) → Spends (ErasesFree before) t t
-frees_none before t = spends_none (ErasesFree before) t (record {
-  costs = costs_at_most 0 1 0 0 0 3 [] [] [] (omega arith) (omega arith) (omega arith)
-      (λ kind has. has) (costs_none []);
-  next = λ p is. absurd (false≢true is);
-})
+pub frees_none : (before : Places) (t : Told) → Spends (ErasesFree before before 3 false) t t
+frees_none before t =
+    spends_none (ErasesFree before before 3 false) t
+    (free_none before false [] refl (omega arith) (costs_none []))
 
 pub for_none : (before : Places) (place : ℕ) (t : Told)
-    → Spends (ErasesFor before place false) t t
+    → Spends (ErasesFor before before 3 place false false) t t
 for_none before place t = record {
   added = (frees_none before t).added;
   does = record { erases = (frees_none before t).does; erased = λ is. absurd (false≢true is) };
   history = (frees_none before t).history;
 }
 
--- the place that was erased was free
-pub was_free : (before : Places) (place : ℕ) (done : Bool) (added : Story) → IsNextFree before place
-    → ErasesOnce place 3 done added → ErasesFree before added
-was_free before place done added free once = record {
-  costs = once.costs;
-  next = λ p is. subst (IsNextFree before) (sym (once.alone p is)) free;
-}
-
-pub frees_once : (before : Places) (place : ℕ) (done : Bool) (old new : Told)
-    → IsNextFree before place → Spends (ErasesOnce place 3 done) old new
-    → Spends (ErasesFree before) old new
-frees_once before place done old new free =
-    spends_weaker (ErasesOnce place 3 done) (ErasesFree before) old new
-    (λ added. was_free before place done added free)
+-- ---- a call that takes one
 
 -- done, it is where the unit stands
-pub for_unit : (before : Places) (place at : ℕ) (old new : Told) → IsNextFree before place
-    → at ≡ place → Spends (ErasesOnce place 3 true) old new
-    → Spends (ErasesFor before at true) old new
-for_unit before place at old new free is =
-    spends_weaker (ErasesOnce place 3 true) (ErasesFor before at true) old new
-    (λ added once. record {
-      erases = was_free before place true added free once;
-      erased = λ done. rw is (once.erased done);
-    })
+pub for_unit : (before after : Places) (place at : ℕ) (worn_out : Bool) (old new : Told) → at ≡ place
+    → Spends (ErasesFor before after 3 place true worn_out) old new
+    → Spends (ErasesFor before after 3 at true worn_out) old new
+for_unit before after place at worn_out old new is does = rw is does
 
 -- not done, it is nobody's
-pub for_nobody : (before : Places) (place at : ℕ) (old new : Told) → IsNextFree before place
-    → Spends (ErasesOnce place 3 false) old new → Spends (ErasesFor before at false) old new
-for_nobody before place at old new free =
-    spends_weaker (ErasesOnce place 3 false) (ErasesFor before at false) old new
-    (λ added once. record {
-      erases = was_free before place false added free once;
-      erased = λ done. absurd (false≢true done);
-    })
+pub for_nobody : (before after : Places) (place at : ℕ) (worn_out : Bool) (old new : Told)
+    → Spends (ErasesFor before after 3 place false worn_out) old new
+    → Spends (ErasesFor before after 3 at false worn_out) old new
+for_nobody before after place at worn_out old new =
+    spends_weaker (ErasesFor before after 3 place false worn_out)
+    (ErasesFor before after 3 at false worn_out) old new
+    (λ added does. record { erases = does.erases; erased = λ is. absurd (false≢true is) })
 
 -- and where none could be taken
-pub frees_untaken : (before : Places) (old new : Told) → Spends (ErasesNext before false) old new
-    → Spends (ErasesFree before) old new
-frees_untaken before old new did =
-    frees_once before did.does.place false old new did.does.next (record {
-      added = did.added;
-      does = once_at_most did.does.place 1 3 false did.added (omega arith) did.does.once;
-      history = did.history;
-    })
+pub frees_untaken : (before after : Places) (e : ChipFault) (old new : Told)
+    → Spends (ErasesNext before (Err e) after) old new
+    → Spends (ErasesFree before after 3 (tells_worn e)) old new
+frees_untaken before after e old new = costs_of_untaken before after 3 e old new (omega arith)
 
-pub for_untaken : (before : Places) (at : ℕ) (old new : Told) → Spends (ErasesNext before false) old new
-    → Spends (ErasesFor before at false) old new
-for_untaken before at old new did =
-    for_nobody before did.does.place at old new did.does.next (record {
-      added = did.added;
-      does = once_at_most did.does.place 1 3 false did.added (omega arith) did.does.once;
-      history = did.history;
+pub for_untaken : (before after : Places) (at : ℕ) (e f : ChipFault) (old new : Told) → f ≡ e
+    → Spends (ErasesNext before (Err e) after) old new
+    → Spends (ErasesFor before after 3 at false (tells_worn f)) old new
+for_untaken before after at e f old new same did =
+    let free = frees_untaken before after e old new did in rw same (record {
+      added = free.added;
+      does = record { erases = free.does; erased = λ is. absurd (false≢true is) };
+      history = free.history;
     })
 
 -- what was erased for a unit was free
-pub frees_for : (before : Places) (place : ℕ) (done : Bool) (old new : Told)
-    → Spends (ErasesFor before place done) old new → Spends (ErasesFree before) old new
-frees_for before place done old new =
-    spends_weaker (ErasesFor before place done) (ErasesFree before) old new
-    (λ added does. does.erases)
+pub frees_for : (before after : Places) (place : ℕ) (done worn_out : Bool) (old new : Told)
+    → Spends (ErasesFor before after 3 place done worn_out) old new
+    → Spends (ErasesFree before after 3 worn_out) old new
+frees_for before after place done worn_out old new =
+    spends_weaker (ErasesFor before after 3 place done worn_out)
+    (ErasesFree before after 3 worn_out) old new (λ added does. does.erases)

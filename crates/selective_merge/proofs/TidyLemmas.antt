@@ -1,25 +1,29 @@
 -- What the calls program and erase by the tables alone, one after another, whatever the chip tells.
-use Rattle.std.proofs.Common.{◌≡◌, ◌<◌, ◌≤◌, ◌+◌, ℕ, Bool, true, false, List, length, Result, Ok, inl, inr, refl, arith}
+use Rattle.std.proofs.Common.{◌≡◌, ◌⊎◌, ◌<◌, ◌≤◌, ◌+◌, ℕ, Bool, true, false, List, length, Result, Ok, Err, inl, inr, refl, ◌∙◌, ap, arith}
 use Rattle.chip_trait.specs.Told.{Told}
 use Rattle.ipl_base.specs.declared.fault.ChipFault.{ChipFault}
-use Rattle.ipl_meaning.specs.Tables.{IsFree, Tables}
+use Rattle.ipl_meaning.specs.Tables.{Places, IsFree, Tables, IsCountedClean}
 use Rattle.ipl_meaning.specs.TableSteps.{IsMoved, taken, with_next, with_overflow}
 use Rattle.unit_io.specs.Costs.{Spends}
 use Rattle.unit_io.specs.ReadsAt.{ReadsAt}
-use Rattle.unit_io.specs.Spots.{Programs, Rewrites, IsSpot, IsPieceSpot}
+use Rattle.unit_io.specs.Spots.{Programs, IsSpot, IsPieceSpot}
 use Rattle.unit_io.proofs.CostLemmas.{spends_none, spends_then, spends_weaker}
 use Rattle.unit_io.proofs.SpotLemmas.{programs_none}
 use Rattle.unit_io.proofs.TidyLemmas.{tidy_then, tidy_wider}
-use Rattle.steps.specs.Steps.{Tidies}
-use Rattle.steps.proofs.TablesLemmas.{tables_read, tables_then, tables_rewritten}
+use Rattle.unit_directory.specs.Free.{AreNext}
+use Rattle.unit_directory.proofs.AsideLemmas.{next_places_are_aside}
+use Rattle.steps.specs.Steps.{Settled, Tidies, TidyWork}
+use Rattle.steps.proofs.TablesLemmas.{tables_read, tables_then}
 use Rattle.merge_rules.specs.Known.{KnowsPlaces}
 use Rattle.merge_rules.specs.Packs.{IsLogSpotBelow}
 use Rattle.merge_rules.specs.Pages.{IsBaseSpotBelow}
-use Rattle.merge_rules.proofs.KnownCleanLemmas.{free_apart, merged_clean, opened_clean}
-use Rattle.place_taking.specs.Takes.{ClearsNext}
-use Rattle.place_taking.proofs.JoinLemmas.{tidy_untaken}
+use Rattle.merge_rules.proofs.KnownCleanLemmas.{StaysOrIsFrom, counted_before, counted_in_use, merged_clean, opened_clean, stays_before}
+use Rattle.place_taking.specs.Spending.{WritesFree}
+use Rattle.place_taking.specs.Takes.{ClearsNext, IsAsideFrom, with_places}
+use Rattle.place_taking.proofs.JoinLemmas.{tidy_untaken, tidy_writes}
+use Rattle.selective_merge.specs.Moving.{set_aside}
 use Rattle.selective_merge.specs.Writing.{IsFilledSpot, IsUnitSpot}
-use Rattle.selective_merge.proofs.HeldLemmas.{recounted}
+use Rattle.selective_merge.proofs.HeldLemmas.{known_aside, recounted}
 use Rattle.selective_merge.proofs.FillLemmas.{programs_filled, programs_unit, programs_pages, programs_unsealed}
 use Rattle.selective_merge.proofs.ReadLemmas.{reads_program}
 
@@ -129,45 +133,73 @@ tidies_behind At t after result old mid new did =
     tables_then (Unit {0}) (Unit {0}) t t after done result old mid new did.counts
     (tables_read {E = Unit {0}} At t (Ok done) old mid did)
 
-module _ (places : ℕ) (t : Tables) (known : KnowsPlaces places t) (p : ℕ)
-    (free : IsFree t.places p) where
+-- a free place that was written anew
+tidies_written : {U F : Type 0} (t after : Tables) (d : Places) (p from : ℕ) (done : Bool)
+    (result : Result U F) (old new : Told)
+    → ((q n : ℕ) → IsCountedClean after q n
+    → (IsCountedClean t q n × (¬ IsFree d q)) ⊎ ((done ≡ true) × (q ≡ p) × (from ≤ n)))
+    → Spends (WritesFree d p from done) old new → Tidies t result after old new
+tidies_written t after d p from done result old new moved =
+    spends_weaker (WritesFree d p from done)
+    (TidyWork (IsCountedClean t) (IsCountedClean after) (Settled result old new)) old new
+    (λ added. tidy_writes (IsCountedClean t) (IsCountedClean after) d p from done
+    (Settled result old new) added (λ settled. moved))
+
+module _ (places : ℕ) (t : Tables) (known : KnowsPlaces places t) (worn : List ℕ)
+    (in_turn : AreNext t.places worn) (p : ℕ) where
+  known_then : KnowsPlaces places (set_aside t worn)
+  known_then = known_aside places t worn known in_turn
+
+  as_from : (from q n : ℕ) → StaysOrIsFrom places (set_aside t worn) known_then p from q n
+      → (IsCountedClean t q n × (¬ IsFree t.places q)) ⊎ ((true ≡ true) × (q ≡ p) × (from ≤ n))
+  as_from from q n stays = elim (stays_before places t known worn in_turn p from q n stays) [
+    | inl was ↦ inl was
+    | inr here ↦ inr (refl, here.0, here.1)
+  ]
+
   -- a place that was free is an overflow place
   pub opens_tidily : (T : Type 0) (after : Tables) (next : ℕ) (result : Result T ChipFault)
-      (old new : Told) → after ≡ with_overflow (taken t p) p next
-      → Spends (Rewrites p 1 true) old new → Tidies t result after old new
+      (old new : Told) → after ≡ with_overflow (taken (set_aside t worn) p) p next
+      → Spends (WritesFree t.places p 1 true) old new → Tidies t result after old new
   opens_tidily T after next result old new is did =
-      rw is (tables_rewritten t (with_overflow (taken t p) p next) p 1 true result old new
-      (λ settled q n counted. elim (opened_clean places t known p next free q n counted) [
-        | inl was ↦ inl was
-        | inr here ↦ inr (refl, here.0, here.1)
-      ]) did)
+      rw is (tidies_written t (with_overflow (taken (set_aside t worn) p) p next) t.places p 1 true
+      result old new
+      (λ q n counted. as_from 1 q n
+      (opened_clean places (set_aside t worn) known_then p next q n counted)) did)
 
   -- or the place of a unit
   pub moves_tidily : (T : Type 0) (after : Tables) (u used next : ℕ) (result : Result T ChipFault)
       (old new : Told) → u < length t.places.current → length t.places.written ≡ length t.places.current
-      → IsMoved (with_next (taken t p) next) after u p used
-      → Spends (Rewrites p (241 + used) true) old new → Tidies t result after old new
+      → IsMoved (with_next (taken (set_aside t worn) p) next) after u p used
+      → Spends (WritesFree t.places p (241 + used) true) old new → Tidies t result after old new
   moves_tidily T after u used next result old new low logs moved =
-      tables_rewritten t after p (241 + used) true result old new
-      (λ settled q n counted.
-      elim (merged_clean places t known after u p used next low logs free moved q n counted) [
-        | inl was ↦ inl was
-        | inr here ↦ inr (refl, here.0, here.1)
-      ])
+      let facts = next_places_are_aside t.places worn in_turn in
+      let many : length (set_aside t worn).places.current ≡ length t.places.current =
+      ap (λ (l : List ℕ). length l) facts.current in
+      let written : length (set_aside t worn).places.written ≡ length t.places.written =
+      ap (λ (l : List ℕ). length l) facts.written in
+      tidies_written t after t.places p (241 + used) true result old new
+      (λ q n counted. as_from (241 + used) q n
+      (merged_clean places (set_aside t worn) known_then after u p used next (omega (arith, low, many))
+      (omega (arith, logs, many, written)) moved q n counted))
 
   -- or it was given back
   pub gives_back_tidily : (T : Type 0) (after : Tables) (erases : List ℕ) (from next : ℕ)
-      (result : Result T ChipFault) (old new : Told) → after ≡ recounted t erases next
-      → Spends (Rewrites p from false) old new → Tidies t result after old new
+      (result : Result T ChipFault) (old new : Told) → after ≡ recounted (set_aside t worn) erases next
+      → Spends (WritesFree t.places p from false) old new → Tidies t result after old new
   gives_back_tidily T after erases from next result old new is did =
-      rw is (tables_rewritten t (recounted t erases next) p from false result old new
-      (λ settled q n counted. inl (counted, free_apart places t known p q n free counted)) did)
+      rw is (tidies_written t (recounted (set_aside t worn) erases next) t.places p from false result old
+      new (λ q n counted.
+      let was = counted_before places t known worn in_turn q n counted in
+      inl (was, counted_in_use places t known q n was)) did)
 
 -- or none was taken
-pub untaken_tidily : (places : ℕ) (t : Tables) → KnowsPlaces places t → (T : Type 0) (after : Tables)
-    (next : ℕ) (result : Result T ChipFault) (old new : Told) → after ≡ with_next t next
-    → Spends (ClearsNext t.places false) old new → Tidies t result after old new
-untaken_tidily places t known T after next result old new is did =
-    let p = did.does.place in
-    gives_back_tidily places t known p did.does.next.free T after t.places.erases 0 next result
-    old new is (tidy_untaken t.places p 0 old new did.does.next did)
+pub untaken_tidily : (places : ℕ) (t : Tables) → KnowsPlaces places t → (d : Places)
+    → IsAsideFrom t.places d → (T : Type 0) (after : Tables) (next : ℕ) (e : ChipFault)
+    (result : Result T ChipFault) (old new : Told) → after ≡ with_next (with_places t d) next
+    → Spends (ClearsNext t.places (Err e)) old new → Tidies t result after old new
+untaken_tidily places t known d aside T after next e result old new is did =
+    gives_back_tidily places t known aside.worn aside.in_turn 0 T after (set_aside t aside.worn).places.erases
+    0 next result old new
+    (is ∙ ap (λ (b : Places). with_next (with_places t b) next) aside.places_is)
+    (tidy_untaken t.places 0 0 e old new did)

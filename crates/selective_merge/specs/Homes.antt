@@ -1,5 +1,5 @@
 -- Where a unit is moved from, what is read of it, and why it isn't merged.
-use Rattle.std.specs.Prelude.{ℕ, ◌≡◌, ◌≢◌, ◌⊎◌, ◌==◌, ◌&&◌, Bool, List, Result, Ok, MatchResult, slice_index}
+use Rattle.std.specs.Prelude.{ℕ, ◌≡◌, ◌≢◌, ◌⊎◌, ◌+◌, ◌==◌, ◌&&◌, Bool, List, length, Result, Ok, MatchResult, slice_index}
 use Rattle.ipl_base.specs.declared.limits.TheConstants.{PAGES}
 use Rattle.chip_trait.specs.Told.{Told, Rose}
 use Rattle.ipl_base.specs.declared.fault.ChipFault.{ChipFault}
@@ -7,6 +7,7 @@ use Rattle.ipl_base.specs.declared.fault.ChipFault.TheVariants.{ReadFault, Stopp
 use Rattle.ipl_format.specs.Record.{Record}
 use Rattle.ipl_meaning.specs.Layout.{Shape, records_of}
 use Rattle.ipl_meaning.specs.Tables.{Places, OverflowLists, Tables}
+use Rattle.unit_directory.specs.Free.{spares_of}
 use Rattle.unit_log.specs.Live.{OfMirrored}
 use Rattle.unit_log.specs.Looks.{IsLogRead}
 use Rattle.merge_rules.specs.Packs.{among}
@@ -55,23 +56,30 @@ pub record IsLearnt (t : Tables) (u : ℕ) (told : Told) (home : Home) (log : Li
 
 -- ---- causes
 
--- why a unit isn't moved from this place, whatever the chip tells: a read or a write failed, or the
--- place for it is worn, and that count rose; or a base sector of the place is at fault, and where it is
--- damaged its sums differ; or a page has no room, which is said of sector 0
+-- why a unit isn't moved from this place to one that was taken, whatever the chip tells: a read or a
+-- write failed, and that count rose; or a base sector of the place is at fault, and where it is damaged
+-- its sums differ; or a page has no room, which is said of sector 0
 abbrev pub MoveCause : ℕ → ChipFault → Told → Told → Type 0
 MoveCause place ReadFault old new = Rose old.read_faults new.read_faults
 MoveCause place Stopped old new = Rose old.write_faults new.write_faults
 MoveCause place (Damaged p s stored computed) old new =
     (p ≡ place) × IsBaseSpotBelow PAGES s × (stored ≢ computed)
 MoveCause place (Malformed p s) old new = (p ≡ place) × (IsBaseSpotBelow PAGES s ⊎ (s ≡ 0))
-MoveCause place (WornOut n) old new = (n ≡ 1) × Rose old.worn_erases new.worn_erases
+MoveCause place (WornOut n) old new = ⊥
 
--- why it isn't merged: this, or its header or a sector where its log may be read is at fault
-abbrev pub MergeCause : ℕ → List (ℕ × ℕ) → ChipFault → Told → Told → Type 0
-MergeCause place spots ReadFault old new = Rose old.read_faults new.read_faults
-MergeCause place spots Stopped old new = Rose old.write_faults new.write_faults
-MergeCause place spots (Damaged p s stored computed) old new =
+-- So many places were found worn: one more than are spare, all of which are retired then; and the
+-- count of such erases rose.
+abbrev pub WearCause : Places → ℕ → Told → Told → Type 0
+WearCause after n old new = (n ≡ 1 + spares_of after)
+    × (length after.retired ≡ spares_of after) × Rose old.worn_erases new.worn_erases
+
+-- why it isn't merged: this, or its header or a sector where its log may be read is at fault, or too
+-- many places are worn, by the directory then
+abbrev pub MergeCause : Places → ℕ → List (ℕ × ℕ) → ChipFault → Told → Told → Type 0
+MergeCause after place spots ReadFault old new = Rose old.read_faults new.read_faults
+MergeCause after place spots Stopped old new = Rose old.write_faults new.write_faults
+MergeCause after place spots (Damaged p s stored computed) old new =
     (p ≡ place) × IsBaseSpotBelow PAGES s × (stored ≢ computed)
-MergeCause place spots (Malformed p s) old new =
+MergeCause after place spots (Malformed p s) old new =
     ((p ≡ place) × IsBaseSpotBelow PAGES s) ⊎ IsLogRead place spots p s
-MergeCause place spots (WornOut n) old new = (n ≡ 1) × Rose old.worn_erases new.worn_erases
+MergeCause after place spots (WornOut n) old new = WearCause after n old new

@@ -7,4 +7,3 @@ pub mod Writing
 pub mod Merging
 pub mod Spotting
 pub mod Placing
-pub mod Spending

@@ -2,7 +2,8 @@
 use Rattle.std.specs.Prelude.{ℕ, ◌≡◌, ◌≢◌, ◌⊎◌, ◌<◌, ◌≤◌, length, List, [], slice_set, Contains, Option, Some}
 use Rattle.ipl_meaning.specs.Tables.{Places, IsFree, Tables, overflow_places}
 use Rattle.unit_directory.specs.Directory.{after_replace}
-use Rattle.unit_directory.specs.Free.{free_count}
+use Rattle.unit_directory.specs.Free.{free_count, aside}
+use Rattle.place_taking.specs.Takes.{with_places}
 use Rattle.merge_rules.specs.Known.{KnowsPlaces}
 use Rattle.selective_merge.specs.declared.parts.Parts.{Parts}
 
@@ -16,6 +17,10 @@ tables_of parts = record {
   active = parts.active;
 }
 
+-- the tables with these places set aside, one after the other
+abbrev pub set_aside : Tables → List ℕ → Tables
+set_aside t worn = with_places t (aside t.places worn)
+
 -- the unit has the place and the generation, so many log sectors of it are written, and the old place is free
 abbrev pub places_moved : Places → ℕ → ℕ → ℕ → ℕ → Places
 places_moved it u p generation used =
@@ -27,6 +32,7 @@ pub record Frees (before after : Places) (place : Option ℕ) : Type 0 where
   pub written : after.written ≡ before.written
   pub generations : after.generations ≡ before.generations
   pub erases : after.erases ≡ before.erases
+  pub retired : after.retired ≡ before.retired
   pub all : length after.in_use ≡ length before.in_use
   pub free : (q : ℕ) → IsFree after q → IsFree before q ⊎ (place ≡ Some q)
   pub still : (q : ℕ) → IsFree before q → IsFree after q
@@ -39,13 +45,16 @@ pub record TellsUnit (before after : Tables) (u generation : ℕ) (masks : List 
   pub home : after.places.masks ≡ slice_set before.places.masks u masks
   pub elsewhere : after.overflow.masks ≡ slice_set before.overflow.masks u []
 
--- each place in use is a unit's, the status place or an overflow place, but for one
+-- each place in use is a unit's, the status place, an overflow place or a retired one, but for one
 abbrev pub NoneIsLostBut : ℕ → ℕ → Tables → Type 0
 NoneIsLostBut p places t = (q : ℕ) → q < places → q ≢ p → ¬ IsFree t.places q
     → Contains t.places.current q ⊎ (q ≡ t.status.place) ⊎ Contains (overflow_places t) q
+    ⊎ Contains t.places.retired q
 
--- the same sessions are open, the status is the same, and the tables know each place
+-- there are as many units, the same sessions are open, the status is the same, and the tables know
+-- each place
 pub record Holds (places : ℕ) (before after : Tables) : Type 0 where
+  pub units : length after.places.current ≡ length before.places.current
   pub active : after.active ≡ before.active
   pub status : after.status ≡ before.status
   pub known : KnowsPlaces places after

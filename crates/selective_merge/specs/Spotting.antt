@@ -1,8 +1,10 @@
 -- Where a log sector of a unit goes.
-use Rattle.std.specs.Prelude.{ℕ, ◌≡◌, ◌⊎◌, ◌<◌, ◌≤◌, length, slice_index, Contains}
+use Rattle.std.specs.Prelude.{ℕ, ◌≡◌, ◌⊎◌, ◌<◌, ◌≤◌, List, length, slice_index, Contains}
 use Rattle.ipl_base.specs.declared.limits.TheConstants.{SECTORS, LOG_SECTORS, OVERFLOW_PLACES, OVERFLOW_SECTORS}
 use Rattle.ipl_meaning.specs.Tables.{IsFree, Tables, spots_of, first_log}
 use Rattle.ipl_meaning.specs.TableSteps.{taken, with_overflow}
+use Rattle.unit_directory.specs.Free.{IsNextFree, AreNext, aside}
+use Rattle.selective_merge.specs.Moving.{set_aside}
 use Rattle.selective_merge.specs.declared.spots.OverflowChoice.{OverflowChoice}
 use Rattle.selective_merge.specs.declared.spots.OverflowChoice.TheVariants.{Clean, NewPlace, Nothing}
 
@@ -45,13 +47,20 @@ MayOverflow t u =
     (length (spots_of t u) < OVERFLOW_SECTORS)
     × (HasCleanSpot t ⊎ (length t.overflow.in_use < OVERFLOW_PLACES))
 
+-- the place is a new overflow place: the next free one, once some places were found worn, each the
+-- next free one in its turn, and set aside
+pub record OpensNext (t after : Tables) (p next : ℕ) : Type 0 where
+  pub worn : List ℕ
+  pub in_turn : AreNext t.places worn
+  pub next_free : IsNextFree (aside t.places worn) p
+  pub tables_are : after ≡ with_overflow (taken (set_aside t worn) p) p next
+
 -- the sector of an overflow place that the unit gets: a clean one, where there is one, and else the
 -- first of a new overflow place
 pub record TakesOverflow (t after : Tables) (u p s : ℕ) : Type 0 where
   pub spot : IsOverflowSpot after u p s
   pub clean : HasCleanSpot t → (after ≡ t) × IsLowest t p
-  pub new : ¬ HasCleanSpot t → IsFree t.places p × (s ≡ 1)
-      × ((next : ℕ) × (after ≡ with_overflow (taken t p) p next))
+  pub new : ¬ HasCleanSpot t → IsFree t.places p × (s ≡ 1) × ((next : ℕ) × OpensNext t after p next)
 
 -- what is chosen of this
 abbrev pub IsChoice : Tables → ℕ → OverflowChoice → Type 0

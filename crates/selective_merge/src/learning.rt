@@ -50,6 +50,7 @@ pub fn learn<C: Chip>(
     requires unit { unit < length directory.now.current }
     requires size { length directory.now.in_use ≡ (C.told chip.old).places }
     requires units { length overflow.now.spots ≡ length directory.now.current }
+    requires sized { overflow.now.places ≡ (C.told chip.old).places }
     ensures learns { Learns directory.now overflow.now unit (C.told chip.old) result scratch.new.log }
     ensures place { IfOk result (λ home. home.place ≡ slice_index directory.now.current unit) }
     ensures few { IfOk result (λ home. IsFew home.pieces) }

@@ -6,9 +6,10 @@
 //!
 //! Proved, by `merge`: done, the unit stands at a place that was free, its pages show the same,
 //! and its log is the pack of what is carried; at each moment a power cut leaves the old map;
-//! where no write failed, the tables agree, also where the place is worn; one erase at most is tried,
-//! of the least worn free place, and no program elsewhere; places in use keep their bytes; the new
-//! header says how often its place was erased; it draws a generation and a serial for each log sector.
+//! where no write failed, the tables agree, also where too many places are worn; one erase more is tried
+//! than places are retired, each of the least worn place that is free then, and no program elsewhere;
+//! places in use keep their bytes; the new header says how often its place was erased; it draws a
+//! generation and a serial for each log sector.
 //!
 //! Proved, by `merge`, `log_place`: over what the chip holds it tells exactly what is wrong with
 //! the unit: too many log sectors to carry, or the first page that doesn't read well or has no room

@@ -11,11 +11,12 @@ ghost use Rattle.unit_io.specs.Accounts.{Accounts};
 ghost use Rattle.unit_io.specs.Costs.{Spends};
 ghost use Rattle.unit_io.specs.Reads.{OfContents};
 ghost use Rattle.steps.specs.Steps.{Tidies};
+ghost use Rattle.place_taking.specs.Spending.{ErasesFor, SparesUsed, is_worn_out};
 ghost use Rattle.merge_rules.specs.Faults.{pages_fault, fault_with, TellsTheFault};
 ghost use Rattle.merge_rules.specs.Known.{KnowsPlaces};
 ghost use Rattle.merge_rules.specs.Pages.{IsFew};
 ghost use Rattle.merge_rules.specs.Packs.{among, packs_of, payloads_of};
-ghost use Rattle.selective_merge.specs.Homes.{from_home, IsLearnt, MoveCause, MergeCause};
+ghost use Rattle.selective_merge.specs.Homes.{from_home, IsLearnt, MergeCause};
 ghost use Rattle.selective_merge.specs.Moving.{tables_of, Holds};
 ghost use Rattle.selective_merge.specs.Merging.{
   CarriesFew,
@@ -27,7 +28,6 @@ ghost use Rattle.selective_merge.specs.Merging.{
   TellsMergeFault,
   CompletesMerge,
 };
-ghost use Rattle.selective_merge.specs.Spending.{ErasesFor, SparesUsed};
 ghost use Rattle.selective_merge.specs.Throughout.{ChartsThroughout};
 
 use crate::Parts;
@@ -41,7 +41,7 @@ use chip_trait::Chip;
 use ipl_base::ChipFault;
 use merge_rules::known_laws;
 use place_taking::take_place;
-use unit_directory::directory_laws;
+use unit_directory::{aside_laws, directory_laws};
 
 /// Merges a unit that was read, and of which this is carried.
 fn merge_packed<C: Chip>(
@@ -73,21 +73,24 @@ fn merge_packed<C: Chip>(
     ensures few { length (packs_of parts.old.active parts.old.scratch.log) ≤ CARRIED_SECTORS }
     ensures room { OnOk result (slice_index parts.new.directory.written unit ≤ CARRIED_SECTORS) }
     ensures holds { Holds (C.told chip.old).places (tables_of parts.old) (tables_of parts.new) }
-    ensures free { free_count parts.old.directory.in_use ≤ free_count parts.new.directory.in_use }
+    ensures free { free_count parts.old.directory.in_use + length parts.old.directory.retired
+        ≤ free_count parts.new.directory.in_use + length parts.new.directory.retired }
     ensures drawn { OnOk result (parts.new.counter
         ≡ parts.old.counter + 1 + slice_index parts.new.directory.written unit) }
     ensures draws { (parts.old.counter ≤ parts.new.counter)
         × (parts.new.counter ≤ parts.old.counter + 13) }
-    ensures costs { Spends (ErasesFor parts.old.directory
-        (slice_index parts.new.directory.current unit) (is_ok result))
+    ensures costs { Spends (ErasesFor parts.old.directory parts.new.directory 3
+        (slice_index parts.new.directory.current unit) (is_ok result) (is_worn_out result))
         (C.told chip.old) (C.told chip.new) }
     ensures tidy { Tidies (tables_of parts.old) result (tables_of parts.new)
         (C.told chip.old) (C.told chip.new) }
-    ensures accounts { Accounts (MoveCause (slice_index parts.old.directory.current unit)) result
+    ensures accounts { Accounts (MergeCause parts.new.directory
+        (slice_index parts.old.directory.current unit) (spots_in parts.old.overflow unit)) result
         (C.told chip.old) (C.told chip.new) }
 {
     known_laws();
     directory_laws();
+    aside_laws();
     parts.directory.facts();
     let units = parts.directory.units();
     let generation = parts.counter.draw();
@@ -151,18 +154,20 @@ fn merge_known<C: Chip>(
         (length (packs_of parts.old.active parts.old.scratch.log)) result }
     ensures room { OnOk result (slice_index parts.new.directory.written unit ≤ CARRIED_SECTORS) }
     ensures holds { Holds (C.told chip.old).places (tables_of parts.old) (tables_of parts.new) }
-    ensures free { free_count parts.old.directory.in_use ≤ free_count parts.new.directory.in_use }
+    ensures free { free_count parts.old.directory.in_use + length parts.old.directory.retired
+        ≤ free_count parts.new.directory.in_use + length parts.new.directory.retired }
     ensures drawn { OnOk result (parts.new.counter
         ≡ parts.old.counter + 1 + slice_index parts.new.directory.written unit) }
     ensures draws { (parts.old.counter ≤ parts.new.counter)
         × (parts.new.counter ≤ parts.old.counter + 13) }
-    ensures costs { Spends (ErasesFor parts.old.directory
-        (slice_index parts.new.directory.current unit) (is_ok result))
+    ensures costs { Spends (ErasesFor parts.old.directory parts.new.directory 3
+        (slice_index parts.new.directory.current unit) (is_ok result) (is_worn_out result))
         (C.told chip.old) (C.told chip.new) }
     ensures tidy { Tidies (tables_of parts.old) result (tables_of parts.new)
         (C.told chip.old) (C.told chip.new) }
-    ensures accounts { Accounts (MergeCause (slice_index parts.old.directory.current unit)
-        (spots_in parts.old.overflow unit)) result (C.told chip.old) (C.told chip.new) }
+    ensures accounts { Accounts (MergeCause parts.new.directory
+        (slice_index parts.old.directory.current unit) (spots_in parts.old.overflow unit)) result
+        (C.told chip.old) (C.told chip.new) }
 {
     let scratch = &mut parts.scratch;
     if !pack_carried(&scratch.log, &parts.active, &mut scratch.packs) {
@@ -212,18 +217,20 @@ pub fn merge_learnt<C: Chip>(
     // What the tables have, whatever the chip tells.
     ensures room { OnOk result (slice_index parts.new.directory.written unit ≤ CARRIED_SECTORS) }
     ensures holds { Holds (C.told chip.old).places (tables_of parts.old) (tables_of parts.new) }
-    ensures free { free_count parts.old.directory.in_use ≤ free_count parts.new.directory.in_use }
+    ensures free { free_count parts.old.directory.in_use + length parts.old.directory.retired
+        ≤ free_count parts.new.directory.in_use + length parts.new.directory.retired }
     ensures drawn { OnOk result (parts.new.counter
         ≡ parts.old.counter + 1 + slice_index parts.new.directory.written unit) }
     ensures draws { (parts.old.counter ≤ parts.new.counter)
         × (parts.new.counter ≤ parts.old.counter + 13) }
-    ensures costs { Spends (ErasesFor parts.old.directory
-        (slice_index parts.new.directory.current unit) (is_ok result))
+    ensures costs { Spends (ErasesFor parts.old.directory parts.new.directory 3
+        (slice_index parts.new.directory.current unit) (is_ok result) (is_worn_out result))
         (C.told chip.old) (C.told chip.new) }
     ensures tidy { Tidies (tables_of parts.old) result (tables_of parts.new)
         (C.told chip.old) (C.told chip.new) }
-    ensures accounts { Accounts (MergeCause (slice_index parts.old.directory.current unit)
-        (spots_in parts.old.overflow unit)) result (C.told chip.old) (C.told chip.new) }
+    ensures accounts { Accounts (MergeCause parts.new.directory
+        (slice_index parts.old.directory.current unit) (spots_in parts.old.overflow unit)) result
+        (C.told chip.old) (C.told chip.new) }
 {
     merge_known(chip, parts, unit, home)
 }
@@ -235,19 +242,20 @@ pub fn merge_learnt<C: Chip>(
 ///
 /// Whatever a power cut leaves at any moment stands for the map on which the story rested, and done,
 /// it rests on that map. Where it failed and no write did, it rests on it too, and the tables have
-/// all as before but for the numbers that were drawn, at most 13, and for one erase more of the place
-/// that was taken, where it was erased. It tries one erase, of the least worn place that was free, and
-/// programs nothing elsewhere.
+/// all as before but for the numbers that were drawn, at most 13, for one erase more of the place that
+/// was taken, where it was erased, and for places that were found worn, which are retired. It tries one
+/// erase more than places are retired, each of the least worn place that was free then, and programs
+/// nothing elsewhere.
 ///
 /// Done, it drew a generation and a serial for each log sector that it wrote.
 ///
-/// It fails where a read or a write failed, where the place for the unit is worn, where a base sector of
-/// a page is damaged or malformed, where a page has no room for its committed records, or where the log
-/// isn't what it must be. Over contents
-/// that the tables mirror it tells exactly what is wrong with the unit: that more than 12 log sectors
-/// would be carried, which is Malformed at sector 0 of its place, or the fault of its first page that
-/// doesn't read well, or has no room, which is that one too; and where neither is so, it fails only
-/// where a read or a write failed, or where that place is worn.
+/// It fails where a read or a write failed, where more places are worn than are spare, where a base
+/// sector of a page is damaged or malformed, where a page has no room for its committed records, or
+/// where the log isn't what it must be. Over contents that the tables mirror it tells exactly what is
+/// wrong with the unit: that more than 12 log sectors would be carried, which is Malformed at sector 0
+/// of its place, or the fault of its first page that doesn't read well, or has no room, which is that
+/// one too; and where neither is so, it fails only where a read or a write failed, or where too many
+/// places are worn.
 pub fn merge<C: Chip>(chip: &mut C, parts: &mut Parts, unit: u32) -> Result<(), ChipFault>
     requires known { KnowsPlaces (C.told chip.old).places (tables_of parts.old) }
     requires unit { unit < length parts.old.directory.current }
@@ -277,18 +285,20 @@ pub fn merge<C: Chip>(chip: &mut C, parts: &mut Parts, unit: u32) -> Result<(), 
     // What the tables have, whatever the chip tells.
     ensures room { OnOk result (slice_index parts.new.directory.written unit ≤ CARRIED_SECTORS) }
     ensures holds { Holds (C.told chip.old).places (tables_of parts.old) (tables_of parts.new) }
-    ensures free { free_count parts.old.directory.in_use ≤ free_count parts.new.directory.in_use }
+    ensures free { free_count parts.old.directory.in_use + length parts.old.directory.retired
+        ≤ free_count parts.new.directory.in_use + length parts.new.directory.retired }
     ensures drawn { OnOk result (parts.new.counter
         ≡ parts.old.counter + 1 + slice_index parts.new.directory.written unit) }
     ensures draws { (parts.old.counter ≤ parts.new.counter)
         × (parts.new.counter ≤ parts.old.counter + 13) }
-    ensures costs { Spends (ErasesFor parts.old.directory
-        (slice_index parts.new.directory.current unit) (is_ok result))
+    ensures costs { Spends (ErasesFor parts.old.directory parts.new.directory 3
+        (slice_index parts.new.directory.current unit) (is_ok result) (is_worn_out result))
         (C.told chip.old) (C.told chip.new) }
     ensures tidy { Tidies (tables_of parts.old) result (tables_of parts.new)
         (C.told chip.old) (C.told chip.new) }
-    ensures accounts { Accounts (MergeCause (slice_index parts.old.directory.current unit)
-        (spots_in parts.old.overflow unit)) result (C.told chip.old) (C.told chip.new) }
+    ensures accounts { Accounts (MergeCause parts.new.directory
+        (slice_index parts.old.directory.current unit) (spots_in parts.old.overflow unit)) result
+        (C.told chip.old) (C.told chip.new) }
 {
     let home = learn(
         chip,

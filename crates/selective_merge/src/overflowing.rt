@@ -1,18 +1,18 @@
 //! A new overflow place.
 ghost use Rattle.std.specs.Prelude.{◌≡◌, ◌<◌, ◌≤◌, ◌+◌, ◌^◌, length, is_ok, IfOk, OnOk};
-ghost use Rattle.ipl_meaning.specs.Tables.{IsFree};
-ghost use Rattle.ipl_meaning.specs.TableSteps.{taken, with_overflow};
 ghost use Rattle.unit_io.specs.Accounts.{Accounts};
 ghost use Rattle.unit_io.specs.Charts.{Charts};
 ghost use Rattle.unit_io.specs.Costs.{ProgramsAt, Spends};
-ghost use Rattle.unit_io.specs.Leads.{IsNotTaken, IsStopped};
+ghost use Rattle.unit_io.specs.Leads.{IsStopped};
 ghost use Rattle.unit_io.specs.Spots.{Programs, IsSpot};
 ghost use Rattle.steps.specs.Steps.{Tidies};
+ghost use Rattle.place_taking.specs.Spending.{ErasesFree, is_worn_out};
+ghost use Rattle.place_taking.specs.Takes.{IsNotTaken};
 ghost use Rattle.merge_rules.specs.Known.{KnowsPlaces};
 ghost use Rattle.selective_merge.specs.Merging.{StaysMirrored};
 ghost use Rattle.selective_merge.specs.Moving.{tables_of, Holds};
-ghost use Rattle.selective_merge.specs.Spending.{ErasesFree};
 ghost use Rattle.selective_merge.specs.Placing.{IsOpened, OpensPlace, Opens, OpensInSteps};
+ghost use Rattle.selective_merge.specs.Spotting.{OpensNext};
 ghost use Rattle.selective_merge.specs.Throughout.{ChartsThroughout};
 
 use crate::Parts;
@@ -52,8 +52,8 @@ fn write_overflow<C: Chip>(
 /// use is a condition.
 ///
 /// Whatever a power cut leaves at any moment stands for the map on which the story rested. It fails
-/// only where a write failed or where the place is worn, and the place is given back then, with one
-/// erase more where it was erased; where it is worn the story rests on that map still.
+/// only where a write failed, and the place is given back then, with one erase more where it was erased;
+/// or where more places are worn than are spare: the story rests on that map still.
 pub fn open_overflow<C: Chip>(chip: &mut C, parts: &mut Parts) -> Result<Spot, ChipFault>
     requires known { KnowsPlaces (C.told chip.old).places (tables_of parts.old) }
     requires two { length parts.old.overflow.in_use < 2 }
@@ -70,16 +70,16 @@ pub fn open_overflow<C: Chip>(chip: &mut C, parts: &mut Parts) -> Result<Spot, C
 
     // What the tables have, whatever the chip tells.
     ensures opened { IfOk result (λ spot. (spot.sector ≡ 1)
-        × IsFree parts.old.directory spot.place
-        × (tables_of parts.new ≡ with_overflow (taken (tables_of parts.old) spot.place) spot.place
-        (parts.old.counter + 1))) }
+        × OpensNext (tables_of parts.old) (tables_of parts.new) spot.place (parts.old.counter + 1)) }
     ensures holds { Holds (C.told chip.old).places (tables_of parts.old) (tables_of parts.new) }
     ensures draws { (parts.old.counter ≤ parts.new.counter)
         × (parts.new.counter ≤ parts.old.counter + 1) }
-    ensures costs { Spends (ErasesFree parts.old.directory) (C.told chip.old) (C.told chip.new) }
+    ensures costs { Spends (ErasesFree parts.old.directory parts.new.directory 3 (is_worn_out result))
+        (C.told chip.old) (C.told chip.new) }
     ensures tidy { Tidies (tables_of parts.old) result (tables_of parts.new)
         (C.told chip.old) (C.told chip.new) }
-    ensures accounts { Accounts IsNotTaken result (C.told chip.old) (C.told chip.new) }
+    ensures accounts { Accounts (IsNotTaken parts.new.directory) result
+        (C.told chip.old) (C.told chip.new) }
 {
     known_laws();
     let units = parts.directory.units();

@@ -65,6 +65,7 @@ pub fn move_unit(
     masks: [u16; 15],
 )
     requires overflow { length parts.old.overflow.spots ≡ length parts.old.directory.current }
+    requires sized { parts.old.overflow.places ≡ length parts.old.directory.in_use }
     requires unit { unit < length parts.old.directory.current }
     requires place { place < length parts.old.directory.in_use }
     requires another { place ≢ slice_index parts.old.directory.current unit }
@@ -78,6 +79,7 @@ pub fn move_unit(
         → NoneIsLost (length parts.old.directory.in_use) (tables_of parts.new) }
     ensures free { ¬ IsFree parts.old.directory (slice_index parts.old.directory.current unit)
         → free_count parts.old.directory.in_use + 1 ≤ free_count parts.new.directory.in_use }
+    ensures retired { parts.new.directory.retired ≡ parts.old.directory.retired }
     ensures counter { parts.new.counter ≡ parts.old.counter }
 {
     overflow_laws();

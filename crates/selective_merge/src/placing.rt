@@ -5,13 +5,13 @@ ghost use Rattle.unit_io.specs.Accounts.{Accounts};
 ghost use Rattle.unit_io.specs.Costs.{Spends};
 ghost use Rattle.unit_io.specs.ReadsAt.{ReadsAt};
 ghost use Rattle.steps.specs.Steps.{Tidies};
+ghost use Rattle.place_taking.specs.Spending.{ErasesFree, is_worn_out};
 ghost use Rattle.merge_rules.specs.Known.{KnowsPlaces};
 ghost use Rattle.selective_merge.specs.Homes.{IsLearnt, MergeCause};
 ghost use Rattle.selective_merge.specs.Merging.{Merges, StaysMirrored, MergesInSteps, FailsAsMerge, CompletesMerge};
 ghost use Rattle.selective_merge.specs.Moving.{tables_of, Holds};
 ghost use Rattle.selective_merge.specs.Placing.{IsElsewhere, IsPlaced, MakesRoom, MakesRoomInSteps};
 ghost use Rattle.selective_merge.specs.Spotting.{HasHomeSpot, IsHomeSpot, IsSpotFor};
-ghost use Rattle.selective_merge.specs.Spending.{ErasesFree};
 ghost use Rattle.selective_merge.specs.Throughout.{ChartsThroughout};
 
 use crate::Parts;
@@ -48,11 +48,13 @@ fn merged_spot<C: Chip>(
     ensures holds { Holds (C.told chip.old).places (tables_of parts.old) (tables_of parts.new) }
     ensures draws { (parts.old.counter ≤ parts.new.counter)
         × (parts.new.counter ≤ parts.old.counter + 13) }
-    ensures costs { Spends (ErasesFree parts.old.directory) (C.told chip.old) (C.told chip.new) }
+    ensures costs { Spends (ErasesFree parts.old.directory parts.new.directory 3 (is_worn_out result))
+        (C.told chip.old) (C.told chip.new) }
     ensures tidy { Tidies (tables_of parts.old) result (tables_of parts.new)
         (C.told chip.old) (C.told chip.new) }
-    ensures accounts { Accounts (MergeCause (slice_index parts.old.directory.current unit)
-        (spots_in parts.old.overflow unit)) result (C.told chip.old) (C.told chip.new) }
+    ensures accounts { Accounts (MergeCause parts.new.directory
+        (slice_index parts.old.directory.current unit) (spots_in parts.old.overflow unit)) result
+        (C.told chip.old) (C.told chip.new) }
 {
     merge_learnt(chip, parts, unit, home)?;
     match home_spot(parts, unit) {
@@ -88,11 +90,13 @@ fn elsewhere<C: Chip>(
     ensures holds { Holds (C.told chip.old).places (tables_of parts.old) (tables_of parts.new) }
     ensures draws { (parts.old.counter ≤ parts.new.counter)
         × (parts.new.counter ≤ parts.old.counter + 13) }
-    ensures costs { Spends (ErasesFree parts.old.directory) (C.told chip.old) (C.told chip.new) }
+    ensures costs { Spends (ErasesFree parts.old.directory parts.new.directory 3 (is_worn_out result))
+        (C.told chip.old) (C.told chip.new) }
     ensures tidy { Tidies (tables_of parts.old) result (tables_of parts.new)
         (C.told chip.old) (C.told chip.new) }
-    ensures accounts { Accounts (MergeCause (slice_index parts.old.directory.current unit)
-        (spots_in parts.old.overflow unit)) result (C.told chip.old) (C.told chip.new) }
+    ensures accounts { Accounts (MergeCause parts.new.directory
+        (slice_index parts.old.directory.current unit) (spots_in parts.old.overflow unit)) result
+        (C.told chip.old) (C.told chip.new) }
 {
     match overflow_choice(parts, unit) {
         OverflowChoice::Clean(spot) => Ok(spot),
@@ -108,7 +112,8 @@ fn elsewhere<C: Chip>(
 /// Whatever a power cut leaves at any moment stands for the map on which the story rested, and where
 /// no write failed, it rests on that map at the end; at most 13 numbers are drawn. It fails as `merge`
 /// does. Where a log sector is clean at home nothing is asked of the chip; else the unit's header and
-/// log are read once, also where it is merged then, at most one place is erased, which was free, and nothing is programmed elsewhere.
+/// log are read once, also where it is merged then, at most one erase is tried and one more for each
+/// place that is retired, each of a free place, and nothing is programmed elsewhere.
 pub fn log_place<C: Chip>(chip: &mut C, parts: &mut Parts, unit: u32) -> Result<Spot, ChipFault>
     requires known { KnowsPlaces (C.told chip.old).places (tables_of parts.old) }
     requires unit { unit < length parts.old.directory.current }
@@ -139,11 +144,13 @@ pub fn log_place<C: Chip>(chip: &mut C, parts: &mut Parts, unit: u32) -> Result<
     ensures holds { Holds (C.told chip.old).places (tables_of parts.old) (tables_of parts.new) }
     ensures draws { (parts.old.counter ≤ parts.new.counter)
         × (parts.new.counter ≤ parts.old.counter + 13) }
-    ensures costs { Spends (ErasesFree parts.old.directory) (C.told chip.old) (C.told chip.new) }
+    ensures costs { Spends (ErasesFree parts.old.directory parts.new.directory 3 (is_worn_out result))
+        (C.told chip.old) (C.told chip.new) }
     ensures tidy { Tidies (tables_of parts.old) result (tables_of parts.new)
         (C.told chip.old) (C.told chip.new) }
-    ensures accounts { Accounts (MergeCause (slice_index parts.old.directory.current unit)
-        (spots_in parts.old.overflow unit)) result (C.told chip.old) (C.told chip.new) }
+    ensures accounts { Accounts (MergeCause parts.new.directory
+        (slice_index parts.old.directory.current unit) (spots_in parts.old.overflow unit)) result
+        (C.told chip.old) (C.told chip.new) }
 {
     if let Some(spot) = home_spot(parts, unit) {
         return Ok(spot);

@@ -84,6 +84,7 @@ pub fn count_carried<C: Chip>(
     requires unit { unit < length directory.now.current }
     requires size { length directory.now.in_use ≡ (C.told chip.old).places }
     requires units { length overflow.now.spots ≡ length directory.now.current }
+    requires sized { overflow.now.places ≡ (C.told chip.old).places }
     ensures exact { OfMirrored (C.told chip.old) directory.now overflow.now (λ it.
         MatchResult result (λ n. n ≡ min 13 (carried_count (among active.now) (it.units unit).log))
         (λ fault. fault ≡ ReadFault)) }

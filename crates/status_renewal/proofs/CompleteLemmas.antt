@@ -13,14 +13,14 @@ use Rattle.ipl_meaning.specs.Chart.{Chart, chart_of}
 use Rattle.ipl_meaning.specs.Last.{carried, carried_count}
 use Rattle.ipl_meaning.specs.Layout.{Shape, Layout, records_of}
 use Rattle.ipl_meaning.specs.Stands.{Says}
-use Rattle.ipl_meaning.specs.Tables.{Tables}
+use Rattle.ipl_meaning.specs.Tables.{Places, Tables}
 use Rattle.merge_rules.specs.Faults.{IsMergeable, FailsByChipAlone}
 use Rattle.merge_rules.specs.Packs.{among}
 use Rattle.merge_rules.proofs.FaultLemmas.{said_units_are_mergeable}
 use Rattle.opening_rules.specs.Faults.{first_fault, is_image}
 use Rattle.restart.specs.Looks.{HasCause}
 use Rattle.selective_merge.specs.Merging.{CompletesMerge}
-use Rattle.unit_io.specs.Leads.{IsNotTaken}
+use Rattle.place_taking.specs.Takes.{IsNotTaken}
 use Rattle.status_renewal.specs.Passes.{HasPassed, AreMergeable}
 use Rattle.status_renewal.specs.Recovers.{FailsByCallAlone}
 
@@ -54,15 +54,15 @@ merge_is_complete places n c it t kept old mid between result low active sized s
     (mergeable_then places n c it t kept old between was low active all)
 
 -- a place that wasn't taken is a call of the chip that failed
-pub not_taken_failed : (fault : ChipFault) (old new : Told) → IsNotTaken fault old new
-    → IsFailedCall fault
-not_taken_failed fault old new (inl stopped) = subst IsFailedCall (sym stopped.0) tt
-not_taken_failed fault old new (inr worn) = subst IsFailedCall (sym worn.0) tt
+pub not_taken_failed : (after : Places) (fault : ChipFault) (old new : Told)
+    → IsNotTaken after fault old new → IsFailedCall fault
+not_taken_failed after fault old new (inl stopped) = subst IsFailedCall (sym stopped.0) tt
+not_taken_failed after fault old new (inr worn) = subst IsFailedCall (sym worn.0) tt
 
-pub written_alone : {T : Type 0} (old new : Told) (result : Result T ChipFault)
-    → IfErr result (λ fault. IsNotTaken fault old new) → FailsByChipAlone result
-written_alone old new (Ok v) cause = tt
-written_alone old new (Err e) cause = not_taken_failed e old new cause
+pub written_alone : {T : Type 0} (after : Places) (old new : Told) (result : Result T ChipFault)
+    → IfErr result (λ fault. IsNotTaken after fault old new) → FailsByChipAlone result
+written_alone after old new (Ok v) cause = tt
+written_alone after old new (Err e) cause = not_taken_failed after e old new cause
 
 -- ---- an opening
 

@@ -1,74 +1,118 @@
 -- What calls cost that erase places for what they write.
-use Rattle.std.proofs.Common.{◌≤◌, ◌+◌, ◌*◌, ◌∙◌, ℕ, Bool, true, Result, Ok, Err, OnOk, [], ◌++◌, refl, subst, arith}
+use Rattle.std.proofs.Common.{◌≡◌, ◌≤◌, ◌+◌, ◌*◌, ◌∙◌, ℕ, Bool, true, false, Result, Ok, Err, OnOk, [], ◌++◌, refl, arith}
 use Rattle.std.specs.Prelude.{is_ok}
+use Rattle.std.proofs.lemmas.Bool.{false≢true}
 use Rattle.chip_trait.specs.Story.{Story}
 use Rattle.chip_trait.specs.Told.{Told}
 use Rattle.ipl_base.specs.declared.fault.ChipFault.{ChipFault}
 use Rattle.ipl_meaning.specs.Tables.{Places}
-use Rattle.selective_merge.specs.Spending.{ErasesFor}
-use Rattle.unit_directory.specs.Free.{IsNextFree}
-use Rattle.unit_directory.proofs.FreeLemmas.{one_is_next}
-use Rattle.unit_io.specs.Costs.{Costs, ErasesOnce, Spends}
+use Rattle.place_taking.specs.Spending.{ErasesFree, ErasesFor, tells_worn}
+use Rattle.place_taking.specs.Takes.{ErasesNext}
+use Rattle.place_taking.proofs.JoinLemmas.{costs_of_untaken}
+use Rattle.place_taking.proofs.SpendingLemmas.{none_found, retires_none, retires_then, retiring_at_most, retiring_of, retiring_then}
+use Rattle.unit_io.specs.Costs.{Costs, Spends}
 use Rattle.unit_io.specs.ReadsAt.{ReadsAt}
-use Rattle.unit_io.proofs.CostLemmas.{costs_then, costs_at_most, costs_none, erased_joined, spends_none, spends_reads, spends_then, spends_weaker}
+use Rattle.unit_io.proofs.CostLemmas.{costs_none, erased_joined, spends_none, spends_reads, spends_then, spends_weaker}
 use Rattle.status_renewal.specs.Passes.{ErasesAtMost, HasErased}
 
-pub erases_none : (told : Told) → Spends (ErasesAtMost 0) told told
-erases_none told = spends_none (ErasesAtMost 0) told (costs_none [])
+-- no erase was tried
+none_erased : (d : Places) (worn_out : Bool) (added : Story) → worn_out ≡ false
+    → Costs 0 0 0 [] added → ErasesAtMost d d 0 worn_out added
+none_erased d worn_out added still costs = record {
+  costs = retiring_of d d 0 0 0 [] added refl costs;
+  retires = retires_none d d worn_out added refl still (λ p. none_found p added costs.erased);
+}
 
-pub erases_more : (n k : ℕ) (old new : Told) → n ≤ k → Spends (ErasesAtMost n) old new
-    → Spends (ErasesAtMost k) old new
-erases_more n k old new more =
-    spends_weaker (ErasesAtMost n) (ErasesAtMost k) old new
-    (λ added is. costs_at_most n k 0 0 (3 * n) (3 * k) [] [] added more (omega arith)
-    (omega (arith, more)) (λ kind has. has) is)
+pub erases_none : (d : Places) (told : Told) → Spends (ErasesAtMost d d 0 false) told told
+erases_none d told =
+    spends_none (ErasesAtMost d d 0 false) told (none_erased d false [] refl (costs_none []))
 
-pub reads_erase : (At : ℕ → ℕ → Type 0) (k : ℕ) (old new : Told) → ReadsAt At old new
-    → Spends (ErasesAtMost k) old new
-reads_erase At k old new reads =
-    erases_more 0 k old new (omega arith) (spends_reads At [] old new reads)
+pub erases_more : (before after : Places) (n k : ℕ) (worn_out : Bool) (old new : Told) → n ≤ k
+    → Spends (ErasesAtMost before after n worn_out) old new
+    → Spends (ErasesAtMost before after k worn_out) old new
+erases_more before after n k worn_out old new more =
+    spends_weaker (ErasesAtMost before after n worn_out) (ErasesAtMost before after k worn_out) old new
+    (λ added is. record {
+      costs = retiring_at_most before after n k 0 0 (3 * n) (3 * k) [] [] added more (omega arith)
+          (omega (arith, more)) (λ kind has. has) is.costs;
+      retires = is.retires;
+    })
+
+pub reads_erase : (At : ℕ → ℕ → Type 0) (d : Places) (k : ℕ) (worn_out : Bool) (old new : Told)
+    → worn_out ≡ false → ReadsAt At old new → Spends (ErasesAtMost d d k worn_out) old new
+reads_erase At d k worn_out old new still reads =
+    erases_more d d 0 k worn_out old new (omega arith)
+    (spends_weaker (Costs 0 0 0 []) (ErasesAtMost d d 0 worn_out) old new
+    (λ added. none_erased d worn_out added still) (spends_reads At [] old new reads))
 
 -- one after the other
-pub erases_then : (n k : ℕ) (old mid new : Told) → Spends (ErasesAtMost n) old mid
-    → Spends (ErasesAtMost k) mid new → Spends (ErasesAtMost (n + k)) old new
-erases_then n k old mid new =
-    spends_then (ErasesAtMost n) (ErasesAtMost k) (ErasesAtMost (n + k)) old mid new
-    (λ later earlier first second. costs_at_most (n + k) (n + k) (0 + 0) 0 (3 * n + 3 * k)
-    (3 * (n + k)) [] [] (later ++ earlier) (omega arith) (omega arith) (omega arith)
-    (λ kind has. has) (costs_then n k 0 0 (3 * n) (3 * k) [] later earlier first second))
+pub erases_then : (first between last : Places) (n k : ℕ) (worn_out : Bool) (old mid new : Told)
+    → Spends (ErasesAtMost first between n false) old mid
+    → Spends (ErasesAtMost between last k worn_out) mid new
+    → Spends (ErasesAtMost first last (n + k) worn_out) old new
+erases_then first between last n k worn_out old mid new =
+    spends_then (ErasesAtMost first between n false) (ErasesAtMost between last k worn_out)
+    (ErasesAtMost first last (n + k) worn_out) old mid new
+    (λ later earlier one two. record {
+      costs = retiring_at_most first last (n + k) (n + k) (0 + 0) 0 (3 * n + 3 * k) (3 * (n + k)) [] []
+          (later ++ earlier) (omega arith) (omega arith) (omega arith) (λ kind has. has)
+          (retiring_then first between last n k 0 0 (3 * n) (3 * k) [] later earlier one.costs two.costs);
+      retires = retires_then first between last worn_out later earlier one.retires two.retires;
+    })
 
 -- reads, and then another call
-pub reads_then_erase : (At : ℕ → ℕ → Type 0) (k : ℕ) (old mid new : Told) → ReadsAt At old mid
-    → Spends (ErasesAtMost k) mid new → Spends (ErasesAtMost k) old new
-reads_then_erase At k old mid new reads did =
-    erases_more (0 + k) k old new (omega arith)
-    (erases_then 0 k old mid new (reads_erase At 0 old mid reads) did)
+pub reads_then_erase : (At : ℕ → ℕ → Type 0) (before after : Places) (k : ℕ) (worn_out : Bool)
+    (old mid new : Told) → ReadsAt At old mid
+    → Spends (ErasesAtMost before after k worn_out) mid new
+    → Spends (ErasesAtMost before after k worn_out) old new
+reads_then_erase At before after k worn_out old mid new reads did =
+    erases_more before after (0 + k) k worn_out old new (omega arith)
+    (erases_then before before after 0 k worn_out old mid new
+    (reads_erase At before 0 false old mid refl reads) did)
 
--- a merge, and a new status place
-pub merge_erases : (before : Places) (place : ℕ) (done : Bool) (old new : Told)
-    → Spends (ErasesFor before place done) old new → Spends (ErasesAtMost 1) old new
-merge_erases before place done old new =
-    spends_weaker (ErasesFor before place done) (ErasesAtMost 1) old new
-    (λ added is. is.erases.costs)
+-- a merge, or a new status place
+pub place_erases : (before after : Places) (place : ℕ) (done worn_out : Bool) (old new : Told)
+    → Spends (ErasesFor before after 3 place done worn_out) old new
+    → Spends (ErasesAtMost before after 1 worn_out) old new
+place_erases before after place done worn_out old new =
+    spends_weaker (ErasesFor before after 3 place done worn_out) (ErasesAtMost before after 1 worn_out)
+    old new (λ added is. record { costs = is.erases.costs; retires = is.erases.retires })
 
-pub place_erases : (place : ℕ) (done : Bool) (old new : Told)
-    → Spends (ErasesOnce place 3 done) old new → Spends (ErasesAtMost 1) old new
-place_erases place done old new =
-    spends_weaker (ErasesOnce place 3 done) (ErasesAtMost 1) old new (λ added is. is.costs)
+-- a place that was given back, and none that was taken
+free_erases : (before after : Places) (at : ℕ) (worn_out : Bool) (old new : Told)
+    → Spends (ErasesFree before after 3 worn_out) old new
+    → Spends (ErasesFor before after 3 at false worn_out) old new
+free_erases before after at worn_out old new =
+    spends_weaker (ErasesFree before after 3 worn_out) (ErasesFor before after 3 at false worn_out) old
+    new (λ added is. record { erases = is; erased = λ done. absurd (false≢true done) })
+
+pub back_erases : (before after : Places) (place at : ℕ) (worn_out : Bool) (old new : Told)
+    → Spends (ErasesFor before after 3 place false worn_out) old new
+    → Spends (ErasesFor before after 3 at false worn_out) old new
+back_erases before after place at worn_out old new did =
+    free_erases before after at worn_out old new
+    (spends_weaker (ErasesFor before after 3 place false worn_out) (ErasesFree before after 3 worn_out)
+    old new (λ added is. is.erases) did)
+
+pub untaken_erases : (before after : Places) (at : ℕ) (e : ChipFault) (old new : Told)
+    → Spends (ErasesNext before (Err e) after) old new
+    → Spends (ErasesFor before after 3 at false (tells_worn e)) old new
+untaken_erases before after at e old new did =
+    free_erases before after at (tells_worn e) old new
+    (costs_of_untaken before after 3 e old new (omega arith) did)
 
 -- ---- the place that the status has then
 
 -- whatever came before
-pub renewed_then : (P : Story → Type 0) (taken place : ℕ) (d : Places) (old mid new : Told)
-    (result : Result (Unit {0}) ChipFault) → Spends P old mid → IsNextFree d taken
-    → OnOk result (IsNextFree d place) → Spends (ErasesOnce taken 3 (is_ok result)) mid new
+pub renewed_then : (P : Story → Type 0) (place : ℕ) (d after : Places) (worn_out : Bool)
+    (old mid new : Told) (result : Result (Unit {0}) ChipFault) → Spends P old mid
+    → Spends (ErasesFor d after 3 place (is_ok result) worn_out) mid new
     → OnOk result (Spends (HasErased place) old new)
-renewed_then P taken place d old mid new (Ok v) first next_free moved once =
-    subst (λ (p : ℕ). Spends (HasErased p) old new) (one_is_next d taken place next_free moved)
-    (spends_then P (ErasesOnce taken 3 true) (HasErased taken) old mid new
-    (λ later earlier before did. erased_joined later earlier taken ∙ rw (did.erased refl) refl)
-    first once)
-renewed_then P taken place d old mid new (Err e) first next_free moved once = tt
+renewed_then P place d after worn_out old mid new (Ok v) first second =
+    spends_then P (ErasesFor d after 3 place true worn_out) (HasErased place) old mid new
+    (λ later earlier before did. erased_joined later earlier place ∙ rw (did.erased refl) refl)
+    first second
+renewed_then P place d after worn_out old mid new (Err e) first second = tt
 
 pub reads_then_renewed : (At : ℕ → ℕ → Type 0) (place : ℕ) (old mid new : Told) → ReadsAt At old mid
     → Spends (HasErased place) mid new → Spends (HasErased place) old new

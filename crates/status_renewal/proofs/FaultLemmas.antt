@@ -14,7 +14,7 @@ use Rattle.ipl_meaning.specs.Chart.{chart_of}
 use Rattle.ipl_meaning.specs.Last.{carried_count}
 use Rattle.ipl_meaning.specs.Layout.{Shape, Layout, records_of}
 use Rattle.ipl_meaning.specs.Mirrors.{MirrorsStatus}
-use Rattle.ipl_meaning.specs.Tables.{IsFree, Tables, Status}
+use Rattle.ipl_meaning.specs.Tables.{IsFree, Places, Tables, Status}
 use Rattle.merge_rules.specs.Faults.{pages_fault, merge_fault, IsTheFault}
 use Rattle.merge_rules.specs.Known.{KnowsPlaces}
 use Rattle.merge_rules.specs.Merged.{source_of}
@@ -23,9 +23,9 @@ use Rattle.merge_rules.proofs.FaultLemmas.{faults_are_of_the_place, merge_faults
 use Rattle.opening_rules.specs.Faults.{first_fault}
 use Rattle.opening_rules.specs.LaidOut.{layout_in}
 use Rattle.selective_merge.specs.Merging.{Merges, StaysMirrored, FailsAsMerge}
-use Rattle.selective_merge.specs.Spending.{SparesUsed}
+use Rattle.place_taking.specs.Spending.{SparesUsed}
+use Rattle.place_taking.specs.Takes.{IsNotTaken}
 use Rattle.selective_merge.specs.Throughout.{ChartsThroughout}
-use Rattle.unit_io.specs.Leads.{IsNotTaken}
 use Rattle.status_renewal.specs.InPlace.{FailsInPlace}
 use Rattle.kept_numbers.specs.Joins.{joined}
 use Rattle.status_renewal.specs.Passes.{kept_below, has_room, HasPassed, SparesUnits, IsRenewalFault, FailsAsPass}
@@ -144,19 +144,20 @@ in_place_fails x it t after (Ok v) fails = tt
 in_place_fails x it t after (Err e) fails = λ unfailed. (fails unfailed).is
 
 -- a call that only writes
-pub pass_written : (x : Contents) (it : Layout) (t : Tables) (old new : Told)
-    (result : Result (Unit {0}) ChipFault) → IfErr result (λ e. IsNotTaken e old new)
+pub pass_written : (x : Contents) (it : Layout) (t : Tables) (directory : Places) (old new : Told)
+    (result : Result (Unit {0}) ChipFault) → IfErr result (λ e. IsNotTaken directory e old new)
     → IfErr result (FailsAsPass x it t)
-pass_written x it t old new (Ok v) is = tt
-pass_written x it t old new (Err e) is = λ unfailed.
-    absurd (unfailed (not_taken_failed e old new is))
+pass_written x it t directory old new (Ok v) is = tt
+pass_written x it t directory old new (Err e) is = λ unfailed.
+    absurd (unfailed (not_taken_failed directory e old new is))
 
-pub place_written : (x : Contents) (it : Layout) (t after : Tables) (old new : Told)
-    (result : Result (Unit {0}) ChipFault) → IfErr result (λ e. IsNotTaken e old new)
+pub place_written : (x : Contents) (it : Layout) (t after : Tables) (directory : Places)
+    (old new : Told) (result : Result (Unit {0}) ChipFault)
+    → IfErr result (λ e. IsNotTaken directory e old new)
     → IfErr result (FailsInPlace x it t after)
-place_written x it t after old new (Ok v) is = tt
-place_written x it t after old new (Err e) is = λ unfailed.
-    absurd (unfailed (not_taken_failed e old new is))
+place_written x it t after directory old new (Ok v) is = tt
+place_written x it t after directory old new (Err e) is = λ unfailed.
+    absurd (unfailed (not_taken_failed directory e old new is))
 
 -- ---- an opening
 

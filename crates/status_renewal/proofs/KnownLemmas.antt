@@ -1,5 +1,5 @@
 -- The places that the tables know, once the status has a new one.
-use Rattle.std.proofs.Common.{◌≡◌, ◌<◌, ℕ, true, false, List, length, slice_set, inl, inr, sym, ◌∙◌, ap, subst, arith}
+use Rattle.std.proofs.Common.{◌≡◌, ◌<◌, ℕ, true, false, List, length, slice_set, inl, inr, refl, sym, ◌∙◌, ap, subst, arith}
 use Rattle.std.specs.List.{AllPairs, Contains}
 use Rattle.std.proofs.lemmas.List.{length-set}
 use Rattle.ipl_base.specs.declared.fault.ChipFault.{ChipFault}
@@ -7,6 +7,9 @@ use Rattle.ipl_base.specs.Places.{KeepsUnits}
 use Rattle.ipl_meaning.specs.Mirrors.{AreApart}
 use Rattle.ipl_meaning.specs.Tables.{IsFree, with_erased, Places, Status, Tables, overflow_places}
 use Rattle.merge_rules.specs.Known.{IsNamed, KnowsPlaces}
+use Rattle.merge_rules.proofs.KnownLemmas.{known_places_may_be_aside}
+use Rattle.place_taking.specs.Takes.{IsAsideFrom, with_places}
+use Rattle.unit_directory.specs.Free.{aside}
 use Rattle.unit_directory.specs.Laws.{UsesTake, DisusesGiveBack}
 use Rattle.status_renewal.specs.Renewed.{HasTables, with_tables, IsGivenBack}
 use Rattle.status_renewal.proofs.PlaceLemmas.{IsMovedTo, none_lost, then_free}
@@ -58,6 +61,27 @@ module _ (takes : UsesTake) (gives_back : DisusesGiveBack) (places p : ℕ) (d :
   used_then q (inr (inr there)) = still_busy q (inr (inr there))
       (λ at. known.status_apart.1 (subst (Contains (overflow_places t)) at there))
 
+  -- a retired place was retired: it is neither free nor named
+  retired_then : (q : ℕ) → Contains after.retired q
+      → (¬ IsNamed (with_tables t after new drawn) q) × (¬ IsFree after q)
+  retired_then q has_q =
+      let was = known.retired_apart q (subst (λ (l : List ℕ). Contains l q)
+      (ap (λ (e : Places). e.retired) is.places_is
+      ∙ sym (ap (λ (e : Places). e.retired) has.places_is)) has_q) in (
+        λ named. elim named [
+          | inl home ↦ was.0 (inl (subst (λ (l : List ℕ). Contains l q) homes home))
+          | inr (inl at) ↦ was.1 (subst (λ (e : Places). IsFree e q) (sym has.places_is)
+              (subst (IsFree d) (sym (at ∙ place_is)) free))
+          | inr (inr there) ↦ was.0 (inr (inr there))
+        ],
+        λ free_q. elim (then_free takes gives_back places p d status next kept sized free within
+            after new drawn is q free_q) [
+              | inl before ↦ was.1 (subst (λ (e : Places). IsFree e q) (sym has.places_is)
+                  (((takes d p).free q).0 before).0)
+              | inr old ↦ was.0 (inr (inl (old ∙ old_is)))
+            ],
+      )
+
   pub known_renewed : KnowsPlaces places (with_tables t after new drawn)
   known_renewed = record {
     suits = record {
@@ -67,10 +91,12 @@ module _ (takes : UsesTake) (gives_back : DisusesGiveBack) (places p : ℕ) (d :
           ∙ sym (ap (λ (e : Places). length e.in_use) has.places_is) ∙ known.suits.all;
       units = subst (λ (l : List ℕ). KeepsUnits places (length l)) (sym homes) known.suits.units;
       overflow = known.suits.overflow ∙ sym (ap (λ (l : List ℕ). length l) homes);
+      sized = known.suits.sized;
     };
     none_lost = none_lost takes gives_back places p d status next kept sized free within after new drawn
         is t has known.none_lost;
     used = used_then;
+    retired_apart = retired_then;
     homes_apart = subst (AllPairs AreApart) (sym homes) known.homes_apart;
     overflows_apart = known.overflows_apart;
     no_home = λ q there home. known.no_home q there
@@ -96,9 +122,11 @@ known_same places t after new drawn same still known =
         all = known.suits.all;
         units = known.suits.units;
         overflow = known.suits.overflow;
+        sized = known.suits.sized;
       };
       none_lost = known.none_lost;
       used = known.used;
+      retired_apart = known.retired_apart;
       homes_apart = known.homes_apart;
       overflows_apart = known.overflows_apart;
       no_home = known.no_home;
@@ -115,9 +143,11 @@ known_erased places t p known = record {
     all = known.suits.all;
     units = known.suits.units;
     overflow = known.suits.overflow;
+    sized = known.suits.sized;
   };
   none_lost = known.none_lost;
   used = known.used;
+  retired_apart = known.retired_apart;
   homes_apart = known.homes_apart;
   overflows_apart = known.overflows_apart;
   no_home = known.no_home;
@@ -126,12 +156,21 @@ known_erased places t p known = record {
   status_placed = known.status_placed;
 }
 
--- so they know each place where the new one was given back
+-- they know each place where some were found worn
+pub known_aside : (places : ℕ) (t : Tables) (after : Places) (new : Status) (drawn : ℕ)
+    → IsAsideFrom t.places after → new ≡ t.status → KnowsPlaces places t
+    → KnowsPlaces places (with_tables t after new drawn)
+known_aside places t after new drawn from still known =
+    known_same places (with_places t (aside t.places from.worn)) after new drawn from.places_is still
+    (known_places_may_be_aside places t from.worn known from.in_turn)
+
+-- and where the new one was given back
 pub known_back : (places : ℕ) (t : Tables) (after : Places) (new : Status) (drawn : ℕ) (fault : ChipFault)
     → IsGivenBack t.places fault after → new ≡ t.status → KnowsPlaces places t
     → KnowsPlaces places (with_tables t after new drawn)
-known_back places t after new drawn fault (inl same) still known =
-    known_same places t after new drawn same still known
-known_back places t after new drawn fault (inr (stopped, (p, next_free, erased))) still known =
-    known_same places (with_tables t (with_erased t.places p) t.status t.next) after new drawn erased still
-    (known_erased places t p known)
+known_back places t after new drawn fault (inl from) still known =
+    known_aside places t after new drawn from still known
+known_back places t after new drawn fault (inr (stopped, (mid, p, from, next_free, erased))) still known =
+    known_same places (with_tables t (with_erased mid p) t.status t.next) after new drawn erased still
+    (known_erased places (with_tables t mid t.status t.next) p
+    (known_aside places t mid t.status t.next from refl known))

@@ -1,5 +1,6 @@
 pub mod ReadyLemmas
 pub mod ChainLemmas
+pub mod CountLemmas
 pub mod PlaceLemmas
 pub mod PlaceStepLemmas
 pub mod UnitLemmas

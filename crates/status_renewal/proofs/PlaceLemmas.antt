@@ -5,8 +5,6 @@ use Rattle.std.proofs.lemmas.Bool.{cases_eq, cases_lt}
 use Rattle.std.proofs.lemmas.List.{length-set, set_past}
 use Rattle.chip_trait.specs.Lawful.{Clean, age}
 use Rattle.chip_trait.specs.Told.{History, Told}
-use Rattle.ipl_base.specs.declared.fault.ChipFault.{ChipFault}
-use Rattle.ipl_base.specs.declared.fault.ChipFault.TheVariants.{Stopped}
 use Rattle.ipl_format.specs.Sector.{Sector}
 use Rattle.ipl_rules.specs.State.{Map}
 use Rattle.ipl_meaning.specs.Chart.{Chart, chart_of}
@@ -21,14 +19,17 @@ use Rattle.ipl_meaning.proofs.IdleFollowLemmas.{places_may_be_taken}
 use Rattle.ipl_meaning.proofs.MirrorLemmas.{free_places_are_idle}
 use Rattle.txn_status.specs.Adding.{HasStatus}
 use Rattle.txn_status.specs.Status.{parts_of, switched_to}
-use Rattle.txn_status.specs.Switching.{IsTaken, MayKeep, HasCounts, IsSwitched, IsReadyToSwitch, Switched, Switches}
-use Rattle.unit_directory.specs.Free.{IsNextFree}
+use Rattle.txn_status.specs.Switching.{IsTaken, MayKeep, FitsHeader, IsSwitched, IsReadyToSwitch, Switched, Switches}
+use Rattle.steps.specs.Steps.{RestsAgreeing}
+use Rattle.unit_directory.specs.Free.{AreNext, aside}
 use Rattle.unit_directory.specs.Laws.{UsesTake, DisusesGiveBack}
 use Rattle.unit_io.specs.Charts.{Charts, IsCleared}
-use Rattle.place_taking.specs.Takes.{RestsTaken}
-use Rattle.place_taking.proofs.TakeLemmas.{given_back}
-use Rattle.selective_merge.proofs.TakenLemmas.{cleared_mirrors}
-use Rattle.status_renewal.specs.Renewed.{HasTables, with_tables, IsGivenBack, MayRenew, Renews}
+use Rattle.place_taking.proofs.TurnLemmas.{given_back}
+use Rattle.place_taking.specs.Takes.{with_places}
+use Rattle.merge_rules.specs.Known.{KnowsPlaces}
+use Rattle.merge_rules.proofs.KnownLemmas.{known_places_may_be_aside}
+use Rattle.selective_merge.proofs.TakenLemmas.{aside_mirrors, cleared_mirrors}
+use Rattle.status_renewal.specs.Renewed.{HasTables, with_tables, MayRenew, Renews}
 use Rattle.status_renewal.proofs.ReadyLemmas.{resting_layouts_say}
 
 -- the directory with the place as the status place, erased once more, and the old one free
@@ -45,22 +46,9 @@ none_used d p past =
     ap (λ (l : List Bool). record d { in_use = l }) (set_past d.in_use p false past)
 
 -- a place that was free, taken, erased and given back counts one erase more
-erased_back : (d : Places) (p : ℕ) → IsFree d p
+pub erased_back : (d : Places) (p : ℕ) → IsFree d p
     → with_use (with_erased (with_use d p true) p) p false ≡ with_erased d p
 erased_back d p free = ap (λ (e : Places). with_erased e p) (given_back d p free)
-
--- by the calls of the directory, where a write failed
-pub back_again : (d taken_one after : Places) (p : ℕ) (fault : ChipFault) → IsNextFree d p
-    → taken_one ≡ with_erased (with_use d p true) p → after ≡ with_use taken_one p false
-    → fault ≡ Stopped → IsGivenBack d fault after
-back_again d taken_one after p fault next_free first then_is stopped = inr (
-  stopped,
-  (
-    p,
-    next_free,
-    then_is ∙ ap (λ (e : Places). with_use e p false) first ∙ erased_back d p next_free.free,
-  ),
-)
 
 -- what was done to the tables
 pub record IsMovedTo (p : ℕ) (d : Places) (status : Status) (next : ℕ) (kept : List ℕ)
@@ -94,10 +82,13 @@ module _ (takes : UsesTake) (gives_back : DisusesGiveBack) (places p : ℕ) (d :
     pub has_status : HasStatus (taken t p) status next
     has_status = record { status_is = has.status_is; next_is = has.next_is }
 
-    pub has_counts : HasCounts (taken t p) p (length d.current) (erases_then d p)
-    has_counts = record {
-      units_are = ap (λ (e : Places). length e.current) has.places_is;
-      erases_are = ap (λ (e : Places). erases_then e p) has.places_is;
+    pub fits_header : FitsHeader (taken t p) p (length d.current) (erases_then d p) d.retired
+    fits_header = record {
+      counts = record {
+        units_are = ap (λ (e : Places). length e.current) has.places_is;
+        erases_are = ap (λ (e : Places). erases_then e p) has.places_is;
+      };
+      retired_are = ap (λ (e : Places). e.retired) has.places_is;
     }
 
     -- nothing checks there then
@@ -125,13 +116,13 @@ module _ (takes : UsesTake) (gives_back : DisusesGiveBack) (places p : ℕ) (d :
     may_keep = record { below = may.may.below; waits = may.may.waits }
 
     pub ready : (h k : History) (m : Map) → Mirrors places (now h) it t
-        → RestsTaken places m it t (now h) p k → ((s : ℕ) → age k.story p s ≡ Clean)
-        → IsReadyToSwitch places k it (taken t p) m p kept
-    ready h k m mirrors there clean = record {
-      rests = there.stands.rests;
-      agrees = there.stands.agrees;
-      says = resting_layouts_say places k it m there.stands.rests there.stands.agrees.mirrors.laid;
-      taken = is_taken (now h) (now k) mirrors there.cleared;
+        → RestsAgreeing places m it (taken t p) k → IsCleared p (now h) (now k)
+        → ((s : ℕ) → age k.story p s ≡ Clean) → IsReadyToSwitch places k it (taken t p) m p kept
+    ready h k m mirrors there cleared clean = record {
+      rests = there.rests;
+      agrees = there.agrees;
+      says = resting_layouts_say places k it m there.rests there.agrees.mirrors.laid;
+      taken = is_taken (now h) (now k) mirrors cleared;
       clean = clean;
       may = may_keep;
       keeps = may.keeps;
@@ -176,6 +167,7 @@ module _ (takes : UsesTake) (gives_back : DisusesGiveBack) (places p : ℕ) (d :
         generations = ap (λ (e : Places). e.generations) (places_then t has);
         masks = ap (λ (e : Places). e.masks) (places_then t has);
         erases = ap (λ (e : Places). e.erases) (places_then t has);
+        retired = ap (λ (e : Places). e.retired) (places_then t has);
         all = ap (λ (e : Places). length e.in_use) (places_then t has)
             ∙ length-set (slice_set t.places.in_use p true) status.place false;
         free = λ q free_then. elim (then_free q free_then) [
@@ -196,33 +188,25 @@ module _ (takes : UsesTake) (gives_back : DisusesGiveBack) (places p : ℕ) (d :
     at_place : p ≡ new.place
     at_place = sym (ap (λ (s : Status). s.place) is.status_is)
 
-    pub renews_told : (old mid told : Told) → Charts (IsCleared p) old mid
-        → Charts (Switches places (length d.current) (erases_then d p) status next p kept) mid told
-        → Charts (Renews places d status next kept after new drawn) old told
-    renews_told old mid told clears switches x told_x =
-        let (y, told_y, cleared) = clears x told_x in
-        let (z, told_z, made) = switches y told_y in (
-          z,
-          told_z,
-          λ it t has mirrors may.
-              let then : Tables = with_tables t after new drawn in
-              let there = places_may_be_taken places (chart_of y) it t p
-              (cleared_mirrors places (chart_of x) (chart_of y) it t p mirrors
-              (free_there it t has may) cleared) within in
-              let done = made it (taken t p) then there (has_status it t has may)
-              (has_counts it t has may)
-              (is_taken it t has may (chart_of x) (chart_of y) mirrors cleared)
-              (may_keep it t has may) (switched t has) in
-              subst (λ (q : ℕ). Switched places (chart_of x) (chart_of z) it then q next kept)
-              at_place (record {
-                head = done.head;
-                is_head = done.is_head;
-                mirrors = done.mirrors;
-                pages = λ keeps u page values low few shows. done.pages keeps u page values low few
-                    (still_shown it t has may (chart_of x) (chart_of y) mirrors cleared u page values
-                    low few shows);
-              }),
-        )
+    -- it was cleared, and the status switched to it
+    pub renewed_there : (it : Layout) (t : Tables) (has : HasTables t d status next)
+        (may : MayRenew it t kept) (c y z : Chart) → Mirrors places c it t → IsCleared p c y
+        → Switches places (length d.current) (erases_then d p) d.retired status next p kept y z
+        → Switched places c z it (with_tables t after new drawn) new.place next kept
+    renewed_there it t has may c y z mirrors cleared made =
+        let then : Tables = with_tables t after new drawn in
+        let there = places_may_be_taken places y it t p
+        (cleared_mirrors places c y it t p mirrors (free_there it t has may) cleared) within in
+        let done = made it (taken t p) then there (has_status it t has may)
+        (fits_header it t has may) (is_taken it t has may c y mirrors cleared)
+        (may_keep it t has may) (switched t has) in
+        subst (λ (q : ℕ). Switched places c z it then q next kept) at_place (record {
+          head = done.head;
+          is_head = done.is_head;
+          mirrors = done.mirrors;
+          pages = λ keeps u page values low few shows. done.pages keeps u page values low few
+              (still_shown it t has may c y mirrors cleared u page values low few shows);
+        })
 
     -- what was free before is free then, but for the place, and so is the old one
     freed : (q : ℕ) → IsFree (with_use d p true) q ⊎ ((q ≡ status.place) × (q < places))
@@ -258,6 +242,67 @@ module _ (takes : UsesTake) (gives_back : DisusesGiveBack) (places p : ℕ) (d :
                 ∙ sym (ap (λ (e : Places). e.current) is.places_is)) home)
             | inr (inl old) ↦ absurd (used (freed q
                 (inr (old ∙ ap (λ (s : Status). s.place) has.status_is, low))))
-            | inr (inr there) ↦ inr (inr there)
+            | inr (inr (inl there)) ↦ inr (inr (inl there))
+            | inr (inr (inr retired)) ↦ inr (inr (inr (subst (λ (l : List ℕ). Contains l q)
+                (ap (λ (e : Places). e.retired) has.places_is
+                ∙ sym (ap (λ (e : Places). e.retired) is.places_is)) retired)))
           ]
     ]
+
+-- ---- places that were found worn before
+
+-- the tables with them set aside
+module _ (first : Places) (worn : List ℕ) (in_turn : AreNext first worn) (status : Status)
+    (next : ℕ) (t : Tables) (has : HasTables t first status next) where
+  in_tables : AreNext t.places worn
+  in_tables = subst (λ (e : Places). AreNext e worn) (sym has.places_is) in_turn
+
+  pub has_between : HasTables (with_places t (aside first worn)) (aside first worn) status next
+  has_between = record {
+    places_is = refl;
+    status_is = has.status_is;
+    next_is = has.next_is;
+  }
+
+  pub mirrors_between : (places : ℕ) (c : Chart) (it : Layout) → Mirrors places c it t
+      → Mirrors places c it (with_places t (aside first worn))
+  mirrors_between places c it mirrors =
+      subst (λ (e : Places). Mirrors places c it (with_places t (aside e worn))) has.places_is
+      (aside_mirrors places c it t worn mirrors in_tables)
+
+  pub known_between : (places : ℕ) → KnowsPlaces places t
+      → KnowsPlaces places (with_places t (aside first worn))
+  known_between places known =
+      subst (λ (e : Places). KnowsPlaces places (with_places t (aside e worn))) has.places_is
+      (known_places_may_be_aside places t worn known in_tables)
+
+  pub may_between : (it : Layout) (kept : List ℕ) → MayRenew it t kept
+      → MayRenew it (with_places t (aside first worn)) kept
+  may_between it kept may = record {
+    keeps = may.keeps;
+    may = record { below = may.may.below; waits = may.may.waits };
+  }
+
+-- what is told of the contents
+pub renews_told : (takes : UsesTake) (gives_back : DisusesGiveBack) (places p : ℕ) (first : Places)
+    (worn : List ℕ) (in_turn : AreNext first worn) (status : Status) (next : ℕ) (kept : List ℕ)
+    (sized : length (aside first worn).in_use ≡ places) (free : IsFree (aside first worn) p)
+    (within : p < places) (after : Places) (new : Status) (drawn : ℕ)
+    (is : IsMovedTo p (aside first worn) status next kept after new drawn) (old mid told : Told)
+    → Charts (IsCleared p) old mid
+    → Charts (Switches places (length (aside first worn).current) (erases_then (aside first worn) p)
+    (aside first worn).retired status next p kept) mid told
+    → Charts (Renews places first status next kept after new drawn) old told
+renews_told takes gives_back places p first worn in_turn status next kept sized free within after new
+    drawn is old mid told clears switches x told_x =
+    let (y, told_y, cleared) = clears x told_x in
+    let (z, told_z, made) = switches y told_y in (
+      z,
+      told_z,
+      λ it t has mirrors may. renewed_there takes gives_back places p (aside first worn) status next
+          kept sized free within after new drawn is it (with_places t (aside first worn))
+          (has_between first worn in_turn status next t has)
+          (may_between first worn in_turn status next t has it kept may) (chart_of x) (chart_of y)
+          (chart_of z) (mirrors_between first worn in_turn status next t has places (chart_of x) it
+          mirrors) cleared made,
+    )

@@ -1,13 +1,13 @@
 -- An opening: reads, and then a new status place.
-use Rattle.std.proofs.Common.{◌≡◌, ◌⊎◌, inl, inr, ℕ, ◌*◌, true, false, List, [], Some, None, Result, Ok, Err, sym, ◌∙◌, ap, subst, arith}
+use Rattle.std.proofs.Common.{◌≡◌, ◌⊎◌, inl, inr, ℕ, ◌*◌, true, false, List, [], Some, None, Result, Ok, Err, refl, sym, ◌∙◌, ap, subst, arith}
 use Rattle.std.proofs.lemmas.Bool.{cases_Bool, false≢true}
 use Rattle.std.proofs.lemmas.Option.{same_Some}
 use Rattle.chip_trait.specs.Story.{Contents, held}
 use Rattle.chip_trait.specs.Told.{History, Told, Counts}
 use Rattle.ipl_base.specs.declared.fault.ChipFault.{ChipFault}
-use Rattle.ipl_base.specs.declared.fault.ChipFault.TheVariants.{ReadFault, Stopped, Damaged, WornOut}
+use Rattle.ipl_base.specs.declared.fault.ChipFault.TheVariants.{ReadFault, Stopped, Damaged, Malformed, WornOut}
 use Rattle.ipl_base.specs.declared.fault.ImageFault.{ImageFault}
-use Rattle.ipl_base.specs.declared.fault.ImageFault.TheVariants.{Chip}
+use Rattle.ipl_base.specs.declared.fault.ImageFault.TheVariants.{Geometry, NotFormatted, Missing, Chip, Spent, NoSpare}
 use Rattle.ipl_rules.specs.State.{Map}
 use Rattle.ipl_meaning.specs.Chart.{Chart, chart_of}
 use Rattle.ipl_meaning.specs.Layout.{Laid}
@@ -29,7 +29,7 @@ use Rattle.unit_io.specs.Leads.{IsSteady}
 use Rattle.unit_io.specs.ReadsAt.{Anywhere}
 use Rattle.unit_io.proofs.ReadsAtLemmas.{at_rests}
 use Rattle.status_renewal.specs.Passes.{HasRenewed, TellsChart, KeepsInSteps, RenewCause}
-use Rattle.status_renewal.specs.Recovers.{HasOpened, FailsByCallAlone, IsOpeningFault, LooksAtFaults, IsNowhere, RecoversInSteps, OpeningCause}
+use Rattle.status_renewal.specs.Recovers.{HasOpened, FailsByCallAlone, IsOpeningFault, LooksAtFaults, IsNowhere, RecoversInSteps, OpeningCause, tells_wear}
 use Rattle.status_renewal.proofs.PreserveLemmas.{agrees_of, reads_preserve, preserves_then}
 
 -- ---- the tables
@@ -89,6 +89,7 @@ opens_done places c t after new none laid (y, told, is) = (
     pages = is.pages;
     exact = is.exact;
     says = is.says;
+    lists = is.lists;
   },
 )
 
@@ -132,8 +133,9 @@ damaged_is_no_read p s stored computed e = cc
 worn_is_no_read : (n : ℕ) → ◌≡◌ {A = ImageFault} (Chip (WornOut n)) (Chip ReadFault) → ⊥
 worn_is_no_read n e = cc
 
-pub reading_cause : (e : ImageFault) (old new : Told) → HasCause e old new → OpeningCause e old new
-reading_cause e old new cause = record {
+pub reading_cause : (after : Places) (e : ImageFault) (old new : Told) → HasCause e old new
+    → OpeningCause after e old new
+reading_cause after e old new cause = record {
   read = λ is. (cause (ap is_image is)).rose;
   stopped = λ is. absurd (stopped_is_no_read (sym is ∙ (cause (ap is_image is)).fault));
   worn = λ n is. absurd (worn_is_no_read n (sym is ∙ (cause (ap is_image is)).fault));
@@ -141,27 +143,40 @@ reading_cause e old new cause = record {
       damaged_is_no_read p s stored computed (sym is ∙ (cause (ap is_image is)).fault);
 }
 
-pub renewing_cause : (fault : ChipFault) (old mid new : Told) → Counts old mid
-    → RenewCause fault mid new → OpeningCause (Chip fault) old new
-renewing_cause fault old mid new counts cause = record {
+pub renewing_cause : (after : Places) (fault : ChipFault) (old mid new : Told) → Counts old mid
+    → RenewCause after fault mid new → OpeningCause after (Chip fault) old new
+renewing_cause after fault old mid new counts cause = record {
   read = λ is.
-      let rose : RenewCause ReadFault mid new =
-      subst (λ (f : ChipFault). RenewCause f mid new) (same_chip fault ReadFault is) cause in
+      let rose : RenewCause after ReadFault mid new =
+      subst (λ (f : ChipFault). RenewCause after f mid new) (same_chip fault ReadFault is) cause in
       omega (arith, counts.reads, rose);
   stopped = λ is.
-      let rose : RenewCause Stopped mid new =
-      subst (λ (f : ChipFault). RenewCause f mid new) (same_chip fault Stopped is) cause in
+      let rose : RenewCause after Stopped mid new =
+      subst (λ (f : ChipFault). RenewCause after f mid new) (same_chip fault Stopped is) cause in
       omega (arith, counts.writes, rose);
   worn = λ n is.
-      let rose : RenewCause (WornOut n) mid new =
-      subst (λ (f : ChipFault). RenewCause f mid new) (same_chip fault (WornOut n) is) cause in
-      (rose.0, omega (arith, counts.worn, rose.1));
+      let rose : RenewCause after (WornOut n) mid new =
+      subst (λ (f : ChipFault). RenewCause after f mid new) (same_chip fault (WornOut n) is) cause in
+      (rose.0, rose.1, omega (arith, counts.worn, rose.2));
   damaged = λ p s stored computed is.
-      let differ : RenewCause (Damaged p s stored computed) mid new =
-      subst (λ (f : ChipFault). RenewCause f mid new)
+      let differ : RenewCause after (Damaged p s stored computed) mid new =
+      subst (λ (f : ChipFault). RenewCause after f mid new)
       (same_chip fault (Damaged p s stored computed) is) cause in
       differ.1;
 }
+
+-- a fault of the reading is no worn place
+pub reading_not_worn : (e : ImageFault) (old new : Told) → HasCause e old new → tells_wear e ≡ false
+reading_not_worn Geometry old new cause = refl
+reading_not_worn NotFormatted old new cause = refl
+reading_not_worn (Missing u) old new cause = refl
+reading_not_worn (Chip ReadFault) old new cause = refl
+reading_not_worn (Chip Stopped) old new cause = refl
+reading_not_worn (Chip (Damaged p s stored computed)) old new cause = refl
+reading_not_worn (Chip (Malformed p s)) old new cause = refl
+reading_not_worn (Chip (WornOut n)) old new cause = absurd (worn_is_no_read n (cause refl).fault)
+reading_not_worn Spent old new cause = refl
+reading_not_worn (NoSpare p) old new cause = refl
 
 -- ---- what a power cut leaves
 

@@ -1,5 +1,5 @@
 -- All units passed, and a new status place with the numbers that are kept.
-use Rattle.std.proofs.Common.{◌≡◌, ◌≤◌, ◌∙◌, ℕ, Bool, IsTrue, List, Result, Ok, Err, OnOk, IfErr, MatchResult, inl, inr, refl, sym, ap, subst, arith}
+use Rattle.std.proofs.Common.{◌≡◌, ◌≤◌, ◌∙◌, ℕ, Bool, IsTrue, List, length, Result, Ok, Err, OnOk, IfErr, MatchResult, inl, inr, refl, sym, ap, subst, arith}
 use Rattle.chip_trait.specs.Told.{Told}
 use Rattle.ipl_base.specs.declared.fault.ChipFault.{ChipFault}
 use Rattle.ipl_format.specs.Header.{erases_said}
@@ -8,15 +8,19 @@ use Rattle.ipl_meaning.specs.Layout.{Layout}
 use Rattle.ipl_meaning.specs.Steps.{with_status}
 use Rattle.ipl_meaning.specs.Tables.{Places, Status, Tables}
 use Rattle.number_set.specs.Numbers.{among}
+use Rattle.opening_rules.proofs.PayloadLemmas.{spelled_status_passes}
+use Rattle.place_taking.specs.Takes.{IsAsideFrom}
+use Rattle.unit_directory.proofs.AsideLemmas.{next_places_are_aside}
 use Rattle.txn_status.specs.Status.{room_of}
 use Rattle.unit_io.specs.Charts.{Charts}
 use Rattle.selective_merge.specs.Throughout.{ChartsThroughout}
 use Rattle.selective_merge.proofs.TakenLemmas.{told_not}
 use Rattle.status_renewal.specs.Passes.{HasPassed, HasRenewed, HasStopped, TellsChart, PassEnds}
-use Rattle.status_renewal.specs.Renewed.{with_tables, IsGivenBack, MayRenew, Renews}
+use Rattle.status_renewal.specs.Renewed.{with_tables, IsGivenBack, MayRenew, MovesStatus, Renews}
 use Rattle.kept_numbers.specs.Keeps.{KeepsBelow}
 use Rattle.kept_numbers.proofs.KeepsLemmas.{kept_numbers_keep, kept_numbers_are_exact}
 use Rattle.status_renewal.proofs.ReadyLemmas.{kept_numbers_are_old}
+use Rattle.status_renewal.proofs.TidyLemmas.{back_is_same}
 
 module _ (places : ℕ) (c : Chart) (it : Layout) (t : Tables) (kept : List ℕ) (mid : Told)
     (between : Tables) (was : HasPassed places it.count c it t kept mid between) where
@@ -62,17 +66,24 @@ module _ (places : ℕ) (c : Chart) (it : Layout) (t : Tables) (kept : List ℕ)
                       (subst (λ (f : ℕ → Bool). IsTrue (f tid)) (sym was.committed) is.0, is.1),
                 );
             says = ap erases_said switched.mirrors.laid.chosen.here ∙ switched.is_head.says;
+            lists = (
+              switched.head,
+              switched.mirrors.laid.chosen.here,
+              (spelled_status_passes switched.head.version places was.now.count switched.head.payload
+                  switched.mirrors.laid.most switched.is_head.counts).2 ∙ switched.is_head.lists,
+            );
           },
         )
 
-    -- none was written, and the tables have the number that was drawn
-    unrenewed : directory ≡ between.places → status ≡ between.status → between.next ≤ drawn
+    -- none was written, and the tables have the places that were found worn, and the number that was
+    -- drawn
+    unrenewed : IsAsideFrom between.places directory → status ≡ between.status → between.next ≤ drawn
         → Charts (λ d y. y ≡ d) mid new
         → TellsChart (HasStopped places c it t (with_tables between directory status drawn)) new
-    unrenewed same still more untouched =
+    unrenewed from still more untouched =
         let after : Tables = with_tables between directory status drawn in
-        let (y, told_y, stays) = told_not places between after drawn mid new (rw (same, still) refl)
-        more untouched was.contents was.told in (
+        let (y, told_y, stays) = told_not places between after directory drawn mid new from
+        (rw still refl) more untouched was.contents was.told in (
           y,
           told_y,
           record {
@@ -97,7 +108,7 @@ module _ (places : ℕ) (c : Chart) (it : Layout) (t : Tables) (kept : List ℕ)
         (TellsChart (HasRenewed places c it t (with_tables between directory status drawn)) new)
     renew_ends (Ok v) renews same more = renewed renews
     renew_ends (Err e) renews same more = λ soft. elim same.0 [
-      | inl untouched ↦ unrenewed untouched same.1 more (renews soft)
+      | inl from ↦ unrenewed from same.1 more (renews soft)
       | inr stopped ↦ absurd (soft stopped.0)
     ]
 
@@ -108,3 +119,16 @@ pub status_ends : (result : Result (Unit {0}) ChipFault) (before after : Places)
     → MatchResult result (λ _. 191 ≤ room_of new) (λ _. new ≡ old)
 status_ends (Ok v) before after old between new room same was = room
 status_ends (Err e) before after old between new room same was = same.1 ∙ was
+
+-- and the directory: as many units as before
+pub units_still : (result : Result (Unit {0}) ChipFault) (before after : Places) (old new : Status)
+    (next : ℕ) (kept : List ℕ) → OnOk result (MovesStatus before old next kept after new)
+    → IfErr result (λ fault. IsGivenBack before fault after × (new ≡ old))
+    → length after.current ≡ length before.current
+units_still (Ok v) before after old new next kept moved same =
+    ap (λ (e : Places). length e.current) moved.places_is
+    ∙ ap (λ (e : Places). length e.current) moved.taken.places_is
+    ∙ ap (λ (l : List ℕ). length l)
+    (next_places_are_aside before moved.taken.worn moved.taken.in_turn).current
+units_still (Err e) before after old new next kept moved same =
+    ap (λ (l : List ℕ). length l) (back_is_same before after e same.0).0

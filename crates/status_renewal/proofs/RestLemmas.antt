@@ -11,6 +11,7 @@ use Rattle.ipl_format.specs.Record.{Record}
 use Rattle.ipl_meaning.specs.Chart.{Chart, chart_of}
 use Rattle.ipl_meaning.specs.Layout.{Shape, records_of}
 use Rattle.ipl_meaning.specs.Rests.{now}
+use Rattle.ipl_meaning.specs.Tables.{Places}
 use Rattle.unit_io.specs.Leads.{IsSteady}
 use Rattle.status_renewal.specs.Passes.{has_room, HasStopped, HasRenewed, TellsChart, RenewCause}
 use Rattle.status_renewal.specs.Renewals.{PassedLogsAreSameOrCarried, ExactNumbersKeep, RenewalsRest}
@@ -55,11 +56,11 @@ of_held F k told steady (y, is, has) =
     (same_told y (held k.start k.story) (sym is ∙ steady.holds)) has
 
 -- where no write failed, the fault is another one
-pub soft_end : (fault : ChipFault) (old new : Told) → RenewCause fault old new → Unrisen old new
-    → fault ≢ Stopped
-soft_end fault old new cause unrisen is =
-    let rose : RenewCause Stopped old new =
-    subst (λ (f : ChipFault). RenewCause f old new) is cause in omega (arith, rose, unrisen)
+pub soft_end : (after : Places) (fault : ChipFault) (old new : Told) → RenewCause after fault old new
+    → Unrisen old new → fault ≢ Stopped
+soft_end after fault old new cause unrisen is =
+    let rose : RenewCause after Stopped old new =
+    subst (λ (f : ChipFault). RenewCause after f old new) is cause in omega (arith, rose, unrisen)
 
 pub renewals_rest : RenewalsRest
 renewals_rest places m it h t after old new (Ok v) steady rests agrees tells keeps accounts =
@@ -89,7 +90,7 @@ renewals_rest places m it h t after old new (Err e) steady rests agrees tells ke
       does = did.does;
       steady = did.steady;
       ends = λ unrisen.
-          let (y, told, stops) = tells (soft_end e old new accounts.cause unrisen)
+          let (y, told, stops) = tells (soft_end after.places e old new accounts.cause unrisen)
           (held h.start h.story) steady.holds in record {
             rests = did.ends unrisen;
             stopped = of_held (HasStopped places (now h) it t after) k new (did.steady unrisen)

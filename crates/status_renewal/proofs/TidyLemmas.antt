@@ -1,27 +1,46 @@
 -- What a renewal adds by the tables alone.
-use Rattle.std.proofs.Common.{◌≡◌, ◌<◌, ◌+◌, ℕ, Bool, true, false, List, length, Result, Ok, Err, inl, inr, refl, sym, subst}
+use Rattle.std.proofs.Common.{◌≡◌, ◌<◌, ◌+◌, ◌∙◌, ℕ, Bool, true, false, List, length, Result, Ok, Err, inl, inr, refl, sym, ap, subst}
 use Rattle.std.proofs.lemmas.Bool.{false≢true}
 use Rattle.chip_trait.specs.Told.{Told, Counts}
 use Rattle.ipl_base.specs.declared.fault.ChipFault.{ChipFault}
-use Rattle.ipl_meaning.specs.Tables.{IsFree, with_erased, Places, Status, Tables, IsCountedClean}
+use Rattle.ipl_meaning.specs.Tables.{IsFree, Places, Status, Tables, IsCountedClean}
 use Rattle.merge_rules.specs.Known.{KnowsPlaces}
-use Rattle.merge_rules.proofs.KnownCleanLemmas.{free_apart, renewed_clean}
-use Rattle.restart.specs.Filled.{with_counts}
+use Rattle.merge_rules.proofs.KnownCleanLemmas.{counted_in_use, renewed_clean}
 use Rattle.restart.specs.Opened.{NoneIsClean}
 use Rattle.steps.specs.Steps.{Settled, TidyWork, Tidies}
-use Rattle.steps.proofs.TablesLemmas.{tables_none, tables_read, tables_then, tables_rewritten}
+use Rattle.steps.proofs.TablesLemmas.{tables_none, tables_read, tables_then}
 use Rattle.steps.proofs.TidyLemmas.{tidy_reads, tidy_then}
-use Rattle.place_taking.specs.Takes.{ClearsNext}
-use Rattle.selective_merge.proofs.TidyLemmas.{untaken_tidily}
+use Rattle.place_taking.specs.Spending.{WritesFree}
+use Rattle.place_taking.specs.Takes.{IsTakenFrom, with_places}
+use Rattle.place_taking.proofs.JoinLemmas.{aside_facts, counted_alike, tidy_writes}
 use Rattle.txn_status.specs.Status.{parts_of}
+use Rattle.unit_directory.specs.Free.{aside}
 use Rattle.unit_directory.specs.Laws.{UsesTake, DisusesGiveBack}
+use Rattle.unit_directory.proofs.AsideLemmas.{next_places_are_aside}
 use Rattle.unit_io.specs.Costs.{Spends}
 use Rattle.unit_io.specs.ReadsAt.{ReadsAt}
-use Rattle.unit_io.specs.Spots.{Rewrites}
-use Rattle.unit_io.proofs.CostLemmas.{spends_then}
+use Rattle.unit_io.proofs.CostLemmas.{spends_then, spends_weaker}
 use Rattle.status_renewal.specs.Recovers.{IsNowhere}
 use Rattle.status_renewal.specs.Renewed.{HasTables, with_tables, IsGivenBack}
-use Rattle.status_renewal.proofs.PlaceLemmas.{IsMovedTo, switched}
+use Rattle.status_renewal.proofs.PlaceLemmas.{IsMovedTo, has_between, known_between, switched}
+
+-- ---- a place that was given back
+
+-- it has each unit where it was, with as many log sectors
+pub back_is_same : (d after : Places) (fault : ChipFault) → IsGivenBack d fault after
+    → (after.current ≡ d.current) × (after.written ≡ d.written)
+back_is_same d after fault (inl from) =
+    let facts = aside_facts d after from in (
+      ap (λ (e : Places). e.current) from.places_is ∙ facts.current,
+      ap (λ (e : Places). e.written) from.places_is ∙ facts.written,
+    )
+back_is_same d after fault (inr (stopped, (mid, p, from, next_free, erased))) =
+    let facts = aside_facts d mid from in (
+      ap (λ (e : Places). e.current) erased ∙ ap (λ (e : Places). e.current) from.places_is
+          ∙ facts.current,
+      ap (λ (e : Places). e.written) erased ∙ ap (λ (e : Places). e.written) from.places_is
+          ∙ facts.written,
+    )
 
 -- ---- one call after another
 
@@ -54,64 +73,63 @@ tidies_read_then At t after result old mid new reads =
 
 -- ---- a new status place
 
-module _ (takes : UsesTake) (gives_back : DisusesGiveBack) (places p : ℕ) (d : Places)
-    (status : Status) (next : ℕ) (kept : List ℕ) (sized : length d.in_use ≡ places)
-    (free : IsFree d p) (within : p < places) (after : Places) (new : Status) (drawn : ℕ)
-    (t : Tables) (has : HasTables t d status next) (known : KnowsPlaces places t) where
-  -- the place is free in the tables
-  free_there : IsFree t.places p
-  free_there = subst (λ (e : Places). IsFree e p) (sym has.places_is) free
+module _ (places : ℕ) (first : Places) (status : Status) (next : ℕ) (after : Places) (new : Status)
+    (drawn : ℕ) (t : Tables) (has : HasTables t first status next)
+    (known : KnowsPlaces places t) where
+  -- what the tables count as clean stands at a place in use
+  in_use : (q s : ℕ) → IsCountedClean t q s → ¬ IsFree first q
+  in_use q s counted =
+      subst (λ (e : Places). ¬ IsFree e q) has.places_is (counted_in_use places t known q s counted)
+
+  -- a directory that says the same of the units counts the same
+  counted_before : (d : Places) → d.current ≡ first.current → d.written ≡ first.written
+      → (q s : ℕ) → IsCountedClean (with_places t d) q s → IsCountedClean t q s
+  counted_before d current written =
+      counted_alike t d (current ∙ ap (λ (e : Places). e.current) (sym has.places_is))
+      (written ∙ ap (λ (e : Places). e.written) (sym has.places_is))
 
   -- it was written
-  pub tidy_renewed : (is : IsMovedTo p d status next kept after new drawn) (old told : Told)
-      → Spends (Rewrites p (1 + parts_of kept) true) old told
+  pub tidy_renewed : (takes : UsesTake) (gives_back : DisusesGiveBack) (p : ℕ) (between : Places)
+      (from : IsTakenFrom first p between) (kept : List ℕ) (sized : length first.in_use ≡ places)
+      (within : p < places) (is : IsMovedTo p (aside first from.worn) status next kept after new drawn)
+      (old told : Told) → Spends (WritesFree first p (1 + parts_of kept) true) old told
       → Tidies {T = Unit {0}} {E = ChipFault} t (Ok tt) (with_tables t after new drawn) old told
-  unfolding free_there
-  tidy_renewed is old told =
+  tidy_renewed takes gives_back p between from kept sized within is old told =
       let then : Tables = with_tables t after new drawn in
-      let moved = switched takes gives_back places p d status next kept sized free within after new
-      drawn is t has in
-      tables_rewritten {T = Unit {0}} {E = ChipFault} t then p (1 + parts_of kept) true (Ok tt) old
-      told
-      (λ _ q s counted. elim (renewed_clean places t known then p next (1 + parts_of kept) t.next
-      free_there moved.renewed q s counted) [
-        | inl before ↦ inl before
+      let d : Places = aside first from.worn in
+      let set : Tables = with_places t d in
+      let facts = next_places_are_aside first from.worn from.in_turn in
+      let moved = switched takes gives_back places p d status next kept (facts.all ∙ sized)
+      from.next.free within after new drawn is set
+      (has_between first from.worn from.in_turn status next t has) in
+      let settles : Type 0 = Settled {T = Unit {0}} {E = ChipFault} (Ok tt) old told in
+      spends_weaker (WritesFree first p (1 + parts_of kept) true)
+      (TidyWork (IsCountedClean t) (IsCountedClean then) settles) old told
+      (λ added. tidy_writes (IsCountedClean t) (IsCountedClean then) first p (1 + parts_of kept) true
+      settles added (λ _ q s counted. elim (renewed_clean places set
+      (known_between first from.worn from.in_turn status next t has places known) then p next
+      (1 + parts_of kept) t.next moved.renewed q s counted) [
+        | inl was ↦
+            let before = counted_before d facts.current facts.written q s was.0 in
+            inl (before, in_use q s before)
         | inr here ↦ inr (refl, here.0, here.1)
-      ])
+      ]))
 
-  -- whatever counts of erases the tables have then
-  tidy_still : (from : ℕ) (e : ChipFault) (old told : Told) (counted_so : List ℕ)
-      → after ≡ with_counts t.places counted_so
-      → new ≡ t.status → Spends (Rewrites p from false) old told
+  -- or it was given back, and the tables have the old one still
+  pub tidy_unrenewed : (p from : ℕ) (e fault : ChipFault) (old told : Told)
+      → IsGivenBack first fault after → new ≡ t.status → Spends (WritesFree first p from false) old told
       → Tidies {T = Unit {0}} {E = ChipFault} t (Err e) (with_tables t after new drawn) old told
-  unfolding free_there
-  tidy_still from e old told counted_so same still did =
-      let made : Places = with_counts t.places counted_so in
-      subst (λ (d : Places). Tidies {T = Unit {0}} {E = ChipFault} t (Err e)
-      (with_tables t d new drawn) old told) (sym same)
-      (subst (λ (s : Status). Tidies {T = Unit {0}} {E = ChipFault} t (Err e)
-      (with_tables t made s drawn) old told) (sym still)
-      (tables_rewritten {T = Unit {0}} {E = ChipFault} t (with_tables t made t.status drawn) p
-      from false (Err e) old told
-      (λ _ q s counted. inl (counted, free_apart places t known p q s free_there counted)) did))
-
-  -- a write failed, and the tables have the old one still
-  pub tidy_unrenewed : (from : ℕ) (e fault : ChipFault) (old told : Told)
-      → IsGivenBack t.places fault after → new ≡ t.status → Spends (Rewrites p from false) old told
-      → Tidies {T = Unit {0}} {E = ChipFault} t (Err e) (with_tables t after new drawn) old told
-  tidy_unrenewed from e fault old told (inl same) still did =
-      tidy_still from e old told t.places.erases same still did
-  tidy_unrenewed from e fault old told (inr (stopped, (q, next_free, erased))) still did =
-      tidy_still from e old told (with_erased t.places q).erases erased still did
-
--- none was taken
-pub tidy_not_taken : (places : ℕ) (t : Tables) → KnowsPlaces places t → (after : Places)
-    (new : Status) (drawn : ℕ) (e : ChipFault) (old told : Told) → after ≡ t.places → new ≡ t.status
-    → Spends (ClearsNext t.places false) old told
-    → Tidies {T = Unit {0}} {E = ChipFault} t (Err e) (with_tables t after new drawn) old told
-tidy_not_taken places t known after new drawn e old told same still =
-    untaken_tidily places t known (Unit {0}) (with_tables t after new drawn) drawn (Err e) old told
-    (rw (same, still) refl)
+  tidy_unrenewed p from e fault old told back still =
+      let then : Tables = with_tables t after new drawn in
+      let same = back_is_same first after fault back in
+      let settles : Type 0 = Settled {T = Unit {0}} {E = ChipFault} (Err e) old told in
+      spends_weaker (WritesFree first p from false)
+      (TidyWork (IsCountedClean t) (IsCountedClean then) settles) old told
+      (λ added. tidy_writes (IsCountedClean t) (IsCountedClean then) first p from false settles added
+      (λ _ q s counted.
+      let before = counted_before after same.0 same.1 q s
+      (subst (λ (b : Status). IsCountedClean (with_tables t after b drawn) q s) still counted) in
+      inl (before, in_use q s before)))
 
 -- ---- an opening
 

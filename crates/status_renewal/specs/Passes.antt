@@ -6,6 +6,7 @@ use Rattle.chip_trait.specs.Told.{History, Told, Rose}
 use Rattle.ipl_base.specs.declared.fault.ChipFault.{ChipFault}
 use Rattle.ipl_base.specs.Calls.{IsFailedCall}
 use Rattle.ipl_base.specs.declared.fault.ChipFault.TheVariants.{ReadFault, Stopped, Damaged, Malformed, WornOut}
+use Rattle.ipl_format.specs.Sector.{Sector}
 use Rattle.ipl_rules.specs.State.{Map}
 use Rattle.ipl_meaning.specs.Agrees.{Agrees}
 use Rattle.ipl_meaning.specs.Chart.{Chart, chart_of}
@@ -13,16 +14,19 @@ use Rattle.ipl_meaning.specs.Layout.{Entry, Shape, Layout, records_of}
 use Rattle.ipl_meaning.specs.Mirrors.{Mirrors}
 use Rattle.ipl_meaning.specs.Rests.{StoryRests}
 use Rattle.ipl_meaning.specs.Steps.{KeepsPages}
-use Rattle.ipl_meaning.specs.Tables.{Tables}
+use Rattle.ipl_meaning.specs.Tables.{Places, Tables}
 use Rattle.merge_rules.specs.Faults.{merge_fault, IsMergeable, FailsByChipAlone}
 use Rattle.merge_rules.specs.Known.{KnowsPlaces}
 use Rattle.merge_rules.specs.Pages.{IsBaseSpotBelow}
 use Rattle.merge_rules.specs.Packs.{among, packs_of, entries_from}
+use Rattle.place_taking.specs.Spending.{RetiringCosts, RetiresWorn}
+use Rattle.selective_merge.specs.Homes.{WearCause}
 use Rattle.selective_merge.specs.Placing.{SaysErases}
 use Rattle.selective_merge.specs.Throughout.{ChartsThroughout}
 use Rattle.steps.specs.Laws.{Preserves}
 use Rattle.txn_status.specs.Status.{room_of}
-use Rattle.unit_io.specs.Costs.{Costs, is_erased}
+use Rattle.unit_layout.specs.Retired.{retired_in}
+use Rattle.unit_io.specs.Costs.{is_erased}
 use Rattle.unit_io.specs.Leads.{IsSteady}
 use Rattle.unit_io.specs.Reads.{OfContents}
 use Rattle.kept_numbers.specs.Joins.{joined}
@@ -115,9 +119,15 @@ GoesOnTelling result old new =
 
 -- ---- the renewal
 
+-- the header of the status place lists exactly the places that are retired
+abbrev pub ListsRetired : Tables → Chart → Type 0
+ListsRetired t c = (head : Sector) × (c t.status.place 0 ≡ Some head)
+    × (retired_in head.version head.payload ≡ t.places.retired)
+
 -- All units were passed, and the status has a new place with the numbers that are kept, whose header
--- says how often the tables have it erased. All pages show what they showed. Of the numbers that were committed exactly those are so still that a live
--- record has.
+-- says how often the tables have it erased, and lists exactly the places that are retired in them. All
+-- pages show what they showed. Of the numbers that were committed exactly those are so still that a
+-- live record has.
 pub record HasRenewed (places : ℕ) (c : Chart) (it : Layout) (t after : Tables)
     (y : Chart) : Type 0 where
   pub now : Layout
@@ -128,6 +138,7 @@ pub record HasRenewed (places : ℕ) (c : Chart) (it : Layout) (t after : Tables
   pub exact : (tid : ℕ) → IsTrue (now.committed tid)
       ↔ (IsTrue (it.committed tid) × IsLoggedBelow now.count now tid)
   pub says : SaysErases after after.status.place y
+  pub lists : ListsRetired after y
 
 -- whatever layout the tables mirrored, the status was renewed
 abbrev pub RenewsAny : ℕ → Tables → Tables → Chart → Chart → Type 0
@@ -152,11 +163,13 @@ KeepsInSteps places t after old result new = (m : Map) (it : Layout) (h : Histor
     → IsSteady h old → StoryRests places m h → Agrees places h it t
     → Preserves places m t after h result old new
 
--- whatever the chip tells: the same sessions are open, and the tables know each place; done, at
--- least 191 sectors of the status place are known clean, and not done, the status is as it was
+-- whatever the chip tells: the same sessions are open, there are as many units, and the tables know each
+-- place; done, at least 191 sectors of the status place are known clean, and not done, the status is as
+-- it was
 pub record HoldsRenewed (places : ℕ) (before : Tables) (result : Result (Unit {0}) ChipFault)
     (after : Tables) : Type 0 where
   pub active : after.active ≡ before.active
+  pub units : length after.places.current ≡ length before.places.current
   pub known : KnowsPlaces places after
   pub ends : MatchResult result
       (λ _. 191 ≤ room_of after.status) (λ _. after.status ≡ before.status)
@@ -198,10 +211,13 @@ CompletesRenewal places t result told = OfContents told (λ x. (it : Layout)
 
 -- ---- costs
 
--- at most so many erases, each with at most three barriers; and only what was erased before is
--- programmed
-abbrev pub ErasesAtMost : ℕ → Story → Type 0
-ErasesAtMost n added = Costs n 0 (3 * n) [] added
+-- At most so many erases are tried, and one more for each place that is retired; there are at most
+-- three barriers for each of so many; only what was erased before is programmed; and what is found worn
+-- is retired.
+pub record ErasesAtMost (before after : Places) (n : ℕ) (worn_out : Bool) (added : Story)
+    : Type 0 where
+  pub costs : RetiringCosts before after n 0 (3 * n) [] added
+  pub retires : RetiresWorn before after worn_out added
 
 -- the place was erased among these events
 abbrev pub HasErased : ℕ → Story → Type 0
@@ -209,12 +225,13 @@ HasErased place added = is_erased added place ≡ true
 
 -- ---- causes
 
--- why a renewal fails, whatever the chip tells: a read or a write failed, or an erase found its place
--- worn, and that count rose; or a sector isn't what it must be, and where it is damaged it is a base
--- sector whose sums differ
-abbrev pub RenewCause : ChipFault → Told → Told → Type 0
-RenewCause ReadFault old new = Rose old.read_faults new.read_faults
-RenewCause Stopped old new = Rose old.write_faults new.write_faults
-RenewCause (Damaged p s stored computed) old new = IsBaseSpotBelow PAGES s × (stored ≢ computed)
-RenewCause (Malformed p s) old new = Unit {0}
-RenewCause (WornOut n) old new = (n ≡ 1) × Rose old.worn_erases new.worn_erases
+-- why a renewal fails, whatever the chip tells: a read or a write failed, or too many places are worn,
+-- by the directory then, and that count rose; or a sector isn't what it must be, and where it is damaged
+-- it is a base sector whose sums differ
+abbrev pub RenewCause : Places → ChipFault → Told → Told → Type 0
+RenewCause after ReadFault old new = Rose old.read_faults new.read_faults
+RenewCause after Stopped old new = Rose old.write_faults new.write_faults
+RenewCause after (Damaged p s stored computed) old new =
+    IsBaseSpotBelow PAGES s × (stored ≢ computed)
+RenewCause after (Malformed p s) old new = Unit {0}
+RenewCause after (WornOut n) old new = WearCause after n old new

@@ -1,5 +1,5 @@
 -- What an opening leaves that ends with a new status place.
-use Rattle.std.specs.Prelude.{ℕ, ◌≡◌, ◌≢◌, ◌⊎◌, ◌↔◌, ◌<◌, ◌≤◌, [], true, IsTrue, is_ok, List, length, Contains, Some, None, Result, MatchResult, IfErr}
+use Rattle.std.specs.Prelude.{ℕ, ◌≡◌, ◌≢◌, ◌⊎◌, ◌↔◌, ◌<◌, ◌≤◌, ◌+◌, ◌||◌, [], Bool, true, false, IsTrue, is_ok, List, length, Contains, Some, None, Result, Ok, Err, MatchResult, IfErr}
 use Rattle.ipl_base.specs.declared.limits.TheConstants.{KEPT_NUMBERS}
 use Rattle.chip_trait.specs.Story.{Contents}
 use Rattle.chip_trait.specs.Told.{History, Told, Rose}
@@ -7,7 +7,7 @@ use Rattle.ipl_base.specs.declared.fault.ChipFault.{ChipFault}
 use Rattle.ipl_base.specs.Calls.{IsFailedCall}
 use Rattle.ipl_base.specs.declared.fault.ChipFault.TheVariants.{ReadFault, Stopped, Damaged, WornOut}
 use Rattle.ipl_base.specs.declared.fault.ImageFault.{ImageFault}
-use Rattle.ipl_base.specs.declared.fault.ImageFault.TheVariants.{Chip}
+use Rattle.ipl_base.specs.declared.fault.ImageFault.TheVariants.{Geometry, NotFormatted, Missing, Chip, Spent, NoSpare}
 use Rattle.ipl_rules.specs.State.{Map}
 use Rattle.ipl_meaning.specs.Chart.{Chart, chart_of}
 use Rattle.ipl_meaning.specs.Layout.{Layout, Laid}
@@ -15,12 +15,16 @@ use Rattle.ipl_meaning.specs.Mirrors.{Mirrors}
 use Rattle.ipl_meaning.specs.Rests.{EachStands, StoryRests}
 use Rattle.ipl_meaning.specs.Stands.{Says}
 use Rattle.ipl_meaning.specs.Steps.{KeepsPages}
-use Rattle.ipl_meaning.specs.Tables.{Tables, IsCountedClean}
+use Rattle.ipl_meaning.specs.Tables.{Places, Tables, IsCountedClean}
 use Rattle.merge_rules.specs.Faults.{unit_fault}
 use Rattle.merge_rules.specs.Known.{KnowsPlaces}
+use Rattle.opening_rules.specs.Chosen.{units_at}
 use Rattle.opening_rules.specs.Faults.{first_fault}
-use Rattle.opening_rules.specs.LaidOut.{layout_in}
+use Rattle.opened_tables.specs.Opened.{IsUnused}
+use Rattle.opening_rules.specs.LaidOut.{layout_in, retired_at}
+use Rattle.place_taking.specs.Spending.{tells_worn}
 use Rattle.restart.specs.Looks.{OnlyReads}
+use Rattle.selective_merge.specs.Homes.{WearCause}
 use Rattle.selective_merge.specs.Placing.{SaysErases}
 use Rattle.steps.specs.Steps.{Settled, EndsWith, Outcome, TidyWork}
 use Rattle.txn_status.specs.Status.{room_of}
@@ -29,14 +33,14 @@ use Rattle.unit_io.specs.Leads.{IsSteady}
 use Rattle.unit_io.specs.Reads.{OfContents}
 use Rattle.unit_io.specs.Unread.{ReadsEachOnce}
 use Rattle.kept_numbers.specs.Keeps.{IsLoggedBelow}
-use Rattle.status_renewal.specs.Passes.{TellsChart}
+use Rattle.status_renewal.specs.Passes.{TellsChart, ListsRetired, ErasesAtMost}
 
 -- ---- what the chip holds
 
 -- The chart had no fault, and was laid out so. There are as many units, all pages show what they
 -- showed, and of the numbers that were committed exactly those are so still that a live record has;
 -- the tables mirror the new chart, and the header of the status place says how often they have it
--- erased.
+-- erased, and lists exactly the places that are retired in them.
 pub record HasOpened (places : ℕ) (c : Chart) (after : Tables) (y : Chart) : Type 0 where
   pub none : first_fault c places ≡ None
   pub laid : Laid places c (layout_in c places)
@@ -47,6 +51,7 @@ pub record HasOpened (places : ℕ) (c : Chart) (after : Tables) (y : Chart) : T
   pub exact : (tid : ℕ) → IsTrue (now.committed tid)
       ↔ (IsTrue ((layout_in c places).committed tid) × IsLoggedBelow now.count now tid)
   pub says : SaysErases after after.status.place y
+  pub lists : ListsRetired after y
 
 -- it is what is wrong with the first page of a unit that doesn't read well or, with its committed
 -- records, is more than a page holds
@@ -100,6 +105,41 @@ abbrev pub ReadsOnceWhereFit : ℕ → Told → Told → Type 0
 ReadsOnceWhereFit places old new =
     OfContents old (λ x. NumbersFit places (chart_of x) → Spends ReadsEachOnce old new)
 
+-- ---- what it erases
+
+-- the fault tells that too many places are worn
+abbrev pub tells_wear : ImageFault → Bool
+tells_wear Geometry = false
+tells_wear NotFormatted = false
+tells_wear (Missing u) = false
+tells_wear (Chip fault) = tells_worn fault
+tells_wear Spent = false
+tells_wear (NoSpare p) = false
+
+-- it ended since too many places are worn
+abbrev pub ends_worn_out : Result (Unit {0}) ImageFault → Bool
+ends_worn_out (Ok v) = false
+ends_worn_out (Err fault) = tells_wear fault
+
+-- of the places that aren't used those are retired that the status header lists
+abbrev pub FindsRetired : ℕ → Chart → Places → Type 0
+FindsRetired places c found = (p : ℕ) → Contains found.retired p
+    ↔ (Contains (retired_at c places) p × IsUnused places c p)
+
+-- From the directory that it found at most one erase is tried for each unit and one for the status
+-- place, and one more for each place that is retired, and what is found worn is retired. Done, or where
+-- too many places are worn, the chip holds what that directory was found by, and it has as many units as
+-- that says.
+pub record ErasesOpening (places : ℕ) (result : Result (Unit {0}) ImageFault) (after : Places)
+    (old new : Told) : Type 0 where
+  pub found : Places
+  pub erases : Spends (ErasesAtMost found after (length after.current + 1) (ends_worn_out result))
+      old new
+  pub finds : (is_ok result || ends_worn_out result) ≡ true
+      → OfContents old (λ x. FindsRetired places (chart_of x) found)
+  pub units : (is_ok result || ends_worn_out result) ≡ true
+      → OfContents old (λ x. length after.current ≡ units_at (chart_of x) places)
+
 -- ---- what a power cut leaves
 
 -- no sector
@@ -125,10 +165,10 @@ pub record HoldsOpened (places : ℕ) (after : Tables) : Type 0 where
   pub known : KnowsPlaces places after
   pub room : 191 ≤ room_of after.status
 
--- why it fails: a read or a write failed, or an erase found its place worn, and that count rose; or
--- the chip has a fault, and where a sector is damaged its sums differ
-pub record OpeningCause (e : ImageFault) (old new : Told) : Type 0 where
+-- why it fails: a read or a write failed, or too many places are worn, by the directory then, and that
+-- count rose; or the chip has a fault, and where a sector is damaged its sums differ
+pub record OpeningCause (after : Places) (e : ImageFault) (old new : Told) : Type 0 where
   pub read : e ≡ Chip ReadFault → Rose old.read_faults new.read_faults
   pub stopped : e ≡ Chip Stopped → Rose old.write_faults new.write_faults
-  pub worn : (n : ℕ) → e ≡ Chip (WornOut n) → (n ≡ 1) × Rose old.worn_erases new.worn_erases
+  pub worn : (n : ℕ) → e ≡ Chip (WornOut n) → WearCause after n old new
   pub damaged : (p s stored computed : ℕ) → e ≡ Chip (Damaged p s stored computed) → stored ≢ computed

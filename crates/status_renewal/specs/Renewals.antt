@@ -57,7 +57,7 @@ RenewalsRest =
     (result : Result (Unit {0}) ChipFault)
     → IsSteady h old → StoryRests places m h → Agrees places h it t
     → RenewsTold places t after old result new → KeepsInSteps places t after old result new
-    → Accounts RenewCause result old new
+    → Accounts (RenewCause after.places) result old new
     → Steps (EachStands places m) t after
     (λ done k. RestsRenewed places m (now h) it t after k)
     (λ k. RestsStopped places m (now h) it t after k) h result old new

@@ -1,5 +1,5 @@
 -- What a new status place makes of all tables.
-use Rattle.std.specs.Prelude.{ℕ, ◌≡◌, ◌⊎◌, List, true, false, Result}
+use Rattle.std.specs.Prelude.{ℕ, ◌≡◌, ◌⊎◌, List, false, Result}
 use Rattle.chip_trait.specs.Told.{History, Told}
 use Rattle.ipl_base.specs.declared.fault.ChipFault.{ChipFault}
 use Rattle.ipl_base.specs.declared.fault.ChipFault.TheVariants.{Stopped}
@@ -15,6 +15,7 @@ use Rattle.number_set.specs.Numbers.{among}
 use Rattle.txn_status.specs.Status.{switched_to}
 use Rattle.steps.specs.Steps.{Steps, RestsAgreeing}
 use Rattle.txn_status.specs.Switching.{MayKeep, Switched, RestsSwitched}
+use Rattle.place_taking.specs.Takes.{IsAsideFrom, IsTakenFrom}
 use Rattle.unit_directory.specs.Free.{IsNextFree}
 use Rattle.unit_io.specs.Leads.{IsSteady}
 
@@ -31,20 +32,22 @@ abbrev pub with_tables : Tables → Places → Status → ℕ → Tables
 with_tables t directory status next =
     record t { places = directory; status = status; next = next }
 
--- the least worn free place was erased once more and is the status place, under the number that was
--- next and with exactly these numbers, and the old one is free
+-- the next free place in its turn was taken and is the status place, under the number that was next
+-- and with exactly these numbers, and the old one is free
 pub record MovesStatus (before : Places) (old : Status) (next : ℕ) (kept : List ℕ)
     (after : Places) (new : Status) : Type 0 where
   pub place : ℕ
-  pub next_free : IsNextFree before place
+  pub mid : Places
+  pub taken : IsTakenFrom before place mid
   pub status_is : new ≡ switched_to place next kept
-  pub places_is : after ≡ with_use (with_erased (with_use before place true) place) old.place false
+  pub places_is : after ≡ with_use mid old.place false
 
--- The directory is as it was; or a write failed once the least worn free place was erased, which is
--- free again, and one erase more counts for it.
+-- Some places were found worn and are retired, and else the directory is as it was; or besides a write
+-- failed once the next free place was erased, which is free again, and one erase more counts for it.
 abbrev pub IsGivenBack : Places → ChipFault → Places → Type 0
-IsGivenBack before fault after = (after ≡ before)
-    ⊎ ((fault ≡ Stopped) × ((place : ℕ) × IsNextFree before place × (after ≡ with_erased before place)))
+IsGivenBack before fault after = IsAsideFrom before after
+    ⊎ ((fault ≡ Stopped) × ((mid : Places) × (place : ℕ)
+    × IsAsideFrom before mid × IsNextFree mid place × (after ≡ with_erased mid place)))
 
 -- the numbers may be kept: of those in live log sectors they are the committed ones, they were
 -- drawn, and none is of an open session
@@ -64,8 +67,8 @@ Renews places directory status next kept after new drawn c y = (it : Layout) (t 
 -- ---- what a power cut leaves
 
 -- At each moment a power cut leaves the map. Where no write failed, the story rests on it and the
--- tables agree: done, with the new status place; and where the place is worn, as they were but for the
--- counter.
+-- tables agree: done, with the new status place; and where too many places are worn, as they were but
+-- for the counter and the places that are retired.
 abbrev pub RenewsInSteps : ℕ → Places → Status → ℕ → List ℕ → Places → Status → ℕ
     → Result (Unit {0}) ChipFault → Told → Told → Type 0
 RenewsInSteps places directory status next kept after new drawn result old told =

@@ -7,8 +7,9 @@
 //!
 //! Proved, by `renew`: a renewal keeps the map at every moment. Done, exactly those numbers are
 //! committed that were so and that a live record has, and a unit was merged only where its numbers
-//! would have made more than 3,840; the header of the new place says how often it was erased. Not
-//! done, and no write failed, all pages show what they showed and the same numbers are committed.
+//! would have made more than 3,840; the header of the new place says how often it was erased, and lists
+//! exactly the places that are retired. Each place that is found worn is retired. Not done, and no write
+//! failed, all pages show what they showed and the same numbers are committed.
 //! Over what the chip holds it fails with exactly what was wrong with a unit whose numbers don't
 //! fit, which is where it was, or where a call of the chip failed; with that alone where all units'
 //! pages show values and few log sectors of each would be carried.
@@ -16,11 +17,12 @@
 //! Proved, by `recover`: an opening that ends with a renewal: the first fault, exactly, and a chip
 //! that has one was only read; or where there is none that of the first page of a unit that had to
 //! be merged and doesn't read well, or has no room for its committed records; where the pages say a
-//! map, only a failed call of the chip. Or
-//! tables that mirror what the chip holds then, in which all pages show what they showed; the
-//! counter is above every number found, and by how much at most. Where the numbers that are kept
-//! are at most 3,840, each sector is read at most once (`once`). At each moment of it a power cut
-//! leaves the same map, and it is lawful after any lawful events.
+//! map, only a failed call of the chip. Or tables that mirror what the chip holds then, in which all
+//! pages show what they showed; the counter is above every number found, and by how much at most; of
+//! the places that aren't used those are retired that the status header lists, and those that were
+//! found worn (`costs`). Where the numbers that are kept are at most 3,840, each sector is read at most
+//! once (`once`). At each moment of it a power cut leaves the same map, and it is lawful after any
+//! lawful events.
 #![tactic(auto)]
 
 mod laws;

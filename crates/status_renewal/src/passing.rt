@@ -9,6 +9,7 @@ ghost use Rattle.ipl_meaning.specs.Mirrors.{Mirrors};
 ghost use Rattle.ipl_meaning.specs.Tables.{Tables};
 ghost use Rattle.merge_rules.specs.Faults.{FailsByChipAlone};
 ghost use Rattle.merge_rules.specs.Known.{KnowsPlaces};
+ghost use Rattle.place_taking.specs.Spending.{is_worn_out};
 ghost use Rattle.selective_merge.specs.Moving.{tables_of, Holds};
 ghost use Rattle.steps.specs.Steps.{Tidies};
 ghost use Rattle.unit_io.specs.Accounts.{Accounts};
@@ -65,10 +66,12 @@ fn take_unit<C: Chip>(
     ensures holds { Holds (C.told chip.old).places (tables_of parts.old) (tables_of parts.new) }
     ensures draws { (parts.old.counter ≤ parts.new.counter)
         × (parts.new.counter ≤ parts.old.counter + 13) }
-    ensures costs { Spends (ErasesAtMost 1) (C.told chip.old) (C.told chip.new) }
+    ensures costs { Spends (ErasesAtMost parts.old.directory parts.new.directory 1
+        (is_worn_out result)) (C.told chip.old) (C.told chip.new) }
     ensures tidy { Tidies (tables_of parts.old) result (tables_of parts.new)
         (C.told chip.old) (C.told chip.new) }
-    ensures accounts { Accounts RenewCause result (C.told chip.old) (C.told chip.new) }
+    ensures accounts { Accounts (RenewCause parts.new.directory) result
+        (C.told chip.old) (C.told chip.new) }
 {
     let scratch = &mut parts.scratch;
     read_live(
@@ -109,11 +112,13 @@ fn pass<C: Chip>(chip: &mut C, parts: &mut Parts, kept: &mut KeptNumbers) -> Res
     ensures holds { Holds (C.told chip.old).places (tables_of parts.old) (tables_of parts.new) }
     ensures draws { (parts.old.counter ≤ parts.new.counter)
         × (parts.new.counter ≤ parts.old.counter + 13 * MOST_UNITS) }
-    ensures costs { Spends (ErasesAtMost (length parts.old.directory.current))
+    ensures costs { Spends (ErasesAtMost parts.old.directory parts.new.directory
+        (length parts.old.directory.current) (is_worn_out result))
         (C.told chip.old) (C.told chip.new) }
     ensures tidy { Tidies (tables_of parts.old) result (tables_of parts.new)
         (C.told chip.old) (C.told chip.new) }
-    ensures accounts { Accounts RenewCause result (C.told chip.old) (C.told chip.new) }
+    ensures accounts { Accounts (RenewCause parts.new.directory) result
+        (C.told chip.old) (C.told chip.new) }
 {
     parts.directory.facts();
     kept.clear();
@@ -155,11 +160,13 @@ pub fn find_numbers<C: Chip>(
     ensures holds { Holds (C.told chip.old).places (tables_of parts.old) (tables_of parts.new) }
     ensures draws { (parts.old.counter ≤ parts.new.counter)
         × (parts.new.counter ≤ parts.old.counter + 13 * MOST_UNITS) }
-    ensures costs { Spends (ErasesAtMost (length parts.old.directory.current))
+    ensures costs { Spends (ErasesAtMost parts.old.directory parts.new.directory
+        (length parts.old.directory.current) (is_worn_out result))
         (C.told chip.old) (C.told chip.new) }
     ensures tidy { Tidies (tables_of parts.old) result (tables_of parts.new)
         (C.told chip.old) (C.told chip.new) }
-    ensures accounts { Accounts RenewCause result (C.told chip.old) (C.told chip.new) }
+    ensures accounts { Accounts (RenewCause parts.new.directory) result
+        (C.told chip.old) (C.told chip.new) }
     ensures unread { OnTrue found (Spends ReadsNothing (C.told chip.old) (C.told chip.new)) }
 {
     if found {

@@ -1,16 +1,17 @@
 //! The status place, renewed in all tables.
-ghost use Rattle.std.specs.Prelude.{◌≡◌, ◌≤◌, ◌<◌, ◌+◌, ◌^◌, ℕ, length, OnOk, IfErr, is_ok};
+ghost use Rattle.std.specs.Prelude.{◌≡◌, ◌≤◌, ◌<◌, ◌+◌, ◌^◌, length, OnOk, IfErr, is_ok};
 ghost use Rattle.ipl_base.specs.declared.limits.TheConstants.{KEPT_NUMBERS};
 ghost use Rattle.ipl_meaning.specs.Tables.{IsFree, Tables};
 ghost use Rattle.merge_rules.specs.Known.{KnowsPlaces};
 ghost use Rattle.number_set.specs.Numbers.{AreRising};
+ghost use Rattle.place_taking.specs.Spending.{ErasesFor, is_worn_out};
+ghost use Rattle.place_taking.specs.Takes.{IsNotTaken};
 ghost use Rattle.selective_merge.specs.Throughout.{ChartsThroughout};
 ghost use Rattle.steps.specs.Steps.{Tidies};
 ghost use Rattle.txn_status.specs.Status.{parts_of, room_of};
-ghost use Rattle.unit_directory.specs.Free.{IsNextFree, free_count};
+ghost use Rattle.unit_directory.specs.Free.{free_count, IsReadyToTake};
 ghost use Rattle.unit_io.specs.Accounts.{Accounts};
-ghost use Rattle.unit_io.specs.Costs.{ErasesOnce, Spends};
-ghost use Rattle.unit_io.specs.Leads.{IsNotTaken};
+ghost use Rattle.unit_io.specs.Costs.{Spends};
 ghost use Rattle.unit_io.specs.Unread.{ReadsNothing};
 ghost use Rattle.status_renewal.specs.Renewed.{HasTables, with_tables, IsGivenBack, MovesStatus, Renews, RenewsInSteps};
 
@@ -23,12 +24,14 @@ use unit_layout::StatusHeader;
 
 /// Makes the least worn free place the status place, the lowest on a tie, with exactly these numbers,
 /// at most 3,840 in rising order: the place is taken, erased and written, and the old status place is
-/// free then. Its header says how often the place was erased. It fails only where a write failed or the
-/// place is worn, and the place is given back then.
+/// free then. A place that is found worn is retired, and the next one is taken. The header says how often
+/// the place was erased, and lists exactly the places that are retired then, also those of this call. It
+/// fails only where a write failed or more places are worn than are spare, and the place that was tried
+/// last is given back then.
 ///
 /// Where of the numbers in live log sectors exactly the committed ones are kept, whatever a power
-/// cut leaves at any moment stands for the map on which the story rested; and where the place is
-/// worn, the story rests on that map.
+/// cut leaves at any moment stands for the map on which the story rested; and where too many places
+/// are worn, the story rests on that map.
 pub fn renew_place<C: Chip>(
     chip: &mut C,
     directory: &mut Directory,
@@ -37,7 +40,7 @@ pub fn renew_place<C: Chip>(
     kept: &[u64],
 ) -> Result<(), ChipFault>
     requires size { length directory.old.in_use ≡ (C.told chip.old).places }
-    requires free { 0 < free_count directory.old.in_use }
+    requires ready { IsReadyToTake directory.old }
     requires held { ¬ IsFree directory.old status.old.place }
     requires placed { status.old.place < (C.told chip.old).places }
     requires rising { AreRising kept.now }
@@ -50,7 +53,8 @@ pub fn renew_place<C: Chip>(
     ensures same { IfErr result (λ fault. IsGivenBack directory.old fault directory.new
         × (status.new ≡ status.old)) }
     ensures room { OnOk result (191 ≤ room_of status.new) }
-    ensures free { free_count directory.new.in_use ≡ free_count directory.old.in_use }
+    ensures free { free_count directory.new.in_use + length directory.new.retired
+        ≡ free_count directory.old.in_use + length directory.old.retired }
     ensures known { (t : Tables) → HasTables t directory.old status.old counter.old
         → KnowsPlaces (C.told chip.old).places t
         → KnowsPlaces (C.told chip.old).places
@@ -65,19 +69,20 @@ pub fn renew_place<C: Chip>(
         result (C.told chip.old) (C.told chip.new) }
     ensures steps { RenewsInSteps (C.told chip.old).places directory.old status.old counter.old
         kept.now directory.new status.new counter.new result (C.told chip.old) (C.told chip.new) }
-    // One erase is tried, of the place that is taken, then programs of it alone, and three barriers.
-    ensures costs { (place : ℕ) × IsNextFree directory.old place
-        × Spends (ErasesOnce place 3 (is_ok result)) (C.told chip.old) (C.told chip.new) }
+    // One erase more is tried than places are retired, each of the next free place in its turn, then
+    // programs of the place that is taken alone, and three barriers.
+    ensures costs { Spends (ErasesFor directory.old directory.new 3 status.new.place (is_ok result)
+        (is_worn_out result)) (C.told chip.old) (C.told chip.new) }
     ensures tidy { (t : Tables) → HasTables t directory.old status.old counter.old
         → KnowsPlaces (C.told chip.old).places t
         → Tidies t result (with_tables t directory.new status.new counter.new)
         (C.told chip.old) (C.told chip.new) }
     // It reads nothing.
     ensures unread { Spends ReadsNothing (C.told chip.old) (C.told chip.new) }
-    ensures accounts { Accounts IsNotTaken result (C.told chip.old) (C.told chip.new) }
+    ensures accounts { Accounts (IsNotTaken directory.new) result
+        (C.told chip.old) (C.told chip.new) }
 {
     directory_laws();
-    directory.facts();
     let units = directory.units();
     let old = status.place();
     let generation = counter.draw();
@@ -86,7 +91,9 @@ pub fn renew_place<C: Chip>(
         units,
         erases: directory.erases(place),
     };
-    match status.switch(chip, counter, &header, place, generation, kept) {
+    directory.facts();
+    let retired = directory.retired();
+    match status.switch(chip, counter, &header, retired, place, generation, kept) {
         Ok(()) => {
             directory.give_back(old);
             Ok(())

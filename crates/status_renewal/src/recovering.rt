@@ -1,6 +1,5 @@
 //! The opening of a chip.
 ghost use Rattle.std.specs.Prelude.{◌≡◌, ◌≤◌, ◌<◌, ◌+◌, ◌^◌, [], length, OnOk, is_ok, true};
-ghost use Rattle.ipl_base.specs.Places.{KeepsUnits, units_on};
 ghost use Rattle.ipl_meaning.specs.Chart.{chart_of};
 ghost use Rattle.ipl_meaning.specs.Tables.{IsCountedClean};
 ghost use Rattle.opening_rules.specs.Faults.{greatest_found};
@@ -10,8 +9,8 @@ ghost use Rattle.steps.specs.Steps.{TidyWork};
 ghost use Rattle.unit_io.specs.Accounts.{Accounts};
 ghost use Rattle.unit_io.specs.Costs.{Spends};
 ghost use Rattle.unit_io.specs.Reads.{OfContents};
-ghost use Rattle.status_renewal.specs.Passes.{ErasesAtMost, HasErased};
-ghost use Rattle.status_renewal.specs.Recovers.{CompletesOpening, RecoversTold, LooksAtFaults, ReadsOnceWhereFit, IsNowhere, RecoversInSteps, HoldsOpened, OpeningCause};
+ghost use Rattle.status_renewal.specs.Passes.{HasErased};
+ghost use Rattle.status_renewal.specs.Recovers.{CompletesOpening, ErasesOpening, RecoversTold, LooksAtFaults, ReadsOnceWhereFit, IsNowhere, RecoversInSteps, HoldsOpened, OpeningCause};
 
 use crate::renewing::renew_with;
 use chip_trait::Chip;
@@ -22,15 +21,17 @@ use selective_merge::Parts;
 
 /// Opens a chip, for whose number of places the scratch memory and the tables were made: reads all
 /// that counts into the tables, and writes a new status place with the committed numbers that live
-/// records still have. No session is open.
+/// records still have. No session is open. The tables then are of as many units as the chip keeps; of
+/// the places that aren't used those are retired that the status header lists, and those that were
+/// found worn.
 ///
 /// The numbers are found while the log sectors are read. Only where they are more than 3,840, the
 /// logs are read again, unit by unit, since a unit whose numbers don't fit is merged.
 ///
 /// Whatever a power cut leaves at any moment stands for the map on which the story rested. It fails
 /// with the first fault of the chip, which was only read then; or where it has none, with that of a
-/// page of a unit that had to be merged; or where a call of the chip failed. Where no write failed,
-/// the story rests on the map still.
+/// page of a unit that had to be merged; or where a call of the chip failed, or more places are worn
+/// than are spare. Where no write failed, the story rests on the map still.
 pub fn recover<C: Chip>(
     chip: &mut C,
     scratch: &mut Scratch,
@@ -39,7 +40,7 @@ pub fn recover<C: Chip>(
 ) -> Result<(), ImageFault>
     requires scratch { scratch.old ≡ (C.told chip.old).places }
     requires directory { length parts.old.directory.in_use ≡ (C.told chip.old).places }
-    requires overflow { KeepsUnits (C.told chip.old).places (length parts.old.overflow.spots) }
+    requires overflow { parts.old.overflow.places ≡ (C.told chip.old).places }
     requires active { parts.old.active ≡ [] }
 
     // What the chip holds then, and what a power cut leaves.
@@ -64,9 +65,11 @@ pub fn recover<C: Chip>(
     ensures left { OnOk result (parts.new.counter ≤ 2 ^ 63 + 2 ^ 14) }
     ensures sized { (scratch.new ≡ scratch.old)
         × (length parts.new.directory.in_use ≡ (C.told chip.old).places)
-        × KeepsUnits (C.told chip.old).places (length parts.new.overflow.spots) }
-    // At most one erase a unit, and one for the status place.
-    ensures costs { Spends (ErasesAtMost (units_on (C.told chip.old).places + 1))
+        × (parts.new.overflow.places ≡ (C.told chip.old).places) }
+    // At most one erase a unit, and one for the status place, and one more for each place that was found
+    // worn and is retired; the others that are retired are those that the status header lists and that
+    // weren't used; and the tables have as many units as that says.
+    ensures costs { ErasesOpening (C.told chip.old).places result parts.new.directory
         (C.told chip.old) (C.told chip.new) }
     // Where the committed numbers that live records have are at most 3,840, it reads each sector at
     // most once, from the first header to the seal of the status place.
@@ -79,7 +82,8 @@ pub fn recover<C: Chip>(
     ensures tidy { Spends
         (TidyWork IsNowhere (IsCountedClean (tables_of parts.new)) (is_ok result ≡ true))
         (C.told chip.old) (C.told chip.new) }
-    ensures accounts { Accounts OpeningCause result (C.told chip.old) (C.told chip.new) }
+    ensures accounts { Accounts (OpeningCause parts.new.directory) result
+        (C.told chip.old) (C.told chip.new) }
 {
     let found = restart::recover(
         chip,

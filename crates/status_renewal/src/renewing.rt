@@ -2,6 +2,7 @@
 ghost use Rattle.std.specs.Prelude.{◌≡◌, ◌<◌, ◌≤◌, ◌+◌, ◌^◌, length, true, OnOk};
 ghost use Rattle.std.specs.Bool.{OnTrue};
 ghost use Rattle.merge_rules.specs.Known.{KnowsPlaces};
+ghost use Rattle.place_taking.specs.Spending.{is_worn_out};
 ghost use Rattle.selective_merge.specs.Moving.{tables_of};
 ghost use Rattle.steps.specs.Steps.{Tidies};
 ghost use Rattle.unit_io.specs.Accounts.{Accounts};
@@ -44,13 +45,15 @@ pub(crate) fn renew_with<C: Chip>(
         (tables_of parts.new) }
     ensures draws { (parts.old.counter ≤ parts.new.counter)
         × (parts.new.counter ≤ parts.old.counter + 2 ^ 14) }
-    ensures costs { Spends (ErasesAtMost (length parts.old.directory.current + 1))
+    ensures costs { Spends (ErasesAtMost parts.old.directory parts.new.directory
+        (length parts.old.directory.current + 1) (is_worn_out result))
         (C.told chip.old) (C.told chip.new) }
     ensures renewed { OnOk result (Spends (HasErased parts.new.status.place)
         (C.told chip.old) (C.told chip.new)) }
     ensures tidy { Tidies (tables_of parts.old) result (tables_of parts.new)
         (C.told chip.old) (C.told chip.new) }
-    ensures accounts { Accounts RenewCause result (C.told chip.old) (C.told chip.new) }
+    ensures accounts { Accounts (RenewCause parts.new.directory) result
+        (C.told chip.old) (C.told chip.new) }
     ensures unread { OnTrue found (Spends ReadsNothing (C.told chip.old) (C.told chip.new)) }
 {
     find_numbers(chip, parts, kept, found)?;
@@ -69,8 +72,9 @@ pub(crate) fn renew_with<C: Chip>(
 /// of a committed number then. What the list of numbers has then says nothing.
 ///
 /// Whatever a power cut leaves at any moment stands for the map on which the story rested, and where
-/// no write failed, it rests on that map. It fails where a read or a write failed, where the place for
-/// it or for a unit is worn, or where a unit can't be merged; the status place is the old one then.
+/// no write failed, it rests on that map. It fails where a read or a write failed, where more places
+/// are worn than are spare, or where a unit can't be merged; the status place is the old one then.
+/// Each place that was found worn is retired, and the new header lists exactly those that are.
 pub fn renew<C: Chip>(
     chip: &mut C,
     parts: &mut Parts,
@@ -100,8 +104,10 @@ pub fn renew<C: Chip>(
         (tables_of parts.new) }
     ensures draws { (parts.old.counter ≤ parts.new.counter)
         × (parts.new.counter ≤ parts.old.counter + 2 ^ 14) }
-    // At most one erase a unit, and one for the status place.
-    ensures costs { Spends (ErasesAtMost (length parts.old.directory.current + 1))
+    // At most one erase a unit, and one for the status place, and one more for each place that was found
+    // worn and is retired.
+    ensures costs { Spends (ErasesAtMost parts.old.directory parts.new.directory
+        (length parts.old.directory.current + 1) (is_worn_out result))
         (C.told chip.old) (C.told chip.new) }
     // Done, the place that the status has was erased.
     ensures renewed { OnOk result (Spends (HasErased parts.new.status.place)
@@ -110,7 +116,8 @@ pub fn renew<C: Chip>(
     // the tables count so; and where no write failed, what they count so then is clean.
     ensures tidy { Tidies (tables_of parts.old) result (tables_of parts.new)
         (C.told chip.old) (C.told chip.new) }
-    ensures accounts { Accounts RenewCause result (C.told chip.old) (C.told chip.new) }
+    ensures accounts { Accounts (RenewCause parts.new.directory) result
+        (C.told chip.old) (C.told chip.new) }
 {
     renew_with(chip, parts, kept, false)
 }

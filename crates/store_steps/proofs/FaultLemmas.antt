@@ -1,12 +1,11 @@
 -- A store whose chip was opened, and faults, as a run over a script asks for them.
-use Rattle.std.proofs.Common.{◌≡◌, ℕ, arith, true, false, [], Err, inl, refl, sym, ◌∙◌, ap, subst}
+use Rattle.std.proofs.Common.{◌≡◌, arith, true, false, [], Err, inl, refl, sym, ◌∙◌, ap, subst}
 use Rattle.chip_trait.specs.Moment.{Leaves}
 use Rattle.chip_trait.specs.Chart.{says}
 use Rattle.chip_trait.specs.Story.{Contents, held}
-use Rattle.chip_trait.specs.Told.{History, Told, adds_all}
+use Rattle.chip_trait.specs.Told.{History, Told}
 use Rattle.chip_trait.proofs.HistoryLemmas.{same_history}
 use Rattle.chip_trait.proofs.MomentLemmas.{at_start}
-use Rattle.ipl_base.specs.Places.{places_for}
 use Rattle.ipl_rules.specs.State.{Limits}
 use Rattle.ipl_model.specs.declared.reply.Reply.{Reply}
 use Rattle.ipl_format.specs.Sector.{sector_in}
@@ -23,8 +22,8 @@ use Rattle.store_steps.proofs.KeepLemmas.{IsAt, is_at, work_leaves, at_limits}
 -- ---- a store whose chip was opened
 
 pub opened_stores_keep : OpenedStoresKeep
-opened_stores_keep units t slots told h m none_lost none closed sessions shown steady rests tidy =
-    let (it, mirrors, says) = shown (held h.start h.story) steady.holds in record {
+opened_stores_keep places units t slots told h m none_lost none closed sessions shown steady rests tidy =
+    let (it, count, mirrors, says) = shown (held h.start h.story) steady.holds in record {
       limits_are = refl;
       steady = steady;
       rests = rests;
@@ -32,7 +31,8 @@ opened_stores_keep units t slots told h m none_lost none closed sessions shown s
         sessions = sessions;
         shows = record {
           layout = it;
-          fits = openings_fit (places_for units) (chart_of (held h.start h.story)) it t slots m mirrors
+          count = count;
+          fits = openings_fit places (chart_of (held h.start h.story)) it t slots m mirrors
               none_lost none closed sessions;
           says = says;
         };
@@ -44,7 +44,7 @@ opened_stores_keep units t slots told h m none_lost none closed sessions shown s
 
 -- nothing was left
 abbrev nothing_leaves : (P : Contents → Type 0) (store : View) (h : History) (told : Told)
-    → Leaves (says sector_in) P h [] → WorkLeaves store_keeping P store h store told told false
+    → Leaves (says sector_in) P h [] → WorkLeaves (store_keeping told.places) P store h store told told false
 nothing_leaves P store h told each = record {
   added = [];
   history = same_history told.history;
@@ -58,46 +58,48 @@ nothing_leaves P store h told each = record {
 pub idle_faults_are_work : IdleFaultsAreWork
 idle_faults_are_work c store told late limits state h keeps = record {
   leaves = nothing_leaves _ store h told
-      (λ x image. inl (keeps_each limits store told h state keeps x image));
+      (λ x image. inl (keeps_each told.places limits store told h state keeps x image));
   ends = λ unrisen. keeps;
   drawn = omega arith;
   excuse = λ few. absurd (omega (arith, late, few));
+  tells = tt;
 }
 
 pub idle_faults_look_up : IdleFaultsLookUp
 idle_faults_look_up n store told late limits state h keeps low = record {
-  leaves = nothing_leaves _ store h told (keeps_each limits store told h state keeps);
+  leaves = nothing_leaves _ store h told (keeps_each told.places limits store told h state keeps);
   ends = λ unrisen. keeps;
   drawn = omega arith;
   excuse = λ few. absurd (omega (arith, late, few));
+  tells = tt;
 }
 
 pub faults_that_leave_down : FaultsThatLeaveDown
-faults_that_leave_down c before after fault old new suits units up down preserves drawn excused limits
+faults_that_leave_down c before after fault old new units up down preserves drawn excused limits
     state h keeps =
-    subst (λ (l : Limits). WorksFor store_keeping l state c before h (Err fault) after old new)
+    subst (λ (l : Limits). WorksFor (store_keeping old.places) l state c before h (Err fault) after old new)
     (sym keeps.limits_are) (record {
-      leaves = work_leaves {T = Reply} {E = Fault} (KeepsMapOf (places_for before.units) state)
-          (λ v k. StoryRests (places_for before.units) state.map k)
-          (λ k. StoryRests (places_for before.units) state.map k) before after h (Err fault) old new _ way
+      leaves = work_leaves {T = Reply} {E = Fault} (KeepsMapOf old.places state)
+          (λ v k. StoryRests old.places state.map k)
+          (λ k. StoryRests old.places state.map k) before after h (Err fault) old new _ way
           (λ later e split x image. inl (way.each_moment later e split x image));
       ends = λ unrisen. record {
         limits_are = ap limits_of (sym units);
         steady = way.steady unrisen;
-        rests = subst (λ (n : ℕ). StoryRests (places_for n) state.map (adds_all way.added h)) (sym units)
-            (way.ends unrisen);
+        rests = way.ends unrisen;
         up = λ runs. absurd (let clash : true ≡ false = sym down ∙ runs in cc clash);
       };
       drawn = drawn;
-      excuse = excused h state own;
+      excuse = (excused h state own).0;
+      tells = (excused h state own).1;
     })
   where
-    own : KeepsStore (limits_of before.units) before old h state
-    own = at_limits limits before old h state keeps
+    own : KeepsStore old.places (limits_of before.units) before old h state
+    own = at_limits old.places limits before old h state keeps
 
     here : IsAt before old state h
     here = is_at before old h state up own
 
-    way : Preserves {T = Reply} (places_for before.units) state.map before.memory.tables
+    way : Preserves {T = Reply} old.places state.map before.memory.tables
         after.memory.tables h (Err fault) old new
     way = preserves h here.shown.layout state here.steady here.story

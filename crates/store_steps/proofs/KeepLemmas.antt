@@ -1,12 +1,12 @@
 -- What calls of a store leave, as a run over a script asks for it.
 use Rattle.std.specs.FinMap.{get}
-use Rattle.std.proofs.Common.{◌≡◌, ℕ, ◌⊎◌, ◌<◌, ◌≤◌, ◌*◌, true, false, [], ◌∷◌, Option, List, Result, MatchResult, IfOk, Ok, Err, is_ok, sym, ap, subst, arith}
+use Rattle.std.proofs.Common.{◌≡◌, ℕ, ◌⊎◌, ◌<◌, ◌≤◌, ◌*◌, true, false, [], ◌∷◌, Option, List, Result, MatchResult, IfOk, Ok, Err, is_ok, refl, sym, ◌∙◌, ap, subst, arith}
 use Rattle.std.proofs.lemmas.Result.{IfErr-weaker}
 use Rattle.chip_trait.specs.Moment.{AtEachMoment, Leaves}
 use Rattle.chip_trait.specs.Chart.{says}
 use Rattle.chip_trait.specs.Story.{Story, Contents, held}
 use Rattle.chip_trait.specs.Told.{History, Told, Unrisen, adds_all}
-use Rattle.ipl_base.specs.Places.{places_for}
+use Rattle.ipl_base.specs.Places.{spares_on}
 use Rattle.ipl_rules.specs.State.{Map, State, Limits}
 use Rattle.ipl_model.specs.declared.command.Command.{Command}
 use Rattle.ipl_model.specs.declared.reply.Reply.{Reply}
@@ -22,8 +22,8 @@ use Rattle.steps.specs.Steps.{Settled, EndsWith, Steps}
 use Rattle.pending_writes.specs.Fits.{AreSessionsOf}
 use Rattle.store_trait.specs.declared.fault.Fault.{Fault}
 use Rattle.store_trait.specs.Keeping.{AllOf, WORK_DRAWS, LOOK_UP_DRAWS, Excuses, WorkLeaves, WorksFor, LooksUpFor}
-use Rattle.store_steps.specs.Advances.{memory_of, MemoryFits, MemoryFitsStory, ShowsNext, state_then, Advances, KeepsMapOf, TurnsMapOf}
-use Rattle.store_steps.specs.Keeps.{View, limits_of, ShowsState, KeepsStore, store_keeping, IsExcused, StepsAs, LeadsAreWork, KeepersLookUp}
+use Rattle.store_steps.specs.Advances.{memory_of, MemoryFitsStory, ShowsNext, state_then, Advances, KeepsMapOf, TurnsMapOf}
+use Rattle.store_steps.specs.Keeps.{View, limits_of, ShowsState, FaultTells, KeepsStore, store_keeping, IsExcused, StepsAs, LeadsAreWork, KeepersLookUp}
 use Rattle.store_steps.proofs.AdvanceLemmas.{same_held}
 
 -- ---- small facts
@@ -65,11 +65,11 @@ rests_then (Err e) places next state k rests = rests
 pub record IsAt (store : View) (old : Told) (state : State) (h : History) : Type 0 where
   pub steady : IsSteady h old
   pub sessions : AreSessionsOf store.memory.slots state
-  pub shown : ShowsState store state (held h.start h.story)
-  pub story : MemoryFitsStory (places_for store.units) h shown.layout store.memory state
+  pub shown : ShowsState old.places store state (held h.start h.story)
+  pub story : MemoryFitsStory old.places h shown.layout store.memory state
 
 pub is_at : (store : View) (old : Told) (h : History) (state : State) → store.down ≡ false
-    → KeepsStore (limits_of store.units) store old h state → IsAt store old state h
+    → KeepsStore old.places (limits_of store.units) store old h state → IsAt store old state h
 is_at store old h state up keeps = let runs = keeps.up up in record {
   steady = keeps.steady;
   sessions = runs.sessions;
@@ -85,7 +85,7 @@ abbrev pub work_leaves : {T E : Type 0} (Each : History → Type 0) (Then : T �
     (old new : Told) (P : Contents → Type 0)
     → (did : Steps Each before.memory.tables after.memory.tables Then Else h result old new)
     → AtEachMoment (Leaves (says sector_in) P h) did.added
-    → WorkLeaves store_keeping P before h after old new (is_ok result)
+    → WorkLeaves (store_keeping old.places) P before h after old new (is_ok result)
 work_leaves Each Then Else before after h result old new P did moments = record {
   added = did.added;
   history = did.history;
@@ -100,45 +100,42 @@ work_leaves Each Then Else before after h result old new P did moments = record 
 
 module _ {T E : Type 0} (Each : ℕ → State → History → Type 0) (next : State → State)
     (before after : View) (result : Result T E) (old new : Told) (state : State) (h : History)
-    (at : IsAt before old state h) (suits : places_for before.units ≡ old.places)
-    (units : after.units ≡ before.units)
+    (at : IsAt before old state h) (units : after.units ≡ before.units)
     (advances : Advances Each next before.memory old result after.memory new) where
   abbrev places : ℕ
-  places = places_for before.units
+  places = old.places
 
   -- what is left over the story
   did : Steps (Each places state) before.memory.tables after.memory.tables
       (λ v k. StoryRests places (next state).map k) (λ k. StoryRests places state.map k)
       h result old new
-  did = advances.steps places h at.shown.layout state (sym suits) at.steady at.story
+  did = advances.steps places h at.shown.layout state refl at.steady at.story
 
   abbrev then : State
   then = state_then result next state
 
   -- what the store keeps then
   keeps_then : Settled result old new
-      → KeepsStore (limits_of before.units) after new (adds_all did.added h) then
+      → KeepsStore places (limits_of before.units) after new (adds_all did.added h) then
   keeps_then settled =
-      let (y, told_then, had) = advances.fits places (sym suits) settled (held h.start h.story)
+      let (y, told_then, had) = advances.fits places refl settled (held h.start h.story)
       at.steady.holds in
       let at_end = had at.shown.layout state at.shown.fits in
-      let showing : ShowsState after then y = record {
+      let showing : ShowsState places after then y = record {
         layout = at_end.layout;
-        fits = subst (λ (n : ℕ). MemoryFits (places_for n) (chart_of y) at_end.layout after.memory then)
-            (sym units) at_end.fits;
-        says = subst (λ (n : ℕ). Says (places_for n) (chart_of y) at_end.layout then.map) (sym units)
-            (says_next places (now h) (chart_of y) at.shown.layout at_end.layout state then
-            at_end.shows at.shown.says);
+        count = at_end.shows.count ∙ at.shown.count ∙ sym units;
+        fits = at_end.fits;
+        says = says_next places (now h) (chart_of y) at.shown.layout at_end.layout state then
+            at_end.shows at.shown.says;
       } in
       let k = adds_all did.added h in
       let steady = did.steady settled in record {
         limits_are = ap limits_of (sym units);
         steady = steady;
-        rests = subst (λ (n : ℕ). StoryRests (places_for n) then.map k) (sym units)
-            (rests_then result places next state k (did.ends settled));
+        rests = rests_then result places next state k (did.ends settled);
         up = λ runs. record {
           sessions = at_end.fits.sessions;
-          shows = subst (ShowsState after then)
+          shows = subst (ShowsState places after then)
               (same_held y (held k.start k.story) new told_then steady.holds) showing;
           tidy = did.does.clean settled h.story at.story.tidy;
         };
@@ -147,10 +144,11 @@ module _ {T E : Type 0} (Each : ℕ → State → History → Type 0) (next : St
 -- ---- work, and looking up
 
 -- the limits are those of the units
-pub at_limits : (limits : Limits) (store : View) (t : Told) (h : History) (state : State)
-    → KeepsStore limits store t h state → KeepsStore (limits_of store.units) store t h state
-at_limits limits store t h state keeps =
-    subst (λ (l : Limits). KeepsStore l store t h state) keeps.limits_are keeps
+pub at_limits : (places : ℕ) (limits : Limits) (store : View) (t : Told) (h : History) (state : State)
+    → KeepsStore places limits store t h state
+    → KeepsStore places (limits_of store.units) store t h state
+at_limits places limits store t h state keeps =
+    subst (λ (l : Limits). KeepsStore places l store t h state) keeps.limits_are keeps
 
 -- the step's map is that of the next state, done or not
 step_map : (limits : Limits) (state : State) (c : Command) (next : State) (result : Result Reply Fault)
@@ -159,27 +157,30 @@ step_map limits state c next (Ok reply) is = sym (ap (λ (x : Stepped). x.0.map)
 step_map limits state c next (Err fault) is = sym is
 
 pub leads_are_work : LeadsAreWork
-leads_are_work c next before after result old new suits units up leads steps drawn excused limits state
+leads_are_work c next before after result old new units up leads steps drawn excused limits state
     h keeps =
-    subst (λ (l : Limits). WorksFor store_keeping l state c before h result after old new)
+    subst (λ (l : Limits). WorksFor (store_keeping old.places) l state c before h result after old new)
     (sym keeps.limits_are) (record {
-      leaves = work_leaves (TurnsMapOf next (places_for before.units) state)
-          (λ v k. StoryRests (places_for before.units) (next state).map k)
-          (λ k. StoryRests (places_for before.units) state.map k) before after h result old new _ way
+      leaves = work_leaves (TurnsMapOf next old.places state)
+          (λ v k. StoryRests old.places (next state).map k)
+          (λ k. StoryRests old.places state.map k) before after h result old new _ way
           (subst (λ (m : Map). AtEachMoment (Leaves (says sector_in) (λ x.
-          Stands (places_for before.units) (chart_of x) state.map ⊎ Stands (places_for before.units) (chart_of x) m)
+          Stands old.places (chart_of x) state.map ⊎ Stands old.places (chart_of x) m)
           h) way.added) (step_map (limits_of before.units) state c (next state) result own_step)
           way.each_moment);
       ends = by_end result own_step
-          (keeps_then (TurnsMapOf next) next before after result old new state h here suits units
+          (keeps_then (TurnsMapOf next) next before after result old new state h here units
           leads);
       drawn = drawn h state own;
       excuse = IfErr-weaker result (IsExcused WORK_DRAWS before old new)
-          (Excuses store_keeping WORK_DRAWS before old new) (λ fault excuse. excuse h state own) excused;
+          (Excuses (store_keeping old.places) WORK_DRAWS before old new)
+          (λ fault excuse. (excuse h state own).0) excused;
+      tells = IfErr-weaker result (IsExcused WORK_DRAWS before old new)
+          (FaultTells (spares_on old.places before.units)) (λ fault excuse. (excuse h state own).1) excused;
     })
   where
-    own : KeepsStore (limits_of before.units) before old h state
-    own = at_limits limits before old h state keeps
+    own : KeepsStore old.places (limits_of before.units) before old h state
+    own = at_limits old.places limits before old h state keeps
 
     own_step : StepsAs (limits_of before.units) state c (next state) result
     own_step = steps h state own
@@ -187,48 +188,51 @@ leads_are_work c next before after result old new suits units up leads steps dra
     here : IsAt before old state h
     here = is_at before old h state up own
 
-    way : Steps (TurnsMapOf next (places_for before.units) state) before.memory.tables after.memory.tables
-        (λ v k. StoryRests (places_for before.units) (next state).map k)
-        (λ k. StoryRests (places_for before.units) state.map k) h result old new
-    way = did (TurnsMapOf next) next before after result old new state h here suits units leads
+    way : Steps (TurnsMapOf next old.places state) before.memory.tables after.memory.tables
+        (λ v k. StoryRests old.places (next state).map k)
+        (λ k. StoryRests old.places state.map k) h result old new
+    way = did (TurnsMapOf next) next before after result old new state h here units leads
 
     then : History
     then = adds_all way.added h
 
     by_end : (r : Result Reply Fault) → StepsAs (limits_of before.units) state c (next state) r
-        → (Settled r old new → KeepsStore (limits_of before.units) after new then
+        → (Settled r old new → KeepsStore old.places (limits_of before.units) after new then
         (state_then r next state))
         → MatchResult r
-        (λ reply. KeepsStore (limits_of before.units) after new then
+        (λ reply. KeepsStore old.places (limits_of before.units) after new then
         (step (limits_of before.units) state c).0
         × ((step (limits_of before.units) state c).1 ≡ reply ∷ []))
-        (λ fault. Unrisen old new → KeepsStore (limits_of before.units) after new then state)
+        (λ fault. Unrisen old new → KeepsStore old.places (limits_of before.units) after new then state)
     by_end (Ok reply) is kept = (
-      subst (λ (s : State). KeepsStore (limits_of before.units) after new then s)
+      subst (λ (s : State). KeepsStore old.places (limits_of before.units) after new then s)
           (sym (ap (λ (x : Stepped). x.0) is)) (kept tt),
       ap (λ (x : Stepped). x.1) is,
     )
     by_end (Err fault) is kept = kept
 
 pub keepers_look_up : KeepersLookUp
-keepers_look_up n before after result old new suits units up slots keeper finds drawn excused limits
+keepers_look_up n before after result old new units up slots keeper finds drawn excused limits
     state h keeps low =
-    subst (λ (l : Limits). LooksUpFor store_keeping l state n before h result after old new)
+    subst (λ (l : Limits). LooksUpFor (store_keeping old.places) l state n before h result after old new)
     (sym keeps.limits_are) (record {
-      leaves = work_leaves (KeepsMapOf (places_for before.units) state)
-          (λ v k. StoryRests (places_for before.units) state.map k)
-          (λ k. StoryRests (places_for before.units) state.map k) before after h result old new _ way
+      leaves = work_leaves (KeepsMapOf old.places state)
+          (λ v k. StoryRests old.places state.map k)
+          (λ k. StoryRests old.places state.map k) before after h result old new _ way
           way.each_moment;
       ends = by_end result finds
-          (keeps_then KeepsMapOf (λ state. state) before after result old new state h here suits
+          (keeps_then KeepsMapOf (λ state. state) before after result old new state h here
           units whole);
       drawn = drawn;
       excuse = IfErr-weaker result (IsExcused LOOK_UP_DRAWS before old new)
-          (Excuses store_keeping LOOK_UP_DRAWS before old new) (λ fault excuse. excuse h state own) excused;
+          (Excuses (store_keeping old.places) LOOK_UP_DRAWS before old new)
+          (λ fault excuse. (excuse h state own).0) excused;
+      tells = IfErr-weaker result (IsExcused LOOK_UP_DRAWS before old new)
+          (FaultTells (spares_on old.places before.units)) (λ fault excuse. (excuse h state own).1) excused;
     })
   where
-    own : KeepsStore (limits_of before.units) before old h state
-    own = at_limits limits before old h state keeps
+    own : KeepsStore old.places (limits_of before.units) before old h state
+    own = at_limits old.places limits before old h state keeps
 
     here : IsAt before old state h
     here = is_at before old h state up own
@@ -238,10 +242,10 @@ keepers_look_up n before after result old new suits units up slots keeper finds 
         (memory_of after.memory.tables after.memory.frames s) new) (sym slots)
         (keeper before.memory.slots)
 
-    way : Steps (KeepsMapOf (places_for before.units) state) before.memory.tables after.memory.tables
-        (λ v k. StoryRests (places_for before.units) state.map k)
-        (λ k. StoryRests (places_for before.units) state.map k) h result old new
-    way = did KeepsMapOf (λ state. state) before after result old new state h here suits units whole
+    way : Steps (KeepsMapOf old.places state) before.memory.tables after.memory.tables
+        (λ v k. StoryRests old.places state.map k)
+        (λ k. StoryRests old.places state.map k) h result old new
+    way = did KeepsMapOf (λ state. state) before after result old new state h here units whole
 
     then : History
     then = adds_all way.added h
@@ -251,12 +255,12 @@ keepers_look_up n before after result old new suits units up slots keeper finds 
 
     by_end : (r : Result (Option (List ℕ)) Fault)
         → IfOk r (λ found. (h : History) (state : State)
-        → KeepsStore (limits_of before.units) before old h state
+        → KeepsStore old.places (limits_of before.units) before old h state
         → n < 960 * before.units → found ≡ get state.map n)
-        → (Settled r old new → KeepsStore (limits_of before.units) after new then
+        → (Settled r old new → KeepsStore old.places (limits_of before.units) after new then
         (state_then r (λ state. state) state))
         → MatchResult r
-        (λ found. KeepsStore (limits_of before.units) after new then state × (found ≡ get state.map n))
-        (λ fault. Unrisen old new → KeepsStore (limits_of before.units) after new then state)
+        (λ found. KeepsStore old.places (limits_of before.units) after new then state × (found ≡ get state.map n))
+        (λ fault. Unrisen old new → KeepsStore old.places (limits_of before.units) after new then state)
     by_end (Ok found) found_is kept = (kept tt, found_is h state own low_here)
     by_end (Err fault) found_is kept = kept

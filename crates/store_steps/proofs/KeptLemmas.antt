@@ -1,9 +1,9 @@
 -- What is known of a state that a store keeps which isn't down.
-use Rattle.std.proofs.Common.{◌≡◌, ℕ, false, [], ◌∷◌, List, Option, Some, None, Ok, sym, ◌∙◌, ap, arith}
+use Rattle.std.proofs.Common.{◌≡◌, ℕ, false, [], ◌∷◌, List, Option, Some, None, Ok, refl, sym, ◌∙◌, ap, arith}
 use Rattle.std.specs.FinMap.{get}
 use Rattle.chip_trait.specs.Story.{held}
 use Rattle.chip_trait.specs.Told.{History, Told}
-use Rattle.ipl_base.specs.Places.{home_of, places_for}
+use Rattle.ipl_base.specs.Places.{home_of}
 use Rattle.ipl_rules.specs.Refusals.{refuses_get, refuses_share}
 use Rattle.ipl_rules.specs.State.{Limits, State, see}
 use Rattle.ipl_model.specs.declared.command.Command.TheVariants as command
@@ -23,20 +23,20 @@ use Rattle.store_steps.proofs.ViewLemmas.{frames_tell_state}
 
 -- ---- what it has
 
-pub kept_limits : (limits : Limits) (store : View) (t : Told) (h : History) (state : State)
-    → KeepsStore limits store t h state → limits ≡ limits_of store.units
-kept_limits limits store t h state keeps = keeps.limits_are
+pub kept_limits : (places : ℕ) (limits : Limits) (store : View) (t : Told) (h : History) (state : State)
+    → KeepsStore places limits store t h state → limits ≡ limits_of store.units
+kept_limits places limits store t h state keeps = keeps.limits_are
 
-pub kept_sessions : (limits : Limits) (store : View) (t : Told) (h : History) (state : State)
-    → store.down ≡ false → KeepsStore limits store t h state
+pub kept_sessions : (places : ℕ) (limits : Limits) (store : View) (t : Told) (h : History) (state : State)
+    → store.down ≡ false → KeepsStore places limits store t h state
     → AreSessionsOf store.memory.slots state
-kept_sessions limits store t h state up keeps = (keeps.up up).sessions
+kept_sessions places limits store t h state up keeps = (keeps.up up).sessions
 
 -- a layout in which the memory fits, and the pages say the map
-pub kept_shown : (limits : Limits) (store : View) (t : Told) (h : History) (state : State)
-    → store.down ≡ false → KeepsStore limits store t h state
-    → ShowsState store state (held h.start h.story)
-kept_shown limits store t h state up keeps = (keeps.up up).shows
+pub kept_shown : (places : ℕ) (limits : Limits) (store : View) (t : Told) (h : History) (state : State)
+    → store.down ≡ false → KeepsStore places limits store t h state
+    → ShowsState places store state (held h.start h.story)
+kept_shown places limits store t h state up keeps = (keeps.up up).shows
 
 -- ---- what frames tell of it
 
@@ -50,17 +50,17 @@ name_of_home n = omega arith
 -- whatever the call answered
 pub kept_frames_tell_on : {T E : Type 0} (v : T) (n : ℕ) (store : View) (t : Tables)
     (later : Frames) (f : Frame) (h : History) (state : State) (old new : Told)
-    → places_for store.units ≡ old.places → store.down ≡ false
+    → store.down ≡ false
     → KeepsState {T = T} {E = E} store.memory.tables store.memory.frames old (Ok v) t later new
     → later (home_of n).unit (home_of n).page ≡ Some f
-    → KeepsStore (limits_of store.units) store old h state
+    → KeepsStore old.places (limits_of store.units) store old h state
     → TellsName store.memory.slots state n f
-kept_frames_tell_on v n store t later f h state old new suits up keeper there keeps =
-    let places = places_for store.units in
+kept_frames_tell_on v n store t later f h state old new up keeper there keeps =
+    let places = old.places in
     let home = home_of n in
     let x = held h.start h.story in
-    let shown = kept_shown (limits_of store.units) store old h state up keeps in
-    let (y, told_then, had) = (keeper store.memory.slots).fits places (sym suits) tt x
+    let shown = kept_shown places (limits_of store.units) store old h state up keeps in
+    let (y, told_then, had) = (keeper store.memory.slots).fits places refl tt x
     keeps.steady.holds in
     let on = had shown.layout state shown.fits in
     let (low, few) = on.fits.framed.within home.unit home.page f there in

@@ -3,7 +3,7 @@ use Rattle.std.proofs.Common.{◌≡◌, ℕ, Bool, true, false, [], ◌∷◌, 
 use Rattle.std.specs.Option.{option_map_or}
 use Rattle.chip_trait.specs.Story.{held}
 use Rattle.chip_trait.specs.Told.{History, Told}
-use Rattle.ipl_base.specs.Places.{home_of, places_for}
+use Rattle.ipl_base.specs.Places.{home_of}
 use Rattle.ipl_base.specs.declared.fault.ChipFault.{ChipFault}
 use Rattle.ipl_base.specs.declared.fault.Refusal.{Refusal}
 use Rattle.ipl_base.specs.declared.fault.Refusal.TheVariants.{PageFull}
@@ -33,22 +33,22 @@ use Rattle.store_steps.proofs.ViewLemmas.{frames_tell_full}
 -- a put answers by what the frame of its page has, where that was brought in, whatever the call
 -- answered
 pub puts_answer_on : {T E : Type 0} (v : T) (s n : ℕ) (bytes : List ℕ) (store : View) (t : Tables)
-    (later : Frames) (f : Frame) (old new : Told) → places_for store.units ≡ old.places
+    (later : Frames) (f : Frame) (old new : Told)
     → KeepsState {T = T} {E = E} store.memory.tables store.memory.frames old (Ok v) t later new
     → later (home_of n).unit (home_of n).page ≡ Some f
     → sessions_refuse_put (limits_of store.units) store.memory.slots s n bytes ≡ None
-    → OfContents old (λ x. (state : State) → ShowsState store state x
+    → OfContents old (λ x. (state : State) → ShowsState old.places store state x
     → step (limits_of store.units) state (command.Put s n bytes)
     ≡ (if overfills_at (marks_in store.memory.slots) n bytes f.values
     then (state, reply.Refused PageFull ∷ [])
     else (after_write state s (n, Some bytes), reply.Ok ∷ [])))
-puts_answer_on v s n bytes store t later f old new suits keeper there passes x told state shown =
+puts_answer_on v s n bytes store t later f old new keeper there passes x told state shown =
     let home = home_of n in
-    let (y, told_then, had) = (keeper store.memory.slots).fits (places_for store.units) (sym suits) tt x
+    let (y, told_then, had) = (keeper store.memory.slots).fits old.places refl tt x
     told in
     let on = had shown.layout state shown.fits in
     let (low, few) = on.fits.framed.within home.unit home.page f there in
-    let tells = frames_tell_full (places_for store.units) (chart_of x) (chart_of y) shown.layout state.map
+    let tells = frames_tell_full old.places (chart_of x) (chart_of y) shown.layout state.map
     (record { tables = t; frames = later; slots = store.memory.slots }) state n bytes f on
     (shown.says.pages home.unit home.page (rw on.shows.count at low) few) there in
     accepted_are_done (limits_of store.units) store.memory.slots state (command.Put s n bytes)
@@ -63,27 +63,27 @@ puts_answer = puts_answer_on tt
 
 -- a store that keeps a state answers so
 kept_answer : (s n : ℕ) (bytes : List ℕ) (store : View) (t : Tables) (later : Frames) (f : Frame) (old mid : Told)
-    (h : History) (state : State) (full : Bool) → places_for store.units ≡ old.places → store.down ≡ false
+    (h : History) (state : State) (full : Bool) → store.down ≡ false
     → KeepsState {T = Unit {0}} {E = ChipFault} store.memory.tables store.memory.frames old (Ok tt) t later mid
     → later (home_of n).unit (home_of n).page ≡ Some f
     → sessions_refuse_put (limits_of store.units) store.memory.slots s n bytes ≡ None
     → overfills_at (marks_in store.memory.slots) n bytes f.values ≡ full
-    → KeepsStore (limits_of store.units) store old h state
+    → KeepsStore old.places (limits_of store.units) store old h state
     → step (limits_of store.units) state (command.Put s n bytes)
     ≡ (if full then (state, reply.Refused PageFull ∷ [])
     else (after_write state s (n, Some bytes), reply.Ok ∷ []))
-kept_answer s n bytes store t later f old mid h state full suits up keeper there passes is keeps =
-    puts_answer s n bytes store t later f old mid suits keeper there passes (held h.start h.story)
+kept_answer s n bytes store t later f old mid h state full up keeper there passes is keeps =
+    puts_answer s n bytes store t later f old mid keeper there passes (held h.start h.story)
     keeps.steady.holds state (keeps.up up).shows
     ∙ ap (λ (b : Bool). if b then (state, reply.Refused PageFull ∷ [])
     else (after_write state s (n, Some bytes), reply.Ok ∷ [])) is
 
 pub full_puts_are_work : FullPutsAreWork
-full_puts_are_work s n bytes before after f old new suits units up slots keeper there passes full drawn =
-    leads_are_work (command.Put s n bytes) (λ state. state) before after (Ok (reply.Refused PageFull)) old new suits
+full_puts_are_work s n bytes before after f old new units up slots keeper there passes full drawn =
+    leads_are_work (command.Put s n bytes) (λ state. state) before after (Ok (reply.Refused PageFull)) old new
     units up (answers_are_alike (λ state. state) before.memory after.memory (Ok tt) (Ok (reply.Refused PageFull)) old
     new refl kept) (λ h state keeps. kept_answer s n bytes before after.memory.tables after.memory.frames f old new h
-    state true suits up keeper there passes full keeps) drawn tt
+    state true up keeper there passes full keeps) drawn tt
   where
     kept : LeadsTo {T = Unit {0}} {E = ChipFault} (λ state. state) before.memory old (Ok tt) after.memory new
     kept = subst (λ (k : Slots). LeadsTo {T = Unit {0}} {E = ChipFault} (λ state. state) before.memory old (Ok tt)
@@ -91,13 +91,13 @@ full_puts_are_work s n bytes before after f old new suits units up slots keeper 
         (keepers_lead before.memory after.memory.tables after.memory.frames (Ok tt) old new keeper)
 
 pub written_puts_are_work : WrittenPutsAreWork
-written_puts_are_work s n bytes before after t later f old mid new suits units up counts keeper there passes room leads
+written_puts_are_work s n bytes before after t later f old mid new units up counts keeper there passes room leads
     drawn =
     let next = λ (state : State). after_write state s (n, Some bytes) in
-    leads_are_work (command.Put s n bytes) next before after (Ok reply.Ok) old new suits units up
+    leads_are_work (command.Put s n bytes) next before after (Ok reply.Ok) old new units up
     (answers_are_alike next before.memory after.memory (Ok tt) (Ok reply.Ok) old new refl
     (keepers_then_lead next before.memory t later after.memory (Ok tt) old mid new counts keeper leads))
-    (λ h state keeps. kept_answer s n bytes before t later f old mid h state false suits up keeper there passes room
+    (λ h state keeps. kept_answer s n bytes before t later f old mid h state false up keeper there passes room
     keeps) drawn tt
 
 pub failed_puts_leave_the_map : FailedPutsLeaveTheMap

@@ -3,7 +3,7 @@ use Rattle.std.specs.Prelude.{ℕ, ◌≡◌, ◌<◌, ◌≤◌, ◌*◌, [], �
 use Rattle.std.specs.Option.{option_or}
 use Rattle.ipl_base.specs.declared.limits.TheConstants.{SESSIONS, UNIT_NAMES, VALUE_LEN}
 use Rattle.chip_trait.specs.Told.{Told, Counts}
-use Rattle.ipl_base.specs.Places.{home_of, places_for}
+use Rattle.ipl_base.specs.Places.{home_of}
 use Rattle.ipl_base.specs.Sizes.{size_in_page}
 use Rattle.ipl_base.specs.declared.fault.ChipFault.{ChipFault}
 use Rattle.ipl_base.specs.declared.fault.Refusal.{Refusal}
@@ -118,12 +118,12 @@ AcceptedAreDone = (limits : Limits) (slots : Slots) (state : State) (c : Command
 -- the frame has tells whether it is refused, wherever the contents that are told show the state.
 abbrev pub PutsAnswer : Type 0
 PutsAnswer = (s n : ℕ) (bytes : List ℕ) (store : View) (t : Tables) (later : Frames) (f : Frame)
-    (old new : Told) → places_for store.units ≡ old.places
+    (old new : Told)
     → KeepsState {T = Unit {0}} {E = ChipFault} store.memory.tables store.memory.frames old (Ok tt)
     t later new
     → later (home_of n).unit (home_of n).page ≡ Some f
     → sessions_refuse_put (limits_of store.units) store.memory.slots s n bytes ≡ None
-    → OfContents old (λ x. (state : State) → ShowsState store state x
+    → OfContents old (λ x. (state : State) → ShowsState old.places store state x
     → step (limits_of store.units) state (command.Put s n bytes)
     ≡ (if overfills_at (marks_in store.memory.slots) n bytes f.values
     then (state, reply.Refused PageFull ∷ [])
@@ -132,7 +132,7 @@ PutsAnswer = (s n : ℕ) (bytes : List ℕ) (store : View) (t : Tables) (later :
 -- So a call that brought the page and found it full is the work of the put.
 abbrev pub FullPutsAreWork : Type 0
 FullPutsAreWork = (s n : ℕ) (bytes : List ℕ) (before after : View) (f : Frame) (old new : Told)
-    → places_for before.units ≡ old.places → after.units ≡ before.units
+    → after.units ≡ before.units
     → before.down ≡ false → after.memory.slots ≡ before.memory.slots
     → KeepsState {T = Unit {0}} {E = ChipFault} before.memory.tables before.memory.frames old (Ok tt)
     after.memory.tables after.memory.frames new
@@ -140,13 +140,13 @@ FullPutsAreWork = (s n : ℕ) (bytes : List ℕ) (before after : View) (f : Fram
     → sessions_refuse_put (limits_of before.units) before.memory.slots s n bytes ≡ None
     → overfills_at (marks_in before.memory.slots) n bytes f.values ≡ true
     → DrawsFew WORK_DRAWS before old after
-    → Works store_keeping (command.Put s n bytes) before old (Ok (reply.Refused PageFull)) after new
+    → Works (store_keeping old.places) (command.Put s n bytes) before old (Ok (reply.Refused PageFull)) after new
 
 -- And so is one that brought it, found room, and then wrote.
 abbrev pub WrittenPutsAreWork : Type 0
 WrittenPutsAreWork = (s n : ℕ) (bytes : List ℕ) (before after : View) (t : Tables) (later : Frames)
     (f : Frame) (old mid new : Told)
-    → places_for before.units ≡ old.places → after.units ≡ before.units
+    → after.units ≡ before.units
     → before.down ≡ false → Counts old mid
     → KeepsState {T = Unit {0}} {E = ChipFault} before.memory.tables before.memory.frames old (Ok tt)
     t later mid
@@ -156,7 +156,7 @@ WrittenPutsAreWork = (s n : ℕ) (bytes : List ℕ) (before after : View) (t : T
     → LeadsTo {T = Unit {0}} {E = ChipFault} (λ state. after_write state s (n, Some bytes))
     (memory_of t later before.memory.slots) mid (Ok tt) after.memory new
     → DrawsFew WORK_DRAWS before old after
-    → Works store_keeping (command.Put s n bytes) before old (Ok reply.Ok) after new
+    → Works (store_keeping old.places) (command.Put s n bytes) before old (Ok reply.Ok) after new
 
 -- One that failed left the map, whatever it would have been answered.
 abbrev pub FailedPutsLeaveTheMap : Type 0

@@ -23,7 +23,7 @@ abbrev pub AllOf : (Event → Type 0) → Story → Type 0
 AllOf P [] = Unit {0}
 AllOf P (e ∷ story) = P e × AllOf P story
 
--- What is to be known of stores of one kind.
+-- What is to be known of stores of one kind, over chips of one size.
 pub record Keeping (S : Type 0) : Type 1 where
   -- the bytes of a sector check, so that a power cut leaves them only where they were written
   pub checks : List ℕ → Bool
@@ -31,8 +31,8 @@ pub record Keeping (S : Type 0) : Type 1 where
   pub stands : Limits → Contents → Map → Type 0
   -- under these limits the store, over a chip that tells this and holds what this history leaves, keeps the state
   pub holds : Limits → S → Told → History → State → Type 0
-  -- the store is made for a chip of so many places, and may go on
-  pub suits : S → ℕ → Type 0
+  -- the store is made for such a chip, and may go on
+  pub suits : S → Type 0
   -- the store counts this sector of this place as clean
   pub clean : S → ℕ → ℕ → Type 0
   -- the next number that the store draws
@@ -41,6 +41,8 @@ pub record Keeping (S : Type 0) : Type 1 where
   pub does : Event → Type 0
   -- a fault comes only where this was so of what was told before it and after it
   pub cause : Fault → Told → Told → Type 0
+  -- a store that keeps a state under these limits may fail so
+  pub tells : Limits → Fault → Type 0
   -- whatever a power cut leaves of such a chip stands for the records
   pub each : (limits : Limits) (store : S) (t : Told) (h : History) (state : State) → holds limits store t h state
       → Leaves checks (λ x. stands limits x state.map) h []
@@ -156,6 +158,7 @@ module _ {S : Type 0} (k : Keeping S) where
         (λ fault. Stays limits then old new (adds_all leaves.added h) state)
     pub drawn : k.counter then ≤ k.counter before + WORK_DRAWS
     pub excuse : IfErr result (Excuses WORK_DRAWS before old new)
+    pub tells : IfErr result (k.tells limits)
 
   abbrev pub Works : Command → S → Told → Result Reply Fault → S → Told → Type 0
   Works c before old result then new = (limits : Limits) (state : State) (h : History)
@@ -170,6 +173,7 @@ module _ {S : Type 0} (k : Keeping S) where
         (λ fault. Stays limits then old new (adds_all leaves.added h) state)
     pub drawn : k.counter then ≤ k.counter before + LOOK_UP_DRAWS
     pub excuse : IfErr result (Excuses LOOK_UP_DRAWS before old new)
+    pub tells : IfErr result (k.tells limits)
 
   abbrev pub LooksUp : ℕ → S → Told → Result (Option (List ℕ)) Fault → S → Told → Type 0
   LooksUp n before old result then new = (limits : Limits) (state : State) (h : History)

@@ -12,33 +12,39 @@ pub trait Store {
     ghost use Rattle.ipl_rules.specs.State.{State, Limits};
     ghost use Rattle.store_trait.specs.Keeping.{Keeping, IsSingle, Works, LooksUp, LeavesTidy, Draws, WORK_DRAWS, LOOK_UP_DRAWS};
 
-    /// How it keeps a state on a chip.
-    ghost keeping: { Keeping Self };
+    /// How it keeps a state on a chip of so many places.
+    ghost keeping: { ℕ → Keeping Self };
 
     /// Names are numbers below this.
     fn names(&self) -> u32
         ensures most { result ≤ 983040 }
-        ensures limit { (limits : Limits) (t : Told) (h : History) (state : State) → keeping.holds limits self.now t h state
-            → result ≡ limits.names };
+        ensures limit { (places : ℕ) (limits : Limits) (t : Told) (h : History) (state : State)
+            → (keeping places).holds limits self.now t h state → result ≡ limits.names };
 
     /// Does the work of a command that has one line as its reply, and answers that line.
     fn work<C: Chip>(&mut self, chip: &mut C, command: &Command) -> Result<Reply, Fault>
         requires single { IsSingle command.now }
-        requires suits { keeping.suits self.old (C.told chip.old).places }
-        ensures draws { Draws keeping WORK_DRAWS self.old (IsErrOf result Fault.Spent) self.new }
-        ensures works { Works keeping command.now self.old (C.told chip.old) result self.new (C.told chip.new) }
-        ensures tidy { LeavesTidy keeping self.old self.new (C.told chip.old) (C.told chip.new) (is_ok result) }
-        ensures suited { OnOk result ((places : ℕ) → keeping.suits self.old places → keeping.suits self.new places) }
+        requires suits { (keeping (C.told chip.old).places).suits self.old }
+        ensures draws { Draws (keeping (C.told chip.old).places) WORK_DRAWS self.old (IsErrOf result Fault.Spent) self.new }
+        ensures works { Works (keeping (C.told chip.old).places) command.now self.old (C.told chip.old) result self.new
+            (C.told chip.new) }
+        ensures tidy { LeavesTidy (keeping (C.told chip.old).places) self.old self.new (C.told chip.old) (C.told chip.new)
+            (is_ok result) }
+        ensures suited { OnOk result ((keeping (C.told chip.old).places).suits self.new) }
         ensures counts { Counts (C.told chip.old) (C.told chip.new) }
-        ensures cause { IfErr result (λ fault. keeping.cause fault (C.told chip.old) (C.told chip.new)) };
+        ensures cause { IfErr result
+            (λ fault. (keeping (C.told chip.old).places).cause fault (C.told chip.old) (C.told chip.new)) };
 
     /// The committed record of a name, where there is one.
     fn look_up<C: Chip>(&mut self, chip: &mut C, n: u32) -> Result<Option<Value>, Fault>
-        requires { keeping.suits self.old (C.told chip.old).places }
-        ensures draws { Draws keeping LOOK_UP_DRAWS self.old (IsErrOf result Fault.Spent) self.new }
-        ensures looks_up { LooksUp keeping n self.old (C.told chip.old) result self.new (C.told chip.new) }
-        ensures tidy { LeavesTidy keeping self.old self.new (C.told chip.old) (C.told chip.new) (is_ok result) }
-        ensures suited { OnOk result ((places : ℕ) → keeping.suits self.old places → keeping.suits self.new places) }
+        requires { (keeping (C.told chip.old).places).suits self.old }
+        ensures draws { Draws (keeping (C.told chip.old).places) LOOK_UP_DRAWS self.old (IsErrOf result Fault.Spent) self.new }
+        ensures looks_up { LooksUp (keeping (C.told chip.old).places) n self.old (C.told chip.old) result self.new
+            (C.told chip.new) }
+        ensures tidy { LeavesTidy (keeping (C.told chip.old).places) self.old self.new (C.told chip.old) (C.told chip.new)
+            (is_ok result) }
+        ensures suited { OnOk result ((keeping (C.told chip.old).places).suits self.new) }
         ensures counts { Counts (C.told chip.old) (C.told chip.new) }
-        ensures cause { IfErr result (λ fault. keeping.cause fault (C.told chip.old) (C.told chip.new)) };
+        ensures cause { IfErr result
+            (λ fault. (keeping (C.told chip.old).places).cause fault (C.told chip.old) (C.told chip.new)) };
 }

@@ -1,5 +1,5 @@
 -- What a commit makes of the memory of a store and of its chip.
-use Rattle.std.proofs.Common.{◌≡◌, ℕ, ◌<◌, ◌≤◌, ◌+◌, ◌*◌, ◌^◌, Bool, true, false, [], List, All, Result, Ok, Err, OnOk, inr, refl, sym, ◌∙◌, ap, subst, arith}
+use Rattle.std.proofs.Common.{◌≡◌, ℕ, ◌<◌, ◌≤◌, ◌+◌, ◌*◌, ◌^◌, Bool, true, false, [], List, length, All, Result, Ok, Err, OnOk, inr, refl, sym, ◌∙◌, ap, subst, arith}
 use Rattle.chip_trait.specs.Told.{Told}
 use Rattle.chip_trait.proofs.CountsLemmas.{counts_none}
 use Rattle.ipl_base.specs.declared.fault.ChipFault.{ChipFault}
@@ -7,7 +7,7 @@ use Rattle.ipl_rules.specs.Operations.{after_batch}
 use Rattle.ipl_rules.specs.State.{State}
 use Rattle.record_locks.specs.Held.{numbers_in, written_by, writer_numbers}
 use Rattle.record_locks.specs.Held.{after_batch as slots_after}
-use Rattle.ipl_meaning.specs.Tables.{Status, Tables, IsCountedClean}
+use Rattle.ipl_meaning.specs.Tables.{Places, Status, Tables, IsCountedClean}
 use Rattle.ipl_meaning.specs.TableSteps.{after_commit as after_commit_of}
 use Rattle.merge_rules.specs.Known.{KnowsPlaces}
 use Rattle.merge_rules.proofs.KnownCleanLemmas.{commit_shrinks}
@@ -56,12 +56,12 @@ number_tidy places t after done result old new known room fewer =
     (was.0, λ here spot. was.1 here spot))
 
 -- it fails only where a write failed, which is a cause of any call on pages
-stopped_accounts : (before after : Told) (result : Result (Unit {0}) ChipFault)
-    → Accounts IsStopped result before after → Accounts PageCause result before after
-stopped_accounts before after (Ok v) did = record { counts = did.counts; cause = tt }
-stopped_accounts before after (Err e) did = record {
+stopped_accounts : (then : Places) (before after : Told) (result : Result (Unit {0}) ChipFault)
+    → Accounts IsStopped result before after → Accounts (PageCause then) result before after
+stopped_accounts then before after (Ok v) did = record { counts = did.counts; cause = tt }
+stopped_accounts then before after (Err e) did = record {
   counts = did.counts;
-  cause = subst (λ (f : ChipFault). PageCause f before after) (sym did.cause.0) did.cause.1;
+  cause = subst (λ (f : ChipFault). PageCause then f before after) (sym did.cause.0) did.cause.1;
 }
 
 -- the numbers of sessions were added, and their changes are values
@@ -129,10 +129,11 @@ numbers_added ss tids old new added before after order are may writers adds step
             settled))) order.ready;
         active = active;
       };
+      units = ap (λ (it : Places). length it.current) (rest.directory ∙ directory);
       pins = pins_then;
       least = omega (arith, rest.counter, counter);
       drawn = omega (arith, rest.counter, counter);
-      accounts = stopped_accounts before after (Ok tt) accounts;
+      accounts = stopped_accounts new.pages.parts.directory before after (Ok tt) accounts;
     }
 
 -- they weren't added
@@ -169,10 +170,11 @@ numbers_not_added ss tids e old new before after order are may writers steps ses
         }) pins (same_had old.pages new.pages (ap frames_of pool)) order.ready;
         active = active ∙ order.active ∙ ap numbers_in (sym sessions);
       };
+      units = ap (λ (it : Places). length it.current) directory;
       pins = pins;
       least = draws.0;
       drawn = draws.1;
-      accounts = stopped_accounts before after (Err e) accounts;
+      accounts = stopped_accounts new.pages.parts.directory before after (Err e) accounts;
     }
 
 -- the names' pages were written out, where a clean sector was made sure of before
@@ -237,6 +239,7 @@ empty_committed ss most old new told order are none rest slots active locks =
         }) pins (same_had old.pages new.pages (ap frames_of rest.pool)) order.ready;
         active = active;
       };
+      units = ap (λ (d : Places). length d.current) rest.directory;
       pins = pins;
       least = omega (arith, rest.counter);
       drawn = omega (arith, rest.counter);

@@ -40,13 +40,17 @@ rest_known places t after same known = record {
     all = known.suits.all;
     units = known.suits.units;
     overflow = known.suits.overflow;
+    sized = known.suits.sized;
   };
   none_lost = subst (λ (s : ℕ). (p : ℕ) → p < places → (IsFree t.places p → ⊥)
-      → Contains t.places.current p ⊎ (p ≡ s) ⊎ Contains (overflow_places t) p) (sym same)
-      known.none_lost;
+      → Contains t.places.current p ⊎ (p ≡ s) ⊎ Contains (overflow_places t) p
+      ⊎ Contains t.places.retired p) (sym same) known.none_lost;
   used = subst (λ (s : ℕ). (p : ℕ)
       → Contains t.places.current p ⊎ (p ≡ s) ⊎ Contains (overflow_places t) p
       → IsFree t.places p → ⊥) (sym same) known.used;
+  retired_apart = subst (λ (s : ℕ). (p : ℕ) → Contains t.places.retired p
+      → (Contains t.places.current p ⊎ (p ≡ s) ⊎ Contains (overflow_places t) p → ⊥)
+      × (IsFree t.places p → ⊥)) (sym same) known.retired_apart;
   homes_apart = known.homes_apart;
   overflows_apart = known.overflows_apart;
   no_home = known.no_home;
@@ -141,6 +145,7 @@ turned_in_memory next old new t frames slots is same clean pins had active leads
       (memory_in old) told (Ok tt) m told) (memory_is t frames slots new is) (leads told);
   fewer = λ p s counted. clean p s (subst (λ (m : Memory). IsCountedClean m.tables p s)
       (sym (memory_is t frames slots new is)) counted);
+  directory = is.places ∙ same.places;
   order = λ places order. record {
     ready = still_ready places old.pages new.pages (record {
       places = is.places ∙ same.places;

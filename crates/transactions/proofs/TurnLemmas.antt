@@ -52,10 +52,12 @@ upheld_then next n m old mid new result before between after did same turns =
       tidy = tables_then (Unit {0}) ChipFault (tables_in old.pages) (tables_in mid.pages)
           (tables_in new.pages) tt result before between after counts did.tidy turns.tidy;
       order = subst (λ (places : ℕ). IsInOrder places new) counts.places turns.order;
+      units = turns.units ∙ did.units;
       pins = both_keep old.pages.pool mid.pages.pool new.pages.pool did.pins turns.pins;
       least = omega (arith, did.least, turns.least);
       drawn = omega (arith, did.drawn, turns.drawn);
-      accounts = accounts_then before between after result counts turns.accounts;
+      accounts = accounts_then new.pages.parts.directory before between after result counts
+          turns.accounts;
     }
 
 -- one that failed, where nothing else is done then
@@ -71,6 +73,7 @@ upheld_no_more next n old new e before after order did same = record {
       before after did.keeps);
   tidy = did.tidy;
   order = upheld_order n old new (Err e) before after order did same;
+  units = did.units;
   pins = did.pins;
   least = did.least;
   drawn = did.drawn;
@@ -81,7 +84,7 @@ upheld_no_more next n old new e before after order did same = record {
 pub upheld_refused : (next : State → State) (n : ℕ) (old new : Transactions) (e : ChipFault)
     (before after : Told) → IsInOrder before.places old
     → Upholds n old.pages before (Ok (tt {0})) new.pages after → new.sessions ≡ old.sessions
-    → PageCause e before after
+    → PageCause new.pages.parts.directory e before after
     → Turns {T = Unit {0}} next n old before (Err e) new after
 upheld_refused next n old new e before after order did same cause =
     let t = tables_in new.pages in
@@ -93,6 +96,7 @@ upheld_refused next n old new e before after order did same cause =
       tidy = tables_then {U = Unit {0}} {F = ChipFault} (Unit {0}) ChipFault (tables_in old.pages) t
           t tt (Err e) before after after did.accounts.counts did.tidy (tables_none {T = Unit {0}} {E = ChipFault} t (Err e) after);
       ready = did.ready;
+      units = did.units;
       active = did.active;
       pins = did.pins;
       least = did.least;
@@ -121,6 +125,7 @@ turns_weaker next n m old new result before after fewer turns = record {
   leads = turns.leads;
   tidy = turns.tidy;
   order = turns.order;
+  units = turns.units;
   pins = turns.pins;
   least = turns.least;
   drawn = omega (arith, turns.drawn, fewer);

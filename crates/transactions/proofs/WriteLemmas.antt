@@ -1,5 +1,5 @@
 -- What a write makes of the memory of a store.
-use Rattle.std.proofs.Common.{◌≡◌, ◌≢◌, ℕ, ◌<◌, ◌≤◌, ◌*◌, length, Some, None, IsSome, Ok, Err, inl, inr, refl, sym, ◌∙◌, ap, subst, arith}
+use Rattle.std.proofs.Common.{◌≡◌, ◌≢◌, ℕ, ◌<◌, ◌≤◌, ◌*◌, Bool, false, length, Some, None, IsSome, Ok, Err, inl, inr, refl, sym, ◌∙◌, ap, subst, arith}
 use Rattle.std.specs.Prelude.{IfSome}
 use Rattle.chip_trait.specs.Told.{Told}
 use Rattle.chip_trait.proofs.CountsLemmas.{counts_none}
@@ -29,15 +29,16 @@ use Rattle.pending_writes.proofs.FullLemmas.{puts_that_pass_have_room, same_valu
 use Rattle.pending_writes.proofs.PendingRoomLemmas.{frames_keep_marks}
 use Rattle.pending_writes.proofs.MemoryLemmas.{cases_page}
 use Rattle.pending_writes.proofs.SameLemmas.{frame_here, frame_other}
+use Rattle.unit_io.specs.Costs.{Spends}
 use Rattle.steps.specs.Steps.{Tidies}
 use Rattle.steps.proofs.TablesLemmas.{tables_none}
 use Rattle.store_steps.specs.Advances.{Memory, memory_of, MemoryFits, KeepsState, LeadsTo}
 use Rattle.store_steps.proofs.SessionLemmas.{writes_lead}
 use Rattle.frame_changes.specs.Changes.{FrameChanges, MayPut, PutHasRoom}
 use Rattle.frame_changes.proofs.RoomLemmas.{puts_by_marks_have_room}
+use Rattle.page_writing.specs.Spending.{ErasesAndLogs}
 use Rattle.page_frames.specs.declared.pages.Pages.{Pages}
 use Rattle.page_frames.specs.Pages.{tables_in, frames_in, IsFramed, KeepsValues, Upholds}
-use Rattle.page_frames.proofs.UpholdLemmas.{units_stay}
 use Rattle.transactions.specs.declared.transactions.Transactions.{Transactions}
 use Rattle.page_frames.specs.Asks.{AsksToPrepare}
 use Rattle.transactions.specs.Costs.{HasRoomFor, AsksToWrite}
@@ -81,25 +82,32 @@ room_put pages n at r home page room = record {
 }
 
 -- the page of a name was made ready for its record
-pub prepared_asks : (pages mid : Pages) (n : ℕ) (at : Home) (r : Record) (before after : Told)
-    → at ≡ home_of n → r.page ≡ at.page → AsksToPrepare at.unit r pages mid before after
-    → AsksToWrite n r.change pages before after
-prepared_asks pages mid n at r before after home page asks =
+pub prepared_asks : (pages mid new : Pages) (first worn_out : Bool) (n : ℕ) (at : Home) (r : Record)
+    (before after : Told) → at ≡ home_of n → r.page ≡ at.page
+    → new.parts ≡ mid.parts → worn_out ≡ first
+    → AsksToPrepare at.unit r first pages mid before after
+    → AsksToWrite n r.change worn_out pages new before after
+prepared_asks pages mid new first worn_out n at r before after home page same worn asks =
     let there : frames_in pages at.unit r.page ≡ frames_in pages (home_of n).unit (home_of n).page =
     ap (frames_in pages at.unit) page ∙ ap (λ (h : Home). frames_in pages h.unit h.page) home in record {
       idle = λ room. (asks.idle (room_put pages n at r home page room)).1;
       free = λ none free. asks.free (there ∙ none) free;
       home = λ framed has. asks.home (subst IsSome (sym there) framed)
           (subst (λ (h : Home). HasHomeSpot (tables_in pages) h.unit) (sym home) has);
-      costs = asks.costs;
+      costs = subst (λ (b : Bool). Spends
+          (ErasesAndLogs pages.parts.directory new.parts.directory b) before after) (sym worn)
+          (subst (λ (p : Parts). Spends (ErasesAndLogs pages.parts.directory p.directory
+          first) before after) (sym same) asks.costs);
     }
 
--- which draws no number where the record fits
-pub prepared_draws : (pages mid : Pages) (n : ℕ) (at : Home) (r : Record) (before after : Told)
-    → at ≡ home_of n → r.page ≡ at.page → AsksToPrepare at.unit r pages mid before after
-    → HasRoomFor pages n r.change → mid.parts.counter ≡ pages.parts.counter
-prepared_draws pages mid n at r before after home page asks room =
-    ap (λ (p : Parts). p.counter) (asks.idle (room_put pages n at r home page room)).0.parts
+-- which leaves the tables where the record fits, and finds no place worn
+pub prepared_idle : (pages mid : Pages) (first worn_out : Bool) (n : ℕ) (at : Home)
+    (r : Record) (before after : Told) → at ≡ home_of n → r.page ≡ at.page → worn_out ≡ first
+    → AsksToPrepare at.unit r first pages mid before after
+    → HasRoomFor pages n r.change → (mid.parts ≡ pages.parts) × (worn_out ≡ false)
+prepared_idle pages mid first worn_out n at r before after home page worn asks room =
+    let (only, idle, still) = asks.idle (room_put pages n at r home page room) in
+    (only.parts, worn ∙ still)
 
 -- ---- room in the page
 
@@ -215,6 +223,7 @@ was_put s n u r old new told order low mine of_unit valid home slots locks parts
         active = ap (λ (p : Parts). p.active) parts ∙ order.active
             ∙ sym (writes_keep_numbers old.sessions s n size) ∙ ap numbers_in (sym slots);
       };
+      units = ap (λ (p : Parts). length p.directory.current) parts;
       pins = pins;
       least = omega (arith, ap (λ (p : Parts). p.counter) parts);
       drawn = omega (arith, ap (λ (p : Parts). p.counter) parts);
@@ -237,9 +246,8 @@ was_written s n u r old new mid before after order low mine within home valid di
     changes room pins =
     let between : Transactions = record { pages = mid; sessions = old.sessions } in
     let next = λ (state : State). rules.after_write state s (n, r.change) in
-    let units = units_stay before.places old.pages mid order.ready.known did.ready.known in
     upheld_then next 14 0 old between new (Ok tt) before after after did refl
     (was_put s n u r between new after
     (upheld_order_then 14 old between (Ok tt) before after order did refl) low mine
-    (omega (arith, within, home, units, valid.page, valid.slot)) valid (sym home) slots locks parts
+    (omega (arith, within, home, did.units, valid.page, valid.slot)) valid (sym home) slots locks parts
     changes room pins)

@@ -1,7 +1,8 @@
 //! Sessions are committed, one or several together.
-ghost use Rattle.std.specs.Prelude.{◌≡◌, ◌<◌, ◌≤◌, ◌+◌, ◌*◌, ◌^◌, length, OnOk};
+ghost use Rattle.std.specs.Prelude.{◌≡◌, ◌<◌, ◌≤◌, ◌+◌, ◌*◌, ◌^◌, length, false, OnOk};
 ghost use Rattle.ipl_base.specs.declared.limits.TheConstants.{SESSIONS};
 ghost use Rattle.unit_io.specs.Costs.{ProgramsAt, Spends};
+ghost use Rattle.place_taking.specs.Spending.{is_worn_out};
 ghost use Rattle.txn_status.specs.Status.{room_of};
 ghost use Rattle.ipl_rules.specs.Operations.{after_batch};
 ghost use Rattle.record_locks.specs.Held.{written_by, writer_numbers};
@@ -45,8 +46,8 @@ impl Transactions {
         ensures sessions { self.new.sessions ≡ self.old.sessions }
         ensures framed { KeepsFramed self.old.pages self.new.pages }
         ensures asks { 0 < room_of self.old.pages.parts.status
-            → AsksToWriteNamesOut (written_by self.old.sessions numbers.now) self.old.pages
-            (C.told chip.old) (C.told chip.new) }
+            → AsksToWriteNamesOut (written_by self.old.sessions numbers.now) (is_worn_out result)
+            self.old.pages self.new.pages (C.told chip.old) (C.told chip.new) }
     {
         self.pages.ready_status(chip, kept)?;
         self.pages.write_sessions_out(chip, &self.sessions, numbers)
@@ -86,8 +87,10 @@ impl Transactions {
             self.old (C.told chip.old) result self.new (C.told chip.new) }
         ensures complete { FailsByChipAlone result }
         ensures framed { KeepsFramed self.old.pages self.new.pages }
+        ensures directory { self.new.pages.parts.directory ≡ self.old.pages.parts.directory }
         ensures costs { Spends (ProgramsAt self.old.pages.parts.status.place 1 2 6)
             (C.told chip.old) (C.told chip.new) }
+        ensures unworn { is_worn_out result ≡ false }
     {
         let parts = &mut self.pages.parts;
         add_numbers(chip, &mut parts.status, &mut parts.counter, tids.as_slice())?;
@@ -115,7 +118,8 @@ impl Transactions {
         ensures complete { Completes self.old.pages result (C.told chip.old) }
         ensures faults { TellsFaults self.old.pages result (C.told chip.old) self.new.pages }
         ensures framed { KeepsFramed self.old.pages self.new.pages }
-        ensures asks { CommitAsks self.old numbers.now (C.told chip.old) (C.told chip.new) }
+        ensures asks { CommitAsks self.old numbers.now (is_worn_out result) self.new.pages
+            (C.told chip.old) (C.told chip.new) }
     {
         let tids = writer_numbers(&self.sessions, numbers);
         if tids.as_slice().is_empty() {

@@ -17,7 +17,8 @@
 //! writes of all its sessions or of none. A commit of sessions that wrote nothing asks the chip
 //! nothing; where the status place has a clean sector, one costs at most one erase and one log
 //! sector for each page in a frame that has records in memory and is that of a name that one of the
-//! sessions wrote, and one commit sector, however many the sessions are; and no erase where each
+//! sessions wrote, one erase more for each place that is found worn, and one commit sector, however many
+//! the sessions are; and no erase where each
 //! unit has as many log sectors clean at home as it has such pages. A write of a page that is in a
 //! frame costs nothing where its record fits behind those in memory, and one log sector where one is
 //! clean at its unit's home. One that is done leaves the page of its name in a frame, as the one

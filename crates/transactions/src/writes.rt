@@ -1,5 +1,5 @@
 //! A name is changed.
-ghost use Rattle.std.specs.Prelude.{◌≡◌, ◌<◌, ◌+◌, ◌*◌, ◌^◌, ◌≤◌, length, slice_index, None, OnOk, OnErr};
+ghost use Rattle.std.specs.Prelude.{◌≡◌, ◌<◌, ◌+◌, ◌*◌, ◌^◌, ◌≤◌, length, slice_index, false, None, OnOk, OnErr};
 ghost use Rattle.ipl_base.specs.declared.fault.ChipFault.TheVariants.{Malformed};
 ghost use Rattle.ipl_base.specs.declared.limits.TheConstants.{VALUE_LEN, VERSION, SESSIONS};
 ghost use Rattle.ipl_base.specs.Places.{home_of};
@@ -7,6 +7,7 @@ ghost use Rattle.ipl_base.specs.Sizes.{size_in_page};
 ghost use Rattle.ipl_format.specs.Record.{IsRecord, value_of};
 ghost use Rattle.log_records.specs.View.{change_of, record_of};
 ghost use Rattle.ipl_rules.specs.Operations.{after_write};
+ghost use Rattle.place_taking.specs.Spending.{is_worn_out};
 ghost use Rattle.record_locks.specs.Locks.{refuses_write};
 ghost use Rattle.buffer_pool.specs.Uses.{IsUsedLast};
 ghost use Rattle.page_frames.specs.Faulty.{FailsAsPage};
@@ -55,13 +56,15 @@ impl Transactions {
             (IsUsedLast self.new.pages.pool (home_of name.0).unit (home_of name.0).page) }
         ensures stays { KeepsFramedFor (home_of name.0).unit (home_of name.0).page
             self.old.pages self.new.pages }
-        ensures asks { AsksToWrite name.0 (change_of change) self.old.pages
+        ensures asks { AsksToWrite name.0 (change_of change) (is_worn_out result)
+            self.old.pages self.new.pages
             (C.told chip.old) (C.told chip.new) }
         // Failed, it changed no session.
         ensures sessions { OnErr result (self.new.sessions ≡ self.old.sessions) }
-        // Where the page is in a frame and has room for the record, no number is drawn.
+        // Where the page is in a frame and has room for the record, the tables stay as they are, no
+        // number is drawn and no place found worn.
         ensures idle { HasRoomFor self.old.pages name.0 (change_of change)
-            → self.new.pages.parts.counter ≡ self.old.pages.parts.counter }
+            → (self.new.pages.parts ≡ self.old.pages.parts) × (is_worn_out result ≡ false) }
     {
         let home = home(name);
         let Some(tid) = self.sessions.number(s) else {

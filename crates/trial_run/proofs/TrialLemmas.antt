@@ -229,6 +229,7 @@ completes_saying k limits n m before then old mid new lines (Ok u) first has is 
     let keeps = first.again in record {
       drawn = omega (arith, first.drawn, le);
       excuse = λ fault none. cc;
+      tells = λ fault none. cc;
       again = record {
         state = keeps.state;
         history = adds_all (sayings (reverse lines)) keeps.history;
@@ -236,4 +237,4 @@ completes_saying k limits n m before then old mid new lines (Ok u) first has is 
       };
     }
 completes_saying k limits n m before then old mid new lines (Err s) first has is le =
-    record { drawn = omega (arith, first.drawn, le); excuse = λ fault same. cc; again = tt }
+    record { drawn = omega (arith, first.drawn, le); excuse = λ fault same. cc; tells = λ fault same. cc; again = tt }

@@ -1,5 +1,5 @@
 //! A whole trial.
-ghost use Rattle.std.specs.Prelude.{◌≡◌, ◌≤◌, IfErr};
+ghost use Rattle.std.specs.Prelude.{ℕ, ◌≡◌, ◌≤◌, IfErr};
 ghost use Rattle.ipl_base.specs.declared.limits.TheConstants.{MOST_UNITS};
 ghost use Rattle.chip_trait.specs.Told.{Told};
 ghost use Rattle.store_trait.specs.Onward.{Onward};
@@ -27,14 +27,16 @@ pub fn run_trial<S: Store, D: Desk>(
     seed: u32,
     count: u32,
 ) -> Result<(), Stop>
+    ghost places: { ℕ }
     requires units { units ≤ MOST_UNITS }
-    requires suits { S.keeping.suits store.old (D.told desk.old).places }
-    ensures run { RunsTrial S.keeping (trial_commands units seed count) store.old (D.told desk.old)
+    requires places { (D.told desk.old).places ≡ places }
+    requires suits { (S.keeping places).suits store.old }
+    ensures run { RunsTrial (S.keeping places) (trial_commands units seed count) store.old (D.told desk.old)
         result store.new (D.told desk.new) }
     // It draws no more numbers than a script may.
-    ensures along { Along S.keeping Onward SCRIPT_DRAWS store.old (D.told desk.old) result store.new
+    ensures along { Along (S.keeping places) Onward SCRIPT_DRAWS store.old (D.told desk.old) result store.new
         (D.told desk.new) }
-    ensures completes { CompletesOver S.keeping SCRIPT_DRAWS store.old (D.told desk.old) result
+    ensures completes { CompletesOver (S.keeping places) SCRIPT_DRAWS store.old (D.told desk.old) result
         store.new (D.told desk.new) }
     ensures stops { IfErr result IsTrialStop }
 {

@@ -20,14 +20,16 @@ fn do_one<S: Store, D: Desk>(
     tally: &mut Tally,
     command: &Command,
 ) -> Result<(), Stop>
+    ghost places: { ℕ }
     requires kind { IsOfTrial command.now }
     requires room { tally.old.commands < 4294967295 }
-    requires suits { S.keeping.suits store.old (D.told desk.old).places }
-    ensures does { DoesAll S.keeping (command.now ∷ []) tally.old store.old (D.told desk.old) result
+    requires places { (D.told desk.old).places ≡ places }
+    requires suits { (S.keeping places).suits store.old }
+    ensures does { DoesAll (S.keeping places) (command.now ∷ []) tally.old store.old (D.told desk.old) result
         tally.new store.new (D.told desk.new) }
-    ensures along { Along S.keeping Onward WORK_DRAWS store.old (D.told desk.old) result store.new
+    ensures along { Along (S.keeping places) Onward WORK_DRAWS store.old (D.told desk.old) result store.new
         (D.told desk.new) }
-    ensures completes { CompletesOver S.keeping WORK_DRAWS store.old (D.told desk.old) result store.new
+    ensures completes { CompletesOver (S.keeping places) WORK_DRAWS store.old (D.told desk.old) result store.new
         (D.told desk.new) }
     ensures stops { IfErr result IsStoreStop }
     ensures more { OnOk result (tally.new.commands ≡ tally.old.commands + 1) }
@@ -45,13 +47,15 @@ pub fn do_all<S: Store, D: Desk>(
     tally: &mut Tally,
     count: u32,
 ) -> Result<(), Stop>
+    ghost places: { ℕ }
     requires none { tally.old.commands ≡ 0 }
-    requires suits { S.keeping.suits store.old (D.told desk.old).places }
-    ensures does { DoesAll S.keeping (commands_from commands.old count) tally.old store.old
+    requires places { (D.told desk.old).places ≡ places }
+    requires suits { (S.keeping places).suits store.old }
+    ensures does { DoesAll (S.keeping places) (commands_from commands.old count) tally.old store.old
         (D.told desk.old) result tally.new store.new (D.told desk.new) }
-    ensures along { Along S.keeping Onward (WORK_DRAWS * count) store.old (D.told desk.old) result
+    ensures along { Along (S.keeping places) Onward (WORK_DRAWS * count) store.old (D.told desk.old) result
         store.new (D.told desk.new) }
-    ensures completes { CompletesOver S.keeping (WORK_DRAWS * count) store.old (D.told desk.old) result
+    ensures completes { CompletesOver (S.keeping places) (WORK_DRAWS * count) store.old (D.told desk.old) result
         store.new (D.told desk.new) }
     ensures stops { IfErr result IsStoreStop }
 {

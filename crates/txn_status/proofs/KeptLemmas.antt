@@ -1,13 +1,11 @@
 -- Kept numbers, programmed part by part, and the header behind them.
-use Rattle.std.proofs.Common.{◌≡◌, ℕ, ◌<◌, ◌≤◌, ◌+◌, ◌==◌, ◌&&◌, true, false, List, [], Some, None, Result, Ok, Err, OnOk, is_ok, inl, inr, refl, sym, ◌∙◌, ap, subst, arith}
-use Rattle.std.proofs.lemmas.List.Elements.{All-nil}
+use Rattle.std.proofs.Common.{◌≡◌, ℕ, ◌<◌, ◌≤◌, ◌+◌, ◌==◌, ◌&&◌, true, false, List, Some, None, Result, Ok, Err, OnOk, is_ok, inl, inr, refl, sym, ◌∙◌, ap, subst, arith}
 use Rattle.std.proofs.lemmas.Bool.{cases_eq, cases_Bool, and_parts, eqb-true, eq-eqb}
 use Rattle.chip_trait.specs.Lawful.{Clean, age}
 use Rattle.chip_trait.specs.Chart.{with_sector}
 use Rattle.chip_trait.specs.Told.{History, Told, adds_all}
 use Rattle.ipl_base.specs.declared.fault.ChipFault.{ChipFault}
 use Rattle.ipl_base.specs.declared.limits.TheConstants.{VERSION}
-use Rattle.ipl_format.specs.Header.{IsWithin, AreRetired}
 use Rattle.ipl_format.specs.Sector.{Sector}
 use Rattle.ipl_format.proofs.HeaderOnceLemmas.{status_headers_say_erases}
 use Rattle.sector_format.specs.declared.sector.Head.{Head}
@@ -30,23 +28,13 @@ use Rattle.txn_status.specs.Writing.{LeadsPart, KeepsParts, IsHeaded}
 
 -- ---- the header
 
--- a chip with room for its units may have retired no place
-pub none_retired : (version places units : ℕ) → units + 4 ≤ places → AreRetired version places units []
-none_retired version places units room = record {
-  rising = λ i j none before within. absurd (omega (arith, within));
-  within = All-nil (IsWithin places);
-  few = omega arith;
-  spare = omega (arith, room);
-  none = λ _. refl;
-}
-
 pub written_is : (head : Head) (places generation : ℕ) (header : StatusHeader) (retired payload : List ℕ)
     → head ≡ written_head 2 0 generation generation
     → SpellsStatus VERSION places header retired payload
-    → IsStatusHead places header.units header.erases generation (sector_of head payload)
+    → IsStatusHead places header.units header.erases retired generation (sector_of head payload)
 written_is head places generation header retired payload is spells =
     let written = written_head 2 0 generation generation in
-    subst (λ (h : Head). IsStatusHead places header.units header.erases generation (sector_of h payload))
+    subst (λ (h : Head). IsStatusHead places header.units header.erases retired generation (sector_of h payload))
     (sym is) (record {
       kind = refl;
       generation_is = refl;
@@ -54,31 +42,32 @@ written_is head places generation header retired payload is spells =
       counts = spells.spelled;
       says = status_headers_say_erases (sector_of written payload) places header.units refl spells.spelled
           ∙ spells.erases_are;
+      lists = spells.retired_are;
     })
 
 -- a header that switches a map to itself keeps it
-pub header_keeps : (places : ℕ) (m : Map) (h : History) (p units erases generation : ℕ) (head : Sector)
-    → IsStatusHead places units erases generation head
+pub header_keeps : (places : ℕ) (m : Map) (h : History) (p units erases : ℕ) (retired : List ℕ)
+    (generation : ℕ) (head : Sector) → IsStatusHead places units erases retired generation head
     → (old : Told) (result : Result (Unit {0}) ChipFault) (new : Told)
     → SwitchesMap places m m (Programs p (IsSpot 0)) (λ done. Gains p 0 head) h old result new
-    → KeepsMap places m (Programs p (IsSpot 0)) (λ done. IsHeaded places p units erases generation)
+    → KeepsMap places m (Programs p (IsSpot 0)) (λ done. IsHeaded places p units erases retired generation)
     h old result new
-header_keeps places m h p units erases generation head is old result new did =
+header_keeps places m h p units erases retired generation head is old result new did =
     leads_weaker (EachStandsEither places m m) (EachStands places m)
     (Programs p (IsSpot 0)) (Programs p (IsSpot 0))
     (λ done k. StoryRests places m k × Gains p 0 head (now h) (now k))
-    (λ done k. StoryRests places m k × IsHeaded places p units erases generation (now h) (now k))
+    (λ done k. StoryRests places m k × IsHeaded places p units erases retired generation (now h) (now k))
     h old result new
     (λ k each. either_is_kept places m k each) (λ done a same. same)
     (λ done k held. (held.0, (head, is, held.1))) did
 
-pub header_tells : (places p units erases generation : ℕ) (head : Sector)
-    → IsStatusHead places units erases generation head → (result : Result (Unit {0}) ChipFault) (old new : Told)
+pub header_tells : (places p units erases : ℕ) (retired : List ℕ) (generation : ℕ) (head : Sector)
+    → IsStatusHead places units erases retired generation head → (result : Result (Unit {0}) ChipFault) (old new : Told)
     → OnOk result (Charts (Gains p 0 head) old new)
-    → OnOk result (Charts (IsHeaded places p units erases generation) old new)
-header_tells places p units erases generation head is (Ok v) old new tells =
+    → OnOk result (Charts (IsHeaded places p units erases retired generation) old new)
+header_tells places p units erases retired generation head is (Ok v) old new tells =
     λ x told. let (z, there, gains) = tells x told in (z, there, (head, is, gains))
-header_tells places p units erases generation head is (Err e) old new tells = tt
+header_tells places p units erases retired generation head is (Err e) old new tells = tt
 
 -- ---- the parts, one after the other
 

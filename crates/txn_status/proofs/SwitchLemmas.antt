@@ -81,6 +81,21 @@ in_part kept n (k, within, is) =
       ),
     )
 
+-- ---- the header
+
+-- the tables then have the counts and the retired places that the header was written with
+pub head_then : (places : ℕ) (t after : Tables) (count p from : ℕ) (head : Sector)
+    → length t.places.current ≡ count → IsRenewed t after p t.next from
+    → IsStatusHead places (length t.places.current) (slice_index t.places.erases p) t.places.retired t.next head
+    → IsStatusHead places count (slice_index after.places.erases p) after.places.retired t.next head
+head_then places t after count p from head units renewed is =
+    subst (λ (n : ℕ). IsStatusHead places n (slice_index after.places.erases p) after.places.retired t.next head) units
+    (subst (λ (l : List ℕ).
+    IsStatusHead places (length t.places.current) (slice_index after.places.erases p) l t.next head)
+    (sym renewed.retired)
+    (subst (λ (l : List ℕ). IsStatusHead places (length t.places.current) (slice_index l p) t.places.retired t.next head)
+    (sym renewed.erases) is))
+
 -- what is asked of the chart before, of the place, and of what was written there
 pub record IsPrepared (places : ℕ) (c y : Chart) (it : Layout) (t : Tables) (p : ℕ) (kept : List ℕ)
     (head : Sector) : Type 0 where
@@ -91,7 +106,8 @@ pub record IsPrepared (places : ℕ) (c y : Chart) (it : Layout) (t : Tables) (p
   pub each : AreLong kept
   pub most : length kept ≤ 3840
   pub parts : HasParts p t.next (t.next + 1) kept (parts_of kept) c y
-  pub is_head : IsStatusHead places (length t.places.current) (slice_index t.places.erases p) t.next head
+  pub is_head : IsStatusHead places (length t.places.current) (slice_index t.places.erases p) t.places.retired
+      t.next head
 
 module _ (places : ℕ) (c y : Chart) (it : Layout) (t : Tables) (p : ℕ) (kept : List ℕ)
     (head : Sector) (is : IsPrepared places c y it t p kept head) where
@@ -259,10 +275,8 @@ module _ (places : ℕ) (c y : Chart) (it : Layout) (t : Tables) (p : ℕ) (kept
     pub switched_then : Switched places c (with_sector y p 0 head) it after p t.next kept
     switched_then = record {
       head = head;
-      is_head = subst (λ (units : ℕ). IsStatusHead places units (slice_index after.places.erases p) t.next head)
-          is.mirrors.directory.units
-          (subst (λ (l : List ℕ). IsStatusHead places (length t.places.current) (slice_index l p) t.next head)
-          (sym switched.renewed.erases) is.is_head);
+      is_head = head_then places t after it.count p (1 + n) head
+          is.mirrors.directory.units switched.renewed is.is_head;
       mirrors = mirrors_then;
       pages = λ keeps u page now low in_unit shows.
           (status_headers_switch places y it p head (among kept) kept_still.0 may_switch).1 u page

@@ -28,9 +28,9 @@ use Rattle.steps.proofs.StepLemmas.{outcome_written}
 use Rattle.number_set.specs.Numbers.{among}
 use Rattle.txn_status.specs.Status.{parts_of}
 use Rattle.txn_status.specs.Adding.{HasStatus}
-use Rattle.txn_status.specs.Switching.{HasParts, IsPartSpot, IsStatusSpot, IsStatusHead, IsTaken, HasCounts, IsSwitched, IsReadyToSwitch, Switched, RestsSwitched, Switches, StepsSwitching}
+use Rattle.txn_status.specs.Switching.{HasParts, IsPartSpot, IsStatusSpot, IsStatusHead, IsTaken, FitsHeader, IsSwitched, IsReadyToSwitch, Switched, RestsSwitched, Switches, StepsSwitching}
 use Rattle.txn_status.specs.Writing.{KeepsParts, LeadsParts, LeadsHeader, IsHeaded}
-use Rattle.txn_status.proofs.SwitchLemmas.{AreLong, IsPrepared, mirrors_then, switched_then, stands_then, worn_then}
+use Rattle.txn_status.proofs.SwitchLemmas.{AreLong, head_then, IsPrepared, mirrors_then, switched_then, stands_then, worn_then}
 
 -- ---- what is counted as clean
 
@@ -83,12 +83,27 @@ counted_apart places c it t after p own from mirrors taken renewed q s counted =
       | inr here ↦ inr here
     ]
 
+-- ---- the header
+
+-- it has what the tables have
+of_header : (places : ℕ) (t : Tables) (p units erases : ℕ) (retired : List ℕ) (next : ℕ) (head : Sector)
+    → FitsHeader t p units erases retired → t.next ≡ next
+    → IsStatusHead places units erases retired next head
+    → IsStatusHead places (length t.places.current) (slice_index t.places.erases p) t.places.retired t.next head
+of_header places t p units erases retired next head fits drawn is =
+    subst (λ (n : ℕ). IsStatusHead places n (slice_index t.places.erases p) t.places.retired t.next head)
+    (sym fits.counts.units_are)
+    (subst (λ (n : ℕ). IsStatusHead places units n t.places.retired t.next head) (sym fits.counts.erases_are)
+    (subst (λ (l : List ℕ). IsStatusHead places units erases l t.next head) (sym fits.retired_are)
+    (subst (λ (g : ℕ). IsStatusHead places units erases retired g head) (sym drawn) is)))
+
 -- ---- both calls
 
-module _ (places units erases : ℕ) (status : Status) (next p : ℕ) (kept : List ℕ) (within : p < places)
+module _ (places units erases : ℕ) (retired : List ℕ) (status : Status) (next p : ℕ) (kept : List ℕ)
+    (within : p < places)
     (each : AreLong kept) (most : length kept ≤ 3840) (old mid new : Told) (h : History)
     (it : Layout) (t after : Tables) (m : Map) (steady : IsSteady h old)
-    (has : HasStatus t status next) (many : HasCounts t p units erases)
+    (has : HasStatus t status next) (fits : FitsHeader t p units erases retired)
     (ready : IsReadyToSwitch places h it t m p kept) (switched : IsSwitched t after p next kept) where
   abbrev Holds : Unit {0} → History → Type 0
   Holds done k = RestsSwitched places m it after p next kept k
@@ -99,13 +114,12 @@ module _ (places units erases : ℕ) (status : Status) (next p : ℕ) (kept : Li
     pub parts : HasParts p next (next + 1) kept (parts_of kept) (now h) (now k)
 
   -- the header has the counts of the tables
-  of_tables : (head : Sector) → IsStatusHead places units erases next head
-      → IsStatusHead places (length t.places.current) (slice_index t.places.erases p) next head
-  of_tables head is =
-      subst (λ (n : ℕ). IsStatusHead places n (slice_index t.places.erases p) next head) (sym many.units_are)
-      (subst (λ (n : ℕ). IsStatusHead places units n next head) (sym many.erases_are) is)
+  of_tables : (head : Sector) → IsStatusHead places units erases retired next head
+      → IsStatusHead places (length t.places.current) (slice_index t.places.erases p) t.places.retired
+      t.next head
+  of_tables head is = of_header places t p units erases retired next head fits has.next_is is
 
-  prepared : (k : History) (head : Sector) → IsKept k → IsStatusHead places units erases next head
+  prepared : (k : History) (head : Sector) → IsKept k → IsStatusHead places units erases retired next head
       → IsPrepared places (now h) (now k) it t p kept head
   prepared k head is is_head = record {
     mirrors = ready.agrees.mirrors;
@@ -116,8 +130,7 @@ module _ (places units erases : ℕ) (status : Status) (next p : ℕ) (kept : Li
     most = most;
     parts = subst (λ (g : ℕ). HasParts p g (g + 1) kept (parts_of kept) (now h) (now k))
         (sym has.next_is) is.parts;
-    is_head = subst (λ (g : ℕ). IsStatusHead places (length t.places.current) (slice_index t.places.erases p) g head)
-        (sym has.next_is) (of_tables head is_head);
+    is_head = of_tables head is_head;
   }
 
   one : (result : Result (Unit {0}) ChipFault)
@@ -146,13 +159,13 @@ module _ (places units erases : ℕ) (status : Status) (next p : ℕ) (kept : Li
     pub record IsSealed (k : History) : Type 0 where
       pub rests : StoryRests places m k
       pub head : Sector
-      pub is_head : IsStatusHead places units erases next head
+      pub is_head : IsStatusHead places units erases retired next head
       pub before : History
       pub kept_there : IsKept before
       pub gains : Gains p 0 head (now before) (now k)
 
     two : (result : Result (Unit {0}) ChipFault)
-        → LeadsHeader places p units erases next mid result new
+        → LeadsHeader places p units erases retired next mid result new
         → Leads (EachStands places m) (Programs p (IsStatusSpot (parts_of kept)))
         (λ done k. IsSealed k) h old result new
     unfolding first
@@ -165,7 +178,7 @@ module _ (places units erases : ℕ) (status : Status) (next p : ℕ) (kept : Li
         (Programs p (IsSpot 0)) (Programs p (IsStatusSpot (parts_of kept)))
         (λ done then. StoryRests places m then
         × HasParts p next (next + 1) kept (parts_of kept) (now h) (now then))
-        (λ done then. StoryRests places m then × IsHeaded places p units erases next (now k) (now then))
+        (λ done then. StoryRests places m then × IsHeaded places p units erases retired next (now k) (now then))
         (λ done then. IsSealed then) h tt old mid new result first
         (seals m k first.ends.0 first.ends.1.0 clean (λ head is_head.
         let so = prepared k head there is_head in (
@@ -206,10 +219,11 @@ module _ (places units erases : ℕ) (status : Status) (next p : ℕ) (kept : Li
     unfolding renewed
     rests_switched a programs is = record {
       head = is.head;
-      is_head = subst (λ (n : ℕ). IsStatusHead places n (slice_index after.places.erases p) next is.head)
-          ready.agrees.mirrors.directory.units
-          (subst (λ (l : List ℕ). IsStatusHead places (length t.places.current) (slice_index l p) next is.head)
-          (sym renewed.renewed.erases) (of_tables is.head is.is_head));
+      is_head = subst (λ (g : ℕ).
+          IsStatusHead places it.count (slice_index after.places.erases p) after.places.retired g is.head)
+          has.next_is
+          (head_then places t after it.count p (1 + parts_of kept) is.head
+          ready.agrees.mirrors.directory.units renewed.renewed (of_tables is.head is.is_head));
       stands = record {
         rests = is.rests;
         agrees = record {
@@ -223,7 +237,7 @@ module _ (places units erases : ℕ) (status : Status) (next p : ℕ) (kept : Li
     }
 
     pub switched_in_steps : (result : Result (Unit {0}) ChipFault)
-        → LeadsHeader places p units erases next mid result new
+        → LeadsHeader places p units erases retired next mid result new
         → IfErr result (λ fault. IsStopped fault old new)
         → StepsSwitching places it after m p next kept h result old new
     switched_in_steps result seals stopped =
@@ -235,17 +249,18 @@ module _ (places units erases : ℕ) (status : Status) (next p : ℕ) (kept : Li
 
 -- ---- what is told of the contents
 
-pub switches_told : (places units erases : ℕ) (status : Status) (next p : ℕ) (kept : List ℕ) → p < places
+pub switches_told : (places units erases : ℕ) (retired : List ℕ) (status : Status) (next p : ℕ)
+    (kept : List ℕ) → p < places
     → AreLong kept → length kept ≤ 3840 → (old mid new : Told)
     → Charts (HasParts p next (next + 1) kept (parts_of kept)) old mid
-    → Charts (IsHeaded places p units erases next) mid new
-    → Charts (Switches places units erases status next p kept) old new
-switches_told places units erases status next p kept within each most old mid new parts seal = λ x told.
+    → Charts (IsHeaded places p units erases retired next) mid new
+    → Charts (Switches places units erases retired status next p kept) old new
+switches_told places units erases retired status next p kept within each most old mid new parts seal = λ x told.
     let (y, told_y, there) = parts x told in
     let (z, told_z, sealed) = seal y told_y in (
       z,
       told_z,
-      λ it t after mirrors has many taken may switched.
+      λ it t after mirrors has fits taken may switched.
           let is : IsPrepared places (chart_of x) (chart_of y) it t p kept sealed.0 = record {
             mirrors = mirrors;
             taken = taken;
@@ -255,11 +270,7 @@ switches_told places units erases status next p kept within each most old mid ne
             most = most;
             parts = subst (λ (g : ℕ). HasParts p g (g + 1) kept (parts_of kept) (chart_of x)
                 (chart_of y)) (sym has.next_is) there;
-            is_head = subst (λ (g : ℕ).
-                IsStatusHead places (length t.places.current) (slice_index t.places.erases p) g sealed.0)
-                (sym has.next_is) (subst (λ (n : ℕ).
-                IsStatusHead places n (slice_index t.places.erases p) next sealed.0) (sym many.units_are)
-                (subst (λ (n : ℕ). IsStatusHead places units n next sealed.0) (sym many.erases_are) sealed.1));
+            is_head = of_header places t p units erases retired next sealed.0 fits has.next_is sealed.1;
           } in
           subst (λ (c : Chart). Switched places (chart_of x) c it after p next kept) (sym sealed.2)
           (subst (λ (g : ℕ). Switched places (chart_of x)

@@ -1,5 +1,5 @@
 -- What the commit sectors of a place make of the status.
-use Rattle.std.specs.Prelude.{ℕ, ◌≡◌, ◌≤◌, ◌<◌, ◌+◌, true, false, length, [], Option, Some, Result, MatchResult, Ok, Err, IfOk, OnOk}
+use Rattle.std.specs.Prelude.{ℕ, ◌≡◌, ◌≤◌, ◌<◌, ◌+◌, true, length, [], Option, Some, None, Result, MatchResult, Ok, Err, IfOk, OnOk}
 use Rattle.ipl_base.specs.declared.limits.TheConstants.{SECTORS}
 use Rattle.ipl_base.specs.declared.fault.ChipFault.{ChipFault}
 use Rattle.ipl_base.specs.declared.fault.ChipFault.TheVariants.{ReadFault}
@@ -39,7 +39,7 @@ under place generation = Some (record {
     unit = 0;
     generation = generation;
     serial = generation;
-    foreign = false;
+    said = None;
     well = true;
     erases = 1;
   };

@@ -41,13 +41,16 @@ IsPartSpot n s = (1 ≤ s) × (s < 1 + n)
 abbrev pub IsStatusSpot : ℕ → ℕ → Type 0
 IsStatusSpot n s = s < 1 + n
 
--- a status header for so many units, of a place that was erased so often
-pub record IsStatusHead (places units erases generation : ℕ) (head : Sector) : Type 0 where
+-- a status header for so many units, of a place that was erased so often, that lists these places as
+-- retired
+pub record IsStatusHead (places units erases : ℕ) (retired : List ℕ) (generation : ℕ) (head : Sector)
+    : Type 0 where
   pub kind : head.kind ≡ 2
   pub generation_is : head.generation ≡ generation
   pub serial : head.serial ≡ generation
   pub counts : SpellsStatusHeader head.version places units head.payload
   pub says : erases_said (Some head) ≡ erases
+  pub lists : counts.retired ≡ retired
 
 -- ---- tables
 
@@ -63,6 +66,11 @@ pub record HasCounts (t : Tables) (p units erases : ℕ) : Type 0 where
   pub units_are : length t.places.current ≡ units
   pub erases_are : slice_index t.places.erases p ≡ erases
 
+-- the tables have what such a header says: these counts, and these places retired
+pub record FitsHeader (t : Tables) (p units erases : ℕ) (retired : List ℕ) : Type 0 where
+  pub counts : HasCounts t p units erases
+  pub retired_are : t.places.retired ≡ retired
+
 -- the numbers may be kept: they were drawn, and none is of an open session
 pub record MayKeep (t : Tables) (kept : List ℕ) : Type 0 where
   pub below : All (λ n. n < t.next) kept
@@ -75,21 +83,23 @@ pub record IsSwitched (t after : Tables) (p generation : ℕ) (kept : List ℕ) 
 
 -- ---- what the chip holds
 
--- The header says how often the tables have it that its place was erased. The tables with the new
--- status mirror the new chart; and where of the numbers in live log sectors exactly the committed
--- ones are kept, it has the pages of the old one.
+-- The header says how often the tables have it that its place was erased, and lists exactly the places
+-- that are retired in them. The tables with the new status mirror the new chart; and where of the
+-- numbers in live log sectors exactly the committed ones are kept, it has the pages of the old one.
 pub record Switched (places : ℕ) (c y : Chart) (it : Layout) (after : Tables)
     (p generation : ℕ) (kept : List ℕ) : Type 0 where
   pub head : Sector
-  pub is_head : IsStatusHead places it.count (slice_index after.places.erases p) generation head
+  pub is_head : IsStatusHead places it.count (slice_index after.places.erases p) after.places.retired
+      generation head
   pub mirrors : Mirrors places y (with_status it p head (among kept)) after
   pub pages : KeepsNumbers it (among kept)
       → KeepsPages places c it y (with_status it p head (among kept))
 
--- whatever tables of this status and counter, and with these counts, mirrored the old chart
-abbrev pub Switches : ℕ → ℕ → ℕ → Status → ℕ → ℕ → List ℕ → Chart → Chart → Type 0
-Switches places units erases status next p kept c y = (it : Layout) (t after : Tables)
-    → Mirrors places c it t → HasStatus t status next → HasCounts t p units erases
+-- whatever tables of this status and counter, with these counts and these places retired, mirrored the
+-- old chart
+abbrev pub Switches : ℕ → ℕ → ℕ → List ℕ → Status → ℕ → ℕ → List ℕ → Chart → Chart → Type 0
+Switches places units erases retired status next p kept c y = (it : Layout) (t after : Tables)
+    → Mirrors places c it t → HasStatus t status next → FitsHeader t p units erases retired
     → IsTaken places c it t p → MayKeep t kept → IsSwitched t after p next kept
     → Switched places c y it after p next kept
 
@@ -107,12 +117,13 @@ pub record IsReadyToSwitch (places : ℕ) (h : History) (it : Layout) (t : Table
   pub may : MayKeep t kept
   pub keeps : KeepsNumbers it (among kept)
 
--- the story rests on the same map, the header says how often its place was erased, and the tables
--- with the new status agree
+-- the story rests on the same map, the header says how often its place was erased and which places are
+-- retired, and the tables with the new status agree
 pub record RestsSwitched (places : ℕ) (m : Map) (it : Layout) (after : Tables)
     (p generation : ℕ) (kept : List ℕ) (k : History) : Type 0 where
   pub head : Sector
-  pub is_head : IsStatusHead places it.count (slice_index after.places.erases p) generation head
+  pub is_head : IsStatusHead places it.count (slice_index after.places.erases p) after.places.retired
+      generation head
   pub stands : RestsAgreeing places m (with_status it p head (among kept)) after k
 
 -- At each moment a power cut leaves the map, and done, the story rests on it and the tables with
@@ -127,11 +138,11 @@ StepsSwitching places it after m p generation kept h result old new =
     h old new
 
 -- whatever layout, tables and map it began with
-abbrev pub SwitchesInSteps : ℕ → ℕ → ℕ → Status → ℕ → ℕ → List ℕ → Result (Unit {0}) ChipFault
-    → Told → Told → Type 0
-SwitchesInSteps places units erases status next p kept result old new =
+abbrev pub SwitchesInSteps : ℕ → ℕ → ℕ → List ℕ → Status → ℕ → ℕ → List ℕ
+    → Result (Unit {0}) ChipFault → Told → Told → Type 0
+SwitchesInSteps places units erases retired status next p kept result old new =
     (h : History) (it : Layout) (t after : Tables) (m : Map)
-    → IsSteady h old → HasStatus t status next → HasCounts t p units erases
+    → IsSteady h old → HasStatus t status next → FitsHeader t p units erases retired
     → IsReadyToSwitch places h it t m p kept
     → IsSwitched t after p next kept
     → StepsSwitching places it after m p next kept h result old new

@@ -48,16 +48,17 @@ LeadsParts places p generation serial numbers old result new = (m : Map) (h : Hi
     → ((s : ℕ) → IsPartSpot (parts_of numbers) s → age h.story p s ≡ Clean)
     → KeepsParts places p generation serial numbers (parts_of numbers) m h old result new
 
--- the chart has a status header with these counts too
-abbrev pub IsHeaded : ℕ → ℕ → ℕ → ℕ → ℕ → Chart → Chart → Type 0
-IsHeaded places p units erases generation c y =
-    (head : Sector) × IsStatusHead places units erases generation head × Gains p 0 head c y
+-- the chart has a status header with these counts, that lists these places, too
+abbrev pub IsHeaded : ℕ → ℕ → ℕ → ℕ → List ℕ → ℕ → Chart → Chart → Type 0
+IsHeaded places p units erases retired generation c y =
+    (head : Sector) × IsStatusHead places units erases retired generation head × Gains p 0 head c y
 
 -- a status header, where with it the map stands still
-abbrev pub LeadsHeader : ℕ → ℕ → ℕ → ℕ → ℕ → Told → Result (Unit {0}) ChipFault → Told → Type 0
-LeadsHeader places p units erases generation old result new = (m : Map) (h : History)
+abbrev pub LeadsHeader : ℕ → ℕ → ℕ → ℕ → List ℕ → ℕ
+    → Told → Result (Unit {0}) ChipFault → Told → Type 0
+LeadsHeader places p units erases retired generation old result new = (m : Map) (h : History)
     → IsSteady h old → StoryRests places m h → age h.story p 0 ≡ Clean
-    → ((head : Sector) → IsStatusHead places units erases generation head
+    → ((head : Sector) → IsStatusHead places units erases retired generation head
     → Stands places (with_sector (now h) p 0 head) m × WornAreIdle places h.story (with_sector (now h) p 0 head))
-    → KeepsMap places m (Programs p (IsSpot 0)) (λ done. IsHeaded places p units erases generation)
-    h old result new
+    → KeepsMap places m (Programs p (IsSpot 0))
+    (λ done. IsHeaded places p units erases retired generation) h old result new

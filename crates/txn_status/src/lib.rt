@@ -7,9 +7,9 @@
 //!
 //! Proved, by `Status`, `status_laws`: the committed numbers: a commit sector that is added leaves
 //! at each moment the records before it or after it, where nothing was open; a new status place
-//! keeps the records where of the numbers in live log sectors exactly the committed ones are kept,
-//! and its header says how often it was erased; what is read in is exactly what the chip holds, with
-//! the first fault; how many numbers are drawn.
+//! keeps the records where of the numbers in live log sectors exactly the committed ones are kept, and
+//! its header says how often it was erased and which places are retired; what is read in is exactly
+//! what the chip holds, with the first fault; how many numbers are drawn.
 #![tactic(auto)]
 
 mod commits;

@@ -1,6 +1,7 @@
 //! Numbers and a header, put on a new status place.
 ghost use Rattle.std.specs.Prelude.{◌≡◌, ◌≤◌, ◌<◌, ◌+◌, ◌*◌, ◌^◌, length, OnOk, is_ok};
-ghost use Rattle.ipl_base.specs.declared.limits.TheConstants.{KEPT_NUMBERS, RESERVED_PLACES};
+ghost use Rattle.ipl_base.specs.declared.limits.TheConstants.{KEPT_NUMBERS, VERSION};
+ghost use Rattle.ipl_format.specs.Header.{AreRetired};
 ghost use Rattle.unit_io.specs.Accounts.{Accounts};
 ghost use Rattle.unit_io.specs.Leads.{IsStopped};
 ghost use Rattle.unit_io.specs.Costs.{ProgramsAt, Spends};
@@ -76,20 +77,22 @@ pub fn write_parts<C: Chip>(
     Ok(())
 }
 
-/// Puts a status header on a place, once all else is made sure of, and makes sure of it. No place is
-/// named as retired.
+/// Puts a status header on a place, once all else is made sure of, and makes sure of it. It lists these
+/// places, at most 64, as retired; that such a chip may have retired them is a condition.
 pub fn seal_status<C: Chip>(
     chip: &mut C,
     place: u32,
     generation: u64,
     header: &StatusHeader,
+    retired: &[u32],
 ) -> Result<(), ChipFault>
     requires place { place < (C.told chip.old).places }
-    requires room { header.now.units + RESERVED_PLACES ≤ (C.told chip.old).places }
+    requires listed { AreRetired VERSION (C.told chip.old).places header.now.units retired.now }
     ensures keeps { LeadsHeader (C.told chip.old).places place header.now.units header.now.erases
-        generation (C.told chip.old) result (C.told chip.new) }
+        retired.now generation (C.told chip.old) result (C.told chip.new) }
     ensures tells { OnOk result (Charts
-        (IsHeaded (C.told chip.old).places place header.now.units header.now.erases generation)
+        (IsHeaded (C.told chip.old).places place header.now.units header.now.erases retired.now
+        generation)
         (C.told chip.old) (C.told chip.new)) }
     ensures costs { Spends (ProgramsAt place 1 2 2) (C.told chip.old) (C.told chip.new) }
     ensures tidy { Spends (Programs place (IsSpot 0) (is_ok result))
@@ -98,7 +101,7 @@ pub fn seal_status<C: Chip>(
     ensures accounts { Accounts IsStopped result (C.told chip.old) (C.told chip.new) }
 {
     let mut payload = [0; 265];
-    let used = write_status_header(header, &[], &mut payload);
+    let used = write_status_header(header, retired, &mut payload);
     let head = Head::written(Head::STATUS_HEADER, 0, generation, generation);
     seal(chip, place, &head, &payload[..used])
 }

@@ -1,6 +1,7 @@
 //! The status of transactions.
 ghost use Rattle.std.specs.Prelude.{◌≡◌, ◌≤◌, ◌<◌, ◌+◌, ◌^◌, ◌↔◌, ℕ, length, Contains, IfOk, IfErr, IsTrue, OnOk, OnErr, is_ok};
-ghost use Rattle.ipl_base.specs.declared.limits.TheConstants.{KEPT_NUMBERS, RESERVED_PLACES, STATUS_NUMBERS};
+ghost use Rattle.ipl_base.specs.declared.limits.TheConstants.{KEPT_NUMBERS, STATUS_NUMBERS, VERSION};
+ghost use Rattle.ipl_format.specs.Header.{AreRetired};
 ghost use Rattle.ipl_format.specs.Sector.{Sector};
 ghost use Rattle.ipl_meaning.specs.Chart.{chart_of};
 ghost use Rattle.unit_io.specs.Accounts.{Accounts};
@@ -225,9 +226,9 @@ impl Status {
 
     /// Writes a new status place with exactly these numbers, at most 3,840, in rising order: the
     /// numbers are programmed, 60 to a commit sector and with a serial drawn for each sector, and the
-    /// status header of this generation makes them count. It names no place as retired. That the chip
-    /// has room for its units, that the generation is the number that was drawn last, that 64 are left
-    /// to draw, and that the place was taken and erased for this, are conditions.
+    /// status header of this generation makes them count. It lists exactly these places as retired. That
+    /// a chip of so many units may have retired them, that the generation is the number that was drawn
+    /// last, that 64 are left to draw, and that the place was taken and erased for this, are conditions.
     ///
     /// Where of the numbers in live log sectors exactly the committed ones are kept, whatever a
     /// power cut leaves at any moment stands for the map on which the story rested. It fails only
@@ -237,12 +238,13 @@ impl Status {
         chip: &mut C,
         counter: &mut Counter,
         header: &StatusHeader,
+        retired: &[u32],
         place: u32,
         generation: u64,
         kept: &[u64],
     ) -> Result<(), ChipFault>
         requires place { place < (C.told chip.old).places }
-        requires room { header.now.units + RESERVED_PLACES ≤ (C.told chip.old).places }
+        requires listed { AreRetired VERSION (C.told chip.old).places header.now.units retired.now }
         requires rising { AreRising kept.now }
         requires few { length kept.now ≤ KEPT_NUMBERS }
         requires last { counter.old ≡ generation + 1 }
@@ -254,11 +256,11 @@ impl Status {
 
         // What the chip holds then, and what a power cut leaves.
         ensures switches { OnOk result (Charts
-            (Switches (C.told chip.old).places header.now.units header.now.erases self.old generation
-            place kept.now)
+            (Switches (C.told chip.old).places header.now.units header.now.erases retired.now self.old
+            generation place kept.now)
             (C.told chip.old) (C.told chip.new)) }
         ensures steps { SwitchesInSteps (C.told chip.old).places header.now.units header.now.erases
-            self.old generation place kept.now result (C.told chip.old) (C.told chip.new) }
+            retired.now self.old generation place kept.now result (C.told chip.old) (C.told chip.new) }
         // Programs of the place alone, and two barriers.
         ensures costs { Spends (FillsAt place 2) (C.told chip.old) (C.told chip.new) }
         // Whatever the chip holds, each sector is programmed once, and none of those behind.
@@ -269,7 +271,7 @@ impl Status {
         ensures accounts { Accounts IsStopped result (C.told chip.old) (C.told chip.new) }
     {
         write_parts(chip, counter, place, generation, kept)?;
-        seal_status(chip, place, generation, header)?;
+        seal_status(chip, place, generation, header, retired)?;
         // Only now: until the header is made sure of, the old place counts.
         self.place = place;
         self.generation = generation;

@@ -1,1 +1,3 @@
 pub mod FreeLemmas
+pub mod RetiredLemmas
+pub mod AsideLemmas

@@ -1,20 +1,22 @@
 -- What the calls on a directory make of it, and what always holds.
-use Rattle.std.specs.Prelude.{ℕ, ◌≡◌, ◌<◌, ◌≤◌, ◌+◌, true, false, nat_lt, List, length, slice_index, slice_set, replicate, Option, Some, None, if◌then◌else◌}
-use Rattle.ipl_base.specs.declared.limits.TheConstants.{FIRST_LOG_SECTOR, LOG_SECTORS}
+use Rattle.std.specs.Prelude.{ℕ, ◌≡◌, ◌<◌, ◌≤◌, ◌+◌, true, false, nat_lt, List, [], length, slice_index, slice_set, replicate, Option, Some, None, if◌then◌else◌}
+use Rattle.ipl_base.specs.declared.limits.TheConstants.{FIRST_LOG_SECTOR, LOG_SECTORS, VERSION}
 use Rattle.ipl_base.specs.Places.{IsGeometry, KeepsUnits}
+use Rattle.ipl_format.specs.Header.{AreRetired}
 use Rattle.ipl_meaning.specs.Tables.{Places, with_use, masks_in}
 
 -- a place none of whose log sectors names a page
 abbrev pub no_masks : List ℕ
 no_masks = replicate LOG_SECTORS 0
 
--- with so many places and units: no place is in use, each was erased once, each unit has place 0 and generation 0, and no
--- log sector is known clean, nor names a page
+-- with so many places and units: no place is in use or retired, each was erased once, each unit has place 0 and generation
+-- 0, and no log sector is known clean, nor names a page
 abbrev pub empty_places : ℕ → ℕ → Places
 empty_places places units = record {
   current = replicate units 0;
   in_use = replicate places false;
   erases = replicate places 1;
+  retired = [];
   written = replicate units LOG_SECTORS;
   generations = replicate units 0;
   masks = replicate units no_masks;
@@ -48,12 +50,13 @@ after_replace it u p generation = record (with_use it (slice_index it.current u)
 abbrev pub next_log : Places → ℕ → Option ℕ
 next_log it u = if nat_lt (slice_index it.written u) LOG_SECTORS then Some (FIRST_LOG_SECTOR + slice_index it.written u) else None
 
--- what always holds: the chip can be used and holds as many units as have a place, these are places of the chip, each
--- place has a count, and 15 log sectors
+-- what always holds: the chip can be used and may keep as many units as have a place, these are places of the chip, each
+-- place has a count, and 15 log sectors; and no more places are retired than are spare
 pub record IsSoundDirectory (it : Places) : Type 0 where
   pub places : IsGeometry (length it.in_use)
   pub counts : length it.erases ≡ length it.in_use
   pub units : KeepsUnits (length it.in_use) (length it.current)
+  pub retired : AreRetired VERSION (length it.in_use) (length it.current) it.retired
   pub logs : length it.written ≡ length it.current
   pub within : (u : ℕ) → u < length it.current → slice_index it.current u < length it.in_use
   pub few : (u : ℕ) → u < length it.current → slice_index it.written u ≤ LOG_SECTORS

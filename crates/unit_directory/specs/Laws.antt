@@ -1,7 +1,7 @@
 -- Which places are free after each change, and how many.
-use Rattle.std.specs.Prelude.{ℕ, ◌≡◌, ◌≢◌, ◌⊎◌, ◌↔◌, ◌<◌, ◌+◌, true, false, length, slice_index}
+use Rattle.std.specs.Prelude.{ℕ, ◌≡◌, ◌≢◌, ◌⊎◌, ◌↔◌, ◌<◌, ◌≤◌, ◌+◌, true, false, List, length, slice_index, Contains}
 use Rattle.ipl_meaning.specs.Tables.{Places, IsFree, with_use}
-use Rattle.unit_directory.specs.Free.{free_count, IsNextFree}
+use Rattle.unit_directory.specs.Free.{free_count, IsNextFree, spares_of, put_aside, aside, AreNext, IsReadyToTake}
 use Rattle.unit_directory.specs.Directory.{empty_places, after_adopt, after_replace}
 
 -- the place isn't free any more, and each other is as it was; where it was free, one is free less
@@ -43,3 +43,45 @@ AdoptsTake = (it : Places) (u p generation : ℕ) → Takes it (after_adopt it u
 abbrev pub ReplacesGiveBack : Type 0
 ReplacesGiveBack = (it : Places) (u p generation : ℕ) → slice_index it.current u < length it.in_use
     → GivesBack it (after_replace it u p generation) (slice_index it.current u)
+
+-- ---- places that are found worn
+
+-- where places are ready to be taken, and no more are retired than are spare, one is free
+abbrev pub ReadyPlacesLeaveOne : Type 0
+ReadyPlacesLeaveOne = (it : Places) → IsReadyToTake it → length it.retired ≤ spares_of it
+    → 0 < free_count it.in_use
+
+-- places are ready once a free one is set aside, and one more is retired then
+pub record SetsAside (it : Places) (p : ℕ) : Type 0 where
+  pub ready : IsReadyToTake (put_aside it p)
+  pub more : length (put_aside it p).retired ≡ length it.retired + 1
+
+abbrev pub ReadyPlacesStay : Type 0
+ReadyPlacesStay = (it : Places) (p : ℕ) → IsReadyToTake it → IsFree it p → SetsAside it p
+
+-- these places are free no more but retired, each other is as it was, and so is all else
+pub record AreAside (it : Places) (worn : List ℕ) : Type 0 where
+  pub was_free : (q : ℕ) → Contains worn q → IsFree it q
+  pub free : (q : ℕ) → IsFree (aside it worn) q ↔ (IsFree it q × ¬ Contains worn q)
+  pub retired : (q : ℕ) → Contains (aside it worn).retired q
+      ↔ (Contains it.retired q ⊎ Contains worn q)
+  pub current : (aside it worn).current ≡ it.current
+  pub all : length (aside it worn).in_use ≡ length it.in_use
+  pub erases : (aside it worn).erases ≡ it.erases
+  pub written : (aside it worn).written ≡ it.written
+  pub generations : (aside it worn).generations ≡ it.generations
+  pub masks : (aside it worn).masks ≡ it.masks
+
+-- so it is where each is the next free one in its turn
+abbrev pub NextPlacesAreAside : Type 0
+NextPlacesAreAside = (it : Places) (worn : List ℕ) → AreNext it worn → AreAside it worn
+
+-- and where places were ready to be taken, they are so still, so many fewer are free and so many more retired
+pub record LeavesReady (it : Places) (worn : List ℕ) : Type 0 where
+  pub ready : IsReadyToTake (aside it worn)
+  pub fewer : free_count (aside it worn).in_use + length worn ≡ free_count it.in_use
+  pub more : length (aside it worn).retired ≡ length it.retired + length worn
+
+abbrev pub NextPlacesLeaveReady : Type 0
+NextPlacesLeaveReady = (it : Places) (worn : List ℕ) → IsReadyToTake it → AreNext it worn
+    → LeavesReady it worn

@@ -1,24 +1,31 @@
 //! The directory of units.
 ghost use Rattle.std.specs.Prelude.{◌≡◌, ◌≢◌, ◌+◌, ◌-◌, ◌<◌, ◌≤◌, ℕ, nat_lt, length, slice_index, IfOk, IfSome, IfNone, true, false};
-ghost use Rattle.ipl_meaning.specs.Tables.{IsFree, with_use, with_erased, with_written, with_mask, with_masks, masks_in};
-ghost use Rattle.unit_directory.specs.Free.{IsNextFree, free_count};
+ghost use Rattle.ipl_base.specs.declared.limits.TheConstants.{MOST_SPARES};
+ghost use Rattle.ipl_base.specs.Places.{KeepsUnits};
+ghost use Rattle.ipl_meaning.specs.Tables.{IsFree, with_use, with_erased, with_retired, with_written, with_mask, with_masks, masks_in};
+ghost use Rattle.unit_directory.specs.Free.{IsNextFree, free_count, spares_of};
 ghost use Rattle.unit_directory.specs.Directory.{empty_places, with_erases_of, after_adopt, after_replace, next_log, IsSoundDirectory};
 
-use ipl_base::{FIRST_LOG_SECTOR, Geometry, LOG_SECTORS, OutOfMemory};
+use crate::lists::{RetiredList, filled, insert_place, refill};
+use arrayvec::ArrayVec;
+use ipl_base::{FIRST_LOG_SECTOR, Geometry, LOG_SECTORS, OutOfMemory, RESERVED_PLACES};
 use std::alloc::Global;
 use std::marker::Model;
 
-/// Which place is current for each unit, which places are in use and how often each was erased, and
-/// how many of the 15 log sectors of each unit's place, from the first on, count as written: the others
-/// are known clean. The generation that the header there has; and for each of these 15, which pages its
-/// records name, as a mask. A contract sees them as lists, by unit, by place, and by unit and sector; there are 5 to 1028
-/// places, and as many units as are kept on them, always the same. Memory is taken by `new` alone.
+/// Which place is current for each unit, which places are in use, how often each was erased and which
+/// are retired, and how many of the 15 log sectors of each unit's place, from the first on, count as
+/// written: the others are known clean. The generation that the header there has; and for each of these
+/// 15, which pages its records name, as a mask. A contract sees them as lists, by unit, by place, and by
+/// unit and sector. There are 5 to 1028 places, always as many, and as many units as may be kept on them.
+/// Memory is taken by `new` alone, for as many units as are kept where no place is spare.
 #[derive(Drop)]
 pub struct Directory {
     current: Vec<u32>,
     in_use: Vec<bool>,
     /// By place, as far as 32 bits count.
     erases: Vec<u32>,
+    /// In rising order.
+    retired: RetiredList,
     written: Vec<u32>,
     generations: Vec<u64>,
     masks: Vec<[u16; 15]>,
@@ -28,8 +35,10 @@ pub struct Directory {
 const NO_MASKS: [u16; 15] = [0; 15];
 
 impl Model for Directory {
+    ghost use Rattle.std.specs.Prelude.{length};
     ghost use Rattle.ipl_meaning.specs.Tables.{Places};
     ghost use Rattle.unit_directory.specs.Directory.{IsSoundDirectory};
+    ghost use Rattle.unit_directory.specs.Room.{HasRoom};
 
     ghost Value = { Places };
 
@@ -37,6 +46,7 @@ impl Model for Directory {
       current = d.current.items;
       in_use = d.in_use.items;
       erases = d.erases.items;
+      retired = d.retired.items;
       written = d.written.items;
       generations = d.generations.items;
       masks = d.masks.items;
@@ -46,54 +56,55 @@ impl Model for Directory {
       current = d.current.items;
       in_use = d.in_use.items;
       erases = d.erases.items;
+      retired = d.retired.items;
       written = d.written.items;
       generations = d.generations.items;
       masks = d.masks.items;
-    }) };
+    })
+        × HasRoom (length d.in_use.items) d.current
+        × HasRoom (length d.in_use.items) d.written
+        × HasRoom (length d.in_use.items) d.generations
+        × HasRoom (length d.in_use.items) d.masks };
 }
 
 impl Directory {
-    /// No place is in use, and each counts as erased once. Until a unit adopts a place it has place 0, with no log sector known clean.
+    /// No place is in use or retired, and each counts as erased once. Until a unit adopts a place it has
+    /// place 0, with no log sector known clean.
     pub fn new(alloc: Global, geometry: Geometry) -> Result<Directory, OutOfMemory>
         ensures { IfOk result (λ directory. directory ≡ empty_places geometry.places geometry.units) }
     {
         let units = geometry.units() as usize;
         let places = geometry.places() as usize;
-        let current = vec![in alloc; 0; units]?;
-        let in_use = vec![in alloc; false; places]?;
-        let erases = vec![in alloc; 1; places]?;
-        let written = vec![in alloc; LOG_SECTORS; units]?;
-        let generations = vec![in alloc; 0; units]?;
-        let mut masks = Vec::with_capacity(alloc, units)?;
-        for _ in 0..units {
-            masks.push_reserved(NO_MASKS);
-        }
+        let most = places - RESERVED_PLACES as usize;
         Ok(Directory {
-            current,
-            in_use,
-            erases,
-            written,
-            generations,
-            masks,
+            current: filled(alloc, most, units, 0)?,
+            in_use: vec![in alloc; false; places]?,
+            erases: vec![in alloc; 1; places]?,
+            retired: ArrayVec::new(),
+            written: filled(alloc, most, units, LOG_SECTORS)?,
+            generations: filled(alloc, most, units, 0)?,
+            masks: filled(alloc, most, units, NO_MASKS)?,
         })
     }
 
-    /// Makes it as `new` does. It takes no memory.
-    pub fn reset(&mut self)
-        ensures { self.new ≡ empty_places (length self.old.in_use) (length self.old.current) }
+    /// Makes it as `new` does, with so many units. It takes no memory.
+    pub fn set_units(&mut self, units: u32)
+        requires { KeepsUnits (length self.old.in_use) units }
+        ensures { self.new ≡ empty_places (length self.old.in_use) units }
     {
-        self.current.fill(0);
+        let units = units as usize;
+        refill(&mut self.current, units, 0);
         self.in_use.fill(false);
         self.erases.fill(1);
-        self.written.fill(LOG_SECTORS);
-        self.generations.fill(0);
-        for masks in self.masks.iter_mut() {
-            *masks = NO_MASKS;
-        }
+        self.retired.clear();
+        refill(&mut self.written, units, LOG_SECTORS);
+        refill(&mut self.generations, units, 0);
+        refill(&mut self.masks, units, NO_MASKS);
     }
 
-    /// What always holds: the chip has 5 to 1028 places, as many units as are kept on them, each has a
-    /// place of the chip, and at most 15 log sectors count as written.
+    /// What always holds: the chip has 5 to 1028 places, as many units as may be kept on them, each has a
+    /// place of the chip, and at most 15 log sectors count as written. Of the places no more are retired
+    /// than are spare, in rising order.
     pub fn facts(&self)
         ensures { IsSoundDirectory self.now }
     {
@@ -184,6 +195,38 @@ impl Directory {
         ensures { self.new ≡ with_erases_of self.old place erases }
     {
         self.erases[place as usize] = erases;
+    }
+
+    /// How many places are kept for those that wear out, 0 to 64: all that are no unit's but four.
+    pub fn spares(&self) -> u32
+        ensures count { result ≡ spares_of self.now }
+        ensures in_range { result ≤ MOST_SPARES }
+    {
+        self.in_use.len() as u32 - RESERVED_PLACES - self.current.len() as u32
+    }
+
+    /// The places that are retired, in rising order.
+    pub fn retired(&self) -> &[u32]
+        ensures { result.now ≡ self.now.retired }
+    {
+        self.retired.as_slice()
+    }
+
+    /// How many these are, no more than are spare.
+    pub fn retired_count(&self) -> u32
+        ensures count { result ≡ length self.now.retired }
+        ensures few { result ≤ spares_of self.now }
+    {
+        self.retired.len() as u32
+    }
+
+    /// Retires a place, which was found worn. That fewer are retired than are spare is a condition.
+    pub fn retire(&mut self, place: u32)
+        requires place { place < length self.old.in_use }
+        requires few { length self.old.retired < spares_of self.old }
+        ensures { self.new ≡ with_retired self.old place }
+    {
+        insert_place(&mut self.retired, place);
     }
 
     /// The generation that the header of a unit has.

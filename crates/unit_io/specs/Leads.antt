@@ -2,15 +2,15 @@
 use Rattle.std.specs.Prelude.{ℕ, ◌≡◌, ◌⊎◌, Bool, true, false, Result, Ok, Err, MatchResult, IfOk, is_ok, Some}
 use Rattle.std.specs.Option.{option_map}
 use Rattle.chip_trait.specs.declared.event.Event.{Event}
-use Rattle.chip_trait.specs.declared.event.Event.TheVariants.{Erase, Barrier}
+use Rattle.chip_trait.specs.declared.event.Event.TheVariants.{Erase, Worn, Barrier}
 use Rattle.chip_trait.specs.declared.wear.Wear.{Wear}
-use Rattle.chip_trait.specs.declared.wear.Wear.TheVariants.{Done, Worn}
+use Rattle.chip_trait.specs.declared.wear.Wear.TheVariants.{Done, Worn as IsWorn}
 use Rattle.chip_trait.specs.Wears.{Wears}
 use Rattle.chip_trait.specs.Story.{Story, held}
 use Rattle.chip_trait.specs.Moment.{AtEachMoment}
 use Rattle.chip_trait.specs.Told.{History, Told, Appends, Breaks, Halts, Rose, adds_all}
 use Rattle.ipl_base.specs.declared.fault.ChipFault.{ChipFault}
-use Rattle.ipl_base.specs.declared.fault.ChipFault.TheVariants.{Stopped, WornOut}
+use Rattle.ipl_base.specs.declared.fault.ChipFault.TheVariants.{Stopped}
 use Rattle.ipl_rules.specs.State.{Map}
 use Rattle.ipl_meaning.specs.Chart.{Chart}
 use Rattle.ipl_meaning.specs.Rests.{now, EachStands, EachStandsEither, StoryRests}
@@ -59,25 +59,21 @@ Wore p result old new = MatchResult result (λ wear. Wears wear p old new) (λ _
 -- the place was erased
 abbrev pub is_done : Result Wear ChipFault → Bool
 is_done (Ok Done) = true
-is_done (Ok Worn) = false
+is_done (Ok IsWorn) = false
 is_done (Err fault) = false
-
--- where the place is worn, the count of such erases rose
-abbrev pub FindsWorn : Result Wear ChipFault → Told → Told → Type 0
-FindsWorn result old new = IfOk result (λ wear. wear ≡ Worn → Rose old.worn_erases new.worn_erases)
 
 -- a barrier was passed, or it wasn't
 abbrev pub Waited : Result (Unit {0}) ChipFault → Told → Told → Type 0
 Waited result old new = MatchResult result (λ _. Appends Barrier old new) (λ _. Halts old new)
 
+-- The place was erased, and that was made sure of; or it was found worn, nothing else was done, and the
+-- count of such erases rose; or one of the two calls broke.
+abbrev pub Erases : ℕ → Told → Result Wear ChipFault → Told → Type 0
+Erases p old (Ok Done) new = (mid : Told) × Appends (Erase p) old mid × Appends Barrier mid new
+Erases p old (Ok IsWorn) new = Appends (Worn p) old new × Rose old.worn_erases new.worn_erases
+Erases p old (Err fault) new =
+    Breaks (Erase p) old new ⊎ ((mid : Told) × Appends (Erase p) old mid × Halts mid new)
+
 -- a write failed, and its count rose
 abbrev pub IsStopped : ChipFault → Told → Told → Type 0
 IsStopped fault old new = (fault ≡ Stopped) × Rose old.write_faults new.write_faults
-
--- an erase found its place worn where no other one may be taken, and the count of such erases rose
-abbrev pub IsWornOut : ChipFault → Told → Told → Type 0
-IsWornOut fault old new = (fault ≡ WornOut 1) × Rose old.worn_erases new.worn_erases
-
--- a place couldn't be taken: a write failed, or it is worn
-abbrev pub IsNotTaken : ChipFault → Told → Told → Type 0
-IsNotTaken fault old new = IsStopped fault old new ⊎ IsWornOut fault old new

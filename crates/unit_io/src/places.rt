@@ -13,7 +13,7 @@ ghost use Rattle.ipl_meaning.specs.Layout.{Layout, Laid};
 ghost use Rattle.ipl_meaning.specs.Rests.{now, EachStands, WornAreIdle, StoryRests};
 ghost use Rattle.ipl_meaning.specs.Steps.{IsIdle};
 ghost use Rattle.unit_io.specs.Accounts.{Accounts};
-ghost use Rattle.unit_io.specs.Leads.{IsSteady, Leads, RestsWith, SwitchesMap, IsStopped, is_done, FindsWorn};
+ghost use Rattle.unit_io.specs.Leads.{IsSteady, Leads, RestsWith, SwitchesMap, IsStopped, is_done, Erases};
 ghost use Rattle.unit_io.specs.Unread.{ReadsNothing};
 ghost use Rattle.unit_io.specs.Spots.{Clears, Programs, IsSpot};
 ghost use Rattle.unit_io.specs.Costs.{ErasesOnce, ProgramsAt, Spends};
@@ -31,6 +31,7 @@ use sector_format::{Head, encode};
 /// also where the place is worn: nothing has changed then, and none of the place is clean.
 pub fn begin_unit<C: Chip>(chip: &mut C, place: u32) -> Result<Wear, ChipFault>
     requires { place < (C.told chip.old).places }
+    ensures erases { Erases place (C.told chip.old) result (C.told chip.new) }
     ensures keeps { (m : Map) (it : Layout) (h : History) → IsSteady h (C.told chip.old) → StoryRests (C.told chip.old).places m h
         → Laid (C.told chip.old).places (now h) it → IsIdle (C.told chip.old).places (now h) it place
         → Leads (EachStands (C.told chip.old).places m) (λ ok. Clears place (is_done result))
@@ -41,7 +42,6 @@ pub fn begin_unit<C: Chip>(chip: &mut C, place: u32) -> Result<Wear, ChipFault>
     ensures costs { Spends (ErasesOnce place 1 (is_done result)) (C.told chip.old) (C.told chip.new) }
     ensures tidy { Spends (Clears place (is_done result)) (C.told chip.old) (C.told chip.new) }
     ensures unread { Spends ReadsNothing (C.told chip.old) (C.told chip.new) }
-    ensures worn { FindsWorn result (C.told chip.old) (C.told chip.new) }
     ensures accounts { Accounts IsStopped result (C.told chip.old) (C.told chip.new) }
 {
     match erase(chip, place)? {

@@ -99,6 +99,7 @@ pub fn read_live<C: Chip>(
     requires unit { unit < length directory.now.current }
     requires size { length directory.now.in_use ≡ (C.told chip.old).places }
     requires units { length overflow.now.spots ≡ length directory.now.current }
+    requires sized { overflow.now.places ≡ (C.told chip.old).places }
     ensures exact { OfMirrored (C.told chip.old) directory.now overflow.now (λ it.
         MatchResult result (λ head. IsLive it unit head scratch.new) (λ fault. fault ≡ ReadFault)) }
     ensures header { IfOk result (λ head. OfContents (C.told chip.old) (λ x.
@@ -145,6 +146,7 @@ pub fn read_page_log<C: Chip>(
     requires unit { unit < length directory.now.current }
     requires size { length directory.now.in_use ≡ (C.told chip.old).places }
     requires units { length overflow.now.spots ≡ length directory.now.current }
+    requires sized { overflow.now.places ≡ (C.told chip.old).places }
     requires page { page < 15 }
     ensures exact { OfMirrored (C.told chip.old) directory.now overflow.now (λ it.
         MatchResult result (λ head. IsLiveOf it unit page head scratch.new)

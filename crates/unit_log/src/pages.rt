@@ -1,6 +1,5 @@
 //! Which log sectors of a unit name a page.
 ghost use Rattle.std.specs.Prelude.{◌≡◌, ◌≤◌, ◌<◌, ◌++◌, ℕ, length, map, slice_index, [], All};
-ghost use Rattle.ipl_base.specs.Places.{places_for};
 ghost use Rattle.ipl_base.specs.declared.limits.TheConstants.{LIVE_SECTORS};
 ghost use Rattle.ipl_meaning.specs.Masks.{has_page, mask_of};
 ghost use Rattle.ipl_meaning.specs.Tables.{masks_in};
@@ -60,7 +59,7 @@ fn add_listed(spots: &mut ArrayVec<Spot, LIVE_SECTORS>, overflow: &Overflow, uni
     ensures spots { map pair_of spots.new.items ≡ map pair_of spots.old.items
         ++ listed_with page (spots_in overflow.now unit) (masks_at overflow.now unit) }
     ensures few { length spots.new.items ≤ LIVE_SECTORS }
-    ensures within { AreWithin (places_for (length overflow.now.spots)) (spots_in overflow.now unit) }
+    ensures within { AreWithin overflow.now.places (spots_in overflow.now unit) }
 {
     let all = overflow.list(unit);
     let listed = all.as_slice();
@@ -81,6 +80,7 @@ pub fn page_spots(
 ) -> ArrayVec<Spot, LIVE_SECTORS>
     requires unit { unit < length directory.now.current }
     requires units { length overflow.now.spots ≡ length directory.now.current }
+    requires sized { overflow.now.places ≡ length directory.now.in_use }
     requires page { page < 15 }
     ensures spots { map pair_of result.items ≡ page_spots directory.now overflow.now unit page }
     ensures few { length result.items ≤ LIVE_SECTORS }

@@ -1,4 +1,4 @@
-use Rattle.command_line.proofs.ExampleLemmas.{words, frames, trials, no_words, no_frames, no_trials, together}
+use Rattle.command_line.proofs.ExampleLemmas.{words, spares, frames, trials, no_words, no_spares, no_frames, no_trials, together}
 use Rattle.command_line.proofs.laws.command_line_laws.Goals as goal
 
 pub returns-clause-together : goal.returns-clause-together
@@ -6,6 +6,9 @@ returns-clause-together c = together
 
 pub returns-clause-examples : goal.returns-clause-examples
 returns-clause-examples c = words
+
+pub returns-clause-spares : goal.returns-clause-spares
+returns-clause-spares c = spares
 
 pub returns-clause-frames : goal.returns-clause-frames
 returns-clause-frames c = frames
@@ -15,6 +18,9 @@ returns-clause-trials c = trials
 
 pub returns-clause-others : goal.returns-clause-others
 returns-clause-others c = no_words
+
+pub returns-clause-other_spares : goal.returns-clause-other_spares
+returns-clause-other_spares c = no_spares
 
 pub returns-clause-other_frames : goal.returns-clause-other_frames
 returns-clause-other_frames c = no_frames

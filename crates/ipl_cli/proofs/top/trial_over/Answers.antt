@@ -1,15 +1,7 @@
-use Rattle.std.proofs.Common.{Err, Ok, ap, arith}
+use Rattle.std.proofs.Common.{Err, Ok, ap}
 use Rattle.store_trait.proofs.DrawLemmas.{numbers_last}
 use Rattle.ipl_cli.proofs.TrialLemmas.{tries_over}
 use Rattle.ipl_cli.proofs.top.trial_over.Goals as goal
-
-pub run_trial-requires-clause-units : goal.run_trial-requires-clause-units
-run_trial-requires-clause-units g c = omega (
-  arith,
-  c.units-units.ensures,
-  c.requires.running.sound.made.units,
-  c.requires.running.sound.made.geometry.1,
-)
 
 pub end_of-requires : goal.end_of-requires
 end_of-requires g c =
@@ -17,18 +9,18 @@ end_of-requires g c =
 
 pub returns-in-Ok : goal.returns-in-Ok
 returns-in-Ok g c = record {
-  tries = tries_over c.args.seed c.args.count c.units-units.result c.args.store.now
+  tries = tries_over c.args.seed c.args.count c.unit_count-units.result c.args.store.now
       c.run_trial.new.store (g.D.Chip.told c.args.desk.now) (g.D.Chip.told c.run_trial.new.desk)
-      c.requires.running c.units-units.ensures c.requires.left (Ok tt) c.in-Ok.ensures.run
+      c.unit_count-units.ensures c.requires.left (Ok tt) c.in-Ok.ensures.run
       c.in-Ok.ensures.along c.in-Ok.ensures.completes tt;
 }
 
 pub returns-in-Err : goal.returns-in-Err
 returns-in-Err g c = record {
   tries = rw c.end_of.ensures
-      (tries_over c.args.seed c.args.count c.units-units.result c.args.store.now
+      (tries_over c.args.seed c.args.count c.unit_count-units.result c.args.store.now
       c.run_trial.new.store (g.D.Chip.told c.args.desk.now) (g.D.Chip.told c.run_trial.new.desk)
-      c.requires.running c.units-units.ensures c.requires.left (Err c.in-Err.stop)
+      c.unit_count-units.ensures c.requires.left (Err c.in-Err.stop)
       c.in-Err.ensures.run c.in-Err.ensures.along c.in-Err.ensures.completes
       c.in-Err.ensures.stops);
 }

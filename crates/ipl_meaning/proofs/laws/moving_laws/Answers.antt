@@ -1,4 +1,4 @@
-use Rattle.ipl_meaning.proofs.IdleFollowLemmas.{tables_follow_idle_places, places_may_be_taken, counts_are_free}
+use Rattle.ipl_meaning.proofs.IdleFollowLemmas.{tables_follow_idle_places, places_may_be_taken, counts_are_free, retired_are_free, places_may_be_retired}
 use Rattle.ipl_meaning.proofs.MergeFollowLemmas.{tables_follow_merges, counted_follow_merges}
 use Rattle.ipl_meaning.proofs.RenewalFollowLemmas.{tables_follow_renewals, counted_follow_renewals}
 use Rattle.ipl_meaning.proofs.OverflowFollowLemmas.{tables_follow_overflows, counted_follow_overflows}
@@ -9,6 +9,8 @@ returns c = record {
   idle_places = tables_follow_idle_places;
   taken = places_may_be_taken;
   counts = counts_are_free;
+  retired = retired_are_free;
+  worn = places_may_be_retired;
   merges = tables_follow_merges;
   renewals = tables_follow_renewals;
   overflows = tables_follow_overflows;

@@ -1,10 +1,13 @@
-use Rattle.merge_rules.proofs.CountLemmas.{known_places_leave_one}
+use Rattle.merge_rules.proofs.CountLemmas.{known_places_are_ready}
 use Rattle.merge_rules.proofs.GrownLemmas.{known_places_take_overflows}
-use Rattle.merge_rules.proofs.KnownLemmas.{known_places_move}
+use Rattle.merge_rules.proofs.KnownLemmas.{known_places_may_be_aside, known_places_move}
 use Rattle.merge_rules.proofs.laws.known_laws.Goals as goal
 
-pub returns-clause-free : goal.returns-clause-free
-returns-clause-free c = known_places_leave_one
+pub returns-clause-ready : goal.returns-clause-ready
+returns-clause-ready c = known_places_are_ready
+
+pub returns-clause-aside : goal.returns-clause-aside
+returns-clause-aside c = known_places_may_be_aside
 
 pub returns-clause-moves : goal.returns-clause-moves
 returns-clause-moves c = known_places_move

@@ -1,7 +1,8 @@
-use Rattle.std.proofs.Common.{ℕ, Result, Ok, Err, ◌∙◌, subst}
+use Rattle.std.proofs.Common.{ℕ, Result, Ok, Err, false, refl, ◌∙◌, ap, subst}
 use Rattle.std.proofs.lemmas.Result.{err_from_is_err_and}
 use Rattle.chip_trait.proofs.CountsLemmas.{counts_then}
 use Rattle.unit_io.specs.Charts.{Charts}
+use Rattle.place_taking.specs.Spending.{tells_worn}
 use Rattle.selective_merge.specs.Moving.{tables_of, Holds}
 use Rattle.page_writing.specs.Writing.{WritesLog, WritesLogInSteps}
 use Rattle.page_writing.proofs.CauseLemmas.{stopped_cause}
@@ -42,9 +43,10 @@ returns-in_err-at-clause-steps g c =
 pub returns-in_err-at-clause-costs : goal.returns-in_err-at-clause-costs
 returns-in_err-at-clause-costs g c =
     let e = err_from_is_err_and c.from_residual.result c.from_residual.ensures.1 in
-    rw e.1 (unplaced_costs e.0 (tables_of c.args.parts.now) (tables_of c.log_place.new.parts)
+    rw (e.1, e.2) (unplaced_costs c.in_err-at.field-0.0 (tables_of c.args.parts.now)
+    (tables_of c.log_place.new.parts)
     c.args.unit (g.C.Chip.told c.args.chip.now) (g.C.Chip.told c.log_place.new.chip)
-    (room_costs _ (tables_of c.args.parts.now) (tables_of c.log_place.new.parts) c.args.unit
+    (room_costs _ (tells_worn c.in_err-at.field-0.0) (tables_of c.args.parts.now) (tables_of c.log_place.new.parts) c.args.unit
     (g.C.Chip.told c.args.chip.now) (g.C.Chip.told c.log_place.new.chip)
     c.in_err-at.ensures.home c.in_err-at.ensures.costs))
 
@@ -103,8 +105,8 @@ returns-in_err-write_log-clause-costs g c =
     rw e.1 (placed_costs (Err e.0) (tables_of c.args.parts.now) (tables_of c.log_place.new.parts)
     (tables_of c.write_log.new.parts) c.args.unit c.in_ok-at.at.place
     (g.C.Chip.told c.args.chip.now) (g.C.Chip.told c.log_place.new.chip)
-    (g.C.Chip.told c.write_log.new.chip)
-    (room_costs _ (tables_of c.args.parts.now) (tables_of c.log_place.new.parts) c.args.unit
+    (g.C.Chip.told c.write_log.new.chip) (ap tells_worn (e.2 ∙ says.accounts.cause.0))
+    (room_costs _ false (tables_of c.args.parts.now) (tables_of c.log_place.new.parts) c.args.unit
     (g.C.Chip.told c.args.chip.now) (g.C.Chip.told c.log_place.new.chip)
     c.in_ok-at.ensures.home c.in_ok-at.ensures.costs) says.costs says.uses)
 
@@ -119,7 +121,7 @@ returns-in_err-write_log-clause-accounts g c =
     let says = c.in_err-write_log.ensures.accounts in
     rw (e.1, e.2) (record {
       counts = counts_then old mid new found.counts says.counts;
-      cause = stopped_cause (tables_of c.args.parts.now) c.args.unit
+      cause = stopped_cause c.write_log.new.parts.directory (tables_of c.args.parts.now) c.args.unit
           c.in_err-write_log.field-0.0 old mid new found.counts says.cause;
     })
 
@@ -173,8 +175,8 @@ returns-clause-costs g c =
     placed_costs (Ok tt) (tables_of c.args.parts.now) (tables_of c.log_place.new.parts)
     (tables_of c.write_log.new.parts) c.args.unit c.in_ok-at.at.place
     (g.C.Chip.told c.args.chip.now) (g.C.Chip.told c.log_place.new.chip)
-    (g.C.Chip.told c.write_log.new.chip)
-    (room_costs _ (tables_of c.args.parts.now) (tables_of c.log_place.new.parts) c.args.unit
+    (g.C.Chip.told c.write_log.new.chip) refl
+    (room_costs _ false (tables_of c.args.parts.now) (tables_of c.log_place.new.parts) c.args.unit
     (g.C.Chip.told c.args.chip.now) (g.C.Chip.told c.log_place.new.chip)
     c.in_ok-at.ensures.home c.in_ok-at.ensures.costs) says.costs says.uses
 

@@ -1,4 +1,4 @@
-use Rattle.pending_writes.proofs.TableLemmas.{a_place_is_free}
+use Rattle.pending_writes.proofs.TableLemmas.{spares_are_free_or_retired, a_place_is_free}
 use Rattle.pending_writes.proofs.FitLemmas.{fits_whatever_the_map, sessions_are_sound, merges_are_small, resting_pages_say, resting_pages_keep, fitting_frames_tell, fitting_contents_tell}
 use Rattle.pending_writes.proofs.FullLemmas.{marks_tell_full_pages, puts_that_pass_have_room, same_values_have_room, written_pages_fit}
 use Rattle.pending_writes.proofs.PendingRoomLemmas.{loaded_pages_fit, frames_keep_marks}
@@ -7,6 +7,7 @@ use Rattle.pending_writes.proofs.laws.fitting_laws.Goals as goal
 
 pub returns : goal.returns
 returns c = record {
+  spares = spares_are_free_or_retired;
   free = a_place_is_free;
   any_map = fits_whatever_the_map;
   sound = sessions_are_sound;

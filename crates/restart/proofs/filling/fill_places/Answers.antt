@@ -8,8 +8,10 @@ use Rattle.restart.proofs.filling.fill_places.Goals as goal
 
 pub count_erases-requires-clause-places : goal.count_erases-requires-clause-places
 count_erases-requires-clause-places c =
-    let taken = ap (λ (d : Places). length d.in_use) c.take.ensures ∙ length-set c.args.directory.now.in_use _ true in
-    omega (arith, c.take_overflows.ensures.size, taken)
+    let before = c.args.directory.now in
+    let is = ap (λ (d : Places). length d.in_use) c.take.ensures in
+    let set_one = length-set before.in_use c.place.result true in
+    omega (arith, c.take_overflows.ensures.size, is, set_one)
 
 pub returns-clause-used : goal.returns-clause-used
 returns-clause-used c = λ current units first.
@@ -30,6 +32,7 @@ returns-clause-same c =
     let then = c.count_erases.ensures.same in
     let is : c.take.new.self ≡ with_use before c.args.status.now.place true = c.take.ensures ∙ ap (λ (p : ℕ). with_use before p true) c.place.ensures in
     record {
+      retired = ap (λ (d : Places). d.retired) then ∙ c.take_overflows.ensures.same.retired ∙ ap (λ (d : Places). d.retired) is;
       current = ap (λ (d : Places). d.current) then ∙ c.take_overflows.ensures.same.current ∙ ap (λ (d : Places). d.current) is;
       written = ap (λ (d : Places). d.written) then ∙ c.take_overflows.ensures.same.written ∙ ap (λ (d : Places). d.written) is;
       generations = ap (λ (d : Places). d.generations) then ∙ c.take_overflows.ensures.same.generations ∙ ap (λ (d : Places). d.generations) is;

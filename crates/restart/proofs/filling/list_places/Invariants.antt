@@ -9,4 +9,5 @@ invariant-loop-place l = record {
   in_use : l.overflow.in_use ≡ all_below (overflow_at (is_held l.heads l.noted)) l.place;
   spots : l.overflow.spots ≡ l.fn.overflow.spots;
   masks : l.overflow.masks ≡ l.fn.overflow.masks;
+  places : l.overflow.places ≡ l.fn.overflow.places;
 }

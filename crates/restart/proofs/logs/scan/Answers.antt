@@ -28,8 +28,8 @@ loop-place-init g c =
       once = once_none (InPlacesBelow heads current 0) told;
       scanned = λ x holds. record {
         noted = grind (arith, common_steps);
-        masked = masked_first heads current (mask_by heads current (chart_of x)) (length c.args.overflow.now.spots) (length c.args.current.now) c.args.directory.now c.reset.new.self
-            (λ u winner is. at_low c.args.current.now u winner is) c.requires.blank c.reset.ensures;
+        masked = masked_first heads current (mask_by heads current (chart_of x)) c.args.overflow.now.places (length c.args.current.now) (length c.args.current.now) c.args.directory.now c.set_units.new.self
+            (λ u winner is. at_low c.args.current.now u winner is) c.requires.blank c.set_units.ensures;
         collected = kept_first c.args.status.now.numbers heads current (chart_of x) c.clear-2.new.self c.clear-2.ensures;
         number = refl;
         fine = refl;

@@ -11,7 +11,7 @@ use Rattle.script_run.proofs.answer.answer_line.Goals as goal
 
 pub returns-in-Skip-clause-answers : goal.returns-in-Skip-clause-answers
 returns-in-Skip-clause-answers g c = λ limits state h holds.
-    let k = g.S.Store.keeping in
+    let k = g.S.Store.keeping g.places in
     let store = c.args.store.now in
     let t = g.D.Chip.told c.args.desk.now in
     let leaves = run_none k limits state store h (k.holds limits store t) t (Ok tt) holds holds holds in

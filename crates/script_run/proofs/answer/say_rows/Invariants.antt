@@ -11,7 +11,7 @@ use Rattle.script_run.proofs.answer.say_rows.Given as goal
 abbrev pub invariant-loop-n : goal.invariant-loop-n
 invariant-loop-n g l =
     let told = g.D.Chip.told in
-    let k = g.S.Store.keeping in
+    let k = g.S.Store.keeping g.places in
     record {
       says : (limits : Limits) → l.end ≤ limits.names → (state : State) (h : History) → k.holds limits l.fn.store (told l.fn.desk) h state
           → (leaves : SayingLeaves k limits state.map (rows_lines state.map l.first (l.n - l.first)) l.fn.store h l.store (told l.fn.desk) (told l.desk) true) × k.holds limits l.store (told l.desk) (adds_all leaves.added h) state;
@@ -19,3 +19,6 @@ invariant-loop-n g l =
       completes : (limits : Limits) → l.end ≤ limits.names → KeepsSome k limits l.fn.store (told l.fn.desk) → CompletesSoFar k limits (LOOK_UP_DRAWS * (l.n - l.first)) l.fn.store (told l.fn.desk) l.store (told l.desk);
       none : l.end < l.first → l.n ≡ l.first;
     }
+
+abbrev pub ghost-say_row : goal.ghost-say_row
+ghost-say_row g a = g.places

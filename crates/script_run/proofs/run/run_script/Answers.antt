@@ -16,11 +16,11 @@ use Rattle.script_run.proofs.run.run_script.Goals as goal
 pub loop-total-init : goal.loop-total-init
 loop-total-init g c =
     let t = g.D.Chip.told c.args.desk.now in
-    let k = g.S.Store.keeping in record {
+    let k = g.S.Store.keeping g.places in record {
       running = λ limits state h holds source left.
           subst (λ (l : List ℕ). Running k limits state source c.args.store.now h c.args.store.now l t t) (sym c.new-line.ensures) (running_none k limits state source c.args.store.now h t holds left);
       tidy = tidy_same k c.args.store.now t t true refl;
-      suited = λ places suits. suits;
+      suited = λ suits. suits;
       further = further_none t;
       bytes = grew_none t.beside.script_bytes;
       read = read_none t;
@@ -35,11 +35,11 @@ loop-total-preserved g c =
     let t = c.take_next in
     let at = g.D.Chip.told in
     let o = c.in_ok-count.ensures in
-    let k = g.S.Store.keeping in record {
+    let k = g.S.Store.keeping g.places in record {
       running = λ limits state h holds source left.
           running_more k limits state source c.args.store.now c.loop-total.store t.new.store h c.loop-total.line t.new.line (at c.args.desk.now) (at c.loop-total.desk) (at t.new.desk) c.in_ok-count.count (was.running limits state h holds source left) (λ s g' now. o.takes limits s g' now);
       tidy = tidy_then k c.args.store.now c.loop-total.store t.new.store (at c.args.desk.now) (at c.loop-total.desk) (at t.new.desk) true was.tidy o.along.tidy;
-      suited = λ places suits. o.along.suited places (was.suited places suits);
+      suited = λ suits. o.along.suited (was.suited suits);
       further = further_then (at c.args.desk.now) (at c.loop-total.desk) (at t.new.desk) was.further t.ensures.along.beside;
       bytes = grew_then (at c.args.desk.now).beside.script_bytes (at c.loop-total.desk).beside.script_bytes (at t.new.desk).beside.script_bytes c.loop-total.total c.in_ok-count.count was.bytes o.bytes;
       read = read_then (at c.args.desk.now) (at c.loop-total.desk) (at t.new.desk) c.loop-total.total c.in_ok-count.count was.read o.read;
@@ -51,12 +51,12 @@ loop-total-preserved g c =
 
 pub returns-clause-run : goal.returns-clause-run
 returns-clause-run g c = λ limits state h holds source left.
-    stops_weaker g.S.Store.keeping limits state _ source c.args.store.now c.loop-total.store h _ _ _ _ _ (λ a s kept quiet. kept)
-    (running_stopped g.S.Store.keeping limits state source c.args.store.now c.loop-total.store h c.loop-total.line (g.D.Chip.told c.args.desk.now) (g.D.Chip.told c.loop-total.desk) (c.loop-total.invariant.running limits state h holds source left))
+    stops_weaker (g.S.Store.keeping g.places) limits state _ source c.args.store.now c.loop-total.store h _ _ _ _ _ (λ a s kept quiet. kept)
+    (running_stopped (g.S.Store.keeping g.places) limits state source c.args.store.now c.loop-total.store h c.loop-total.line (g.D.Chip.told c.args.desk.now) (g.D.Chip.told c.loop-total.desk) (c.loop-total.invariant.running limits state h holds source left))
 
 pub returns-in_err-count-clause-run : goal.returns-in_err-count-clause-run
 returns-in_err-count-clause-run g c = λ limits state h holds source left.
-    let k = g.S.Store.keeping in
+    let k = g.S.Store.keeping g.places in
     let at = g.D.Chip.told in
     let t = c.take_next in
     let stop = err_from_is_err_and c.from_residual.result c.from_residual.ensures.1 in
@@ -69,12 +69,12 @@ pub returns-in_err-count-clause-cause : goal.returns-in_err-count-clause-cause
 returns-in_err-count-clause-cause g c =
     let at = g.D.Chip.told in
     let stop = err_from_is_err_and c.from_residual.result c.from_residual.ensures.1 in
-    rw stop.1 (subst (λ (s : Stop). StopCause g.S.Store.keeping (at c.args.desk.now) (at c.take_next.new.desk) s) (sym stop.2)
-    (cause_earlier g.S.Store.keeping (at c.args.desk.now) (at c.loop-total.desk) (at c.take_next.new.desk) _ c.loop-total.invariant.further c.in_err-count.ensures.along.cause))
+    rw stop.1 (subst (λ (s : Stop). StopCause (g.S.Store.keeping g.places) (at c.args.desk.now) (at c.take_next.new.desk) s) (sym stop.2)
+    (cause_earlier (g.S.Store.keeping g.places) (at c.args.desk.now) (at c.loop-total.desk) (at c.take_next.new.desk) _ c.loop-total.invariant.further c.in_err-count.ensures.along.cause))
 
 pub returns-then-count-eq0-clause-run : goal.returns-then-count-eq0-clause-run
 returns-then-count-eq0-clause-run g c = λ limits state h holds source left.
-    let k = g.S.Store.keeping in
+    let k = g.S.Store.keeping g.places in
     let at = g.D.Chip.told in
     let t = c.take_next in
     let a = c.answer_line in
@@ -111,19 +111,19 @@ returns-then-count-eq0-clause-completes g c = λ limits keeps.
 
 pub returns-clause-tidy : goal.returns-clause-tidy
 returns-clause-tidy g c =
-    tidy_part g.S.Store.keeping c.args.store.now c.loop-total.store (g.D.Chip.told c.args.desk.now) (g.D.Chip.told c.loop-total.desk) true c.loop-total.invariant.tidy
+    tidy_part (g.S.Store.keeping g.places) c.args.store.now c.loop-total.store (g.D.Chip.told c.args.desk.now) (g.D.Chip.told c.loop-total.desk) true c.loop-total.invariant.tidy
 
 pub returns-in_err-count-clause-tidy : goal.returns-in_err-count-clause-tidy
 returns-in_err-count-clause-tidy g c =
     let at = g.D.Chip.told in
     let stop = err_from_is_err_and c.from_residual.result c.from_residual.ensures.1 in
-    rw stop.1 (tidy_then g.S.Store.keeping c.args.store.now c.loop-total.store c.take_next.new.store (at c.args.desk.now) (at c.loop-total.desk) (at c.take_next.new.desk) false
+    rw stop.1 (tidy_then (g.S.Store.keeping g.places) c.args.store.now c.loop-total.store c.take_next.new.store (at c.args.desk.now) (at c.loop-total.desk) (at c.take_next.new.desk) false
     c.loop-total.invariant.tidy c.in_err-count.ensures.along.tidy)
 
 pub returns-then-count-eq0-clause-tidy : goal.returns-then-count-eq0-clause-tidy
 returns-then-count-eq0-clause-tidy g c =
     let at = g.D.Chip.told in
-    let k = g.S.Store.keeping in
+    let k = g.S.Store.keeping g.places in
     let t = c.take_next.new in
     let a = c.answer_line in
     tidy_then k c.args.store.now t.store a.new.store (at c.args.desk.now) (at t.desk) (at a.new.desk) (is_ok a.result)

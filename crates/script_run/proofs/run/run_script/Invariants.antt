@@ -11,12 +11,12 @@ use Rattle.script_run.proofs.run.run_script.Given as goal
 abbrev pub invariant-loop-total : goal.invariant-loop-total
 invariant-loop-total g l =
     let told = g.D.Chip.told in
-    let k = g.S.Store.keeping in
+    let k = g.S.Store.keeping g.places in
     record {
       running : (limits : Limits) (state : State) (h : History) → k.holds limits l.fn.store (told l.fn.desk) h state → (source : List ℕ) → (told l.fn.desk).beside.left ≡ Some source
           → Running k limits state source l.fn.store h l.store l.line (told l.fn.desk) (told l.desk);
       tidy : LeavesTidy k l.fn.store l.store (told l.fn.desk) (told l.desk) true;
-      suited : (places : ℕ) → k.suits l.fn.store places → k.suits l.store places;
+      suited : k.suits l.fn.store → k.suits l.store;
       further : Further (told l.fn.desk) (told l.desk);
       bytes : Grew (told l.fn.desk).beside.script_bytes l.total (told l.desk).beside.script_bytes;
       read : HasRead l.total (told l.fn.desk) (told l.desk);
@@ -27,3 +27,9 @@ invariant-loop-total g l =
 
 abbrev pub decreases-loop-total : goal.decreases-loop-total
 decreases-loop-total g l = 4294967295 - l.total
+
+abbrev pub ghost-take_next : goal.ghost-take_next
+ghost-take_next g a = g.places
+
+abbrev pub ghost-answer_line : goal.ghost-answer_line
+ghost-answer_line g a = g.places

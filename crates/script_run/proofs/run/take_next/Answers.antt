@@ -11,7 +11,7 @@ use Rattle.script_run.proofs.run.take_next.Goals as goal
 
 pub returns-in_err-take_piece-in-Ok-clause-takes : goal.returns-in_err-take_piece-in-Ok-clause-takes
 returns-in_err-take_piece-in-Ok-clause-takes g c = λ limits state h holds source left.
-    let k = g.S.Store.keeping in
+    let k = g.S.Store.keeping g.places in
     let at = g.D.Chip.told in
     let r = c.in-Ok.ensures in
     let t = c.take_piece in
@@ -26,7 +26,7 @@ returns-in_err-take_piece-in-Ok-clause-takes g c = λ limits state h holds sourc
 
 pub returns-in_ok-take_piece-in-Ok-clause-takes : goal.returns-in_ok-take_piece-in-Ok-clause-takes
 returns-in_ok-take_piece-in-Ok-clause-takes g c = λ limits state h holds source left.
-    let k = g.S.Store.keeping in
+    let k = g.S.Store.keeping g.places in
     let at = g.D.Chip.told in
     let r = c.in-Ok.ensures in
     let t = c.take_piece in
@@ -38,7 +38,7 @@ returns-in_ok-take_piece-in-Ok-clause-takes g c = λ limits state h holds source
 
 pub returns-in-Err-clause-takes : goal.returns-in-Err-clause-takes
 returns-in-Err-clause-takes g c = λ limits state h holds source left.
-    let k = g.S.Store.keeping in
+    let k = g.S.Store.keeping g.places in
     let old = g.D.Chip.told c.args.desk.now in
     let new = g.D.Chip.told c.read_script.new.self in
     let r = c.in-Err.ensures in

@@ -13,7 +13,7 @@ use Rattle.script_run.proofs.run.take_piece.Goals as goal
 
 pub loop-count-init : goal.loop-count-init
 loop-count-init g c = record {
-  goes = λ limits state h holds. goes_none g.S.Store.keeping limits state c.args.line.now c.args.store.now h (g.D.Chip.told c.args.desk.now) holds;
+  goes = λ limits state h holds. goes_none (g.S.Store.keeping g.places) limits state c.args.line.now c.args.store.now h (g.D.Chip.told c.args.desk.now) holds;
   along = along_none;
   completes = λ limits keeps. completes_none keeps;
   inside = omega arith;
@@ -24,7 +24,7 @@ loop-count-preserved g c =
     let was = c.loop-count.invariant in
     let t = c.end_line in
     let told_of = g.D.Chip.told in
-    let k = g.S.Store.keeping in
+    let k = g.S.Store.keeping g.places in
     let place = c.loop-count.at + c.in-Some.count in
     let there = feed_at c.args.piece.now c.loop-count.at c.in-Some.count c.in-Some.ensures in record {
       goes = λ limits state h holds.
@@ -43,7 +43,7 @@ loop-count-preserved g c =
 pub returns-in_err-end_line-clause-takes : goal.returns-in_err-end_line-clause-takes
 returns-in_err-end_line-clause-takes g c = λ limits state h holds.
     let told_of = g.D.Chip.told in
-    let k = g.S.Store.keeping in
+    let k = g.S.Store.keeping g.places in
     let t = c.end_line in
     let place = c.loop-count.at + c.in-Some.count in
     let there = feed_at c.args.piece.now c.loop-count.at c.in-Some.count c.in-Some.ensures in
@@ -69,7 +69,7 @@ returns-in_err-end_line-clause-completes g c = λ limits keeps.
 pub returns-clause-takes : goal.returns-clause-takes
 returns-clause-takes g c = λ limits state h holds.
     let told_of = g.D.Chip.told in
-    goes_behind g.S.Store.keeping limits state c.args.line.now c.args.piece.now c.loop-count.at c.args.store.now c.loop-count.store h c.loop-count.line c.extend-2.new.self (told_of c.args.desk.now) (told_of c.loop-count.desk)
+    goes_behind (g.S.Store.keeping g.places) limits state c.args.line.now c.args.piece.now c.loop-count.at c.args.store.now c.loop-count.store h c.loop-count.line c.extend-2.new.self (told_of c.args.desk.now) (told_of c.loop-count.desk)
     (λ n is. c.in_default.not-Some n (c.line_feed.ensures ∙ is)) c.extend-2.ensures (c.loop-count.invariant.goes limits state h holds)
 
 pub returns-clause-along : goal.returns-clause-along

@@ -10,7 +10,7 @@ use Rattle.script_run.proofs.run.take_piece.Given as goal
 abbrev pub invariant-loop-count : goal.invariant-loop-count
 invariant-loop-count g l =
     let told = g.D.Chip.told in
-    let k = g.S.Store.keeping in
+    let k = g.S.Store.keeping g.places in
     record {
       goes : (limits : Limits) (state : State) (h : History) → k.holds limits l.fn.store (told l.fn.desk) h state
           → Goes k limits state l.fn.line (take l.at l.piece) l.fn.store h l.store l.line (told l.fn.desk) (told l.desk);
@@ -21,3 +21,6 @@ invariant-loop-count g l =
 
 abbrev pub decreases-loop-count : goal.decreases-loop-count
 decreases-loop-count g l = length l.piece - l.at
+
+abbrev pub ghost-end_line : goal.ghost-end_line
+ghost-end_line g a = g.places

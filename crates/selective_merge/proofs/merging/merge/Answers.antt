@@ -1,4 +1,4 @@
-use Rattle.std.proofs.Common.{◌∙◌, refl, List, length, slice_index, ℕ, subst}
+use Rattle.std.proofs.Common.{◌∙◌, refl, ap, List, length, slice_index, ℕ, subst}
 use Rattle.std.proofs.lemmas.Result.{err_from_is_err_and}
 use Rattle.std.specs.Prelude.{is_ok}
 use Rattle.selective_merge.specs.Homes.{from_home}
@@ -10,7 +10,8 @@ use Rattle.selective_merge.specs.Merging.{CarriesFew, MergesFrom, MergesFromInSt
 use Rattle.selective_merge.specs.Moving.{tables_of}
 use Rattle.selective_merge.specs.Throughout.{ChartsThroughout}
 use Rattle.selective_merge.proofs.FewLemmas.{few_unread}
-use Rattle.selective_merge.proofs.SpendLemmas.{for_read, erases_for_behind}
+use Rattle.place_taking.specs.Spending.{is_worn_out, tells_worn}
+use Rattle.selective_merge.proofs.SpendLemmas.{for_read, erases_for_behind, read_not_worn}
 use Rattle.selective_merge.proofs.WholeLemmas.{merge_behind, merged_told, merge_unread, told_unread}
 use Rattle.merge_rules.proofs.FaultLemmas.{fault_unread}
 use Rattle.selective_merge.proofs.CompleteLemmas.{merge_told, merge_completes, spared_behind}
@@ -72,16 +73,21 @@ returns-clause-tells g c =
 pub returns-in_err-home-clause-costs : goal.returns-in_err-home-clause-costs
 returns-in_err-home-clause-costs g c =
     let e = err_from_is_err_and c.from_residual.result c.from_residual.ensures.1 in
-    rw e.1 (for_read (IsLogRead (slice_index c.args.parts.now.directory.current c.args.unit)
-    (spots_in c.args.parts.now.overflow c.args.unit))
-    (tables_of c.args.parts.now).places _ (g.C.Chip.told c.args.chip.now)
-    (g.C.Chip.told c.learn.new.chip) c.in_err-home.ensures.looks.reads)
+    let At = IsLogRead (slice_index c.args.parts.now.directory.current c.args.unit)
+    (spots_in c.args.parts.now.overflow c.args.unit) in
+    let old = g.C.Chip.told c.args.chip.now in
+    let new = g.C.Chip.told c.learn.new.chip in
+    rw e.1 (for_read At (tables_of c.args.parts.now).places _ (tells_worn e.0) old new
+    (ap tells_worn e.2
+    ∙ read_not_worn At c.in_err-home.field-0.0 old new c.in_err-home.ensures.looks.cause)
+    c.in_err-home.ensures.looks.reads)
 
 pub returns-clause-costs : goal.returns-clause-costs
 returns-clause-costs g c =
     erases_for_behind (IsLogRead (slice_index c.args.parts.now.directory.current c.args.unit)
     (spots_in c.args.parts.now.overflow c.args.unit))
-    (tables_of c.args.parts.now).places _ (is_ok c.merge_known.result)
+    (tables_of c.args.parts.now).places (tables_of c.merge_known.new.parts).places _
+    (is_ok c.merge_known.result) (is_worn_out c.merge_known.result)
     (g.C.Chip.told c.args.chip.now) (g.C.Chip.told c.learn.new.chip)
     (g.C.Chip.told c.merge_known.new.chip) c.in_ok-home.ensures.looks.reads
     c.merge_known.ensures.costs

@@ -24,7 +24,7 @@ returns-then-not-pack_carried-clause-tells g c = λ soft x told.
 
 pub returns-then-not-pack_carried-clause-holds : goal.returns-then-not-pack_carried-clause-holds
 returns-then-not-pack_carried-clause-holds g c =
-    record { active = refl; status = refl; known = c.requires.known }
+    record { units = refl; active = refl; status = refl; known = c.requires.known }
 
 pub returns-then-not-pack_carried-clause-costs : goal.returns-then-not-pack_carried-clause-costs
 returns-then-not-pack_carried-clause-costs g c =

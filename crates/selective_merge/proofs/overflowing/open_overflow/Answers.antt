@@ -1,62 +1,85 @@
-use Rattle.std.proofs.Common.{true, ◌≡◌, ◌+◌, ℕ, false, Ok, Err, refl, sym, ◌∙◌, ap, subst, arith}
+use Rattle.std.proofs.Common.{true, ◌≡◌, ◌+◌, ℕ, false, length, Ok, Err, inl, refl, sym, ◌∙◌, ap, subst, arith}
 use Rattle.std.proofs.lemmas.Result.{err_from_is_err_and}
+use Rattle.chip_trait.proofs.CountsLemmas.{counts_then}
 use Rattle.ipl_base.specs.declared.spot.Spot.{Spot}
 use Rattle.ipl_meaning.specs.Chart.{chart_of}
 use Rattle.ipl_meaning.specs.Rests.{now}
 use Rattle.ipl_meaning.specs.Tables.{Places, with_use, with_erased}
-use Rattle.ipl_meaning.specs.TableSteps.{taken, with_overflow}
+use Rattle.ipl_meaning.specs.TableSteps.{taken, with_next, with_overflow}
 use Rattle.unit_io.specs.Spots.{IsSpot}
+use Rattle.place_taking.specs.Spending.{tells_worn}
+use Rattle.place_taking.specs.Takes.{IsTakenFrom, with_places}
+use Rattle.place_taking.proofs.JoinLemmas.{costs_of_filled, fills_programs, taken_was_free, taken_within, tidy_taken}
+use Rattle.unit_directory.specs.Free.{aside}
 use Rattle.merge_rules.specs.Known.{KnowsPlaces}
-use Rattle.place_taking.proofs.JoinLemmas.{costs_of_filled, fills_programs, tidy_taken}
-use Rattle.selective_merge.specs.Moving.{tables_of}
+use Rattle.selective_merge.specs.Moving.{tables_of, set_aside}
 use Rattle.selective_merge.specs.Placing.{RestsOpened}
-use Rattle.selective_merge.proofs.HeldLemmas.{given_back, erases_then, held_back}
-use Rattle.selective_merge.proofs.SpendLemmas.{frees_once, frees_untaken}
+use Rattle.selective_merge.proofs.HeldLemmas.{given_back, erases_then, held_aside, held_back, known_aside, units_aside}
+use Rattle.selective_merge.proofs.SpendLemmas.{frees_for, frees_untaken}
 use Rattle.selective_merge.proofs.OverflowLemmas.{opened_mirrors, opened_says, opened_steps, open_failed, taken_told, tables_same}
-use Rattle.selective_merge.proofs.TakenLemmas.{has_counts, untaken_tables, same_tables, steps_not, told_not}
+use Rattle.selective_merge.proofs.TakenLemmas.{aside_mirrors, has_counts, steps_not, told_not, untaken_tables}
 use Rattle.selective_merge.proofs.TidyLemmas.{opens_tidily, gives_back_tidily, untaken_tidily}
 use Rattle.selective_merge.proofs.overflowing.open_overflow.Goals as goal
 
 pub take_place-requires-clause-places : goal.take_place-requires-clause-places
 take_place-requires-clause-places g c = c.requires.known.suits.all
 
-pub take_place-requires-clause-free : goal.take_place-requires-clause-free
-take_place-requires-clause-free g c =
-    c.known_laws.ensures.free _ (tables_of c.args.parts.now) c.requires.known
+pub take_place-requires-clause-ready : goal.take_place-requires-clause-ready
+take_place-requires-clause-ready g c =
+    c.known_laws.ensures.ready _ (tables_of c.args.parts.now) c.requires.known
+
+pub write_overflow-requires : goal.write_overflow-requires
+write_overflow-requires g c =
+    let within = taken_within _ _ _ c.in_ok-place.ensures.taken in
+    omega (arith, within, c.requires.known.suits.all, c.in_ok-place.ensures.accounts.counts.places)
+
+pub add_place-requires-clause-place : goal.add_place-requires-clause-place
+add_place-requires-clause-place g c =
+    let within = taken_within _ _ _ c.in_ok-place.ensures.taken in
+    omega (arith, within, c.requires.known.suits.all, c.requires.known.suits.sized)
 
 pub returns-in-Ok-clause-opened : goal.returns-in-Ok-clause-opened
-returns-in-Ok-clause-opened g c = (
-  refl,
-  c.in_ok-place.ensures.taken.next.free,
-  tables_same (tables_of c.args.parts.now) _ _ _ _ _ _ c.in_ok-place.ensures.taken.places_is
-      c.add_place.ensures c.draw-generation.ensures.next,
-)
+returns-in-Ok-clause-opened g c =
+    let taken_so = c.in_ok-place.ensures.taken in (
+      refl,
+      record {
+        worn = taken_so.worn;
+        in_turn = taken_so.in_turn;
+        next_free = taken_so.next;
+        tables_are = tables_same (tables_of c.args.parts.now) _ _ _ _ _ _ taken_so.places_is
+            c.add_place.ensures c.draw-generation.ensures.next;
+      },
+    )
 
 pub returns-in-Ok-clause-tells : goal.returns-in-Ok-clause-tells
 returns-in-Ok-clause-tells g c = λ x told.
     let t = tables_of c.args.parts.now in
     let p = c.in_ok-place.place in
+    let taken_so = c.in_ok-place.ensures.taken in
+    let between = set_aside t taken_so.worn in
     let drawn = c.draw-generation.result in
     let (y, told_y, opened) = taken_told p _ _ drawn (g.C.Chip.told c.args.chip.now)
     (g.C.Chip.told c.take_place.new.chip) (g.C.Chip.told c.write_overflow.new.chip)
     c.in_ok-place.ensures.tells c.in-Ok.ensures.tells x told in
-    let after : _ ≡ with_overflow (taken t p) p (drawn + 1) =
-    tables_same t _ _ _ _ _ _ c.in_ok-place.ensures.taken.places_is c.add_place.ensures
+    let after : _ ≡ with_overflow (taken between p) p (drawn + 1) =
+    tables_same t _ _ _ _ _ _ taken_so.places_is c.add_place.ensures
     (c.draw-generation.ensures.next
     ∙ ap (λ (n : ℕ). n + 1) (sym c.draw-generation.ensures.drawn)) in (
       y,
       told_y,
       λ it mirrors.
-          let there = opened_mirrors _ p _ _ drawn (chart_of x) (chart_of y) it t mirrors
-          c.in_ok-place.ensures.taken.next.free
-          (omega (arith, c.in_ok-place.ensures.taken.next.within, c.requires.known.suits.all))
+          let there = opened_mirrors _ p _ _ drawn (chart_of x) (chart_of y) it between
+          (aside_mirrors _ (chart_of x) it t taken_so.worn mirrors taken_so.in_turn)
+          taken_so.next.free
+          (omega (arith, taken_within _ _ _ taken_so, c.requires.known.suits.all))
           (omega (arith, c.draw-generation.ensures.drawn)) c.requires.two opened in (
             rw after there.0,
             there.1,
-            opened_says p _ _ drawn (chart_of x) (chart_of y) t _ (drawn + 1)
-                (has_counts t c.take_place.new.directory p c.units-units.result c.erases-erases.result
-                c.in_ok-place.ensures.taken.places_is c.units-units.ensures c.erases-erases.ensures)
-                after opened,
+            opened_says p _ _ drawn (chart_of x) (chart_of y) between _ (drawn + 1)
+                (has_counts between c.take_place.new.directory p c.units-units.result c.erases-erases.result
+                taken_so.places_is
+                (c.units-units.ensures ∙ sym (units_aside t taken_so.worn taken_so.in_turn))
+                c.erases-erases.ensures) after opened,
           ),
     )
 
@@ -64,62 +87,76 @@ pub returns-in-Ok-clause-steps : goal.returns-in-Ok-clause-steps
 returns-in-Ok-clause-steps g c = λ m it h steady rests agrees.
     let t = tables_of c.args.parts.now in
     let p = c.in_ok-place.place in
+    let taken_so = c.in_ok-place.ensures.taken in
+    let between = set_aside t taken_so.worn in
     let drawn = c.draw-generation.result in
-    opened_steps p _ _ drawn m it t _ h (g.C.Chip.told c.args.chip.now)
+    opened_steps p _ _ drawn m it t _ taken_so.worn c.take_place.new.directory h
+    (g.C.Chip.told c.args.chip.now)
     (g.C.Chip.told c.take_place.new.chip) (g.C.Chip.told c.write_overflow.new.chip)
-    c.in_ok-place.ensures.taken.next steady (record { rests = rests; agrees = agrees })
+    taken_so.in_turn taken_so.next.free steady (record { rests = rests; agrees = agrees })
     c.in_ok-place.ensures.takes c.in_ok-place.ensures.accounts.counts c.in-Ok.ensures.opens Spot
     (record { place = p; sector = 1 })
-    (omega (arith, c.in_ok-place.ensures.taken.next.within, c.requires.known.suits.all))
+    (omega (arith, taken_within _ _ _ taken_so, c.requires.known.suits.all))
     (omega (arith, c.draw-generation.ensures.drawn)) c.requires.two
-    (tables_same t _ _ _ _ _ _ c.in_ok-place.ensures.taken.places_is c.add_place.ensures
+    (tables_same t _ _ _ _ _ _ taken_so.places_is c.add_place.ensures
     (c.draw-generation.ensures.next
     ∙ ap (λ (n : ℕ). n + 1) (sym c.draw-generation.ensures.drawn)))
-    (has_counts t c.take_place.new.directory p c.units-units.result c.erases-erases.result
-    c.in_ok-place.ensures.taken.places_is c.units-units.ensures c.erases-erases.ensures)
+    (has_counts between c.take_place.new.directory p c.units-units.result c.erases-erases.result
+    taken_so.places_is
+    (c.units-units.ensures ∙ sym (units_aside t taken_so.worn taken_so.in_turn))
+    c.erases-erases.ensures)
 
 pub returns-in-Ok-clause-holds : goal.returns-in-Ok-clause-holds
 returns-in-Ok-clause-holds g c =
     let t = tables_of c.args.parts.now in
     let places = (g.C.Chip.told c.args.chip.now).places in
-    let p = c.in_ok-place.place in record {
+    let p = c.in_ok-place.place in
+    let taken_so = c.in_ok-place.ensures.taken in record {
+      units = ap (λ (d : Places). length d.current) taken_so.places_is
+          ∙ units_aside t taken_so.worn taken_so.in_turn;
       active = refl;
       status = refl;
       known = subst (KnowsPlaces places)
-          (sym (tables_same t _ _ _ _ _ _ c.in_ok-place.ensures.taken.places_is c.add_place.ensures refl))
-          (c.known_laws.ensures.overflows places t p c.draw-generation.new.self c.requires.known
-          (omega (arith, c.in_ok-place.ensures.taken.next.within, c.requires.known.suits.all))
-          c.in_ok-place.ensures.taken.next.free c.requires.two);
+          (sym (tables_same t _ _ _ _ _ _ taken_so.places_is c.add_place.ensures refl))
+          (c.known_laws.ensures.overflows places (set_aside t taken_so.worn) p
+          c.draw-generation.new.self
+          (known_aside places t taken_so.worn c.requires.known taken_so.in_turn)
+          (omega (arith, taken_within _ _ _ taken_so, c.requires.known.suits.all))
+          taken_so.next.free c.requires.two);
     }
 
 pub returns-in-Err-clause-steps : goal.returns-in-Err-clause-steps
 returns-in-Err-clause-steps g c = λ m it h steady rests agrees.
     let t = tables_of c.args.parts.now in
     let p = c.in_ok-place.place in
-    open_failed p _ _ c.draw-generation.result m it t _ h (g.C.Chip.told c.args.chip.now)
+    open_failed p _ _ c.draw-generation.result m it t _ c.take_place.new.directory h
+    (g.C.Chip.told c.args.chip.now)
     (g.C.Chip.told c.take_place.new.chip) (g.C.Chip.told c.write_overflow.new.chip)
-    c.in_ok-place.ensures.taken.next steady (record { rests = rests; agrees = agrees })
+    (taken_was_free _ _ _ c.in_ok-place.ensures.taken) steady (record { rests = rests; agrees = agrees })
     c.in_ok-place.ensures.takes c.in_ok-place.ensures.accounts.counts Spot c.in-Err.fault
     c.in-Err.fault c.in-Err.ensures.accounts.cause c.in-Err.ensures.opens
 
 pub returns-in-Err-clause-tells : goal.returns-in-Err-clause-tells
 returns-in-Err-clause-tells g c = λ soft. absurd (soft c.in-Err.ensures.accounts.cause.0)
 
+-- given back, it is as it was with the others set aside, but for the erase
+back_is : (d then after : Places) (p : ℕ) → (taken : IsTakenFrom d p then) → after ≡ with_use then p false
+    → after ≡ with_erased (aside d taken.worn) p
+back_is d then after p taken is =
+    is ∙ (ap (λ (e : Places). with_use e p false) taken.places_is
+    ∙ given_back (aside d taken.worn) p taken.next.within taken.next.free)
+
 pub returns-in-Err-clause-holds : goal.returns-in-Err-clause-holds
 returns-in-Err-clause-holds g c =
     let t = tables_of c.args.parts.now in
     let p = c.in_ok-place.place in
+    let taken_so = c.in_ok-place.ensures.taken in
+    let between = set_aside t taken_so.worn in
     let next = c.draw-generation.new.self in
-    let back : c.give_back.new.self ≡ with_erased t.places p =
-    c.give_back.ensures ∙ (ap (λ (d : Places). with_use d p false) c.in_ok-place.ensures.taken.places_is
-    ∙ given_back t.places p c.in_ok-place.ensures.taken.next.within c.in_ok-place.ensures.taken.next.free) in
-    held_back _ t _ (erases_then t p) next (ap (λ (d : Places). record {
-      places = d;
-      overflow = t.overflow;
-      status = t.status;
-      next = next;
-      active = t.active;
-    }) back) c.requires.known
+    held_aside _ t _ taken_so.worn taken_so.in_turn (held_back _ between _ (erases_then between p) next
+    (ap (λ (d : Places). with_next (with_places t d) next)
+    (back_is _ _ c.give_back.new.self p taken_so c.give_back.ensures))
+    (known_aside _ t taken_so.worn c.requires.known taken_so.in_turn))
 
 pub returns-in-Ok-clause-costs : goal.returns-in-Ok-clause-costs
 returns-in-Ok-clause-costs g c =
@@ -127,9 +164,10 @@ returns-in-Ok-clause-costs g c =
     let mid = g.C.Chip.told c.take_place.new.chip in
     let new = g.C.Chip.told c.write_overflow.new.chip in
     let d = (tables_of c.args.parts.now).places in
+    let then = c.take_place.new.directory in
     let p = c.in_ok-place.place in
-    frees_once d p true old new c.in_ok-place.ensures.taken.next
-    (costs_of_filled d p 2 true old mid new c.in_ok-place.ensures.taken.next
+    frees_for d then p true false old new
+    (costs_of_filled d then then p 2 true false old mid new refl refl
     c.in_ok-place.ensures.costs (fills_programs p 1 2 3 mid new c.in-Ok.ensures.costs))
 
 pub returns-in-Err-clause-costs : goal.returns-in-Err-clause-costs
@@ -138,9 +176,13 @@ returns-in-Err-clause-costs g c =
     let mid = g.C.Chip.told c.take_place.new.chip in
     let new = g.C.Chip.told c.write_overflow.new.chip in
     let d = (tables_of c.args.parts.now).places in
+    let then = c.give_back.new.self in
     let p = c.in_ok-place.place in
-    frees_once d p false old new c.in_ok-place.ensures.taken.next
-    (costs_of_filled d p 2 false old mid new c.in_ok-place.ensures.taken.next
+    let worn_out = tells_worn c.in-Err.fault in
+    frees_for d then p false worn_out old new
+    (costs_of_filled d c.take_place.new.directory then p 2 false worn_out old mid new
+    (ap (λ (e : Places). e.retired) c.give_back.ensures)
+    (ap tells_worn c.in-Err.ensures.accounts.cause.0)
     c.in_ok-place.ensures.costs (fills_programs p 1 2 3 mid new c.in-Err.ensures.costs))
 
 pub returns-in-Ok-clause-tidy : goal.returns-in-Ok-clause-tidy
@@ -149,11 +191,12 @@ returns-in-Ok-clause-tidy g c =
     let new = g.C.Chip.told c.write_overflow.new.chip in
     let t = tables_of c.args.parts.now in
     let p = c.in_ok-place.place in
-    opens_tidily old.places t c.requires.known p c.in_ok-place.ensures.taken.next.free Spot _
+    let taken_so = c.in_ok-place.ensures.taken in
+    opens_tidily old.places t c.requires.known taken_so.worn taken_so.in_turn p Spot _
     c.draw-generation.new.self (Ok (record { place = p; sector = 1 })) old new
-    (tables_same t _ _ _ _ _ _ c.in_ok-place.ensures.taken.places_is c.add_place.ensures refl)
+    (tables_same t _ _ _ _ _ _ taken_so.places_is c.add_place.ensures refl)
     (tidy_taken t.places p 1 (IsSpot 0) true true old (g.C.Chip.told c.take_place.new.chip) new
-    c.in_ok-place.ensures.taken.next (λ s above spot. omega (arith, above, spot))
+    (taken_was_free _ _ _ taken_so) (λ s above spot. omega (arith, above, spot))
     c.in_ok-place.ensures.tidy c.in-Ok.ensures.tidy)
 
 pub returns-in-Err-clause-tidy : goal.returns-in-Err-clause-tidy
@@ -162,21 +205,25 @@ returns-in-Err-clause-tidy g c =
     let new = g.C.Chip.told c.write_overflow.new.chip in
     let t = tables_of c.args.parts.now in
     let p = c.in_ok-place.place in
+    let taken_so = c.in_ok-place.ensures.taken in
+    let between = set_aside t taken_so.worn in
     let next = c.draw-generation.new.self in
-    let back : c.give_back.new.self ≡ with_erased t.places p =
-    c.give_back.ensures ∙ (ap (λ (d : Places). with_use d p false) c.in_ok-place.ensures.taken.places_is
-    ∙ given_back t.places p c.in_ok-place.ensures.taken.next.within c.in_ok-place.ensures.taken.next.free) in
-    gives_back_tidily old.places t c.requires.known p c.in_ok-place.ensures.taken.next.free Spot _ (erases_then t p) 1 next
-    (Err c.in-Err.fault) old new (ap (λ (d : Places). record {
-      places = d;
-      overflow = t.overflow;
-      status = t.status;
-      next = next;
-      active = t.active;
-    }) back)
+    gives_back_tidily old.places t c.requires.known taken_so.worn taken_so.in_turn p Spot _
+    (erases_then between p) 1 next (Err c.in-Err.fault) old new
+    (ap (λ (d : Places). with_next (with_places t d) next)
+    (back_is _ _ c.give_back.new.self p taken_so c.give_back.ensures))
     (tidy_taken t.places p 1 (IsSpot 0) false false old (g.C.Chip.told c.take_place.new.chip) new
-    c.in_ok-place.ensures.taken.next (λ s above spot. omega (arith, above, spot))
+    (taken_was_free _ _ _ taken_so) (λ s above spot. omega (arith, above, spot))
     c.in_ok-place.ensures.tidy c.in-Err.ensures.tidy)
+
+pub returns-in-Err-clause-accounts : goal.returns-in-Err-clause-accounts
+returns-in-Err-clause-accounts g c =
+    let counts = c.in_ok-place.ensures.accounts.counts in
+    let cause = c.in-Err.ensures.accounts.cause in record {
+      counts = counts_then (g.C.Chip.told c.args.chip.now) (g.C.Chip.told c.take_place.new.chip)
+          (g.C.Chip.told c.write_overflow.new.chip) counts c.in-Err.ensures.accounts.counts;
+      cause = inl (cause.0, omega (arith, cause.1, counts.writes));
+    }
 
 -- ---- no place was taken
 
@@ -186,10 +233,11 @@ returns-in_err-place-clause-steps g c = λ m it h steady rests agrees.
     let next = c.draw-generation.new.self in
     let old = g.C.Chip.told c.args.chip.now in
     let e = err_from_is_err_and c.from_residual.result c.from_residual.ensures.1 in
-    let after = untaken_tables t c.take_place.new.directory next in
-    rw e.1 (steps_not (λ (spot : Spot) k. RestsOpened old.places m (now h) it after spot.place k) m it t after next h
-    c.in_err-place.field-0.0 e.0 old (g.C.Chip.told c.take_place.new.chip)
-    (same_tables t c.take_place.new.directory next c.in_err-place.ensures.same)
+    let d = c.take_place.new.directory in
+    let after = untaken_tables t d next in
+    rw e.1 (steps_not (λ (spot : Spot) k. RestsOpened old.places m (now h) it after spot.place k) d m it t
+    after next h c.in_err-place.field-0.0 e.0 old (g.C.Chip.told c.take_place.new.chip)
+    c.in_err-place.ensures.aside refl
     (omega (arith, c.draw-generation.ensures.drawn, c.draw-generation.ensures.next)) steady rests
     agrees c.in_err-place.ensures.takes)
 
@@ -199,8 +247,8 @@ returns-in_err-place-clause-tells g c =
     let next = c.draw-generation.new.self in
     let old = g.C.Chip.told c.args.chip.now in
     let e = err_from_is_err_and c.from_residual.result c.from_residual.ensures.1 in
-    rw e.1 (λ soft. told_not old.places t _ next old (g.C.Chip.told c.take_place.new.chip)
-    (same_tables t c.take_place.new.directory next c.in_err-place.ensures.same)
+    rw e.1 (λ soft. told_not old.places t _ c.take_place.new.directory next old
+    (g.C.Chip.told c.take_place.new.chip) c.in_err-place.ensures.aside refl
     (omega (arith, c.draw-generation.ensures.drawn, c.draw-generation.ensures.next))
     (c.in_err-place.ensures.tells (λ is. soft (e.2 ∙ is))))
 
@@ -208,20 +256,25 @@ pub returns-in_err-place-clause-holds : goal.returns-in_err-place-clause-holds
 returns-in_err-place-clause-holds g c =
     let t = tables_of c.args.parts.now in
     let next = c.draw-generation.new.self in
-    held_back _ t _ t.places.erases next
-    (same_tables t c.take_place.new.directory next c.in_err-place.ensures.same) c.requires.known
+    let aside_so = c.in_err-place.ensures.aside in
+    held_aside _ t _ aside_so.worn aside_so.in_turn (held_back _ (set_aside t aside_so.worn) _
+    (set_aside t aside_so.worn).places.erases next
+    (ap (λ (d : Places). with_next (with_places t d) next) aside_so.places_is)
+    (known_aside _ t aside_so.worn c.requires.known aside_so.in_turn))
 
 pub returns-in_err-place-clause-costs : goal.returns-in_err-place-clause-costs
 returns-in_err-place-clause-costs g c =
-    frees_untaken (tables_of c.args.parts.now).places (g.C.Chip.told c.args.chip.now)
-    (g.C.Chip.told c.take_place.new.chip) c.in_err-place.ensures.costs
+    let e = err_from_is_err_and c.from_residual.result c.from_residual.ensures.1 in
+    rw (e.1 ∙ ap Err e.2) (frees_untaken (tables_of c.args.parts.now).places
+    c.take_place.new.directory c.in_err-place.field-0.0 (g.C.Chip.told c.args.chip.now)
+    (g.C.Chip.told c.take_place.new.chip) c.in_err-place.ensures.costs)
 
 pub returns-in_err-place-clause-tidy : goal.returns-in_err-place-clause-tidy
 returns-in_err-place-clause-tidy g c =
     let t = tables_of c.args.parts.now in
     let next = c.draw-generation.new.self in
     let e = err_from_is_err_and c.from_residual.result c.from_residual.ensures.1 in
-    rw e.1 (untaken_tidily (g.C.Chip.told c.args.chip.now).places t c.requires.known Spot _ next
-    (Err e.0) (g.C.Chip.told c.args.chip.now) (g.C.Chip.told c.take_place.new.chip)
-    (same_tables t c.take_place.new.directory next c.in_err-place.ensures.same)
+    rw e.1 (untaken_tidily (g.C.Chip.told c.args.chip.now).places t c.requires.known
+    c.take_place.new.directory c.in_err-place.ensures.aside Spot _ next c.in_err-place.field-0.0
+    (Err e.0) (g.C.Chip.told c.args.chip.now) (g.C.Chip.told c.take_place.new.chip) refl
     c.in_err-place.ensures.tidy)

@@ -9,8 +9,7 @@ free_one-requires c =
     c.drop_unit-left.result 0 _ c.facts-2.ensures c.drop_unit-left.ensures.left
     (omega (
       arith,
-      c.requires.overflow,
-      c.facts.ensures.units,
+      c.requires.sized,
       in_use_moved c.args.parts.now.directory c.args.unit
           c.args.place c.args.generation c.args.used c.move_home.new.directory c.move_home.ensures,
     ))
@@ -22,8 +21,7 @@ free_one-requires-2 c =
     c.drop_unit-left.result 1 _ c.facts-2.ensures c.drop_unit-left.ensures.left
     (omega (
       arith,
-      c.requires.overflow,
-      c.facts.ensures.units,
+      c.requires.sized,
       first,
       in_use_moved c.args.parts.now.directory c.args.unit
           c.args.place c.args.generation c.args.used c.move_home.new.directory c.move_home.ensures,

@@ -55,7 +55,7 @@ returns-in-NewPlace-clause-spot g c =
     let after = tables_of c.open_overflow.new.parts in
     if_ok _ _ c.open_overflow.result
     (λ spot opened. inr (new_spot t after c.args.unit spot.place spot.sector _
-    c.in-NewPlace.ensures.0 opened.0 opened.2)) c.open_overflow.ensures.opened
+    c.in-NewPlace.ensures.0 opened.0 opened.1)) c.open_overflow.ensures.opened
 
 pub returns-in-Nothing-clause-steps : goal.returns-in-Nothing-clause-steps
 returns-in-Nothing-clause-steps g c =
@@ -85,13 +85,13 @@ returns-in-Clean-clause-costs g c =
 
 pub returns-in-NewPlace-clause-fault : goal.returns-in-NewPlace-clause-fault
 returns-in-NewPlace-clause-fault g c = λ x told it mirrors.
-    opened_alone _ (g.C.Chip.told c.args.chip.now) (g.C.Chip.told c.open_overflow.new.chip)
+    opened_alone _ c.open_overflow.new.parts.directory (g.C.Chip.told c.args.chip.now) (g.C.Chip.told c.open_overflow.new.chip)
     c.open_overflow.result c.open_overflow.ensures.accounts.cause
 
 pub returns-in-NewPlace-clause-accounts : goal.returns-in-NewPlace-clause-accounts
 returns-in-NewPlace-clause-accounts g c = record {
   counts = c.open_overflow.ensures.accounts.counts;
-  cause = opened_cause _ _ (g.C.Chip.told c.args.chip.now) (g.C.Chip.told c.open_overflow.new.chip)
+  cause = opened_cause c.open_overflow.new.parts.directory _ _ (g.C.Chip.told c.args.chip.now) (g.C.Chip.told c.open_overflow.new.chip)
       c.open_overflow.result c.open_overflow.ensures.accounts.cause;
 }
 

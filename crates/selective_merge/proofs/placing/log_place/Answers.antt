@@ -1,4 +1,4 @@
-use Rattle.std.proofs.Common.{slice_index, ◌<◌, ◌≤◌, ◌∙◌, ℕ, refl, subst, arith}
+use Rattle.std.proofs.Common.{slice_index, ◌<◌, ◌≤◌, ◌∙◌, ℕ, refl, ap, subst, arith}
 use Rattle.std.proofs.lemmas.Result.{err_from_is_err_and}
 use Rattle.overflow.specs.Lists.{spots_in}
 use Rattle.unit_log.specs.Looks.{IsLogRead}
@@ -9,7 +9,8 @@ use Rattle.selective_merge.specs.Spotting.{HasHomeSpot}
 use Rattle.selective_merge.specs.Throughout.{ChartsThroughout}
 use Rattle.selective_merge.proofs.PlacingLemmas.{placed_home, placed_few, placed_elsewhere}
 use Rattle.selective_merge.proofs.RoomLemmas.{Merged, if_ok, makes_none, told_none, makes_by_merge, told_by_merge, makes_unread, placed_behind, placed_told}
-use Rattle.selective_merge.proofs.SpendLemmas.{erases_free_behind, frees_none, frees_read}
+use Rattle.place_taking.specs.Spending.{is_worn_out, tells_worn}
+use Rattle.selective_merge.proofs.SpendLemmas.{erases_free_behind, frees_none, frees_read, read_not_worn}
 use Rattle.selective_merge.proofs.WholeLemmas.{told_unread}
 use Rattle.merge_rules.proofs.FaultLemmas.{fault_unread}
 use Rattle.selective_merge.proofs.CompleteLemmas.{fails_behind, fails_complete}
@@ -158,16 +159,22 @@ returns-in-Some-clause-costs g c =
 
 pub returns-in_err-home-clause-costs : goal.returns-in_err-home-clause-costs
 returns-in_err-home-clause-costs g c =
-    frees_read (IsLogRead (slice_index c.args.parts.now.directory.current c.args.unit)
-    (spots_in c.args.parts.now.overflow c.args.unit))
-    (tables_of c.args.parts.now).places (g.C.Chip.told c.args.chip.now)
-    (g.C.Chip.told c.learn.new.chip) c.in_err-home.ensures.looks.reads
+    let e = err_from_is_err_and c.from_residual.result c.from_residual.ensures.1 in
+    let At = IsLogRead (slice_index c.args.parts.now.directory.current c.args.unit)
+    (spots_in c.args.parts.now.overflow c.args.unit) in
+    let old = g.C.Chip.told c.args.chip.now in
+    let new = g.C.Chip.told c.learn.new.chip in
+    rw e.1 (frees_read At (tables_of c.args.parts.now).places (tells_worn e.0) old new
+    (ap tells_worn e.2
+    ∙ read_not_worn At c.in_err-home.field-0.0 old new c.in_err-home.ensures.looks.cause)
+    c.in_err-home.ensures.looks.reads)
 
 pub returns-then-carried-le-MERGE_THRESHOLD-clause-costs : goal.returns-then-carried-le-MERGE_THRESHOLD-clause-costs
 returns-then-carried-le-MERGE_THRESHOLD-clause-costs g c =
     erases_free_behind (IsLogRead (slice_index c.args.parts.now.directory.current c.args.unit)
     (spots_in c.args.parts.now.overflow c.args.unit))
-    (tables_of c.args.parts.now).places (g.C.Chip.told c.args.chip.now)
+    (tables_of c.args.parts.now).places (tables_of c.merged_spot.new.parts).places
+    (is_worn_out c.merged_spot.result) (g.C.Chip.told c.args.chip.now)
     (g.C.Chip.told c.learn.new.chip) (g.C.Chip.told c.merged_spot.new.chip)
     c.in_ok-home.ensures.looks.reads c.merged_spot.ensures.costs
 
@@ -175,7 +182,8 @@ pub returns-clause-costs : goal.returns-clause-costs
 returns-clause-costs g c =
     erases_free_behind (IsLogRead (slice_index c.args.parts.now.directory.current c.args.unit)
     (spots_in c.args.parts.now.overflow c.args.unit))
-    (tables_of c.args.parts.now).places (g.C.Chip.told c.args.chip.now)
+    (tables_of c.args.parts.now).places (tables_of c.elsewhere.new.parts).places
+    (is_worn_out c.elsewhere.result) (g.C.Chip.told c.args.chip.now)
     (g.C.Chip.told c.learn.new.chip) (g.C.Chip.told c.elsewhere.new.chip)
     c.in_ok-home.ensures.looks.reads c.elsewhere.ensures.costs
 

@@ -1,4 +1,5 @@
-use Rattle.std.proofs.Common.{false, ◌∙◌}
+use Rattle.std.proofs.Common.{false, Err, ap, ◌∙◌}
+use Rattle.place_taking.specs.Spending.{tells_worn}
 use Rattle.std.proofs.lemmas.Result.{err_from_is_err_and}
 use Rattle.selective_merge.specs.Moving.{tables_of}
 use Rattle.selective_merge.proofs.SpendLemmas.{frees_for}
@@ -17,8 +18,11 @@ returns-in_err-merge_learnt-clause-tells g c =
 
 pub returns-in_err-merge_learnt-clause-costs : goal.returns-in_err-merge_learnt-clause-costs
 returns-in_err-merge_learnt-clause-costs g c =
-    frees_for (tables_of c.args.parts.now).places _ false (g.C.Chip.told c.args.chip.now)
-    (g.C.Chip.told c.merge_learnt.new.chip) c.in_err-merge_learnt.ensures.costs
+    let e = err_from_is_err_and c.from_residual.result c.from_residual.ensures.1 in
+    rw (e.1 ∙ ap Err e.2) (frees_for (tables_of c.args.parts.now).places
+    (tables_of c.merge_learnt.new.parts).places _ false (tells_worn c.in_err-merge_learnt.field-0.0)
+    (g.C.Chip.told c.args.chip.now) (g.C.Chip.told c.merge_learnt.new.chip)
+    c.in_err-merge_learnt.ensures.costs)
 
 pub returns-in_err-merge_learnt-clause-fault : goal.returns-in_err-merge_learnt-clause-fault
 returns-in_err-merge_learnt-clause-fault g c = λ x told it mirrors.

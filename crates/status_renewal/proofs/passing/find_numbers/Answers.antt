@@ -1,4 +1,4 @@
-use Rattle.std.proofs.Common.{◌∙◌, Ok, length, refl, sym, subst, arith}
+use Rattle.std.proofs.Common.{◌∙◌, false, Ok, length, refl, sym, subst, arith}
 use Rattle.std.proofs.lemmas.Bool.{OnTrue_from, false≢true}
 use Rattle.chip_trait.proofs.CountsLemmas.{counts_none}
 use Rattle.ipl_meaning.specs.Chart.{chart_of}
@@ -33,12 +33,13 @@ returns-then-found-clause-steps g c = λ places same m it h steady rests agrees.
 
 pub returns-then-found-clause-holds : goal.returns-then-found-clause-holds
 returns-then-found-clause-holds g c =
-    record { active = refl; status = refl; known = c.requires.known }
+    record { active = refl; status = refl; units = refl; known = c.requires.known }
 
 pub returns-then-found-clause-costs : goal.returns-then-found-clause-costs
 returns-then-found-clause-costs g c =
     let told = g.C.Chip.told c.args.chip.now in
-    erases_more 0 (length c.args.parts.now.directory.current) told told (omega arith) (erases_none told)
+    let d = c.args.parts.now.directory in
+    erases_more d d 0 (length d.current) false told told (omega arith) (erases_none d told)
 
 pub returns-then-found-clause-tidy : goal.returns-then-found-clause-tidy
 returns-then-found-clause-tidy g c =

@@ -1,4 +1,4 @@
-use Rattle.std.proofs.Common.{◌≡◌, ◌+◌, ◌∙◌, ℕ, List, length, Ok, Err, refl, sym, ap, subst, arith}
+use Rattle.std.proofs.Common.{◌≡◌, ◌+◌, ◌∙◌, ℕ, List, length, false, Ok, Err, refl, sym, ap, subst, arith}
 use Rattle.std.proofs.lemmas.Result.{err_from_is_err_and}
 use Rattle.chip_trait.proofs.CountsLemmas.{counts_none, counts_then}
 use Rattle.ipl_meaning.specs.Chart.{chart_of}
@@ -18,10 +18,10 @@ loop-unit-init g c =
     let t = tables_of c.args.parts.now in
     let told = g.C.Chip.told c.args.chip.now in record {
       counts = counts_none told;
-      holds = record { active = refl; status = refl; known = c.requires.known };
+      holds = record { active = refl; status = refl; units = refl; known = c.requires.known };
       least = omega arith;
       most = omega arith;
-      costs = erases_none told;
+      costs = erases_none c.args.parts.now.directory told;
       tidy = tidies_none t told;
       passes = λ places x it same is mirrors.
           subst (λ (kept : List ℕ). HasPassed places 0 (chart_of x) it t kept told t)
@@ -38,8 +38,7 @@ take_unit-requires-clause-unit g c =
       c.loop-unit-test.true,
       c.loop-unit.auto.unit-end,
       c.units-unit-end.ensures,
-      c.requires.known.suits.units,
-      c.loop-unit.invariant.holds.known.suits.units,
+      c.loop-unit.invariant.holds.units,
     )
 
 pub returns-in_err-take_unit-clause-passes : goal.returns-in_err-take_unit-clause-passes
@@ -90,11 +89,13 @@ loop-unit-preserved g c =
       holds = record {
         active = holds.active ∙ so_far.holds.active;
         status = holds.status ∙ so_far.holds.status;
+        units = holds.units ∙ so_far.holds.units;
         known = holds.known;
       };
       least = omega (arith, so_far.least, c.take_unit.ensures.draws);
       most = omega (arith, so_far.most, c.take_unit.ensures.draws);
-      costs = erases_then c.loop-unit.unit 1 old mid new so_far.costs c.take_unit.ensures.costs;
+      costs = erases_then t.places between.places after.places c.loop-unit.unit 1 false old mid new
+          so_far.costs c.in_ok-take_unit.ensures.costs;
       tidy = tidies_then t between after (Ok tt) old mid new so_far.counts
           so_far.tidy c.in_ok-take_unit.ensures.tidy;
       passes = λ places x it same is mirrors. c.in_ok-take_unit.ensures.passes places (chart_of x)
@@ -132,14 +133,18 @@ returns-in_err-take_unit-clause-costs g c =
     let mid = g.C.Chip.told c.loop-unit.chip in
     let new = g.C.Chip.told c.take_unit.new.chip in
     let so_far = c.loop-unit.invariant in
-    erases_more (c.loop-unit.unit + 1) (length c.args.parts.now.directory.current) old new
+    let first = c.args.parts.now.directory in
+    let last = c.take_unit.new.parts.directory in
+    let e = err_from_is_err_and c.from_residual.result c.from_residual.ensures.1 in
+    rw (e.1 ∙ ap Err e.2) (erases_more first last (c.loop-unit.unit + 1) (length first.current) _ old new
     (omega (arith, c.loop-unit-test.true, c.loop-unit.auto.unit-end, c.units-unit-end.ensures))
-    (erases_then c.loop-unit.unit 1 old mid new so_far.costs c.take_unit.ensures.costs)
+    (erases_then first c.loop-unit.parts.directory last c.loop-unit.unit 1 _ old mid new so_far.costs
+    c.in_err-take_unit.ensures.costs))
 
 pub returns-clause-costs : goal.returns-clause-costs
 returns-clause-costs g c =
-    erases_more c.loop-unit.unit (length c.args.parts.now.directory.current)
-    (g.C.Chip.told c.args.chip.now) (g.C.Chip.told c.loop-unit.chip)
+    erases_more c.args.parts.now.directory c.loop-unit.parts.directory c.loop-unit.unit
+    (length c.args.parts.now.directory.current) false (g.C.Chip.told c.args.chip.now) (g.C.Chip.told c.loop-unit.chip)
     (omega (arith, c.loop-unit.auto.unit-end, c.units-unit-end.ensures))
     c.loop-unit.invariant.costs
 

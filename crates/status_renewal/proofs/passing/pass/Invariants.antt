@@ -1,4 +1,4 @@
-use Rattle.std.proofs.Common.{◌≡◌, ◌≤◌, ◌+◌, ◌*◌, ℕ, Some, Ok}
+use Rattle.std.proofs.Common.{◌≡◌, ◌≤◌, ◌+◌, ◌*◌, ℕ, false, Some, Ok}
 use Rattle.chip_trait.specs.Story.{Contents}
 use Rattle.chip_trait.specs.Told.{Counts}
 use Rattle.ipl_meaning.specs.Chart.{chart_of}
@@ -17,7 +17,8 @@ invariant-loop-unit g l = record {
   holds : Holds (g.C.Chip.told l.fn.chip).places (tables_of l.fn.parts) (tables_of l.parts);
   least : l.fn.parts.counter ≤ l.parts.counter;
   most : l.parts.counter ≤ l.fn.parts.counter + 13 * l.unit;
-  costs : Spends (ErasesAtMost l.unit) (g.C.Chip.told l.fn.chip) (g.C.Chip.told l.chip);
+  costs : Spends (ErasesAtMost l.fn.parts.directory l.parts.directory l.unit false)
+      (g.C.Chip.told l.fn.chip) (g.C.Chip.told l.chip);
   tidy : Tidies {T = Unit {0}} {E = ChipFault} (tables_of l.fn.parts) (Ok tt) (tables_of l.parts)
       (g.C.Chip.told l.fn.chip) (g.C.Chip.told l.chip);
   passes : (places : ℕ) (x : Contents) (it : Layout) → (g.C.Chip.told l.fn.chip).places ≡ places

@@ -1,4 +1,4 @@
-use Rattle.std.proofs.Common.{◌≡◌, ◌<◌, ◌+◌, ◌∙◌, ℕ, List, Ok, Err, length, refl, sym, ap, subst, arith}
+use Rattle.std.proofs.Common.{◌≡◌, ◌<◌, ◌+◌, ◌∙◌, ℕ, List, false, Ok, Err, length, refl, sym, ap, subst, arith}
 use Rattle.std.proofs.lemmas.Result.{err_from_is_err_and}
 use Rattle.ipl_base.specs.Calls.{IsFailedCall}
 use Rattle.ipl_meaning.specs.Chart.{chart_of}
@@ -9,12 +9,13 @@ use Rattle.ipl_format.specs.Record.{Record}
 use Rattle.selective_merge.specs.Merging.{Merges, StaysMirrored, RestsMerged, MergesInSteps}
 use Rattle.selective_merge.specs.Moving.{tables_of, Holds}
 use Rattle.selective_merge.specs.Throughout.{ChartsThroughout}
+use Rattle.place_taking.specs.Spending.{tells_worn}
 use Rattle.steps.specs.Steps.{RestsAgreeing}
 use Rattle.unit_log.specs.Kept.{records_kept}
 use Rattle.kept_numbers.specs.Joins.{joined}
 use Rattle.status_renewal.specs.Passes.{HasPassed, PassEnds}
-use Rattle.status_renewal.proofs.CauseLemmas.{read_cause, merge_accounts, accounts_then}
-use Rattle.status_renewal.proofs.CostLemmas.{reads_erase, merge_erases, reads_then_erase}
+use Rattle.status_renewal.proofs.CauseLemmas.{read_cause, read_not_worn, merge_accounts, accounts_then}
+use Rattle.status_renewal.proofs.CostLemmas.{reads_erase, place_erases, reads_then_erase}
 use Rattle.kept_numbers.proofs.JoinLemmas.{too_many}
 use Rattle.status_renewal.proofs.PassLemmas.{passed_read, passed_joined, merge_ends, stopped_from}
 use Rattle.status_renewal.proofs.UnitLemmas.{records_are_logged}
@@ -48,7 +49,7 @@ returns-in_err-read_live-clause-accounts g c =
     let e = err_from_is_err_and c.from_residual.result c.from_residual.ensures.1 in
     rw (e.1 ∙ ap Err e.2) (record {
       counts = c.read_live.ensures.looks.reads.counts;
-      cause = read_cause _ c.in_err-read_live.field-0.0 (g.C.Chip.told c.args.chip.now)
+      cause = read_cause _ c.args.parts.now.directory c.in_err-read_live.field-0.0 (g.C.Chip.told c.args.chip.now)
           (g.C.Chip.told c.read_live.new.chip) c.in_err-read_live.ensures.looks.cause;
     })
 
@@ -166,28 +167,35 @@ returns-clause-holds g c =
 
 pub returns-clause-accounts : goal.returns-clause-accounts
 returns-clause-accounts g c =
-    accounts_then (g.C.Chip.told c.args.chip.now) (g.C.Chip.told c.read_live.new.chip)
+    accounts_then c.merge.new.parts.directory (g.C.Chip.told c.args.chip.now) (g.C.Chip.told c.read_live.new.chip)
     (g.C.Chip.told c.merge.new.chip) c.merge.result c.read_live.ensures.looks.reads.counts
-    (merge_accounts _ _ (g.C.Chip.told c.read_live.new.chip) (g.C.Chip.told c.merge.new.chip)
+    (merge_accounts c.merge.new.parts.directory _ _ (g.C.Chip.told c.read_live.new.chip) (g.C.Chip.told c.merge.new.chip)
     c.merge.result c.merge.ensures.accounts)
 
 pub returns-in_err-read_live-clause-costs : goal.returns-in_err-read_live-clause-costs
 returns-in_err-read_live-clause-costs g c =
-    reads_erase _ 1 (g.C.Chip.told c.args.chip.now) (g.C.Chip.told c.read_live.new.chip)
-    c.read_live.ensures.looks.reads
+    let old = g.C.Chip.told c.args.chip.now in
+    let mid = g.C.Chip.told c.read_live.new.chip in
+    let fault = c.in_err-read_live.field-0.0 in
+    let e = err_from_is_err_and c.from_residual.result c.from_residual.ensures.1 in
+    rw (e.1 ∙ ap Err e.2) (reads_erase _ c.args.parts.now.directory 1 (tells_worn fault) old mid
+    (read_not_worn _ fault old mid c.in_err-read_live.ensures.looks.cause)
+    c.read_live.ensures.looks.reads)
 
 pub returns-then-join-clause-costs : goal.returns-then-join-clause-costs
 returns-then-join-clause-costs g c =
-    reads_erase _ 1 (g.C.Chip.told c.args.chip.now) (g.C.Chip.told c.read_live.new.chip)
-    c.read_live.ensures.looks.reads
+    reads_erase _ c.args.parts.now.directory 1 false (g.C.Chip.told c.args.chip.now)
+    (g.C.Chip.told c.read_live.new.chip) refl c.read_live.ensures.looks.reads
 
 pub returns-clause-costs : goal.returns-clause-costs
 returns-clause-costs g c =
     let old = g.C.Chip.told c.args.chip.now in
     let mid = g.C.Chip.told c.read_live.new.chip in
     let new = g.C.Chip.told c.merge.new.chip in
-    reads_then_erase _ 1 old mid new c.read_live.ensures.looks.reads
-    (merge_erases _ _ _ mid new c.merge.ensures.costs)
+    let before = c.args.parts.now.directory in
+    let after = c.merge.new.parts.directory in
+    reads_then_erase _ before after 1 _ old mid new c.read_live.ensures.looks.reads
+    (place_erases before after _ _ _ mid new c.merge.ensures.costs)
 
 pub returns-in_err-read_live-clause-complete : goal.returns-in_err-read_live-clause-complete
 returns-in_err-read_live-clause-complete g c = λ places chart it t same holds was all.

@@ -1,40 +1,114 @@
-use Rattle.std.proofs.Common.{◌≡◌, ◌<◌, ◌+◌, ◌∙◌, ℕ, List, length, slice_index, true, false, Result, Ok, Err, refl, sym, ap, subst, arith}
+use Rattle.std.proofs.Common.{◌≡◌, ◌<◌, ◌+◌, ◌∙◌, ℕ, List, length, slice_index, true, false, Result, Ok, Err, inl, inr, refl, sym, ap, subst, arith}
+use Rattle.std.proofs.lemmas.List.{length-set}
 use Rattle.std.proofs.lemmas.Result.{err_from_is_err_and}
 use Rattle.chip_trait.specs.Told.{Told}
 use Rattle.ipl_base.specs.declared.fault.ChipFault.{ChipFault}
-use Rattle.ipl_meaning.specs.Tables.{Places, Status, Tables}
-use Rattle.place_taking.proofs.JoinLemmas.{costs_of_filled, costs_of_untaken, tidy_taken}
+use Rattle.ipl_base.specs.declared.fault.ChipFault.TheVariants.{Stopped}
+use Rattle.ipl_base.specs.declared.limits.TheConstants.{VERSION}
+use Rattle.ipl_format.specs.Header.{AreRetired}
+use Rattle.ipl_meaning.specs.Tables.{Places, Status, with_use}
+use Rattle.place_taking.specs.Spending.{ErasesFor, tells_worn}
+use Rattle.place_taking.specs.Takes.{IsTakenFrom, with_places}
+use Rattle.place_taking.proofs.JoinLemmas.{costs_of_filled, taken_was_free, taken_within, tidy_taken, tidy_untaken}
 use Rattle.txn_status.specs.Status.{parts_of, switched_to}
 use Rattle.txn_status.specs.Switching.{IsStatusSpot, Switches, SwitchesInSteps}
+use Rattle.unit_directory.specs.Free.{aside}
+use Rattle.unit_directory.proofs.AsideLemmas.{next_places_are_aside}
 use Rattle.unit_io.specs.Charts.{Charts}
+use Rattle.unit_io.specs.Costs.{Spends}
 use Rattle.unit_io.proofs.UnreadLemmas.{unread_then}
-use Rattle.status_renewal.specs.Renewed.{HasTables, IsGivenBack}
-use Rattle.status_renewal.proofs.KnownLemmas.{known_renewed, known_same, known_back}
-use Rattle.status_renewal.proofs.PlaceLemmas.{back_again, erases_then, moved_to, renews_told}
+use Rattle.status_renewal.specs.Renewed.{IsGivenBack}
+use Rattle.status_renewal.proofs.CostLemmas.{back_erases, untaken_erases}
+use Rattle.status_renewal.proofs.CountLemmas.{back_as_many, moved_as_many}
+use Rattle.status_renewal.proofs.KnownLemmas.{known_renewed, known_back}
+use Rattle.status_renewal.proofs.PlaceLemmas.{erases_then, erased_back, has_between, known_between, moved_to, renews_told}
 use Rattle.status_renewal.proofs.PlaceStepLemmas.{renews_in_steps, failed_in_steps, untaken_in_steps}
-use Rattle.status_renewal.proofs.TidyLemmas.{tidy_renewed, tidy_unrenewed, tidy_not_taken}
+use Rattle.status_renewal.proofs.TidyLemmas.{tidy_renewed, tidy_unrenewed}
 use Rattle.status_renewal.proofs.place.renew_place.Goals as goal
 
--- what a switch leaves, at the places of the first chip, with its counts and the number that was drawn
-switch_leaves : (places q units many erases counted generation next p : ℕ) (status : Status) (kept : List ℕ)
-    (result : Result (Unit {0}) ChipFault) (mid told : Told) → q ≡ places → many ≡ units
-    → counted ≡ erases → generation ≡ next
-    → SwitchesInSteps q many counted status generation p kept result mid told
-    → SwitchesInSteps places units erases status next p kept result mid told
-switch_leaves places q units many erases counted generation next p status kept result mid told at all often drawn
-    says =
-    subst (λ (n : ℕ). SwitchesInSteps places units erases status n p kept result mid told) drawn
-    (subst (λ (n : ℕ). SwitchesInSteps places units n status generation p kept result mid told) often
-    (subst (λ (n : ℕ). SwitchesInSteps places n counted status generation p kept result mid told) all
-    (subst (λ (n : ℕ). SwitchesInSteps n many counted status generation p kept result mid told) at says)))
+-- what a switch leaves, at the places of the first chip, with its counts, the places that it lists and
+-- the number that was drawn
+switch_leaves : (places q units many erases counted : ℕ) (retired listed : List ℕ)
+    (generation next p : ℕ) (status : Status) (kept : List ℕ) (result : Result (Unit {0}) ChipFault)
+    (mid told : Told) → q ≡ places → many ≡ units → counted ≡ erases → listed ≡ retired
+    → generation ≡ next → SwitchesInSteps q many counted listed status generation p kept result mid told
+    → SwitchesInSteps places units erases retired status next p kept result mid told
+switch_leaves places q units many erases counted retired listed generation next p status kept result mid
+    told at all often same drawn says =
+    subst (λ (n : ℕ). SwitchesInSteps places units erases retired status n p kept result mid told) drawn
+    (subst (λ (l : List ℕ). SwitchesInSteps places units erases l status generation p kept result mid told) same
+    (subst (λ (n : ℕ). SwitchesInSteps places units n listed status generation p kept result mid told) often
+    (subst (λ (n : ℕ). SwitchesInSteps places n counted listed status generation p kept result mid told) all
+    (subst (λ (n : ℕ). SwitchesInSteps n many counted listed status generation p kept result mid told) at says))))
 
--- the same of the directory that the tables have
-back_of_tables : {t : Tables} {d after : Places} {status : Status} {next : ℕ} {fault : ChipFault}
-    → HasTables t d status next → IsGivenBack d fault after → IsGivenBack t.places fault after
-back_of_tables {after = after} {fault = fault} has back =
-    subst (λ (e : Places). IsGivenBack e fault after) (sym has.places_is) back
+-- the same of what it makes of contents
+switch_tells : (places q units many erases counted : ℕ) (retired listed : List ℕ)
+    (generation next p : ℕ) (status : Status) (kept : List ℕ) (mid told : Told) → q ≡ places
+    → many ≡ units → counted ≡ erases → listed ≡ retired → generation ≡ next
+    → Charts (Switches q many counted listed status generation p kept) mid told
+    → Charts (Switches places units erases retired status next p kept) mid told
+switch_tells places q units many erases counted retired listed generation next p status kept mid told at
+    all often same drawn says =
+    subst (λ (n : ℕ). Charts (Switches places units erases retired status n p kept) mid told) drawn
+    (subst (λ (l : List ℕ). Charts (Switches places units erases l status generation p kept) mid told) same
+    (subst (λ (n : ℕ). Charts (Switches places units n listed status generation p kept) mid told) often
+    (subst (λ (n : ℕ). Charts (Switches places n counted listed status generation p kept) mid told) all
+    (subst (λ (n : ℕ). Charts (Switches n many counted listed status generation p kept) mid told) at says))))
+
+-- the chip still has as many places as the directory
+pub switch-requires-clause-listed : goal.switch-requires-clause-listed
+switch-requires-clause-listed g c =
+    let facts = c.facts.ensures in
+    let mid = g.C.Chip.told c.take_place.new.chip in
+    let from = c.in_ok-place.ensures.taken in
+    let after = c.take_place.new.directory in
+    let size : length after.in_use ≡ (g.C.Chip.told c.take_place.new.chip).places =
+    omega (
+      arith,
+      c.requires.size,
+      c.in_ok-place.ensures.accounts.counts.places,
+      (next_places_are_aside c.args.directory.now from.worn from.in_turn).all,
+      ap (λ (e : Places). length e.in_use) from.places_is,
+      length-set (aside c.args.directory.now from.worn).in_use c.in_ok-place.place true,
+    ) in
+    let units : length after.current ≡ c.units-units.result =
+    ap (λ (e : Places). length e.current) from.places_is
+    ∙ ap (λ (l : List ℕ). length l) (next_places_are_aside c.args.directory.now from.worn from.in_turn).current
+    ∙ sym c.units-units.ensures in
+    subst (λ (l : List ℕ). AreRetired VERSION mid.places c.units-units.result l) (sym c.retired-retired.ensures)
+    (subst (λ (n : ℕ). AreRetired VERSION mid.places n after.retired) units
+    (subst (λ (n : ℕ). AreRetired VERSION n (length after.current) after.retired) size facts.retired))
+
+-- the place that was taken is one of the chip's
+pub switch-requires-clause-place : goal.switch-requires-clause-place
+switch-requires-clause-place g c =
+    omega (
+      arith,
+      taken_within c.args.directory.now c.take_place.new.directory c.in_ok-place.place
+          c.in_ok-place.ensures.taken,
+      c.requires.size,
+      c.in_ok-place.ensures.accounts.counts.places,
+    )
+
+pub give_back-requires : goal.give_back-requires
+give_back-requires g c =
+    let from = c.in_ok-place.ensures.taken in
+    omega (
+      arith,
+      c.requires.placed,
+      c.requires.size,
+      c.place-old.ensures,
+      (next_places_are_aside c.args.directory.now from.worn from.in_turn).all,
+      ap (λ (e : Places). length e.in_use) from.places_is,
+      length-set (aside c.args.directory.now from.worn).in_use c.in_ok-place.place true,
+    )
 
 -- ---- no place was taken
+
+pub returns-in_err-place-clause-tells : goal.returns-in_err-place-clause-tells
+returns-in_err-place-clause-tells g c =
+    let e = err_from_is_err_and c.from_residual.result c.from_residual.ensures.1 in
+    rw (e.1 ∙ ap Err e.2) c.in_err-place.ensures.tells
 
 pub returns-in_err-place-clause-steps : goal.returns-in_err-place-clause-steps
 returns-in_err-place-clause-steps g c =
@@ -43,35 +117,65 @@ returns-in_err-place-clause-steps g c =
     let e = err_from_is_err_and c.from_residual.result c.from_residual.ensures.1 in
     rw e.1 (untaken_in_steps c.args.directory.now c.args.status.now c.args.counter.now
     c.args.kept.now c.take_place.new.directory c.args.status.now c.draw-generation.new.self fault e.0 old
-    (g.C.Chip.told c.take_place.new.chip) c.in_err-place.ensures.same refl
+    (g.C.Chip.told c.take_place.new.chip) c.in_err-place.ensures.aside refl
     (omega (arith, c.draw-generation.ensures.next)) c.in_err-place.ensures.takes)
+
+pub returns-in_err-place-clause-free : goal.returns-in_err-place-clause-free
+returns-in_err-place-clause-free g c =
+    back_as_many c.args.directory.now c.take_place.new.directory c.in_err-place.field-0.0
+    c.requires.ready (inl c.in_err-place.ensures.aside)
 
 pub returns-in_err-place-clause-known : goal.returns-in_err-place-clause-known
 returns-in_err-place-clause-known g c = λ t has known.
-    known_same (g.C.Chip.told c.args.chip.now).places t c.take_place.new.directory c.args.status.now
-    c.draw-generation.new.self (c.in_err-place.ensures.same ∙ sym has.places_is) (sym has.status_is)
-    known
+    known_back (g.C.Chip.told c.args.chip.now).places t c.take_place.new.directory c.args.status.now
+    c.draw-generation.new.self c.in_err-place.field-0.0
+    (subst (λ (b : Places). IsGivenBack b c.in_err-place.field-0.0 c.take_place.new.directory)
+    (sym has.places_is) (inl c.in_err-place.ensures.aside)) (sym has.status_is) known
 
 pub returns-in_err-place-clause-costs : goal.returns-in_err-place-clause-costs
 returns-in_err-place-clause-costs g c =
     let e = err_from_is_err_and c.from_residual.result c.from_residual.ensures.1 in
-    rw e.1 (costs_of_untaken c.args.directory.now 3 (g.C.Chip.told c.args.chip.now)
-    (g.C.Chip.told c.take_place.new.chip) (omega arith) c.in_err-place.ensures.costs)
+    rw (e.1 ∙ ap Err e.2) (untaken_erases c.args.directory.now c.take_place.new.directory
+    c.args.status.now.place c.in_err-place.field-0.0 (g.C.Chip.told c.args.chip.now)
+    (g.C.Chip.told c.take_place.new.chip) c.in_err-place.ensures.costs)
 
 pub returns-in_err-place-clause-tidy : goal.returns-in_err-place-clause-tidy
 returns-in_err-place-clause-tidy g c = λ t has known.
+    let old = g.C.Chip.told c.args.chip.now in
+    let new = g.C.Chip.told c.take_place.new.chip in
+    let fault = c.in_err-place.field-0.0 in
     let e = err_from_is_err_and c.from_residual.result c.from_residual.ensures.1 in
-    rw e.1 (tidy_not_taken (g.C.Chip.told c.args.chip.now).places t known c.take_place.new.directory
-    c.args.status.now c.draw-generation.new.self e.0 (g.C.Chip.told c.args.chip.now)
-    (g.C.Chip.told c.take_place.new.chip) (c.in_err-place.ensures.same ∙ sym has.places_is)
-    (sym has.status_is) (rw has.places_is c.in_err-place.ensures.tidy))
+    rw e.1 (tidy_unrenewed old.places c.args.directory.now c.args.status.now c.args.counter.now
+    c.take_place.new.directory c.args.status.now c.draw-generation.new.self t has known 0 0 e.0 fault old
+    new (inl c.in_err-place.ensures.aside) (sym has.status_is)
+    (tidy_untaken c.args.directory.now 0 0 fault old new c.in_err-place.ensures.tidy))
 
 -- ---- it was written
+
+pub returns-in-Ok-clause-moved : goal.returns-in-Ok-clause-moved
+returns-in-Ok-clause-moved g c = record {
+  place = c.in_ok-place.place;
+  mid = c.take_place.new.directory;
+  taken = c.in_ok-place.ensures.taken;
+  status_is = c.in-Ok.ensures.switched
+      ∙ ap (λ (n : ℕ). switched_to c.in_ok-place.place n c.args.kept.now) c.draw-generation.ensures.drawn;
+  places_is = c.give_back.ensures
+      ∙ ap (λ (p : ℕ). with_use c.take_place.new.directory p false) c.place-old.ensures;
+}
+
+pub returns-in-Ok-clause-free : goal.returns-in-Ok-clause-free
+returns-in-Ok-clause-free g c =
+    moved_as_many c.directory_laws.ensures.takes c.directory_laws.ensures.gives_back
+    c.args.directory.now c.take_place.new.directory c.give_back.new.self c.in_ok-place.place
+    c.args.status.now.place c.requires.ready c.in_ok-place.ensures.taken c.requires.held
+    (omega (arith, c.requires.placed, c.requires.size))
+    (c.give_back.ensures
+    ∙ ap (λ (p : ℕ). with_use c.take_place.new.directory p false) c.place-old.ensures)
 
 pub returns-in-Ok-clause-tells : goal.returns-in-Ok-clause-tells
 returns-in-Ok-clause-tells g c =
     let p = c.in_ok-place.place in
-    let d = c.args.directory.now in
+    let first = c.args.directory.now in
     let status = c.args.status.now in
     let next = c.args.counter.now in
     let kept = c.args.kept.now in
@@ -80,32 +184,30 @@ returns-in-Ok-clause-tells g c =
     let new = c.switch.new.self in
     let drawn = c.switch.new.counter in
     let from = c.in_ok-place.ensures.taken in
-    let low : p < old.places = omega (arith, from.next.within, c.requires.size) in
+    let facts = next_places_are_aside first from.worn from.in_turn in
+    let d = aside first from.worn in
+    let low : p < old.places = omega (arith, from.next.within, facts.all, c.requires.size) in
     let is = moved_to p c.place-old.result d c.take_place.new.directory after status new next drawn
     kept from.places_is c.place-old.ensures c.give_back.ensures
     (c.in-Ok.ensures.switched ∙ ap (λ (n : ℕ). switched_to p n kept) c.draw-generation.ensures.drawn)
     (omega (arith, c.in-Ok.ensures.drawn, c.draw-generation.ensures.next)) in
     let mid = g.C.Chip.told c.take_place.new.chip in
     let told = g.C.Chip.told c.switch.new.chip in
-    let many = c.units-units.result in
-    let generation = c.draw-generation.result in
-    let erases = c.erases.result in
-    let switches = subst (λ (n : ℕ). Charts (Switches old.places (length d.current) (erases_then d p)
-    status n p kept) mid told) c.draw-generation.ensures.drawn
-    (subst (λ (n : ℕ). Charts (Switches old.places (length d.current) n status generation p kept) mid told)
+    renews_told c.directory_laws.ensures.takes c.directory_laws.ensures.gives_back old.places p first
+    from.worn from.in_turn status next kept (facts.all ∙ c.requires.size) from.next.free low after new
+    drawn is old mid told c.in_ok-place.ensures.tells
+    (switch_tells old.places mid.places (length d.current) c.units-units.result (erases_then d p)
+    c.erases.result d.retired c.retired-retired.result.now c.draw-generation.result next p status kept
+    mid told c.in_ok-place.ensures.accounts.counts.places
+    (c.units-units.ensures ∙ sym (ap (λ (l : List ℕ). length l) facts.current))
     (c.erases.ensures ∙ ap (λ (e : Places). slice_index e.erases p) from.places_is)
-    (subst (λ (n : ℕ). Charts (Switches old.places n erases status generation p kept) mid told)
-    c.units-units.ensures
-    (subst (λ (n : ℕ). Charts (Switches n many erases status generation p kept) mid told)
-    c.in_ok-place.ensures.accounts.counts.places c.in-Ok.ensures.switches))) in
-    renews_told c.directory_laws.ensures.takes c.directory_laws.ensures.gives_back old.places p d
-    status next kept c.requires.size from.next.free low after new drawn is old mid told
-    c.in_ok-place.ensures.tells switches
+    (c.retired-retired.ensures ∙ ap (λ (e : Places). e.retired) from.places_is)
+    c.draw-generation.ensures.drawn c.in-Ok.ensures.switches)
 
 pub returns-in-Ok-clause-steps : goal.returns-in-Ok-clause-steps
 returns-in-Ok-clause-steps g c =
     let p = c.in_ok-place.place in
-    let d = c.args.directory.now in
+    let first = c.args.directory.now in
     let status = c.args.status.now in
     let next = c.args.counter.now in
     let kept = c.args.kept.now in
@@ -114,7 +216,8 @@ returns-in-Ok-clause-steps g c =
     let new = c.switch.new.self in
     let drawn = c.switch.new.counter in
     let from = c.in_ok-place.ensures.taken in
-    let low : p < old.places = omega (arith, from.next.within, c.requires.size) in
+    let facts = next_places_are_aside first from.worn from.in_turn in
+    let d = aside first from.worn in
     let is = moved_to p c.place-old.result d c.take_place.new.directory after status new next drawn
     kept from.places_is c.place-old.ensures c.give_back.ensures
     (c.in-Ok.ensures.switched ∙ ap (λ (n : ℕ). switched_to p n kept) c.draw-generation.ensures.drawn)
@@ -122,18 +225,21 @@ returns-in-Ok-clause-steps g c =
     let mid = g.C.Chip.told c.take_place.new.chip in
     let told = g.C.Chip.told c.switch.new.chip in
     let counts = c.in_ok-place.ensures.accounts.counts in
-    renews_in_steps c.directory_laws.ensures.takes c.directory_laws.ensures.gives_back p d status next
-    kept old mid told c.requires.size from.next counts
+    renews_in_steps c.directory_laws.ensures.takes c.directory_laws.ensures.gives_back p first
+    c.take_place.new.directory from status next kept old mid told c.requires.size counts
     c.in_ok-place.ensures.takes after new drawn is
     (switch_leaves old.places mid.places (length d.current) c.units-units.result (erases_then d p)
-    c.erases.result c.draw-generation.result next p status kept (Ok tt) mid told counts.places c.units-units.ensures
+    c.erases.result d.retired c.retired-retired.result.now c.draw-generation.result next p status kept
+    (Ok tt) mid told counts.places
+    (c.units-units.ensures ∙ sym (ap (λ (l : List ℕ). length l) facts.current))
     (c.erases.ensures ∙ ap (λ (e : Places). slice_index e.erases p) from.places_is)
+    (c.retired-retired.ensures ∙ ap (λ (e : Places). e.retired) from.places_is)
     c.draw-generation.ensures.drawn c.in-Ok.ensures.steps)
 
 pub returns-in-Ok-clause-known : goal.returns-in-Ok-clause-known
-returns-in-Ok-clause-known g c =
+returns-in-Ok-clause-known g c = λ t has known.
     let p = c.in_ok-place.place in
-    let d = c.args.directory.now in
+    let first = c.args.directory.now in
     let status = c.args.status.now in
     let next = c.args.counter.now in
     let kept = c.args.kept.now in
@@ -142,18 +248,22 @@ returns-in-Ok-clause-known g c =
     let new = c.switch.new.self in
     let drawn = c.switch.new.counter in
     let from = c.in_ok-place.ensures.taken in
-    let low : p < old.places = omega (arith, from.next.within, c.requires.size) in
+    let facts = next_places_are_aside first from.worn from.in_turn in
+    let d = aside first from.worn in
+    let low : p < old.places = omega (arith, from.next.within, facts.all, c.requires.size) in
     let is = moved_to p c.place-old.result d c.take_place.new.directory after status new next drawn
     kept from.places_is c.place-old.ensures c.give_back.ensures
     (c.in-Ok.ensures.switched ∙ ap (λ (n : ℕ). switched_to p n kept) c.draw-generation.ensures.drawn)
     (omega (arith, c.in-Ok.ensures.drawn, c.draw-generation.ensures.next)) in
     known_renewed c.directory_laws.ensures.takes c.directory_laws.ensures.gives_back old.places p d
-    status next kept c.requires.size from.next.free low after new drawn is
+    status next kept (facts.all ∙ c.requires.size) from.next.free low after new drawn is
+    (with_places t d) (has_between first from.worn from.in_turn status next t has)
+    (known_between first from.worn from.in_turn status next t has old.places known)
 
 pub returns-in-Ok-clause-tidy : goal.returns-in-Ok-clause-tidy
 returns-in-Ok-clause-tidy g c = λ t has known.
     let p = c.in_ok-place.place in
-    let d = c.args.directory.now in
+    let first = c.args.directory.now in
     let status = c.args.status.now in
     let next = c.args.counter.now in
     let kept = c.args.kept.now in
@@ -162,28 +272,32 @@ returns-in-Ok-clause-tidy g c = λ t has known.
     let new = c.switch.new.self in
     let drawn = c.switch.new.counter in
     let from = c.in_ok-place.ensures.taken in
-    let low : p < old.places = omega (arith, from.next.within, c.requires.size) in
+    let facts = next_places_are_aside first from.worn from.in_turn in
+    let d = aside first from.worn in
+    let low : p < old.places = omega (arith, from.next.within, facts.all, c.requires.size) in
     let is = moved_to p c.place-old.result d c.take_place.new.directory after status new next drawn
     kept from.places_is c.place-old.ensures c.give_back.ensures
     (c.in-Ok.ensures.switched ∙ ap (λ (n : ℕ). switched_to p n kept) c.draw-generation.ensures.drawn)
     (omega (arith, c.in-Ok.ensures.drawn, c.draw-generation.ensures.next)) in
     let mid = g.C.Chip.told c.take_place.new.chip in
     let told = g.C.Chip.told c.switch.new.chip in
-    tidy_renewed c.directory_laws.ensures.takes c.directory_laws.ensures.gives_back old.places p d
-    status next kept c.requires.size from.next.free low after new drawn t has known is old told
-    (tidy_taken d p (1 + parts_of kept) (IsStatusSpot (parts_of kept)) true true old mid told
-    from.next (λ s high spot. omega (arith, high, spot)) c.in_ok-place.ensures.tidy
-    c.in-Ok.ensures.tidy)
+    tidy_renewed old.places first status next after new drawn t has known
+    c.directory_laws.ensures.takes c.directory_laws.ensures.gives_back p c.take_place.new.directory from
+    kept c.requires.size low is old told
+    (tidy_taken first p (1 + parts_of kept) (IsStatusSpot (parts_of kept)) true true old mid told
+    (taken_was_free first c.take_place.new.directory p from) (λ s high spot. omega (arith, high, spot))
+    c.in_ok-place.ensures.tidy c.in-Ok.ensures.tidy)
 
 pub returns-in-Ok-clause-costs : goal.returns-in-Ok-clause-costs
 returns-in-Ok-clause-costs g c =
-    let from = c.in_ok-place.ensures.taken in (
-      c.in_ok-place.place,
-      from.next,
-      costs_of_filled c.args.directory.now c.in_ok-place.place 2 true (g.C.Chip.told c.args.chip.now)
-          (g.C.Chip.told c.take_place.new.chip) (g.C.Chip.told c.switch.new.chip) from.next
-          c.in_ok-place.ensures.costs c.in-Ok.ensures.costs,
-    )
+    let old = g.C.Chip.told c.args.chip.now in
+    let told = g.C.Chip.told c.switch.new.chip in
+    subst (λ (p : ℕ). Spends (ErasesFor c.args.directory.now c.give_back.new.self 3 p true false) old told)
+    (sym (ap (λ (s : Status). s.place) c.in-Ok.ensures.switched))
+    (costs_of_filled c.args.directory.now c.take_place.new.directory c.give_back.new.self
+    c.in_ok-place.place 2 true false old (g.C.Chip.told c.take_place.new.chip) told
+    (ap (λ (e : Places). e.retired) c.give_back.ensures) refl c.in_ok-place.ensures.costs
+    c.in-Ok.ensures.costs)
 
 pub returns-in-Ok-clause-unread : goal.returns-in-Ok-clause-unread
 returns-in-Ok-clause-unread g c =
@@ -192,72 +306,101 @@ returns-in-Ok-clause-unread g c =
 
 -- ---- a write failed
 
+-- the place that was taken is given back
+back_again : (first between after : Places) (p : ℕ) (fault : ChipFault)
+    → (from : IsTakenFrom first p between) → fault ≡ Stopped → after ≡ with_use between p false
+    → IsGivenBack first fault after
+back_again first between after p fault from stopped is =
+    let d = aside first from.worn in inr (
+      stopped,
+      (
+        d,
+        p,
+        record { worn = from.worn; in_turn = from.in_turn; places_is = refl },
+        from.next,
+        is ∙ ap (λ (e : Places). with_use e p false) from.places_is ∙ erased_back d p from.next.free,
+      ),
+    )
+
 pub returns-in-Err-clause-same : goal.returns-in-Err-clause-same
-returns-in-Err-clause-same g c =
-    let from = c.in_ok-place.ensures.taken in
-    let back = back_again c.args.directory.now c.take_place.new.directory c.give_back-in-Err.new.self
-    c.in_ok-place.place c.in-Err.fault from.next from.places_is c.give_back-in-Err.ensures
-    c.in-Err.ensures.accounts.cause.0 in
-    (back, c.in-Err.ensures.same)
+returns-in-Err-clause-same g c = (
+  back_again c.args.directory.now c.take_place.new.directory c.give_back-in-Err.new.self
+      c.in_ok-place.place c.in-Err.fault c.in_ok-place.ensures.taken
+      c.in-Err.ensures.accounts.cause.0 c.give_back-in-Err.ensures,
+  c.in-Err.ensures.same,
+)
+
+pub returns-in-Err-clause-free : goal.returns-in-Err-clause-free
+returns-in-Err-clause-free g c =
+    back_as_many c.args.directory.now c.give_back-in-Err.new.self c.in-Err.fault c.requires.ready
+    (back_again c.args.directory.now c.take_place.new.directory c.give_back-in-Err.new.self
+    c.in_ok-place.place c.in-Err.fault c.in_ok-place.ensures.taken
+    c.in-Err.ensures.accounts.cause.0 c.give_back-in-Err.ensures)
 
 pub returns-in-Err-clause-steps : goal.returns-in-Err-clause-steps
 returns-in-Err-clause-steps g c =
     let p = c.in_ok-place.place in
+    let first = c.args.directory.now in
     let old = g.C.Chip.told c.args.chip.now in
     let mid = g.C.Chip.told c.take_place.new.chip in
     let told = g.C.Chip.told c.switch.new.chip in
     let from = c.in_ok-place.ensures.taken in
+    let facts = next_places_are_aside first from.worn from.in_turn in
+    let d = aside first from.worn in
     let counts = c.in_ok-place.ensures.accounts.counts in
-    failed_in_steps c.directory_laws.ensures.takes c.directory_laws.ensures.gives_back p
-    c.args.directory.now c.args.status.now c.args.counter.now c.args.kept.now old mid told
-    c.requires.size from.next counts c.in_ok-place.ensures.takes
+    failed_in_steps c.directory_laws.ensures.takes c.directory_laws.ensures.gives_back p first
+    c.take_place.new.directory from c.args.status.now c.args.counter.now c.args.kept.now old mid told
+    c.requires.size counts c.in_ok-place.ensures.takes
     c.give_back-in-Err.new.self c.switch.new.self c.switch.new.counter c.in-Err.fault c.in-Err.fault
-    (switch_leaves old.places mid.places (length c.args.directory.now.current) c.units-units.result
-    (erases_then c.args.directory.now p) c.erases.result c.draw-generation.result c.args.counter.now p c.args.status.now c.args.kept.now
-    (Err c.in-Err.fault) mid told counts.places c.units-units.ensures
+    (switch_leaves old.places mid.places (length d.current) c.units-units.result (erases_then d p)
+    c.erases.result d.retired c.retired-retired.result.now c.draw-generation.result c.args.counter.now p
+    c.args.status.now c.args.kept.now (Err c.in-Err.fault) mid told counts.places
+    (c.units-units.ensures ∙ sym (ap (λ (l : List ℕ). length l) facts.current))
     (c.erases.ensures ∙ ap (λ (e : Places). slice_index e.erases p) from.places_is)
+    (c.retired-retired.ensures ∙ ap (λ (e : Places). e.retired) from.places_is)
     c.draw-generation.ensures.drawn c.in-Err.ensures.steps)
 
 pub returns-in-Err-clause-known : goal.returns-in-Err-clause-known
 returns-in-Err-clause-known g c = λ t has known.
-    let from = c.in_ok-place.ensures.taken in
-    let back = back_again c.args.directory.now c.take_place.new.directory c.give_back-in-Err.new.self
-    c.in_ok-place.place c.in-Err.fault from.next from.places_is c.give_back-in-Err.ensures
-    c.in-Err.ensures.accounts.cause.0 in
     known_back (g.C.Chip.told c.args.chip.now).places t c.give_back-in-Err.new.self
-    c.switch.new.self c.switch.new.counter c.in-Err.fault (back_of_tables has back)
+    c.switch.new.self c.switch.new.counter c.in-Err.fault
+    (subst (λ (b : Places). IsGivenBack b c.in-Err.fault c.give_back-in-Err.new.self)
+    (sym has.places_is)
+    (back_again c.args.directory.now c.take_place.new.directory c.give_back-in-Err.new.self
+    c.in_ok-place.place c.in-Err.fault c.in_ok-place.ensures.taken
+    c.in-Err.ensures.accounts.cause.0 c.give_back-in-Err.ensures))
     (c.in-Err.ensures.same ∙ sym has.status_is) known
 
 pub returns-in-Err-clause-tidy : goal.returns-in-Err-clause-tidy
 returns-in-Err-clause-tidy g c = λ t has known.
     let p = c.in_ok-place.place in
-    let d = c.args.directory.now in
+    let first = c.args.directory.now in
     let kept = c.args.kept.now in
     let old = g.C.Chip.told c.args.chip.now in
     let told = g.C.Chip.told c.switch.new.chip in
     let from = c.in_ok-place.ensures.taken in
-    let back = back_again c.args.directory.now c.take_place.new.directory c.give_back-in-Err.new.self
-    c.in_ok-place.place c.in-Err.fault from.next from.places_is c.give_back-in-Err.ensures
-    c.in-Err.ensures.accounts.cause.0 in
-    let low : p < old.places = omega (arith, from.next.within, c.requires.size) in
-    tidy_unrenewed c.directory_laws.ensures.takes c.directory_laws.ensures.gives_back old.places p d
-    c.args.status.now c.args.counter.now kept c.requires.size from.next.free low
-    c.give_back-in-Err.new.self c.switch.new.self c.switch.new.counter t has known
-    (1 + parts_of kept) c.in-Err.fault c.in-Err.fault old told (back_of_tables has back)
+    tidy_unrenewed old.places first c.args.status.now c.args.counter.now c.give_back-in-Err.new.self
+    c.switch.new.self c.switch.new.counter t has known p (1 + parts_of kept) c.in-Err.fault
+    c.in-Err.fault old told
+    (back_again first c.take_place.new.directory c.give_back-in-Err.new.self p c.in-Err.fault from
+    c.in-Err.ensures.accounts.cause.0 c.give_back-in-Err.ensures)
     (c.in-Err.ensures.same ∙ sym has.status_is)
-    (tidy_taken d p (1 + parts_of kept) (IsStatusSpot (parts_of kept)) false false old
-    (g.C.Chip.told c.take_place.new.chip) told from.next (λ s high spot. omega (arith, high, spot))
+    (tidy_taken first p (1 + parts_of kept) (IsStatusSpot (parts_of kept)) false false old
+    (g.C.Chip.told c.take_place.new.chip) told
+    (taken_was_free first c.take_place.new.directory p from) (λ s high spot. omega (arith, high, spot))
     c.in_ok-place.ensures.tidy c.in-Err.ensures.tidy)
 
 pub returns-in-Err-clause-costs : goal.returns-in-Err-clause-costs
 returns-in-Err-clause-costs g c =
-    let from = c.in_ok-place.ensures.taken in (
-      c.in_ok-place.place,
-      from.next,
-      costs_of_filled c.args.directory.now c.in_ok-place.place 2 false (g.C.Chip.told c.args.chip.now)
-          (g.C.Chip.told c.take_place.new.chip) (g.C.Chip.told c.switch.new.chip) from.next
-          c.in_ok-place.ensures.costs c.in-Err.ensures.costs,
-    )
+    let old = g.C.Chip.told c.args.chip.now in
+    let told = g.C.Chip.told c.switch.new.chip in
+    let still : tells_worn c.in-Err.fault ≡ false = ap tells_worn c.in-Err.ensures.accounts.cause.0 in
+    back_erases c.args.directory.now c.give_back-in-Err.new.self c.in_ok-place.place
+    c.switch.new.self.place (tells_worn c.in-Err.fault) old told
+    (costs_of_filled c.args.directory.now c.take_place.new.directory c.give_back-in-Err.new.self
+    c.in_ok-place.place 2 false (tells_worn c.in-Err.fault) old (g.C.Chip.told c.take_place.new.chip)
+    told (ap (λ (e : Places). e.retired) c.give_back-in-Err.ensures) still
+    c.in_ok-place.ensures.costs c.in-Err.ensures.costs)
 
 pub returns-in-Err-clause-unread : goal.returns-in-Err-clause-unread
 returns-in-Err-clause-unread g c =

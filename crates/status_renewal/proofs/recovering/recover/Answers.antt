@@ -1,15 +1,16 @@
 use Rattle.std.proofs.Common.{◌≡◌, ◌+◌, ◌∙◌, length, true, false, Ok, Err, sym, ap, subst, arith}
 use Rattle.std.proofs.lemmas.Bool.{false≢true}
 use Rattle.std.proofs.lemmas.Result.{err_from_is_err_and}
-use Rattle.ipl_base.specs.Places.{units_on}
 use Rattle.ipl_meaning.specs.Chart.{chart_of}
 use Rattle.opening_rules.specs.LaidOut.{layout_in}
 use Rattle.selective_merge.specs.Moving.{tables_of}
 use Rattle.unit_io.specs.ReadsAt.{Anywhere}
 use Rattle.unit_io.proofs.UnreadLemmas.{once_alone}
+use Rattle.place_taking.specs.Spending.{tells_worn}
+use Rattle.status_renewal.specs.Recovers.{tells_wear}
 use Rattle.status_renewal.specs.Passes.{KeepsAll, RenewsTold, KeepsInSteps, FailsAsRenewal, CompletesRenewal}
 use Rattle.status_renewal.proofs.CostLemmas.{erases_more, reads_erase, reads_then_erase, reads_then_renewed}
-use Rattle.status_renewal.proofs.RecoverLemmas.{of_parts, opened_parts, opens_told, opens_done, fault_looks, sound_looks, reads_recover, recovers_done, recovers_failed}
+use Rattle.status_renewal.proofs.RecoverLemmas.{of_parts, opened_parts, reading_not_worn, opens_told, opens_done, fault_looks, sound_looks, reads_recover, recovers_done, recovers_failed}
 use Rattle.status_renewal.proofs.CompleteLemmas.{all_mergeable, call_failed, reading_failed}
 use Rattle.status_renewal.proofs.FaultLemmas.{opening_fault}
 use Rattle.status_renewal.proofs.FoundLemmas.{all_kept, once_where_fit}
@@ -47,8 +48,18 @@ pub returns-in_err-found-clause-costs : goal.returns-in_err-found-clause-costs
 returns-in_err-found-clause-costs g c =
     let old = g.C.Chip.told c.args.chip.now in
     let mid = g.C.Chip.told c.recover.new.chip in
-    reads_erase Anywhere (units_on old.places + 1) old mid
-    c.recover.ensures.looks.reads
+    let after = c.recover.new.directory in
+    let fault = c.in_err-found.field-0.0 in
+    let still : tells_wear fault ≡ false =
+    reading_not_worn fault old mid c.in_err-found.ensures.looks.cause in
+    let e = err_from_is_err_and c.from_residual.result c.from_residual.ensures.1 in
+    rw (e.1 ∙ ap Err e.2) (record {
+      found = after;
+      erases = reads_erase Anywhere after (length after.current + 1) (tells_wear fault) old mid still
+          c.recover.ensures.looks.reads;
+      finds = λ is. absurd (false≢true (sym still ∙ is));
+      units = λ is. absurd (false≢true (sym still ∙ is));
+    })
 
 pub returns-in_err-renew_with-clause-looks : goal.returns-in_err-renew_with-clause-looks
 returns-in_err-renew_with-clause-looks g c =
@@ -86,11 +97,21 @@ returns-in_err-renew_with-clause-costs g c =
     let mid = g.C.Chip.told c.recover.new.chip in
     let new = g.C.Chip.told c.renew_with.new.chip in
     let reads = c.recover.ensures.looks.reads in
-    let before = length c.recover.new.directory.current in
-    reads_then_erase Anywhere (units_on old.places + 1) old mid new reads
-    (erases_more (before + 1) (units_on old.places + 1) mid new
-    (omega (arith, reads.counts.places, c.in_ok-found.ensures.known.suits.units))
-    c.renew_with.ensures.costs)
+    let found = c.recover.new.directory in
+    let after = c.renew_with.new.parts.directory in
+    let fault = c.in_err-renew_with.field-0.0 in
+    let e = err_from_is_err_and c.from_residual-in_err-renew_with.result
+    c.from_residual-in_err-renew_with.ensures.1 in
+    rw (e.1 ∙ ap Err e.2) (record {
+      found = found;
+      erases = reads_then_erase Anywhere found after (length after.current + 1) (tells_worn fault) old
+          mid new reads (erases_more found after (length found.current + 1) (length after.current + 1)
+          (tells_worn fault) mid new (omega (arith, c.renew_with.ensures.holds.units))
+          c.in_err-renew_with.ensures.costs);
+      finds = λ is x told. (c.in_ok-found.ensures.opened x told).directory.retired;
+      units = λ is x told. c.renew_with.ensures.holds.units
+          ∙ (c.in_ok-found.ensures.mirrors x told).directory.units;
+    })
 
 pub returns-clause-tells : goal.returns-clause-tells
 returns-clause-tells g c = λ x told.
@@ -147,11 +168,16 @@ returns-clause-costs g c =
     let mid = g.C.Chip.told c.recover.new.chip in
     let new = g.C.Chip.told c.renew_with.new.chip in
     let reads = c.recover.ensures.looks.reads in
-    let before = length c.recover.new.directory.current in
-    reads_then_erase Anywhere (units_on old.places + 1) old mid new reads
-    (erases_more (before + 1) (units_on old.places + 1) mid new
-    (omega (arith, reads.counts.places, c.in_ok-found.ensures.known.suits.units))
-    c.renew_with.ensures.costs)
+    let found = c.recover.new.directory in
+    let after = c.renew_with.new.parts.directory in record {
+      found = found;
+      erases = reads_then_erase Anywhere found after (length after.current + 1) false old mid new reads
+          (erases_more found after (length found.current + 1) (length after.current + 1) false mid new
+          (omega (arith, c.in_ok-renew_with.ensures.holds.units)) c.in_ok-renew_with.ensures.costs);
+      finds = λ is x told. (c.in_ok-found.ensures.opened x told).directory.retired;
+      units = λ is x told. c.in_ok-renew_with.ensures.holds.units
+          ∙ (c.in_ok-found.ensures.mirrors x told).directory.units;
+    }
 
 pub returns-clause-renewed : goal.returns-clause-renewed
 returns-clause-renewed g c =

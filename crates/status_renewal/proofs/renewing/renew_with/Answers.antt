@@ -1,9 +1,7 @@
-use Rattle.std.proofs.Common.{◌≡◌, ◌+◌, ◌∙◌, ℕ, List, length, Err, refl, sym, ap, subst, arith}
-use Rattle.std.proofs.lemmas.Result.{err_from_is_err_and, on_ok_weaker}
+use Rattle.std.proofs.Common.{◌≡◌, ◌+◌, ◌∙◌, ℕ, List, length, false, Err, refl, sym, ap, subst, arith}
+use Rattle.std.proofs.lemmas.Result.{err_from_is_err_and}
 use Rattle.ipl_meaning.specs.Chart.{chart_of}
 use Rattle.ipl_meaning.specs.Rests.{now}
-use Rattle.ipl_meaning.specs.Tables.{Status}
-use Rattle.unit_directory.specs.Free.{IsNextFree}
 use Rattle.merge_rules.specs.Known.{KnowsPlaces}
 use Rattle.selective_merge.specs.Moving.{tables_of}
 use Rattle.selective_merge.specs.Throughout.{ChartsThroughout}
@@ -13,7 +11,7 @@ use Rattle.status_renewal.specs.Passes.{HasPassed, ErasesAtMost}
 use Rattle.status_renewal.specs.Renewed.{with_tables, Renews, RenewsInSteps}
 use Rattle.status_renewal.proofs.CostLemmas.{erases_more, erases_then, place_erases, renewed_then}
 use Rattle.status_renewal.proofs.PreserveLemmas.{passed_then, steps_preserve}
-use Rattle.status_renewal.proofs.RenewLemmas.{may_renew, renew_ends, status_ends}
+use Rattle.status_renewal.proofs.RenewLemmas.{may_renew, renew_ends, status_ends, units_still}
 use Rattle.status_renewal.proofs.CompleteLemmas.{written_alone}
 use Rattle.status_renewal.proofs.TellingLemmas.{goes_on_from, goes_on_then, renews_told}
 use Rattle.status_renewal.proofs.FaultLemmas.{pass_written, place_written}
@@ -36,8 +34,8 @@ returns-in_err-find_numbers-clause-steps g c = λ m it h steady rests agrees.
     rw (e.1 ∙ ap Err e.2) (c.in_err-find_numbers.ensures.steps (g.C.Chip.told c.args.chip.now).places refl
     m it h steady rests agrees)
 
-pub renew_place-requires-clause-free : goal.renew_place-requires-clause-free
-renew_place-requires-clause-free g c = c.known_laws.ensures.free
+pub renew_place-requires-clause-ready : goal.renew_place-requires-clause-ready
+renew_place-requires-clause-ready g c = c.known_laws.ensures.ready
     (g.C.Chip.told c.args.chip.now).places (tables_of c.find_numbers.new.parts)
     c.in_ok-find_numbers.ensures.holds.known
 
@@ -102,6 +100,7 @@ returns-in_err-find_numbers-clause-holds g c =
     let e = err_from_is_err_and c.from_residual.result c.from_residual.ensures.1 in
     rw (e.1 ∙ ap Err e.2) (record {
       active = holds.active;
+      units = holds.units;
       known = holds.known;
       ends = holds.status;
     })
@@ -114,6 +113,9 @@ returns-clause-holds g c =
     let holds = c.in_ok-find_numbers.ensures.holds in
     let places = c.find_numbers.ensures.accounts.counts.places in record {
       active = holds.active;
+      units = units_still c.renew_place.result between.places c.renew_place.new.directory
+          between.status c.renew_place.new.status between.next c.as_slice.result.now
+          c.renew_place.ensures.moved c.renew_place.ensures.same ∙ holds.units;
       known = subst (λ n. KnowsPlaces n after) places (c.renew_place.ensures.known between
           (record { places_is = refl; status_is = refl; next_is = refl })
           (subst (λ n. KnowsPlaces n between) (sym places) holds.known));
@@ -126,30 +128,32 @@ returns-clause-holds g c =
 pub returns-in_err-find_numbers-clause-costs : goal.returns-in_err-find_numbers-clause-costs
 returns-in_err-find_numbers-clause-costs g c =
     let units = length c.args.parts.now.directory.current in
-    erases_more units (units + 1) (g.C.Chip.told c.args.chip.now)
-    (g.C.Chip.told c.find_numbers.new.chip) (omega arith) c.find_numbers.ensures.costs
+    let e = err_from_is_err_and c.from_residual.result c.from_residual.ensures.1 in
+    rw (e.1 ∙ ap Err e.2) (erases_more c.args.parts.now.directory c.find_numbers.new.parts.directory
+    units (units + 1) _ (g.C.Chip.told c.args.chip.now) (g.C.Chip.told c.find_numbers.new.chip)
+    (omega arith) c.in_err-find_numbers.ensures.costs)
 
 pub returns-clause-costs : goal.returns-clause-costs
 returns-clause-costs g c =
     let old = g.C.Chip.told c.args.chip.now in
     let mid = g.C.Chip.told c.find_numbers.new.chip in
     let new = g.C.Chip.told c.renew_place.new.chip in
-    let one = c.renew_place.ensures.costs in
-    erases_then (length c.args.parts.now.directory.current) 1 old mid new
-    c.find_numbers.ensures.costs (place_erases one.0 _ mid new one.2)
+    let first = c.args.parts.now.directory in
+    let between = c.find_numbers.new.parts.directory in
+    let last = c.renew_place.new.directory in
+    erases_then first between last (length first.current) 1 _ old mid new
+    c.in_ok-find_numbers.ensures.costs
+    (place_erases between last _ _ _ mid new c.renew_place.ensures.costs)
 
 pub returns-clause-renewed : goal.returns-clause-renewed
 returns-clause-renewed g c =
     let old = g.C.Chip.told c.args.chip.now in
-    let one = c.renew_place.ensures.costs in
-    renewed_then (ErasesAtMost (length c.args.parts.now.directory.current)) one.0
-    c.renew_place.new.status.place
-    c.find_numbers.new.parts.directory old (g.C.Chip.told c.find_numbers.new.chip)
-    (g.C.Chip.told c.renew_place.new.chip) c.renew_place.result c.find_numbers.ensures.costs one.1
-    (on_ok_weaker c.renew_place.result
-    (λ moved. subst (IsNextFree c.find_numbers.new.parts.directory)
-    (sym (ap (λ (s : Status). s.place) moved.status_is)) moved.next_free)
-    c.renew_place.ensures.moved) one.2
+    let first = c.args.parts.now.directory in
+    let between = c.find_numbers.new.parts.directory in
+    renewed_then (ErasesAtMost first between (length first.current) false)
+    c.renew_place.new.status.place between c.renew_place.new.directory _ old
+    (g.C.Chip.told c.find_numbers.new.chip) (g.C.Chip.told c.renew_place.new.chip)
+    c.renew_place.result c.in_ok-find_numbers.ensures.costs c.renew_place.ensures.costs
 
 pub returns-in_err-find_numbers-clause-complete : goal.returns-in_err-find_numbers-clause-complete
 returns-in_err-find_numbers-clause-complete g c = λ x told it mirrors all.
@@ -158,7 +162,7 @@ returns-in_err-find_numbers-clause-complete g c = λ x told it mirrors all.
 
 pub returns-clause-complete : goal.returns-clause-complete
 returns-clause-complete g c = λ x told it mirrors all.
-    written_alone (g.C.Chip.told c.find_numbers.new.chip) (g.C.Chip.told c.renew_place.new.chip)
+    written_alone c.renew_place.new.directory (g.C.Chip.told c.find_numbers.new.chip) (g.C.Chip.told c.renew_place.new.chip)
     c.renew_place.result c.renew_place.ensures.accounts.cause
 
 pub renew_place-requires-clause-placed : goal.renew_place-requires-clause-placed
@@ -173,7 +177,7 @@ returns-in_err-find_numbers-clause-fault g c = λ x told it mirrors.
 
 pub returns-clause-fault : goal.returns-clause-fault
 returns-clause-fault g c = λ x told it mirrors.
-    pass_written x it (tables_of c.args.parts.now)
+    pass_written x it (tables_of c.args.parts.now) c.renew_place.new.directory
     (g.C.Chip.told c.find_numbers.new.chip) (g.C.Chip.told c.renew_place.new.chip) c.renew_place.result
     c.renew_place.ensures.accounts.cause
 
@@ -204,7 +208,7 @@ pub returns-clause-stays : goal.returns-clause-stays
 returns-clause-stays g c = λ x told it mirrors.
     place_written x it (tables_of c.args.parts.now)
     (with_tables (tables_of c.find_numbers.new.parts) c.renew_place.new.directory c.renew_place.new.status
-    c.renew_place.new.counter)
+    c.renew_place.new.counter) c.renew_place.new.directory
     (g.C.Chip.told c.find_numbers.new.chip) (g.C.Chip.told c.renew_place.new.chip) c.renew_place.result
     c.renew_place.ensures.accounts.cause
 

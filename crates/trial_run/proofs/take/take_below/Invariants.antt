@@ -13,7 +13,7 @@ use Rattle.trial_run.proofs.take.take_below.Given as goal
 abbrev pub invariant-loop-n : goal.invariant-loop-n
 invariant-loop-n g l =
     let told = g.D.Chip.told in
-    let k = g.S.Store.keeping in
+    let k = g.S.Store.keeping g.places in
     record {
       takes : (limits : Limits) → l.names ≤ limits.names → (state : State) (h : History)
           → k.holds limits l.fn.store (told l.fn.desk) h state
@@ -23,3 +23,6 @@ invariant-loop-n g l =
           → CompletesSoFar k limits (LOOK_UP_DRAWS * l.n) l.fn.store (told l.fn.desk) l.store (told l.desk);
       few : l.records.count ≤ l.n;
     }
+
+abbrev pub ghost-take_one : goal.ghost-take_one
+ghost-take_one g a = g.places

@@ -14,7 +14,7 @@ use Rattle.trial_run.proofs.work.do_all.Given as goal
 abbrev pub invariant-loop-i : goal.invariant-loop-i
 invariant-loop-i g l =
     let told = g.D.Chip.told in
-    let k = g.S.Store.keeping in
+    let k = g.S.Store.keeping g.places in
     record {
       goes : GoesOn l.fn.commands l.i l.commands;
       does : (limits : Limits) (state : State) (h : History) → k.holds limits l.fn.store (told l.fn.desk) h state
@@ -24,3 +24,6 @@ invariant-loop-i g l =
           → CompletesSoFar k limits (WORK_DRAWS * l.i) l.fn.store (told l.fn.desk) l.store (told l.desk);
       few : l.tally.commands ≤ l.i;
     }
+
+abbrev pub ghost-do_one : goal.ghost-do_one
+ghost-do_one g a = g.places

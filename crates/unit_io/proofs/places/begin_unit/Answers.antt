@@ -1,10 +1,8 @@
 use Rattle.std.proofs.lemmas.Result.{err_from_is_err_and}
-use Rattle.std.proofs.Common.{Ok, Err, refl, sym, ◌∙◌, ap, option_map, [], ◌∷◌, true, false, arith}
-use Rattle.chip_trait.specs.declared.event.Event.TheVariants.{Erase, Worn, Barrier}
+use Rattle.std.proofs.Common.{Ok, Err, inl, inr, refl, ◌∙◌, ap, option_map, [], ◌∷◌, true, false, arith}
+use Rattle.chip_trait.specs.declared.event.Event.TheVariants.{Erase, Worn}
 use Rattle.chip_trait.specs.Story.{after}
 use Rattle.ipl_base.specs.declared.fault.ChipFault.TheVariants.{Stopped}
-use Rattle.unit_io.specs.Spots.{Clears}
-use Rattle.unit_io.specs.Costs.{ErasesOnce}
 use Rattle.unit_io.proofs.PlaceLemmas.{begin_worn, begin_tells, begun_failed, begun_halted, begun_done, wears_worn, wears_done, worn_tells}
 use Rattle.unit_io.proofs.PlainLemmas.{plain_then, plain_did, plain_waited}
 use Rattle.unit_io.proofs.CostLemmas.{one_added, once_worn, spends_once_at_most, spends_once_then, spends_erased, spends_barred}
@@ -62,9 +60,6 @@ returns-in-Worn-clause-tidy g c = record {
   does = clears_worn c.args.place;
   history = (wears_worn c.args.place _ _ _ c.in-Worn.is c.in_ok-erase.ensures.did).history ∙ one_added (Worn c.args.place) (g.C.Chip.told c.args.chip.now).history;
 }
-
-pub returns-in-Worn-clause-worn : goal.returns-in-Worn-clause-worn
-returns-in-Worn-clause-worn g c is = c.in_ok-erase.ensures.did.rose c.in-Worn.is
 
 -- ---- the barrier failed
 
@@ -124,6 +119,35 @@ returns-in_ok-barrier-in-Done-clause-spares g c =
 pub returns-in_ok-barrier-in-Done-clause-tidy : goal.returns-in_ok-barrier-in-Done-clause-tidy
 returns-in_ok-barrier-in-Done-clause-tidy g c =
     tidy_begun c.args.place (g.C.Chip.told c.args.chip.now) (g.C.Chip.told c.erase.new.chip) (g.C.Chip.told c.barrier.new.chip) (Ok tt) (wears_done c.args.place _ _ _ c.in-Done.is c.in_ok-erase.ensures.did) c.in_ok-barrier-in-Done.ensures.did
+
+-- ---- what was asked
+
+pub returns-in_err-erase-clause-erases : goal.returns-in_err-erase-clause-erases
+returns-in_err-erase-clause-erases g c =
+    let e = err_from_is_err_and c.from_residual.result c.from_residual.ensures.1 in
+    rw e.1 (inl c.in_err-erase.ensures.did)
+
+pub returns-in-Worn-clause-erases : goal.returns-in-Worn-clause-erases
+returns-in-Worn-clause-erases g c = (
+  wears_worn c.args.place _ _ _ c.in-Worn.is c.in_ok-erase.ensures.did,
+  c.in_ok-erase.ensures.did.rose c.in-Worn.is,
+)
+
+pub returns-in_err-barrier-in-Done-clause-erases : goal.returns-in_err-barrier-in-Done-clause-erases
+returns-in_err-barrier-in-Done-clause-erases g c =
+    let e = err_from_is_err_and c.from_residual-in_err-barrier-in-Done.result c.from_residual-in_err-barrier-in-Done.ensures.1 in
+    rw e.1 (inr (
+      g.C.Chip.told c.erase.new.chip,
+      wears_done c.args.place _ _ _ c.in-Done.is c.in_ok-erase.ensures.did,
+      c.in_err-barrier-in-Done.ensures.did,
+    ))
+
+pub returns-in_ok-barrier-in-Done-clause-erases : goal.returns-in_ok-barrier-in-Done-clause-erases
+returns-in_ok-barrier-in-Done-clause-erases g c = (
+  g.C.Chip.told c.erase.new.chip,
+  wears_done c.args.place _ _ _ c.in-Done.is c.in_ok-erase.ensures.did,
+  c.in_ok-barrier-in-Done.ensures.did,
+)
 
 -- ---- nothing is read
 

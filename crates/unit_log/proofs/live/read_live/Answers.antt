@@ -1,6 +1,5 @@
-use Rattle.std.proofs.Common.{◌≡◌, length, map, slice_index, inl, inr, refl, sym, ◌∙◌, ap, subst, arith}
+use Rattle.std.proofs.Common.{◌≡◌, map, slice_index, inl, inr, refl, sym, ◌∙◌, ap, subst, arith}
 use Rattle.std.proofs.lemmas.Result.{err_from_is_err_and}
-use Rattle.ipl_base.specs.Places.{places_for}
 use Rattle.ipl_meaning.specs.Chart.{chart_of}
 use Rattle.overflow.specs.Lists.{pair_of, spots_in, AreWithin}
 use Rattle.unit_io.proofs.ReadsAtLemmas.{at_none, at_wider}
@@ -14,15 +13,8 @@ use Rattle.unit_log.proofs.live.read_live.Goals as goal
 pub read_sectors-requires-clause-within : goal.read_sectors-requires-clause-within
 read_sectors-requires-clause-within g c =
     let spots = spots_in c.args.overflow.now c.args.unit in
-    let size :
-    places_for (length c.args.overflow.now.spots) ≡ (g.C.Chip.told c.read_header.new.chip).places =
-    omega (
-      arith,
-      c.requires.units,
-      c.facts.ensures.units,
-      c.requires.size,
-      c.in_ok-head.ensures.looks.reads.counts.places,
-    ) in
+    let size : c.args.overflow.now.places ≡ (g.C.Chip.told c.read_header.new.chip).places =
+    omega (arith, c.requires.sized, c.in_ok-head.ensures.looks.reads.counts.places) in
     subst (λ l. AreWithin (g.C.Chip.told c.read_header.new.chip).places l)
     (sym (ap (map pair_of) c.as_slice.ensures.value ∙ c.list-spots.ensures.spots))
     (subst (λ n. AreWithin n spots) size c.list-spots.ensures.within)

@@ -6,7 +6,7 @@ use Rattle.page_frames.specs.Pages.{IsFramed, KeepsFramedFor}
 use Rattle.ipl_store.specs.declared.store.Store.{Store}
 use Rattle.ipl_store.specs.Puts.{HasBrought}
 use Rattle.ipl_store.specs.Shown.{FramesName}
-use Rattle.ipl_store.proofs.CallLemmas.{pages_move, moved_calls, kept_holds, kept_for, done_ends, ended_used}
+use Rattle.ipl_store.proofs.CallLemmas.{pages_move, moved_calls, kept_holds, kept_for, done_ends, ended_costs, ended_used}
 use Rattle.ipl_store.proofs.BroughtLemmas.{has_brought}
 use Rattle.ipl_store.proofs.ShownLemmas.{names_told}
 use Rattle.ipl_store.proofs.store.Store.bring.Goals as goal
@@ -32,7 +32,7 @@ returns-clause-fetches g c =
           store.down
           c.end.new.self.down c.end.result c.end.ensures.ends
           (names_told c.args.n store pages old after c.bring-done.result c.end.new.self
-          c.requires.sound.made.units (ap (λ (s : Store). s.transactions.pages) rest)
+          (ap (λ (s : Store). s.transactions.pages) rest)
           c.bring-done.ensures.upholds.keeps
           (subst (λ (h : Home). OnOk c.bring-done.result (IsFramed pages h.unit h.page))
           c.home-home.ensures.home c.bring-done.ensures.there));
@@ -45,6 +45,9 @@ returns-clause-fetches g c =
           (record store.transactions { pages = pages }) store.kept rest
           (subst (λ (h : Home). KeepsFramedFor h.unit h.page store.transactions.pages pages)
           c.home-home.ensures.home c.bring-done.ensures.framed);
+      costs = ended_costs store c.end.new.self (record store.transactions { pages = pages })
+          store.kept old after c.bring-done.result c.end.result rest c.end.ensures.ends
+          c.bring-done.ensures.asks.costs;
     }
 
 pub returns-clause-sessions : goal.returns-clause-sessions
@@ -57,7 +60,6 @@ returns-clause-asks g c =
       idle = λ framed. (asks.idle (subst (λ (h : Home). IsFramed pages h.unit h.page)
           (sym c.home-home.ensures.home) framed)).1;
       free = asks.free;
-      costs = asks.costs;
     }
 
 pub returns-clause-brought : goal.returns-clause-brought

@@ -1,5 +1,5 @@
 use Rattle.std.proofs.Common.{None, refl}
-use Rattle.ipl_store.proofs.CallLemmas.{pages_move, moved_calls, kept_holds, kept_for, ended_framed, ended_used}
+use Rattle.ipl_store.proofs.CallLemmas.{pages_move, moved_calls, kept_holds, kept_for, ended_costs, ended_framed, ended_used}
 use Rattle.ipl_store.proofs.store.Store.bring_page.Goals as goal
 
 pub returns-clause-calls : goal.returns-clause-calls
@@ -47,5 +47,12 @@ pub returns-clause-asks : goal.returns-clause-asks
 returns-clause-asks g c = record {
   idle = λ framed. (c.bring-done.ensures.asks.idle framed).1;
   free = c.bring-done.ensures.asks.free;
-  costs = c.bring-done.ensures.asks.costs;
 }
+
+pub returns-clause-costs : goal.returns-clause-costs
+returns-clause-costs g c =
+    let store = c.args.self.now in
+    ended_costs store c.end.new.self (record store.transactions { pages = c.bring-done.new.self })
+    store.kept (g.C.Chip.told c.args.chip.now) (g.C.Chip.told c.bring-done.new.chip)
+    c.bring-done.result c.end.result c.end.ensures.rest c.end.ensures.ends
+    c.bring-done.ensures.asks.costs

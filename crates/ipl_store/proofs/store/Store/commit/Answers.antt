@@ -1,11 +1,13 @@
-use Rattle.std.proofs.Common.{◌≡◌, ◌∙◌, ◌^◌, [], ◌∷◌, None, sym, ap}
+use Rattle.std.proofs.Common.{◌≡◌, ◌∙◌, ◌^◌, [], ◌∷◌, Bool, Some, None, Err, refl, sym, ap, subst}
+use Rattle.std.proofs.lemmas.Result.{err_from_is_err_and}
 use Rattle.ipl_rules.specs.Operations.{after_commit}
 use Rattle.ipl_rules.specs.Refusals.{refuses_end}
 use Rattle.record_locks.specs.Standing.{state_of}
 use Rattle.store_steps.specs.Keeps.{limits_of}
 use Rattle.store_steps.proofs.RefusalLemmas.{one_is_open}
 use Rattle.ipl_store.specs.Calls.{early_fault, entry_fault}
-use Rattle.ipl_store.proofs.CallLemmas.{let_in, turns_move, moved_calls, kept_holds, kept_framed}
+use Rattle.ipl_store.proofs.CallLemmas.{early_unworn, let_in, turns_move, moved_calls, kept_holds, kept_framed, ended_asks}
+use Rattle.transactions.specs.Costs.{CommitAsks}
 use Rattle.transactions.proofs.CostLemmas.{empty_asks}
 use Rattle.ipl_store.proofs.store.Store.commit.Goals as goal
 
@@ -52,7 +54,25 @@ returns-clause-framed g c = kept_framed c.args.self.now c.end.new.self c.commit-
 
 pub returns-in_err-admit-clause-asks : goal.returns-in_err-admit-clause-asks
 returns-in_err-admit-clause-asks g c =
-    empty_asks c.args.self.now.transactions (c.args.s ∷ []) (g.C.Chip.told c.args.chip.now)
+    let store = c.args.self.now in
+    let told = g.C.Chip.told c.args.chip.now in
+    let refusal = refuses_end (limits_of store.units) (state_of store.transactions.sessions)
+    c.args.s in
+    let fault = c.in_err-admit.field-0.0 in
+    let is : early_fault (entry_fault store) refusal ≡ Some fault =
+    ap (early_fault (entry_fault store)) (sym c.refuses_end.ensures) ∙ sym c.in_err-admit.ensures in
+    let e = err_from_is_err_and c.from_residual.result c.from_residual.ensures.1 in
+    rw (e.1 ∙ ap Err e.2) (subst (λ (b : Bool).
+    CommitAsks store.transactions (c.args.s ∷ []) b store.transactions.pages told told)
+    (sym (early_unworn store refusal fault is))
+    (empty_asks store.transactions (c.args.s ∷ []) store.transactions.pages told refl))
 
 pub returns-clause-asks : goal.returns-clause-asks
-returns-clause-asks g c = c.commit-done.ensures.asks
+returns-clause-asks g c =
+    let store = c.args.self.now in
+    let old = g.C.Chip.told c.args.chip.now in
+    let after = g.C.Chip.told c.commit-done.new.chip in
+    ended_asks (λ worn_out pages.
+    CommitAsks store.transactions (c.args.s ∷ []) worn_out pages old after) store c.end.new.self
+    c.commit-done.new.self c.commit-done.new.kept c.commit-done.result c.end.result c.end.ensures.rest
+    c.end.ensures.ends c.commit-done.ensures.asks

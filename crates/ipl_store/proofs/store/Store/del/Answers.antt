@@ -5,8 +5,9 @@ use Rattle.ipl_rules.specs.Operations.{after_write}
 use Rattle.store_steps.specs.Keeps.{limits_of}
 use Rattle.store_steps.specs.Refusals.{sessions_refuse_del}
 use Rattle.page_frames.proofs.UseLemmas.{none_leaves}
-use Rattle.ipl_store.specs.Calls.{early_fault, entry_fault}
-use Rattle.ipl_store.proofs.CallLemmas.{calls_refused, let_in, writes_move, moved_calls, kept_holds, kept_for, ended_framed, ended_used}
+use Rattle.transactions.specs.Costs.{AsksToWrite}
+use Rattle.ipl_store.specs.Calls.{early_fault, entry_fault, tells_wear}
+use Rattle.ipl_store.proofs.CallLemmas.{calls_refused, early_unworn, let_in, writes_move, moved_calls, kept_holds, kept_for, ended_asks, ended_framed, ended_used}
 use Rattle.ipl_store.proofs.ShownLemmas.{write_asks_nothing}
 use Rattle.ipl_store.proofs.store.Store.del.Goals as goal
 
@@ -67,8 +68,23 @@ returns-in_err-admit-clause-calls g c =
     (g.C.Chip.told c.args.chip.now) (Err fault) fault is refl c.requires.sound)
 
 pub returns-in_err-admit-clause-asks : goal.returns-in_err-admit-clause-asks
-returns-in_err-admit-clause-asks g c = write_asks_nothing c.args.n None
-    c.args.self.now.transactions.pages (g.C.Chip.told c.args.chip.now)
+returns-in_err-admit-clause-asks g c =
+    let store = c.args.self.now in
+    let refusal = sessions_refuse_del (limits_of store.units) store.transactions.sessions
+    c.args.s c.args.n in
+    let fault = c.in_err-admit.field-0.0 in
+    let is : early_fault (entry_fault store) refusal ≡ Some fault =
+    ap (early_fault (entry_fault store)) (sym c.refuses_del.ensures) ∙ sym c.in_err-admit.ensures in
+    let e = err_from_is_err_and c.from_residual.result c.from_residual.ensures.1 in
+    rw (e.1 ∙ ap Err e.2) (write_asks_nothing c.args.n None (tells_wear fault)
+    store.transactions.pages (g.C.Chip.told c.args.chip.now) (early_unworn store refusal fault is))
 
 pub returns-clause-asks : goal.returns-clause-asks
-returns-clause-asks g c = c.write-done.ensures.asks
+returns-clause-asks g c =
+    let store = c.args.self.now in
+    let old = g.C.Chip.told c.args.chip.now in
+    let after = g.C.Chip.told c.write-done.new.chip in
+    ended_asks (λ worn_out pages.
+    AsksToWrite c.args.n None worn_out store.transactions.pages pages old after) store c.end.new.self
+    c.write-done.new.self store.kept c.write-done.result c.end.result c.end.ensures.rest
+    c.end.ensures.ends c.write-done.ensures.asks

@@ -7,7 +7,7 @@ use Rattle.store_steps.specs.Keeps.{limits_of}
 use Rattle.ipl_base.specs.Places.{home_of}
 use Rattle.ipl_store.specs.Calls.{early_fault, entry_fault}
 use Rattle.store_steps.proofs.RefusalLemmas.{passed_gets}
-use Rattle.ipl_store.proofs.CallLemmas.{let_in, on_ok}
+use Rattle.ipl_store.proofs.CallLemmas.{early_unworn, let_in, on_ok}
 use Rattle.ipl_store.proofs.ShownLemmas.{looks_answered, let_in_fetches, refused_fetches, asks_nothing}
 use Rattle.ipl_store.proofs.store.Store.fetch.Goals as goal
 
@@ -23,7 +23,8 @@ returns-in_err-admit-clause-fetches g c =
     ap (early_fault (entry_fault store)) (sym c.refuses_get.ensures) ∙ sym c.in_err-admit.ensures in
     let e = err_from_is_err_and c.from_residual.result c.from_residual.ensures.1 in
     rw (e.1 ∙ ap Err e.2)
-    (refused_fetches early (λ state. state) c.args.n store old fault is c.requires.sound)
+    (refused_fetches early (λ state. state) c.args.n store old fault is
+    (early_unworn store refusal fault is) c.requires.sound)
 
 pub returns-in_err-admit-clause-looks : goal.returns-in_err-admit-clause-looks
 returns-in_err-admit-clause-looks g c = λ found.
@@ -38,7 +39,8 @@ returns-in_err-admit-clause-looks g c = λ found.
     let e = err_from_is_err_and c.from_residual.result c.from_residual.ensures.1 in
     rw (e.1 ∙ ap Err e.2) (looks_answered early (λ state. state) c.args.n store old (Err fault)
     store old
-    (refused_fetches early (λ state. state) c.args.n store old fault is c.requires.sound) found)
+    (refused_fetches early (λ state. state) c.args.n store old fault is
+    (early_unworn store refusal fault is) c.requires.sound) found)
 
 pub returns-in_err-admit-clause-asks : goal.returns-in_err-admit-clause-asks
 returns-in_err-admit-clause-asks g c =

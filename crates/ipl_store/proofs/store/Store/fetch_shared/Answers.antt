@@ -9,7 +9,7 @@ use Rattle.store_steps.specs.Keeps.{limits_of}
 use Rattle.ipl_base.specs.Places.{home_of}
 use Rattle.ipl_store.specs.Calls.{early_fault, entry_fault}
 use Rattle.store_steps.proofs.RefusalLemmas.{passed_shares}
-use Rattle.ipl_store.proofs.CallLemmas.{let_in}
+use Rattle.ipl_store.proofs.CallLemmas.{early_unworn, let_in}
 use Rattle.ipl_store.proofs.ShownLemmas.{looks_answered, refused_fetches, failed_fetches, shared_fetches, asks_nothing}
 use Rattle.ipl_store.proofs.store.Store.fetch_shared.Goals as goal
 
@@ -27,7 +27,8 @@ returns-in_err-admit-clause-fetches g c =
     let e = err_from_is_err_and c.from_residual.result c.from_residual.ensures.1 in
     rw (e.1 ∙ ap Err e.2)
     (refused_fetches early (λ state. after_share state c.args.s c.args.n) c.args.n store old
-    fault is c.requires.sound)
+    fault is
+    (early_unworn store refusal fault is) c.requires.sound)
 
 pub returns-in_err-admit-clause-looks : goal.returns-in_err-admit-clause-looks
 returns-in_err-admit-clause-looks g c = λ found.
@@ -44,7 +45,8 @@ returns-in_err-admit-clause-looks g c = λ found.
     rw (e.1 ∙ ap Err e.2) (looks_answered early (λ state. after_share state c.args.s c.args.n)
     c.args.n store old (Err fault) store old
     (refused_fetches early (λ state. after_share state c.args.s c.args.n) c.args.n store old
-    fault is c.requires.sound) found)
+    fault is
+    (early_unworn store refusal fault is) c.requires.sound) found)
 
 pub returns-in_err-admit-clause-asks : goal.returns-in_err-admit-clause-asks
 returns-in_err-admit-clause-asks g c =

@@ -1,13 +1,15 @@
-use Rattle.std.proofs.Common.{◌≡◌, ◌∙◌, None, Ok, Err, sym, ap, subst, arith, IsSome, Some, refl}
+use Rattle.std.proofs.Common.{◌≡◌, ◌∙◌, None, Ok, Err, sym, ap, subst, arith, IsSome, Some, false, refl}
 use Rattle.std.proofs.lemmas.Bool.{false≢true}
 use Rattle.std.proofs.lemmas.Result.{err_from_is_err_and}
 use Rattle.buffer_pool.proofs.HoldingLemmas.{as_many}
 use Rattle.pending_writes.specs.Frames.{Frames}
-use Rattle.ipl_store.specs.Calls.{early_fault, entry_fault, refuses_hold}
-use Rattle.ipl_store.proofs.CallLemmas.{calls_refused, let_in, let_in_calls, idle_calls}
+use Rattle.ipl_store.specs.declared.store.Store.{Store}
+use Rattle.ipl_store.specs.Calls.{early_fault, entry_fault, refuses_hold, tells_wear}
+use Rattle.ipl_store.specs.Shown.{CostsOnePage}
+use Rattle.ipl_store.proofs.CallLemmas.{calls_refused, early_unworn, let_in, let_in_calls, idle_calls}
 use Rattle.page_frames.proofs.UseLemmas.{none_leaves, stays_for, framed_then}
 use Rattle.ipl_store.proofs.HoldLemmas.{holds_then, holds_again, held_on, held_before, held_framed, passed_hold, repooled_calls, repooled_framed}
-use Rattle.ipl_store.proofs.ShownLemmas.{asks_nothing}
+use Rattle.ipl_store.proofs.ShownLemmas.{asks_nothing, costs_nothing}
 use Rattle.ipl_store.proofs.store.Store.hold.Goals as goal
 
 pub returns-then-is_held-clause-calls : goal.returns-then-is_held-clause-calls
@@ -174,3 +176,35 @@ returns-in_err-bring_page-clause-asks g c = c.in_err-bring_page.ensures.asks
 
 pub returns-clause-asks : goal.returns-clause-asks
 returns-clause-asks g c = c.in_ok-bring_page.ensures.asks
+
+pub returns-in_err-admit-clause-costs : goal.returns-in_err-admit-clause-costs
+returns-in_err-admit-clause-costs g c =
+    let store = c.args.self.now in
+    let refusal = refuses_hold store.units store.transactions.pages.pool c.args.unit c.args.page in
+    let fault = c.in_err-admit.field-0.0 in
+    let is : early_fault (entry_fault store) refusal ≡ Some fault =
+    ap (early_fault (entry_fault store)) (sym c.refuses_hold.ensures) ∙ sym c.in_err-admit.ensures in
+    let e = err_from_is_err_and c.from_residual.result c.from_residual.ensures.1 in
+    rw (e.1 ∙ ap Err e.2) (costs_nothing store (tells_wear fault) (g.C.Chip.told c.args.chip.now)
+    (early_unworn store refusal fault is))
+
+pub returns-then-is_held-clause-costs : goal.returns-then-is_held-clause-costs
+returns-then-is_held-clause-costs g c =
+    let store = c.args.self.now in
+    let told = g.C.Chip.told c.args.chip.now in
+    subst (λ (s : Store). CostsOnePage false store s told told)
+    (sym c.use_held.ensures.pool.rest) (costs_nothing store false told refl)
+
+pub returns-in_err-bring_page-clause-costs : goal.returns-in_err-bring_page-clause-costs
+returns-in_err-bring_page-clause-costs g c =
+    let e = err_from_is_err_and c.from_residual-in_err-bring_page.result
+    c.from_residual-in_err-bring_page.ensures.1 in
+    rw (e.1 ∙ ap Err e.2) c.in_err-bring_page.ensures.costs
+
+pub returns-clause-costs : goal.returns-clause-costs
+returns-clause-costs g c =
+    let store = c.args.self.now in
+    let old = g.C.Chip.told c.args.chip.now in
+    let after = g.C.Chip.told c.bring_page.new.chip in
+    subst (λ (s : Store). CostsOnePage false store s old after) (sym c.keep.ensures.pool.rest)
+    c.in_ok-bring_page.ensures.costs

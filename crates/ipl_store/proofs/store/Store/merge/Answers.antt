@@ -1,13 +1,17 @@
-use Rattle.std.proofs.Common.{◌≡◌, ◌∙◌, None, OnOk, sym, ap, subst}
+use Rattle.std.proofs.Common.{◌≡◌, ◌∙◌, Bool, Some, None, Err, OnOk, is_ok, slice_index, sym, ap, subst}
+use Rattle.std.proofs.lemmas.Result.{err_from_is_err_and}
 use Rattle.ipl_rules.specs.Refusals.{refuses_merge}
 use Rattle.store_steps.specs.Keeps.{limits_of}
 use Rattle.unit_io.specs.Charts.{Charts}
+use Rattle.unit_io.specs.Costs.{Spends}
+use Rattle.place_taking.specs.Spending.{ErasesFor}
 use Rattle.selective_merge.specs.Merging.{Merges, StaysMirrored}
 use Rattle.page_frames.specs.declared.pages.Pages.{Pages}
 use Rattle.page_frames.specs.Pages.{tables_in}
 use Rattle.ipl_store.specs.declared.store.Store.{Store}
-use Rattle.ipl_store.specs.Calls.{early_fault, entry_fault}
-use Rattle.ipl_store.proofs.CallLemmas.{let_in, pages_move, moved_calls, kept_holds, kept_framed, done_ends, throughout_done}
+use Rattle.ipl_store.specs.Calls.{early_fault, ends_worn_out, entry_fault, tells_wear}
+use Rattle.ipl_store.proofs.CallLemmas.{early_unworn, let_in, pages_move, moved_calls, kept_holds, kept_framed, done_ends, ended_asks, same_answer, throughout_done}
+use Rattle.ipl_store.proofs.MergeLemmas.{refused_merges}
 use Rattle.ipl_store.proofs.store.Store.merge.Goals as goal
 
 pub returns-clause-calls : goal.returns-clause-calls
@@ -60,3 +64,31 @@ returns-clause-merges g c =
     (throughout_done (Merges old.places c.args.unit t (tables_in pages))
     (StaysMirrored old.places t (tables_in pages)) c.merge-done.result old after
     c.merge-done.ensures.tells))
+
+pub returns-in_err-admit-clause-costs : goal.returns-in_err-admit-clause-costs
+returns-in_err-admit-clause-costs g c =
+    let store = c.args.self.now in
+    let d = store.transactions.pages.parts.directory in
+    let refusal = refuses_merge (limits_of store.units) c.args.unit in
+    let fault = c.in_err-admit.field-0.0 in
+    let is : early_fault (entry_fault store) refusal ≡ Some fault =
+    ap (early_fault (entry_fault store)) (sym c.refuses_merge.ensures) ∙ sym c.in_err-admit.ensures in
+    let e = err_from_is_err_and c.from_residual.result c.from_residual.ensures.1 in
+    rw (e.1 ∙ ap Err e.2) (refused_merges d (slice_index d.current c.args.unit) (tells_wear fault)
+    (g.C.Chip.told c.args.chip.now) (early_unworn store refusal fault is))
+
+pub returns-clause-costs : goal.returns-clause-costs
+returns-clause-costs g c =
+    let store = c.args.self.now in
+    let old = g.C.Chip.told c.args.chip.now in
+    let after = g.C.Chip.told c.merge-done.new.chip in
+    let d = store.transactions.pages.parts.directory in
+    let new = c.end.new.self.transactions.pages.parts.directory in
+    subst (λ (b : Bool). Spends (ErasesFor d new 3 (slice_index new.current c.args.unit) b
+    (ends_worn_out c.end.result)) old after)
+    (same_answer c.merge-done.result store.down c.end.new.self.down c.end.result c.end.ensures.ends)
+    (ended_asks (λ worn_out pages. Spends (ErasesFor d pages.parts.directory 3
+    (slice_index pages.parts.directory.current c.args.unit) (is_ok c.merge-done.result) worn_out) old
+    after) store c.end.new.self (record store.transactions { pages = c.merge-done.new.self })
+    store.kept c.merge-done.result c.end.result c.end.ensures.rest c.end.ensures.ends
+    c.merge-done.ensures.costs)

@@ -1,24 +1,38 @@
-use Rattle.std.proofs.Common.{◌≡◌, true, false, refl, sym, ◌∙◌}
+use Rattle.std.proofs.Common.{◌≡◌, ℕ, length, true, false, refl, sym, ◌∙◌, subst}
 use Rattle.std.proofs.lemmas.Result.{err_from_is_err_and}
+use Rattle.ipl_base.specs.Places.{KeepsUnits}
+use Rattle.ipl_store.specs.declared.store.Store.{Store}
 use Rattle.ipl_store.specs.Calls.{memory_of_store, IsMade}
 use Rattle.ipl_store.specs.Openings.{IsFresh}
 use Rattle.ipl_store.proofs.OpeningLemmas.{recovered, made_recovered, fresh_sound, fresh_opens, fresh_restarts}
+use Rattle.ipl_store.proofs.store.Store.open_chip.Given.{Over}
 use Rattle.ipl_store.proofs.store.Store.open_chip.Goals as goal
 
-pub returns-in_err-recover-clause-sound : goal.returns-in_err-recover-clause-sound
-returns-in_err-recover-clause-sound g c =
+-- ---- it wasn't opened
+
+pub returns-in_err-recovered-clause-sound : goal.returns-in_err-recovered-clause-sound
+returns-in_err-recovered-clause-sound g c =
     let places = (g.C.Chip.told c.args.chip.now).places in
-    let closed = c.forget.new.self in record {
-      made = made_recovered places closed c.recover.new.parts c.recover.new.kept
-          c.recover.new.scratch closed.down (c.forget.ensures.made places c.requires.sound.made)
-          c.recover.ensures.sized;
+    let closed = c.forget.new.self in
+    let made = c.forget.ensures.made places c.requires.sound.made in record {
+      made = made_recovered places closed c.recover-recovered.new.parts
+          c.recover-recovered.new.kept c.recover-recovered.new.scratch closed.units closed.down made
+          c.recover-recovered.ensures.sized made.units;
       order = λ up.
+          let no : true ≡ false = sym c.forget.ensures.down ∙ up in absurd (cc no);
+      count = λ up.
           let no : true ≡ false = sym c.forget.ensures.down ∙ up in absurd (cc no);
     }
 
-pub returns-in_err-recover-clause-tries : goal.returns-in_err-recover-clause-tries
-returns-in_err-recover-clause-tries g c =
-    let says = c.in_err-recover.ensures in
+pub returns-in_err-recovered-clause-opens : goal.returns-in_err-recovered-clause-opens
+returns-in_err-recovered-clause-opens g c =
+    let e = err_from_is_err_and c.from_residual.result c.from_residual.ensures.1 in
+    rw e.1 (c.forget.ensures.down, c.forget.ensures.units)
+
+pub returns-in_err-recovered-clause-tries : goal.returns-in_err-recovered-clause-tries
+returns-in_err-recovered-clause-tries g c =
+    let places = (g.C.Chip.told c.args.chip.now).places in
+    let says = c.in_err-recovered.ensures in
     let e = err_from_is_err_and c.from_residual.result c.from_residual.ensures.1 in
     rw (e.1, e.2) (record {
       tells = says.tells;
@@ -30,48 +44,72 @@ returns-in_err-recover-clause-tries g c =
       costs = says.costs;
       renewed = says.renewed;
       accounts = says.accounts;
+      all = says.sized.1;
+      units = subst (λ (n : ℕ). KeepsUnits n
+          (length c.recover-recovered.new.parts.directory.current)) says.sized.1
+          c.facts.ensures.units;
     })
+
+-- ---- it was
+
+-- as many units may be kept as its tables have
+counted : (g : Over) (c : goal.After-self-2-1 g)
+    → KeepsUnits (g.C.Chip.told c.args.chip.now).places c.units-self.result
+counted g c = rw c.units-self.ensures (subst (λ (n : ℕ). KeepsUnits n
+    (length c.recover-recovered.new.parts.directory.current)) c.recover-recovered.ensures.sized.1
+    c.facts.ensures.units)
+
+-- the store then
+abbrev opened : (g : Over) (c : goal.After-self-2-1 g) → Store
+opened g c = recovered c.forget.new.self c.recover-recovered.new.parts c.recover-recovered.new.kept
+    c.recover-recovered.new.scratch c.units-self.result false
+
+made : (g : Over) (c : goal.After-self-2-1 g)
+    → IsMade (g.C.Chip.told c.args.chip.now).places (opened g c)
+made g c =
+    let places = (g.C.Chip.told c.args.chip.now).places in
+    made_recovered places c.forget.new.self c.recover-recovered.new.parts
+    c.recover-recovered.new.kept c.recover-recovered.new.scratch c.units-self.result false
+    (c.forget.ensures.made places c.requires.sound.made) c.recover-recovered.ensures.sized
+    (counted g c)
+
+fresh : (g : Over) (c : goal.After-self-2-1 g) → IsFresh (opened g c)
+fresh g c = record { up = refl; idle = c.forget.ensures.idle; empty = c.forget.ensures.empty }
 
 pub returns-clause-sound : goal.returns-clause-sound
 returns-clause-sound g c =
-    let places = (g.C.Chip.told c.args.chip.now).places in
-    let closed = c.forget.new.self in
-    let store = recovered closed c.recover.new.parts c.recover.new.kept c.recover.new.scratch
-    false in
-    let made : IsMade places store = made_recovered places closed c.recover.new.parts
-    c.recover.new.kept c.recover.new.scratch false
-    (c.forget.ensures.made places c.requires.sound.made) c.recover.ensures.sized in
-    let fresh : IsFresh store =
-    record { up = refl; idle = c.forget.ensures.idle; empty = c.forget.ensures.empty } in
-    fresh_sound places store made fresh c.in_ok-recover.ensures.holds
+    fresh_sound (g.C.Chip.told c.args.chip.now).places (opened g c) (made g c) (fresh g c)
+    c.in_ok-recovered.ensures.holds (sym c.units-self.ensures)
 
 pub returns-clause-opens : goal.returns-clause-opens
 returns-clause-opens g c =
     let old = g.C.Chip.told c.args.chip.now in
-    let closed = c.forget.new.self in
-    let store = recovered closed c.recover.new.parts c.recover.new.kept c.recover.new.scratch
-    false in
-    let made : IsMade old.places store = made_recovered old.places closed c.recover.new.parts
-    c.recover.new.kept c.recover.new.scratch false
-    (c.forget.ensures.made old.places c.requires.sound.made) c.recover.ensures.sized in
-    let fresh : IsFresh store =
-    record { up = refl; idle = c.forget.ensures.idle; empty = c.forget.ensures.empty } in
-    fresh_opens old.places store made fresh c.in_ok-recover.ensures.holds old
-    (g.C.Chip.told c.recover.new.chip)
-    c.in_ok-recover.ensures.tells c.in_ok-recover.ensures.steps c.in_ok-recover.ensures.number
-    c.in_ok-recover.ensures.left
+    let says = c.in_ok-recovered.ensures in
+    fresh_opens old.places (opened g c) (made g c) (fresh g c) says.holds (sym c.units-self.ensures) old
+    (g.C.Chip.told c.recover-recovered.new.chip) says.tells says.steps says.number says.left
+
+pub returns-clause-tries : goal.returns-clause-tries
+returns-clause-tries g c =
+    let says = c.in_ok-recovered.ensures in record {
+      tells = says.tells;
+      steps = says.steps;
+      looks = says.looks;
+      complete = says.complete;
+      bytes = says.bytes;
+      tidy = says.tidy;
+      costs = says.costs;
+      renewed = says.renewed;
+      accounts = says.accounts;
+      all = says.sized.1;
+      units = subst (λ (n : ℕ). KeepsUnits n
+          (length c.recover-recovered.new.parts.directory.current)) says.sized.1
+          c.facts.ensures.units;
+    }
 
 pub returns-clause-leads : goal.returns-clause-leads
 returns-clause-leads g c =
     let old = g.C.Chip.told c.args.chip.now in
-    let closed = c.forget.new.self in
-    let store = recovered closed c.recover.new.parts c.recover.new.kept c.recover.new.scratch
-    false in
-    let made : IsMade old.places store = made_recovered old.places closed c.recover.new.parts
-    c.recover.new.kept c.recover.new.scratch false
-    (c.forget.ensures.made old.places c.requires.sound.made) c.recover.ensures.sized in
-    let fresh : IsFresh store =
-    record { up = refl; idle = c.forget.ensures.idle; empty = c.forget.ensures.empty } in
-    fresh_restarts old.places store made fresh c.in_ok-recover.ensures.holds
-    (memory_of_store c.args.self.now) old (g.C.Chip.told c.recover.new.chip) refl
-    c.in_ok-recover.ensures.tells c.in_ok-recover.ensures.steps
+    fresh_restarts old.places (opened g c) (made g c) (fresh g c) c.in_ok-recovered.ensures.holds
+    (sym c.units-self.ensures) (memory_of_store c.args.self.now) old
+    (g.C.Chip.told c.recover-recovered.new.chip) refl c.in_ok-recovered.ensures.tells
+    c.in_ok-recovered.ensures.steps

@@ -1,7 +1,6 @@
-use Rattle.std.proofs.Common.{◌≡◌, ◌+◌, [], ◌∷◌, ◌++◌, ◌<◌, map, length, sym, ◌∙◌, ap, subst, arith}
+use Rattle.std.proofs.Common.{◌≡◌, [], ◌∷◌, ◌++◌, ◌<◌, map, length, sym, ◌∙◌, ap, subst, arith}
 use Rattle.std.specs.List.{refill}
 use Rattle.std.proofs.lemmas.List.{get_or_read}
-use Rattle.ipl_base.specs.Places.{places_for}
 use Rattle.ipl_meaning.specs.Tables.{OverflowLists}
 use Rattle.overflow.specs.Lists.{first_of, clean_behind, spots_in, masks_at}
 use Rattle.overflow.proofs.FillLemmas.{refilled}
@@ -11,7 +10,9 @@ use Rattle.overflow.proofs.overflow.Overflow.add.Goals as goal
 pub invariant_of-self : goal.invariant_of-self
 invariant_of-self c =
     let inside = c.self.inside in
+    let (sound, spots_room, masks_room) = c.self.invariant in
     let it : OverflowLists = record {
+      places = c.self.inside.places;
       spots = inside.spots.items;
       masks = inside.masks.items;
       in_use = map first_of inside.in_use.items;
@@ -20,10 +21,10 @@ invariant_of-self c =
     let s = c.args.spot in
     let low : u < length inside.spots.items =
     omega (arith, ap (λ (v : OverflowLists). length v.spots) c.self.view_is, c.requires.unit) in
-    let place : s.place < places_for (length inside.spots.items) =
+    let place : s.place < inside.places =
     omega (
       arith,
-      ap (λ (v : OverflowLists). length v.spots) c.self.view_is,
+      ap (λ (v : OverflowLists). v.places) c.self.view_is,
       c.requires.place,
     ) in
     let few : length (spots_in it u) < 16 =
@@ -41,6 +42,10 @@ invariant_of-self c =
     c.index_mut-list.ensures.value []) in
     let masks : c.push-2.new.self ≡ masks_at it u ++ c.args.mask ∷ [] =
     c.push-2.ensures ∙ ap (λ l. l ++ c.args.mask ∷ [])
-    (get_or_read inside.masks.items u c.index_mut-masks.result.now (omega (arith, low, c.self.invariant.lists))
-    c.index_mut-masks.ensures.value []) in
-    sound_after it u s.place s.sector c.args.mask _ _ _ c.self.invariant low few place c.requires.sector list masks places
+    (get_or_read inside.masks.items u c.index_mut-masks.result.now (omega (arith, low, sound.lists))
+    c.index_mut-masks.ensures.value []) in (
+      sound_after it u s.place s.sector c.args.mask _ _ _ sound low few place c.requires.sector list masks
+          places,
+      spots_room,
+      masks_room,
+    )

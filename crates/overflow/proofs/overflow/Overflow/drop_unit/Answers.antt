@@ -8,11 +8,16 @@ use Rattle.overflow.proofs.overflow.Overflow.drop_unit.Goals as goal
 pub invariant_of-self : goal.invariant_of-self
 invariant_of-self c =
     let it : OverflowLists = record {
+      places = c.self.inside.places;
       spots = c.self.inside.spots.items;
       masks = c.self.inside.masks.items;
       in_use = map first_of c.self.inside.in_use.items;
     } in
-    sound_left it c.args.unit _ _ _ c.self.invariant c.clear.ensures c.clear-2.ensures
-    (c.keep_named.ensures.named
-    ∙ ap (λ (l : List (List (ℕ × ℕ))). filter (is_kept l) it.in_use)
-    (c.deref-2.ensures.value ∙ ap (set c.self.inside.spots.items c.args.unit) c.clear.ensures))
+    let (sound, spots_room, masks_room) = c.self.invariant in (
+      sound_left it c.args.unit _ _ _ sound c.clear.ensures c.clear-2.ensures
+          (c.keep_named.ensures.named
+          ∙ ap (λ (l : List (List (ℕ × ℕ))). filter (is_kept l) it.in_use)
+          (c.deref-2.ensures.value ∙ ap (set c.self.inside.spots.items c.args.unit) c.clear.ensures)),
+      spots_room,
+      masks_room,
+    )

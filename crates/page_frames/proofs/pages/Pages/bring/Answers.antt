@@ -1,5 +1,6 @@
 use Rattle.std.proofs.Common.{inl, inr, sym, ◌∙◌, IsSome, subst}
 use Rattle.std.proofs.lemmas.Bool.{false≢true}
+use Rattle.place_taking.specs.Spending.{is_worn_out}
 use Rattle.pending_writes.specs.Frames.{Frames}
 use Rattle.page_frames.proofs.AskLemmas.{used_asks, brought_asks}
 use Rattle.page_frames.proofs.UseLemmas.{used_upholds, used_framed, stays_for}
@@ -39,7 +40,7 @@ returns-clause-fresh g c = λ none. c.fetch.ensures.fresh
 
 pub returns-clause-asks : goal.returns-clause-asks
 returns-clause-asks g c =
-    brought_asks c.args.unit c.args.page c.args.self.now c.fetch.new.self
+    brought_asks c.args.unit c.args.page (is_worn_out c.fetch.result) c.args.self.now c.fetch.new.self
     (g.C.Chip.told c.args.chip.now) (g.C.Chip.told c.fetch.new.chip)
     (λ there. false≢true (sym c.if-is_framed.false ∙ c.is_framed.ensures.1 there))
     c.fetch.ensures.idle c.fetch.ensures.costs

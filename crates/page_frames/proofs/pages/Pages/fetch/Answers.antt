@@ -2,6 +2,8 @@ use Rattle.std.proofs.Common.{IsSome, ℕ, [], Option, inl, inr, refl, sym, ◌�
 use Rattle.std.proofs.lemmas.Bool.{false≢true}
 use Rattle.std.proofs.lemmas.Result.{err_from_is_err_and}
 use Rattle.chip_trait.specs.Told.{Told}
+use Rattle.ipl_meaning.specs.Tables.{Tables}
+use Rattle.place_taking.specs.Spending.{is_worn_out}
 use Rattle.page_ops.specs.Frames.{empty_frame}
 use Rattle.buffer_pool.specs.Pools.{PoolView}
 use Rattle.pending_writes.specs.Frames.{Frames, logs_of}
@@ -93,8 +95,10 @@ returns-clause-used g c =
 
 pub returns-clause-costs : goal.returns-clause-costs
 returns-clause-costs g c =
-    logs_then_reads c.args.self.now.parts.directory (g.C.Chip.told c.args.chip.now)
+    logs_then_reads c.args.self.now.parts.directory c.empty_victim.new.self.parts.directory
+    c.fill.new.self.parts.directory (is_worn_out c.fill.result) (g.C.Chip.told c.args.chip.now)
     (g.C.Chip.told c.empty_victim.new.chip) (g.C.Chip.told c.fill.new.chip)
+    (ap (λ (t : Tables). t.places.retired) c.fill.ensures.tables) c.fill.ensures.unworn
     c.in_ok-empty_victim.ensures.costs c.fill.ensures.costs
 
 pub returns-clause-exact : goal.returns-clause-exact

@@ -13,6 +13,7 @@ use Rattle.store_steps.specs.Views.{frame_of}
 use Rattle.page_frames.specs.Pages.{tables_in, frames_in}
 use Rattle.page_frames.proofs.HeldLemmas.{unheld_page, has_log}
 use Rattle.page_frames.proofs.CompleteLemmas.{load_completes}
+use Rattle.page_frames.proofs.LoadLemmas.{load_unworn}
 use Rattle.page_frames.proofs.TellLemmas.{load_exact}
 use Rattle.page_frames.proofs.pages.Pages.load_frame.Goals as goal
 
@@ -88,3 +89,8 @@ pub returns-clause-uses : goal.returns-clause-uses
 returns-clause-uses g c =
     frame_uses c.args.self.now.pool c.args.unit c.args.page c.in-Some.key c.facts.ensures.once
     c.in-Some.ensures.found c.load.new.frame
+
+pub returns-clause-unworn : goal.returns-clause-unworn
+returns-clause-unworn g c =
+    load_unworn _ _ c.args.page c.load.result (g.C.Chip.told c.args.chip.now)
+    (g.C.Chip.told c.load.new.chip) c.load.ensures.cause

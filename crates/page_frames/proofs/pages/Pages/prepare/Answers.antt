@@ -2,6 +2,7 @@ use Rattle.std.proofs.Common.{IsSome, sym, ◌∙◌, refl, subst}
 use Rattle.std.proofs.lemmas.Bool.{false≢true}
 use Rattle.std.proofs.lemmas.Result.{on_ok_weaker}
 use Rattle.log_records.specs.View.{record_of}
+use Rattle.place_taking.specs.Spending.{is_worn_out}
 use Rattle.pending_writes.specs.Frames.{Frames}
 use Rattle.frame_changes.specs.Changes.{MayPut}
 use Rattle.page_frames.specs.declared.pages.Pages.{Pages}
@@ -24,7 +25,7 @@ returns-then-not-is_framed-clause-room g c =
 
 pub returns-then-not-is_framed-clause-asks : goal.returns-then-not-is_framed-clause-asks
 returns-then-not-is_framed-clause-asks g c =
-    fetched_asks c.args.unit (record_of c.args.logged.now) c.args.self.now c.fetch.new.self
+    fetched_asks c.args.unit (record_of c.args.logged.now) (is_worn_out c.fetch.result) c.args.self.now c.fetch.new.self
     (g.C.Chip.told c.args.chip.now) (g.C.Chip.told c.fetch.new.chip)
     (λ there. false≢true (c.if-not-is_framed.ensures.1 there)) c.fetch.ensures.idle
     c.fetch.ensures.costs

@@ -77,7 +77,8 @@ returns-clause-framed g c = c.loop-i.invariant.framed
 
 pub returns-in_err-write_out-clause-asks : goal.returns-in_err-write_out-clause-asks
 returns-in_err-write_out-clause-asks g c =
-    unwritten_asks c.loop-i.i c.page_at-unit.result.0 c.page_at-unit.result.1
+    let e = err_from_is_err_and c.from_residual.result c.from_residual.ensures.1 in
+    rw (e.1, e.2) (unwritten_asks c.loop-i.i c.page_at-unit.result.0 c.page_at-unit.result.1
     (written_by c.args.sessions.now c.args.numbers.now) c.in_err-write_out.field-0.0 c.args.self.now
     (g.C.Chip.told c.args.chip.now) c.loop-i.self (g.C.Chip.told c.loop-i.chip)
     c.write_out.new.self (g.C.Chip.told c.write_out.new.chip)
@@ -86,7 +87,7 @@ returns-in_err-write_out-clause-asks g c =
     c.page_at-unit.ensures.number c.loop-i.invariant c.in_err-write_out.ensures.asks
     (framed_low (14 * c.loop-i.i) c.args.self.now c.loop-i.self (g.C.Chip.told c.args.chip.now)
     (g.C.Chip.told c.loop-i.chip) c.page_at-unit.result.0 c.page_at-unit.result.1
-    c.loop-i.invariant.upholds c.facts.ensures.once c.page_at-unit.ensures.there c.requires.ready)
+    c.loop-i.invariant.upholds c.facts.ensures.once c.page_at-unit.ensures.there c.requires.ready))
 
 pub returns-clause-asks : goal.returns-clause-asks
 returns-clause-asks g c =

@@ -5,6 +5,7 @@ use Rattle.ipl_model.specs.declared.reply.Reply.TheVariants as reply
 use Rattle.ipl_rules.specs.Refusals.{refuses_merge}
 use Rattle.store_trait.specs.declared.fault.Fault.{Fault}
 use Rattle.store_steps.specs.Keeps.{limits_of}
+use Rattle.ipl_store.specs.Calls.{ends_worn_out}
 use Rattle.ipl_store.proofs.CallLemmas.{on_ok}
 use Rattle.script_store.specs.declared.store.ScriptStore.{ScriptStore}
 use Rattle.script_store.specs.Keeps.{Does}
@@ -34,5 +35,5 @@ returns-clause-done g c =
     let b : ScriptStore = record { store = c.merge.new.self } in
     subst (λ (r : Result Reply Fault). IfOk r (λ answer. IsRefused answer
     ⊎ HasMoved c.args.unit b before after)) (sym c.reply_of.ensures)
-    (merge_done c.args.unit c.args.self.now.store.transactions.pages.parts.directory b before after
-    c.merge.result c.merge.ensures.costs)
+    (merge_done c.args.unit c.args.self.now.store.transactions.pages.parts.directory
+    (ends_worn_out c.merge.result) b before after c.merge.result c.merge.ensures.costs)

@@ -1,10 +1,7 @@
-use Rattle.script_store.proofs.KeepLemmas.{suits_still}
 use Rattle.script_store.proofs.store.ScriptStoreStore.look_up.Goals as goal
 
 pub returns-clause-suited : goal.returns-clause-suited
-returns-clause-suited g c =
-    suits_still c.args.self.now c.look.new.self (g.C.Chip.told c.args.chip.now).places
-    c.requires c.look.result c.look.ensures.finds.running
+returns-clause-suited g c = c.look.ensures.finds.running
 
 pub returns-clause-looks_up : goal.returns-clause-looks_up
 returns-clause-looks_up g c = c.look.ensures.finds.looks_up

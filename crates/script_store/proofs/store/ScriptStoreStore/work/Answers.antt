@@ -1,10 +1,7 @@
-use Rattle.script_store.proofs.KeepLemmas.{suits_still}
 use Rattle.script_store.proofs.store.ScriptStoreStore.work.Goals as goal
 
 pub returns-clause-suited : goal.returns-clause-suited
-returns-clause-suited g c =
-    suits_still c.args.self.now c.answer.new.self (g.C.Chip.told c.args.chip.now).places
-    c.requires.suits c.answer.result c.answer.ensures.does.running
+returns-clause-suited g c = c.answer.ensures.does.running
 
 pub returns-clause-works : goal.returns-clause-works
 returns-clause-works g c = c.answer.ensures.does.works

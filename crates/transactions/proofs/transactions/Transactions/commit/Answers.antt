@@ -1,5 +1,7 @@
-use Rattle.std.proofs.Common.{◌^◌, ◌∙◌}
+use Rattle.std.proofs.Common.{◌^◌, false, refl, ◌∙◌, ap}
 use Rattle.std.proofs.lemmas.Result.{err_from_is_err_and}
+use Rattle.ipl_meaning.specs.Tables.{Places}
+use Rattle.place_taking.specs.Spending.{is_worn_out, tells_worn}
 use Rattle.page_frames.proofs.FramedLemmas.{pool_framed}
 use Rattle.page_frames.proofs.TellLemmas.{alone_tells}
 use Rattle.transactions.proofs.CommitLemmas.{empty_committed, committed, not_committed}
@@ -74,22 +76,27 @@ returns-clause-faults g c =
 
 pub returns-then-is_empty-clause-asks : goal.returns-then-is_empty-clause-asks
 returns-then-is_empty-clause-asks g c =
-    empty_asks c.args.self.now c.args.numbers.now (g.C.Chip.told c.args.chip.now)
+    empty_asks c.args.self.now c.args.numbers.now c.end_all.new.self.pages
+    (g.C.Chip.told c.args.chip.now) c.end_all.ensures.rest.directory
 
 pub returns-in_err-write_sessions_out-clause-asks :
     goal.returns-in_err-write_sessions_out-clause-asks
 returns-in_err-write_sessions_out-clause-asks g c =
-    unwritten_asks c.args.self.now c.args.numbers.now (g.C.Chip.told c.args.chip.now)
-    (g.C.Chip.told c.write_sessions_out.new.chip)
+    let e = err_from_is_err_and c.from_residual.result c.from_residual.ensures.1 in
+    rw (e.1, e.2) (unwritten_asks c.args.self.now c.args.numbers.now
+    (tells_worn c.in_err-write_sessions_out.field-0.0) c.write_sessions_out.new.self.pages
+    (g.C.Chip.told c.args.chip.now) (g.C.Chip.told c.write_sessions_out.new.chip)
     (wrote_some c.args.self.now.sessions c.args.numbers.now c.as_slice.result.now
     (c.as_slice.ensures.numbers ∙ c.writer_numbers-tids.ensures) c.is_empty.result c.is_empty.ensures c.if-is_empty.false)
-    c.in_err-write_sessions_out.ensures.asks
+    c.in_err-write_sessions_out.ensures.asks)
 
 pub returns-clause-asks : goal.returns-clause-asks
 returns-clause-asks g c =
-    commit_asks c.args.self.now c.args.numbers.now (g.C.Chip.told c.args.chip.now)
-    (g.C.Chip.told c.write_sessions_out.new.chip)
+    commit_asks c.args.self.now c.args.numbers.now false c.write_sessions_out.new.self.pages
+    (g.C.Chip.told c.args.chip.now) (g.C.Chip.told c.write_sessions_out.new.chip)
     (wrote_some c.args.self.now.sessions c.args.numbers.now c.as_slice.result.now
     (c.as_slice.ensures.numbers ∙ c.writer_numbers-tids.ensures) c.is_empty.result c.is_empty.ensures c.if-is_empty.false)
-    c.in_ok-write_sessions_out.ensures.asks c.write_sessions_out.new.self.pages.parts.status.place
-    (g.C.Chip.told c.commit_numbers.new.chip) c.commit_numbers.ensures.costs
+    c.in_ok-write_sessions_out.ensures.asks refl c.write_sessions_out.new.self.pages.parts.status.place
+    (is_worn_out c.commit_numbers.result) c.commit_numbers.new.self.pages (g.C.Chip.told c.commit_numbers.new.chip)
+    (ap (λ (it : Places). it.retired) c.commit_numbers.ensures.directory)
+    c.commit_numbers.ensures.unworn c.commit_numbers.ensures.costs

@@ -1,6 +1,7 @@
 use Rattle.std.proofs.Common.{refl, sym, ◌∙◌, ap, subst}
 use Rattle.std.proofs.lemmas.Result.{err_from_is_err_and}
 use Rattle.ipl_base.specs.Calls.{IsFailedCall}
+use Rattle.place_taking.specs.Spending.{tells_worn}
 use Rattle.record_locks.specs.Held.{Slots, after_batch}
 use Rattle.selective_merge.specs.declared.parts.Parts.{Parts}
 use Rattle.transactions.proofs.CommitLemmas.{numbers_added, numbers_not_added}
@@ -57,3 +58,12 @@ returns-clause-framed g c =
     in_turn_framed c.args.self.now.sessions c.args.numbers.now c.args.self.now.pages
     c.settle_all.new.self.pages c.end_all.new.self.pages c.requires.open.opens
     c.settle_all.ensures.settled c.end_all.ensures.rest.pool
+
+pub returns-in_err-add_numbers-clause-unworn : goal.returns-in_err-add_numbers-clause-unworn
+returns-in_err-add_numbers-clause-unworn g c =
+    let e = err_from_is_err_and c.from_residual.result c.from_residual.ensures.1 in
+    rw (e.1, e.2) (ap tells_worn c.in_err-add_numbers.ensures.accounts.cause.0)
+
+pub returns-clause-directory : goal.returns-clause-directory
+returns-clause-directory g c =
+    c.end_all.ensures.rest.directory ∙ ap (λ (parts : Parts). parts.directory) c.settle_all.ensures.parts

@@ -1,8 +1,9 @@
-use Rattle.std.proofs.Common.{ℕ, slice_index, Ok, refl, sym, ◌∙◌, ap}
+use Rattle.std.proofs.Common.{ℕ, slice_index, false, Ok, refl, sym, ◌∙◌, ap}
 use Rattle.std.proofs.lemmas.Bool.{false≢true, OnTrue_at, OnFalse_at}
 use Rattle.std.proofs.lemmas.Option.{none-some}
 use Rattle.std.proofs.lemmas.Result.{err_from_is_err_and}
 use Rattle.ipl_base.specs.declared.fault.ChipFault.TheVariants.{Malformed}
+use Rattle.place_taking.specs.Spending.{tells_worn}
 use Rattle.ipl_base.specs.Places.{home_of}
 use Rattle.ipl_base.specs.Sizes.{size_in_page}
 use Rattle.ipl_base.specs.declared.spot.Home.{Home}
@@ -16,7 +17,7 @@ use Rattle.record_locks.specs.Locks.{refuses_write}
 use Rattle.transactions.proofs.OpenLemmas.{writes_numbered, unrefused_done}
 use Rattle.transactions.proofs.SessionLemmas.{locks_of}
 use Rattle.transactions.proofs.TurnLemmas.{upheld_no_more, upheld_refused, completes_for, tells_for}
-use Rattle.transactions.proofs.WriteLemmas.{put_framed, prepared_asks, prepared_draws, page_has_room, IsRefused, refused_completes, refused_tells, unframed_put, was_written}
+use Rattle.transactions.proofs.WriteLemmas.{put_framed, prepared_asks, prepared_idle, page_has_room, IsRefused, refused_completes, refused_tells, unframed_put, was_written}
 use Rattle.std.proofs.Common.{subst}
 use Rattle.page_frames.specs.Pages.{IsReady, KeepsFramedFor}
 use Rattle.page_frames.proofs.FramedLemmas.{set_framed}
@@ -124,16 +125,21 @@ returns-clause-used g c =
 
 pub returns-in_err-prepare-clause-asks : goal.returns-in_err-prepare-clause-asks
 returns-in_err-prepare-clause-asks g c =
-    prepared_asks c.args.self.now.pages c.prepare.new.self c.args.name.0 c.home-home.result
+    let e = err_from_is_err_and c.from_residual.result c.from_residual.ensures.1 in
+    let worn_out = tells_worn c.in_err-prepare.field-0.0 in
+    rw (e.1, e.2) (prepared_asks c.args.self.now.pages c.prepare.new.self c.prepare.new.self worn_out
+    worn_out c.args.name.0 c.home-home.result
     (record_put c.args.change c.home-home.result c.in-Some.tid) (g.C.Chip.told c.args.chip.now)
-    (g.C.Chip.told c.prepare.new.chip) c.home-home.ensures.home refl
-    c.in_err-prepare.ensures.asks
+    (g.C.Chip.told c.prepare.new.chip) c.home-home.ensures.home refl refl refl
+    c.in_err-prepare.ensures.asks)
 
 pub returns-clause-asks : goal.returns-clause-asks
 returns-clause-asks g c =
-    prepared_asks c.args.self.now.pages c.prepare.new.self c.args.name.0 c.home-home.result
+    prepared_asks c.args.self.now.pages c.prepare.new.self
+    (record { parts = c.prepare.new.self.parts; pool = c.put_record.new.pool }) false false
+    c.args.name.0 c.home-home.result
     (record_put c.args.change c.home-home.result c.in-Some.tid) (g.C.Chip.told c.args.chip.now)
-    (g.C.Chip.told c.prepare.new.chip) c.home-home.ensures.home refl
+    (g.C.Chip.told c.prepare.new.chip) c.home-home.ensures.home refl refl refl
     c.in_ok-prepare.ensures.asks
 
 pub returns-in_err-prepare-clause-faults : goal.returns-in_err-prepare-clause-faults
@@ -152,15 +158,21 @@ returns-in_err-prepare-clause-exact g c =
 
 pub returns-in_err-prepare-clause-idle : goal.returns-in_err-prepare-clause-idle
 returns-in_err-prepare-clause-idle g c =
-    prepared_draws c.args.self.now.pages c.prepare.new.self c.args.name.0 c.home-home.result
+    let e = err_from_is_err_and c.from_residual.result c.from_residual.ensures.1 in
+    let worn_out = tells_worn c.in_err-prepare.field-0.0 in
+    rw (e.1, e.2) (prepared_idle c.args.self.now.pages c.prepare.new.self worn_out worn_out
+    c.args.name.0 c.home-home.result
     (record_put c.args.change c.home-home.result c.in-Some.tid) (g.C.Chip.told c.args.chip.now)
-    (g.C.Chip.told c.prepare.new.chip) c.home-home.ensures.home refl c.in_err-prepare.ensures.asks
+    (g.C.Chip.told c.prepare.new.chip) c.home-home.ensures.home refl refl
+    c.in_err-prepare.ensures.asks)
 
 pub returns-clause-idle : goal.returns-clause-idle
 returns-clause-idle g c =
-    prepared_draws c.args.self.now.pages c.prepare.new.self c.args.name.0 c.home-home.result
+    prepared_idle c.args.self.now.pages c.prepare.new.self false false c.args.name.0
+    c.home-home.result
     (record_put c.args.change c.home-home.result c.in-Some.tid) (g.C.Chip.told c.args.chip.now)
-    (g.C.Chip.told c.prepare.new.chip) c.home-home.ensures.home refl c.in_ok-prepare.ensures.asks
+    (g.C.Chip.told c.prepare.new.chip) c.home-home.ensures.home refl refl
+    c.in_ok-prepare.ensures.asks
 
 -- ---- its frame has no room
 
@@ -235,12 +247,17 @@ returns-then-not-put_record-clause-stays g c =
 
 pub returns-then-not-put_record-clause-asks : goal.returns-then-not-put_record-clause-asks
 returns-then-not-put_record-clause-asks g c =
-    prepared_asks c.args.self.now.pages c.prepare.new.self c.args.name.0 c.home-home.result
+    prepared_asks c.args.self.now.pages c.prepare.new.self
+    (record { parts = c.prepare.new.self.parts; pool = c.put_record.new.pool }) false
+    (tells_worn c.no_room.result) c.args.name.0 c.home-home.result
     (record_put c.args.change c.home-home.result c.in-Some.tid) (g.C.Chip.told c.args.chip.now)
-    (g.C.Chip.told c.prepare.new.chip) c.home-home.ensures.home refl c.in_ok-prepare.ensures.asks
+    (g.C.Chip.told c.prepare.new.chip) c.home-home.ensures.home refl refl
+    (ap tells_worn c.no_room.ensures) c.in_ok-prepare.ensures.asks
 
 pub returns-then-not-put_record-clause-idle : goal.returns-then-not-put_record-clause-idle
 returns-then-not-put_record-clause-idle g c =
-    prepared_draws c.args.self.now.pages c.prepare.new.self c.args.name.0 c.home-home.result
+    prepared_idle c.args.self.now.pages c.prepare.new.self false (tells_worn c.no_room.result)
+    c.args.name.0 c.home-home.result
     (record_put c.args.change c.home-home.result c.in-Some.tid) (g.C.Chip.told c.args.chip.now)
-    (g.C.Chip.told c.prepare.new.chip) c.home-home.ensures.home refl c.in_ok-prepare.ensures.asks
+    (g.C.Chip.told c.prepare.new.chip) c.home-home.ensures.home refl (ap tells_worn c.no_room.ensures)
+    c.in_ok-prepare.ensures.asks

@@ -1,11 +1,13 @@
 use Rattle.std.proofs.Common.{◌+◌, ◌*◌, ◌^◌, Err, arith}
+use Rattle.std.proofs.lemmas.Bool.{false≢true}
 use Rattle.std.proofs.lemmas.Result.{err_from_is_err_and}
+use Rattle.place_taking.specs.Spending.{is_worn_out}
 use Rattle.record_locks.specs.Held.{written_by}
 use Rattle.page_frames.proofs.UpholdLemmas.{upholds_then, upholds_weaker}
 use Rattle.page_frames.proofs.CompleteLemmas.{completes_then}
 use Rattle.page_frames.proofs.TellLemmas.{tells_then}
 use Rattle.transactions.proofs.CommitLemmas.{may_add}
-use Rattle.transactions.proofs.CostLemmas.{nothing_asked, names_out_asks}
+use Rattle.transactions.proofs.CostLemmas.{names_out_asks}
 use Rattle.transactions.proofs.transactions.Transactions.write_sessions_out.Goals as goal
 
 pub write_sessions_out-requires-clause-low : goal.write_sessions_out-requires-clause-low
@@ -54,15 +56,13 @@ returns-clause-framed g c = λ u page is.
 
 pub returns-in_err-ready_status-clause-asks : goal.returns-in_err-ready_status-clause-asks
 returns-in_err-ready_status-clause-asks g c = λ room.
-    nothing_asked (written_by c.args.self.now.sessions c.args.numbers.now) c.args.self.now.pages
-    (g.C.Chip.told c.args.chip.now) (g.C.Chip.told c.ready_status.new.chip)
-    (c.in_err-ready_status.ensures.idle room).1
+    absurd (false≢true (c.in_err-ready_status.ensures.idle room).0)
 
 pub returns-clause-asks : goal.returns-clause-asks
 returns-clause-asks g c = λ room.
-    let (same, idle) = c.in_ok-ready_status.ensures.idle room in
-    names_out_asks (written_by c.args.self.now.sessions c.args.numbers.now) c.args.self.now.pages
-    c.ready_status.new.self (g.C.Chip.told c.args.chip.now) (g.C.Chip.told c.ready_status.new.chip)
+    let (done, same, idle) = c.in_ok-ready_status.ensures.idle room in
+    names_out_asks (written_by c.args.self.now.sessions c.args.numbers.now)
+    (is_worn_out c.write_sessions_out.result) c.args.self.now.pages c.ready_status.new.self c.write_sessions_out.new.self (g.C.Chip.told c.args.chip.now) (g.C.Chip.told c.ready_status.new.chip)
     (g.C.Chip.told c.write_sessions_out.new.chip) same idle c.write_sessions_out.ensures.asks
 
 pub returns-in_err-ready_status-clause-faults : goal.returns-in_err-ready_status-clause-faults

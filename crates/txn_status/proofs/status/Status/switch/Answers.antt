@@ -1,9 +1,11 @@
-use Rattle.std.proofs.Common.{true, false, ◌≡◌, ℕ, Result, Ok, Err, ◌∙◌, ap, subst, arith}
+use Rattle.std.proofs.Common.{true, false, ◌≡◌, ℕ, List, Result, Ok, Err, sym, ◌∙◌, ap, subst, arith}
 use Rattle.std.proofs.lemmas.Result.{err_from_is_err_and}
 use Rattle.std.proofs.lemmas.List.Elements.{All-from_get_or}
 use Rattle.chip_trait.specs.Told.{Told}
 use Rattle.ipl_base.specs.declared.fault.ChipFault.{ChipFault}
+use Rattle.ipl_base.specs.declared.limits.TheConstants.{VERSION}
 use Rattle.ipl_format.specs.Commit.{IsLong}
+use Rattle.ipl_format.specs.Header.{AreRetired}
 use Rattle.unit_io.specs.Leads.{IsStopped}
 use Rattle.unit_io.specs.Charts.{Charts}
 use Rattle.unit_io.proofs.UnreadLemmas.{unread_then}
@@ -17,14 +19,20 @@ use Rattle.txn_status.proofs.TidyLemmas.{tidy_parts_only, tidy_switched}
 use Rattle.txn_status.proofs.status.Status.switch.Goals as goal
 
 -- the clause of the header's call, at the places of the first chip
-header_leads : (places q p units erases next : ℕ) (mid new : Told) (result : Result (Unit {0}) ChipFault)
-    → q ≡ places → LeadsHeader q p units erases next mid result new
-    → LeadsHeader places p units erases next mid result new
-header_leads places q p units erases next mid new result at says =
-    subst (λ (z : ℕ). LeadsHeader z p units erases next mid result new) at says
+header_leads : (places q p units erases : ℕ) (retired : List ℕ) (next : ℕ) (mid new : Told) (result : Result (Unit {0}) ChipFault)
+    → q ≡ places → LeadsHeader q p units erases retired next mid result new
+    → LeadsHeader places p units erases retired next mid result new
+header_leads places q p units erases retired next mid new result at says =
+    subst (λ (z : ℕ). LeadsHeader z p units erases retired next mid result new) at says
+
+-- the chip still has as many places
+pub seal_status-requires-clause-listed : goal.seal_status-requires-clause-listed
+seal_status-requires-clause-listed g c =
+    subst (λ (n : ℕ). AreRetired VERSION n c.args.header.now.units c.args.retired.now)
+    (sym c.in_ok-write_parts.ensures.accounts.counts.places) c.requires.listed
 
 pub returns-in_err-write_parts-clause-steps : goal.returns-in_err-write_parts-clause-steps
-returns-in_err-write_parts-clause-steps g c = λ h it t after m steady has many ready switched.
+returns-in_err-write_parts-clause-steps g c = λ h it t after m steady has fits ready switched.
     let kept = c.args.kept.now in
     let old = g.C.Chip.told c.args.chip.now in
     let mid = g.C.Chip.told c.write_parts.new.chip in
@@ -38,11 +46,11 @@ returns-in_err-write_parts-clause-steps g c = λ h it t after m steady has many 
     let e = err_from_is_err_and c.from_residual.result c.from_residual.ensures.1 in
     let stopped : IsStopped e.0 old mid =
     (e.2 ∙ parts.accounts.cause.0, parts.accounts.cause.1) in
-    rw e.1 (parts_failed old.places c.args.header.now.units c.args.header.now.erases c.args.self.now next c.args.place kept
-    c.requires.place each c.requires.few old mid mid h it t after m steady has many ready switched fault e.0 says stopped)
+    rw e.1 (parts_failed old.places c.args.header.now.units c.args.header.now.erases c.args.retired.now c.args.self.now next c.args.place kept
+    c.requires.place each c.requires.few old mid mid h it t after m steady has fits ready switched fault e.0 says stopped)
 
 pub returns-in_err-seal_status-clause-steps : goal.returns-in_err-seal_status-clause-steps
-returns-in_err-seal_status-clause-steps g c = λ h it t after m steady has many ready switched.
+returns-in_err-seal_status-clause-steps g c = λ h it t after m steady has fits ready switched.
     let kept = c.args.kept.now in
     let old = g.C.Chip.told c.args.chip.now in
     let mid = g.C.Chip.told c.write_parts.new.chip in
@@ -55,7 +63,7 @@ returns-in_err-seal_status-clause-steps g c = λ h it t after m steady has many 
     let seals = c.in_err-seal_status.ensures in
     let says = subst (λ (z : ℕ). LeadsParts old.places c.args.place next z kept old (Ok tt) mid)
     c.requires.last parts.keeps in
-    let header = header_leads old.places _ c.args.place c.args.header.now.units c.args.header.now.erases next mid new (Err fault)
+    let header = header_leads old.places _ c.args.place c.args.header.now.units c.args.header.now.erases c.args.retired.now next mid new (Err fault)
     parts.accounts.counts.places seals.keeps in
     let stopped : IsStopped fault old new = (
       seals.accounts.cause.0,
@@ -63,12 +71,12 @@ returns-in_err-seal_status-clause-steps g c = λ h it t after m steady has many 
     ) in
     let e = err_from_is_err_and c.from_residual-in_err-seal_status.result
     c.from_residual-in_err-seal_status.ensures.1 in
-    rw (e.1 ∙ ap Err e.2) (switched_in_steps old.places c.args.header.now.units c.args.header.now.erases c.args.self.now next
-    c.args.place kept c.requires.place each c.requires.few old mid new h it t after m steady has many ready switched says
+    rw (e.1 ∙ ap Err e.2) (switched_in_steps old.places c.args.header.now.units c.args.header.now.erases c.args.retired.now c.args.self.now next
+    c.args.place kept c.requires.place each c.requires.few old mid new h it t after m steady has fits ready switched says
     (Err fault) header stopped)
 
 pub returns-clause-steps : goal.returns-clause-steps
-returns-clause-steps g c = λ h it t after m steady has many ready switched.
+returns-clause-steps g c = λ h it t after m steady has fits ready switched.
     let kept = c.args.kept.now in
     let old = g.C.Chip.told c.args.chip.now in
     let mid = g.C.Chip.told c.write_parts.new.chip in
@@ -79,10 +87,10 @@ returns-clause-steps g c = λ h it t after m steady has many ready switched.
     let parts = c.in_ok-write_parts.ensures in
     let says = subst (λ (z : ℕ). LeadsParts old.places c.args.place next z kept old (Ok tt) mid)
     c.requires.last parts.keeps in
-    let header = header_leads old.places _ c.args.place c.args.header.now.units c.args.header.now.erases next mid new (Ok tt)
+    let header = header_leads old.places _ c.args.place c.args.header.now.units c.args.header.now.erases c.args.retired.now next mid new (Ok tt)
     parts.accounts.counts.places c.in_ok-seal_status.ensures.keeps in
-    switched_in_steps old.places c.args.header.now.units c.args.header.now.erases c.args.self.now next c.args.place kept
-    c.requires.place each c.requires.few old mid new h it t after m steady has many ready switched says (Ok tt) header tt
+    switched_in_steps old.places c.args.header.now.units c.args.header.now.erases c.args.retired.now c.args.self.now next c.args.place kept
+    c.requires.place each c.requires.few old mid new h it t after m steady has fits ready switched says (Ok tt) header tt
 
 pub returns-clause-switches : goal.returns-clause-switches
 returns-clause-switches g c =
@@ -97,9 +105,9 @@ returns-clause-switches g c =
     let parts = subst (λ (z : ℕ). Charts (HasParts place next z kept (parts_of kept)) old mid)
     c.requires.last c.in_ok-write_parts.ensures.tells in
     let header = c.args.header.now in
-    let seal = subst (λ (n : ℕ). Charts (IsHeaded n place header.units header.erases next) mid new)
+    let seal = subst (λ (n : ℕ). Charts (IsHeaded n place header.units header.erases c.args.retired.now next) mid new)
     c.in_ok-write_parts.ensures.accounts.counts.places c.in_ok-seal_status.ensures.tells in
-    switches_told old.places c.args.header.now.units c.args.header.now.erases c.args.self.now next place kept c.requires.place each
+    switches_told old.places c.args.header.now.units c.args.header.now.erases c.args.retired.now c.args.self.now next place kept c.requires.place each
     c.requires.few old mid new parts seal
 
 pub returns-in_err-write_parts-clause-costs : goal.returns-in_err-write_parts-clause-costs
