@@ -1,12 +1,11 @@
 -- Keys are changed: a bucket is read, and then written.
-use Rattle.std.proofs.Common.{◌≡◌, ℕ, ◌==◌, length, ◌⊎◌, inl, inr, Bool, true, false, List, [], ◌∷◌, Option, Some, None, Result, Ok, Err, IfErr, if◌then◌else◌, refl, sym, ap, subst}
+use Rattle.std.proofs.Common.{◌≡◌, ◌∙◌, ℕ, ◌==◌, length, ◌⊎◌, inl, inr, Bool, true, false, List, [], ◌∷◌, Option, Some, None, Result, Ok, Err, IfErr, if◌then◌else◌, refl, sym, ap, subst}
 use Rattle.chip_trait.specs.Told.{History, Told, Counts, adds_all}
 use Rattle.chip_trait.proofs.CountsLemmas.{counts_then}
-use Rattle.ipl_base.specs.Places.{places_for}
 use Rattle.ipl_base.specs.declared.fault.Refusal.{Refusal}
 use Rattle.ipl_base.specs.declared.fault.StoreFault.{StoreFault}
 use Rattle.ipl_base.specs.declared.fault.StoreFault.TheVariants as store
-use Rattle.ipl_rules.specs.State.{Map, State, Limits, is_open}
+use Rattle.ipl_rules.specs.State.{Map, State, is_open}
 use Rattle.ipl_rules.specs.Refusals.{refuses_end}
 use Rattle.ipl_rules.specs.Operations.{after_write}
 use Rattle.ipl_meaning.specs.Rests.{EachStandsEither}
@@ -64,13 +63,12 @@ write_is_up : (a : Store) (refusal : Option Refusal) → early_fault (entry_faul
 write_is_up a refusal none = (let_in a refusal none).0
 
 module _ (s n : ℕ) (w : KeyWrite) (a b : Store) (before after : Told) (h : History) (state : State)
-    (k : KeyState) (made : IsSound before.places a)
-    (keeps : KeepsStore (limits_of a.units) (view_of a) before h state)
+    (k : KeyState) (keeps : KeepsStore before.places (limits_of a.units) (view_of a) before h state)
     (has : HasKeyState a.units state k) where
   abbrev turn : KeyState → KeyState
   turn k = after_key_write k s w
 
-  own : KeepsKeys a before h k
+  own : KeepsKeys before.places a before h k
   own = record { state = state; keeps = keeps; has = has }
 
   -- of bytes that say the session's next writes
@@ -82,12 +80,12 @@ module _ (s n : ℕ) (w : KeyWrite) (a b : Store) (before after : Told) (h : His
 
       put_ends : (fault : StoreFault) (r : Result Bool StoreFault) → (r ≡ Ok true → ⊥) → (later : History)
           → EndsWith r
-          (λ v l. KeepsStore (limits_of a.units) (view_of b) after l (put_next s n bytes r state))
-          (λ l. KeepsStore (limits_of a.units) (view_of b) after l state) later
-          → KeepsKeys b after later k
+          (λ v l. KeepsStore before.places (limits_of a.units) (view_of b) after l (put_next s n bytes r state))
+          (λ l. KeepsStore before.places (limits_of a.units) (view_of b) after l state) later
+          → KeepsKeys before.places b after later k
       put_ends fault (Ok true) never later kept = absurd (never refl)
-      put_ends fault (Ok false) never later kept = keeps_keys a b after later state k kept has
-      put_ends fault (Err e) never later kept = keeps_keys a b after later state k kept has
+      put_ends fault (Ok false) never later kept = keeps_keys before.places a b after later state k kept has
+      put_ends fault (Err e) never later kept = keeps_keys before.places a b after later state k kept has
 
       put_less : (fault : StoreFault) (r : Result Bool StoreFault)
           → Settled {T = Unit {0}} {E = KeyFault} (Err (key.Store fault)) before after → Settled r before after
@@ -100,7 +98,7 @@ module _ (s n : ℕ) (w : KeyWrite) (a b : Store) (before after : Told) (h : His
       put_served (Ok v) did = record {
         steps = keys_steps {T = Bool} {U = Unit {0}} (put_next s n bytes (Ok true)) turn IsDone a b before after
             (Ok true) (handed (Ok v)) h state k has.keys then_has.keys (λ s. s)
-            (λ later kept. (keeps_keys a b after later (after_write state s (n, Some bytes)) (turn k) kept then_has, tt))
+            (λ later kept. (keeps_keys before.places a b after later (after_write state s (n, Some bytes)) (turn k) kept then_has, tt))
             did;
         buckets = tt;
       }
@@ -125,7 +123,7 @@ module _ (s n : ℕ) (w : KeyWrite) (a b : Store) (before after : Told) (h : His
               → ServesFor turn IsDone a before (handed answer) b after h k
           by_early None is = put_served answer
               (leads_steps (put_next s n bytes (found_room answer)) a b before after (found_room answer) h state
-              (write_is_up a _ is) made puts.calls.sound (puts.calls.serves is).leads keeps)
+              (write_is_up a _ is) puts.calls.units (puts.calls.serves is).leads keeps)
           by_early (Some fault) is =
               let (answered, same, idle) = puts.calls.refuses fault is in
               subst (λ (t : Told). ServesFor turn IsDone a before (handed answer) b t h k) (sym idle)
@@ -140,7 +138,7 @@ module _ (s n : ℕ) (w : KeyWrite) (a b : Store) (before after : Told) (h : His
   writes_serve answer None then_has did =
       call_serves (λ st. after_write st s (n, None)) turn a b before after h k
       (early_fault (entry_fault a) (sessions_refuse_del (limits_of a.units) a.transactions.sessions s n)) 14
-      answer made (write_is_up a _) did state keeps has (λ up. then_has)
+      answer (write_is_up a _) did state keeps has (λ up. then_has)
   writes_serve answer (Some bytes) then_has did = put_serves bytes then_has answer did
 
 -- bytes, where there are some, are put
@@ -167,20 +165,20 @@ after_home units w pairs home = by_change w.1
     by_change (Some value) = sets_keep_home units (bucket_of units w.0) w.0 value pairs refl home
 
 module _ (s : ℕ) (w : KeyWrite) (mid b : Store) (told after : Told) (h : History) (state : State)
-    (k : KeyState) (result : Result (Unit {0}) KeyFault) (made : IsSound told.places mid)
+    (k : KeyState) (result : Result (Unit {0}) KeyFault)
     (running : is_open state s ≡ true) where
-  -- what is left from a key state with so many units
-  abbrev WritesServe : ℕ → Type 0
-  WritesServe units = (has : HasKeyState units state k)
-      → KeepsStore (limits_of units) (view_of mid) told h state
+  -- what is left from a key state with so many units on so many places
+  abbrev WritesServe : ℕ → ℕ → Type 0
+  WritesServe places units = (has : HasKeyState units state k)
+      → KeepsStore places (limits_of units) (view_of mid) told h state
       → IsWritten s (bucket_of units w.0) (pairs_after w (pairs_of has s (bucket_of units w.0))) mid told
       result b after
-      → Steps (LeavesKeys units k.map k.map) (tables_in mid.transactions.pages)
+      → Steps (LeavesKeys places units k.map k.map) (tables_in mid.transactions.pages)
       (tables_in b.transactions.pages)
-      (λ v later. KeepsKeys b after later (after_key_write k s w) × IsDone k v)
-      (λ later. KeepsKeys b after later k) h result told after × IfErr result IsNoBadBucket
+      (λ v later. KeepsKeys places b after later (after_key_write k s w) × IsDone k v)
+      (λ later. KeepsKeys places b after later k) h result told after × IfErr result IsNoBadBucket
 
-  at_mid : WritesServe mid.units
+  at_mid : WritesServe told.places mid.units
   at_mid has keeps wrote =
       let n = bucket_of mid.units w.0 in
       let pairs = pairs_of has s n in
@@ -190,17 +188,19 @@ module _ (s : ℕ) (w : KeyWrite) (mid b : Store) (told after : Told) (h : Histo
       let (answer, is, did) = wrote.writes in
       let serves = subst (λ (q : Result (Unit {0}) KeyFault).
       ServesFor (λ (x : KeyState). after_key_write x s w) IsDone mid told q b after h k) (sym is)
-      (writes_serve s n w mid b told after h state k made keeps has answer (written (pairs_after w pairs))
+      (writes_serve s n w mid b told after h state k keeps has answer (written (pairs_after w pairs))
       (writes_keep_keys mid.units state k s w has running bucket) did) in
       (serves.steps, serves.buckets)
 
-  pub at_units : (units : ℕ) → mid.units ≡ units → WritesServe units
-  at_units units same = subst WritesServe same at_mid
+  pub at_units : (places units : ℕ) → told.places ≡ places → mid.units ≡ units
+      → WritesServe places units
+  at_units places units there same = subst (λ (p : ℕ). WritesServe p units) there
+      (subst (WritesServe told.places) same at_mid)
 
 -- ---- both
 
 module _ (s : ℕ) (w : KeyWrite) (a b : Store) (before after : Told) (result : Result (Unit {0}) KeyFault)
-    (Rest : Pairs → Store → Told → Type 0) (made : IsSound before.places a)
+    (Rest : Pairs → Store → Told → Type 0)
     (rest : (pairs : Pairs) (mid : Store) (told : Told) → Rest pairs mid told
     → IsFull (bucket_of a.units w.0) (pairs_after w pairs) mid told result b after
     ⊎ IsWritten s (bucket_of a.units w.0) (pairs_after w pairs) mid told result b after)
@@ -214,18 +214,18 @@ module _ (s : ℕ) (w : KeyWrite) (a b : Store) (before after : Told) (result : 
     abbrev Serving : Result (Unit {0}) KeyFault → Store → Told → History → KeyState → Type 0
     Serving r store t h k = ServesFor Turn IsDone a before r store t h k
 
-    module _ (h : History) (k : KeyState) (keeps : KeepsKeys a before h k) (up : a.down ≡ false)
+    module _ (h : History) (k : KeyState) (keeps : KeepsKeys before.places a before h k) (up : a.down ≡ false)
         (running : is_open keeps.state s ≡ true) (mid : Store) (told : Told)
-        (still : IsSound before.places mid) (counts : Counts before told) where
+        (alike : mid.units ≡ a.units) (counts : Counts before told) where
       abbrev Reading : Result (List ℕ) KeyFault → Type 0
-      Reading read = ReadSteps s name a mid before told h keeps.state k keeps.has up made still keeps.keeps read
+      Reading read = ReadSteps s name a mid before told h keeps.state k keeps.has up alike keeps.keeps read
 
       abbrev AtRead : List ℕ → History → Type 0
-      AtRead bytes later = Read s name a mid before told h keeps.state k keeps.has up made still keeps.keeps
+      AtRead bytes later = Read s name a mid before told h keeps.state k keeps.has up alike keeps.keeps
           bytes later
 
       abbrev AtEnd : History → Type 0
-      AtEnd later = Kept s name a mid before told h keeps.state k keeps.has up made still keeps.keeps later
+      AtEnd later = Kept s name a mid before told h keeps.state k keeps.has up alike keeps.keeps later
 
       -- it ends with this fault once the bucket was read, or couldn't be
       ends_there : (read : Result (List ℕ) KeyFault) (fault : KeyFault) → IsNoBadBucket fault
@@ -233,18 +233,18 @@ module _ (s : ℕ) (w : KeyWrite) (a b : Store) (before after : Told) (result : 
           → ((later : History) → EndsWith read AtRead AtEnd later → AtEnd later)
           → Reading read → Serving (Err fault) mid told h k
       ends_there read fault good less ends did = record {
-        steps = steps_weaker (EachStandsEither (places_for a.units) keeps.state.map keeps.state.map)
-            (LeavesKeys a.units k.map k.map) (tables_in a.transactions.pages) (tables_in mid.transactions.pages)
-            (λ v later. KeepsKeys mid told later (Turn k) × IsDone k v)
-            (λ v later. KeepsKeys mid told later (Turn k) × IsDone k v)
-            (λ later. KeepsKeys mid told later k) (λ later. KeepsKeys mid told later k) h failed before told
-            (leaves_keys a.units keeps.state.map keeps.state.map k.map k.map keeps.has.keys keeps.has.keys)
+        steps = steps_weaker (EachStandsEither before.places keeps.state.map keeps.state.map)
+            (LeavesKeys before.places a.units k.map k.map) (tables_in a.transactions.pages) (tables_in mid.transactions.pages)
+            (λ v later. KeepsKeys before.places mid told later (Turn k) × IsDone k v)
+            (λ v later. KeepsKeys before.places mid told later (Turn k) × IsDone k v)
+            (λ later. KeepsKeys before.places mid told later k) (λ later. KeepsKeys before.places mid told later k) h failed before told
+            (leaves_keys before.places a.units keeps.state.map keeps.state.map k.map k.map keeps.has.keys keeps.has.keys)
             (λ v later is. is) (λ later is. is)
-            (steps_as (EachStandsEither (places_for a.units) keeps.state.map keeps.state.map)
+            (steps_as (EachStandsEither before.places keeps.state.map keeps.state.map)
             (tables_in a.transactions.pages) (tables_in mid.transactions.pages) AtRead AtEnd
-            (λ v later. KeepsKeys mid told later (Turn k) × IsDone k v)
-            (λ later. KeepsKeys mid told later k) h read failed before told less
-            (λ later is. keeps_keys a mid told later keeps.state k (ends later is) keeps.has) did);
+            (λ v later. KeepsKeys before.places mid told later (Turn k) × IsDone k v)
+            (λ later. KeepsKeys before.places mid told later k) h read failed before told less
+            (λ later is. keeps_keys before.places a mid told later keeps.state k (ends later is) keeps.has) did);
         buckets = good;
       }
         where
@@ -257,20 +257,18 @@ module _ (s : ℕ) (w : KeyWrite) (a b : Store) (before after : Told) (result : 
       goes_on bytes pairs first spells wrote =
           let (kept, also) = first.ends tt in
           let same = buckets_spell_once bytes pairs (pairs_of keeps.has s name) spells also in
-          let alike : mid.units ≡ a.units = sym (ap (λ (l : Limits). l.units) kept.limits_are) in
-          let here = subst (λ (p : ℕ). IsSound p mid) (sym counts.places) still in
-          let second = at_units s w mid b told after (adds_all first.added h) keeps.state k result here running
-          a.units alike keeps.has kept
+          let second = at_units s w mid b told after (adds_all first.added h) keeps.state k result running
+          before.places a.units counts.places alike keeps.has kept
           (subst (λ (ps : Pairs). IsWritten s name (pairs_after w ps) mid told result b after) same wrote) in
           record {
             steps = steps_then (List ℕ) (Unit {0}) KeyFault KeyFault
-                (EachStandsEither (places_for a.units) keeps.state.map keeps.state.map)
-                (LeavesKeys a.units k.map k.map) (LeavesKeys a.units k.map k.map)
+                (EachStandsEither before.places keeps.state.map keeps.state.map)
+                (LeavesKeys before.places a.units k.map k.map) (LeavesKeys before.places a.units k.map k.map)
                 (tables_in a.transactions.pages) (tables_in mid.transactions.pages)
                 (tables_in b.transactions.pages) AtRead AtEnd
-                (λ v later. KeepsKeys b after later (Turn k) × IsDone k v)
-                (λ later. KeepsKeys b after later k) h bytes result before told after
-                (leaves_keys a.units keeps.state.map keeps.state.map k.map k.map keeps.has.keys keeps.has.keys)
+                (λ v later. KeepsKeys before.places b after later (Turn k) × IsDone k v)
+                (λ later. KeepsKeys before.places b after later k) h bytes result before told after
+                (leaves_keys before.places a.units keeps.state.map keeps.state.map k.map k.map keeps.has.keys keeps.has.keys)
                 (λ later is. is) counts first second.0;
             buckets = second.1;
           }
@@ -289,13 +287,13 @@ module _ (s : ℕ) (w : KeyWrite) (a b : Store) (before after : Told) (result : 
           → Serving result b after h k
       by_read (Err fault) reads fails goes =
           let (answer, same, idle) = fails fault refl in
-          let did = reads_steps s name a mid before told h keeps.state k keeps.has up made still keeps.keeps
+          let did = reads_steps s name a mid before told h keeps.state k keeps.has up alike keeps.keeps
           (Err fault) reads in
           moved (Err fault) answer same idle
           (ends_there (Err fault) fault did.1 (λ settled. settled) (λ later kept. kept) did.0)
       by_read (Ok bytes) reads fails goes =
           let (pairs, spells, is) = goes bytes refl in
-          let did = reads_steps s name a mid before told h keeps.state k keeps.has up made still keeps.keeps
+          let did = reads_steps s name a mid before told h keeps.state k keeps.has up alike keeps.keeps
           (Ok bytes) reads in
           elim (rest pairs mid told is) [
             | inl full ↦ moved (Err (key.BucketFull name)) full.answer full.same full.idle
@@ -317,7 +315,7 @@ module _ (s : ℕ) (w : KeyWrite) (a b : Store) (before after : Told) (result : 
             let up = entry_is_up a none.0 in
             let did = calls.ends is in
             by_read h k keeps up (may_end_is_open a before h keeps.state s up keeps.keeps none.2) did.mid
-            did.told did.sound did.counts did.read did.reads did.fails did.goes_on
+            did.told did.units did.counts did.read did.reads did.fails did.goes_on
         by_early (Some fault) is =
             let (answer, same, idle) = calls.refuses fault is in
             let fine = early_is_good (entry_fault a) bad
@@ -346,11 +344,13 @@ module _ (early : Option KeyFault) (s n : ℕ) (Rest : Pairs → Store → Told 
       read = Err fault;
       reads = calls.ends none;
       sound = calls.sound;
+      units = calls.units;
       counts = calls.counts;
       fails = λ other is. let one : fault ≡ other = cc is in (ap Err one, refl, refl);
       goes_on = λ bytes is. absurd (cc is);
     };
     sound = calls.sound;
+    units = calls.units;
     counts = calls.counts;
   }
 
@@ -358,9 +358,10 @@ module _ (early : Option KeyFault) (s n : ℕ) (Rest : Pairs → Store → Told 
   pub changes_read : (b : Store) (after : Told) (result : Result (Unit {0}) KeyFault) (len : ℕ)
       (bytes : List ℕ) (pairs : Pairs)
       → CallsKey early (Reads s n a before (Ok bytes) mid told) a before (Ok len) mid told
-      → SpellsBucket bytes pairs → Rest pairs mid told → IsSound told.places b → Counts told after
+      → SpellsBucket bytes pairs → Rest pairs mid told → IsSound told.places b → b.units ≡ mid.units
+      → Counts told after
       → CallsKey early (Changes s n Rest a before result b after) a before result b after
-  changes_read b after result len bytes pairs calls spells rest sound counts = record {
+  changes_read b after result len bytes pairs calls spells rest sound units counts = record {
     refuses = λ fault is. let no : Ok len ≡ Err fault = (calls.refuses fault is).0 in absurd (cc no);
     ends = λ none. record {
       mid = mid;
@@ -368,6 +369,7 @@ module _ (early : Option KeyFault) (s n : ℕ) (Rest : Pairs → Store → Told 
       read = Ok bytes;
       reads = calls.ends none;
       sound = calls.sound;
+      units = calls.units;
       counts = calls.counts;
       fails = λ fault is. absurd (cc is);
       goes_on = λ other is.
@@ -375,6 +377,7 @@ module _ (early : Option KeyFault) (s n : ℕ) (Rest : Pairs → Store → Told 
           (pairs, subst (λ (x : List ℕ). SpellsBucket x pairs) same spells, rest);
     };
     sound = subst (λ (p : ℕ). IsSound p b) calls.counts.places sound;
+    units = units ∙ calls.units;
     counts = counts_then before told after calls.counts counts;
   }
 

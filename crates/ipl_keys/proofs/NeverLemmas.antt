@@ -17,7 +17,7 @@ use Rattle.store_trait.specs.Keeping.{LAST_NUMBER}
 use Rattle.store_steps.specs.Keeps.{limits_of}
 use Rattle.store_steps.specs.Refusals.{sessions_refuse_put, sessions_refuse_del}
 use Rattle.ipl_store.specs.declared.store.Store.{Store}
-use Rattle.ipl_store.specs.Calls.{counter_of, IsSound, early_fault, entry_fault, Calls}
+use Rattle.ipl_store.specs.Calls.{counter_of, early_fault, entry_fault, Calls}
 use Rattle.ipl_store.specs.Puts.{is_page_full, found_room, put_fault, put_next}
 use Rattle.key_buckets.specs.Pairs.{Pairs}
 use Rattle.key_buckets.specs.Bucket.{IsBucket, bucket_bytes}
@@ -221,13 +221,13 @@ get_met s n bytes a b before after (Err fault) calls =
     (reads_met s n a b before after fault) calls
 
 module _ (s n : ℕ) (bad : Option KeyFault) (Rest : Pairs → Store → Told → Type 0) (a b : Store)
-    (before after : Told) (change : Pairs → Pairs) (made : IsSound before.places a)
+    (before after : Told) (change : Pairs → Pairs)
     (low : n < 960 * a.units) (met : (fault : KeyFault) → bad ≡ Some fault → IsMet fault) where
-  written_met : (fault : KeyFault) (pairs : Pairs) (mid : Store) (told : Told) → IsSound before.places mid
+  written_met : (fault : KeyFault) (pairs : Pairs) (mid : Store) (told : Told) → mid.units ≡ a.units
       → IsWritten s n pairs mid told (Err fault) b after → IsMet fault
-  written_met fault pairs mid told still wrote =
+  written_met fault pairs mid told alike wrote =
       let (answer, is, did) = wrote.writes in
-      let here : n < 960 * mid.units = omega (arith, low, made.made.units, still.made.units) in
+      let here : n < 960 * mid.units = omega (arith, low, alike) in
       subst (λ (q : Result (Unit {0}) KeyFault). IfErr q IsMet) (sym is)
       (writes_met s n mid b told after here (written pairs) (short pairs wrote.bucket) answer did)
     where
@@ -254,7 +254,7 @@ module _ (s n : ℕ) (bad : Option KeyFault) (Rest : Pairs → Store → Told �
           | inl full ↦
               let answer = full.answer in
               let same : fault ≡ key.BucketFull n = cc answer in subst IsMet (sym same) refl
-          | inr wrote ↦ written_met fault (change pairs) did.mid did.told did.sound wrote
+          | inr wrote ↦ written_met fault (change pairs) did.mid did.told did.units wrote
         ]
 
   pub changing_met : (result : Result (Unit {0}) KeyFault)

@@ -1,17 +1,17 @@
 -- A chip is opened whose records have keys.
-use Rattle.std.proofs.Common.{◌≡◌, ℕ, inl, inr, [], Result, Ok, Err, refl, sym, subst, arith}
+use Rattle.std.proofs.Common.{◌≡◌, ◌∙◌, ℕ, inl, inr, [], Result, Ok, Err, refl, sym, subst}
 use Rattle.chip_trait.specs.Story.{held}
 use Rattle.chip_trait.specs.Told.{History, Told, adds_all}
 use Rattle.chip_trait.proofs.HistoryLemmas.{same_history}
 use Rattle.chip_trait.proofs.MomentLemmas.{at_start}
-use Rattle.ipl_base.specs.Places.{KeepsUnits}
 use Rattle.ipl_base.specs.declared.fault.ImageFault.{ImageFault}
 use Rattle.ipl_base.specs.declared.fault.OpenFault.{OpenFault}
 use Rattle.ipl_base.specs.declared.fault.OpenFault.TheVariants.{Image, OutOfMemory}
 use Rattle.ipl_rules.specs.State.{Map, at_rest}
-use Rattle.ipl_meaning.specs.Rests.{EachStands, StoryRests}
+use Rattle.ipl_meaning.specs.Rests.{now, EachStands, StoryRests}
 use Rattle.ipl_meaning.specs.Tables.{Tables}
 use Rattle.ipl_meaning.proofs.StoryLemmas.{held_stands}
+use Rattle.opening_rules.specs.Chosen.{units_at}
 use Rattle.unit_io.specs.Leads.{IsSteady}
 use Rattle.ipl_store.specs.Openings.{OpensAs, Tries}
 use Rattle.ipl_keys.specs.declared.keys.Keys.{Keys}
@@ -23,25 +23,24 @@ use Rattle.ipl_keys.proofs.StateLemmas.{resting_states_have_keys}
 use Rattle.ipl_keys.proofs.ServeLemmas.{leaves_keys}
 
 module _ (old new : Told) (units : ℕ) (records : Map) (m : KeyMap) (h : History)
-    (suits : KeepsUnits old.places units) (steady : IsSteady h old)
+    (suits : units ≡ units_at (now h) old.places) (steady : IsSteady h old)
     (rests : StoryRests old.places records h) (has : HasKeys units records m) where
-  leaves : (k : History) → EachStands old.places records k → LeavesKeys units m m k
+  leaves : (k : History) → EachStands old.places records k → LeavesKeys old.places units m m k
   leaves k each =
-      let stands = subst (λ (p : ℕ). EachStands p records k) (sym suits) each in
-      leaves_keys units records records m m has has k (λ x image. inl (stands x image))
+      leaves_keys old.places units records records m m has has k (λ x image. inl (each x image))
 
   -- the chip wasn't asked
-  idle : (fault : OpenFault) → OpensFor units m h old (Err fault) old
+  idle : (fault : OpenFault) → OpensFor old.places units m h old (Err fault) old
   idle fault = record {
     added = [];
     history = same_history old.history;
-    each_moment = at_start (λ e. LeavesKeys units m m (adds_all e h)) (leaves h rests.each);
+    each_moment = at_start (λ e. LeavesKeys old.places units m m (adds_all e h)) (leaves h rests.each);
     keeps = tt;
   }
 
   -- it was, and not opened
   failed : (e : ImageFault) (t : Tables) → Tries old.places old (Err e) t new
-      → OpensFor units m h old (Err (Image e)) new
+      → OpensFor old.places units m h old (Err (Image e)) new
   failed e t tries =
       let did = tries.steps records h steady rests in record {
         added = did.added;
@@ -51,34 +50,37 @@ module _ (old new : Told) (units : ℕ) (records : Map) (m : KeyMap) (h : Histor
       }
 
   -- it was opened
-  opened : (keys : Keys) → OpensAs old.places old (Ok keys.store) new → OpensFor units m h old (Ok keys) new
+  opened : (keys : Keys) → OpensAs old.places old (Ok keys.store) new → OpensFor old.places units m h old (Ok keys) new
   opened keys (sound, opens, tries) =
       let did = tries.steps records h steady rests in
       let later = adds_all did.added h in
       let tidy = did.does.clean refl h.story (λ p s nowhere. absurd nowhere) in
       let store = keys.store in
-      let alike : units ≡ store.units = omega (arith, suits, sound.made.units) in
+      let alike : store.units ≡ units = opens.units (held h.start h.story) steady.holds ∙ sym suits in
       record {
         added = did.added;
         history = did.history;
         each_moment = λ later part is. leaves (adds_all part h) (did.each_moment later part is);
-        keeps = record {
-          state = at_rest records;
-          keeps = opens.keeps records later (held h.start h.story) steady.holds
-              (held_stands old.places records h rests.each) (did.steady tt) (did.ends tt) tidy;
-          has = resting_states_have_keys store.units records m
-              (subst (λ (n : ℕ). HasKeys n records m) alike has);
-        };
+        keeps = (
+          record {
+            state = at_rest records;
+            keeps = opens.keeps records later (held h.start h.story) steady.holds
+                (held_stands old.places records h rests.each) (did.steady tt) (did.ends tt) tidy;
+            has = resting_states_have_keys store.units records m
+                (subst (λ (n : ℕ). HasKeys n records m) (sym alike) has);
+          },
+          alike,
+        );
       }
 
   by_result : (result : Result Keys OpenFault) → OpensAs old.places old (store_of result) new
-      → OpensFor units m h old result new
+      → OpensFor old.places units m h old result new
   by_result (Ok keys) did = opened keys did
   by_result (Err (Image e)) (inl (not, is, same)) =
-      subst (λ (t : Told). OpensFor units m h old (Err (Image e)) t) (sym same) (idle (Image e))
+      subst (λ (t : Told). OpensFor old.places units m h old (Err (Image e)) t) (sym same) (idle (Image e))
   by_result (Err (Image e)) (inr (fits, (t, tries))) = failed e t tries
   by_result (Err OutOfMemory) same =
-      subst (λ (t : Told). OpensFor units m h old (Err OutOfMemory) t) (sym same) (idle OutOfMemory)
+      subst (λ (t : Told). OpensFor old.places units m h old (Err OutOfMemory) t) (sym same) (idle OutOfMemory)
 
 pub opens_keys : (old new : Told) (result : Result Keys OpenFault)
     → OpensAs old.places old (store_of result) new → OpensKeys old result new

@@ -4,7 +4,6 @@ use Rattle.std.proofs.lemmas.Bool.Decides.{nat_tests}
 use Rattle.chip_trait.specs.Story.{held}
 use Rattle.chip_trait.specs.Told.{History, Told, Counts}
 use Rattle.chip_trait.proofs.CountsLemmas.{counts_none}
-use Rattle.ipl_base.specs.Places.{places_for}
 use Rattle.ipl_base.specs.declared.fault.Refusal.{Refusal}
 use Rattle.ipl_base.specs.declared.fault.Refusal.TheVariants.{BadSession, BadName, NotOpen}
 use Rattle.ipl_base.specs.declared.fault.StoreFault.{StoreFault}
@@ -100,6 +99,7 @@ not_admitted {T} s bad a b before after fault Ends is same idle made =
           let alike : fault ≡ other = cc one in (ap (λ (f : KeyFault). err f) alike, same, idle);
       ends = λ none. let no : Some fault ≡ None = sym first ∙ none in absurd (cc no);
       sound = subst (IsSound before.places) (sym same) made;
+      units = ap (λ (store : Store). store.units) same;
       counts = subst (Counts before) (sym idle) (counts_none before);
     }
   where
@@ -142,7 +142,7 @@ entry_is_up store none = (let_in store None (ap (λ e. early_fault e None) none)
 
 -- a session that may end is open in each state that the sessions are of
 pub may_end_is_open : (a : Store) (before : Told) (h : History) (state : State) (s : ℕ)
-    → a.down ≡ false → KeepsStore (limits_of a.units) (view_of a) before h state
+    → a.down ≡ false → KeepsStore before.places (limits_of a.units) (view_of a) before h state
     → refuses_end (limits_of a.units) (state_of a.transactions.sessions) s ≡ None
     → is_open state s ≡ true
 may_end_is_open a before h state s up keeps none =
@@ -191,6 +191,7 @@ module _ {T U : Type 0} (s n : ℕ) (a b : Store) (before after : Told) (r : Res
         (hands (Refused refusal) answered ∙ ap (λ (f : KeyFault). err f) one, same, idle);
     ends = λ none. absurd (cc none);
     sound = calls.sound;
+    units = calls.units;
     counts = calls.counts;
   }
     where
@@ -200,6 +201,7 @@ module _ {T U : Type 0} (s n : ℕ) (a b : Store) (before after : Told) (r : Res
     refuses = λ fault also. absurd (cc also);
     ends = λ none. ends (calls.serves (early_is None is));
     sound = calls.sound;
+    units = calls.units;
     counts = calls.counts;
   }
 
@@ -211,39 +213,38 @@ module _ {T U : Type 0} (s n : ℕ) (a b : Store) (before after : Told) (r : Res
 -- ---- over a story
 
 module _ (s n : ℕ) (a mid : Store) (before told : Told) (h : History) (state : State) (k : KeyState)
-    (has : HasKeyState a.units state k) (up : a.down ≡ false) (made : IsSound before.places a)
-    (still : IsSound before.places mid)
-    (keeps : KeepsStore (limits_of a.units) (view_of a) before h state) where
+    (has : HasKeyState a.units state k) (up : a.down ≡ false) (alike : mid.units ≡ a.units)
+    (keeps : KeepsStore before.places (limits_of a.units) (view_of a) before h state) where
   -- what is seen is the bucket of the state
   seen_spells : (found : Option (List ℕ)) → IsSeen s n a before found
       → SpellsBucket (bytes_of found) (pairs_of has s n)
   seen_spells found seen =
       let x = held h.start h.story in
       let same = seen state x keeps.steady.holds
-      (name_shown (view_of a) state n x (keeps.up up).shows) in
+      (name_shown before.places (view_of a) state n x (keeps.up up).shows) in
       let holds = seen_holds a.units state k has s n in
       record { bucket = holds.is.bucket; text = ap bytes_of same ∙ holds.text }
 
   looked : (r : Result (Unit {0}) StoreFault) → LooksAt a before r mid told
       → StoreSteps (λ st. st) a before r mid told h state
-  looked r looks = leads_steps (λ st. st) a mid before told r h state up made still looks.leads keeps
+  looked r looks = leads_steps (λ st. st) a mid before told r h state up alike looks.leads keeps
 
   abbrev pub Read : List ℕ → History → Type 0
-  Read bytes later = KeepsStore (limits_of a.units) (view_of mid) told later state
+  Read bytes later = KeepsStore before.places (limits_of a.units) (view_of mid) told later state
       × SpellsBucket bytes (pairs_of has s n)
 
   abbrev pub Kept : History → Type 0
-  Kept later = KeepsStore (limits_of a.units) (view_of mid) told later state
+  Kept later = KeepsStore before.places (limits_of a.units) (view_of mid) told later state
 
   abbrev pub ReadSteps : Result (List ℕ) KeyFault → Type 0
-  ReadSteps read = Steps (EachStandsEither (places_for a.units) state.map state.map)
+  ReadSteps read = Steps (EachStandsEither before.places state.map state.map)
       (tables_in a.transactions.pages) (tables_in mid.transactions.pages) Read Kept h read before told
 
   as_read : (r : Result (Unit {0}) StoreFault) (read : Result (List ℕ) KeyFault)
       → (Settled read before told → Settled r before told)
       → ((later : History) → EndsWith r (λ v. Kept) Kept later → EndsWith read Read Kept later)
       → LooksAt a before r mid told → ReadSteps read
-  as_read r read less ends looks = steps_as (EachStandsEither (places_for a.units) state.map state.map)
+  as_read r read less ends looks = steps_as (EachStandsEither before.places state.map state.map)
       (tables_in a.transactions.pages) (tables_in mid.transactions.pages) (λ v. Kept) Kept Read Kept h
       r read before told less ends (looked r looks)
 
@@ -269,41 +270,41 @@ module _ (s n : ℕ) (a mid : Store) (before told : Told) (h : History) (state :
 -- ---- a get
 
 module _ (s : ℕ) (bytes : List ℕ) (a b : Store) (before after : Told)
-    (result : Result (Option (List ℕ)) KeyFault) (made : IsSound before.places a)
+    (result : Result (Option (List ℕ)) KeyFault)
     (calls : CallsKey (early_key_fault a (bad_key bytes) s)
     (Gets s (bucket_of a.units bytes) bytes a before result b after) a before result b after) where
   abbrev Answers : KeyState → Option (List ℕ) → Type 0
   Answers k found = found ≡ see_key k s bytes
 
-  module _ (h : History) (k : KeyState) (keeps : KeepsKeys a before h k) where
+  module _ (h : History) (k : KeyState) (keeps : KeepsKeys before.places a before h k) where
     abbrev Then : Option (List ℕ) → History → Type 0
-    Then found later = KeepsKeys b after later k × Answers k found
+    Then found later = KeepsKeys before.places b after later k × Answers k found
 
     abbrev Else : History → Type 0
-    Else later = KeepsKeys b after later k
+    Else later = KeepsKeys before.places b after later k
 
     as_keys : (read : Result (List ℕ) KeyFault) (r : Result (Option (List ℕ)) KeyFault)
         (up : a.down ≡ false)
         → (Settled r before after → Settled read before after)
         → ((later : History) → EndsWith read
-        (Read s (bucket_of a.units bytes) a b before after h keeps.state k keeps.has up made calls.sound keeps.keeps)
-        (Kept s (bucket_of a.units bytes) a b before after h keeps.state k keeps.has up made calls.sound keeps.keeps)
+        (Read s (bucket_of a.units bytes) a b before after h keeps.state k keeps.has up calls.units keeps.keeps)
+        (Kept s (bucket_of a.units bytes) a b before after h keeps.state k keeps.has up calls.units keeps.keeps)
         later → EndsWith r Then Else later)
-        → ReadSteps s (bucket_of a.units bytes) a b before after h keeps.state k keeps.has up made
-        calls.sound keeps.keeps read
-        → Steps (LeavesKeys a.units k.map k.map) (tables_in a.transactions.pages)
+        → ReadSteps s (bucket_of a.units bytes) a b before after h keeps.state k keeps.has up
+        calls.units keeps.keeps read
+        → Steps (LeavesKeys before.places a.units k.map k.map) (tables_in a.transactions.pages)
         (tables_in b.transactions.pages) Then Else h r before after
     as_keys read r up less ends did =
         let n = bucket_of a.units bytes in
         let t = tables_in a.transactions.pages in
         let after_t = tables_in b.transactions.pages in
-        steps_weaker (EachStandsEither (places_for a.units) keeps.state.map keeps.state.map)
-        (LeavesKeys a.units k.map k.map) t after_t Then Then Else Else h r before after
-        (leaves_keys a.units keeps.state.map keeps.state.map k.map k.map keeps.has.keys keeps.has.keys)
+        steps_weaker (EachStandsEither before.places keeps.state.map keeps.state.map)
+        (LeavesKeys before.places a.units k.map k.map) t after_t Then Then Else Else h r before after
+        (leaves_keys before.places a.units keeps.state.map keeps.state.map k.map k.map keeps.has.keys keeps.has.keys)
         (λ v later is. is) (λ later is. is)
-        (steps_as (EachStandsEither (places_for a.units) keeps.state.map keeps.state.map) t after_t
-        (Read s n a b before after h keeps.state k keeps.has up made calls.sound keeps.keeps)
-        (Kept s n a b before after h keeps.state k keeps.has up made calls.sound keeps.keeps)
+        (steps_as (EachStandsEither before.places keeps.state.map keeps.state.map) t after_t
+        (Read s n a b before after h keeps.state k keeps.has up calls.units keeps.keeps)
+        (Kept s n a b before after h keeps.state k keeps.has up calls.units keeps.keeps)
         Then Else h read r before after less ends did)
 
     by_result : (r : Result (Option (List ℕ)) KeyFault) → a.down ≡ false
@@ -311,19 +312,19 @@ module _ (s : ℕ) (bytes : List ℕ) (a b : Store) (before after : Told)
         → ServesFor (λ k. k) Answers a before r b after h k
     by_result (Ok found) up (bucket, reads, value) =
         let n = bucket_of a.units bytes in
-        let did = reads_steps s n a b before after h keeps.state k keeps.has up made calls.sound
+        let did = reads_steps s n a b before after h keeps.state k keeps.has up calls.units
         keeps.keeps (Ok bucket) reads in record {
           steps = as_keys (Ok bucket) (Ok found) up (λ settled. tt) (λ later (kept, spells). (
-            keeps_keys a b after later keeps.state k kept keeps.has,
+            keeps_keys before.places a b after later keeps.state k kept keeps.has,
             value (pairs_of keeps.has s n) spells ∙ seen_key a.units keeps.state k keeps.has s bytes,
           )) did.0;
           buckets = tt;
         }
     by_result (Err fault) up reads =
         let did = reads_steps s (bucket_of a.units bytes) a b before after h keeps.state k keeps.has up
-        made calls.sound keeps.keeps (Err fault) reads in record {
+        calls.units keeps.keeps (Err fault) reads in record {
           steps = as_keys (Err fault) (Err fault) up (λ settled. settled)
-              (λ later kept. keeps_keys a b after later keeps.state k kept keeps.has) did.0;
+              (λ later kept. keeps_keys before.places a b after later keeps.state k kept keeps.has) did.0;
           buckets = did.1;
         }
 
@@ -357,6 +358,7 @@ gets_found early s n len bytes bucket found a b before after calls value = recor
   refuses = λ fault is. let no : Ok len ≡ Err fault = (calls.refuses fault is).0 in absurd (cc no);
   ends = λ none. (bucket, calls.ends none, value);
   sound = calls.sound;
+  units = calls.units;
   counts = calls.counts;
 }
 
@@ -371,6 +373,7 @@ gets_failed early s n bytes fault a b before after calls = record {
       let one : fault ≡ other = cc answer in (ap Err one, same, idle);
   ends = λ none. calls.ends none;
   sound = calls.sound;
+  units = calls.units;
   counts = calls.counts;
 }
 
@@ -385,12 +388,12 @@ named s a b before after result Ends bad other n m same is calls =
     calls)
 
 pub gets_key : (s : ℕ) (bytes : List ℕ) (a b : Store) (before after : Told)
-    (result : Result (Option (List ℕ)) KeyFault) → IsSound before.places a
+    (result : Result (Option (List ℕ)) KeyFault)
     → CallsKey (early_key_fault a (bad_key bytes) s)
     (Gets s (bucket_of a.units bytes) bytes a before result b after) a before result b after
     → GetsKey s bytes a before result b after
-gets_key s bytes a b before after result made calls = record {
+gets_key s bytes a b before after result calls = record {
   calls = calls;
-  serves = get_serves s bytes a b before after result made calls;
+  serves = get_serves s bytes a b before after result calls;
   met = get_met s (bucket_of a.units bytes) bytes a b before after result calls;
 }

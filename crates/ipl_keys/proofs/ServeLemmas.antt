@@ -1,24 +1,22 @@
 -- What calls of the store leave over a story, of records and of keys.
-use Rattle.std.proofs.Common.{◌≡◌, ℕ, inl, inr, false, Result, Ok, Err, sym, ap, subst, arith}
+use Rattle.std.proofs.Common.{◌≡◌, ◌∙◌, ℕ, inl, inr, false, Result, Ok, Err, refl, sym, ap, subst}
 use Rattle.chip_trait.specs.Story.{held}
 use Rattle.chip_trait.specs.Told.{History, Told, adds_all}
-use Rattle.ipl_base.specs.Places.{places_for}
 use Rattle.ipl_base.specs.declared.fault.StoreFault.{StoreFault}
 use Rattle.ipl_rules.specs.State.{Map, State, Limits}
 use Rattle.ipl_meaning.specs.Chart.{chart_of}
 use Rattle.ipl_meaning.specs.Rests.{now, EachStandsEither, StoryRests}
-use Rattle.ipl_meaning.specs.Stands.{Says}
 use Rattle.ipl_meaning.specs.Tables.{Tables, IsCountedClean}
 use Rattle.steps.specs.Steps.{Settled, EndsWith, TidyWork, Steps}
 use Rattle.steps.proofs.StepLemmas.{outcome_none, outcome_weaker}
 use Rattle.steps.proofs.TidyLemmas.{tidy_none, tidy_weaker}
 use Rattle.page_frames.specs.Pages.{tables_in}
-use Rattle.store_steps.specs.Advances.{MemoryFits, state_then, TurnsMapOf, LeadsTo}
+use Rattle.store_steps.specs.Advances.{state_then, TurnsMapOf, LeadsTo}
 use Rattle.store_steps.specs.Keeps.{limits_of, ShowsState, KeepsStore}
 use Rattle.store_steps.proofs.AdvanceLemmas.{same_held}
 use Rattle.store_steps.proofs.KeepLemmas.{IsAt, is_at, says_next}
 use Rattle.ipl_store.specs.declared.store.Store.{Store}
-use Rattle.ipl_store.specs.Calls.{memory_of_store, view_of, IsSound}
+use Rattle.ipl_store.specs.Calls.{memory_of_store, view_of}
 use Rattle.ipl_keys.specs.declared.fault.KeyFault.{KeyFault}
 use Rattle.ipl_keys.specs.KeyState.{KeyMap, KeyState}
 use Rattle.ipl_keys.specs.Records.{HasKeys}
@@ -32,10 +30,11 @@ use Rattle.ipl_keys.specs.Calls.{IsNoBadBucket, ServesFor}
 abbrev pub StoreSteps : {T E : Type 0} → (State → State) → Store → Told → Result T E → Store → Told
     → History → State → Type 0
 StoreSteps next a before result b after h state =
-    Steps (EachStandsEither (places_for a.units) state.map (next state).map)
+    Steps (EachStandsEither before.places state.map (next state).map)
     (tables_in a.transactions.pages) (tables_in b.transactions.pages)
-    (λ v later. KeepsStore (limits_of a.units) (view_of b) after later (next state))
-    (λ later. KeepsStore (limits_of a.units) (view_of b) after later state) h result before after
+    (λ v later. KeepsStore before.places (limits_of a.units) (view_of b) after later (next state))
+    (λ later. KeepsStore before.places (limits_of a.units) (view_of b) after later state) h result
+    before after
 
 rests_then : {T E : Type 0} (result : Result T E) (places : ℕ) (next : State → State)
     (state : State) (k : History)
@@ -47,58 +46,50 @@ rests_then (Err e) places next state k rests = rests
 
 -- one that leads to the next state
 module _ {T E : Type 0} (next : State → State) (a b : Store) (before after : Told) (result : Result T E)
-    (h : History) (state : State) (made : IsSound before.places a) (still : IsSound before.places b)
+    (h : History) (state : State) (alike : b.units ≡ a.units)
     (at : IsAt (view_of a) before state h)
     (leads : LeadsTo next (memory_of_store a) before result (memory_of_store b) after) where
   abbrev places : ℕ
-  places = places_for a.units
-
-  suits : places_for a.units ≡ before.places
-  suits = made.made.units
-
-  same_units : b.units ≡ a.units
-  same_units = omega (arith, made.made.units, still.made.units)
+  places = before.places
 
   did : Steps (TurnsMapOf next places state) (tables_in a.transactions.pages)
       (tables_in b.transactions.pages) (λ v k. StoryRests places (next state).map k)
       (λ k. StoryRests places state.map k) h result before after
-  did = leads.steps places h at.shown.layout state (sym suits) at.steady at.story
+  did = leads.steps places h at.shown.layout state refl at.steady at.story
 
   abbrev then : State
   then = state_then result next state
 
   keeps_then : Settled result before after
-      → KeepsStore (limits_of a.units) (view_of b) after (adds_all did.added h) then
+      → KeepsStore places (limits_of a.units) (view_of b) after (adds_all did.added h) then
   keeps_then settled =
-      let (y, told_then, had) = leads.fits places (sym suits) settled (held h.start h.story)
+      let (y, told_then, had) = leads.fits places refl settled (held h.start h.story)
       at.steady.holds in
       let at_end = had at.shown.layout state at.shown.fits in
-      let showing : ShowsState (view_of b) then y = record {
+      let showing : ShowsState places (view_of b) then y = record {
         layout = at_end.layout;
-        fits = subst (λ (n : ℕ). MemoryFits (places_for n) (chart_of y) at_end.layout (memory_of_store b) then)
-            (sym same_units) at_end.fits;
-        says = subst (λ (n : ℕ). Says (places_for n) (chart_of y) at_end.layout then.map) (sym same_units)
-            (says_next places (now h) (chart_of y) at.shown.layout at_end.layout state then
-            at_end.shows at.shown.says);
+        count = at_end.shows.count ∙ at.shown.count ∙ sym alike;
+        fits = at_end.fits;
+        says = says_next places (now h) (chart_of y) at.shown.layout at_end.layout state then
+            at_end.shows at.shown.says;
       } in
       let k = adds_all did.added h in
       let steady = did.steady settled in record {
-        limits_are = ap limits_of (sym same_units);
+        limits_are = ap limits_of (sym alike);
         steady = steady;
-        rests = subst (λ (n : ℕ). StoryRests (places_for n) then.map k) (sym same_units)
-            (rests_then result places next state k (did.ends settled));
+        rests = rests_then result places next state k (did.ends settled);
         up = λ runs. record {
           sessions = at_end.fits.sessions;
-          shows = subst (ShowsState (view_of b) then)
+          shows = subst (ShowsState places (view_of b) then)
               (same_held y (held k.start k.story) after told_then steady.holds) showing;
           tidy = did.does.clean settled h.story at.story.tidy;
         };
       }
 
   ends_so : {U F : Type 0} (r : Result U F) (k : History)
-      → KeepsStore (limits_of a.units) (view_of b) after k (state_then r next state)
-      → EndsWith r (λ v later. KeepsStore (limits_of a.units) (view_of b) after later (next state))
-      (λ later. KeepsStore (limits_of a.units) (view_of b) after later state) k
+      → KeepsStore places (limits_of a.units) (view_of b) after k (state_then r next state)
+      → EndsWith r (λ v later. KeepsStore places (limits_of a.units) (view_of b) after later (next state))
+      (λ later. KeepsStore places (limits_of a.units) (view_of b) after later state) k
   ends_so (Ok v) k keeps = keeps
   ends_so (Err e) k keeps = keeps
 
@@ -113,23 +104,22 @@ module _ {T E : Type 0} (next : State → State) (a b : Store) (before after : T
   }
 
 pub leads_steps : {T E : Type 0} (next : State → State) (a b : Store) (before after : Told)
-    (result : Result T E) (h : History) (state : State) → a.down ≡ false → IsSound before.places a
-    → IsSound before.places b
+    (result : Result T E) (h : History) (state : State) → a.down ≡ false → b.units ≡ a.units
     → LeadsTo next (memory_of_store a) before result (memory_of_store b) after
-    → KeepsStore (limits_of a.units) (view_of a) before h state
+    → KeepsStore before.places (limits_of a.units) (view_of a) before h state
     → StoreSteps next a before result b after h state
-leads_steps next a b before after result h state up made still leads keeps =
-    leading_steps next a b before after result h state made still
+leads_steps next a b before after result h state up alike leads keeps =
+    leading_steps next a b before after result h state alike
     (is_at (view_of a) before h state up keeps) leads
 
 -- ---- of keys
 
-pub keeps_keys : (a b : Store) (t : Told) (h : History) (state : State) (k : KeyState)
-    → KeepsStore (limits_of a.units) (view_of b) t h state → HasKeyState a.units state k
-    → KeepsKeys b t h k
-keeps_keys a b t h state k keeps has = record {
+pub keeps_keys : (places : ℕ) (a b : Store) (t : Told) (h : History) (state : State) (k : KeyState)
+    → KeepsStore places (limits_of a.units) (view_of b) t h state → HasKeyState a.units state k
+    → KeepsKeys places b t h k
+keeps_keys places a b t h state k keeps has = record {
   state = state;
-  keeps = subst (λ (l : Limits). KeepsStore l (view_of b) t h state) keeps.limits_are keeps;
+  keeps = subst (λ (l : Limits). KeepsStore places l (view_of b) t h state) keeps.limits_are keeps;
   has = subst (λ (n : ℕ). HasKeyState n state k) (ap (λ (l : Limits). l.units) keeps.limits_are) has;
 }
 
@@ -151,10 +141,10 @@ steps_as Each t then A B C D h r answer old new less ends did =
     less (λ settled later is. ends later is) did
 
 -- what stands for records that have keys stands for the keys
-pub leaves_keys : (count : ℕ) (m n : Map) (keys others : KeyMap) → HasKeys count m keys
-    → HasKeys count n others → (h : History) → EachStandsEither (places_for count) m n h
-    → LeavesKeys count keys others h
-leaves_keys count m n keys others one other h each x image = elim (each x image) [
+pub leaves_keys : (places count : ℕ) (m n : Map) (keys others : KeyMap) → HasKeys count m keys
+    → HasKeys count n others → (h : History) → EachStandsEither places m n h
+    → LeavesKeys places count keys others h
+leaves_keys places count m n keys others one other h each x image = elim (each x image) [
   | inl stands ↦ inl (record { map = m; stands = stands; has = one })
   | inr stands ↦ inr (record { map = n; stands = stands; has = other })
 ]
@@ -167,37 +157,39 @@ module _ {T U : Type 0} (next : State → State) (turn : KeyState → KeyState)
     (then_keys : HasKeys a.units (next state).map (turn k).map) where
   pub keys_steps : (Settled answer before after → Settled r before after)
       → ((later : History) → EndsWith r
-      (λ v l. KeepsStore (limits_of a.units) (view_of b) after l (next state))
-      (λ l. KeepsStore (limits_of a.units) (view_of b) after l state) later
-      → EndsWith answer (λ v l. KeepsKeys b after l (turn k) × Answers k v)
-      (λ l. KeepsKeys b after l k) later)
+      (λ v l. KeepsStore before.places (limits_of a.units) (view_of b) after l (next state))
+      (λ l. KeepsStore before.places (limits_of a.units) (view_of b) after l state) later
+      → EndsWith answer (λ v l. KeepsKeys before.places b after l (turn k) × Answers k v)
+      (λ l. KeepsKeys before.places b after l k) later)
       → StoreSteps next a before r b after h state
-      → Steps (LeavesKeys a.units k.map (turn k).map) (tables_in a.transactions.pages)
-      (tables_in b.transactions.pages) (λ v l. KeepsKeys b after l (turn k) × Answers k v)
-      (λ l. KeepsKeys b after l k) h answer before after
+      → Steps (LeavesKeys before.places a.units k.map (turn k).map) (tables_in a.transactions.pages)
+      (tables_in b.transactions.pages) (λ v l. KeepsKeys before.places b after l (turn k) × Answers k v)
+      (λ l. KeepsKeys before.places b after l k) h answer before after
   keys_steps less ends did =
       let counted = IsCountedClean (tables_in a.transactions.pages) in
       let clean = IsCountedClean (tables_in b.transactions.pages) in
-      outcome_weaker (EachStandsEither (places_for a.units) state.map (next state).map)
-      (LeavesKeys a.units k.map (turn k).map)
+      outcome_weaker (EachStandsEither before.places state.map (next state).map)
+      (LeavesKeys before.places a.units k.map (turn k).map)
       (TidyWork counted clean (Settled r before after)) (TidyWork counted clean (Settled answer before after))
       (Settled r before after) (Settled answer before after)
-      (EndsWith r (λ v l. KeepsStore (limits_of a.units) (view_of b) after l (next state))
-      (λ l. KeepsStore (limits_of a.units) (view_of b) after l state))
-      (EndsWith answer (λ v l. KeepsKeys b after l (turn k) × Answers k v) (λ l. KeepsKeys b after l k))
+      (EndsWith r (λ v l. KeepsStore before.places (limits_of a.units) (view_of b) after l (next state))
+      (λ l. KeepsStore before.places (limits_of a.units) (view_of b) after l state))
+      (EndsWith answer (λ v l. KeepsKeys before.places b after l (turn k) × Answers k v)
+      (λ l. KeepsKeys before.places b after l k))
       h before after
-      (leaves_keys a.units state.map (next state).map k.map (turn k).map keys then_keys)
+      (leaves_keys before.places a.units state.map (next state).map k.map (turn k).map keys then_keys)
       (λ added is. tidy_weaker counted clean (Settled r before after) (Settled answer before after) added less is)
       less (λ settled later is. ends later is) did
 
 -- a call that did nothing
 pub nothing_serves : {U : Type 0} (turn : KeyState → KeyState) (Answers : KeyState → U → Type 0)
     (a : Store) (told : Told) (fault : KeyFault) (h : History) (k : KeyState) → IsNoBadBucket fault
-    → KeepsKeys a told h k → ServesFor turn Answers a told (Err fault) a told h k
+    → KeepsKeys told.places a told h k → ServesFor turn Answers a told (Err fault) a told h k
 nothing_serves {U} turn Answers a told fault h k good keeps = record {
-  steps = outcome_none (LeavesKeys a.units k.map (turn k).map)
+  steps = outcome_none (LeavesKeys told.places a.units k.map (turn k).map)
       (TidyWork counted counted (Settled answer told told)) (Settled answer told told)
-      (EndsWith answer (λ v l. KeepsKeys a told l (turn k) × Answers k v) (λ l. KeepsKeys a told l k))
+      (EndsWith answer (λ v l. KeepsKeys told.places a told l (turn k) × Answers k v)
+      (λ l. KeepsKeys told.places a told l k))
       h told keeps.keeps.steady
       (λ x image. inl (record {
         map = keeps.state.map;
@@ -215,7 +207,7 @@ nothing_serves {U} turn Answers a told fault h k good keeps = record {
     counted = IsCountedClean (tables_in a.transactions.pages)
 
 pub kept_keys_last : KeptKeysLast
-kept_keys_last store t h k keeps x image = inl (record {
+kept_keys_last places store t h k keeps x image = inl (record {
   map = keeps.state.map;
   stands = keeps.keeps.rests.each x image;
   has = keeps.has.keys;

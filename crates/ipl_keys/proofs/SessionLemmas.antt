@@ -5,7 +5,7 @@ use Rattle.ipl_base.specs.declared.fault.StoreFault.{StoreFault}
 use Rattle.ipl_rules.specs.State.{State}
 use Rattle.store_steps.specs.Keeps.{limits_of, KeepsStore}
 use Rattle.ipl_store.specs.declared.store.Store.{Store}
-use Rattle.ipl_store.specs.Calls.{view_of, IsSound, Calls}
+use Rattle.ipl_store.specs.Calls.{view_of, Calls}
 use Rattle.ipl_keys.specs.declared.fault.KeyFault.{KeyFault}
 use Rattle.ipl_keys.specs.declared.fault.KeyFault.TheVariants as key
 use Rattle.ipl_keys.specs.KeyState.{KeyState}
@@ -22,33 +22,34 @@ module _ (next : State → State) (turn : KeyState → KeyState) (a b : Store) (
       → ServesFor turn IsDone a before (handed r) b after h k
   served (Ok v) state has then did = record {
     steps = keys_steps {T = Unit {0}} {U = Unit {0}} next turn IsDone a b before after (Ok v) (handed (Ok v)) h state k has.keys then.keys (λ s. s)
-        (λ later keeps. (keeps_keys a b after later (next state) (turn k) keeps then, tt)) did;
+        (λ later keeps. (keeps_keys before.places a b after later (next state) (turn k) keeps then, tt)) did;
     buckets = tt;
   }
   served (Err fault) state has then did = record {
     steps = keys_steps {T = Unit {0}} {U = Unit {0}} next turn IsDone a b before after (Err fault) (handed (Err fault)) h state k has.keys then.keys (λ s. s)
-        (λ later keeps. keeps_keys a b after later state k keeps has) did;
+        (λ later keeps. keeps_keys before.places a b after later state k keeps has) did;
     buckets = tt;
   }
 
   -- any call
   pub call_serves : (early : Option StoreFault) (most : ℕ) (r : Result (Unit {0}) StoreFault)
-      → IsSound before.places a → (early ≡ None → a.down ≡ false)
+      → (early ≡ None → a.down ≡ false)
       → Calls early next most a before r b after → (state : State)
-      → KeepsStore (limits_of a.units) (view_of a) before h state → HasKeyState a.units state k
+      → KeepsStore before.places (limits_of a.units) (view_of a) before h state
+      → HasKeyState a.units state k
       → (a.down ≡ false → HasKeyState a.units (next state) (turn k))
       → ServesFor turn IsDone a before (handed r) b after h k
-  call_serves early most r made up calls state keeps has turns = by_early early refl
+  call_serves early most r up calls state keeps has turns = by_early early refl
     where
       by_early : (o : Option StoreFault) → early ≡ o
           → ServesFor turn IsDone a before (handed r) b after h k
       by_early None is =
           served r state has (turns (up is))
-          (leads_steps next a b before after r h state (up is) made calls.sound
+          (leads_steps next a b before after r h state (up is) calls.units
           (calls.serves is).leads keeps)
       by_early (Some fault) is =
           let (answer, same, idle) = calls.refuses fault is in
-          let own : KeepsKeys a before h k = record { state = state; keeps = keeps; has = has } in
+          let own : KeepsKeys before.places a before h k = record { state = state; keeps = keeps; has = has } in
           subst (λ (t : Told). ServesFor turn IsDone a before (handed r) b t h k) (sym idle)
           (subst (λ (s : Store). ServesFor turn IsDone a before (handed r) s before h k) (sym same)
           (subst (λ (q : Result (Unit {0}) StoreFault). ServesFor turn IsDone a before (handed q) a before h k)
@@ -56,13 +57,13 @@ module _ (next : State → State) (turn : KeyState → KeyState) (a b : Store) (
 
 pub hands_on_serves : (next : State → State) (turn : KeyState → KeyState) (a b : Store) (before after : Told)
     (early : Option StoreFault) (most : ℕ) (result : Result (Unit {0}) KeyFault)
-    → IsSound before.places a → (early ≡ None → a.down ≡ false)
+    → (early ≡ None → a.down ≡ false)
     → ((h : History) (state : State) (k : KeyState) → a.down ≡ false
-    → KeepsStore (limits_of a.units) (view_of a) before h state → HasKeyState a.units state k
+    → KeepsStore before.places (limits_of a.units) (view_of a) before h state → HasKeyState a.units state k
     → HasKeyState a.units (next state) (turn k))
     → HandsOn (λ answer. Calls early next most a before answer b after) result
     → ServesKeys turn IsDone a before result b after
-hands_on_serves next turn a b before after early most result made up turns (r, is, calls) h k keeps =
+hands_on_serves next turn a b before after early most result up turns (r, is, calls) h k keeps =
     subst (λ (q : Result (Unit {0}) KeyFault). ServesFor turn IsDone a before q b after h k) (sym is)
-    (call_serves next turn a b before after h k early most r made up calls keeps.state keeps.keeps
+    (call_serves next turn a b before after h k early most r up calls keeps.state keeps.keeps
     keeps.has (λ runs. turns h keeps.state k runs keeps.keeps keeps.has))

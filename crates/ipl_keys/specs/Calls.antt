@@ -152,6 +152,7 @@ pub record Changes (s n : ℕ) (Rest : Pairs → Store → Told → Type 0) (old
   pub read : Result (List ℕ) KeyFault
   pub reads : Reads s n old before read mid told
   pub sound : IsSound before.places mid
+  pub units : mid.units ≡ old.units
   pub counts : Counts before told
   pub fails : (fault : KeyFault) → read ≡ Err fault
       → (result ≡ Err fault) × (new ≡ mid) × (after ≡ told)
@@ -173,13 +174,14 @@ Dels s n bytes old before result new after = Changes s n (λ pairs mid told.
 -- ---- calls
 
 -- A call on a key. It ends early with this fault, and nothing was done; or so. The store is sound
--- either way.
+-- either way, with as many units.
 pub record CallsKey {T : Type 0} (early : Option KeyFault) (Ends : Type 0) (old : Store)
     (before : Told) (result : Result T KeyFault) (new : Store) (after : Told) : Type 0 where
   pub refuses : (fault : KeyFault) → early ≡ Some fault
       → (result ≡ Err fault) × (new ≡ old) × (after ≡ before)
   pub ends : early ≡ None → Ends
   pub sound : IsSound before.places new
+  pub units : new.units ≡ old.units
   pub counts : Counts before after
 
 -- of the store's refusals those that a call on a key may meet; that there is no such name, and that a
@@ -227,17 +229,17 @@ IsNoBadBucket (key.BadBucket n) = ⊥
 pub record ServesFor {T : Type 0} (next : KeyState → KeyState) (Answers : KeyState → T → Type 0)
     (old : Store) (before : Told) (result : Result T KeyFault) (new : Store) (after : Told)
     (h : History) (k : KeyState) : Type 0 where
-  pub steps : Steps (LeavesKeys old.units k.map (next k).map) (tables_in old.transactions.pages)
+  pub steps : Steps (LeavesKeys before.places old.units k.map (next k).map) (tables_in old.transactions.pages)
       (tables_in new.transactions.pages)
-      (λ v later. KeepsKeys new after later (next k) × Answers k v)
-      (λ later. KeepsKeys new after later k) h result before after
+      (λ v later. KeepsKeys before.places new after later (next k) × Answers k v)
+      (λ later. KeepsKeys before.places new after later k) h result before after
   pub buckets : IfErr result IsNoBadBucket
 
 -- each that it keeps
 abbrev pub ServesKeys : {T : Type 0} → (KeyState → KeyState) → (KeyState → T → Type 0) → Store → Told
     → Result T KeyFault → Store → Told → Type 0
 ServesKeys next Answers old before result new after = (h : History) (k : KeyState)
-    → KeepsKeys old before h k → ServesFor next Answers old before result new after h k
+    → KeepsKeys before.places old before h k → ServesFor next Answers old before result new after h k
 
 -- nothing is answered
 abbrev pub IsDone : KeyState → Unit {0} → Type 0

@@ -2,7 +2,6 @@
 use Rattle.std.specs.Prelude.{ℕ, ◌⊎◌}
 use Rattle.chip_trait.specs.Chart.{EachMeans}
 use Rattle.chip_trait.specs.Told.{History, Told}
-use Rattle.ipl_base.specs.Places.{places_for}
 use Rattle.ipl_rules.specs.State.{Map, State}
 use Rattle.ipl_format.specs.Sector.{sector_in}
 use Rattle.ipl_meaning.specs.Chart.{Chart}
@@ -14,25 +13,25 @@ use Rattle.ipl_keys.specs.KeyState.{KeyMap, KeyState}
 use Rattle.ipl_keys.specs.Records.{HasKeys}
 use Rattle.ipl_keys.specs.Sessions.{HasKeyState}
 
--- the chart stands for records that have these keys
-pub record StandsForKeys (units : ℕ) (keys : KeyMap) (c : Chart) : Type 0 where
+-- the chart stands for records that have these keys, in the buckets of so many units
+pub record StandsForKeys (places units : ℕ) (keys : KeyMap) (c : Chart) : Type 0 where
   pub map : Map
-  pub stands : Stands (places_for units) c map
+  pub stands : Stands places c map
   pub has : HasKeys units map keys
 
 -- whatever a power cut leaves, but by chance, has these keys or those
-abbrev pub LeavesKeys : ℕ → KeyMap → KeyMap → History → Type 0
-LeavesKeys units keys others h =
-    EachMeans sector_in (λ c. StandsForKeys units keys c ⊎ StandsForKeys units others c) h.start h.story
+abbrev pub LeavesKeys : ℕ → ℕ → KeyMap → KeyMap → History → Type 0
+LeavesKeys places units keys others h = EachMeans sector_in
+    (λ c. StandsForKeys places units keys c ⊎ StandsForKeys places units others c) h.start h.story
 
--- The store, over a chip that tells this and holds what this history leaves, keeps a state that has
--- this key state.
-pub record KeepsKeys (store : Store) (t : Told) (h : History) (k : KeyState) : Type 0 where
+-- The store, over a chip of so many places that tells this and holds what this history leaves, keeps a
+-- state that has this key state.
+pub record KeepsKeys (places : ℕ) (store : Store) (t : Told) (h : History) (k : KeyState) : Type 0 where
   pub state : State
-  pub keeps : KeepsStore (limits_of store.units) (view_of store) t h state
+  pub keeps : KeepsStore places (limits_of store.units) (view_of store) t h state
   pub has : HasKeyState store.units state k
 
 -- whatever a power cut leaves then has the keys
 abbrev pub KeptKeysLast : Type 0
-KeptKeysLast = (store : Store) (t : Told) (h : History) (k : KeyState) → KeepsKeys store t h k
-    → LeavesKeys store.units k.map k.map h
+KeptKeysLast = (places : ℕ) (store : Store) (t : Told) (h : History) (k : KeyState)
+    → KeepsKeys places store t h k → LeavesKeys places store.units k.map k.map h

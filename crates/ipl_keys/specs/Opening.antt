@@ -4,10 +4,10 @@ use Rattle.std.specs.Option.{option_map}
 use Rattle.chip_trait.specs.Moment.{AtEachMoment}
 use Rattle.chip_trait.specs.Story.{Story}
 use Rattle.chip_trait.specs.Told.{History, Told, adds_all}
-use Rattle.ipl_base.specs.Places.{KeepsUnits}
 use Rattle.ipl_base.specs.declared.fault.OpenFault.{OpenFault}
 use Rattle.ipl_rules.specs.State.{Map}
-use Rattle.ipl_meaning.specs.Rests.{StoryRests}
+use Rattle.ipl_meaning.specs.Rests.{now, StoryRests}
+use Rattle.opening_rules.specs.Chosen.{units_at}
 use Rattle.unit_io.specs.Leads.{IsSteady}
 use Rattle.ipl_store.specs.declared.store.Store.{Store}
 use Rattle.ipl_keys.specs.declared.keys.Keys.{Keys}
@@ -20,16 +20,18 @@ abbrev pub store_of : Result Keys OpenFault → Result Store OpenFault
 store_of (Ok keys) = Ok keys.store
 store_of (Err fault) = Err fault
 
--- At each moment a power cut leaves these keys. Done, the store keeps them, with no session open.
-pub record OpensFor (units : ℕ) (m : KeyMap) (h : History) (old : Told) (result : Result Keys OpenFault)
-    (new : Told) : Type 0 where
+-- At each moment a power cut leaves these keys, in so many units. Done, the store has as many, and keeps
+-- the keys, with no session open.
+pub record OpensFor (places units : ℕ) (m : KeyMap) (h : History) (old : Told)
+    (result : Result Keys OpenFault) (new : Told) : Type 0 where
   pub added : Story
   pub history : new.history ≡ option_map (adds_all added) old.history
-  pub each_moment : AtEachMoment (λ e. LeavesKeys units m m (adds_all e h)) added
-  pub keeps : IfOk result (λ keys. KeepsKeys keys.store new (adds_all added h) (keys_at_rest m))
+  pub each_moment : AtEachMoment (λ e. LeavesKeys places units m m (adds_all e h)) added
+  pub keeps : IfOk result (λ keys. KeepsKeys places keys.store new (adds_all added h) (keys_at_rest m)
+      × (keys.store.units ≡ units))
 
--- over each story that rests on records that have keys
+-- over each story that rests on records that have keys, in as many units as the chip then says
 abbrev pub OpensKeys : Told → Result Keys OpenFault → Told → Type 0
 OpensKeys old result new = (units : ℕ) (records : Map) (m : KeyMap) (h : History)
-    → KeepsUnits old.places units → IsSteady h old → StoryRests old.places records h
-    → HasKeys units records m → OpensFor units m h old result new
+    → units ≡ units_at (now h) old.places → IsSteady h old → StoryRests old.places records h
+    → HasKeys units records m → OpensFor old.places units m h old result new

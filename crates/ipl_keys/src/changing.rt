@@ -45,6 +45,7 @@ impl Keys {
         ensures writes { HandsOn (λ answer. Writes s n (change_of bytes.now) self.old.store
             (C.told chip.old) answer self.new.store (C.told chip.new)) result }
         ensures sound { IsSound (C.told chip.old).places self.new.store }
+        ensures units { self.new.store.units ≡ self.old.store.units }
         ensures counts { Counts (C.told chip.old) (C.told chip.new) }
     {
         if bytes.is_empty() {

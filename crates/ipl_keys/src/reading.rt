@@ -89,7 +89,7 @@ impl Keys {
         ensures name { result ≡ bucket_of self.now.store.units key.now }
         ensures within { result < UNIT_NAMES * self.now.store.units }
     {
-        bucket_of(key, self.store.units())
+        bucket_of(key, self.store.unit_count())
     }
 
     /// Copies the bucket of a name of the chip, for a call on a key that may be bad so.

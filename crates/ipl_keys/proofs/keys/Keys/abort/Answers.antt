@@ -16,6 +16,6 @@ returns-clause-serves g c =
     let refusal = refuses_end (limits_of store.units) (state_of store.transactions.sessions) s in
     hands_on_serves (λ state. after_abort state s) (λ k. after_key_abort k s) store c.abort.new.self
     (g.C.Chip.told c.args.chip.now) (g.C.Chip.told c.abort.new._chip) (early_fault (down_fault store) refusal)
-    0 c.handed.result c.requires.sound (λ none. (let_in_down store refusal none).0)
+    0 c.handed.result (λ none. (let_in_down store refusal none).0)
     (λ h state k up keeps has. aborts_keep_keys store.units state k s has)
     (c.abort.result, c.handed.ensures, c.abort.ensures.calls)

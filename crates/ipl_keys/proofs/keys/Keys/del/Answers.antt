@@ -37,7 +37,7 @@ returns-in_err-len-clause-serves g c =
     let result = c.from_residual.result in
     changing_serves s (bytes, None) a b before after result
     (λ pairs mid told. IsWritten s (bucket_of a.units bytes) (remove_pair bytes pairs) mid told result b
-    after) c.requires.sound (λ pairs mid told wrote. inr wrote) (bad_key bytes) (bad_key_is_good bytes)
+    after) (λ pairs mid told wrote. inr wrote) (bad_key bytes) (bad_key_is_good bytes)
     (returns-in_err-len-clause-calls g c)
 
 pub returns-clause-calls : goal.returns-clause-calls
@@ -60,7 +60,7 @@ returns-clause-calls g c =
     result c.in_ok-len.len (take c.in_ok-len.len c.look.new.self.bucket) pairs c.in_ok-len.ensures.calls
     spells (pairs_written s n (take c.without-end.result c.without-end.new.into) (remove_pair bytes pairs)
     mid b told after result (c.without-end.ensures.removed pairs spells) c.write.ensures.writes)
-    c.write.ensures.sound c.write.ensures.counts)
+    c.write.ensures.sound c.write.ensures.units c.write.ensures.counts)
 
 pub returns-clause-serves : goal.returns-clause-serves
 returns-clause-serves g c =
@@ -72,7 +72,7 @@ returns-clause-serves g c =
     let s = c.args.s in
     changing_serves s (bytes, None) a b before after c.write.result
     (λ pairs mid told. IsWritten s (bucket_of a.units bytes) (remove_pair bytes pairs) mid told
-    c.write.result b after) c.requires.sound (λ pairs mid told wrote. inr wrote) (bad_key bytes)
+    c.write.result b after) (λ pairs mid told wrote. inr wrote) (bad_key bytes)
     (bad_key_is_good bytes) (returns-clause-calls g c)
 
 pub returns-in_err-len-clause-met : goal.returns-in_err-len-clause-met
@@ -87,7 +87,7 @@ returns-in_err-len-clause-met g c =
     changing_met s (bucket_of a.units bytes) (bad_key bytes)
     (λ pairs mid told. IsWritten s (bucket_of a.units bytes) (remove_pair bytes pairs) mid told result
     b after)
-    a b before after (remove_pair bytes) c.requires.sound (in_units a c.name_of-n.result bytes c.name_of-n.ensures.name
+    a b before after (remove_pair bytes) (in_units a c.name_of-n.result bytes c.name_of-n.ensures.name
     c.name_of-n.ensures.within) (bad_key_met bytes) result
     (λ fault is pairs mid told did. inr (subst (λ (q : Result (Unit {0}) KeyFault). IsWritten s (bucket_of a.units bytes) (remove_pair bytes pairs) mid told q b after) is did))
     (returns-in_err-len-clause-calls g c)
@@ -104,7 +104,7 @@ returns-clause-met g c =
     changing_met s (bucket_of a.units bytes) (bad_key bytes)
     (λ pairs mid told. IsWritten s (bucket_of a.units bytes) (remove_pair bytes pairs) mid told result
     b after)
-    a b before after (remove_pair bytes) c.requires.sound (in_units a c.name_of-n.result bytes c.name_of-n.ensures.name
+    a b before after (remove_pair bytes) (in_units a c.name_of-n.result bytes c.name_of-n.ensures.name
     c.name_of-n.ensures.within) (bad_key_met bytes) result
     (λ fault is pairs mid told did. inr (subst (λ (q : Result (Unit {0}) KeyFault). IsWritten s (bucket_of a.units bytes) (remove_pair bytes pairs) mid told q b after) is did))
     (returns-clause-calls g c)

@@ -17,7 +17,7 @@ returns-in_err-len g c =
       (
         refl,
         λ _. tt,
-        gets_key c.args.s bytes a b before after (Err fault) c.requires.sound
+        gets_key c.args.s bytes a b before after (Err fault)
             (named c.args.s a b before after (Err fault) (λ n. Gets c.args.s n bytes a before (Err fault) b after)
             c.bad_key.result _ c.name_of-n.result _ c.bad_key.ensures c.name_of-n.ensures.name
             (gets_failed (early_key_fault a c.bad_key.result c.args.s) c.args.s c.name_of-n.result bytes fault a b
@@ -37,7 +37,7 @@ returns g c =
       (
         refl,
         λ _. tt,
-        gets_key c.args.s bytes a b before after (Ok found) c.requires.sound
+        gets_key c.args.s bytes a b before after (Ok found)
             (named c.args.s a b before after (Ok found) (λ n. Gets c.args.s n bytes a before (Ok found) b after)
             c.bad_key.result _ c.name_of-n.result _ c.bad_key.ensures c.name_of-n.ensures.name
             (gets_found (early_key_fault a c.bad_key.result c.args.s) c.args.s c.name_of-n.result c.in_ok-len.len

@@ -43,7 +43,7 @@ returns-in_err-len-clause-serves g c =
     changing_serves s (bytes, Some value) a b before after result
     (λ pairs mid told. IsFull (bucket_of a.units bytes) (set_pair bytes value pairs) mid told result b after
     ⊎ IsWritten s (bucket_of a.units bytes) (set_pair bytes value pairs) mid told result b after)
-    c.requires.sound (λ pairs mid told is. is) (bad_pair bytes value) (bad_pair_is_good bytes value)
+    (λ pairs mid told is. is) (bad_pair bytes value) (bad_pair_is_good bytes value)
     (returns-in_err-len-clause-calls g c)
 
 pub returns-clause-calls : goal.returns-clause-calls
@@ -68,7 +68,7 @@ returns-clause-calls g c =
     result c.in_ok-len.len (take c.in_ok-len.len c.look.new.self.bucket) pairs c.in_ok-len.ensures.calls
     spells (inr (pairs_written s n (take c.in-Some.end c.with_pair.new.into) (set_pair bytes value pairs)
     mid b told after result (c.in-Some.ensures.set pairs spells) c.write.ensures.writes))
-    c.write.ensures.sound c.write.ensures.counts)
+    c.write.ensures.sound c.write.ensures.units c.write.ensures.counts)
 
 pub returns-clause-serves : goal.returns-clause-serves
 returns-clause-serves g c =
@@ -82,7 +82,7 @@ returns-clause-serves g c =
     changing_serves s (bytes, Some value) a b before after c.write.result
     (λ pairs mid told. IsFull (bucket_of a.units bytes) (set_pair bytes value pairs) mid told c.write.result b
     after ⊎ IsWritten s (bucket_of a.units bytes) (set_pair bytes value pairs) mid told c.write.result b
-    after) c.requires.sound (λ pairs mid told is. is) (bad_pair bytes value)
+    after) (λ pairs mid told is. is) (bad_pair bytes value)
     (bad_pair_is_good bytes value) (returns-clause-calls g c)
 
 pub returns-in_default-clause-calls : goal.returns-in_default-clause-calls
@@ -107,7 +107,7 @@ returns-in_default-clause-calls g c =
     (full_at n) c.in_ok-len.len (take c.in_ok-len.len c.look.new.self.bucket) pairs
     c.in_ok-len.ensures.calls spells (inl full)
     (subst (λ (p : ℕ). IsSound p b) (sym c.in_ok-len.ensures.calls.counts.places)
-    c.in_ok-len.ensures.calls.sound) (counts_none after))
+    c.in_ok-len.ensures.calls.sound) refl (counts_none after))
 
 pub returns-in_default-clause-serves : goal.returns-in_default-clause-serves
 returns-in_default-clause-serves g c =
@@ -122,7 +122,7 @@ returns-in_default-clause-serves g c =
     changing_serves s (bytes, Some value) a b before after result
     (λ pairs mid told. IsFull (bucket_of a.units bytes) (set_pair bytes value pairs) mid told result b after
     ⊎ IsWritten s (bucket_of a.units bytes) (set_pair bytes value pairs) mid told result b after)
-    c.requires.sound (λ pairs mid told is. is) (bad_pair bytes value) (bad_pair_is_good bytes value)
+    (λ pairs mid told is. is) (bad_pair bytes value) (bad_pair_is_good bytes value)
     (returns-in_default-clause-calls g c)
 
 pub returns-in_err-len-clause-met : goal.returns-in_err-len-clause-met
@@ -138,7 +138,7 @@ returns-in_err-len-clause-met g c =
     changing_met s (bucket_of a.units bytes) (bad_pair bytes value)
     (λ pairs mid told. IsFull (bucket_of a.units bytes) (set_pair bytes value pairs) mid told result b after
     ⊎ IsWritten s (bucket_of a.units bytes) (set_pair bytes value pairs) mid told result b after)
-    a b before after (set_pair bytes value) c.requires.sound (in_units a c.name_of-n.result bytes c.name_of-n.ensures.name
+    a b before after (set_pair bytes value) (in_units a c.name_of-n.result bytes c.name_of-n.ensures.name
     c.name_of-n.ensures.within) (bad_pair_met bytes value) result
     (λ fault is pairs mid told did. subst (λ (q : Result (Unit {0}) KeyFault). IsFull (bucket_of a.units bytes) (set_pair bytes value pairs) mid told q b after ⊎ IsWritten s (bucket_of a.units bytes) (set_pair bytes value pairs) mid told q b after) is did)
     (returns-in_err-len-clause-calls g c)
@@ -156,7 +156,7 @@ returns-in_default-clause-met g c =
     changing_met s (bucket_of a.units bytes) (bad_pair bytes value)
     (λ pairs mid told. IsFull (bucket_of a.units bytes) (set_pair bytes value pairs) mid told result b after
     ⊎ IsWritten s (bucket_of a.units bytes) (set_pair bytes value pairs) mid told result b after)
-    a b before after (set_pair bytes value) c.requires.sound (in_units a c.name_of-n.result bytes c.name_of-n.ensures.name
+    a b before after (set_pair bytes value) (in_units a c.name_of-n.result bytes c.name_of-n.ensures.name
     c.name_of-n.ensures.within) (bad_pair_met bytes value) result
     (λ fault is pairs mid told did. subst (λ (q : Result (Unit {0}) KeyFault). IsFull (bucket_of a.units bytes) (set_pair bytes value pairs) mid told q b after ⊎ IsWritten s (bucket_of a.units bytes) (set_pair bytes value pairs) mid told q b after) is did)
     (returns-in_default-clause-calls g c)
@@ -174,7 +174,7 @@ returns-clause-met g c =
     changing_met s (bucket_of a.units bytes) (bad_pair bytes value)
     (λ pairs mid told. IsFull (bucket_of a.units bytes) (set_pair bytes value pairs) mid told result b after
     ⊎ IsWritten s (bucket_of a.units bytes) (set_pair bytes value pairs) mid told result b after)
-    a b before after (set_pair bytes value) c.requires.sound (in_units a c.name_of-n.result bytes c.name_of-n.ensures.name
+    a b before after (set_pair bytes value) (in_units a c.name_of-n.result bytes c.name_of-n.ensures.name
     c.name_of-n.ensures.within) (bad_pair_met bytes value) result
     (λ fault is pairs mid told did. subst (λ (q : Result (Unit {0}) KeyFault). IsFull (bucket_of a.units bytes) (set_pair bytes value pairs) mid told q b after ⊎ IsWritten s (bucket_of a.units bytes) (set_pair bytes value pairs) mid told q b after) is did)
     (returns-clause-calls g c)
