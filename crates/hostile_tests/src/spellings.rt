@@ -14,7 +14,7 @@ use std::process::Abort;
 use std::test::Fail;
 
 /// Sectors of unit 0 at place 0: its header, the first piece of its first page and a log sector.
-const DATA: Head = Head {
+pub(crate) const DATA: Head = Head {
     kind: Head::DATA_HEADER,
     version: VERSION,
     unit: 0,
@@ -22,7 +22,7 @@ const DATA: Head = Head {
     serial: 1,
 };
 
-const BASE: Head = Head {
+pub(crate) const BASE: Head = Head {
     kind: Head::BASE,
     serial: 0,
     ..DATA
@@ -44,7 +44,7 @@ const FIRST_BASE: Head = Head { version: 1, ..BASE };
 const FIRST_LOG: Head = Head { version: 1, ..LOG };
 
 /// Sectors of the status place, which is place 1: its header and a commit sector.
-const STATUS: Head = Head {
+pub(crate) const STATUS: Head = Head {
     kind: Head::STATUS_HEADER,
     generation: 2,
     serial: 2,
@@ -58,7 +58,7 @@ const COMMIT: Head = Head {
 
 /// The first 24 bytes are the payload of a header whose first page has one base sector, at a place that
 /// was erased once; before version 3 it is the first twenty.
-const ONE_PIECE: [u8; 25] = [
+pub(crate) const ONE_PIECE: [u8; 25] = [
     0, 0, 0, 1, 1, 0, 0, 0, 0, 0, 0, 0, 0, 0, 0, 0, 0, 0, 0, 0, 0, 0, 0, 1, 0,
 ];
 
@@ -71,14 +71,14 @@ const NONE_RETIRED: [u8; 10] = [0, 0, 0, 1, 0, 0, 0, 1, 0, 0];
 
 /// The text of a page with the value `hi` in its first slot, in each version, and what a list says of
 /// it.
-const TEXT: &[u8] = &[0, 0, 2, 0x68, 0x69];
+pub(crate) const TEXT: &[u8] = &[0, 0, 2, 0x68, 0x69];
 
-const FIRST_TEXT: &[u8] = &[0, 2, 0x68, 0x69];
+pub(crate) const FIRST_TEXT: &[u8] = &[0, 2, 0x68, 0x69];
 
-const RECORD: &[u8] = b"0 6869\nend\n";
+pub(crate) const RECORD: &[u8] = b"0 6869\nend\n";
 
 /// The first byte of each sector: with it, nothing is changed.
-const SAME: (usize, u8) = (0, b'I');
+pub(crate) const SAME: (usize, u8) = (0, b'I');
 
 /// There is no version 4.
 const NO_VERSION: (usize, u8) = (5, 4);
@@ -86,10 +86,10 @@ const NO_VERSION: (usize, u8) = (5, 4);
 const LAST: (usize, u8) = (511, 1);
 
 /// A sector at a place, of which one byte is changed before its sum is taken.
-type Spelled<'a> = ((u32, u32), Head, &'a [u8], (usize, u8));
+pub(crate) type Spelled<'a> = ((u32, u32), Head, &'a [u8], (usize, u8));
 
 /// Puts a sector where it is no matter what stood there.
-fn put(rt: &impl Abort, chip: &mut MemChip, spelled: Spelled<'_>) {
+pub(crate) fn put(rt: &impl Abort, chip: &mut MemChip, spelled: Spelled<'_>) {
     let ((place, sector), head, payload, (index, byte)) = spelled;
     let mut bytes = [0; 512];
     assert!(rt; payload.len() <= 480 && 1 <= head.kind && head.kind <= 6);

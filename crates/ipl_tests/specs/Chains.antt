@@ -3,8 +3,9 @@ use Rattle.std.specs.Prelude.{◌≡◌, List, Some, ℕ}
 use Rattle.std.specs.FinMap.{empty}
 use Rattle.chip_trait.specs.Told.{History, Told}
 use Rattle.ipl_rules.specs.State.{Map}
-use Rattle.ipl_meaning.specs.Rests.{StoryRests}
+use Rattle.ipl_meaning.specs.Rests.{now, StoryRests}
 use Rattle.unit_io.specs.Leads.{IsSteady}
+use Rattle.opening_rules.specs.Chosen.{units_at}
 
 -- no write has failed, a history that leaves what the chip holds rests on these records, and this is
 -- left of the script
@@ -19,6 +20,10 @@ pub record IsFormattable (script : List ℕ) (t : Told) : Type 0 where
   pub history : History
   pub steady : IsSteady history t
   pub left : t.beside.left ≡ Some script
+
+-- as many units as the chip says that it has, which holds what the history leaves
+abbrev pub units_kept : Told → History → ℕ
+units_kept t h = units_at (now h) t.places
 
 abbrev pub no_records : Map
 no_records = empty

@@ -1,7 +1,7 @@
 //! Tests of the program over desks in memory: what it says and notes, what power cuts, faults of the chip
-//! and worn places leave, how places wear in turn, what is opened of changed chips and of those of older
-//! versions, trials and serial views. They stand in a crate of their own so that the crates below are
-//! proved once.
+//! and worn places leave, with places to spare and without, how places wear in turn, what is opened of
+//! changed chips and of those of older versions, trials and serial views. They stand in a crate of their
+//! own so that the crates below are proved once.
 #![tactic(auto)]
 
 #[cfg(test)]
@@ -16,6 +16,8 @@ mod cuts;
 mod openings;
 #[cfg(test)]
 mod runs;
+#[cfg(test)]
+mod spares;
 #[cfg(test)]
 mod trials;
 #[cfg(test)]

@@ -137,11 +137,12 @@ fn check(rt: &impl Abort, alloc: Global, chip: MemChip, fault: &str) -> Result<(
 #[test]
 fn the_first_fault_is_noted(rt: HostRuntime) -> Result<(), Fail> {
     let alloc = rt.alloc();
-    let cases: [(&[(u32, u32, Head, &[u8])], &str); 16] = [
+    let cases: [(&[(u32, u32, Head, &[u8])], &str); 17] = [
         (&[(0, 0, ZEROS, &[])], "missing unit 0"),
         (&[(1, 0, ZEROS, &[])], "not formatted"),
         (&[(0, 0, DATA, &FOREIGN)], "geometry"),
         (&[(1, 0, STATUS, &FOREIGN[..4])], "geometry"),
+        (&[(1, 0, STATUS, &FOREIGN[4..8])], "geometry"),
         (&[(0, 0, DATA, &FIRST[..3])], "malformed place 0 sector 0"),
         (&[(0, 0, DATA, &FIRST[..20])], "malformed place 0 sector 0"),
         (&[(1, 0, STATUS, &FIRST[..5])], "malformed place 1 sector 0"),

@@ -1,6 +1,6 @@
 //! The program over desks in memory. Of each case it is known what is said, what is noted and how it ends.
 use chip_mem::MemChip;
-use chip_trait::Event;
+use chip_trait::{Chip, Event};
 use ipl_cli::top::top;
 use ipl_cli::{FailingSay, MemDesk};
 use restart::format;
@@ -63,7 +63,7 @@ pub(crate) fn said(alloc: Global, desk: &MemDesk) -> Result<Vec<u8>, Fail> {
 /// A chip that a format left, with room for so many events.
 pub(crate) fn formatted(alloc: Global, places: u32, room: u64) -> Result<MemChip, Fail> {
     let mut chip = MemChip::new(alloc, places, room)?;
-    if format(&mut chip).is_err() {
+    if format(&mut chip, 0).is_err() {
         return Err(Fail::from("no format"));
     }
     Ok(chip.image(alloc, u64::MAX, &[])?)
@@ -76,8 +76,9 @@ pub(crate) fn left_by(alloc: Global, desk: &MemDesk) -> Result<MemChip, Fail> {
 
 /// Whether a chip opens, and a list of the names up to 9 says this.
 pub(crate) fn lists(alloc: Global, chip: MemChip, replies: &[u8]) -> Result<bool, Fail> {
+    let line = format!(in alloc; "run ram:{}", chip.units())?;
     let mut desk = MemDesk::new(alloc, chip, b"list 0 9\n", &[])?;
-    let status = ends(alloc, "run ram:5", &mut desk)?;
+    let status = ends(alloc, line.as_str(), &mut desk)?;
     let lines = said(alloc, &desk)?;
     Ok(status == 0 && desk.noted().is_empty() && lines.as_slice() == replies)
 }
@@ -224,11 +225,13 @@ fn the_room_is_spent(rt: HostRuntime) -> Result<(), Fail> {
 #[test]
 fn other_places_and_blank_chips(rt: HostRuntime) -> Result<(), Fail> {
     let alloc = rt.alloc();
-    let cases: [(&str, u32, &[u8]); 5] = [
+    let cases: [(&str, u32, &[u8]); 7] = [
         ("run ram:4 --format", 4, b"ipl: geometry\n"),
         ("run ram:1029 --format", 1029, b"ipl: geometry\n"),
         ("run ram:4", 4, b"ipl: geometry\n"),
         ("format ram:4", 4, b"ipl: geometry\n"),
+        ("format ram:5 --spares 1", 5, b"ipl: geometry\n"),
+        ("format ram:68 --spares 64", 68, b"ipl: geometry\n"),
         ("run ram:5", 5, b"ipl: not formatted\n"),
     ];
     for (line, places, noted) in cases {
@@ -256,6 +259,12 @@ fn other_words_leave_the_script_and_the_chip(rt: HostRuntime) -> Result<(), Fail
         "run ram:5 --frames 1",
         "run ram:5 --frames 65",
         "format ram:5 --format",
+        "format ram:5 --spares",
+        "format ram:5 --spares x",
+        "format ram:5 --spares 65",
+        "format ram:5 --spares 0 --spares 0",
+        "run ram:5 --spares 0",
+        "run ram:5 --format --spares 0",
         "run file:5:",
         "--help",
     ];

@@ -55,17 +55,18 @@ fn of_version(rt: &impl Abort, alloc: Global, version: u8) -> Result<MemChip, Fa
     Ok(chip)
 }
 
-/// A sector of place 1 is one of unit 0 that is written now, with this payload.
-fn check_sector(
+/// A sector of a place says this.
+pub(crate) fn check_sector(
     rt: &impl Abort,
     chip: &mut MemChip,
+    place: u32,
     sector: u32,
     head: Head,
     payload: &[u8],
 ) -> Result<(), Fail> {
     let mut bytes = [0; 512];
-    assert!(rt; 1 < chip.units() && sector < 256 && payload.len() <= 480);
-    if chip.read(1, sector, &mut bytes).is_err() {
+    assert!(rt; place < chip.units() && sector < 256 && payload.len() <= 480);
+    if chip.read(place, sector, &mut bytes).is_err() {
         return Err(Fail::from("the sector isn't read"));
     }
     assert_eq!(rt; decode(&bytes), Decoded::Sector(head, payload.len()));
@@ -91,13 +92,13 @@ fn a_unit_of_an_older_version_is_written_anew(rt: HostRuntime) -> Result<(), Fai
             serial: 5,
             ..DATA
         };
-        check_sector(&rt, &mut left, 0, header, &ONE_PIECE)?;
+        check_sector(&rt, &mut left, 1, 0, header, &ONE_PIECE)?;
         let base = Head {
             version: VERSION,
             generation: 5,
             ..BASE
         };
-        check_sector(&rt, &mut left, 1, base, TEXT)?;
+        check_sector(&rt, &mut left, 1, 1, base, TEXT)?;
         // What is of two versions then opens too.
         assert!(rt; lists(alloc, left, b"5 6869\n6 61\nend\n")?);
     }

@@ -29,7 +29,7 @@ fn ends_worn(events: &[Event], place: u32) -> bool {
 }
 
 /// How many reads come before the first other event. Up to there a cut leaves the chip as it was.
-fn reads_before(events: &[Event]) -> usize {
+pub(crate) fn reads_before(events: &[Event]) -> usize {
     for (number, event) in events.iter().enumerate() {
         if !matches!(event, Event::Read(_, _)) {
             return number;

@@ -18,6 +18,14 @@ fn named(event: &Event) -> (&'static str, u32) {
     }
 }
 
+/// The bytes that an event programs.
+fn sector_of(event: &Event) -> Option<&[u8]> {
+    match event {
+        Event::Program(_, _, bytes) => Some(bytes.as_slice()),
+        _ => None,
+    }
+}
+
 /// Whether an event programs a sector with this head, before its sum, and this payload.
 fn writes(event: &Event, head: &[u8], payload: &[u8]) -> bool {
     match event {
@@ -31,7 +39,7 @@ fn writes(event: &Event, head: &[u8], payload: &[u8]) -> bool {
 #[test]
 fn five_places_are_erased_and_get_two_headers(rt: HostRuntime) -> Result<(), Fail> {
     let mut chip = MemChip::new(rt.alloc(), 5, 20)?;
-    assert_eq!(rt; format(&mut chip), Ok(()));
+    assert_eq!(rt; format(&mut chip, 0), Ok(()));
     let events = chip.events();
     let cases = [
         ("erase", 0),
@@ -60,17 +68,40 @@ fn five_places_are_erased_and_get_two_headers(rt: HostRuntime) -> Result<(), Fai
     Ok(())
 }
 
+/// However many places are to spare.
 #[test]
 fn a_format_ends_at_the_first_worn_place(rt: HostRuntime) -> Result<(), Fail> {
     let alloc = rt.alloc();
-    let mut chip = MemChip::new(alloc, 5, 20)?;
-    chip.wear_out([4, 2].to_vec(alloc)?);
-    assert_eq!(rt; format(&mut chip), Err(FormatFault::Worn(2)));
-    let events = chip.events();
-    let cases = [("erase", 0), ("erase", 1), ("worn", 2)];
-    assert_eq!(rt; events.len(), cases.len());
-    for (event, case) in events.iter().zip(cases) {
-        assert_eq!(rt; named(event), case);
+    for (places, spares) in [(5, 0), (6, 1), (70, 64)] {
+        let mut chip = MemChip::new(alloc, places, 20)?;
+        chip.wear_out([4, 2].to_vec(alloc)?);
+        assert!(rt; spares <= 64);
+        assert_eq!(rt; format(&mut chip, spares), Err(FormatFault::Worn(2)));
+        let events = chip.events();
+        let cases = [("erase", 0), ("erase", 1), ("worn", 2)];
+        assert_eq!(rt; events.len(), cases.len());
+        for (event, case) in events.iter().zip(cases) {
+            assert_eq!(rt; named(event), case);
+        }
+    }
+    Ok(())
+}
+
+/// Six places of which one is spare get the same two headers as five of which none is, since both keep
+/// one unit.
+#[test]
+fn a_spare_place_is_erased_and_gets_no_header(rt: HostRuntime) -> Result<(), Fail> {
+    let alloc = rt.alloc();
+    let mut five = MemChip::new(alloc, 5, 20)?;
+    assert_eq!(rt; format(&mut five, 0), Ok(()));
+    let mut six = MemChip::new(alloc, 6, 20)?;
+    assert_eq!(rt; format(&mut six, 1), Ok(()));
+    assert_eq!(rt; five.events().len(), 9);
+    assert_eq!(rt; six.events().len(), 10);
+    assert_eq!(rt; named(&six.events()[5]), ("erase", 5));
+    for (event, same) in six.events()[6..].iter().zip(&five.events()[5..]) {
+        assert_eq!(rt; named(event), named(same));
+        assert_eq!(rt; sector_of(event), sector_of(same));
     }
     Ok(())
 }

@@ -53,7 +53,8 @@ fn written(rt: &impl Abort, alloc: Global, sectors: &[Put<'_>]) -> Result<MemChi
 /// The tables of the unit, which say of no log sector what it holds.
 fn tables_of_unit(alloc: Global) -> Result<Tables, Fail>
     ensures { IfOk result (λ t. (length t.directory.in_use ≡ 6)
-        × (length t.directory.current ≡ 2) × (length t.overflow.spots ≡ 2)) }
+        × (length t.directory.current ≡ 2) × (length t.overflow.spots ≡ 2)
+        × (t.overflow.places ≡ 6)) }
 {
     let geometry = Geometry::of(6).ok_or("places")?;
     let mut directory = Directory::new(alloc, geometry)?;
@@ -77,6 +78,7 @@ fn read(
     requires places { length tables.now.directory.in_use ≡ 6 }
     requires units { length tables.now.directory.current ≡ 2 }
     requires lists { length tables.now.overflow.spots ≡ 2 }
+    requires sized { tables.now.overflow.places ≡ 6 }
 {
     assert!(rt; chip.units() == 6);
     read_live(chip, &tables.directory, &tables.overflow, 0, scratch)

@@ -1,7 +1,7 @@
 //! What an opening of a small chip finds: the place of unit 0, the next number, a log sector in an
-//! overflow place, a committed number, whether a live record has it, and how often each place was
-//! erased. Its faults are what the program notes, so they are tried there.
-ghost use Rattle.std.specs.Prelude.{◌≡◌, length};
+//! overflow place, a committed number, whether a live record has it, how often each place was erased,
+//! and which are retired. Its faults are what the program notes, so they are tried there.
+ghost use Rattle.std.specs.Prelude.{◌≡◌, length, IfOk};
 
 use crate::sectors::{Put, at, put_all};
 use chip_mem::MemChip;
@@ -138,8 +138,21 @@ fn erases_of(rt: &impl Abort, directory: &Directory, geometry: Geometry) -> [u32
     erases
 }
 
-/// What is found of a chip that opens.
-fn opens(rt: &impl Abort, alloc: Global, chip: &mut MemChip) -> Result<Found, Fail> {
+/// The tables of a chip that opens.
+#[derive(Drop)]
+struct Tables {
+    geometry: Geometry,
+    directory: Directory,
+    overflow: Overflow,
+    status: Status,
+    counter: Counter,
+    kept: KeptNumbers,
+}
+
+/// Opens a chip.
+fn opened(rt: &impl Abort, alloc: Global, chip: &mut MemChip) -> Result<Tables, Fail>
+    ensures { IfOk result (λ t. length t.directory.in_use ≡ t.geometry.places) }
+{
     let Some(geometry) = Geometry::of(chip.units()) else {
         return Err(Fail::from("no geometry"));
     };
@@ -160,14 +173,28 @@ fn opens(rt: &impl Abort, alloc: Global, chip: &mut MemChip) -> Result<Found, Fa
     )?;
     assert!(rt; fits);
     assert!(rt; directory.free_count() > 0);
-    directory.facts();
+    Ok(Tables {
+        geometry,
+        directory,
+        overflow,
+        status,
+        counter,
+        kept,
+    })
+}
+
+/// What is found of a chip that opens.
+fn opens(rt: &impl Abort, alloc: Global, chip: &mut MemChip) -> Result<Found, Fail> {
+    let tables = opened(rt, alloc, chip)?;
+    tables.directory.facts();
+    tables.overflow.facts();
     Ok(Found {
-        place: directory.current(0),
-        next: counter.next(),
-        listed: overflow.count(0),
-        has_twenty: status.is_committed(20),
-        kept: kept.as_slice().len(),
-        erases: erases_of(rt, &directory, geometry),
+        place: tables.directory.current(0),
+        next: tables.counter.next(),
+        listed: tables.overflow.count(0),
+        has_twenty: tables.status.is_committed(20),
+        kept: tables.kept.as_slice().len(),
+        erases: erases_of(rt, &tables.directory, tables.geometry),
     })
 }
 
@@ -175,7 +202,7 @@ fn opens(rt: &impl Abort, alloc: Global, chip: &mut MemChip) -> Result<Found, Fa
 fn check(rt: &impl Abort, alloc: Global, cases: &[(&[Put<'_>], Found)]) -> Result<(), Fail> {
     for (number, (sectors, found)) in cases.iter().enumerate() {
         let mut chip = MemChip::new(alloc, 5, 2000)?;
-        assert_eq!(rt; format(&mut chip), Ok(()));
+        assert_eq!(rt; format(&mut chip, 0), Ok(()));
         put_all(rt, &mut chip, sectors);
         assert_eq!(rt; opens(rt, alloc, &mut chip)?, *found, "case {number}");
     }
@@ -262,4 +289,46 @@ fn places_were_erased_as_often_as_their_headers_say(rt: HostRuntime) -> Result<(
         ),
     ];
     check(&rt, rt.alloc(), &cases)
+}
+
+/// Payloads of the status header of a chip of six places that keeps one unit, so that one is spare: the
+/// place of the unit, the status place or another one is retired.
+const LISTS_0: &[u8] = &[0, 0, 0, 1, 0, 0, 0, 1, 1, 0, 0, 0, 0];
+
+const LISTS_1: &[u8] = &[0, 0, 0, 1, 0, 0, 0, 1, 1, 0, 0, 0, 1];
+
+const LISTS_2: &[u8] = &[0, 0, 0, 1, 0, 0, 0, 1, 1, 0, 0, 0, 2];
+
+/// Of the places that the status header lists those are retired that aren't in use: that of the unit, the
+/// status place and an overflow place that holds a live log sector are. The others are free.
+#[test]
+fn listed_places_that_are_not_in_use_are_retired(rt: HostRuntime) -> Result<(), Fail> {
+    let alloc = rt.alloc();
+    let older = Head {
+        version: 2,
+        ..STATUS
+    };
+    let overflow = (at(2, 0), OVERFLOW, &NO_RETIRED[..8]);
+    let cases: [(&[Put<'_>], &[u32], u32); 7] = [
+        (&[], &[], 4),
+        (&[(at(1, 0), older, &NO_RETIRED[..4])], &[], 4),
+        (&[(at(1, 0), STATUS, LISTS_2)], &[2], 3),
+        (&[(at(1, 0), STATUS, LISTS_0)], &[], 4),
+        (&[(at(1, 0), STATUS, LISTS_1)], &[], 4),
+        (&[(at(1, 0), STATUS, LISTS_2), overflow], &[2], 3),
+        (
+            &[(at(1, 0), STATUS, LISTS_2), overflow, (at(2, 1), LOG, &[])],
+            &[],
+            3,
+        ),
+    ];
+    for (number, (sectors, retired, free)) in cases.iter().enumerate() {
+        let mut chip = MemChip::new(alloc, 6, 2000)?;
+        assert_eq!(rt; format(&mut chip, 1), Ok(()));
+        put_all(&rt, &mut chip, sectors);
+        let tables = opened(&rt, alloc, &mut chip)?;
+        assert_eq!(rt; tables.directory.retired(), *retired, "case {number}");
+        assert_eq!(rt; tables.directory.free_count(), *free, "case {number}");
+    }
+    Ok(())
 }

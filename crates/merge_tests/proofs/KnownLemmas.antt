@@ -22,9 +22,11 @@ alone places t known = record {
     all = known.suits.all;
     units = known.suits.units;
     overflow = known.suits.overflow;
+    sized = known.suits.sized;
   };
   none_lost = known.none_lost;
   used = known.used;
+  retired_apart = known.retired_apart;
   homes_apart = known.homes_apart;
   overflows_apart = known.overflows_apart;
   no_home = known.no_home;
@@ -40,9 +42,11 @@ with_all places t known = record {
     all = known.suits.all;
     units = known.suits.units;
     overflow = known.suits.overflow;
+    sized = known.suits.sized;
   };
   none_lost = known.none_lost;
   used = known.used;
+  retired_apart = known.retired_apart;
   homes_apart = known.homes_apart;
   overflows_apart = known.overflows_apart;
   no_home = known.no_home;

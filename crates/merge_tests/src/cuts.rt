@@ -1,4 +1,4 @@
-//! A merge that is cut.
+//! What a cut leaves of a chip; and a merge that is cut.
 use crate::tables::{formatted, home, opened, shows};
 use crate::walking::{Step, walk};
 use chip_mem::{Choice, MemChip, Pick};
@@ -14,7 +14,7 @@ const WAITING: u64 = 1002;
 
 /// What a cut leaves of the open sectors.
 #[derive(Clone, Copy, PartialEq, Eq)]
-enum Left {
+pub(crate) enum Left {
     Old,
     Whole,
     Torn,
@@ -22,7 +22,7 @@ enum Left {
 
 /// What an event does to the chip.
 #[derive(Clone, Copy, PartialEq, Eq)]
-enum Write {
+pub(crate) enum Write {
     Erase(u32),
     Worn(u32),
     Program(u32, u32),
@@ -42,7 +42,7 @@ const MERGE: [Write; 7] = [
 ];
 
 /// What an event does, if it isn't a read.
-fn write_of(event: &Event) -> Option<Write> {
+pub(crate) fn write_of(event: &Event) -> Option<Write> {
     match event {
         Event::Erase(place) => Some(Write::Erase(*place)),
         Event::Worn(place) => Some(Write::Worn(*place)),
@@ -53,7 +53,12 @@ fn write_of(event: &Event) -> Option<Write> {
 }
 
 /// Whether the events do exactly this from the one of this number on.
-fn does(alloc: Global, events: &[Event], start: usize, writes: &[Write]) -> Result<bool, Fail> {
+pub(crate) fn does(
+    alloc: Global,
+    events: &[Event],
+    start: usize,
+    writes: &[Write],
+) -> Result<bool, Fail> {
     let mut done = Vec::new(alloc);
     for (number, event) in events.iter().enumerate() {
         if let Some(write) = write_of(event) {
@@ -101,13 +106,31 @@ fn add_picks(picks: &mut Vec<Pick>, left: Left, number: usize, event: &Event) ->
     Ok(())
 }
 
-/// The chip that a cut leaves after the first `at` events.
-fn cut(alloc: Global, chip: &MemChip, at: usize, left: Left) -> Result<MemChip, Fail> {
-    let mut picks = Vec::new(alloc);
-    for (number, event) in chip.events().iter().enumerate() {
-        if number < at {
-            add_picks(&mut picks, left, number, event)?;
+/// Adds what is left of a worn place, where sectors are torn: its header, and the first sectors of
+/// pages and of the log. No barrier makes sure of it, and none here is erased again.
+fn add_worn(picks: &mut Vec<Pick>, left: Left, event: &Event) -> Result<(), Fail> {
+    if let Event::Worn(place) = event {
+        if left == Left::Torn {
+            for sector in [0, 1, 241] {
+                picks.push(Pick {
+                    place: *place,
+                    sector,
+                    choice: Choice::Bytes([0x5a; 512]),
+                })?;
+            }
         }
+    }
+    Ok(())
+}
+
+/// The chip that a cut leaves after the first `at` events.
+pub(crate) fn cut(alloc: Global, chip: &MemChip, at: usize, left: Left) -> Result<MemChip, Fail> {
+    let mut picks = Vec::new(alloc);
+    for (number, event) in chip.events().iter().take(at).enumerate() {
+        add_picks(&mut picks, left, number, event)?;
+    }
+    for event in chip.events().iter().take(at) {
+        add_worn(&mut picks, left, event)?;
     }
     Ok(chip.image(alloc, at as u64, &picks)?)
 }

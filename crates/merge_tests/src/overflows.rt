@@ -1,4 +1,5 @@
 //! An overflow place, for what a merge can't carry.
+ghost use Rattle.chip_mem.specs.Views.{told_of};
 ghost use Rattle.merge_rules.specs.Known.{KnowsPlaces};
 ghost use Rattle.selective_merge.specs.Moving.{tables_of};
 
@@ -48,8 +49,8 @@ fn is_full(values: &PageMap) -> bool {
 /// beside the pages, and for the last one an overflow place is taken, since a merge would carry
 /// more than 7.
 fn write_sixteen(rt: &impl Abort, chip: &mut MemChip, parts: &mut Parts)
-    requires { KnowsPlaces 5 (tables_of parts.old) }
-    ensures { KnowsPlaces 5 (tables_of parts.new) }
+    requires { KnowsPlaces (told_of chip.old).places (tables_of parts.old) }
+    ensures { KnowsPlaces (told_of chip.new).places (tables_of parts.new) }
 {
     for number in 0..16 {
         let place = match number {

@@ -1,11 +1,12 @@
 //! The steps of sessions, done by the calls of in-page logging.
+ghost use Rattle.std.specs.Prelude.{ℕ};
+ghost use Rattle.chip_mem.specs.Views.{told_of};
 ghost use Rattle.merge_rules.specs.Known.{KnowsPlaces};
 ghost use Rattle.selective_merge.specs.Moving.{tables_of};
 
 use crate::payloads::{four_puts, one_put};
-use crate::tables::PLACES;
 use chip_mem::MemChip;
-use chip_trait::{Chip, Event};
+use chip_trait::Event;
 use ipl_base::{ChipFault, VERSION};
 use log_records::Payload;
 use page_writing::write_out;
@@ -40,8 +41,8 @@ fn active_of(rt: &impl Abort, tids: &[u64]) -> Active {
 
 /// The sessions of these numbers are open.
 fn set_open(rt: &impl Abort, parts: &mut Parts, tids: &[u64])
-    requires { KnowsPlaces 5 (tables_of parts.old) }
-    ensures { KnowsPlaces 5 (tables_of parts.new) }
+    ensures { (places : ℕ) → KnowsPlaces places (tables_of parts.old)
+        → KnowsPlaces places (tables_of parts.new) }
 {
     parts.active = active_of(rt, tids);
 }
@@ -53,30 +54,30 @@ fn write(
     parts: &mut Parts,
     payload: &mut Payload,
 ) -> Result<(), ChipFault>
-    requires { KnowsPlaces 5 (tables_of parts.old) }
-    ensures { KnowsPlaces 5 (tables_of parts.new) }
+    requires { KnowsPlaces (told_of chip.old).places (tables_of parts.old) }
+    ensures { KnowsPlaces (told_of chip.new).places (tables_of parts.new) }
 {
-    assert!(rt; chip.units() == PLACES && parts.counter.next() < 10_000);
+    assert!(rt; parts.counter.next() < 10_000);
     assert!(rt; payload.version() == VERSION);
     write_out(chip, parts, 0, payload)
 }
 
 /// A number is committed.
 fn commit(rt: &impl Abort, chip: &mut MemChip, parts: &mut Parts, tid: u64) -> Result<(), ChipFault>
-    requires { KnowsPlaces 5 (tables_of parts.old) }
-    ensures { KnowsPlaces 5 (tables_of parts.new) }
+    requires { KnowsPlaces (told_of chip.old).places (tables_of parts.old) }
+    ensures { KnowsPlaces (told_of chip.new).places (tables_of parts.new) }
 {
-    assert!(rt; chip.units() == PLACES && parts.counter.next() < 10_000);
-    assert!(rt; parts.status.place() < PLACES && 0 < parts.status.room());
+    assert!(rt; parts.counter.next() < 10_000);
+    assert!(rt; 0 < parts.status.room());
     add_numbers(chip, &mut parts.status, &mut parts.counter, &[tid])
 }
 
 /// The unit is merged.
 fn merge_unit(rt: &impl Abort, chip: &mut MemChip, parts: &mut Parts) -> Result<(), ChipFault>
-    requires { KnowsPlaces 5 (tables_of parts.old) }
-    ensures { KnowsPlaces 5 (tables_of parts.new) }
+    requires { KnowsPlaces (told_of chip.old).places (tables_of parts.old) }
+    ensures { KnowsPlaces (told_of chip.new).places (tables_of parts.new) }
 {
-    assert!(rt; chip.units() == PLACES && parts.counter.next() < 10_000);
+    assert!(rt; parts.counter.next() < 10_000);
     merge(chip, parts, 0)
 }
 
@@ -87,8 +88,8 @@ pub(crate) fn take(
     parts: &mut Parts,
     step: Step<'_>,
 ) -> Result<(), ChipFault>
-    requires { KnowsPlaces 5 (tables_of parts.old) }
-    ensures { KnowsPlaces 5 (tables_of parts.new) }
+    requires { KnowsPlaces (told_of chip.old).places (tables_of parts.old) }
+    ensures { KnowsPlaces (told_of chip.new).places (tables_of parts.new) }
 {
     match step {
         Step::Open(tids) => {
@@ -125,8 +126,8 @@ pub(crate) fn walk(
     parts: &mut Parts,
     steps: &[(Step<'_>, Option<u32>)],
 )
-    requires { KnowsPlaces 5 (tables_of parts.old) }
-    ensures { KnowsPlaces 5 (tables_of parts.new) }
+    requires { KnowsPlaces (told_of chip.old).places (tables_of parts.old) }
+    ensures { KnowsPlaces (told_of chip.new).places (tables_of parts.new) }
 {
     for (number, (step, place)) in steps.iter().enumerate() {
         let start = chip.events().len();

@@ -121,7 +121,7 @@ pub(crate) fn call_all(
 /// A chip that a format left, with room for so many events.
 pub(crate) fn formatted(alloc: Global, places: u32, room: u64) -> Result<MemChip, Fail> {
     let mut chip = MemChip::new(alloc, places, room)?;
-    if format(&mut chip).is_err() {
+    if format(&mut chip, 0).is_err() {
         return Err(Fail::from("no format"));
     }
     left_of(alloc, &chip)

@@ -24,7 +24,7 @@ fn owned(alloc: Global, rest: &str) -> Result<Vec<String>> {
 fn asked_text(alloc: Global, asked: Option<Request>) -> Result<String> {
     match asked {
         None => text_of(alloc, "nothing"),
-        Some(Request::Format) => text_of(alloc, "format"),
+        Some(Request::Format { spares }) => Ok(format!(in alloc; "format spares {spares}")?),
         Some(Request::Serial) => text_of(alloc, "serial"),
         Some(Request::Run { frames, format }) => {
             let how = if format { " format" } else { "" };

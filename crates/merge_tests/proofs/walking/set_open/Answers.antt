@@ -4,4 +4,4 @@ use Rattle.merge_tests.proofs.KnownLemmas.{known_stays}
 use Rattle.merge_tests.proofs.walking.set_open.Goals as goal
 
 pub returns : goal.returns
-returns g c = known_stays 5 (tables_of c.args.parts.now) _ c.requires refl refl refl
+returns g c places known = known_stays places (tables_of c.args.parts.now) _ known refl refl refl
