@@ -61,18 +61,19 @@ def try_script(program: str, folder: str, seed: int) -> bool:
     """Compares what a script asks, line by line up to the first that differs, with the rules."""
     draw = random.Random(seed)
     places, frames = draw.choice([5, 6, 8]), draw.choice([2, 3, 4, 16, 64])
-    lines = random_script(draw, places - 4)
+    spares = draw.randrange(min(3, places - 4))
+    lines = random_script(draw, places - 4 - spares)
     path = os.path.join(folder, "random")
     chip = f"file:{places}:{path}"
     make_file(path, places)
-    run_untraced(program, ["format", chip], os.devnull)
+    run_untraced(program, ["format", chip, "--spares", str(spares)], os.devnull)
     replies = replies_of(program, ["run", chip, "--frames", str(frames)], folder, lines)
-    rules = Rules(places, frames)
+    rules = Rules(places, frames, spares)
     agrees = all(agrees_with_rules(rules, line, reply)
                  for line, reply in zip(["open", *lines], replies))
     erases = sum(reply.asked.erases for reply in replies)
-    print(f"seed {seed}: {places} places, {frames} frames, {len(lines)} lines; {erases} erases, "
-          f"{rules.elsewhere} log sectors in overflow places: "
+    print(f"seed {seed}: {places} places, {spares} spare, {frames} frames, {len(lines)} lines; "
+          f"{erases} erases, {rules.elsewhere} log sectors in overflow places: "
           + ("as the rules say" if agrees else "not as the rules say"), flush=True)
     return agrees
 

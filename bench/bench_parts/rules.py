@@ -1,10 +1,10 @@
 """What commands ask of a chip, by the rules of docs/DESIGN.md, docs/RECOVERY.md and docs/COSTS.md.
 
 A store with no bytes and no values but their lengths: which place, which sector, in which order. It
-shares no code with the program, and is written from the documents alone."""
+shares no code with the program, and is written from the documents alone. Its places may wear out."""
 from __future__ import annotations
 
-from typing import Dict, List, NamedTuple, Optional, Set, Tuple
+from typing import Dict, List, NamedTuple, Optional, Sequence, Set, Tuple
 
 from .program import Failed
 from .trace import Asked
@@ -18,9 +18,15 @@ MOST_CARRIED = 7
 MOST_SPOTS, MOST_OVERFLOW_PLACES = 16, 2
 NUMBERS_IN_SECTOR = 60
 MOST_KEPT = 3840
+# Places that are no unit's, and not spare.
+RESERVED_PLACES = 4
 
 Page = Tuple[int, int]
 Spot = Tuple[int, int]
+
+
+class WornOut(Exception):
+    """One place more is worn than are spare."""
 
 
 class Record(NamedTuple):
@@ -74,8 +80,9 @@ class Unit:
                 self.slots[record.page].pop(record.slot, None)
             elif record.number in committed:
                 self.slots[record.page][record.slot] = record.length or 0
-        texts = [sum(3 + length for length in slots.values()) for slots in self.slots]
-        self.pieces = [-(-text // SECTOR_PAYLOAD) for text in texts]
+        for page in {record.page for record in self.records}:
+            text = sum(3 + length for length in self.slots[page].values())
+            self.pieces[page] = -(-text // SECTOR_PAYLOAD)
 
     def carried(self, active: Set[int]) -> List[List[Record]]:
         """The last record of each name of an open session, packed in order."""
@@ -100,13 +107,18 @@ def page_of(name: int) -> Page:
 
 
 class Rules:
-    """A store over a chip just formatted, not opened yet."""
+    """A store over a chip just formatted, not opened yet. `lasts` has how often each place is erased
+    before it is worn, where any wears out."""
 
-    def __init__(self, places: int, frames: int) -> None:
-        self.places, self.frames = places, frames
-        self.units = [Unit(place) for place in range(places - 4)]
-        self.status, self.next_commit = places - 4, SECTORS
-        self.free = set(range(places - 3, places))
+    def __init__(self, places: int, frames: int, spares: int = 0,
+                 lasts: Optional[Sequence[int]] = None) -> None:
+        self.places, self.frames, self.spares, self.lasts = places, frames, spares, lasts
+        self.status, self.next_commit = places - RESERVED_PLACES - spares, SECTORS
+        self.units = [Unit(place) for place in range(self.status)]
+        self.free = set(range(self.status + 1, places))
+        # Those found worn, and of these the ones that the status header lists.
+        self.retired: Set[int] = set()
+        self.listed: Set[int] = set()
         # How often each place was erased: once, by the format.
         self.erases = [1] * places
         # The next clean sector of each overflow place in use.
@@ -132,10 +144,21 @@ class Rules:
     def barrier(self) -> None:
         self.asked.writes.append("b")
 
+    def next_place(self) -> int:
+        """The free place that was erased least often, the lowest of these, that isn't worn: others
+        are retired."""
+        while True:
+            place = min(self.free, key=lambda place: (self.erases[place], place))
+            self.free.remove(place)
+            if self.lasts is None or self.erases[place] < self.lasts[place]:
+                return place
+            if len(self.retired) == self.spares:
+                raise WornOut
+            self.retired.add(place)
+
     def take_place(self) -> int:
-        """The free place that was erased least often, the lowest of these; it is erased then."""
-        place = min(self.free, key=lambda place: (self.erases[place], place))
-        self.free.remove(place)
+        """The next place, which is erased."""
+        place = self.next_place()
         self.overflow_headers.discard(place)
         self.erases[place] += 1
         self.asked.writes.append(f"e{place}")
@@ -253,11 +276,15 @@ class Rules:
         self.seal(place)
         self.free.add(self.status)
         self.status, self.next_commit, self.committed = place, 1 + parts, kept
+        self.listed = set(self.retired)
 
     def open(self) -> None:
         """An opening, or a restart: nothing of before is known to be clean. How often each place was
-        erased is found again, since each that was taken got a header."""
+        erased is found again, since each that was taken got a header. A place that was retired and
+        isn't listed is free."""
         self.sessions, self.pages = {}, {}
+        self.free |= self.retired - self.listed
+        self.retired = set(self.listed)
         for unit in self.units:
             unit.used = LOG_SECTORS
         self.overflow = dict.fromkeys(self.overflow, SECTORS)

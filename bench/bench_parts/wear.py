@@ -1,15 +1,17 @@
-"""How often a model of the program erases each place of a chip, and a script whose erases are worked
-out by hand."""
+"""How often a model of the program erases each place of a chip, how long a part lasts by it, and a
+script whose erases are worked out by hand."""
 from __future__ import annotations
 
 import os
 import statistics
+import sys
 from typing import Iterator, List, NamedTuple, Tuple
 
 from .known import replies_of
 from .program import make_file, run_untraced
-from .rules import Rules
-from .workloads import Transaction
+from .rules import RESERVED_PLACES, Rules, WornOut
+from .trace import Asked
+from .workloads import WEARING, Transaction, numbers
 
 # What a place of a part lasts.
 MOST_ERASES = 100_000
@@ -31,10 +33,12 @@ class Wear(NamedTuple):
         return MOST_ERASES * self.transactions // max(self.erases)
 
 
-def lines_of(transaction: Transaction) -> Iterator[str]:
-    yield "begin 0"
-    yield from (f"put 0 {put.name} {put.value}" for put in transaction)
-    yield "commit 0"
+def asks(rules: Rules, transaction: Transaction) -> None:
+    rules.asked = Asked()
+    rules.begin(0)
+    for put in transaction:
+        rules.put(0, put.name, put.value)
+    rules.commit(0)
 
 
 def worn_by(transactions: Iterator[Transaction], places: int, frames: int) -> Wear:
@@ -42,9 +46,43 @@ def worn_by(transactions: Iterator[Transaction], places: int, frames: int) -> We
     rules, count = Rules(places, frames), 0
     rules.asked_by("open")
     for count, transaction in enumerate(transactions, 1):
-        for line in lines_of(transaction):
-            rules.asked_by(line)
+        asks(rules, transaction)
     return Wear(rules.erases, count)
+
+
+class Part(NamedTuple):
+    """A part under a workload: its units, its places to spare, and how often a place is erased before
+    it is worn. With a seed above 0 that is drawn for each place, from a fifth less to a fifth more."""
+    workload: str
+    units: int
+    spares: int
+    erases: int
+    seed: int
+
+    @property
+    def places(self) -> int:
+        return self.units + RESERVED_PLACES + self.spares
+
+    @property
+    def lasts(self) -> List[int]:
+        if not self.seed:
+            return [self.erases] * self.places
+        spread = self.erases // 5
+        drawn = numbers(self.seed)
+        return [self.erases - spread + next(drawn) % (2 * spread + 1) for _ in range(self.places)]
+
+    def life(self, frames: int) -> int:
+        """So many transactions are done until one place more is worn than are spare."""
+        rules, count = Rules(self.places, frames, self.spares, self.lasts), 0
+        transactions = WEARING[self.workload](self.units + RESERVED_PLACES, sys.maxsize)
+        try:
+            rules.asked_by("open")
+            for transaction in transactions:
+                asks(rules, transaction)
+                count += 1
+        except WornOut:
+            pass
+        return count
 
 
 # On a chip of five places: each line of two runs, and the place that it erases. The format puts unit
@@ -64,14 +102,42 @@ KNOWN_ERASES = [4, 3, 3, 3, 3]
 KNOWN_PLACES = len(KNOWN_ERASES)
 
 
+# A part of six places, one of which is spare, and of which 2 and 0 are worn once the format has erased
+# them. The opening takes place 3 in the stead of 2, and then the first commit takes 1, to merge the
+# unit. Fifteen commits of one put fill its log, and the sixteenth, which merges it again, finds 0 worn.
+WORN_LASTS = [1, 9, 1, 9, 9, 9]
+TAKEN_BY_COMMITS = [[3], [1]] + 14 * [[]]
+
+
+def takes_as_known() -> bool:
+    """Whether the model takes the places of a part that wears out as it is worked out by hand."""
+    rules = Rules(6, 2, 1, WORN_LASTS)
+    taken = [erased(rules.asked_by("open"))]
+    try:
+        for _ in range(16):
+            rules.asked_by("begin 0")
+            rules.asked_by("put 0 5 61")
+            taken.append(erased(rules.asked_by("commit 0")))
+    except WornOut:
+        pass
+    if taken != TAKEN_BY_COMMITS or rules.retired != {2}:
+        print(f"wear: the model takes {taken} and retires {rules.retired}")
+        return False
+    return True
+
+
+def erased(asked: Asked) -> List[int]:
+    return [int(write[1:]) for write in asked.writes if write.startswith("e")]
+
+
 def erased_in(program: str, folder: str, chip: str, known: List[Tuple[str, int]]) -> bool:
     """Whether each line of a run erases the place that is known; says where it doesn't."""
     lines = [line for line, _ in known[1:]]
     same = True
     for (line, place), reply in zip(known, replies_of(program, ["run", chip], folder, lines)):
-        found = [write for write in reply.asked.writes if write.startswith("e")]
-        if found != [f"e{place}"]:
-            print(f"wear: {line}: {' '.join(found)} and not e{place}")
+        found = erased(reply.asked)
+        if found != [place]:
+            print(f"wear: {line}: {found} and not {place}")
             same = False
     return same
 

@@ -26,9 +26,14 @@ def names_of(places: int) -> int:
     return UNIT_NAMES * (places - 4)
 
 
+# The digits of all bytes in their order, three times.
+IN_ORDER = 3 * bytes(range(256)).hex()
+
+
 def value_of(turn: int, length: int) -> str:
-    """The digits of a value that differs from turn to turn."""
-    return "".join("%02x" % ((turn * 7 + at) % 256) for at in range(length))
+    """The digits of a value of at most 512 bytes that differs from turn to turn."""
+    first = turn * 7 % 256
+    return IN_ORDER[2 * first:2 * (first + length)]
 
 
 def numbers(seed: int) -> Iterator[int]:
@@ -120,6 +125,10 @@ WEARING: Dict[str, Workload] = {
     "one put, nine in ten to a tenth of the names": mostly_to_a_tenth,
     "one put, over the names of one unit; no other is written": one_unit,
 }
+
+# Those of which it is told how long a part lasts.
+LASTING = ["one put at random", "four puts at random",
+           "one put, over the names of one unit; no other is written"]
 
 
 def filling(places: int) -> Iterator[Transaction]:

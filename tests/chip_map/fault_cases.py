@@ -1,6 +1,6 @@
 """Cases of what is wrong with a chip, and of which fault is told first."""
 from asking import Picture, case, wants, wants_fault, wants_letters, wants_records
-from images import (COMMIT, DATA, FIRST_PUT_RECORD, Image, LOG, OVERFLOW, PUT_RECORD, STATUS, base,
+from images import (COMMIT, DATA, FIRST_PUT_RECORD, LOG, OVERFLOW, PUT_RECORD, STATUS, base,
                     commit, data_header, first_record, formatted, log, overflow_header, raw_sector,
                     record, sector, status_header, status_payload, text_of)
 
@@ -136,25 +136,22 @@ def status_payloads_out_of_the_grammar_are_malformed():
 
 @case
 def lists_of_retired_places_out_of_the_grammar_retire_none():
-    # On chips of one unit, whose first fault is their size: these list one place, or two, and so on.
-    def lines_of(places, *retired):
-        image = Image(places).put(0, 0, data_header(1)).put(1, 0, status_header(2, retired=retired))
-        return [line for line in Picture(image).head if line.startswith("retired")]
-    wants("one", lines_of(6, 5), ["retired places: 5"])
-    wants("two", lines_of(7, 0, 6), ["retired places: 0, 6"])
-    wants("64", lines_of(70, *range(3, 67)), ["retired places: 3 to 66"])
-    for what, places, retired in [("out of order", 7, (4, 3)), ("twice", 7, (3, 3)),
-                                  ("not the chip's", 7, (3, 7)), ("2^32 - 1", 7, (2 ** 32 - 1,)),
-                                  ("one, where there is no room", 5, (2,)),
-                                  ("two, with room for one", 6, (2, 3)),
-                                  ("65", 80, range(3, 68))]:
-        wants(what, lines_of(places, *retired), [])
-
-
-@case
-def a_chip_of_now_retires_no_place():
-    image = formatted(7).put(3, 0, status_header(4, 3, retired=(5,)))
-    wants_fault("a place more than there is room for", image, "malformed place 3 sector 0")
+    # On chips of one unit, with one place to spare, or two, and so on.
+    def listing(spares, *retired):
+        return formatted(5 + spares, spares).put(1, 0, status_header(2, retired=retired))
+    for line, spares, retired in [("5", 1, (5,)), ("0, 6", 2, (0, 6)), ("3 to 66", 64, range(3, 67))]:
+        image = listing(spares, *retired)
+        wants_records(line, image, [])
+        wants(line, Picture(image).head[4], f"retired places: {line}")
+    for what, spares, retired in [("out of order", 2, (4, 3)), ("twice", 2, (3, 3)),
+                                  ("not the chip's", 2, (3, 7)), ("2^32 - 1", 2, (2 ** 32 - 1,)),
+                                  ("one, and none to spare", 0, (2,)),
+                                  ("two, and one to spare", 1, (2, 3)),
+                                  ("65, and 64 to spare", 64, range(3, 68))]:
+        image = listing(spares, *retired)
+        wants_fault(what, image, "malformed place 1 sector 0")
+        found = [line for line in Picture(image).head if line.startswith("retired")]
+        wants(what, found, [])
 
 
 @case
@@ -164,6 +161,13 @@ def headers_of_a_chip_of_another_size_are_told():
         wants_fault("another size", formatted().put(place, 0, header), "geometry")
     image = formatted().put(2, 0, data_header(1, 2)).put(3, 0, status_header(1, 2))
     wants_records("left over", image.put(4, 0, overflow_header(9, 2)), [])
+    for units in (0, 1, 3, 2 ** 32 - 1):
+        image = formatted(7, 1).put(0, 0, data_header(1, units))
+        wants_fault(f"a unit says {units}", image, "geometry")
+    # No unit; 65 places to spare; a place too few; and far too many units.
+    for units in (0, 1, 67, 2 ** 32 - 1):
+        image = formatted(70, 64).put(2, 0, status_header(3, units))
+        wants_fault(f"the status says {units}", image, "geometry")
 
 
 @case

@@ -13,6 +13,9 @@ FORMATTED_HEADER = (
 STATUS_HEADER = (
     "49 50 4c 31 02 03 00 09 00 00 00 00 00 00 00 00 00 00 00 02 00 00 00 00 00 00 00 02",
     "06 fd 49 8d", "00 00 00 01 00 00 00 01 00")
+RETIRING_HEADER = (
+    "49 50 4c 31 02 03 00 0d 00 00 00 00 00 00 00 00 00 00 00 03 00 00 00 00 00 00 00 03",
+    "8c c0 6b 9d", "00 00 00 01 00 00 00 02 01 00 00 00 02")
 OVERFLOW_HEADER = (
     "49 50 4c 31 03 03 00 08 00 00 00 00 00 00 00 00 00 00 00 22 00 00 00 00 00 00 00 22",
     "59 e8 ed 74", "00 00 00 01 00 00 00 02")
@@ -160,10 +163,10 @@ class Image:
         return self
 
 
-def formatted(places=5):
+def formatted(places=5, spares=0):
     """A chip just formatted: each unit at the place of its number, and then the status."""
     image = Image(places)
-    units = places - 4
+    units = places - 4 - spares
     for unit in range(units):
         image.put(unit, 0, data_header(1 + unit, units, unit=unit))
     return image.put(units, 0, status_header(1 + units, units))
@@ -176,9 +179,9 @@ def first_record():
     return image.put(2, 0, data_header(4, counts={0: 1}))
 
 
-def opened():
-    """A chip formatted and opened: status header 3 at place 2, before the first commit."""
-    return formatted().put(2, 0, status_header(3, erases=2))
+def opened(spares=0):
+    """A chip of one unit, formatted and opened: status header 3 at place 2, before the first commit."""
+    return formatted(5 + spares, spares).put(2, 0, status_header(3, erases=2))
 
 
 def meter():
@@ -196,12 +199,14 @@ def meter():
     return image.put(2, 1, commit(3, 7, 4)).put(2, 2, commit(3, 10, 8)).put(2, 3, commit(3, 13, 11))
 
 
-def sixteen_commits():
+def sixteen_commits(spares=0):
     """The second case of power cuts of docs/CASES.md before its last three programs.
 
     Fifteen commits of one byte at name 5: the n-th has number, log serial and commit serial in
-    a row, but for the first one, whose place has generation 5."""
-    image = opened().put(1, 0, data_header(5, erases=2))
+    a row, but for the first one, whose place has generation 5. With places to spare none is taken that
+    wouldn't be without: the opening takes the lowest that is free, and the first commit that of the
+    status before."""
+    image = opened(spares).put(1, 0, data_header(5, erases=2))
     image.put(1, 241, log(5, 6, record(0, 5, 4, b"\x01"))).put(2, 1, commit(3, 7, 4))
     for turn in range(2, 16):
         number = 8 + 3 * (turn - 2)
@@ -210,9 +215,10 @@ def sixteen_commits():
     return image
 
 
-def sixteenth_commit():
-    """The second case of power cuts of docs/CASES.md at its end."""
-    image = sixteen_commits().erase(0).put(0, 1, base(51, 0, text_of({5: b"\x0f"})))
+def sixteenth_commit(spares=0):
+    """The second case of power cuts of docs/CASES.md at its end. Place 0 was the unit's, and so it was
+    erased once, as those that were never taken."""
+    image = sixteen_commits(spares).erase(0).put(0, 1, base(51, 0, text_of({5: b"\x0f"})))
     image.put(0, 0, data_header(51, counts={0: 1}, erases=2))
     image.put(0, 241, log(51, 52, record(0, 5, 50, b"\x10")))
     return image.put(2, 16, commit(3, 53, 50))

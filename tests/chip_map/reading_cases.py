@@ -2,7 +2,7 @@
 from asking import Picture, case, wants, wants_fault, wants_labels, wants_letters, wants_records
 from images import (BASE_SECTOR, DATA, DELETE_RECORD, FIRST_BASE_SECTOR, FIRST_DELETE_RECORD,
                     FIRST_HEADER, FIRST_PAGE_TEXT, FIRST_PUT_RECORD, FORMATTED_HEADER, Image, LOG,
-                    OVERFLOW, OVERFLOW_HEADER, PAGE_TEXT, PUT_RECORD, SECOND_HEADER,
+                    OVERFLOW, OVERFLOW_HEADER, PAGE_TEXT, PUT_RECORD, RETIRING_HEADER, SECOND_HEADER,
                     SECOND_STATUS_HEADER, STATUS, STATUS_HEADER, base, commit, crc32, data_header,
                     first_record, formatted, full_log, log, merged_log, overflow_header, record, sector,
                     sixteen_commits, spelled, status_header, status_payload, text_of)
@@ -15,6 +15,8 @@ def sums_are_those_of_the_format():
     wants("sum of 512 bytes FF", crc32(b"\xff" * 512), 0xBD7BC39F)
     wants("the worked header", data_header(1), spelled(*FORMATTED_HEADER))
     wants("the worked status header", status_header(2), spelled(*STATUS_HEADER))
+    wants("the worked header that retires a place", status_header(3, erases=2, retired=(2,)),
+          spelled(*RETIRING_HEADER))
     wants("the worked overflow header", overflow_header(34, erases=2), spelled(*OVERFLOW_HEADER))
     wants("the worked base sector", base(4, 0, b"\x05\x00\x02hi"), spelled(*BASE_SECTOR))
     wants("the worked put", record(0, 5, 7, b"hi"), PUT_RECORD)
@@ -107,20 +109,44 @@ def a_place_counts_as_erased_once_where_its_first_sector_does_not_say_it():
 
 @case
 def places_that_a_status_header_retires_are_shown():
-    # The headers are of a chip of one unit, so its size is its first fault.
-    image = Image(8).put(0, 0, data_header(1)).put(1, 0, status_header(2, retired=(0, 3, 5)))
+    image = formatted(8, 3).put(1, 0, status_header(2, retired=(0, 3, 5)))
     image.put(5, 0, data_header(9, unit=9, erases=6))
     wants_labels("retired", image, {0: "data of unit 0, generation 1, 1 erase, current",
                                     3: "erased, 1 erase, retired", 4: "erased, 1 erase, free",
                                     5: "data of unit 9, generation 9, 6 erases, retired"})
     wants("the line of these", Picture(image).head[4], "retired places: 0, 3, 5")
-    wants_fault("its size", image, "geometry")
+    wants_records("with a place in use among them", image, [])
     image.put(3, 9, commit(9, 9, 9))
     wants_labels("with something there", image, {3: "no header, 1 erase, retired"})
     image.put(2, 0, status_header(10))
     wants_labels("an older list", image, {3: "no header, 1 erase, left over"})
     image.put(2, 0, status_header(10, retired=(5, 3)))
     wants_labels("no list", image, {3: "no header, 1 erase, left over"})
+
+
+@case
+def places_to_spare_are_counted():
+    for places, spares, size in [(6, 0, "6 places and 2 units"),
+                                 (6, 1, "6 places, 1 unit and 1 spare place"),
+                                 (69, 64, "69 places, 1 unit and 64 spare places"),
+                                 (80, 64, "80 places, 12 units and 64 spare places")]:
+        image = formatted(places, spares)
+        wants(size, Picture(image).head[0], f"chip of {size}: 0 records")
+        wants_records(size, image, [])
+
+
+@case
+def a_chip_has_as_many_units_as_its_status_header_says():
+    # Places for three units, of which the third isn't one where the younger status header says two.
+    image = formatted(7).put(2, 241, log(3, 11, record(14, 63, 9, b"\x02"), unit=2))
+    image.put(1, 241, log(2, 11, record(14, 63, 9, b"\x01"), unit=1)).put(3, 1, commit(4, 20, 9))
+    wants_records("three", image, ["1919 01", "2879 02"])
+    for unit in (0, 1):
+        image.put(unit, 0, data_header(1 + unit, 2, unit=unit))
+    image.put(4, 0, status_header(30, 2, retired=(2,))).put(4, 1, commit(30, 31, 9))
+    wants_records("two", image, ["1919 01"])
+    wants_labels("the third", image, {2: "data of unit 2, generation 3, 1 erase, retired"})
+    wants("the size", Picture(image).head[0], "chip of 7 places, 2 units and 1 spare place: 1 record")
 
 
 @case

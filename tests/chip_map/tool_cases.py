@@ -133,10 +133,10 @@ FULL_LOG = "".join(
      "abort 0\n", transaction(1, 64, "08")]).encode()
 
 
-def makes(program, places, script):
+def makes(program, places, script, spares=0):
     """The bytes of a chip that the program formats, and over which it runs a script."""
-    run([program, "format", f"file:{places}:made"])
-    wants("a formatted chip", contents_of("made") == formatted(places).bytes, True)
+    run([program, "format", f"file:{places}:made", "--spares", str(spares)])
+    wants("a formatted chip", contents_of("made") == formatted(places, spares).bytes, True)
     run([program, "run", f"file:{places}:made"], input=script)
     return contents_of("made")
 
@@ -150,6 +150,11 @@ def tries_program(program):
                                 ("a full log", FULL_LOG, merged_log())]:
         wants(f"the chip of {name}", makes(program, 5, script) == image.bytes, True)
         wants_list(program, 5)
+    for spares in (1, 64):
+        os.unlink("made")
+        is_made = makes(program, 5 + spares, SIXTEEN_COMMITS, spares) == sixteenth_commit(spares).bytes
+        wants(f"the chip of sixteen commits with {spares} to spare", is_made, True)
+        wants_list(program, 5 + spares, spares)
     os.unlink("made")
     script = run([os.path.join(ROOT, "examples", "long_session")])[1]
     is_made = makes(program, 6, script) == long_session().bytes
@@ -157,9 +162,9 @@ def tries_program(program):
     wants_list(program, 6)
 
 
-def wants_list(program, places):
+def wants_list(program, places, spares=0):
     """Wants that the tool says the records of the chip as the program lists them."""
     status, out, noted = ask("made", "--records")
-    listing = f"list 0 {960 * (places - 4) - 1}\n".encode()
+    listing = f"list 0 {960 * (places - 4 - spares) - 1}\n".encode()
     listed = run([program, "run", f"file:{places}:made"], input=listing)
     wants("its records", (status, out.encode(), noted.encode()), listed)

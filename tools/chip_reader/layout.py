@@ -4,9 +4,9 @@ from __future__ import annotations
 from functools import cached_property
 from typing import Dict, Iterator, List, NamedTuple, Optional, Set, Tuple
 
-from .sectors import (Chart, DataHeader, FIRST_LOG_SECTOR, Kind, MOST_PIECES, SECTORS, SPARE_PLACES,
-                      Sector, SectorClass, StatusHeader, data_header, erases_of, status_header,
-                      transaction_numbers)
+from .sectors import (Chart, DataHeader, FIRST_LOG_SECTOR, Kind, MOST_PIECES, RESERVED_PLACES, SECTORS,
+                      Sector, SectorClass, StatusHeader, data_header, erases_of, may_have_units,
+                      status_header, transaction_numbers, units_of)
 
 
 class Spot(NamedTuple):
@@ -23,7 +23,6 @@ class Layout:
 
     def __init__(self, chart: Chart) -> None:
         self.chart = chart
-        self.units = len(chart) - SPARE_PLACES
 
     def at(self, spot: Spot) -> SectorClass:
         return self.chart[spot.place][spot.sector]
@@ -65,6 +64,20 @@ class Layout:
             if self.is_younger(place, status):
                 status = place
         return status
+
+    @cached_property
+    def units(self) -> int:
+        """The number of units: what the status header says, and as many as there can be where it says
+        nothing, or a number that no chip of this size has."""
+        said = None if self.status is None else units_of(self.headers[self.status].payload)
+        if said is not None and may_have_units(said, len(self.chart)):
+            return said
+        return len(self.chart) - RESERVED_PLACES
+
+    @property
+    def spares(self) -> int:
+        """How many places are spare, for those that wear out."""
+        return len(self.chart) - RESERVED_PLACES - self.units
 
     def home_header(self, unit: int) -> Sector:
         return self.headers[self.homes[unit]]

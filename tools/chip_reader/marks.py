@@ -186,14 +186,21 @@ def erase_line(layout: Layout) -> str:
     return f"{each} a place, {sum(layout.erases)} in all"
 
 
+def size_words(layout: Layout) -> str:
+    """How many places and units the chip has, and how many of the places are spare, where any is."""
+    places, units = f"{len(layout.chart)} places", counted(layout.units, "unit")
+    if not layout.spares:
+        return f"{places} and {units}"
+    return f"{places}, {units} and {counted(layout.spares, 'spare place')}"
+
+
 def summary(layout: Layout, found_faults: List[Fault]) -> List[str]:
     """The lines over all: the size, what the chip stands for, its log, its numbers, its wear."""
-    size = f"{len(layout.chart)} places and {counted(layout.units, 'unit')}"
     holds = "no records are listed, for its faults"
     if not found_faults:
         holds = counted(len(records(layout)), "record")
     numbers = counted(len(layout.committed), "committed number")
-    lines = [f"chip of {size}: {holds}", f"{numbers}; {log_line(layout)}",
+    lines = [f"chip of {size_words(layout)}: {holds}", f"{numbers}; {log_line(layout)}",
              f"greatest number found: {greatest_found(layout)}", erase_line(layout)]
     if layout.retired:
         retired = ", ".join(at_most(MOST_RANGES, ranges(list(layout.retired))))

@@ -11,8 +11,8 @@ SECTOR_BYTES = 512
 SECTORS = 256
 PLACE_BYTES = SECTORS * SECTOR_BYTES
 FEWEST_PLACES, MOST_PLACES = 5, 1028
-# A chip has so many units fewer than places.
-SPARE_PLACES = 4
+# So many places are no unit's, and at most so many more are spare.
+RESERVED_PLACES, MOST_SPARES = 4, 64
 
 PAGES = 15
 SLOTS = 64
@@ -21,7 +21,6 @@ PIECE_BYTES = 480
 MOST_TEXT_BYTES = MOST_PIECES * PIECE_BYTES
 MOST_CARRIED = 12
 MOST_COMMITTED = 60
-MOST_RETIRED = 64
 # The sectors of a data place from this one on are its unit's log sectors.
 FIRST_LOG_SECTOR = 241
 
@@ -186,10 +185,15 @@ def data_header(sector: Sector) -> Optional[DataHeader]:
     return header
 
 
+def may_have_units(units: int, places: int) -> bool:
+    """Whether a chip of so many places has so many units, some with places to spare."""
+    return units >= 1 and 0 <= places - RESERVED_PLACES - units <= MOST_SPARES
+
+
 def may_be_retired(retired: Sequence[int], units: int, places: int) -> bool:
-    """Whether the places rise, are the chip's, and are no more than it has beside its units."""
+    """Whether the places rise, are the chip's, and are no more than are spare beside the units."""
     rise = all(place < other for place, other in zip(retired, retired[1:]))
-    most = min(MOST_RETIRED, places - SPARE_PLACES - units)
+    most = min(MOST_SPARES, places - RESERVED_PLACES - units)
     return rise and len(retired) <= most and all(place < places for place in retired)
 
 
