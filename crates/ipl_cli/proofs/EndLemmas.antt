@@ -23,11 +23,12 @@ use Rattle.ipl_model.specs.Run.{IsNear, joined as joined_text}
 use Rattle.ipl_model.proofs.RunLemmas.{reply_shows}
 use Rattle.ipl_format.specs.Sector.{sector_in}
 use Rattle.ipl_meaning.specs.Chart.{chart_of}
-use Rattle.ipl_meaning.specs.Stands.{Stands}
-use Rattle.ipl_meaning.specs.Rests.{now, EachStands, StoryRests}
+use Rattle.ipl_meaning.specs.Stands.{StandsIn}
+use Rattle.ipl_meaning.specs.Rests.{now, EachStands, EachStandsIn, StoryRests}
 use Rattle.ipl_meaning.specs.FirstTables.{first_layout}
 use Rattle.opening_rules.specs.Chosen.{units_at}
 use Rattle.opening_rules.proofs.LaidLemmas.{laid_says_its_units}
+use Rattle.opening_rules.proofs.MomentLemmas.{moments_as_said}
 use Rattle.ipl_meaning.proofs.StoryLemmas.{held_stands, says_keep}
 use Rattle.unit_io.specs.Leads.{IsSteady}
 use Rattle.unit_io.proofs.LeadsLemmas.{steady_then}
@@ -234,7 +235,7 @@ all_done (Err s) is = absurd cc
 
 module _ (places units : ℕ) (m : Map) (script : List ℕ) (h : History) (first : Story)
     (silent : pieces first ≡ [])
-    (each : AtEachMoment (λ e. EachStands places m (adds_all e h)) first)
+    (each : AtEachMoment (λ e. EachStandsIn places units m (adds_all e h)) first)
     (lawful : (base : Story) → IsLawful base → IsLawful (first ++ base)) where
   abbrev limits : Limits
   limits = limits_of units
@@ -247,7 +248,7 @@ module _ (places units : ℕ) (m : Map) (script : List ℕ) (h : History) (first
   near_first = λ later e is x image.
       let quiet : pieces e ≡ [] = silent-part later e (ap pieces is ∙ silent) in
       subst (λ (bytes : List ℕ). StandsAbout places units m script bytes x) (sym (ap joined quiet))
-      (near_silent (λ s. Stands places (chart_of x) s.map) limits (at_rest m) (commands_of script)
+      (near_silent (λ s. StandsIn places units (chart_of x) s.map) limits (at_rest m) (commands_of script)
       (each later e is x image))
 
   -- ---- they alone were done
@@ -421,6 +422,15 @@ module _ (old mid : Told) (store : ScriptStore) (s : StartsOpened old store mid)
         few = omega (arith, made.units, made.geometry.1);
       }
 
+  -- an opening leaves as many units at each moment
+  pub opened_each : (m : Map) (h : History) (steady : IsSteady h old) (rests : StoryRests old.places m h)
+      → AtEachMoment (λ e. EachStandsIn old.places store.store.units m (adds_all e h))
+      (s.tries.steps m h steady rests).added
+  opened_each m h steady rests =
+      let did = s.tries.steps m h steady rests in
+      subst (λ (n : ℕ). AtEachMoment (λ e. EachStandsIn old.places n m (adds_all e h)) did.added)
+      (sym (units_told h steady)) (moments_as_said old.places m h did.added rests did.each_moment)
+
   module _ (then : ScriptStore) (new : Told) where
     opened_so : (result : Result (Unit {0}) Stop)
         → RunsScript (script_keeping old.places) store mid result then new
@@ -429,7 +439,8 @@ module _ (old mid : Told) (store : ScriptStore) (s : StartsOpened old store mid)
         → Runs old.places store.store.units m script h [] old new (ending_of result)
     opened_so (Ok u) run h script steady left m rests =
         let did = s.tries.steps m h steady rests in
-        runs_ended old.places store.store.units m script h did.added did.does.silent did.each_moment
+        runs_ended old.places store.store.units m script h did.added did.does.silent
+        (opened_each m h steady rests)
         (λ base good. did.does.lawful.lawful base good (λ p q nowhere. absurd nowhere))
         old mid new store then s.tries.accounts.counts.writes did.history
         (λ base. did.does.clean refl base (λ p q nowhere. absurd nowhere))
@@ -438,7 +449,7 @@ module _ (old mid : Told) (store : ScriptStore) (s : StartsOpened old store mid)
     opened_so (Err e) run h script steady left m rests =
         let did = s.tries.steps m h steady rests in
         runs_stopped old.places store.store.units m script h did.added did.does.silent
-        did.each_moment
+        (opened_each m h steady rests)
         (λ base good. did.does.lawful.lawful base good (λ p q nowhere. absurd nowhere))
         old mid new store then s.tries.accounts.counts.writes did.history
         (λ base. did.does.clean refl base (λ p q nowhere. absurd nowhere)) e
@@ -460,7 +471,7 @@ pub unopened_runs : (old new : Told) (end : End) → (n : IsNotOpened end old ne
 unopened_runs old new end n = λ h script steady left m rests.
     let did = n.tries.steps m h steady rests in
     none_failed old.places (units_at (now h) old.places) m script h did.added did.does.silent
-    did.each_moment
+    (moments_as_said old.places m h did.added rests did.each_moment)
     (λ base good. did.does.lawful.lawful base good (λ p q nowhere. absurd nowhere))
     old new did.history (left_counts old new n.tries.accounts.counts ∙ left) did.steady did.ends
     n.fault
@@ -480,8 +491,9 @@ module _ (old new : Told) (is : IsUntouched old new) where
   left_still script left = ap (λ (t : Told). t.beside.left) is ∙ left
 
   still_each : (places : ℕ) (m : Map) (h : History) → StoryRests places m h
-      → AtEachMoment (λ e. EachStands places m (adds_all e h)) []
-  still_each places m h rests = at_start (λ e. EachStands places m (adds_all e h)) rests.each
+      → AtEachMoment (λ e. EachStandsIn places (units_at (now h) places) m (adds_all e h)) []
+  still_each places m h rests = moments_as_said places m h [] rests
+      (at_start (λ e. EachStands places m (adds_all e h)) rests.each)
 
   pub untouched_runs : RunsOpened old new (Err OutOfMemory)
   untouched_runs = λ h script steady left m rests.

@@ -1,4 +1,5 @@
 mod EndLemmas
+mod WornLemmas
 mod StartLemmas
 mod TrialLemmas
 mod RecordLemmas

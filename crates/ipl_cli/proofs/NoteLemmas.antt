@@ -30,7 +30,8 @@ module _ (old mid : Told) (noted : Option (List ℕ)) where
   format_cause spares (image.Chip Stopped) c = c
   format_cause spares (image.Chip (Damaged p s stored computed)) c = c
   format_cause spares (image.Chip (Malformed p s)) c = c
-  format_cause spares (image.Chip (WornOut n)) c = c
+  format_cause spares (image.Chip (WornOut n)) c =
+      record { one = c.one; rose = c.rose; found = c.found }
   format_cause spares image.Spent c = c
   format_cause spares (image.NoSpare n) c = c
 
@@ -43,7 +44,7 @@ module _ (old mid : Told) (noted : Option (List ℕ)) where
   formatted_cause (image.Chip (Damaged p s stored computed)) c = c
   formatted_cause (image.Chip (Malformed p s)) c = c
   formatted_cause (image.Chip (WornOut n)) c =
-      record { count = c.count; exact = c.exact; rose = c.rose }
+      record { count = c.count; exact = c.exact; rose = c.rose; found = c.found }
   formatted_cause image.Spent c = c
   formatted_cause (image.NoSpare n) c = c
 
@@ -56,7 +57,7 @@ module _ (old mid : Told) (noted : Option (List ℕ)) where
   opened_cause (image.Chip (Damaged p s stored computed)) c = c
   opened_cause (image.Chip (Malformed p s)) c = c
   opened_cause (image.Chip (WornOut n)) c =
-      record { count = c.count; exact = c.exact; rose = c.rose }
+      record { count = c.count; exact = c.exact; rose = c.rose; wears = c.wears }
   opened_cause image.Spent c = c
   opened_cause (image.NoSpare n) c = c
 

@@ -1,5 +1,5 @@
 -- How the program starts a run, and why it doesn't.
-use Rattle.std.proofs.Common.{◌≡◌, ◌≤◌, ◌<◌, ◌+◌, ◌-◌, ◌^◌, ℕ, true, false, length, Some, None, Result, Ok, Err, inl, inr, refl, sym, ◌∙◌, ap, subst, arith}
+use Rattle.std.proofs.Common.{◌≡◌, ◌⊎◌, ◌≤◌, ◌<◌, ◌+◌, ◌-◌, ◌^◌, ℕ, true, false, length, Some, None, Result, Ok, Err, inl, inr, refl, sym, ◌∙◌, ap, subst, arith}
 use Rattle.std.specs.Prelude.{◌&&◌, nat_le, OnOk, IfErr, IsErrOf, is_ok}
 use Rattle.std.proofs.lemmas.Bool.{cases_Bool, cases_eq, and_parts}
 use Rattle.std.proofs.lemmas.Bool.Decides.{nat_tests}
@@ -34,7 +34,7 @@ use Rattle.opening_rules.proofs.LaidLemmas.{laid_is_fine_or_spent}
 use Rattle.opening_rules.proofs.NoFaultLemmas.{no_fault_is_laid}
 use Rattle.opening_rules.proofs.NumberLemmas.{greatest_is_found}
 use Rattle.restart.specs.Events.{format_events}
-use Rattle.restart.specs.Fresh.{IsFresh, Formats}
+use Rattle.restart.specs.Fresh.{IsFresh, Formats, TellsFresh}
 use Rattle.restart.proofs.LookLemmas.{reads_none}
 use Rattle.store_trait.specs.Keeping.{ChipRose, SaysFailedCall, Draws, LeavesTidy, SCRIPT_DRAWS, FOUND_NUMBER}
 use Rattle.store_trait.specs.Onward.{Further}
@@ -48,19 +48,23 @@ use Rattle.status_renewal.proofs.ReadyLemmas.{layouts_say}
 use Rattle.store_steps.specs.Keeps.{IsWornCount, FaultTells, StoreCause, limits_of}
 use Rattle.script_run.specs.declared.fault.Stop.{Stop}
 use Rattle.script_run.specs.declared.fault.Stop.TheVariants as stop
-use Rattle.script_run.specs.Goes.{StopCause, KeepsSome, CompletesOver, HasRead, ReadsAll, RunsScript}
+use Rattle.script_run.specs.Goes.{StopCause, StopWears, LearnsAlong, KeepsSome, CompletesOver, HasRead, ReadsAll, RunsScript}
 use Rattle.page_frames.specs.Pages.{tables_in}
 use Rattle.ipl_store.specs.declared.store.Store.{Store}
 use Rattle.ipl_store.specs.Calls.{counter_of, IsSound}
 use Rattle.ipl_store.specs.Openings.{Opens, Tries}
 use Rattle.script_store.specs.declared.store.ScriptStore.{ScriptStore}
 use Rattle.script_store.specs.Keeps.{IsRunning, script_keeping, next_number}
+use Rattle.script_store.specs.Worn.{WearsOut, ChipWears, ImageWears}
+use Rattle.script_store.proofs.ReopenLemmas.{opening_knows, opening_wears}
+use Rattle.program_end.specs.Ends.{fault_status}
 use Rattle.program_end.specs.declared.end.End.{End}
 use Rattle.program_end.specs.declared.end.End.TheVariants.{Words, Chip, OutOfMemory, Script, Output, TooLong}
 use Rattle.command_line.specs.declared.asked.Request.TheVariants.{Run}
 use Rattle.ipl_cli.specs.Ending.{Ending, StopsEarly, StopRose, format_end}
-use Rattle.ipl_cli.specs.Top.{IsLaidWell, RestsWithNumbersLeft, IsMetLater, LaidCause, StrayCause, OpenedCause, WornOutCause, AnewCause, FormattedCause, IsTooLong, RequestCause, EndCause, RunsOpened, IsRefused, OpenedRuns, FormattedLeaves, OpenedLeaves}
+use Rattle.ipl_cli.specs.Top.{IsLaidWell, RestsWithNumbersLeft, IsMetLater, LaidCause, StrayCause, OpenedCause, WornOutCause, AnewCause, FormattedCause, FindsWorn, IsTooLong, RequestCause, EndCause, RunsOpened, IsRefused, OpenedRuns, FormattedLeaves, OpenedLeaves}
 use Rattle.ipl_cli.specs.Runs.{ClosesFor, StartsOpened, IsNotOpened, WasFormatted, IsNotFormatted, StartsFormatted, IsNotStarted, RunsOver, end_of, ending_of}
+use Rattle.ipl_cli.proofs.WornLemmas.{format_finds, fresh_finds}
 use Rattle.ipl_cli.proofs.EndLemmas.{left_counts, stopped_early, units_told, opened_keeps, opened_runs, unopened_runs, untouched_stops, formatted_runs, fresh_story, fresh_units}
 
 -- ---- counts
@@ -157,7 +161,10 @@ module _ (t : Told) (sound : RestsWithNumbersLeft t) where
   sector_never (inl stray) = stray _ sound_told sound.map sound_stands
   sector_never (inr later) = later.unsound sound
 
-  pub opened_excused : (e : ImageFault) (new : Told) → OpenedCause e t new → ChipRose t new
+  -- and the status is that of worn places, unless a read or a write failed
+  pub opened_excused : (e : ImageFault) (new : Told) → OpenedCause e t new
+      → Rose t.read_faults new.read_faults ⊎ Rose t.write_faults new.write_faults
+      ⊎ (fault_status e ≡ 10)
   opened_excused image.Geometry new c = absurd (laid_never image.Geometry c)
   opened_excused image.NotFormatted new c = absurd (laid_never image.NotFormatted c)
   opened_excused (image.Missing u) new c = absurd (laid_never (image.Missing u) c)
@@ -165,7 +172,7 @@ module _ (t : Told) (sound : RestsWithNumbersLeft t) where
   opened_excused (image.Chip Stopped) new c = inr (inl c)
   opened_excused (image.Chip (Damaged p s stored computed)) new c = absurd (sector_never c.1)
   opened_excused (image.Chip (Malformed p s)) new c = absurd (sector_never c)
-  opened_excused (image.Chip (WornOut n)) new c = inr (inr c.rose)
+  opened_excused (image.Chip (WornOut n)) new c = inr (inr refl)
   opened_excused image.Spent new c = absurd (laid_never image.Spent c)
   opened_excused (image.NoSpare n) new c = absurd (laid_never (image.NoSpare n) c)
 
@@ -238,6 +245,8 @@ module _ (old new : Told) (end : End) (n : IsNotOpened end old new) where
         (n.tries.costs.units (or_right false (tells_wear n.fault) (ap tells_wear is))
         (held h.start h.story) steady.holds);
     rose = cause.2;
+    wears = subst (λ (f : ImageFault). ImageWears old f new) is
+        (opening_wears old new n.fault n.tables n.tries);
   }
 
   unopened_by : (f : ImageFault) → n.fault ≡ f → OpeningCause n.tables.places f old new
@@ -325,62 +334,71 @@ module _ (old mid : Told) (store : ScriptStore) (s : StartsOpened old store mid)
     -- so many places are worn
     worn_met : (n : ℕ) → IsWornCount mid.places n → Rose mid.worn_erases new.worn_erases
         → ((m : Map) (h : History) → IsSteady h old → StoryRests old.places m h
-        → n ≡ 1 + spares_on old.places (units_at (now h) old.places)) → WornOutCause n old new
-    worn_met n count rose exact = record {
+        → n ≡ 1 + spares_on old.places (units_at (now h) old.places)) → WearsOut old new
+        → WornOutCause n old new
+    worn_met n count rose exact wears = record {
       count = subst (λ (p : ℕ). IsWornCount p n) s.tries.accounts.counts.places count;
       exact = exact;
       rose = worn_earlier old mid new s.tries.accounts.counts rose;
+      wears = wears;
     }
 
     chip_met : (c : ChipFault) → (¬ IsFailedCall c → IsMetLater old) → Tells (fault.Chip c)
-        → StoreCause mid.places (fault.Chip c) mid new → OpenedCause (image.Chip c) old new
-    chip_met ReadFault met tells cause = reads_earlier old mid new s.tries.accounts.counts cause
-    chip_met Stopped met tells cause = writes_earlier old mid new s.tries.accounts.counts cause
-    chip_met (Damaged p q stored computed) met tells cause = (cause, inr (met (λ none. none)))
-    chip_met (Malformed p q) met tells cause = inr (met (λ none. none))
-    chip_met (WornOut n) met tells cause = worn_met n cause.0 cause.1 tells
+        → ChipWears old c new → StoreCause mid.places (fault.Chip c) mid new
+        → OpenedCause (image.Chip c) old new
+    chip_met ReadFault met tells wears cause = reads_earlier old mid new s.tries.accounts.counts cause
+    chip_met Stopped met tells wears cause = writes_earlier old mid new s.tries.accounts.counts cause
+    chip_met (Damaged p q stored computed) met tells wears cause =
+        (cause, inr (met (λ none. none)))
+    chip_met (Malformed p q) met tells wears cause = inr (met (λ none. none))
+    chip_met (WornOut n) met tells wears cause = worn_met n cause.0 cause.1 tells wears
 
     image_met : (e : ImageFault) → (¬ SaysFailedCall (fault.Image e) → IsMetLater old)
-        → Tells (fault.Image e) → StoreCause mid.places (fault.Image e) mid new
-        → OpenedCause e old new
-    image_met image.Geometry met tells cause = inr (met (λ none. none))
-    image_met image.NotFormatted met tells cause = inr (met (λ none. none))
-    image_met (image.Missing u) met tells cause = inr (met (λ none. none))
-    image_met (image.Chip c) met tells cause = chip_met c met tells cause
-    image_met image.Spent met tells cause = inr (met (λ none. none))
-    image_met (image.NoSpare k) met tells cause = inr (met (λ none. none))
+        → Tells (fault.Image e) → ImageWears old e new
+        → StoreCause mid.places (fault.Image e) mid new → OpenedCause e old new
+    image_met image.Geometry met tells wears cause = inr (met (λ none. none))
+    image_met image.NotFormatted met tells wears cause = inr (met (λ none. none))
+    image_met (image.Missing u) met tells wears cause = inr (met (λ none. none))
+    image_met (image.Chip c) met tells wears cause = chip_met c met tells wears cause
+    image_met image.Spent met tells wears cause = inr (met (λ none. none))
+    image_met (image.NoSpare k) met tells wears cause = inr (met (λ none. none))
 
     -- why the run stops
     stop_cause : (frames : ℕ) (e : Stop) → Completes e
         → StopCause (script_keeping mid.places) mid new e
+        → StopWears (script_keeping mid.places) old e new
         → (e ≡ stop.Store fault.Spent → ⊥) → (e ≡ stop.TooLong → IsTooLong mid new)
         → RequestCause (Run frames false) (end_of e) old new
-    stop_cause frames (stop.Store (fault.Chip c)) completes cause unspent long = chip_met c
-        (later (fault.Chip c) completes) (tells_so (fault.Chip c) completes) cause
-    stop_cause frames (stop.Store (fault.Image e)) completes cause unspent long = image_met e
-        (later (fault.Image e) completes) (tells_so (fault.Image e) completes) cause
-    stop_cause frames (stop.Store fault.Spent) completes cause unspent long = absurd (unspent refl)
-    stop_cause frames stop.Script completes cause unspent long = script_earlier old mid new
+    stop_cause frames (stop.Store (fault.Chip c)) completes cause wears unspent long = chip_met c
+        (later (fault.Chip c) completes) (tells_so (fault.Chip c) completes) wears cause
+    stop_cause frames (stop.Store (fault.Image e)) completes cause wears unspent long = image_met e
+        (later (fault.Image e) completes) (tells_so (fault.Image e) completes) wears cause
+    stop_cause frames (stop.Store fault.Spent) completes cause wears unspent long =
+        absurd (unspent refl)
+    stop_cause frames stop.Script completes cause wears unspent long = script_earlier old mid new
         s.tries.accounts.counts cause
-    stop_cause frames stop.Output completes cause unspent long = says_earlier old mid new
+    stop_cause frames stop.Output completes cause wears unspent long = says_earlier old mid new
         s.tries.accounts.counts cause
-    stop_cause frames stop.TooLong completes cause unspent long = long_earlier old mid new
+    stop_cause frames stop.TooLong completes cause wears unspent long = long_earlier old mid new
         s.tries.accounts.counts (long refl)
 
     pub over_cause : (frames : ℕ) (result : Result (Unit {0}) Stop)
         → CompletesOver (script_keeping mid.places) SCRIPT_DRAWS store mid result then new
         → IfErr result (λ e. StopCause (script_keeping mid.places) mid new e)
+        → LearnsAlong (script_keeping mid.places) store mid result then new
         → (IsErrOf result (stop.Store fault.Spent) → ⊥)
         → (IsErrOf result stop.TooLong → IsTooLong mid new)
         → EndCause (Some (Run frames false)) (ending_of result) old new
-    over_cause frames (Ok u) completes cause unspent long = tt
-    over_cause frames (Err e) completes cause unspent long = stop_cause frames e completes cause
+    over_cause frames (Ok u) completes cause learns unspent long = tt
+    over_cause frames (Err e) completes cause learns unspent long = stop_cause frames e completes
+        cause (learns old (opening_knows old mid store s.opens s.tries))
         (λ is. unspent (err_of is)) (λ is. long (err_of is))
 
     pub opened_cause : (frames : ℕ) (ending : Ending) → RunsOver ending store mid then new
         → EndCause (Some (Run frames false)) ending old new
     opened_cause frames ending r = subst (λ (e : Ending). EndCause (Some (Run frames false)) e old
-        new) (sym r.ending_is) (over_cause frames r.result r.completes r.cause r.unspent r.long)
+        new) (sym r.ending_is) (over_cause frames r.result r.completes r.cause r.learns
+        r.unspent r.long)
 
   -- what is left of it
   module _ (then : ScriptStore) (new : Told) where
@@ -552,6 +570,8 @@ module _ (old mid : Told) (f : WasFormatted old mid) where
           ∙ ap (λ (u : ℕ). 1 + spares_on mid.places u) (units_anew h)
           ∙ none_spare mid.places;
       rose = worn_earlier old mid new f.counts c.rose;
+      found = fresh_finds old mid new f.fits f.counts.places
+          (λ h. ((f.formats h).added, (f.formats h).history)) f.contents c.wears;
     }
     anew_by image.Spent c = laid_anew image.Spent c
     anew_by (image.NoSpare k) c = laid_anew (image.NoSpare k) c
@@ -638,10 +658,11 @@ module _ (old mid : Told) (store : ScriptStore) (s : StartsFormatted old store m
 module _ (old new : Told) (end : End) (n : IsNotFormatted end old new) where
   -- its end is of a fault of the chip
   stopped_at : (fault : FormatFault) → end ≡ format_end fault → StopRose fault old new
+      → ((p : ℕ) → fault ≡ format.Worn p → FindsWorn old new)
       → (e : ImageFault) × (end ≡ Chip e) × FormattedCause e old new
-  stopped_at format.Geometry is rose = absurd rose
-  stopped_at format.Stopped is rose = (image.Chip Stopped, is, rose)
-  stopped_at (format.Worn p) is rose = (
+  stopped_at format.Geometry is rose found = absurd rose
+  stopped_at format.Stopped is rose found = (image.Chip Stopped, is, rose)
+  stopped_at (format.Worn p) is rose found = (
     image.Chip (WornOut 1),
     is,
     record {
@@ -652,11 +673,12 @@ module _ (old new : Told) (end : End) (n : IsNotFormatted end old new) where
       };
       exact = λ h steady. refl;
       rose = rose;
+      found = found p refl;
     },
   )
 
   pub stopped_end : (e : ImageFault) × (end ≡ Chip e) × FormattedCause e old new
-  stopped_end = stopped_at n.fault n.end_is n.rose
+  stopped_end = stopped_at n.fault n.end_is n.rose n.found
 
   pub stopped_left : FormattedLeaves (Err end) old new
   stopped_left =
@@ -708,11 +730,15 @@ module _ (old new : Told) (fits : IsGeometry old.places) (counts : Counts old ne
   Formatted result units = (h : History) → Formats {A = Unit {0}} old.places units h old result new
 
   -- a format of a chip that fits is done
-  pub was_formatted : Formatted (Ok tt) (units_on old.places - 0) → WasFormatted old new
-  was_formatted formats = record {
+  pub was_formatted : Formatted (Ok tt) (units_on old.places - 0)
+      → ((x : Contents) → old.contents ≡ Some x → TellsFresh old.places (units_on old.places - 0) new)
+      → WasFormatted old new
+  was_formatted formats contents = record {
     fits = fits;
     counts = counts;
     formats = subst (Formatted (Ok tt)) (all_units old.places) formats;
+    contents = λ x told. subst (λ (units : ℕ). TellsFresh old.places units new)
+        (all_units old.places) (contents x told);
   }
 
   -- or a write failed, or a place is worn
@@ -728,6 +754,7 @@ module _ (old new : Told) (fits : IsGeometry old.places) (counts : Counts old ne
     fits = fits;
     counts = counts;
     rose = rose refl;
+    found = λ p is. absurd (cc is);
     stops = stopped_early (units_on old.places) format.Stopped old new counts (rose refl)
         (subst (Formatted (Err format.Stopped)) (all_units old.places) formats);
   }
@@ -737,6 +764,7 @@ module _ (old new : Told) (fits : IsGeometry old.places) (counts : Counts old ne
     fits = fits;
     counts = counts;
     rose = worn p refl;
+    found = λ q is. format_finds old new old.places (units_on old.places - 0) p formats;
     stops = stopped_early (units_on old.places) (format.Worn p) old new counts (worn p refl)
         (subst (Formatted (Err (format.Worn p))) (all_units old.places) formats);
   }
@@ -772,17 +800,19 @@ module _ (before then : ScriptStore) (old new : Told) where
       → CompletesOver (script_keeping old.places) SCRIPT_DRAWS before old result then new
       → Further old new
       → IfErr result (λ e. StopCause (script_keeping old.places) old new e)
+      → LearnsAlong (script_keeping old.places) before old result then new
       → (IsErrOf result stop.TooLong → Grew old.beside.script_bytes 4294967295
       new.beside.script_bytes) → (IsErrOf result stop.TooLong → HasRead 4294967295 old new)
       → OnOk result (ReadsAll old new)
       → RunsOver (ending_of result) before old then new
-  runs_over result low run tidy draws completes further cause exact long read = record {
+  runs_over result low run tidy draws completes further cause learns exact long read = record {
     result = result;
     ending_is = refl;
     runs = run;
     tidy = tidy;
     completes = completes;
     cause = cause;
+    learns = learns;
     unspent = numbers_last draws low;
     long = λ is. too_long (exact is) (long is);
     further = further;
@@ -797,6 +827,9 @@ module _ (before then : ScriptStore) (old new : Told) where
       (stop.Store fault.Spent)) then
       → CompletesOver (script_keeping old.places) {T = Unit {0}} SCRIPT_DRAWS before old (Ok tt) then
       new
-      → Further old new → ReadsAll old new → RunsOver (Ok tt) before old then new
-  ran_over low run tidy draws completes further read =
-      runs_over (Ok tt) low run tidy draws completes further tt (λ is. absurd cc) (λ is. absurd cc) read
+      → Further old new
+      → LearnsAlong (script_keeping old.places) {T = Unit {0}} before old (Ok tt) then new
+      → ReadsAll old new → RunsOver (Ok tt) before old then new
+  ran_over low run tidy draws completes further learns read =
+      runs_over (Ok tt) low run tidy draws completes further tt learns (λ is. absurd cc)
+      (λ is. absurd cc) read

@@ -18,10 +18,12 @@ use Rattle.ipl_rules.specs.State.{State, at_rest}
 use Rattle.ipl_model.specs.Grammar.{commands_of}
 use Rattle.ipl_format.specs.Sector.{sector_in}
 use Rattle.ipl_meaning.specs.Chart.{chart_of}
-use Rattle.ipl_meaning.specs.Stands.{Stands}
+use Rattle.ipl_meaning.specs.FirstTables.{first_layout}
+use Rattle.ipl_meaning.specs.Stands.{StandsIn}
+use Rattle.ipl_meaning.proofs.StoryLemmas.{rests_in_units}
 use Rattle.restart.specs.Events.{each_below, heading_events, clearing_events, worn_events, format_events}
 use Rattle.restart.specs.Fresh.{Formats}
-use Rattle.restart.proofs.FreshLemmas.{format_rests}
+use Rattle.restart.proofs.FreshLemmas.{format_rests, fresh_contents}
 use Rattle.unit_io.specs.Leads.{IsSteady}
 use Rattle.status_renewal.specs.Chains.{starts_at}
 use Rattle.status_renewal.proofs.ChainLemmas.{images_rest}
@@ -104,13 +106,17 @@ module _ (old new : Told) where
           let inner = length-append e first in
           let none = nil_from_length e (omega (arith, counted, parts, inner, few)) in
           let whole = fits (omega (arith, counted, parts, inner, few)) in
-          let rests = format_rests old.places (units_on old.places) whole
-          (units_are_kept old.places whole) x in
-          let stands = rests.each y (subst
+          let units = units_on old.places in
+          let kept = units_are_kept old.places whole in
+          let rests = format_rests old.places units whole kept x in
+          let number = rests_in_units old.places empty (record { start = x; story = first })
+          (first_layout units) rests (fresh_contents old.places units whole kept x).mirrors.laid in
+          let stands = subst (λ (n : ℕ). StandsIn old.places n (chart_of y) empty) number
+          (rests.each.1 y (subst
           (λ (s : Story). IsNoChanceImage (says sector_in) x (s ++ first) y)
-          none image) in
+          none image)) in
           subst (λ (s : Story). StandsAfterAnswered old.places (units_on old.places) empty script (said s) y) (sym none)
-          (near_silent (λ (s : State). Stands old.places (chart_of y) s.map)
+          (near_silent (λ (s : State). StandsIn old.places (units_on old.places) (chart_of y) s.map)
           (limits_of (units_on old.places)) (at_rest empty) (commands_of script) stands);
     }
 

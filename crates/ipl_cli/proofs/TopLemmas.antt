@@ -15,8 +15,8 @@ use Rattle.restart.specs.Fresh.{Formats}
 use Rattle.restart.proofs.LookLemmas.{reads_none}
 use Rattle.status_renewal.specs.Chains.{starts_at}
 use Rattle.status_renewal.proofs.ChainLemmas.{images_rest}
-use Rattle.store_trait.specs.Keeping.{ChipRose}
 use Rattle.script_run.specs.Goes.{ReadsAll}
+use Rattle.script_store.specs.Worn.{WearsOut}
 use Rattle.command_line.specs.declared.asked.Request.{Request}
 use Rattle.command_line.specs.declared.asked.Request.TheVariants.{Format, Run, Serial, Trial}
 use Rattle.program_end.specs.Ends.{status_of, fault_status}
@@ -24,8 +24,9 @@ use Rattle.program_end.specs.declared.end.End.TheVariants.{Words, Chip, OutOfMem
 use Rattle.ipl_cli.specs.Ending.{AskedFor, AsksOpened, AsksFormatted, AsksAnew, AtStatus, Ending, IsUntouched, but_noted, format_end, status_at, units_beside}
 use Rattle.ipl_cli.specs.Trials.{TrialLeaves}
 use Rattle.ipl_cli.specs.Views.{ViewsTold, OnlyViews, OnlyHears, SerialLeaves}
-use Rattle.ipl_cli.specs.Top.{HasFault, IsLaidWell, LaidCause, StrayCause, OpenedCause, FormatCause, AnewCause, FormattedCause, ChipCause, IsTooLong, EndCause, RunsOpened, RunsFormatted, LaysOut, OnlyLooks, EndsAtFault, FormatLeaves, FormattedLeaves, OpenedLeaves, EndLeaves, Ends, RefusesFaults, StrayCause, SpentCause, IsMetLater, IsUnfit, IsSilent, LacksUnits, EndsUnfit, UntouchedOrRuns, IsCalm, IsTold, Suffices, EndsInTime}
+use Rattle.ipl_cli.specs.Top.{HasFault, IsLaidWell, RestsWithNumbersLeft, LaidCause, FindsWorn, WearsAsAsked, StrayCause, OpenedCause, FormatCause, AnewCause, FormattedCause, ChipCause, IsTooLong, EndCause, RunsOpened, RunsFormatted, LaysOut, OnlyLooks, EndsAtFault, FormatLeaves, FormattedLeaves, OpenedLeaves, EndLeaves, Ends, RefusesFaults, StrayCause, SpentCause, IsMetLater, IsUnfit, IsSilent, LacksUnits, EndsUnfit, UntouchedOrRuns, IsCalm, IsTold, Suffices, EndsInTime}
 use Rattle.ipl_cli.proofs.EndLemmas.{stopped_early, untouched_runs}
+use Rattle.ipl_cli.proofs.WornLemmas.{format_finds}
 use Rattle.ipl_cli.proofs.StartLemmas.{opened_excused, stands_well}
 use Rattle.ipl_cli.proofs.ViewLemmas.{untouched_hears, hears_views, hears_only}
 use Rattle.ipl_cli.proofs.RecordLemmas.{steady_start}
@@ -62,6 +63,22 @@ failed_format spares old new counts format.Stopped same rose worn formats =
 failed_format spares old new counts (format.Worn p) same rose worn formats =
     stopped_early (units_beside old.places spares) (format.Worn p) old new counts (worn p refl)
     formats
+
+-- and why it fails
+pub failed_cause : (spares : ℕ) (old new : Told) (fault : FormatFault)
+    → (failed fault ≡ failed format.Geometry → ¬ IsSpared old.places spares)
+    → (failed fault ≡ failed format.Stopped → Rose old.write_faults new.write_faults)
+    → ((p : ℕ) → failed fault ≡ failed (format.Worn p) → Rose old.worn_erases new.worn_erases)
+    → ((h : History)
+    → Formats {A = Unit {0}} old.places (units_beside old.places spares) h old (Err fault) new)
+    → EndCause (Some (Format spares)) (Err (format_end fault)) old new
+failed_cause spares old new format.Geometry other rose worn formats = other refl
+failed_cause spares old new format.Stopped other rose worn formats = rose refl
+failed_cause spares old new (format.Worn p) other rose worn formats = record {
+  one = refl;
+  rose = worn p refl;
+  found = format_finds old new old.places (units_beside old.places spares) p formats;
+}
 
 -- ---- by the status
 
@@ -307,7 +324,7 @@ module _ (old new : Told) where
 
   -- the status of worn places
   opened_worn : (e : ImageFault) → OpenedCause e old new → fault_status e ≡ 10
-      → Rose old.worn_erases new.worn_erases
+      → Rose old.worn_erases new.worn_erases × WearsOut old new
   opened_worn image.Geometry c is = absurd (omega (arith, is))
   opened_worn image.NotFormatted c is = absurd (omega (arith, is))
   opened_worn (image.Missing u) c is = absurd (omega (arith, is))
@@ -315,12 +332,12 @@ module _ (old new : Told) where
   opened_worn (image.Chip Stopped) c is = absurd (omega (arith, is))
   opened_worn (image.Chip (Damaged p s stored computed)) c is = absurd (omega (arith, is))
   opened_worn (image.Chip (Malformed p s)) c is = absurd (omega (arith, is))
-  opened_worn (image.Chip (WornOut n)) c is = c.rose
+  opened_worn (image.Chip (WornOut n)) c is = (c.rose, c.wears)
   opened_worn image.Spent c is = absurd (omega (arith, is))
   opened_worn (image.NoSpare n) c is = absurd (omega (arith, is))
 
   format_worn : (spares : ℕ) (e : ImageFault) → FormatCause spares e old new → fault_status e ≡ 10
-      → Rose old.worn_erases new.worn_erases
+      → Rose old.worn_erases new.worn_erases × FindsWorn old new
   format_worn spares image.Geometry c is = absurd (omega (arith, is))
   format_worn spares image.NotFormatted c is = absurd c
   format_worn spares (image.Missing u) c is = absurd c
@@ -328,12 +345,12 @@ module _ (old new : Told) where
   format_worn spares (image.Chip Stopped) c is = absurd (omega (arith, is))
   format_worn spares (image.Chip (Damaged p s stored computed)) c is = absurd c
   format_worn spares (image.Chip (Malformed p s)) c is = absurd c
-  format_worn spares (image.Chip (WornOut n)) c is = c.1
+  format_worn spares (image.Chip (WornOut n)) c is = (c.rose, c.found)
   format_worn spares image.Spent c is = absurd c
   format_worn spares (image.NoSpare n) c is = absurd c
 
   formatted_worn : (e : ImageFault) → FormattedCause e old new → fault_status e ≡ 10
-      → Rose old.worn_erases new.worn_erases
+      → Rose old.worn_erases new.worn_erases × FindsWorn old new
   formatted_worn image.Geometry c is = absurd (omega (arith, is))
   formatted_worn image.NotFormatted c is = absurd (omega (arith, is))
   formatted_worn (image.Missing u) c is = absurd (omega (arith, is))
@@ -341,7 +358,7 @@ module _ (old new : Told) where
   formatted_worn (image.Chip Stopped) c is = absurd (omega (arith, is))
   formatted_worn (image.Chip (Damaged p s stored computed)) c is = absurd (omega (arith, is))
   formatted_worn (image.Chip (Malformed p s)) c is = absurd (omega (arith, is))
-  formatted_worn (image.Chip (WornOut n)) c is = c.rose
+  formatted_worn (image.Chip (WornOut n)) c is = (c.rose, c.found)
   formatted_worn image.Spent c is = absurd (omega (arith, is))
   formatted_worn (image.NoSpare n) c is = absurd (omega (arith, is))
 
@@ -537,7 +554,7 @@ module _ (old new : Told) where
   chip_by Serial e c is = absurd (omega (arith, is, ap fault_status c.0))
 
   worn_by : (request : Request) (e : ImageFault) → ChipCause request e old new → fault_status e ≡ 10
-      → Rose old.worn_erases new.worn_erases
+      → Rose old.worn_erases new.worn_erases × WearsAsAsked (Some request) old new
   worn_by (Format spares) e c is = format_worn old new spares e c is
   worn_by (Run frames true) e c is = formatted_worn old new e c is
   worn_by (Run frames false) e c is = opened_worn old new e c is
@@ -661,23 +678,19 @@ module _ (old : Told) (consistent : IsConsistent old) where
 -- ---- completeness
 
 module _ (old new : Told) (consistent : IsConsistent old) (calm : IsCalm old new) where
-  never_rose : ¬ ChipRose old new
-  never_rose (inl read) = calm.reads read
-  never_rose (inr (inl written)) = calm.writes written
-  never_rose (inr (inr worn)) = calm.worn worn
-
-  format_never : (spares : ℕ) → IsSpared old.places spares → (e : ImageFault)
-      → ¬ FormatCause spares e old new
-  format_never spares fits image.Geometry c = c fits
-  format_never spares fits image.NotFormatted c = c
-  format_never spares fits (image.Missing u) c = c
-  format_never spares fits (image.Chip ReadFault) c = c
-  format_never spares fits (image.Chip Stopped) c = calm.writes c
-  format_never spares fits (image.Chip (Damaged p s stored computed)) c = c
-  format_never spares fits (image.Chip (Malformed p s)) c = c
-  format_never spares fits (image.Chip (WornOut n)) c = calm.worn c.1
-  format_never spares fits image.Spent c = c
-  format_never spares fits (image.NoSpare n) c = c
+  -- no other fault of the chip ends it than that too many places are worn
+  format_ends : (spares : ℕ) → IsSpared old.places spares → (e : ImageFault)
+      → FormatCause spares e old new → fault_status e ≡ 10
+  format_ends spares fits image.Geometry c = absurd (c fits)
+  format_ends spares fits image.NotFormatted c = absurd c
+  format_ends spares fits (image.Missing u) c = absurd c
+  format_ends spares fits (image.Chip ReadFault) c = absurd c
+  format_ends spares fits (image.Chip Stopped) c = absurd (calm.writes c)
+  format_ends spares fits (image.Chip (Damaged p s stored computed)) c = absurd c
+  format_ends spares fits (image.Chip (Malformed p s)) c = absurd c
+  format_ends spares fits (image.Chip (WornOut n)) c = refl
+  format_ends spares fits image.Spent c = absurd c
+  format_ends spares fits (image.NoSpare n) c = absurd c
 
   anew_never : IsTold old → ¬ AnewCause old
   anew_never told anew = anew (starts_at told.contents)
@@ -687,25 +700,35 @@ module _ (old new : Told) (consistent : IsConsistent old) (calm : IsCalm old new
   geometry_never told (inl other) = other told.fits
   geometry_never told (inr anew) = anew_never told anew
 
-  formatted_never : IsTold old → (e : ImageFault) → ¬ FormattedCause e old new
-  formatted_never told image.Geometry c = geometry_never told c
-  formatted_never told image.NotFormatted c = anew_never told c
-  formatted_never told (image.Missing u) c = anew_never told c
-  formatted_never told (image.Chip ReadFault) c = calm.reads c
-  formatted_never told (image.Chip Stopped) c = calm.writes c
-  formatted_never told (image.Chip (Damaged p s stored computed)) c = anew_never told c.1
-  formatted_never told (image.Chip (Malformed p s)) c = anew_never told c
-  formatted_never told (image.Chip (WornOut n)) c = calm.worn c.rose
-  formatted_never told image.Spent c = anew_never told c
-  formatted_never told (image.NoSpare n) c = anew_never told c
+  formatted_ends : IsTold old → (e : ImageFault) → FormattedCause e old new → fault_status e ≡ 10
+  formatted_ends told image.Geometry c = absurd (geometry_never told c)
+  formatted_ends told image.NotFormatted c = absurd (anew_never told c)
+  formatted_ends told (image.Missing u) c = absurd (anew_never told c)
+  formatted_ends told (image.Chip ReadFault) c = absurd (calm.reads c)
+  formatted_ends told (image.Chip Stopped) c = absurd (calm.writes c)
+  formatted_ends told (image.Chip (Damaged p s stored computed)) c = absurd (anew_never told c.1)
+  formatted_ends told (image.Chip (Malformed p s)) c = absurd (anew_never told c)
+  formatted_ends told (image.Chip (WornOut n)) c = refl
+  formatted_ends told image.Spent c = absurd (anew_never told c)
+  formatted_ends told (image.NoSpare n) c = absurd (anew_never told c)
 
-  chip_never : (request : Request) → Suffices request old → (e : ImageFault)
-      → ¬ ChipCause request e old new
-  chip_never (Format spares) holds e c = format_never spares holds e c
-  chip_never (Run frames true) holds e c = formatted_never holds e c
-  chip_never (Run frames false) holds e c = never_rose (opened_excused old holds e new c)
-  chip_never Serial holds e c = c.1 holds
-  chip_never (Trial seed count frames) holds e c = formatted_never holds e c
+  opened_ends : RestsWithNumbersLeft old → (e : ImageFault) → OpenedCause e old new
+      → fault_status e ≡ 10
+  opened_ends sound e c = elim (opened_excused old sound e new c) [
+    | inl read ↦ absurd (calm.reads read)
+    | inr other ↦ elim other [
+      | inl written ↦ absurd (calm.writes written)
+      | inr worn ↦ worn
+    ]
+  ]
+
+  chip_ends : (request : Request) → Suffices request old → (e : ImageFault)
+      → ChipCause request e old new → fault_status e ≡ 10
+  chip_ends (Format spares) holds e c = format_ends spares holds e c
+  chip_ends (Run frames true) holds e c = formatted_ends holds e c
+  chip_ends (Run frames false) holds e c = opened_ends holds e c
+  chip_ends Serial holds e c = absurd (c.1 holds)
+  chip_ends (Trial seed count frames) holds e c = formatted_ends holds e c
 
   never_long : EndsInTime old new → ¬ IsTooLong old new
   never_long (inl short) long = omega (arith, short, long.grew.at_least)
@@ -713,11 +736,12 @@ module _ (old new : Told) (consistent : IsConsistent old) (calm : IsCalm old new
       (arith, short, many)
 
   complete_by : (request : Request) → Suffices request old → EndsInTime old new → (ending : Ending)
-      → EndCause (Some request) ending old new → (status_at ending ≡ 0) ⊎ (status_at ending ≡ 5)
+      → EndCause (Some request) ending old new
+      → (status_at ending ≡ 0) ⊎ (status_at ending ≡ 5) ⊎ (status_at ending ≡ 10)
   complete_by request holds time (Ok u) c = inl refl
   complete_by request holds time (Err Words) c = absurd c
-  complete_by request holds time (Err (Chip e)) c = absurd (chip_never request holds e c)
-  complete_by request holds time (Err OutOfMemory) c = inr refl
+  complete_by request holds time (Err (Chip e)) c = inr (inr (chip_ends request holds e c))
+  complete_by request holds time (Err OutOfMemory) c = inr (inl refl)
   complete_by (Format spares) holds time (Err Script) c = absurd c
   complete_by (Run frames formats) holds time (Err Script) c = absurd (calm.script c)
   complete_by Serial holds time (Err Script) c = absurd (calm.script c)
@@ -749,12 +773,19 @@ module _ (asked : AskedFor) (old new : Told) (status : ℕ) (e : Ends asked old 
       (sym e.status_is ∙ at) in
       chip_by old new request fault cause at_3
 
-  pub end_worn : status ≡ 10 → Rose old.worn_erases new.worn_erases
-  end_worn at =
+  worn_at_10 : status ≡ 10 → Rose old.worn_erases new.worn_erases × WearsAsAsked asked old new
+  worn_at_10 at =
       let (request, fault, is, at_10, cause) = fault_by old new 10 (omega arith) (omega arith)
       (omega arith) (omega arith) (omega arith) (omega arith) asked e.ending e.cause
       (sym e.status_is ∙ at) in
-      worn_by old new request fault cause at_10
+      let (rose, wears) = worn_by old new request fault cause at_10 in
+      (rose, subst (λ (a : AskedFor). WearsAsAsked a old new) (sym is) wears)
+
+  pub end_worn : status ≡ 10 → Rose old.worn_erases new.worn_erases
+  end_worn at = (worn_at_10 at).0
+
+  pub end_worn_out : status ≡ 10 → WearsAsAsked asked old new
+  end_worn_out at = (worn_at_10 at).1
 
   pub end_image : status ≡ 4 → Imaged old new asked
   end_image at =
@@ -804,7 +835,8 @@ module _ (asked : AskedFor) (old new : Told) (status : ℕ) (e : Ends asked old 
       e.ending old new) is e.cause))
 
   pub end_completes : IsConsistent old → (request : Request) → asked ≡ Some request
-      → Suffices request old → IsCalm old new → EndsInTime old new → (status ≡ 0) ⊎ (status ≡ 5)
+      → Suffices request old → IsCalm old new → EndsInTime old new
+      → (status ≡ 0) ⊎ (status ≡ 5) ⊎ (status ≡ 10)
   end_completes consistent request is holds calm time = rw e.status_is (complete_by old new
       consistent calm request holds time e.ending (subst (λ (a : AskedFor). EndCause a e.ending old
       new) is e.cause))

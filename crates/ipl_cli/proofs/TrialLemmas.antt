@@ -18,8 +18,9 @@ use Rattle.ipl_rules.specs.State.{State, Limits, at_rest}
 use Rattle.ipl_model.specs.declared.command.Command.{Command}
 use Rattle.ipl_model.specs.Run.{joined as joined_text}
 use Rattle.ipl_format.specs.Sector.{sector_in}
-use Rattle.ipl_meaning.specs.Rests.{now, EachStands, StoryRests}
+use Rattle.ipl_meaning.specs.Rests.{now, EachStandsIn, StoryRests}
 use Rattle.opening_rules.specs.Chosen.{units_at}
+use Rattle.opening_rules.proofs.MomentLemmas.{moments_as_said}
 use Rattle.unit_io.specs.Leads.{IsSteady}
 use Rattle.restart.specs.Events.{format_events}
 use Rattle.store_trait.specs.Keeping.{Stays, SCRIPT_DRAWS}
@@ -45,7 +46,7 @@ use Rattle.ipl_cli.specs.Ending.{Ending, StopsEarly}
 use Rattle.ipl_cli.specs.Top.{IsTooLong, RequestCause, EndCause}
 use Rattle.ipl_cli.specs.Trials.{commands_on, state_after, summary, StandsBehind, EndsAlong, EndsTrial, Trials, TrialsFormatted, TrialLeaves}
 use Rattle.ipl_cli.specs.Runs.{ClosesFor, StartsOpened, IsNotOpened, WasFormatted, StartsFormatted, IsNotStarted, TriesOver, ending_of}
-use Rattle.ipl_cli.proofs.EndLemmas.{Kept, kept, pieces_behind, history_behind, all_done, left_counts, units_told, opened_keeps, fresh_story, fresh_units, told_format, lawful_format}
+use Rattle.ipl_cli.proofs.EndLemmas.{Kept, kept, pieces_behind, history_behind, all_done, left_counts, units_told, opened_keeps, opened_each, fresh_story, fresh_units, told_format, lawful_format}
 use Rattle.ipl_cli.proofs.StartLemmas.{cause_anew, over_cause, not_started_cause, stopped_end}
 
 -- ---- what the chip stands for
@@ -61,7 +62,7 @@ behind places commands (line ∷ lines) x stands = stands
 
 module _ (places : ℕ) (commands : List Command) (h : History) (first : Story)
     (silent : pieces first ≡ [])
-    (each : AtEachMoment (λ e. EachStands places empty (adds_all e h)) first)
+    (each : AtEachMoment (λ e. EachStandsIn places (units_on places) empty (adds_all e h)) first)
     (lawful : (base : Story) → IsLawful base → IsLawful (first ++ base)) where
   abbrev limits : Limits
   limits = limits_of (units_on places)
@@ -234,6 +235,15 @@ module _ (old mid : Told) (store : ScriptStore) (s : StartsOpened old store mid)
       (adds_all (s.tries.steps empty h steady rests).added h) (at_rest empty)) many
       (opened_keeps old mid store s empty h steady rests)
 
+  -- an opening leaves all units at each moment
+  opened_all : (h : History) (steady : IsSteady h old) (rests : StoryRests old.places empty h)
+      → store.store.units ≡ units_on old.places
+      → AtEachMoment (λ e. EachStandsIn old.places (units_on old.places) empty (adds_all e h))
+      (s.tries.steps empty h steady rests).added
+  opened_all h steady rests many = subst (λ (n : ℕ). AtEachMoment (λ e. EachStandsIn old.places n empty
+      (adds_all e h)) (s.tries.steps empty h steady rests).added) many
+      (opened_each old mid store s empty h steady rests)
+
   abbrev Ran : Result (Unit {0}) Stop → ℕ → Type 0
   Ran result units = RunsTrial (script_keeping old.places) (trial_commands units seed count) store
       mid result then new
@@ -245,7 +255,7 @@ module _ (old mid : Told) (store : ScriptStore) (s : StartsOpened old store mid)
   opened_so (Ok u) run h steady rests many =
       let did = s.tries.steps empty h steady rests in
       tried_by old.places (commands_on old.places seed count) h did.added did.does.silent
-      did.each_moment
+      (opened_all h steady rests many)
       (λ base good. did.does.lawful.lawful base good (λ p q nowhere. absurd nowhere))
       old mid new store then s.tries.accounts.counts.writes
       did.history (λ base. did.does.clean refl base (λ p q nowhere. absurd nowhere)) left_alone
@@ -256,7 +266,7 @@ module _ (old mid : Told) (store : ScriptStore) (s : StartsOpened old store mid)
   opened_so (Err e) run h steady rests many =
       let did = s.tries.steps empty h steady rests in
       tried_by old.places (commands_on old.places seed count) h did.added did.does.silent
-      did.each_moment
+      (opened_all h steady rests many)
       (λ base good. did.does.lawful.lawful base good (λ p q nowhere. absurd nowhere))
       old mid new store then s.tries.accounts.counts.writes
       did.history (λ base. did.does.clean refl base (λ p q nowhere. absurd nowhere)) left_alone
@@ -280,7 +290,8 @@ unopened_trial : (seed count : ℕ) (old new : Told) (end : End)
 unopened_trial seed count old new end n = λ h steady rests all.
     let did = n.tries.steps empty h steady rests in
     none_tried old.places (commands_on old.places seed count) h did.added did.does.silent
-    did.each_moment
+    (subst (λ (n : ℕ). AtEachMoment (λ e. EachStandsIn old.places n empty (adds_all e h)) did.added)
+    all (moments_as_said old.places empty h did.added rests did.each_moment))
     (λ base good. did.does.lawful.lawful base good (λ p q nowhere. absurd nowhere))
     old new n.fault did.history (left_counts old new n.tries.accounts.counts) did.steady did.ends
 
@@ -465,7 +476,7 @@ module _ (old mid : Told) (store : ScriptStore) (s : StartsFormatted old store m
       (cause_by frames t.result t.stops (cause_anew old mid store s then new frames
       (ending_of t.result)
       (over_cause s.formatted mid store s.opened then new frames t.result
-      t.completes t.cause t.unspent (never_long t.result t.stops))))
+      t.completes t.cause t.learns t.unspent (never_long t.result t.stops))))
 
 -- ---- as the calls have it
 
@@ -487,6 +498,7 @@ module _ (seed count units : ℕ) (before then : ScriptStore) (old new : Told)
     tidy = goes.tidy;
     completes = completes;
     cause = goes.cause;
+    learns = goes.learns;
     unspent = numbers_last goes.draws low;
     stops = stops;
     onward = goes.beside;

@@ -1,18 +1,20 @@
 -- How the program starts and runs.
-use Rattle.std.specs.Prelude.{ℕ, ◌≡◌, ◌⊎◌, Result, Ok, Err, OnOk, IfErr, IsErrOf, is_ok}
+use Rattle.std.specs.Prelude.{ℕ, ◌≡◌, ◌⊎◌, Some, Result, Ok, Err, OnOk, IfErr, IsErrOf, is_ok}
+use Rattle.chip_trait.specs.Story.{Contents}
 use Rattle.chip_trait.specs.Told.{History, Told, Counts}
 use Rattle.ipl_base.specs.Places.{IsGeometry, units_on}
 use Rattle.ipl_base.specs.declared.fault.FormatFault.{FormatFault}
+use Rattle.ipl_base.specs.declared.fault.FormatFault.TheVariants as format
 use Rattle.ipl_base.specs.declared.fault.ImageFault.{ImageFault}
 use Rattle.ipl_base.specs.declared.fault.ImageFault.TheVariants as image
 use Rattle.ipl_meaning.specs.Tables.{Tables}
-use Rattle.restart.specs.Fresh.{Formats}
+use Rattle.restart.specs.Fresh.{Formats, TellsFresh}
 use Rattle.store_trait.specs.Onward.{Onward, Further}
 use Rattle.store_trait.specs.Keeping.{SCRIPT_DRAWS, LeavesTidy}
 use Rattle.store_trait.specs.declared.fault.Fault.TheVariants as fault
 use Rattle.script_run.specs.declared.fault.Stop.{Stop}
 use Rattle.script_run.specs.declared.fault.Stop.TheVariants as stop
-use Rattle.script_run.specs.Goes.{StopCause, CompletesOver, ReadsAll, RunsScript}
+use Rattle.script_run.specs.Goes.{LearnsAlong, StopCause, CompletesOver, ReadsAll, RunsScript}
 use Rattle.page_frames.specs.Pages.{tables_in}
 use Rattle.ipl_store.specs.declared.store.Store.{Store}
 use Rattle.ipl_store.specs.Calls.{IsSound}
@@ -24,7 +26,7 @@ use Rattle.trial_run.specs.Trial.{RunsTrial, IsTrialStop}
 use Rattle.program_end.specs.declared.end.End.{End}
 use Rattle.program_end.specs.declared.end.End.TheVariants.{Words, Chip, OutOfMemory, Script, Output, TooLong}
 use Rattle.ipl_cli.specs.Ending.{Ending, IsStopped, StopRose, format_end}
-use Rattle.ipl_cli.specs.Top.{IsTooLong}
+use Rattle.ipl_cli.specs.Top.{FindsWorn, IsTooLong}
 
 -- ---- the start
 
@@ -64,6 +66,8 @@ pub record WasFormatted (old new : Told) : Type 0 where
   pub counts : Counts old new
   pub formats : (h : History)
       → Formats {A = Unit {0}} old.places (units_on old.places) h old (Ok tt) new
+  pub contents : (x : Contents) → old.contents ≡ Some x
+      → TellsFresh old.places (units_on old.places) new
 
 -- a format was stopped, since a write failed or a place is worn, and it ends so
 pub record IsNotFormatted (end : End) (old new : Told) : Type 0 where
@@ -72,6 +76,7 @@ pub record IsNotFormatted (end : End) (old new : Told) : Type 0 where
   pub fits : IsGeometry old.places
   pub counts : Counts old new
   pub rose : StopRose fault old new
+  pub found : (p : ℕ) → fault ≡ format.Worn p → FindsWorn old new
   pub stops : IsStopped (units_on old.places) old new (Err end)
 
 -- the chip was formatted, or it wasn't
@@ -117,6 +122,7 @@ pub record RunsOver (ending : Ending) (before : ScriptStore) (old : Told) (then 
   pub tidy : LeavesTidy (script_keeping old.places) before then old new (is_ok result)
   pub completes : CompletesOver (script_keeping old.places) SCRIPT_DRAWS before old result then new
   pub cause : IfErr result (λ s. StopCause (script_keeping old.places) old new s)
+  pub learns : LearnsAlong (script_keeping old.places) before old result then new
   pub unspent : IsErrOf result (stop.Store fault.Spent) → ⊥
   pub long : IsErrOf result stop.TooLong → IsTooLong old new
   pub further : Further old new
@@ -135,6 +141,7 @@ pub record TriesOver (seed count : ℕ) (ending : Ending) (before : ScriptStore)
   pub tidy : LeavesTidy (script_keeping old.places) before then old new (is_ok result)
   pub completes : CompletesOver (script_keeping old.places) SCRIPT_DRAWS before old result then new
   pub cause : IfErr result (λ s. StopCause (script_keeping old.places) old new s)
+  pub learns : LearnsAlong (script_keeping old.places) before old result then new
   pub unspent : IsErrOf result (stop.Store fault.Spent) → ⊥
   pub stops : IfErr result IsTrialStop
   pub onward : Onward old new

@@ -12,19 +12,19 @@ use Rattle.ipl_model.specs.Grammar.{commands_of}
 use Rattle.ipl_model.specs.Run.{answered, map_after}
 use Rattle.ipl_format.specs.Sector.{sector_in}
 use Rattle.ipl_meaning.specs.Chart.{chart_of}
-use Rattle.ipl_meaning.specs.Stands.{Stands}
+use Rattle.ipl_meaning.specs.Stands.{Stands, StandsIn}
 use Rattle.opening_rules.specs.Chosen.{units_at}
 use Rattle.restart.specs.Events.{format_events}
 use Rattle.store_steps.specs.Keeps.{limits_of}
 
--- The contents stand for the records after r commands of the script, from the records m and on so many
--- units, or after one more: r is the greatest number of commands with whose replies the bytes begin.
+-- The contents stand, in so many units, for the records after r commands of the script, from the records
+-- m and on as many units, or after one more: r is the greatest number of commands with whose replies the bytes begin.
 abbrev pub StandsAfterAnswered : ℕ → ℕ → Map → List ℕ → List ℕ → Contents → Type 0
 StandsAfterAnswered places units m script bytes y =
     let limits = limits_of units in
     let r = answered limits (at_rest m) (commands_of script) bytes in
-    Stands places (chart_of y) (map_after limits m script r)
-    ⊎ Stands places (chart_of y) (map_after limits m script (suc r))
+    StandsIn places units (chart_of y) (map_after limits m script r)
+    ⊎ StandsIn places units (chart_of y) (map_after limits m script (suc r))
 
 -- A run over a chip that held x, on as many units as that says. There are events by which what is told
 -- of its history grew, and which make of x what it holds at the end, unless a write failed. Wherever

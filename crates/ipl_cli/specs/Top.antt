@@ -17,7 +17,7 @@ use Rattle.ipl_model.specs.Grammar.{commands_of}
 use Rattle.ipl_model.specs.Run.{joined, lines, after_all, IsNear}
 use Rattle.ipl_format.specs.Sector.{sector_in}
 use Rattle.ipl_meaning.specs.Chart.{chart_of}
-use Rattle.ipl_meaning.specs.Stands.{Stands}
+use Rattle.ipl_meaning.specs.Stands.{Stands, StandsIn}
 use Rattle.ipl_meaning.specs.Rests.{now, StoryRests}
 use Rattle.unit_io.specs.Leads.{IsSteady}
 use Rattle.unit_io.specs.Reads.{OfContents}
@@ -25,7 +25,9 @@ use Rattle.opening_rules.specs.Chosen.{units_at}
 use Rattle.opening_rules.specs.Faults.{first_fault, greatest_found}
 use Rattle.restart.specs.Events.{format_events}
 use Rattle.restart.specs.Looks.{OnlyReads}
+use Rattle.place_taking.specs.Spending.{is_found_worn}
 use Rattle.store_steps.specs.Keeps.{IsWornCount, limits_of}
+use Rattle.script_store.specs.Worn.{WearsOut}
 use Rattle.script_run.specs.Run.{SaysLines, EndsBetween, EndsUnsaid}
 use Rattle.script_run.specs.Goes.{ReadsAll}
 use Rattle.command_line.specs.declared.asked.Request.{Request}
@@ -105,18 +107,28 @@ LaidCause e old = IsAtFault old e ⊎ IsMetLater old
 abbrev pub StrayCause : Told → Type 0
 StrayCause old = IsStray old ⊎ IsMetLater old
 
--- an erase found its place worn, where no place is spare
-abbrev pub WornCause : ℕ → Told → Told → Type 0
-WornCause n old new = (n ≡ 1) × Rose old.worn_erases new.worn_erases
+-- where the chip told contents and a history at the entry, a place was found worn since
+abbrev pub FindsWorn : Told → Told → Type 0
+FindsWorn old new = (x : Contents) (h : History) → old.contents ≡ Some x → old.history ≡ Some h
+    → (added : Story) × (new.history ≡ Some (adds_all added h))
+    × ((p : ℕ) × (is_found_worn added p ≡ true))
+
+-- an erase of a format found its place worn
+pub record WornCause (n : ℕ) (old new : Told) : Type 0 where
+  pub one : n ≡ 1
+  pub rose : Rose old.worn_erases new.worn_erases
+  pub found : FindsWorn old new
 
 -- So many places are worn, of the last of which an erase found it: one more than are spare beside as
 -- many units as may be kept. Over a history that leaves what the chip holds and rests on records, as
--- many as the chip says.
+-- many as the chip says; and where it told what it held and a history, more than are spare are those that
+-- its status header lists and those that were found worn since.
 pub record WornOutCause (n : ℕ) (old new : Told) : Type 0 where
   pub count : IsWornCount old.places n
   pub exact : (m : Map) (h : History) → IsSteady h old → StoryRests old.places m h
       → n ≡ 1 + spares_on old.places (units_at (now h) old.places)
   pub rose : Rose old.worn_erases new.worn_erases
+  pub wears : WearsOut old new
 
 -- when a fault of the chip ends a run that opens it
 abbrev pub OpenedCause : ImageFault → Told → Told → Type 0
@@ -156,6 +168,7 @@ pub record WornAnewCause (n : ℕ) (old new : Told) : Type 0 where
   pub count : IsWornCount old.places n
   pub exact : (h : History) → IsSteady h old → n ≡ 1
   pub rose : Rose old.worn_erases new.worn_erases
+  pub found : FindsWorn old new
 
 -- when a fault of the chip ends a run that formats it first, or a trial
 abbrev pub FormattedCause : ImageFault → Told → Told → Type 0
@@ -207,6 +220,19 @@ EndCause None (Err end) old new = (end ≡ Words) ⊎ (end ≡ OutOfMemory)
 EndCause (Some request) (Ok u) old new = Unit {0}
 EndCause (Some request) (Err end) old new = RequestCause request end old new
 
+-- ---- worn places
+
+-- When the program ends since too many places are worn: over a chip that is opened, more than are spare
+-- are those that its status header lists and those that were found worn since; over one that is
+-- formatted, of which none is spare then, one was found worn, in the format or behind it.
+abbrev pub WearsAsAsked : AskedFor → Told → Told → Type 0
+WearsAsAsked None old new = ⊥
+WearsAsAsked (Some (Format spares)) old new = FindsWorn old new
+WearsAsAsked (Some (Run frames true)) old new = FindsWorn old new
+WearsAsAsked (Some (Run frames false)) old new = WearsOut old new
+WearsAsAsked (Some Serial) old new = ⊥
+WearsAsAsked (Some (Trial seed count frames)) old new = FindsWorn old new
+
 -- ---- the headline
 
 -- the lines that answer a script on so many units, from these records and no open session
@@ -219,10 +245,10 @@ abbrev pub IsAbout : (State → Type 0) → ℕ → Map → List ℕ → List �
 IsAbout Q units m script bytes =
     IsNear Q (limits_of units) (at_rest m) (commands_of script) bytes
 
--- the contents of a chip of so many places, with so many units, stand for the records of such a state
+-- the contents of a chip of so many places stand, in so many units, for the records of such a state
 abbrev pub StandsAbout : ℕ → ℕ → Map → List ℕ → List ℕ → Contents → Type 0
 StandsAbout places units m script bytes x =
-    IsAbout (λ s. Stands places (chart_of x) s.map) units m script bytes
+    IsAbout (λ s. StandsIn places units (chart_of x) s.map) units m script bytes
 
 -- the first commands of the script were answered with these lines, each said whole; Q is so of the
 -- state after them
@@ -477,11 +503,10 @@ UntouchedOrRuns old new ending = ((¬ IsGeometry old.places) × IsUntouched old 
 
 -- ---- completeness
 
--- none of the counts rose
+-- no read, no write, no read of the script and no reply failed
 pub record IsCalm (old new : Told) : Type 0 where
   pub reads : ¬ Rose old.read_faults new.read_faults
   pub writes : ¬ Rose old.write_faults new.write_faults
-  pub worn : ¬ Rose old.worn_erases new.worn_erases
   pub script : ¬ Rose old.beside.script_faults new.beside.script_faults
   pub says : ¬ Rose old.beside.say_faults new.beside.say_faults
 

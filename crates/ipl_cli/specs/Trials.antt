@@ -15,7 +15,7 @@ use Rattle.ipl_model.specs.Run.{joined, after_all}
 use Rattle.ipl_format.specs.Sector.{sector_in}
 use Rattle.ipl_meaning.specs.Chart.{chart_of}
 use Rattle.ipl_meaning.specs.Rests.{StoryRests}
-use Rattle.ipl_meaning.specs.Stands.{Stands}
+use Rattle.ipl_meaning.specs.Stands.{StandsIn}
 use Rattle.unit_io.specs.Leads.{IsSteady}
 use Rattle.restart.specs.Events.{format_events}
 use Rattle.store_steps.specs.Keeps.{limits_of}
@@ -39,16 +39,17 @@ abbrev pub summary : ℕ → List Command → List (List ℕ)
 summary places commands =
     trial_lines (limits_of (units_on places)) (at_rest empty) commands
 
--- the contents stand for the records after the first of these commands
+-- the contents stand, in all units, for the records after the first of these commands
 abbrev pub StandsAlong : ℕ → List Command → Contents → Type 0
 StandsAlong places commands x = (done : List Command) × (later : List Command)
-    × (commands ≡ done ++ later) × Stands places (chart_of x) (state_after places done).map
+    × (commands ≡ done ++ later)
+    × StandsIn places (units_on places) (chart_of x) (state_after places done).map
 
 -- and where a line was said, after all of them
 abbrev pub StandsBehind : ℕ → List Command → List (List ℕ) → Contents → Type 0
 StandsBehind places commands [] x = StandsAlong places commands x
 StandsBehind places commands (piece ∷ said) x =
-    Stands places (chart_of x) (state_after places commands).map
+    StandsIn places (units_on places) (chart_of x) (state_after places commands).map
 
 -- the first of the commands are done, and nothing was said; Q is so of the state after them
 pub record EndsAlong (Q : State → Type 0) (places : ℕ) (commands : List Command)

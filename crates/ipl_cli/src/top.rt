@@ -19,7 +19,7 @@ ghost use Rattle.ipl_cli.specs.Views.{ViewsTold, OnlyViews, OnlyHears, SerialLea
 ghost use Rattle.ipl_cli.specs.Top.{NoneFalls, EndCause, RequestCause, FormatLeaves, FormattedLeaves, OpenedLeaves, EndLeaves};
 ghost use Rattle.ipl_cli.specs.Top.{RunsOpened, RunsFormatted, UntouchedOrRuns, RefusesFaults, IsLaidWell, LaysOut};
 ghost use Rattle.ipl_cli.specs.Top.{EndsWithRecords, FromItsRecords, FromNoRecords};
-ghost use Rattle.ipl_cli.specs.Top.{StrayCause, SpentCause, AnewCause, LacksUnits, EndsUnfit, IsCalm, Suffices, EndsInTime, Ends};
+ghost use Rattle.ipl_cli.specs.Top.{StrayCause, SpentCause, AnewCause, LacksUnits, EndsUnfit, IsCalm, Suffices, EndsInTime, Ends, WearsAsAsked};
 ghost use Rattle.ipl_cli.specs.Survives.{Survives, SurvivesAnew};
 ghost use Rattle.ipl_cli.specs.Frames.{DoesWith, DoesAsAsked};
 ghost use Rattle.ipl_cli.specs.Runs.{StartsFormatted, StartsOpened, ClosesFor, FormatsFirst, OpensOver, IsNotStarted, RunsOver, TriesOver, end_of};
@@ -434,13 +434,19 @@ pub fn top<D: Desk>(alloc: Global, words: &[String], desk: &mut D) -> u8
         → (AsksOpened (requested (map string_bytes words.now)) × SpentCause (D.told desk.old))
         ⊎ (AsksAnew (requested (map string_bytes words.now)) × AnewCause (D.told desk.old)) }
     ensures worn { result ≡ 10 → Rose (D.told desk.old).worn_erases (D.told desk.new).worn_erases }
+    // And where the chip told what it held and a history, only where a place was found worn in a format, or
+    // where more than are spare are those that the status header lists and those found worn since.
+    ensures worn_out { result ≡ 10
+        → WearsAsAsked (requested (map string_bytes words.now)) (D.told desk.old) (D.told desk.new) }
 
-    // Words that aren't valid give 2, or 5. Where they are, the chip is such as they ask for, no count
-    // rises and the script ends in time, the answer is 0, or 5.
+    // Words that aren't valid give 2, or 5. Where they are, the chip is such as they ask for, no call of the
+    // chip, no read of the script and no reply fails and the script ends in time, the answer is 0, or 5; or
+    // 10, where too many places are worn.
     ensures invalid { requested (map string_bytes words.now) ≡ None → (result ≡ 2) ⊎ (result ≡ 5) }
     ensures completes { (request : Request) → requested (map string_bytes words.now) ≡ Some request
         → Suffices request (D.told desk.old)
-        → IsCalm (D.told desk.old) (D.told desk.new) → EndsInTime (D.told desk.old) (D.told desk.new) → (result ≡ 0) ⊎ (result ≡ 5) }
+        → IsCalm (D.told desk.old) (D.told desk.new) → EndsInTime (D.told desk.old) (D.told desk.new)
+        → (result ≡ 0) ⊎ (result ≡ 5) ⊎ (result ≡ 10) }
 {
     let ending = run(alloc, words, desk);
     finish(ending, desk)

@@ -8,7 +8,7 @@ use Rattle.ipl_base.specs.declared.fault.StoreFault.TheVariants as store
 use Rattle.ipl_rules.specs.State.{Map, State, is_open}
 use Rattle.ipl_rules.specs.Refusals.{refuses_end}
 use Rattle.ipl_rules.specs.Operations.{after_write}
-use Rattle.ipl_meaning.specs.Rests.{EachStandsEither}
+use Rattle.ipl_meaning.specs.Rests.{EachStandsEitherIn}
 use Rattle.record_locks.specs.Standing.{state_of}
 use Rattle.steps.specs.Steps.{Settled, EndsWith, Steps}
 use Rattle.page_frames.specs.Pages.{tables_in}
@@ -233,14 +233,14 @@ module _ (s : ℕ) (w : KeyWrite) (a b : Store) (before after : Told) (result : 
           → ((later : History) → EndsWith read AtRead AtEnd later → AtEnd later)
           → Reading read → Serving (Err fault) mid told h k
       ends_there read fault good less ends did = record {
-        steps = steps_weaker (EachStandsEither before.places keeps.state.map keeps.state.map)
+        steps = steps_weaker (EachStandsEitherIn before.places a.units keeps.state.map keeps.state.map)
             (LeavesKeys before.places a.units k.map k.map) (tables_in a.transactions.pages) (tables_in mid.transactions.pages)
             (λ v later. KeepsKeys before.places mid told later (Turn k) × IsDone k v)
             (λ v later. KeepsKeys before.places mid told later (Turn k) × IsDone k v)
             (λ later. KeepsKeys before.places mid told later k) (λ later. KeepsKeys before.places mid told later k) h failed before told
             (leaves_keys before.places a.units keeps.state.map keeps.state.map k.map k.map keeps.has.keys keeps.has.keys)
             (λ v later is. is) (λ later is. is)
-            (steps_as (EachStandsEither before.places keeps.state.map keeps.state.map)
+            (steps_as (EachStandsEitherIn before.places a.units keeps.state.map keeps.state.map)
             (tables_in a.transactions.pages) (tables_in mid.transactions.pages) AtRead AtEnd
             (λ v later. KeepsKeys before.places mid told later (Turn k) × IsDone k v)
             (λ later. KeepsKeys before.places mid told later k) h read failed before told less
@@ -262,7 +262,7 @@ module _ (s : ℕ) (w : KeyWrite) (a b : Store) (before after : Told) (result : 
           (subst (λ (ps : Pairs). IsWritten s name (pairs_after w ps) mid told result b after) same wrote) in
           record {
             steps = steps_then (List ℕ) (Unit {0}) KeyFault KeyFault
-                (EachStandsEither before.places keeps.state.map keeps.state.map)
+                (EachStandsEitherIn before.places a.units keeps.state.map keeps.state.map)
                 (LeavesKeys before.places a.units k.map k.map) (LeavesKeys before.places a.units k.map k.map)
                 (tables_in a.transactions.pages) (tables_in mid.transactions.pages)
                 (tables_in b.transactions.pages) AtRead AtEnd

@@ -1,6 +1,7 @@
 -- A chip is opened whose records have keys.
 use Rattle.std.proofs.Common.{◌≡◌, ◌∙◌, ℕ, inl, inr, [], Result, Ok, Err, refl, sym, subst}
-use Rattle.chip_trait.specs.Story.{held}
+use Rattle.chip_trait.specs.Moment.{AtEachMoment}
+use Rattle.chip_trait.specs.Story.{Story, held}
 use Rattle.chip_trait.specs.Told.{History, Told, adds_all}
 use Rattle.chip_trait.proofs.HistoryLemmas.{same_history}
 use Rattle.chip_trait.proofs.MomentLemmas.{at_start}
@@ -8,10 +9,11 @@ use Rattle.ipl_base.specs.declared.fault.ImageFault.{ImageFault}
 use Rattle.ipl_base.specs.declared.fault.OpenFault.{OpenFault}
 use Rattle.ipl_base.specs.declared.fault.OpenFault.TheVariants.{Image, OutOfMemory}
 use Rattle.ipl_rules.specs.State.{Map, at_rest}
-use Rattle.ipl_meaning.specs.Rests.{now, EachStands, StoryRests}
+use Rattle.ipl_meaning.specs.Rests.{now, EachStands, EachStandsIn, StoryRests}
 use Rattle.ipl_meaning.specs.Tables.{Tables}
 use Rattle.ipl_meaning.proofs.StoryLemmas.{held_stands}
 use Rattle.opening_rules.specs.Chosen.{units_at}
+use Rattle.opening_rules.proofs.MomentLemmas.{moments_as_said}
 use Rattle.unit_io.specs.Leads.{IsSteady}
 use Rattle.ipl_store.specs.Openings.{OpensAs, Tries}
 use Rattle.ipl_keys.specs.declared.keys.Keys.{Keys}
@@ -25,16 +27,25 @@ use Rattle.ipl_keys.proofs.ServeLemmas.{leaves_keys}
 module _ (old new : Told) (units : ℕ) (records : Map) (m : KeyMap) (h : History)
     (suits : units ≡ units_at (now h) old.places) (steady : IsSteady h old)
     (rests : StoryRests old.places records h) (has : HasKeys units records m) where
-  leaves : (k : History) → EachStands old.places records k → LeavesKeys old.places units m m k
+  leaves : (k : History) → EachStandsIn old.places units records k
+      → LeavesKeys old.places units m m k
   leaves k each =
       leaves_keys old.places units records records m m has has k (λ x image. inl (each x image))
+
+  -- at each moment there are as many units as the chip said
+  as_said : (added : Story) → AtEachMoment (λ e. EachStands old.places records (adds_all e h)) added
+      → AtEachMoment (λ e. EachStandsIn old.places units records (adds_all e h)) added
+  as_said added each =
+      subst (λ (n : ℕ). AtEachMoment (λ e. EachStandsIn old.places n records (adds_all e h)) added)
+      (sym suits) (moments_as_said old.places records h added rests each)
 
   -- the chip wasn't asked
   idle : (fault : OpenFault) → OpensFor old.places units m h old (Err fault) old
   idle fault = record {
     added = [];
     history = same_history old.history;
-    each_moment = at_start (λ e. LeavesKeys old.places units m m (adds_all e h)) (leaves h rests.each);
+    each_moment = λ later part is. leaves (adds_all part h) (as_said []
+        (at_start (λ e. EachStands old.places records (adds_all e h)) rests.each) later part is);
     keeps = tt;
   }
 
@@ -45,7 +56,8 @@ module _ (old new : Told) (units : ℕ) (records : Map) (m : KeyMap) (h : Histor
       let did = tries.steps records h steady rests in record {
         added = did.added;
         history = did.history;
-        each_moment = λ later part is. leaves (adds_all part h) (did.each_moment later part is);
+        each_moment = λ later part is. leaves (adds_all part h)
+            (as_said did.added did.each_moment later part is);
         keeps = tt;
       }
 
@@ -60,7 +72,8 @@ module _ (old new : Told) (units : ℕ) (records : Map) (m : KeyMap) (h : Histor
       record {
         added = did.added;
         history = did.history;
-        each_moment = λ later part is. leaves (adds_all part h) (did.each_moment later part is);
+        each_moment = λ later part is. leaves (adds_all part h)
+            (as_said did.added did.each_moment later part is);
         keeps = (
           record {
             state = at_rest records;

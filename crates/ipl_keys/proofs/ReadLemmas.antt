@@ -10,7 +10,7 @@ use Rattle.ipl_base.specs.declared.fault.StoreFault.{StoreFault}
 use Rattle.ipl_base.specs.declared.fault.StoreFault.TheVariants.{Refused}
 use Rattle.ipl_rules.specs.State.{State, Limits, is_open}
 use Rattle.ipl_rules.specs.Refusals.{refuses_get, refuses_end}
-use Rattle.ipl_meaning.specs.Rests.{EachStandsEither}
+use Rattle.ipl_meaning.specs.Rests.{EachStandsEitherIn}
 use Rattle.record_locks.specs.Standing.{state_of}
 use Rattle.record_locks.proofs.SameLemmas.{alike}
 use Rattle.steps.specs.Steps.{Settled, EndsWith, Steps}
@@ -237,14 +237,14 @@ module _ (s n : ℕ) (a mid : Store) (before told : Told) (h : History) (state :
   Kept later = KeepsStore before.places (limits_of a.units) (view_of mid) told later state
 
   abbrev pub ReadSteps : Result (List ℕ) KeyFault → Type 0
-  ReadSteps read = Steps (EachStandsEither before.places state.map state.map)
+  ReadSteps read = Steps (EachStandsEitherIn before.places a.units state.map state.map)
       (tables_in a.transactions.pages) (tables_in mid.transactions.pages) Read Kept h read before told
 
   as_read : (r : Result (Unit {0}) StoreFault) (read : Result (List ℕ) KeyFault)
       → (Settled read before told → Settled r before told)
       → ((later : History) → EndsWith r (λ v. Kept) Kept later → EndsWith read Read Kept later)
       → LooksAt a before r mid told → ReadSteps read
-  as_read r read less ends looks = steps_as (EachStandsEither before.places state.map state.map)
+  as_read r read less ends looks = steps_as (EachStandsEitherIn before.places a.units state.map state.map)
       (tables_in a.transactions.pages) (tables_in mid.transactions.pages) (λ v. Kept) Kept Read Kept h
       r read before told less ends (looked r looks)
 
@@ -298,11 +298,11 @@ module _ (s : ℕ) (bytes : List ℕ) (a b : Store) (before after : Told)
         let n = bucket_of a.units bytes in
         let t = tables_in a.transactions.pages in
         let after_t = tables_in b.transactions.pages in
-        steps_weaker (EachStandsEither before.places keeps.state.map keeps.state.map)
+        steps_weaker (EachStandsEitherIn before.places a.units keeps.state.map keeps.state.map)
         (LeavesKeys before.places a.units k.map k.map) t after_t Then Then Else Else h r before after
         (leaves_keys before.places a.units keeps.state.map keeps.state.map k.map k.map keeps.has.keys keeps.has.keys)
         (λ v later is. is) (λ later is. is)
-        (steps_as (EachStandsEither before.places keeps.state.map keeps.state.map) t after_t
+        (steps_as (EachStandsEitherIn before.places a.units keeps.state.map keeps.state.map) t after_t
         (Read s n a b before after h keeps.state k keeps.has up calls.units keeps.keeps)
         (Kept s n a b before after h keeps.state k keeps.has up calls.units keeps.keeps)
         Then Else h read r before after less ends did)

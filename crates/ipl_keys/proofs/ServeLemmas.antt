@@ -1,18 +1,21 @@
 -- What calls of the store leave over a story, of records and of keys.
 use Rattle.std.proofs.Common.{◌≡◌, ◌∙◌, ℕ, inl, inr, false, Result, Ok, Err, refl, sym, ap, subst}
-use Rattle.chip_trait.specs.Story.{held}
+use Rattle.chip_trait.specs.Moment.{AtEachMoment}
+use Rattle.chip_trait.specs.Story.{Contents, held}
 use Rattle.chip_trait.specs.Told.{History, Told, adds_all}
 use Rattle.ipl_base.specs.declared.fault.StoreFault.{StoreFault}
 use Rattle.ipl_rules.specs.State.{Map, State, Limits}
 use Rattle.ipl_meaning.specs.Chart.{chart_of}
-use Rattle.ipl_meaning.specs.Rests.{now, EachStandsEither, StoryRests}
+use Rattle.ipl_meaning.specs.Layout.{Laid}
+use Rattle.ipl_meaning.specs.Rests.{now, EachStandsEitherIn, StoryRests}
 use Rattle.ipl_meaning.specs.Tables.{Tables, IsCountedClean}
+use Rattle.ipl_meaning.proofs.StoryLemmas.{moments_keep_units, rests_in_units}
 use Rattle.steps.specs.Steps.{Settled, EndsWith, TidyWork, Steps}
 use Rattle.steps.proofs.StepLemmas.{outcome_none, outcome_weaker}
 use Rattle.steps.proofs.TidyLemmas.{tidy_none, tidy_weaker}
 use Rattle.page_frames.specs.Pages.{tables_in}
 use Rattle.store_steps.specs.Advances.{state_then, TurnsMapOf, LeadsTo}
-use Rattle.store_steps.specs.Keeps.{limits_of, ShowsState, KeepsStore}
+use Rattle.store_steps.specs.Keeps.{limits_of, ShowsState, KeepsStore, keeps_each}
 use Rattle.store_steps.proofs.AdvanceLemmas.{same_held}
 use Rattle.store_steps.proofs.KeepLemmas.{IsAt, is_at, says_next}
 use Rattle.ipl_store.specs.declared.store.Store.{Store}
@@ -30,7 +33,7 @@ use Rattle.ipl_keys.specs.Calls.{IsNoBadBucket, ServesFor}
 abbrev pub StoreSteps : {T E : Type 0} → (State → State) → Store → Told → Result T E → Store → Told
     → History → State → Type 0
 StoreSteps next a before result b after h state =
-    Steps (EachStandsEither before.places state.map (next state).map)
+    Steps (EachStandsEitherIn before.places a.units state.map (next state).map)
     (tables_in a.transactions.pages) (tables_in b.transactions.pages)
     (λ v later. KeepsStore before.places (limits_of a.units) (view_of b) after later (next state))
     (λ later. KeepsStore before.places (limits_of a.units) (view_of b) after later state) h result
@@ -78,6 +81,11 @@ module _ {T E : Type 0} (next : State → State) (a b : Store) (before after : T
         limits_are = ap limits_of (sym alike);
         steady = steady;
         rests = rests_then result places next state k (did.ends settled);
+        many = rests_in_units places then.map k at_end.layout
+            (rests_then result places next state k (did.ends settled))
+            (subst (λ (x : Contents). Laid places (chart_of x) at_end.layout)
+            (same_held y (held k.start k.story) after told_then steady.holds)
+            at_end.fits.mirrors.laid) ∙ showing.count;
         up = λ runs. record {
           sessions = at_end.fits.sessions;
           shows = subst (ShowsState places (view_of b) then)
@@ -97,7 +105,10 @@ module _ {T E : Type 0} (next : State → State) (a b : Store) (before after : T
   leading_steps = record {
     added = did.added;
     history = did.history;
-    each_moment = did.each_moment;
+    each_moment = subst (λ (units : ℕ). AtEachMoment (λ e. EachStandsEitherIn places units state.map
+        (next state).map (adds_all e h)) did.added) at.shown.count
+        (moments_keep_units places state.map (next state).map h at.shown.layout did.added
+        at.shown.fits.mirrors.laid did.each_moment);
     does = did.does;
     steady = did.steady;
     ends = λ settled. ends_so result (adds_all did.added h) (keeps_then settled);
@@ -142,7 +153,7 @@ steps_as Each t then A B C D h r answer old new less ends did =
 
 -- what stands for records that have keys stands for the keys
 pub leaves_keys : (places count : ℕ) (m n : Map) (keys others : KeyMap) → HasKeys count m keys
-    → HasKeys count n others → (h : History) → EachStandsEither places m n h
+    → HasKeys count n others → (h : History) → EachStandsEitherIn places count m n h
     → LeavesKeys places count keys others h
 leaves_keys places count m n keys others one other h each x image = elim (each x image) [
   | inl stands ↦ inl (record { map = m; stands = stands; has = one })
@@ -168,7 +179,7 @@ module _ {T U : Type 0} (next : State → State) (turn : KeyState → KeyState)
   keys_steps less ends did =
       let counted = IsCountedClean (tables_in a.transactions.pages) in
       let clean = IsCountedClean (tables_in b.transactions.pages) in
-      outcome_weaker (EachStandsEither before.places state.map (next state).map)
+      outcome_weaker (EachStandsEitherIn before.places a.units state.map (next state).map)
       (LeavesKeys before.places a.units k.map (turn k).map)
       (TidyWork counted clean (Settled r before after)) (TidyWork counted clean (Settled answer before after))
       (Settled r before after) (Settled answer before after)
@@ -193,7 +204,8 @@ nothing_serves {U} turn Answers a told fault h k good keeps = record {
       h told keeps.keeps.steady
       (λ x image. inl (record {
         map = keeps.state.map;
-        stands = keeps.keeps.rests.each x image;
+        stands = keeps_each told.places (limits_of a.units) (view_of a) told h keeps.state keeps.keeps
+            x image;
         has = keeps.has.keys;
       }))
       (tidy_none counted (Settled answer told told)) keeps;
@@ -209,6 +221,6 @@ nothing_serves {U} turn Answers a told fault h k good keeps = record {
 pub kept_keys_last : KeptKeysLast
 kept_keys_last places store t h k keeps x image = inl (record {
   map = keeps.state.map;
-  stands = keeps.keeps.rests.each x image;
+  stands = keeps_each places (limits_of store.units) (view_of store) t h keeps.state keeps.keeps x image;
   has = keeps.has.keys;
 })

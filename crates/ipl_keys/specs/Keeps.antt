@@ -5,7 +5,7 @@ use Rattle.chip_trait.specs.Told.{History, Told}
 use Rattle.ipl_rules.specs.State.{Map, State}
 use Rattle.ipl_format.specs.Sector.{sector_in}
 use Rattle.ipl_meaning.specs.Chart.{Chart}
-use Rattle.ipl_meaning.specs.Stands.{Stands}
+use Rattle.ipl_meaning.specs.Stands.{StandsIn}
 use Rattle.store_steps.specs.Keeps.{limits_of, KeepsStore}
 use Rattle.ipl_store.specs.declared.store.Store.{Store}
 use Rattle.ipl_store.specs.Calls.{view_of}
@@ -13,10 +13,10 @@ use Rattle.ipl_keys.specs.KeyState.{KeyMap, KeyState}
 use Rattle.ipl_keys.specs.Records.{HasKeys}
 use Rattle.ipl_keys.specs.Sessions.{HasKeyState}
 
--- the chart stands for records that have these keys, in the buckets of so many units
+-- the chart stands, in so many units, for records that have these keys in the buckets of them
 pub record StandsForKeys (places units : ℕ) (keys : KeyMap) (c : Chart) : Type 0 where
   pub map : Map
-  pub stands : Stands places c map
+  pub stands : StandsIn places units c map
   pub has : HasKeys units map keys
 
 -- whatever a power cut leaves, but by chance, has these keys or those

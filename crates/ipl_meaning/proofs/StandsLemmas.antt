@@ -1,13 +1,14 @@
 -- What keeps the pages keeps the map, and what a chart stands for after each step.
-use Rattle.std.proofs.Common.{◌≡◌, ◌≤◌, ◌*◌, ℕ, refl, ap, subst}
+use Rattle.std.proofs.Common.{◌≡◌, ◌≤◌, ◌*◌, ℕ, refl, ◌∙◌, ap, subst}
 use Rattle.chip_trait.specs.Chart.{with_sector}
 use Rattle.ipl_rules.specs.State.{Map}
 use Rattle.ipl_meaning.specs.Chart.{Chart}
 use Rattle.ipl_meaning.specs.Layout.{Layout, Laid}
-use Rattle.ipl_meaning.specs.Stands.{Says, Stands}
+use Rattle.ipl_meaning.specs.Stands.{Says, StandsIn, StandsBeside}
 use Rattle.ipl_meaning.specs.Steps.{KeepsPages, with_unit, with_status, with_committed}
 use Rattle.ipl_meaning.specs.Laws.{KeptPagesKeepTheMap}
 use Rattle.ipl_meaning.specs.StandingLaws.{StandsAfterIdle, StandsAfterLogs, StandsAfterCommits, StandsAfterHeaders, StandsAfterMerges, StandsAfterRenewals, StandsAfterOverflows}
+use Rattle.ipl_meaning.proofs.OnceLemmas.{same_count}
 use Rattle.ipl_meaning.proofs.IdleLemmas.{idle_places_do_not_count}
 use Rattle.ipl_meaning.proofs.WaitLemmas.{log_sectors_wait}
 use Rattle.ipl_meaning.proofs.CommitLemmas.{commit_sectors_add}
@@ -20,24 +21,34 @@ kept_pages_keep_the_map places c y it new m keeps count says = record {
 }
 
 -- a chart that is laid out, with as many units, and shows its pages as the one before did, stands for the same map
-pub stands_by : (places : ℕ) (m : Map) (c y : Chart) (it new : Layout) → Laid places y new × KeepsPages places c it y new → new.count ≡ it.count → Says places c it m → Stands places y m
-stands_by places m c y it new (laid, keeps) count says = record { layout = new; laid = laid; says = kept_pages_keep_the_map places c y it new m keeps count says }
+pub stands_by : (places : ℕ) (m : Map) (c y : Chart) (it new : Layout) → Laid places y new × KeepsPages places c it y new → new.count ≡ it.count → Says places c it m → StandsIn places it.count y m
+stands_by places m c y it new (laid, keeps) count says = record {
+  stands = record { layout = new; laid = laid; says = kept_pages_keep_the_map places c y it new m keeps count says };
+  count = count;
+}
+
+-- in as many units as another that is laid out in so many
+pub beside : (places : ℕ) (m : Map) (c y : Chart) (it : Layout) → Laid places c it → StandsIn places it.count y m → StandsBeside places c y m
+beside places m c y it laid is = record { stands = is.stands; alike = λ other too. is.count ∙ same_count places c it other laid too }
 
 pub stands_after_idle : StandsAfterIdle
-stands_after_idle places c it m p y laid says idle same nothing = stands_by places m c y it it (idle_places_do_not_count places c it p y laid idle same nothing) refl says
+stands_after_idle places c it m p y laid says idle same nothing = beside places m c y it laid (stands_by places m c y it it (idle_places_do_not_count places c it p y laid idle same nothing) refl says)
 
 pub stands_after_logs : StandsAfterLogs
-stands_after_logs places c it m u p s sector records laid says may = stands_by places m c (with_sector c p s sector) it _ (log_sectors_wait places c it u p s sector records laid may) refl says
+stands_after_logs places c it m u p s sector records laid says may =
+    beside places m c (with_sector c p s sector) it laid (stands_by places m c (with_sector c p s sector) it _ (log_sectors_wait places c it u p s sector records laid may) refl says)
 
 pub stands_after_commits : StandsAfterCommits
 stands_after_commits places c it n s sector numbers committed laid may says =
     let new = with_committed it committed in
-    stands_by places n c (with_sector c it.status s sector) new new (commit_sectors_add places c it s sector numbers committed laid may) refl says
+    beside places n c (with_sector c it.status s sector) it laid
+    (stands_by places n c (with_sector c it.status s sector) new new (commit_sectors_add places c it s sector numbers committed laid may) refl says)
 
 pub stands_after_headers : StandsAfterHeaders
 stands_after_headers places c it n u p fresh laid may says =
     let new = with_unit it u fresh in
-    stands_by places n c (with_sector c p 0 fresh.head) new new (headers_switch places c it u p fresh laid may) refl says
+    beside places n c (with_sector c p 0 fresh.head) it laid
+    (stands_by places n c (with_sector c p 0 fresh.head) new new (headers_switch places c it u p fresh laid may) refl says)
 
 pub stands_after_merges : StandsAfterMerges
 stands_after_merges places c it m u p fresh laid says may merged =
@@ -48,7 +59,9 @@ pub stands_after_renewals : StandsAfterRenewals
 stands_after_renewals places c it m p head committed laid says may keeps =
     let new = with_status it p head committed in
     let same = kept_numbers_keep_pages places c it p head committed keeps in
-    stands_by places m c (with_sector c p 0 head) new new (status_headers_switch places c it p head committed laid may) refl (kept_pages_keep_the_map places c c it new m same refl says)
+    beside places m c (with_sector c p 0 head) it laid
+    (stands_by places m c (with_sector c p 0 head) new new (status_headers_switch places c it p head committed laid may) refl (kept_pages_keep_the_map places c c it new m same refl says))
 
 pub stands_after_overflows : StandsAfterOverflows
-stands_after_overflows places c it m p head laid says may = stands_by places m c (with_sector c p 0 head) it it (overflow_headers_wait places c it p head laid may) refl says
+stands_after_overflows places c it m p head laid says may =
+    beside places m c (with_sector c p 0 head) it laid (stands_by places m c (with_sector c p 0 head) it it (overflow_headers_wait places c it p head laid may) refl says)

@@ -8,20 +8,28 @@ use Rattle.ipl_rules.specs.State.{Map}
 use Rattle.ipl_format.specs.Sector.{sector_in}
 use Rattle.ipl_meaning.specs.Chart.{Chart, chart_of}
 use Rattle.ipl_meaning.specs.Layout.{Layout, Laid}
-use Rattle.ipl_meaning.specs.Stands.{Stands}
+use Rattle.ipl_meaning.specs.Stands.{StandsIn}
 use Rattle.ipl_meaning.specs.Steps.{IsIdle}
 
 -- what a chip with this history holds
 abbrev pub now : History → Chart
 now h = chart_of (held h.start h.story)
 
--- whatever a power cut leaves, but by chance, stands for the map
+-- whatever a power cut leaves, but by chance, stands for the map, laid out in so many units
+abbrev pub EachStandsIn : ℕ → ℕ → Map → History → Type 0
+EachStandsIn places units m h = EachMeans sector_in (λ c. StandsIn places units c m) h.start h.story
+
+-- in as many units as all else that a power cut leaves then
 abbrev pub EachStands : ℕ → Map → History → Type 0
-EachStands places m h = EachMeans sector_in (λ c. Stands places c m) h.start h.story
+EachStands places m h = (units : ℕ) × EachStandsIn places units m h
 
 -- it stands for the one map or for the other
+abbrev pub EachStandsEitherIn : ℕ → ℕ → Map → Map → History → Type 0
+EachStandsEitherIn places units m n h =
+    EachMeans sector_in (λ c. StandsIn places units c m ⊎ StandsIn places units c n) h.start h.story
+
 abbrev pub EachStandsEither : ℕ → Map → Map → History → Type 0
-EachStandsEither places m n h = EachMeans sector_in (λ c. Stands places c m ⊎ Stands places c n) h.start h.story
+EachStandsEither places m n h = (units : ℕ) × EachStandsEitherIn places units m n h
 
 -- nothing that counts stands at a place that the story found worn
 abbrev pub WornAreIdle : ℕ → Story → Chart → Type 0

@@ -32,3 +32,13 @@ pub record Stands (places : ℕ) (c : Chart) (m : Map) : Type 0 where
   pub layout : Layout
   pub laid : Laid places c layout
   pub says : Says places c layout m
+
+-- it does so in so many units
+pub record StandsIn (places units : ℕ) (c : Chart) (m : Map) : Type 0 where
+  pub stands : Stands places c m
+  pub count : stands.layout.count ≡ units
+
+-- the second chart stands for the map, laid out in as many units as the first
+pub record StandsBeside (places : ℕ) (c y : Chart) (m : Map) : Type 0 where
+  pub stands : Stands places y m
+  pub alike : (it : Layout) → Laid places c it → stands.layout.count ≡ it.count

@@ -4,14 +4,15 @@ use Rattle.chip_trait.specs.declared.event.Event.TheVariants.{Read, Program, Era
 use Rattle.chip_trait.specs.Story.{Story, Contents, blank, held}
 use Rattle.chip_trait.specs.Image.{is_open, is_worn, IsNoChanceImage, IsQuiet, IsClosed, IsWhole}
 use Rattle.chip_trait.specs.Chart.{with_sector, says}
-use Rattle.chip_trait.specs.Told.{History, Told, adds}
+use Rattle.chip_trait.specs.Moment.{AtEachMoment}
+use Rattle.chip_trait.specs.Told.{History, Told, adds, adds_all}
 use Rattle.ipl_rules.specs.State.{Map}
 use Rattle.ipl_format.specs.Sector.{Sector, sector_in}
 use Rattle.ipl_format.specs.Record.{Record}
 use Rattle.ipl_meaning.specs.Chart.{Chart, chart_of}
 use Rattle.ipl_meaning.specs.Layout.{Shape, Layout, Laid}
-use Rattle.ipl_meaning.specs.Stands.{Stands}
-use Rattle.ipl_meaning.specs.Rests.{now, EachStands, EachStandsEither, WornAreIdle, StoryRests, Rests}
+use Rattle.ipl_meaning.specs.Stands.{Stands, StandsBeside}
+use Rattle.ipl_meaning.specs.Rests.{now, EachStands, EachStandsEither, EachStandsEitherIn, WornAreIdle, StoryRests, Rests}
 use Rattle.ipl_meaning.specs.Steps.{IsPart, IsIdle, MayLog, MayCommit, MaySeal, with_committed, with_unit, with_status}
 
 -- the sector is blank, and was neither programmed nor erased since the last barrier, and its place isn't worn
@@ -91,13 +92,27 @@ abbrev pub ProgramsLead : Type 0
 ProgramsLead =
     (places : ℕ) (m n : Map) (h : History) (p s : ℕ) (bytes : List ℕ) (sector : Sector)
     → StoryRests places m h → IsClosed h.story → IsUntouched h p s → sector_in bytes ≡ Some sector
-    → Stands places (with_sector (now h) p s sector) n → WornAreIdle places h.story (with_sector (now h) p s sector)
+    → StandsBeside places (now h) (with_sector (now h) p s sector) n → WornAreIdle places h.story (with_sector (now h) p s sector)
     → EachStandsEither places m n (adds (Program p s bytes) h) × Stands places (now (adds (Program p s bytes) h)) n
     × WornAreIdle places (Program p s bytes ∷ h.story) (now (adds (Program p s bytes) h))
+
+-- what stands for the one map stands for one of two
+abbrev pub OneIsEither : Type 0
+OneIsEither = (places : ℕ) (m n : Map) (h : History) → EachStands places m h → EachStandsEither places m n h
 
 -- where both are one, it is kept
 abbrev pub EitherIsKept : Type 0
 EitherIsKept = (places : ℕ) (m : Map) (h : History) → EachStandsEither places m m h → EachStands places m h
+
+-- ---- how many units there are
+
+-- At each moment of some events what a power cut leaves stands for one of two maps: it does so in as many units as the
+-- chart before them was laid out in.
+abbrev pub MomentsKeepUnits : Type 0
+MomentsKeepUnits =
+    (places : ℕ) (m n : Map) (h : History) (it : Layout) (added : Story) → Laid places (now h) it
+    → AtEachMoment (λ e. EachStandsEither places m n (adds_all e h)) added
+    → AtEachMoment (λ e. EachStandsEitherIn places it.count m n (adds_all e h)) added
 
 -- ---- idle places, as units and the status move
 

@@ -1,7 +1,7 @@
 //! The laws of what the sectors of a chip mean.
 ghost use Rattle.ipl_meaning.specs.Laws.{StandsOnce, LaidOnce, AllowedSectorsSuffice, KeptPagesKeepTheMap, IdlePlacesDoNotCount, LossesDoNotCount, OutsideDoesNotCount, LogSectorsWait, CommitSectorsAdd, HeadersSwitch, MergesKeepPages, SameUnitsKeepPages, StatusHeadersSwitch, KeptNumbersKeepPages, OverflowHeadersWait, FormattedChipsAreEmpty};
 ghost use Rattle.ipl_meaning.specs.StandingLaws.{StandsAfterIdle, StandsAfterLogs, StandsAfterCommits, StandsAfterHeaders, StandsAfterMerges, StandsAfterRenewals, StandsAfterOverflows};
-ghost use Rattle.ipl_meaning.specs.StoryLaws.{QuietImagesAreParts, HeldStands, RestsOnce, ChipsRestOnce, ClosedRests, BarriersRest, BarriersKeepEither, ReadsKeep, SaysKeep, WornsKeep, ErasesKeep, LogSectorsKeep, AsidesKeep, ProgramsLead, EitherIsKept, WornByLayout, IdleAfterCommits, IdleAfterHeaders, IdleAfterRenewals, IdleAfterOverflows};
+ghost use Rattle.ipl_meaning.specs.StoryLaws.{QuietImagesAreParts, HeldStands, RestsOnce, ChipsRestOnce, ClosedRests, BarriersRest, BarriersKeepEither, ReadsKeep, SaysKeep, WornsKeep, ErasesKeep, LogSectorsKeep, AsidesKeep, ProgramsLead, OneIsEither, EitherIsKept, MomentsKeepUnits, WornByLayout, IdleAfterCommits, IdleAfterHeaders, IdleAfterRenewals, IdleAfterOverflows};
 ghost use Rattle.ipl_meaning.specs.RecordLaws.{TheLastGivesTheValue, MergesCarryTheLast, CommitsApplyTheLast, PacksAreTheList, PacksFit, FewAreCarried, TextsHaveSizes, ShortValuesHaveRoom};
 ghost use Rattle.ipl_meaning.specs.CounterLaws.{NewGenerationsWakeNothing, NewSerialsAreGreatest, NewNumbersWait, LogSectorsKeepTheCounter, CommitSectorsKeepTheCounter, HeadersKeepTheCounter, BarePlacesKeepTheCounter};
 ghost use Rattle.ipl_meaning.specs.TableLaws.{FreePlacesAreIdle, LogSectorsMayGoHome, LogSectorsMayGoElsewhere, CommitSectorsMayGo, HeadersMayGo, StatusHeadersMayGo, OverflowHeadersMayGo, FirstTablesMirror};
@@ -39,7 +39,13 @@ pub fn story_laws()
     ensures log_sectors { LogSectorsKeep }
     ensures asides { AsidesKeep }
     ensures leads { ProgramsLead }
+    ensures one { OneIsEither }
     ensures either { EitherIsKept }
+{}
+
+/// A power cut leaves as many units as there were, at each moment of what keeps a map or leads to another.
+pub fn unit_laws()
+    ensures { MomentsKeepUnits }
 {}
 
 /// An idle place stays so, as units and the status move, so that worn places are idle.

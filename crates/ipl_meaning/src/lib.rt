@@ -15,5 +15,5 @@ mod laws;
 pub use laws::{
     agreeing_laws, clean_laws, counter_laws, following_laws, format_laws, header_laws, idle_laws,
     log_laws, meaning_laws, moving_laws, record_laws, resting_laws, standing_laws, story_laws,
-    table_laws, worn_laws,
+    table_laws, unit_laws, worn_laws,
 };

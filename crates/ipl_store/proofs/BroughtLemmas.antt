@@ -139,6 +139,7 @@ moves_then next n m most old mid new before between after done did same turned c
     record {
       leads = turns.leads;
       tidy = turns.tidy;
+      wears = turns.wears;
       order = turns.order;
       units = turns.units;
       limit = turns.pins.limit;

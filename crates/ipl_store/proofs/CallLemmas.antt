@@ -21,6 +21,8 @@ use Rattle.unit_io.specs.Charts.{Charts}
 use Rattle.unit_io.specs.Costs.{Spends}
 use Rattle.unit_io.specs.Reads.{OfContents}
 use Rattle.place_taking.specs.Spending.{is_worn_out}
+use Rattle.place_taking.specs.Wear.{Wears}
+use Rattle.place_taking.proofs.WearLemmas.{nothing_wears, wears_are_joined}
 use Rattle.merge_rules.specs.Faults.{FailsByChipAlone}
 use Rattle.selective_merge.specs.Throughout.{ChartsThroughout}
 use Rattle.steps.specs.Steps.{Tidies}
@@ -44,11 +46,21 @@ use Rattle.ipl_store.specs.Shown.{CostsOnePage, IsUsedLastIn}
 
 -- ---- before anything is done
 
+-- nothing is worn where nothing is done
+idle_wears : {T : Type 0} (store : Store) (told : Told) (result : Result T StoreFault)
+    → ends_worn_out result ≡ false
+    → Wears (tables_in store.transactions.pages) (tables_in store.transactions.pages) (is_ok result)
+    (ends_worn_out result) told told
+idle_wears store told result calm =
+    let t = tables_in store.transactions.pages in
+    subst (λ (worn_out : Bool). Wears t t (is_ok result) worn_out told told) (sym calm)
+    (nothing_wears t t (is_ok result) told (record { retired = refl; status = refl }))
+
 pub calls_refused : {T : Type 0} (early : Option StoreFault) (next : State → State) (most : ℕ)
     (store : Store) (told : Told) (result : Result T StoreFault) (fault : StoreFault)
-    → early ≡ Some fault → result ≡ Err fault → IsSound told.places store
+    → early ≡ Some fault → tells_wear fault ≡ false → result ≡ Err fault → IsSound told.places store
     → Calls early next most store told result store told
-calls_refused early next most store told result fault is answer sound = record {
+calls_refused early next most store told result fault is calm answer sound = record {
   refuses = λ first also.
       let same : Some fault ≡ Some first = sym is ∙ also in
       let one : fault ≡ first = cc same in (answer ∙ ap Err one, refl, refl);
@@ -56,6 +68,7 @@ calls_refused early next most store told result fault is answer sound = record {
   sound = sound;
   units = refl;
   tidy = tables_none (tables_in store.transactions.pages) result told;
+  wears = idle_wears store told result (ap ends_worn_out answer ∙ calm);
   counts = counts_none told;
 }
 
@@ -75,6 +88,11 @@ pub early_unworn : (store : Store) (refusal : Option Refusal) (fault : StoreFaul
     → early_fault (entry_fault store) refusal ≡ Some fault → tells_wear fault ≡ false
 early_unworn store refusal fault is =
     unworn store.down (nat_lt LAST_NUMBER (counter_of store)) refusal fault is
+
+-- nor does that of a call which draws no number
+pub ended_unworn : (store : Store) (refusal : Option Refusal) (fault : StoreFault)
+    → early_fault (down_fault store) refusal ≡ Some fault → tells_wear fault ≡ false
+ended_unworn store refusal fault is = unworn store.down false refusal fault is
 
 -- what is known where a call is let in
 passed_down : (down : Bool) (refusal : Option Refusal)
@@ -112,6 +130,8 @@ pub record Moves (next : State → State) (most : ℕ) (old : Transactions) (bef
     (done : Result (Unit {0}) ChipFault) (new : Transactions) (after : Told) : Type 0 where
   pub leads : LeadsTo next (memory_in old) before done (memory_in new) after
   pub tidy : Tidies (tables_in old.pages) done (tables_in new.pages) before after
+  pub wears : Wears (tables_in old.pages) (tables_in new.pages) (is_ok done) (is_worn_out done) before
+      after
   pub order : IsInOrder before.places new
   pub units : length new.pages.parts.directory.current ≡ length old.pages.parts.directory.current
   pub limit : new.pages.pool.limit ≡ old.pages.pool.limit
@@ -128,6 +148,7 @@ pub writes_move : (next : State → State) (most : ℕ) (old new : Transactions)
 writes_move next most old new before after done did complete faults = record {
   leads = did.leads;
   tidy = did.tidy;
+  wears = did.wears;
   order = did.order;
   units = did.units;
   limit = did.pins.limit;
@@ -156,6 +177,10 @@ memory_moves next most old new told did order least drawn = record {
   leads = did.leads told;
   tidy = tables_fewer {T = Unit {0}} {E = ChipFault} (tables_in old.pages) (tables_in old.pages) (tables_in new.pages) (Ok tt) told
       told did.fewer (tables_none {T = Unit {0}} {E = ChipFault} (tables_in old.pages) (Ok tt) told);
+  wears = nothing_wears (tables_in old.pages) (tables_in new.pages) true told (record {
+    retired = ap (λ (d : Places). d.retired) did.directory;
+    status = did.status;
+  });
   order = did.order told.places order;
   units = ap (λ (d : Places). length d.current) did.directory;
   limit = did.pins.limit;
@@ -175,6 +200,7 @@ pub pages_move : (most : ℕ) (old : Transactions) (pages : Pages) (before after
 pages_move most old pages before after result order did complete faults = record {
   leads = keepers_lead_still (memory_in old) _ _ result before after did.keeps;
   tidy = did.tidy;
+  wears = did.wears;
   order = record { ready = did.ready; active = did.active ∙ order.active };
   units = did.units;
   limit = did.pins.limit;
@@ -318,6 +344,14 @@ module _ (next : State → State) (most : ℕ) (old : Store) (t : Transactions) 
         (subst (λ (it : Transactions).
         Tidies (tables_in old.transactions.pages) done (tables_in it.pages) before after) (sym moved)
         moves.tidy);
+    wears = subst (λ (worn_out : Bool). Wears (tables_in old.transactions.pages)
+        (tables_in new.transactions.pages) (is_ok result) worn_out before after)
+        (sym (ended_worn done old.down new.down result ends))
+        (subst (λ (ok : Bool). Wears (tables_in old.transactions.pages)
+        (tables_in new.transactions.pages) ok (is_worn_out done) before after)
+        (same_answer done old.down new.down result ends)
+        (subst (λ (it : Transactions). Wears (tables_in old.transactions.pages) (tables_in it.pages)
+        (is_ok done) (is_worn_out done) before after) (sym moved) moves.wears));
     counts = moves.accounts.counts;
   }
 
@@ -355,6 +389,7 @@ let_in_calls early next most old before result new after none calls = record {
   sound = calls.sound;
   units = calls.units;
   tidy = calls.tidy;
+  wears = calls.wears;
   counts = calls.counts;
 }
 
@@ -380,6 +415,7 @@ calls_as early next most old before v w new after did = record {
   sound = did.sound;
   units = did.units;
   tidy = did.tidy;
+  wears = did.wears;
   counts = did.counts;
 }
 
@@ -405,6 +441,7 @@ calls_fail_as early next most old before fault new after did = record {
   sound = did.sound;
   units = did.units;
   tidy = did.tidy;
+  wears = did.wears;
   counts = did.counts;
 }
 
@@ -421,6 +458,8 @@ idle_calls most store told early sound up none =
           told (nothing_keeps_states (memory_in store.transactions).tables
           (memory_in store.transactions).frames told);
       tidy = tables_none {T = Unit {0}} {E = ChipFault} (tables_in store.transactions.pages) (Ok tt) told;
+      wears = nothing_wears (tables_in store.transactions.pages) (tables_in store.transactions.pages)
+          true told (record { retired = refl; status = refl });
       order = sound.order up;
       units = refl;
       limit = refl;
@@ -516,10 +555,13 @@ ended_costs old new t kept before after done result rest ends costs =
 -- what leaves the map leaves one of two
 kept_either : (next : State → State) (places : ℕ) (state : State) (k : History)
     → TurnsMapOf (λ same. same) places state k → TurnsMapOf next places state k
-kept_either next places state k each x image = elim (each x image) [
-  | inl is ↦ inl is
-  | inr is ↦ inl is
-]
+kept_either next places state k each = (
+  each.0,
+  λ x image. elim (each.1 x image) [
+    | inl is ↦ inl is
+    | inr is ↦ inl is
+  ],
+)
 
 pub calls_joined : (early : Option StoreFault) (next : State → State) (most : ℕ)
     (old mid : Store) (t : Transactions) (before after : Told) → early ≡ None
@@ -550,6 +592,8 @@ calls_joined early next most old mid t before after none up first did drawn = re
   tidy = tables_then {U = Unit {0}} {F = StoreFault} (Unit {0}) StoreFault (tables_in old.transactions.pages)
       (tables_in mid.transactions.pages) (tables_in t.pages) tt (Ok tt) before after after first.counts
       first.tidy second.tidy;
+  wears = wears_are_joined (tables_in old.transactions.pages) (tables_in mid.transactions.pages)
+      (tables_in t.pages) true false before after after first.wears second.wears;
   counts = first.counts;
 }
   where
@@ -581,6 +625,7 @@ failed_calls early next most old before fault new after none calls = record {
   sound = calls.sound;
   units = calls.units;
   tidy = calls.tidy;
+  wears = calls.wears;
   counts = calls.counts;
 }
 

@@ -205,6 +205,7 @@ repooled_calls early next most old before mid new after none pool calls =
       };
       units = calls.units;
       tidy = calls.tidy;
+      wears = calls.wears;
       counts = calls.counts;
     })
   where

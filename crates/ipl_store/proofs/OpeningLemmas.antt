@@ -1,5 +1,6 @@
 -- What an opening of a chip leaves of a store.
 use Rattle.std.proofs.Common.{◌≡◌, inl, inr, ℕ, ◌+◌, ◌<◌, ◌≤◌, ◌^◌, Bool, List, Option, Some, None, Ok, get_or, length, slice_index_or, count_by, replicate, refl, sym, ◌∙◌, ap, subst, arith}
+use Rattle.std.specs.FinMap.{empty}
 use Rattle.std.specs.Option.{option_map}
 use Rattle.std.proofs.lemmas.Bool.{cases_lt}
 use Rattle.std.proofs.lemmas.List.{get_or-replicate, get_or_past, length-replicate}
@@ -37,7 +38,7 @@ use Rattle.status_renewal.specs.Recovers.{RecoversTold, RecoversInSteps, HoldsOp
 use Rattle.status_renewal.proofs.ReadyLemmas.{layouts_say}
 use Rattle.pending_writes.proofs.FirstLemmas.{empty_slots_are_at_rest}
 use Rattle.pending_writes.proofs.MemoryFitLemmas.{openings_fit}
-use Rattle.store_steps.specs.Advances.{Memory, memory_of, LeadsTo}
+use Rattle.store_steps.specs.Advances.{Memory, memory_of, MemoryFits, LeadsTo}
 use Rattle.store_steps.specs.Laws.{IsReopened}
 use Rattle.store_steps.specs.Keeps.{View, limits_of, ShowsState, KeepsStore, opened_with}
 use Rattle.store_steps.proofs.AdvanceLemmas.{same_held}
@@ -179,6 +180,13 @@ module _ (places units : ℕ) (t : Tables) (old new : Told)
         says = says;
       }
 
+  -- whatever the pages say, the tables fit the chart that they mirror
+  pub opened_fits : (c : Chart) (it : Layout) → Mirrors places c it t
+      → MemoryFits places c it (opened_with units t (replicate 32 None)).memory (at_rest empty)
+  opened_fits c it mirrors =
+      openings_fit places c it t (replicate 32 None) empty mirrors holds.known.none_lost holds.active
+      none_open (empty_slots_are_at_rest empty)
+
   -- and over a history then that rests on it
   pub opened_keeps : (m : Map) (k : History) (x : Contents) → old.contents ≡ Some x
       → Stands places (chart_of x) m → IsSteady k new → StoryRests places m k
@@ -248,6 +256,19 @@ module _ (places : ℕ) (store : Store) (made : IsMade places store) (fresh : Is
   fresh_opens old new tells steps number left = record {
     fresh = fresh;
     units = opened_counts places store.units t old new tells steps holds many;
+    anew = λ x told.
+        let (y, then, has) = tells x told in (
+          y,
+          then,
+          record {
+            layout = has.now;
+            fits = subst (λ (v : View). MemoryFits places (chart_of y) has.now v.memory (at_rest empty))
+                (fresh_view store fresh)
+                (opened_fits places store.units t old new tells steps holds many (chart_of y) has.now
+                has.mirrors);
+            lists = has.lists;
+          },
+        );
     shows = λ m x told stands y then.
         subst (λ (v : View). ShowsState places v (at_rest m) y) (fresh_view store fresh)
         (opened_shows places store.units t old new tells steps holds many m x y told stands then);

@@ -80,7 +80,9 @@ refused_put s n bytes old before fault is sound =
     subst (λ (found : Result Bool StoreFault). Puts s n bytes old before found old before)
     (sym (early_found old s n bytes fault is)) (record {
       calls = calls_refused (put_fault old s n bytes) (put_next s n bytes (Err fault)) 14 old before
-          (Err fault) fault is refl sound;
+          (Err fault) fault is (early_unworn old
+          (sessions_refuse_put (limits_of old.units) old.transactions.sessions s n bytes) fault is) refl
+          sound;
       steps = λ none. tt;
       full = λ none. tt;
       holds = nothing_keeps old.transactions.pages.pool;

@@ -157,7 +157,7 @@ pub refused_fetches : (early : Option StoreFault) (next : State → State) (n : 
     (told : Told) (fault : StoreFault) → early ≡ Some fault → tells_wear fault ≡ false
     → IsSound told.places store → Fetches early next n store told (Err fault) store told
 refused_fetches early next n store told fault is unworn sound = record {
-  calls = calls_refused early next 14 store told (Err fault) fault is refl sound;
+  calls = calls_refused early next 14 store told (Err fault) fault is unworn refl sound;
   holds = nothing_keeps store.transactions.pages.pool;
   names = tt;
   used = tt;

@@ -1,5 +1,5 @@
 -- What a contract sees of a store, and what each of its calls leaves.
-use Rattle.std.specs.Prelude.{ℕ, ◌≡◌, ◌≤◌, ◌+◌, ◌-◌, ◌||◌, ◌&&◌, nat_le, nat_lt, Bool, not, true, false, ◌∷◌, [], length, Option, Some, None, Result, Ok, Err, MatchResult, IfErr, if◌then◌else◌}
+use Rattle.std.specs.Prelude.{ℕ, ◌≡◌, ◌≤◌, ◌+◌, ◌-◌, ◌||◌, ◌&&◌, nat_le, nat_lt, Bool, not, true, false, ◌∷◌, [], length, Option, Some, None, Result, Ok, Err, MatchResult, IfErr, is_ok, if◌then◌else◌}
 use Rattle.chip_trait.specs.Told.{Told, Counts}
 use Rattle.ipl_base.specs.declared.limits.TheConstants.{PAGES}
 use Rattle.ipl_base.specs.Calls.{IsFailedCall}
@@ -22,6 +22,7 @@ use Rattle.store_trait.specs.Keeping.{LAST_NUMBER}
 use Rattle.store_steps.specs.Advances.{Memory, MemoryFits, LeadsTo}
 use Rattle.store_steps.specs.Keeps.{View, ShowsState}
 use Rattle.place_taking.specs.Spending.{tells_worn}
+use Rattle.place_taking.specs.Wear.{Wears}
 use Rattle.steps.specs.Steps.{Tidies}
 use Rattle.page_frames.specs.Faulty.{FailsByPage}
 use Rattle.page_frames.specs.Pages.{tables_in, PageCause}
@@ -184,7 +185,7 @@ KeepsHolds old new = KeepsPins old.transactions.pages.pool new.transactions.page
 
 -- A call of a store: it ends early with this fault, and nothing was done; or it does what it is
 -- for. The store is sound either way, with as many units, and whatever the chip tells, its events are
--- lawful by the tables.
+-- lawful by the tables, and what is retired besides was found worn.
 pub record Calls {T : Type 0} (early : Option StoreFault) (next : State → State) (most : ℕ)
     (old : Store) (before : Told) (result : Result T StoreFault) (new : Store) (after : Told)
     : Type 0 where
@@ -195,4 +196,6 @@ pub record Calls {T : Type 0} (early : Option StoreFault) (next : State → Stat
   pub units : new.units ≡ old.units
   pub tidy : Tidies (tables_in old.transactions.pages) result (tables_in new.transactions.pages)
       before after
+  pub wears : Wears (tables_in old.transactions.pages) (tables_in new.transactions.pages) (is_ok result)
+      (ends_worn_out result) before after
   pub counts : Counts before after

@@ -11,7 +11,9 @@ use Rattle.ipl_base.specs.Places.{IsGeometry, KeepsUnits}
 use Rattle.ipl_rules.specs.Operations.{after_restart}
 use Rattle.ipl_rules.specs.State.{Map, at_rest}
 use Rattle.ipl_meaning.specs.Agrees.{IsTidy}
-use Rattle.ipl_meaning.specs.Chart.{chart_of}
+use Rattle.std.specs.FinMap.{empty}
+use Rattle.ipl_meaning.specs.Chart.{Chart, chart_of}
+use Rattle.ipl_meaning.specs.Layout.{Layout}
 use Rattle.ipl_meaning.specs.Rests.{StoryRests}
 use Rattle.ipl_meaning.specs.Stands.{Stands}
 use Rattle.ipl_meaning.specs.Tables.{Tables, IsCountedClean}
@@ -19,17 +21,18 @@ use Rattle.opening_rules.specs.Chosen.{units_at}
 use Rattle.opening_rules.specs.Faults.{greatest_found}
 use Rattle.restart.specs.Bytes.{ReadsBytes}
 use Rattle.unit_io.specs.Accounts.{Accounts}
+use Rattle.unit_io.specs.Charts.{Charts}
 use Rattle.unit_io.specs.Costs.{Spends}
 use Rattle.unit_io.specs.Leads.{IsSteady}
 use Rattle.unit_io.specs.Reads.{OfContents}
-use Rattle.status_renewal.specs.Passes.{HasErased}
+use Rattle.status_renewal.specs.Passes.{HasErased, ListsRetired}
 use Rattle.steps.specs.Steps.{TidyWork}
 use Rattle.status_renewal.specs.Recovers.{CompletesOpening, ErasesOpening, RecoversTold, LooksAtFaults, RecoversInSteps, IsNowhere, OpeningCause}
-use Rattle.store_steps.specs.Advances.{Memory, LeadsTo}
+use Rattle.store_steps.specs.Advances.{Memory, MemoryFits, LeadsTo}
 use Rattle.store_steps.specs.Keeps.{limits_of, ShowsState, KeepsStore}
 use Rattle.page_frames.specs.Pages.{tables_in}
 use Rattle.ipl_store.specs.declared.store.Store.{Store}
-use Rattle.ipl_store.specs.Calls.{view_of, counter_of, IsSound}
+use Rattle.ipl_store.specs.Calls.{memory_of_store, view_of, counter_of, IsSound}
 
 -- the store isn't down, no session is open, and no page is in a frame
 pub record IsFresh (store : Store) : Type 0 where
@@ -37,12 +40,21 @@ pub record IsFresh (store : Store) : Type 0 where
   pub idle : store.transactions.sessions ≡ replicate SESSIONS None
   pub empty : store.transactions.pages.pool.buffers.slots ≡ []
 
--- A store of which a chip was opened. It has as many units as its status header says. Where the
+-- The memory fits the chart, with no session open, and the header of the status place lists exactly the
+-- places that are retired.
+pub record FitsAnew (places : ℕ) (store : Store) (y : Chart) : Type 0 where
+  pub layout : Layout
+  pub fits : MemoryFits places y layout (memory_of_store store) (at_rest empty)
+  pub lists : ListsRetired (tables_in store.transactions.pages) y
+
+-- A store of which a chip was opened. It has as many units as its status header says, and over a chip
+-- that tells what it holds its memory fits that, whatever the pages say. Where the
 -- contents before stood for a map, its memory and the contents then show that map; and it keeps it over
 -- each history then that rests on it, and leaves clean what the tables count as clean.
 pub record Opens (places : ℕ) (old : Told) (store : Store) (new : Told) : Type 0 where
   pub fresh : IsFresh store
   pub units : OfContents old (λ x. store.units ≡ units_at (chart_of x) places)
+  pub anew : Charts (λ c y. FitsAnew places store y) old new
   pub shows : (m : Map) → OfContents old (λ x. Stands places (chart_of x) m
       → OfContents new (ShowsState places (view_of store) (at_rest m)))
   pub keeps : (m : Map) (k : History) → OfContents old (λ x. Stands places (chart_of x) m

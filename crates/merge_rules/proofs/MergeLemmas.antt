@@ -15,7 +15,7 @@ use Rattle.ipl_meaning.specs.Found.{MentionsBelow, IsPlaceBelow}
 use Rattle.ipl_meaning.specs.Last.{last_that}
 use Rattle.ipl_meaning.specs.Layout.{Entry, Shape, Layout, Laid, IsEntry, ReadsWell, records_of}
 use Rattle.ipl_meaning.specs.Mirrors.{Mirrors}
-use Rattle.ipl_meaning.specs.Stands.{Says, Stands}
+use Rattle.ipl_meaning.specs.Stands.{Says, StandsBeside}
 use Rattle.ipl_meaning.specs.Steps.{KeepsPages, AllWait, with_unit, entry_at, IsApplied, IsMerged}
 use Rattle.ipl_meaning.specs.Tables.{Tables}
 use Rattle.ipl_meaning.specs.TableSteps.{IsReady, IsMoved, TellsShape, taken, with_next}
@@ -24,7 +24,7 @@ use Rattle.ipl_meaning.proofs.LastLemmas.{merges_carry_the_last}
 use Rattle.ipl_meaning.proofs.MergeFollowLemmas.{tables_follow_merges}
 use Rattle.ipl_meaning.proofs.MirrorLemmas.{headers_may_go}
 use Rattle.ipl_meaning.proofs.OnceLemmas.{reads_once}
-use Rattle.ipl_meaning.proofs.StandsLemmas.{stands_by}
+use Rattle.ipl_meaning.proofs.StandsLemmas.{stands_by, beside}
 use Rattle.ipl_meaning.proofs.SwitchLemmas.{headers_switch, merges_keep_pages, same_units_keep_pages, same_applied}
 use Rattle.unit_io.proofs.HeldLemmas.{held_pages_read_well}
 use Rattle.merge_rules.specs.Laws.{FilledPlacesAreReady, StandsAfterFilling, TablesFollowFilling, MergesKeepTheLast}
@@ -192,10 +192,11 @@ module _ (places : ℕ) (c y : Chart) (it : Layout) (t : Tables) (u p : ℕ) (he
       (same_units_keep_pages places y it u fresh (merges_keep_pages y it u fresh merged)
       v page now low few (kept v page now low few shows))
 
-  stands_then : (m : Map) → Says places c it m → Stands places (with_sector y p 0 head) m
+  stands_then : (m : Map) → Says places c it m → StandsBeside places y (with_sector y p 0 head) m
   stands_then m says =
-      stands_by places m c (with_sector y p 0 head) it (with_unit it u fresh)
-      (switched.0, keeps) refl says
+      beside places m y (with_sector y p 0 head) it mirrors_taken.laid
+      (stands_by places m c (with_sector y p 0 head) it (with_unit it u fresh)
+      (switched.0, keeps) refl says)
 
   -- ---- the tables then
 

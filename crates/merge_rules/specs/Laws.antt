@@ -8,7 +8,7 @@ use Rattle.ipl_meaning.specs.Chart.{Chart}
 use Rattle.ipl_meaning.specs.Last.{last_that}
 use Rattle.ipl_meaning.specs.Layout.{Shape, Layout, records_of}
 use Rattle.ipl_meaning.specs.Mirrors.{Mirrors}
-use Rattle.ipl_meaning.specs.Stands.{Says, Stands}
+use Rattle.ipl_meaning.specs.Stands.{Says, StandsBeside}
 use Rattle.ipl_meaning.specs.Steps.{KeepsPages, IsMerged}
 use Rattle.ipl_meaning.specs.Tables.{Tables}
 use Rattle.ipl_meaning.specs.TableSteps.{IsReady, with_next, taken, IsMoved, TellsShape}
@@ -31,7 +31,7 @@ StandsAfterFilling =
     (places : ℕ) (c y : Chart) (it : Layout) (t : Tables) (u p : ℕ)
     (head : Sector) (pieces : List ℕ) (serial : ℕ) (m : Map)
     → MayMerge places c y it t u p head pieces serial → Says places c it m
-    → Stands places (with_sector y p 0 head) m
+    → StandsBeside places y (with_sector y p 0 head) m
 
 -- and the tables mirror it, once they have the unit at its new place
 abbrev pub TablesFollowFilling : Type 0

@@ -8,6 +8,7 @@ pub mod LiveLemmas
 pub mod NumberLemmas
 pub mod PartLemmas
 pub mod LaidLemmas
+pub mod MomentLemmas
 pub mod NoFaultLemmas
 pub mod ContentsLemmas
 pub mod FaultLemmas

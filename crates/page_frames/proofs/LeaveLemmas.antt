@@ -1,5 +1,5 @@
 -- A page that leaves its frame once its records are written out.
-use Rattle.std.proofs.Common.{◌≡◌, ◌≤◌, ◌<◌, ◌+◌, ℕ, [], length, Some, None, Ok, refl, sym, ◌∙◌, ap, subst, inl, inr, arith}
+use Rattle.std.proofs.Common.{◌≡◌, ◌≤◌, ◌<◌, ◌+◌, ℕ, true, [], length, Some, None, Ok, refl, sym, ◌∙◌, ap, subst, inl, inr, arith}
 use Rattle.std.specs.Option.{option_map}
 use Rattle.chip_trait.specs.Told.{Told}
 use Rattle.chip_trait.proofs.CountsLemmas.{counts_none}
@@ -12,6 +12,7 @@ use Rattle.pending_writes.proofs.MemoryLemmas.{cases_page}
 use Rattle.pending_writes.proofs.SameLemmas.{frame_here, frame_other}
 use Rattle.steps.specs.Steps.{Tidies}
 use Rattle.steps.proofs.TablesLemmas.{tables_none}
+use Rattle.place_taking.proofs.WearLemmas.{nothing_wears}
 use Rattle.store_steps.specs.Advances.{KeepsState}
 use Rattle.merge_rules.specs.Known.{KnowsPlaces}
 use Rattle.selective_merge.specs.Moving.{tables_of}
@@ -52,6 +53,10 @@ gone_upholds u page f old new t ready same there empty is pins = record {
       (evictions_keep_states (tables_in old) (frames_in old) u page f t there empty));
   tidy = subst (λ parts. Tidies {T = Unit {0}} {E = ChipFault} (tables_in old) (Ok tt) (tables_of parts) t t)
       (sym same) (tables_none {T = Unit {0}} {E = ChipFault} (tables_in old) (Ok tt) t);
+  wears = nothing_wears (tables_in old) (tables_in new) true t (record {
+    retired = ap (λ parts. parts.directory.retired) same;
+    status = ap (λ parts. parts.status.place) same;
+  });
   ready = record {
     known = subst (λ parts. KnowsPlaces t.places (tables_of parts)) (sym same) ready.known;
     within = λ v q g found.

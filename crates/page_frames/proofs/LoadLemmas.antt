@@ -1,6 +1,7 @@
 -- A page that is loaded into a frame.
 use Rattle.std.proofs.Common.{◌≡◌, ◌<◌, ◌++◌, ℕ, List, [], length, false, Option, Some, None, Result, Ok, Err, IfErr, refl, sym, ◌∙◌, ap, subst, inl, inr, arith}
 use Rattle.std.specs.Option.{option_map_or}
+use Rattle.std.specs.Prelude.{Bool, is_ok}
 use Rattle.std.proofs.lemmas.List.{append-nil}
 use Rattle.chip_trait.specs.Told.{Told}
 use Rattle.ipl_base.specs.declared.fault.ChipFault.{ChipFault}
@@ -15,7 +16,9 @@ use Rattle.number_set.specs.Numbers.{among}
 use Rattle.page_ops.specs.Frames.{FrameView, values_in, pending_in}
 use Rattle.page_rebuild.specs.Loaded.{IsLoaded, IsLoadCause}
 use Rattle.pending_writes.specs.Frames.{Frame, Frames, logs_of, with_frame_at, IsFrameOf, pending_of}
-use Rattle.place_taking.specs.Spending.{is_worn_out}
+use Rattle.place_taking.specs.Spending.{is_worn_out, tells_worn}
+use Rattle.place_taking.specs.Wear.{Wears}
+use Rattle.place_taking.proofs.WearLemmas.{reads_wear_at}
 use Rattle.status_renewal.specs.Passes.{RenewCause}
 use Rattle.steps.specs.Steps.{Tidies}
 use Rattle.steps.proofs.TablesLemmas.{tables_read}
@@ -111,29 +114,36 @@ frames_uphold : (old new : Pages) (later : Frames) (result : Result (Unit {0}) C
     → frames_in new ≡ later
     → ((v q : ℕ) (g : Frame) → later v q ≡ Some g → v < length old.parts.directory.current)
     → KeepsState (tables_in old) (frames_in old) before result (tables_in old) later after
-    → ReadsAt Anywhere before after
+    → ReadsAt Anywhere before after → is_worn_out result ≡ false
     → KeepsPins old.pool new.pool → Accounts (PageCause new.parts.directory) result before after
     → Upholds 0 old before result new after
-frames_uphold old new later result before after ready tables is within keeps reads pins accounts = record {
-  keeps = subst (λ (t : Tables). KeepsState (tables_in old) (frames_in old) before result t
-      (frames_in new) after) (sym tables)
-      (subst (λ (F : Frames). KeepsState (tables_in old) (frames_in old) before result
-      (tables_in old) F after) (sym is) keeps);
-  tidy = subst (λ (t : Tables). Tidies (tables_in old) result t before after) (sym tables)
-      (tables_read Anywhere (tables_in old) result before after reads);
-  ready = record {
-    known = subst (KnowsPlaces before.places) (sym tables) ready.known;
-    within = λ v q g there. subst (λ (t : Tables). v < length t.places.current) (sym tables)
-        (within v q g (ap (λ (F : Frames). F v q) (sym is) ∙ there));
-    rest = rest_stays old.pool new.pool pins ready.rest;
-  };
-  units = ap (λ (t : Tables). length t.places.current) tables;
-  active = ap (λ (t : Tables). t.active) tables;
-  pins = pins;
-  least = let same = ap (λ (t : Tables). t.next) tables in omega (arith, same);
-  drawn = let same = ap (λ (t : Tables). t.next) tables in omega (arith, same);
-  accounts = accounts;
-}
+frames_uphold old new later result before after ready tables is within keeps reads unworn pins
+    accounts = record {
+      keeps = subst (λ (t : Tables). KeepsState (tables_in old) (frames_in old) before result t
+          (frames_in new) after) (sym tables)
+          (subst (λ (F : Frames). KeepsState (tables_in old) (frames_in old) before result
+          (tables_in old) F after) (sym is) keeps);
+      tidy = subst (λ (t : Tables). Tidies (tables_in old) result t before after) (sym tables)
+          (tables_read Anywhere (tables_in old) result before after reads);
+      wears = subst (λ (b : Bool). Wears (tables_in old) (tables_in new) (is_ok result) b before after)
+          (sym unworn) (reads_wear_at Anywhere (tables_in old) (tables_in new) (is_ok result) before after
+          (record {
+            retired = ap (λ (t : Tables). t.places.retired) tables;
+            status = ap (λ (t : Tables). t.status.place) tables;
+          }) reads);
+      ready = record {
+        known = subst (KnowsPlaces before.places) (sym tables) ready.known;
+        within = λ v q g there. subst (λ (t : Tables). v < length t.places.current) (sym tables)
+            (within v q g (ap (λ (F : Frames). F v q) (sym is) ∙ there));
+        rest = rest_stays old.pool new.pool pins ready.rest;
+      };
+      units = ap (λ (t : Tables). length t.places.current) tables;
+      active = ap (λ (t : Tables). t.active) tables;
+      pins = pins;
+      least = let same = ap (λ (t : Tables). t.next) tables in omega (arith, same);
+      drawn = let same = ap (λ (t : Tables). t.next) tables in omega (arith, same);
+      accounts = accounts;
+    }
 
 -- done
 pub load_upholds : (u page : ℕ) (view : FrameView) (old new : Pages) (before after : Told)
@@ -148,7 +158,7 @@ load_upholds u page view old new before after ready low few none tables is reads
     frames_uphold old new (with_frame_at (frames_in old) u page (Some (frame_of view []))) (Ok tt)
     before after ready tables is within
     (load_keeps (tables_in old) (frames_in old) u page view before after low few none reads loaded)
-    reads pins (record { counts = reads.counts; cause = tt })
+    reads refl pins (record { counts = reads.counts; cause = tt })
   where
     within : (v q : ℕ) (g : Frame)
         → with_frame_at (frames_in old) u page (Some (frame_of view [])) v q ≡ Some g
@@ -162,9 +172,10 @@ load_upholds u page view old new before after ready low few none tables is reads
 -- not done
 pub fail_upholds : (old new : Pages) (e : ChipFault) (before after : Told) → IsReady before.places old
     → tables_in new ≡ tables_in old → frames_in new ≡ frames_in old → ReadsAt Anywhere before after
-    → KeepsPins old.pool new.pool → RenewCause new.parts.directory e before after
+    → tells_worn e ≡ false → KeepsPins old.pool new.pool
+    → RenewCause new.parts.directory e before after
     → Upholds {T = Unit {0}} 0 old before (Err e) new after
-fail_upholds old new e before after ready tables is reads pins cause =
+fail_upholds old new e before after ready tables is reads unworn pins cause =
     frames_uphold old new (frames_in old) (Err e) before after ready tables is ready.within
-    (reads_anywhere_keep_states (tables_in old) (frames_in old) (Err e) before after reads) reads pins
-    (record { counts = reads.counts; cause = cause })
+    (reads_anywhere_keep_states (tables_in old) (frames_in old) (Err e) before after reads) reads
+    unworn pins (record { counts = reads.counts; cause = cause })

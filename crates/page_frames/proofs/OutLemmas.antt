@@ -1,5 +1,5 @@
 -- The records of a page, written out from its frame.
-use Rattle.std.proofs.Common.{◌≡◌, ◌≤◌, ◌+◌, ℕ, [], Option, Some, Result, Ok, Err, refl, sym, ◌∙◌, ap, subst, arith}
+use Rattle.std.proofs.Common.{◌≡◌, ◌≤◌, ◌+◌, ℕ, true, false, [], Option, Some, Result, Ok, Err, refl, sym, ◌∙◌, ap, subst, arith}
 use Rattle.std.specs.Prelude.{IsSome}
 use Rattle.std.specs.Option.{option_map, option_map_or}
 use Rattle.chip_trait.specs.Told.{Told}
@@ -14,6 +14,8 @@ use Rattle.buffer_pool.specs.Holding.{KeepsPins}
 use Rattle.buffer_pool.proofs.HoldingLemmas.{rest_stays}
 use Rattle.pending_writes.specs.Frames.{Frame, Frames, logs_of, with_frame_at, with_frame_log}
 use Rattle.steps.specs.Steps.{Tidies}
+use Rattle.place_taking.specs.Spending.{tells_worn}
+use Rattle.place_taking.specs.Wear.{Wears}
 use Rattle.store_steps.specs.Advances.{KeepsState}
 use Rattle.page_writing.specs.Causes.{WritingCause}
 use Rattle.page_writing.specs.Laws.{frames_out}
@@ -75,14 +77,15 @@ pub out_failed : (u page : ℕ) (payload : Versioned) (old new : Pages) (e : Chi
     → WritesOutInSteps before.places payload (tables_in old) (tables_in new) before (Err e) after
     → Holds before.places (tables_in old) (tables_in new)
     → Tidies {T = Unit {0}} {E = ChipFault} (tables_in old) (Err e) (tables_in new) before after
+    → Wears (tables_in old) (tables_in new) false (tells_worn e) before after
     → (old.parts.counter ≤ new.parts.counter) × (new.parts.counter ≤ old.parts.counter + 14)
     → Accounts {T = Unit {0}} (WritingCause new.parts.directory (tables_in old) u) (Err e) before after
     → Upholds {T = Unit {0}} 14 old before (Err e) new after
 out_failed u page payload old new e before after ready same there spelled tells steps holds
-    tidy draws accounts =
+    tidy wears draws accounts =
     tables_uphold 14 old new (Err e) before after ready same holds.known holds.units holds.active
     (out_keeps (tables_in old) (tables_in new) (frames_in old) u page payload before after
-    (Err e) there spelled tells steps accounts) tidy draws
+    (Err e) there spelled tells steps accounts) tidy wears draws
     (out_accounts new.parts.directory (tables_in old) u (Err e) before after accounts)
 
 -- ---- done
@@ -101,17 +104,19 @@ pub out_done : (u page : ℕ) (payload : Versioned) (old new : Pages) (before af
     → WritesOutInSteps before.places payload (tables_in old) (tables_in new) before (Ok tt) after
     → Holds before.places (tables_in old) (tables_in new)
     → Tidies {T = Unit {0}} {E = ChipFault} (tables_in old) (Ok tt) (tables_in new) before after
+    → Wears (tables_in old) (tables_in new) true false before after
     → (old.parts.counter ≤ new.parts.counter) × (new.parts.counter ≤ old.parts.counter + 14)
     → Accounts {T = Unit {0}} {E = ChipFault} (WritingCause new.parts.directory (tables_in old) u) (Ok tt) before after
     → Upholds {T = Unit {0}} 14 old before (Ok tt) new after
-out_done u page payload old new before after ready spelled did pins tells steps holds tidy draws
-    accounts =
+out_done u page payload old new before after ready spelled did pins tells steps holds tidy wears
+    draws accounts =
     let is = cleared_frames (frames_in old) (frames_in new) u page did in record {
       keeps = subst (λ (later : Frames). KeepsState {T = Unit {0}} {E = ChipFault} (tables_in old)
           (frames_in old) before (Ok tt) (tables_in new) later after) (sym is)
           (out_keeps (tables_in old) (tables_in new) (frames_in old) u page payload before after
           (Ok tt) (subst IsSome (sym did.there) refl) spelled tells steps accounts);
       tidy = tidy;
+      wears = wears;
       ready = record {
         known = holds.known;
         within = λ v q f there.

@@ -1,13 +1,20 @@
 -- Calls that know the tables alone keep each state, whatever frames there are.
-use Rattle.std.proofs.Common.{◌≡◌, ◌≢◌, ◌≤◌, ◌+◌, ◌^◌, ℕ, List, length, Result, Ok, Err, sym, ◌∙◌, ap, subst, arith}
+use Rattle.std.proofs.Common.{◌≡◌, ◌≢◌, ◌≤◌, ◌+◌, ◌^◌, ℕ, true, List, length, Result, Ok, Err, OnOk, inl, inr, refl, sym, ◌∙◌, ap, subst, arith}
+use Rattle.std.specs.Prelude.{is_ok}
+use Rattle.std.proofs.lemmas.Bool.{false≢true}
 use Rattle.chip_trait.specs.Told.{Told}
 use Rattle.ipl_base.specs.declared.fault.ChipFault.{ChipFault}
 use Rattle.ipl_base.specs.declared.fault.ChipFault.TheVariants.{Stopped}
 use Rattle.ipl_meaning.specs.Chart.{chart_of}
 use Rattle.ipl_meaning.specs.Rests.{now, EachStands, StoryRests}
-use Rattle.ipl_meaning.specs.Tables.{Places, Tables}
+use Rattle.ipl_meaning.specs.Tables.{Places, Status, Tables}
 use Rattle.unit_io.specs.Accounts.{Accounts}
 use Rattle.unit_io.specs.Charts.{Charts}
+use Rattle.unit_io.specs.Costs.{Spends}
+use Rattle.unit_io.proofs.CostLemmas.{spends_weaker}
+use Rattle.place_taking.specs.Spending.{ErasesFor, RetiresWorn, SparesUsed, is_worn_out}
+use Rattle.place_taking.specs.Wear.{Wears}
+use Rattle.place_taking.proofs.WearLemmas.{spared_places_wear}
 use Rattle.steps.specs.Steps.{Settled, RestsAgreeing, Tidies}
 use Rattle.selective_merge.specs.Homes.{MergeCause}
 use Rattle.selective_merge.specs.Merging.{Merges, StaysMirrored, MergesInSteps, RestsMerged}
@@ -78,6 +85,26 @@ merge_keeps u place spots t after frames result old new holds tells steps accoun
     (λ k. RestsAgreeing places m it after k) (λ k. StoryRests places m k) h result old new
     (λ k is. is) (λ v k is. is.rests) (λ k is. is.rests) (merging m it h steady rests agrees))
 
+-- ---- what is worn
+
+-- a merge writes a free place alone
+pub merge_wears : (places place : ℕ) (t after : Tables) (result : Result (Unit {0}) ChipFault)
+    (old new : Told) → KnowsPlaces places t → Holds places t after
+    → OnOk result (SparesUsed t.places old new)
+    → Spends (ErasesFor t.places after.places 3 place (is_ok result) (is_worn_out result)) old new
+    → Wears t after (is_ok result) (is_worn_out result) old new
+merge_wears places place t after result old new known holds spares costs =
+    spared_places_wear t after (is_ok result) (is_worn_out result) old new
+    (known.used t.status.place (inr (inl refl))) (ap (λ (it : Status). it.place) holds.status)
+    (spends_weaker (ErasesFor t.places after.places 3 place (is_ok result) (is_worn_out result))
+    (RetiresWorn t.places after.places (is_worn_out result)) old new
+    (λ added does. does.erases.retires) costs) (where_done result spares)
+  where
+    where_done : (r : Result (Unit {0}) ChipFault) → OnOk r (SparesUsed t.places old new)
+        → is_ok r ≡ true → SparesUsed t.places old new
+    where_done (Ok v) spared done = spared
+    where_done (Err e) spared done = absurd (false≢true done)
+
 -- ---- the pages
 
 -- they are ready still, in the same frames
@@ -88,28 +115,31 @@ pub tables_uphold : (most : ℕ) (old new : Pages) (result : Result (Unit {0}) C
     → new.parts.active ≡ old.parts.active
     → KeepsState (tables_in old) (frames_in old) before result (tables_in new) (frames_in old) after
     → Tidies (tables_in old) result (tables_in new) before after
+    → Wears (tables_in old) (tables_in new) (is_ok result) (is_worn_out result) before after
     → (old.parts.counter ≤ new.parts.counter) × (new.parts.counter ≤ old.parts.counter + most)
     → Accounts (PageCause new.parts.directory) result before after
     → Upholds most old before result new after
-tables_uphold most old new result before after ready same known units active keeps tidy draws accounts = record {
-  keeps = subst (λ (f : Frames). KeepsState (tables_in old) (frames_in old) before result
-      (tables_in new) f after) (ap frames_of (sym same)) keeps;
-  tidy = tidy;
-  ready = record {
-    known = known;
-    within = λ u page f there.
-        let was =
-        ready.within u page f (ap (λ (p : PoolView). frames_of p u page) (sym same) ∙ there) in
-        omega (arith, was, units);
-    rest = subst IsAtRest (sym same) ready.rest;
-  };
-  units = units;
-  active = active;
-  pins = subst (KeepsPins old.pool) (sym same) (nothing_keeps old.pool);
-  least = draws.0;
-  drawn = draws.1;
-  accounts = accounts;
-}
+tables_uphold most old new result before after ready same known units active keeps tidy wears draws
+    accounts = record {
+      keeps = subst (λ (f : Frames). KeepsState (tables_in old) (frames_in old) before result
+          (tables_in new) f after) (ap frames_of (sym same)) keeps;
+      tidy = tidy;
+      wears = wears;
+      ready = record {
+        known = known;
+        within = λ u page f there.
+            let was =
+            ready.within u page f (ap (λ (p : PoolView). frames_of p u page) (sym same) ∙ there) in
+            omega (arith, was, units);
+        rest = subst IsAtRest (sym same) ready.rest;
+      };
+      units = units;
+      active = active;
+      pins = subst (KeepsPins old.pool) (sym same) (nothing_keeps old.pool);
+      least = draws.0;
+      drawn = draws.1;
+      accounts = accounts;
+    }
 
 -- a merge
 pub merge_upholds : (u : ℕ) (old new : Pages) (result : Result (Unit {0}) ChipFault)
@@ -119,14 +149,16 @@ pub merge_upholds : (u : ℕ) (old new : Pages) (result : Result (Unit {0}) Chip
     (StaysMirrored before.places (tables_in old) (tables_in new)) result before after
     → MergesInSteps before.places u (tables_in old) (tables_in new) before result after
     → Tidies (tables_in old) result (tables_in new) before after
+    → Wears (tables_in old) (tables_in new) (is_ok result) (is_worn_out result) before after
     → (old.parts.counter ≤ new.parts.counter) × (new.parts.counter ≤ old.parts.counter + 13)
     → (place : ℕ) (spots : List (ℕ × ℕ))
     → Accounts (MergeCause new.parts.directory place spots) result before after
     → Upholds 13 old before result new after
-merge_upholds u old new result before after ready same holds tells steps tidy draws place spots accounts =
+merge_upholds u old new result before after ready same holds tells steps tidy wears draws place spots
+    accounts =
     tables_uphold 13 old new result before after ready same holds.known holds.units holds.active
     (merge_keeps u place spots (tables_in old) (tables_in new) (frames_in old) result before after
-    holds tells steps accounts) tidy draws
+    holds tells steps accounts) tidy wears draws
     (merge_accounts new.parts.directory place spots before after result accounts)
 
 -- a renewal
@@ -136,9 +168,10 @@ pub renew_upholds : (old new : Pages) (result : Result (Unit {0}) ChipFault) (be
     → RenewsTold before.places (tables_in old) (tables_in new) before result after
     → KeepsInSteps before.places (tables_in old) (tables_in new) before result after
     → Tidies (tables_in old) result (tables_in new) before after
+    → Wears (tables_in old) (tables_in new) (is_ok result) (is_worn_out result) before after
     → (old.parts.counter ≤ new.parts.counter) × (new.parts.counter ≤ old.parts.counter + 2 ^ 14)
     → Accounts (RenewCause new.parts.directory) result before after → Upholds (2 ^ 14) old before result new after
-renew_upholds old new result before after ready same holds tells steps tidy draws accounts =
+renew_upholds old new result before after ready same holds tells steps tidy wears draws accounts =
     tables_uphold (2 ^ 14) old new result before after ready same holds.known holds.units holds.active
     (renew_keeps (tables_in old) (tables_in new) (frames_in old) result before after holds tells steps
-    accounts) tidy draws accounts
+    accounts) tidy wears draws accounts

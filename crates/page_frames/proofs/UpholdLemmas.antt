@@ -1,9 +1,12 @@
 -- Calls that keep each state: nothing done, one after another, and causes.
-use Rattle.std.proofs.Common.{◌≤◌, ◌+◌, ℕ, Result, Ok, refl, ◌∙◌, subst, arith}
+use Rattle.std.proofs.Common.{◌≤◌, ◌+◌, ℕ, true, Result, Ok, refl, ◌∙◌, subst, arith}
+use Rattle.std.specs.Prelude.{is_ok}
 use Rattle.chip_trait.specs.Told.{Told}
 use Rattle.chip_trait.proofs.CountsLemmas.{counts_none}
 use Rattle.ipl_base.specs.declared.fault.ChipFault.{ChipFault}
 use Rattle.buffer_pool.proofs.HoldingLemmas.{nothing_keeps, both_keep}
+use Rattle.place_taking.specs.Spending.{is_worn_out}
+use Rattle.place_taking.proofs.WearLemmas.{nothing_wears, wears_are_joined}
 use Rattle.status_renewal.proofs.CauseLemmas.{accounts_then}
 use Rattle.steps.proofs.TablesLemmas.{tables_none, tables_then}
 use Rattle.store_steps.proofs.KeeperLemmas.{nothing_keeps_states, keepers_are_joined}
@@ -15,6 +18,8 @@ pub upholds_none : (most : ℕ) (pages : Pages) (t : Told) → IsReady t.places 
 upholds_none most pages t ready = record {
   keeps = nothing_keeps_states (tables_in pages) (frames_in pages) t;
   tidy = tables_none {T = Unit {0}} {E = ChipFault} (tables_in pages) (Ok tt) t;
+  wears = nothing_wears (tables_in pages) (tables_in pages) true t
+      (record { retired = refl; status = refl });
   ready = ready;
   units = refl;
   active = refl;
@@ -35,6 +40,8 @@ upholds_then n m first between last result old mid new one two = record {
       one.accounts.counts one.keeps two.keeps;
   tidy = tables_then (Unit {0}) ChipFault (tables_in first) (tables_in between) (tables_in last) tt
       result old mid new one.accounts.counts one.tidy two.tidy;
+  wears = wears_are_joined (tables_in first) (tables_in between) (tables_in last) (is_ok result)
+      (is_worn_out result) old mid new one.wears two.wears;
   ready = subst (λ (k : ℕ). IsReady k last) one.accounts.counts.places two.ready;
   units = two.units ∙ one.units;
   active = two.active ∙ one.active;
@@ -51,6 +58,7 @@ pub upholds_weaker : (n m : ℕ) (first last : Pages) (result : Result (Unit {0}
 upholds_weaker n m first last result old new fewer did = record {
   keeps = did.keeps;
   tidy = did.tidy;
+  wears = did.wears;
   ready = did.ready;
   units = did.units;
   active = did.active;

@@ -1,5 +1,5 @@
 -- Uses of pages in frames, and which page leaves its frame.
-use Rattle.std.proofs.Common.{◌≡◌, ℕ, None, Result, Ok, Err, OnOk, inl, inr, refl, sym, ◌∙◌, ap, subst, arith}
+use Rattle.std.proofs.Common.{◌≡◌, ℕ, true, None, Result, Ok, Err, OnOk, inl, inr, refl, sym, ◌∙◌, ap, subst, arith}
 use Rattle.std.specs.Prelude.{IsSome}
 use Rattle.chip_trait.specs.Told.{Told}
 use Rattle.chip_trait.proofs.CountsLemmas.{counts_none}
@@ -13,6 +13,7 @@ use Rattle.pending_writes.specs.Frames.{Frames, with_frame_at}
 use Rattle.pending_writes.proofs.MemoryLemmas.{cases_page}
 use Rattle.pending_writes.proofs.SameLemmas.{frame_other}
 use Rattle.steps.proofs.TablesLemmas.{tables_none}
+use Rattle.place_taking.proofs.WearLemmas.{nothing_wears}
 use Rattle.store_steps.specs.Advances.{KeepsState}
 use Rattle.store_steps.proofs.KeeperLemmas.{nothing_keeps_states}
 use Rattle.frame_changes.specs.Views.{frames_of}
@@ -30,6 +31,8 @@ used_upholds most old p t ready same pins = record {
       (frames_in old) t (Ok tt) (tables_in old) F t) (sym same)
       (nothing_keeps_states (tables_in old) (frames_in old) t);
   tidy = tables_none {T = Unit {0}} {E = ChipFault} (tables_in old) (Ok tt) t;
+  wears = nothing_wears (tables_in old) (tables_in old) true t
+      (record { retired = refl; status = refl });
   ready = record {
     known = ready.known;
     within = λ v q f found. ready.within v q f (ap (λ (F : Frames). F v q) (sym same) ∙ found);

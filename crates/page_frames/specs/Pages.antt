@@ -1,5 +1,5 @@
 -- Pages in frames over the tables of a chip, as contracts see them, and what their calls leave.
-use Rattle.std.specs.Prelude.{ℕ, ◌≡◌, ◌⊎◌, ◌≤◌, ◌<◌, ◌+◌, [], length, IsSome, Some, Result, Ok, Err, OnOk}
+use Rattle.std.specs.Prelude.{ℕ, ◌≡◌, ◌⊎◌, ◌≤◌, ◌<◌, ◌+◌, [], length, IsSome, Some, Result, Ok, Err, OnOk, is_ok}
 use Rattle.std.specs.Option.{option_map}
 use Rattle.chip_trait.specs.Told.{Told}
 use Rattle.ipl_base.specs.declared.fault.ChipFault.{ChipFault}
@@ -11,6 +11,8 @@ use Rattle.unit_io.specs.Reads.{OfContents}
 use Rattle.slab.specs.Slab.{slab_len}
 use Rattle.buffer_pool.specs.Holding.{IsAtRest, KeepsPins}
 use Rattle.buffer_pool.specs.Uses.{CountsNoOther, IsUsedFirst, UsesPage}
+use Rattle.place_taking.specs.Spending.{is_worn_out}
+use Rattle.place_taking.specs.Wear.{Wears}
 use Rattle.merge_rules.specs.Known.{KnowsPlaces}
 use Rattle.selective_merge.specs.Moving.{tables_of}
 use Rattle.status_renewal.specs.Passes.{RenewCause}
@@ -88,13 +90,15 @@ PageCause = RenewCause
 -- ---- what each call keeps
 
 -- A call that keeps each state for which tables and frames stand, however it ends. Whatever the chip
--- tells: its events are lawful by the tables, there are as many units, the same sessions are open, the
--- same pages are held, at most so many numbers were drawn, and a fault has its cause.
+-- tells: its events are lawful by the tables, what is retired besides was found worn, there are as many
+-- units, the same sessions are open, the same pages are held, at most so many numbers were drawn, and a
+-- fault has its cause.
 pub record Upholds {T : Type 0} (most : ℕ) (old : Pages) (before : Told) (result : Result T ChipFault)
     (new : Pages) (after : Told) : Type 0 where
   pub keeps : KeepsState (tables_in old) (frames_in old) before result
       (tables_in new) (frames_in new) after
   pub tidy : Tidies (tables_in old) result (tables_in new) before after
+  pub wears : Wears (tables_in old) (tables_in new) (is_ok result) (is_worn_out result) before after
   pub ready : IsReady before.places new
   pub units : length new.parts.directory.current ≡ length old.parts.directory.current
   pub active : new.parts.active ≡ old.parts.active

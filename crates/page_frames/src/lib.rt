@@ -12,10 +12,12 @@
 //! it was in its frame. A page's records are written out, or those of all pages of the names that some
 //! sessions wrote, each page once; the status place gets a clean sector for a commit; a unit is
 //! merged. Each call keeps whatever state the tables, the frames and the chip stand for, the held
-//! pages and the open sessions; over a chip that tells what it holds, where that stands for a state,
-//! it fails only where a call of the chip failed; and where it stands for all of a state but what the
-//! pages say, also by a page that didn't read well or had no room for its values with what is pending
-//! there, of which the fault names a base sector or the header at the place where its unit is then.
+//! pages and the open sessions. What is retired besides was found worn, and done, the status header
+//! lists no place but what it listed and what is retired. Over a chip that tells what it holds,
+//! where that stands for a state, it fails only where a call of the chip failed; and where it
+//! stands for all of a state but what the pages say, also by a page that didn't read well or had no
+//! room for its values with what is pending there, of which the fault names a base sector or the
+//! header at the place where its unit is then.
 //! With a frame free, a page that is brought fails with exactly what is wrong with it. A page that is
 //! in a frame costs nothing, and one for which a frame is free only reads; in both cases every page
 //! stays in its frame. Where records are written out, a unit is merged or the status place is renewed,

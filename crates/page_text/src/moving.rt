@@ -31,7 +31,10 @@ fn move_tail(bytes: &mut [u8; PAGE_LEN], from: usize, until: usize, to: usize)
     ensures tail { take (until - from) (drop to bytes.new) ≡ take (until - from) (drop from bytes.old) }
     ensures front { (n : ℕ) → n ≤ from → n ≤ to → take n bytes.new ≡ take n bytes.old }
 {
-    // A turn moves all bytes at once, where `copy_within` goes byte by byte.
+    // A turn moves all bytes at once, where `copy_within` goes byte by byte; one of none costs as much.
+    if from == until {
+        return;
+    }
     if from < to {
         bytes[from..until + (to - from)].rotate_right(to - from);
     } else if to < from {

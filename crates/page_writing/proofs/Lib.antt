@@ -7,4 +7,5 @@ pub mod KeepLemmas
 mod CauseLemmas
 pub mod SpendLemmas
 mod TidyLemmas
+pub mod WearLemmas
 mod InPlaceLemmas

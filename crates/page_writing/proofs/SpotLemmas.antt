@@ -108,7 +108,7 @@ log_units t after u p s mask next (inl (home, is)) =
 log_units t after u p s mask next (inr (over, is)) =
     ap (λ (x : Tables). length x.places.current) is
 
-log_status : (t after : Tables) (u p s mask next : ℕ) → IsAfterLog t after u p s mask next
+pub log_status : (t after : Tables) (u p s mask next : ℕ) → IsAfterLog t after u p s mask next
     → after.status ≡ t.status
 log_status t after u p s mask next (inl (home, is)) = ap (λ (x : Tables). x.status) is
 log_status t after u p s mask next (inr (over, is)) = ap (λ (x : Tables). x.status) is

@@ -9,7 +9,8 @@
 //! the rules; where it failed and no write did, the state is kept. At each moment a power cut
 //! leaves the same map. At most one place is erased, the least worn free one that isn't found worn then, and
 //! at most one sector programmed elsewhere, a log sector; where one is clean at the unit's home, nothing is read or
-//! erased, there is no barrier, and no other sector counts as written than before. Over what the chip
+//! erased, there is no barrier, and no other sector counts as written than before. What is retired
+//! besides was found worn, and the status header lists no other place as it. Over what the chip
 //! holds it fails with what is wrong with the unit that it had to merge, which is where it was, or
 //! where a call of the chip failed; with that alone where the unit's pages show values and few log
 //! sectors would be carried.

@@ -1,3 +1,4 @@
 pub mod SpendingLemmas
 pub mod TurnLemmas
 pub mod JoinLemmas
+pub mod WearLemmas

@@ -1,14 +1,28 @@
 -- What calls spend that take free places, one after another.
 use Rattle.std.proofs.Common.{◌≡◌, ◌≤◌, ◌+◌, ◌==◌, ◌||◌, ℕ, Bool, true, false, List, [], ◌∷◌, ◌++◌, length, inl, inr, refl, sym, ◌∙◌, ap, subst, arith}
 use Rattle.std.specs.Prelude.{◌⊎◌}
-use Rattle.std.specs.List.{Contains}
+use Rattle.std.specs.List.{AllPairs, Contains}
 use Rattle.std.proofs.lemmas.Bool.{false≢true}
+use Rattle.std.proofs.lemmas.List.{get_or_default}
+use Rattle.std.proofs.lemmas.List.Kept.{AllPairs-cons}
 use Rattle.chip_trait.specs.declared.event.Event.TheVariants.{Read, Program, Erase, Worn, Barrier, Said}
 use Rattle.chip_trait.specs.Story.{Story}
+use Rattle.ipl_format.specs.Header.{IsLower}
+use Rattle.ipl_meaning.specs.Mirrors.{AreApart}
 use Rattle.ipl_meaning.specs.Tables.{Places}
 use Rattle.unit_io.specs.Costs.{Costs, erases, is_tried}
 use Rattle.unit_io.proofs.CostLemmas.{barriers_joined, costs_at_most, erases_joined, kinds_joined, outside_joined, tried_joined}
 use Rattle.place_taking.specs.Spending.{RetiringCosts, TriesInTurn, RetiresWorn, is_found_worn}
+
+-- ---- which places are apart
+
+-- a place is apart from others that rise and don't have it
+pub all_apart : (p : ℕ) (places : List ℕ) → ¬ Contains places p → AllPairs IsLower places
+    → AllPairs AreApart (p ∷ places)
+all_apart p places without rising = AllPairs-cons AreApart p places
+    (λ i d low same. without (i, low, get_or_default places i p d low ∙ sym same))
+    (λ i j d before within same.
+    let lower = rising i j d before within in omega (arith, lower, same))
 
 -- ---- which places were tried or found worn
 

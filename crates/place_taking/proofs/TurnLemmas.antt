@@ -2,7 +2,7 @@
 use Rattle.std.proofs.Common.{◌≡◌, ◌≢◌, ◌<◌, ◌≤◌, ◌+◌, ◌||◌, ◌==◌, ℕ, suc, Bool, true, false, List, [], ◌∷◌, ◌++◌, length, append_assoc, Result, Ok, Err, OnOk, inl, inr, refl, sym, ◌∙◌, ap, subst, arith}
 use Rattle.std.specs.Prelude.{◌⊎◌, slice_set, IfOk, MatchResult}
 use Rattle.std.specs.Option.{option_map}
-use Rattle.std.specs.List.{Contains}
+use Rattle.std.specs.List.{AllPairs, Contains}
 use Rattle.std.proofs.lemmas.Bool.{eqb-true, eq-eqb, false≢true}
 use Rattle.std.proofs.lemmas.List.{length-set, set-set, set-get_or}
 use Rattle.chip_trait.specs.declared.event.Event.{Event}
@@ -16,6 +16,7 @@ use Rattle.chip_trait.proofs.CountsLemmas.{counts_then}
 use Rattle.ipl_base.specs.declared.fault.ChipFault.{ChipFault}
 use Rattle.ipl_base.specs.declared.fault.ChipFault.TheVariants.{WornOut}
 use Rattle.ipl_base.specs.Places.{spares_on}
+use Rattle.ipl_format.specs.Header.{IsLower}
 use Rattle.ipl_rules.specs.State.{Map}
 use Rattle.ipl_meaning.specs.Chart.{Chart}
 use Rattle.ipl_meaning.specs.Layout.{Layout, Laid}
@@ -44,7 +45,7 @@ use Rattle.steps.proofs.StepLemmas.{failures_settle, outcome_then, outcome_weake
 use Rattle.place_taking.specs.Spending.{ErasesFree, FindsOneMore, IsFreshFrom, RetiresWorn, SparesClean, SparesUsed, is_found_worn, tells_worn}
 use Rattle.place_taking.specs.Takes.{ClearsNext, ErasesNext, IsAsideFrom, IsNotTaken, IsTakenFrom, RestsTaken, Takes, TakesPlace, TellsTaking, with_places}
 use Rattle.place_taking.specs.Turns.{FindsWorn}
-use Rattle.place_taking.proofs.SpendingLemmas.{found_later, found_earlier, found_either, or_either, or_left, retires_none, tried_either}
+use Rattle.place_taking.proofs.SpendingLemmas.{all_apart, found_later, found_earlier, found_either, or_either, or_left, retires_none, tried_either}
 
 -- ---- the directory
 
@@ -318,7 +319,8 @@ module _ (d between : Places) (p : ℕ) (old mid : Told) (within : p < old.place
   -- ---- and no other may be taken
 
   module _ (e : ChipFault) (then : Places) (back : then ≡ with_use between p false)
-      (full : length d.retired ≡ spares_of d) (tells : e ≡ WornOut (1 + spares_of then)) where
+      (full : length d.retired ≡ spares_of d) (rising : AllPairs IsLower d.retired)
+      (tells : e ≡ WornOut (1 + spares_of then)) where
     as_before : then ≡ d
     as_before = back ∙ ap (λ (b : Places). with_use b p false) finds.places_is
         ∙ given_back d p finds.next.free
@@ -327,7 +329,7 @@ module _ (d between : Places) (p : ℕ) (old mid : Told) (within : p < old.place
     one_more = record {
       last = p;
       found = same_found p;
-      apart = λ has. ready.apart p has finds.next.free;
+      apart = all_apart p d.retired (λ has. ready.apart p has finds.next.free) rising;
       full = full;
     }
 

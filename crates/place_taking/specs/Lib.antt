@@ -2,3 +2,5 @@ pub mod Spending
 pub mod Takes
 pub mod Fills
 pub mod Turns
+pub mod Wear
+pub mod Laws

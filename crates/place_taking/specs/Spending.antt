@@ -1,11 +1,12 @@
 -- What calls spend that take free places.
-use Rattle.std.specs.Prelude.{ℕ, ◌≡◌, ◌⊎◌, ◌≤◌, ◌+◌, ◌==◌, ◌||◌, Bool, true, false, List, [], ◌∷◌, ◌++◌, length, Some, Contains, Result, Ok, Err}
+use Rattle.std.specs.Prelude.{ℕ, ◌≡◌, ◌⊎◌, ◌≤◌, ◌+◌, ◌==◌, ◌||◌, Bool, true, false, List, [], ◌∷◌, ◌++◌, length, Some, AllPairs, Contains, Result, Ok, Err}
 use Rattle.chip_trait.specs.declared.event.Event.TheVariants.{Read, Program, Erase, Worn, Barrier, Said}
 use Rattle.chip_trait.specs.Lawful.{Clean, age, IsLawful}
 use Rattle.chip_trait.specs.Story.{Story, Contents, pieces}
 use Rattle.chip_trait.specs.Told.{Told}
 use Rattle.ipl_base.specs.declared.fault.ChipFault.{ChipFault}
 use Rattle.ipl_base.specs.declared.fault.ChipFault.TheVariants.{ReadFault, Stopped, Damaged, Malformed, WornOut}
+use Rattle.ipl_meaning.specs.Mirrors.{AreApart}
 use Rattle.ipl_meaning.specs.Tables.{Places, IsFree}
 use Rattle.unit_directory.specs.Free.{IsNextFree, spares_of, aside, AreNext}
 use Rattle.unit_io.specs.Costs.{OutsideAre, barriers, erases, is_erased, is_tried, programs_outside}
@@ -54,11 +55,11 @@ abbrev pub is_worn_out : {T : Type 0} → Result T ChipFault → Bool
 is_worn_out (Ok v) = false
 is_worn_out (Err fault) = tells_worn fault
 
--- as many places are retired as are spare, and one more was found worn
+-- as many places are retired as are spare, and one more was found worn; each is another one
 pub record FindsOneMore (after : Places) (added : Story) : Type 0 where
   pub last : ℕ
   pub found : is_found_worn added last ≡ true
-  pub apart : ¬ Contains after.retired last
+  pub apart : AllPairs AreApart (last ∷ after.retired)
   pub full : length after.retired ≡ spares_of after
 
 -- What was retired is so still, and what is retired besides was found worn. What was found worn is

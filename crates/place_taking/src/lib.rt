@@ -6,9 +6,11 @@
 //! one is erased; each sector of that one is clean, and one erase more counts for it. Whatever a power
 //! cut leaves at any moment stands for the map on which the story rested, and where no write failed the
 //! story rests on it still. `WornOut` comes where as many places are retired as are spare, and one more
-//! is worn.
+//! is worn. By `wear_laws`: what calls leave of worn places (`Wears`), and how one is joined to the next.
 #![tactic(auto)]
 
+mod laws;
 mod taking;
 
+pub use laws::wear_laws;
 pub use taking::take_place;

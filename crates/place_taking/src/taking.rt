@@ -58,6 +58,7 @@ fn take_last<C: Chip>(chip: &mut C, directory: &mut Directory) -> Result<u32, Ch
     ensures { Takes directory.old (C.told chip.old) result directory.new (C.told chip.new) }
 {
     aside_laws();
+    directory.facts();
     match take_next(chip, directory)? {
         Tried::Erased(place) => Ok(place),
         Tried::Worn(place) => {

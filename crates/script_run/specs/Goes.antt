@@ -50,15 +50,28 @@ module _ {S : Type 0} (k : Keeping S) where
   StopCause old new stop.Output = Rose old.beside.say_faults new.beside.say_faults
   StopCause old new stop.TooLong = min (old.beside.script_bytes + 4294967295) (2 ^ 64 - 1) ≤ new.beside.script_bytes
 
+  -- where a run stops so, too much is known to be worn since that entry, if the fault of the store tells of wear
+  abbrev pub StopWears : Told → Stop → Told → Type 0
+  StopWears entry (stop.Store fault) new = k.wears entry fault new
+  StopWears entry stop.Script new = Unit {0}
+  StopWears entry stop.Output new = Unit {0}
+  StopWears entry stop.TooLong new = Unit {0}
+
+  -- what is worn since an entry is known still behind a part of a run, or it stopped so
+  abbrev pub LearnsAlong : {T : Type 0} → S → Told → Result T Stop → S → Told → Type 0
+  LearnsAlong before old result then new = (entry : Told) → k.knows entry before old →
+      MatchResult result (λ _. k.knows entry then new) (λ s. StopWears entry s new)
+
   -- What goes along with each part of a run, whatever it does and whatever the chip tells: what is added is lawful by the
-  -- sectors that the store counts as clean, at most n numbers were drawn, the store suits its chip still where the part was
-  -- done, beside the chip no more happened than R tells, and a stop has its cause. A part never finds the script too
-  -- long.
+  -- sectors that the store counts as clean, at most n numbers were drawn, where the part was done the store suits its chip
+  -- still, what is worn is known still, beside the chip no more happened than R tells, and a stop has its cause. A part
+  -- never finds the script too long.
   pub record Along {T : Type 0} (R : Told → Told → Type 0) (n : ℕ) (before : S) (old : Told)
       (result : Result T Stop) (then : S) (new : Told) : Type 0 where
     pub tidy : LeavesTidy k before then old new (is_ok result)
     pub draws : Draws k n before (IsErrOf result (stop.Store Spent)) then
     pub suited : OnOk result (k.suits before → k.suits then)
+    pub learns : LearnsAlong before old result then new
     pub beside : R old new
     pub cause : IfErr result (λ s. StopCause old new s)
     pub never : IsErrOf result stop.TooLong → ⊥

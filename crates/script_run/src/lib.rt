@@ -6,7 +6,7 @@
 //! Proved, by `run_script`: the loop over any store, with chip events between the replies: said,
 //! each moment of a cut, lawful events, what the store keeps at every end and which commands are
 //! done then, each end's cause, that a fault of the store comes of the chip, how many numbers a
-//! script draws.
+//! script draws, and what is known of worn places at its end.
 #![tactic(auto)]
 
 mod answer;

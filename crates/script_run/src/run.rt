@@ -5,7 +5,7 @@ ghost use Rattle.chip_trait.specs.Told.{Told, Grew};
 ghost use Rattle.ipl_model.specs.Grammar.{is_line_feed};
 ghost use Rattle.store_trait.specs.Onward.{Onward, Further};
 ghost use Rattle.store_trait.specs.Keeping.{Draws, LeavesTidy, FOUND_NUMBER, COMMAND_DRAWS, SCRIPT_DRAWS};
-ghost use Rattle.script_run.specs.Goes.{Along, CompletesOver, HasRead, ReadsAll, StopCause, TakesBytes, TakesNext, RunsScript};
+ghost use Rattle.script_run.specs.Goes.{Along, LearnsAlong, CompletesOver, HasRead, ReadsAll, StopCause, TakesBytes, TakesNext, RunsScript};
 
 use crate::Stop;
 use crate::answer::answer_line;
@@ -120,6 +120,7 @@ pub fn run_script<S: Store, D: Desk>(store: &mut S, desk: &mut D) -> Result<(), 
     ensures run { RunsScript (S.keeping places) store.old (D.told desk.old) result store.new (D.told desk.new) }
     ensures tidy { LeavesTidy (S.keeping places) store.old store.new (D.told desk.old) (D.told desk.new) (is_ok result) }
     ensures draws { Draws (S.keeping places) SCRIPT_DRAWS store.old (IsErrOf result (Stop.Store Fault.Spent)) store.new }
+    ensures learns { LearnsAlong (S.keeping places) store.old (D.told desk.old) result store.new (D.told desk.new) }
     ensures completes { CompletesOver (S.keeping places) SCRIPT_DRAWS store.old (D.told desk.old) result store.new
         (D.told desk.new) }
     ensures further { Further (D.told desk.old) (D.told desk.new) }

@@ -1,4 +1,6 @@
 pub mod KeepLemmas
+pub mod WornLemmas
+pub mod ReopenLemmas
 pub mod WorkLemmas
 pub mod PutLemmas
 pub mod SeeLemmas

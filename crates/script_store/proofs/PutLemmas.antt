@@ -13,15 +13,16 @@ use Rattle.page_frames.specs.Pages.{tables_in}
 use Rattle.steps.specs.Steps.{Tidies}
 use Rattle.store_trait.specs.declared.fault.Fault.{Fault}
 use Rattle.store_trait.specs.declared.fault.Fault.TheVariants.{Spent}
-use Rattle.store_trait.specs.Keeping.{WORK_DRAWS, Works}
+use Rattle.store_trait.specs.Keeping.{WORK_DRAWS, Works, Learns}
 use Rattle.store_steps.specs.Keeps.{limits_of, store_keeping}
 use Rattle.store_steps.specs.Refusals.{sessions_refuse_put}
 use Rattle.store_steps.proofs.PutLemmas.{full_puts_are_work, written_puts_are_work, failed_puts_leave_the_map}
 use Rattle.ipl_store.specs.Calls.{view_of, counter_of, IsSound, entry_fault, Serves, Calls}
 use Rattle.ipl_store.specs.Puts.{put_fault, found_room, put_next, PutsBy}
 use Rattle.script_store.specs.declared.store.ScriptStore.{ScriptStore}
-use Rattle.script_store.specs.Keeps.{IsRunning, answer_of, reply_of, Does}
+use Rattle.script_store.specs.Keeps.{IsRunning, script_keeping, answer_of, reply_of, Does}
 use Rattle.script_store.proofs.KeepLemmas.{tidy_so}
+use Rattle.script_store.proofs.WornLemmas.{calls_learn}
 use Rattle.script_store.proofs.WorkLemmas.{done_does, served_does, few_drawn, by_entry, never_down, up_entry}
 
 -- ---- the answer
@@ -85,19 +86,21 @@ module _ (s n : ℕ) (bytes : List ℕ) (a b : ScriptStore) (before after : Told
     put_served : (found : Result Bool StoreFault) → Served found → By found
         → IsSound before.places b.store
         → Tidies (tables_in a.store.transactions.pages) found (tables_in b.store.transactions.pages)
-        before after → Counts before after → Does c a before (answer_of put_reply found) b after
-    put_served (Ok room) did by sound tidy counts =
+        before after
+        → Learns (script_keeping before.places) a before (answer_of put_reply found) b after
+        → Counts before after → Does c a before (answer_of put_reply found) b after
+    put_served (Ok room) did by sound tidy learns counts =
         let next = put_next s n bytes (Ok room) in
         done_does put_reply c next 14 a b before after runs (omega arith) units room did
         (put_work room by
         (few_drawn put_reply c next 14 a b before after runs (omega arith) units did.drawn))
         (record { sound = sound; up = did.ends })
-        (tidy_so before.places a b before after (Ok room) (Ok (put_reply room)) refl tidy) counts
-    put_served (Err fault) did by sound tidy counts =
+        (tidy_so before.places a b before after (Ok room) (Ok (put_reply room)) refl tidy) learns counts
+    put_served (Err fault) did by sound tidy learns counts =
         served_does put_reply c (put_next s n bytes (Err fault)) 14 a b before after runs (omega arith)
         units (λ state sessions.
         failed_puts_leave_the_map (limits_of a.store.units) state s n bytes Spent)
-        (Err fault) did tt sound tidy counts
+        (Err fault) did tt sound tidy learns counts
 
   -- ---- the call
 
@@ -112,7 +115,9 @@ module _ (s n : ℕ) (bytes : List ℕ) (a b : ScriptStore) (before after : Told
         (put_next s n bytes (found_room result)) 14 a b before after (found_room result) runs refl
         (entry_fault a.store) calls
         (λ none free units. put_served units free (found_room result) (calls.serves none) (by none)
-        calls.sound calls.tidy calls.counts) (up_entry a runs.up))
+        calls.sound calls.tidy (calls_learn a b before after put_reply (found_room result) runs
+        (put_fault a.store s n bytes) (put_next s n bytes (found_room result)) 14 calls)
+        calls.counts) (up_entry a runs.up))
 
     -- of a store that isn't down it doesn't say that it is
     pub put_is_up : result ≢ Err store.Down

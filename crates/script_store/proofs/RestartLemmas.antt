@@ -42,6 +42,7 @@ use Rattle.ipl_store.specs.Openings.{Opens, Reopens, Restarts, Tries}
 use Rattle.script_store.specs.declared.store.ScriptStore.{ScriptStore}
 use Rattle.script_store.specs.Keeps.{IsRunning, next_number, script_keeping, Does}
 use Rattle.script_store.proofs.KeepLemmas.{counted_few, works_so, draws_found}
+use Rattle.script_store.proofs.ReopenLemmas.{restart_learns_done, restart_learns_failed}
 
 -- ---- the answer
 
@@ -107,6 +108,7 @@ module _ (a b : ScriptStore) (old new : Told) (up : a.store.down ≡ false)
                 limits_are = stays.limits_are;
                 steady = stays.steady;
                 rests = stays.rests;
+                many = stays.many;
                 up = λ runs. absurd (let clash : true ≡ false = sym down ∙ runs in cc clash);
               };
               few = omega (arith, few, units);
@@ -268,6 +270,8 @@ module _ (a b : ScriptStore) (before after : Told) (runs : IsRunning before.plac
     };
     draws = draws_found before.places WORK_DRAWS _ a b found (λ spent. absurd (cc spent));
     running = record { sound = sound; up = opens.fresh.up };
+    learns = λ entry knows.
+        restart_learns_done a b before after runs entry knows opens tries;
     counts = tries.accounts.counts;
     cause = tt;
   }
@@ -305,6 +309,8 @@ module _ (a b : ScriptStore) (before after : Told) (runs : IsRunning before.plac
     draws = draws_found before.places WORK_DRAWS _ a b
         (let none = none_drawn in omega (arith, none)) (λ spent. absurd (cc spent));
     running = tt;
+    learns = λ entry knows.
+        restart_learns_failed a b before after runs entry knows e t tries;
     counts = tries.accounts.counts;
     cause = image_cause before.places t.places e before after tries.all tries.units
         tries.accounts.cause;

@@ -18,7 +18,7 @@ use Rattle.unit_io.specs.Reads.{OfContents}
 use Rattle.steps.specs.Steps.{Tidies}
 use Rattle.page_frames.specs.Pages.{tables_in, PageCause}
 use Rattle.store_trait.specs.declared.fault.Fault.TheVariants.{Chip, Spent}
-use Rattle.store_trait.specs.Keeping.{LAST_NUMBER, LOOK_UP_DRAWS, WorkLeaves, Works, LooksUp, LeavesTidy}
+use Rattle.store_trait.specs.Keeping.{LAST_NUMBER, LOOK_UP_DRAWS, WorkLeaves, Works, LooksUp, LeavesTidy, Learns}
 use Rattle.store_trait.proofs.TidyLemmas.{tidy_same}
 use Rattle.store_steps.specs.Advances.{TurnsMapOf}
 use Rattle.store_steps.specs.Keeps.{View, limits_of, ShowsState, store_keeping}
@@ -32,6 +32,7 @@ use Rattle.ipl_store.proofs.ShownLemmas.{name_shown}
 use Rattle.script_store.specs.declared.store.ScriptStore.{ScriptStore}
 use Rattle.script_store.specs.Keeps.{IsRunning, script_keeping, not_found, looked_up, Finds}
 use Rattle.script_store.proofs.KeepLemmas.{looks_up_so, draws_few, tidy_so}
+use Rattle.script_store.proofs.WornLemmas.{look_up_learns}
 use Rattle.script_store.proofs.WorkLemmas.{AreCounted, chip_rose, chip_cause, chip_tells, IsEntry, up_entry}
 
 -- ---- a call that lends what it found, once that is copied
@@ -60,6 +61,7 @@ calls_copied copy early next most old before (Ok found) new after calls = record
   sound = calls.sound;
   units = calls.units;
   tidy = calls.tidy;
+  wears = calls.wears;
   counts = calls.counts;
 }
 calls_copied {U = U} copy early next most old before (Err e) new after calls = record {
@@ -80,6 +82,7 @@ calls_copied {U = U} copy early next most old before (Err e) new after calls = r
   sound = calls.sound;
   units = calls.units;
   tidy = calls.tidy;
+  wears = calls.wears;
   counts = calls.counts;
 }
   where
@@ -165,6 +168,7 @@ module _ (n : ℕ) (a b : ScriptStore) (before after : Told) (runs : IsRunning b
     tidy = tidy_same (script_keeping before.places) a before before false refl;
     draws = draws_few before.places LOOK_UP_DRAWS _ a a runs.up (omega arith) (λ is. late);
     running = tt;
+    learns = λ entry knows. tt;
     counts = counts_none before;
     cause = tt;
   }
@@ -179,6 +183,7 @@ module _ (n : ℕ) (a b : ScriptStore) (before after : Told) (runs : IsRunning b
     draws = draws_few before.places LOOK_UP_DRAWS _ a a runs.up (omega arith)
         (λ spent. absurd (cc spent));
     running = runs;
+    learns = λ entry knows. knows;
     counts = counts_none before;
     cause = tt;
   }
@@ -188,12 +193,14 @@ module _ (n : ℕ) (a b : ScriptStore) (before after : Told) (runs : IsRunning b
         → Serves (λ state. state) 14 a.store before (Ok found) b.store after
         → IsCommitted n a.store before found → IsRunning before.places b
         → LeavesTidy (script_keeping before.places) a b before after true
+        → Learns (script_keeping before.places) a before (Ok found) b after
         → (counts : Counts before after) → Finds n a before (Ok found) b after
-    done_finds found did committed running tidy counts = record {
+    done_finds found did committed running tidy learns counts = record {
       looks_up = looks_up_so before.places a b before after runs.up units n (Ok found) looks;
       tidy = tidy;
       draws = draws_few before.places LOOK_UP_DRAWS _ a b runs.up few (λ spent. absurd (cc spent));
       running = running;
+      learns = learns;
       counts = counts;
       cause = tt;
     }
@@ -232,12 +239,14 @@ module _ (n : ℕ) (a b : ScriptStore) (before after : Told) (runs : IsRunning b
         → PageCause b.store.transactions.pages.parts.directory e before after
         → IsSound before.places b.store
         → LeavesTidy (script_keeping before.places) a b before after false
+        → Learns (script_keeping before.places) {T = Option (List ℕ)} a before (Err (Chip e)) b after
         → (counts : Counts before after) → Finds n a before (Err (Chip e)) b after
-    failed_finds e did cause sound tidy counts = record {
+    failed_finds e did cause sound tidy learns counts = record {
       looks_up = looks_up_so before.places a b before after runs.up units n (Err (Chip e)) looks;
       tidy = tidy;
       draws = draws_few before.places LOOK_UP_DRAWS _ a b runs.up few (λ spent. absurd (cc spent));
       running = tt;
+      learns = learns;
       counts = counts;
       cause = chip_cause before.places a.store.units d e before after are cause;
     }
@@ -287,18 +296,20 @@ module _ (n : ℕ) (a b : ScriptStore) (before after : Told) (runs : IsRunning b
         → IfOk result (λ found. IsCommitted n a.store before found)
         → IsSound before.places b.store
         → Tidies (tables_in a.store.transactions.pages) result (tables_in b.store.transactions.pages)
-        before after → Counts before after → Finds n a before (looked_up result) b after
-    served_finds (Ok found) did committed sound tidy counts =
+        before after → Learns (script_keeping before.places) a before (looked_up result) b after
+        → Counts before after → Finds n a before (looked_up result) b after
+    served_finds (Ok found) did committed sound tidy learns counts =
         done_finds found did committed (record { sound = sound; up = did.ends })
         (tidy_so {U = Option (List ℕ)} before.places a b before after (Ok found) (Ok found) refl
-        tidy) counts
-    served_finds (Err fault) did committed sound tidy counts =
+        tidy) learns counts
+    served_finds (Err fault) did committed sound tidy learns counts =
         let (e, is_chip, cause, down) = did.ends in
         subst (λ (f : StoreFault). Serves {T = Option (List ℕ)} (λ state. state) 14 a.store before
-        (Err f) b.store after → Finds n a before (not_found f) b after) (sym is_chip)
-        (λ of_chip. failed_finds e of_chip cause sound
+        (Err f) b.store after → Learns (script_keeping before.places) a before (not_found f) b after
+        → Finds n a before (not_found f) b after) (sym is_chip)
+        (λ of_chip of_it. failed_finds e of_chip cause sound
         (tidy_so {T = Option (List ℕ)} {U = Option (List ℕ)} before.places a b before after
-        (Err fault) (Err (Chip e)) refl tidy) counts) did
+        (Err fault) (Err (Chip e)) refl tidy) of_it counts) did learns
 
   -- ---- the call
 
@@ -322,7 +333,9 @@ module _ (n : ℕ) (a b : ScriptStore) (before after : Told) (runs : IsRunning b
         idle_finds (store.Refused r) (refused_finds r is) answer same still
     by_refusal None is calls =
         served_finds calls.units result
-        (calls.serves refl) committed calls.sound calls.tidy calls.counts
+        (calls.serves refl) committed calls.sound calls.tidy
+        (look_up_learns a b before after result runs (early_fault None None) (λ state. state) 14 calls)
+        calls.counts
 
     by_entry : (entry : Option StoreFault) → IsEntry a entry
         → Calls (early_fault entry (refuses_name (limits_of a.store.units) n)) (λ state. state) 14

@@ -24,7 +24,7 @@ use Rattle.pending_writes.specs.Fits.{AreSessionsOf}
 use Rattle.steps.specs.Steps.{Tidies}
 use Rattle.page_frames.specs.Pages.{tables_in, PageCause}
 use Rattle.store_trait.specs.declared.fault.Fault.TheVariants.{Chip, Spent}
-use Rattle.store_trait.specs.Keeping.{LAST_NUMBER, WORK_DRAWS, ChipRose, Works, LeavesTidy}
+use Rattle.store_trait.specs.Keeping.{LAST_NUMBER, WORK_DRAWS, ChipRose, Works, LeavesTidy, Learns}
 use Rattle.store_trait.proofs.TidyLemmas.{tidy_same}
 use Rattle.store_steps.specs.Advances.{TurnsMapOf}
 use Rattle.store_steps.specs.Keeps.{View, limits_of, ChipTells, ShowsState, StoreCause, store_keeping}
@@ -39,6 +39,7 @@ use Rattle.ipl_store.specs.Calls.{view_of, counter_of, IsSound, entry_fault, dow
 use Rattle.script_store.specs.declared.store.ScriptStore.{ScriptStore}
 use Rattle.script_store.specs.Keeps.{IsRunning, script_keeping, ended, answer_of, Does}
 use Rattle.script_store.proofs.KeepLemmas.{works_so, draws_few, tidy_so}
+use Rattle.script_store.proofs.WornLemmas.{spares_at, calls_learn}
 
 -- ---- faults of the chip
 
@@ -66,8 +67,7 @@ pub record AreCounted (places units : ℕ) (d : Places) : Type 0 where
 -- so as many places are spare
 spares_are : (places units : ℕ) (d : Places) → AreCounted places units d
     → spares_of d ≡ spares_on places units
-spares_are places units d are =
-    ap (λ (n : ℕ). spares_on n (length d.current)) are.all ∙ ap (spares_on places) are.current
+spares_are places units d are = spares_at places units d are.all are.current
 
 -- and its cause
 pub chip_cause : (places units : ℕ) (d : Places) (e : ChipFault) (before after : Told)
@@ -177,6 +177,7 @@ module _ (c : Command) (a : ScriptStore) (told : Told) (runs : IsRunning told.pl
     tidy = tidy_same (script_keeping told.places) a told told false refl;
     draws = draws_few told.places WORK_DRAWS _ a a runs.up (omega arith) (λ is. late);
     running = tt;
+    learns = λ entry knows. tt;
     counts = counts_none told;
     cause = tt;
   }
@@ -197,6 +198,7 @@ module _ (c : Command) (a : ScriptStore) (told : Told) (runs : IsRunning told.pl
     draws = draws_few told.places WORK_DRAWS _ a a runs.up (omega arith)
         (λ spent. absurd (cc spent));
     running = runs;
+    learns = λ entry knows. knows;
     counts = counts_none told;
     cause = tt;
   }
@@ -221,6 +223,7 @@ module _ (a : ScriptStore) (told : Told) (runs : IsRunning told.places a) where
     draws = draws_few told.places WORK_DRAWS _ a a runs.up (omega arith)
         (λ spent. absurd (cc spent));
     running = runs;
+    learns = λ entry knows. knows;
     counts = counts_none told;
     cause = tt;
   }
@@ -253,13 +256,15 @@ module _ {T : Type 0} (say : T → Reply) (c : Command) (next : State → State)
   pub done_does : (found : T) (did : Serves next most a.store before (Ok found) b.store after)
       → IsWork found → IsRunning before.places b
       → LeavesTidy (script_keeping before.places) a b before after true
+      → Learns (script_keeping before.places) a before (Ok (say found)) b after
       → (counts : Counts before after) → Does c a before (Ok (say found)) b after
-  done_does found did works running tidy counts = record {
+  done_does found did works running tidy learns counts = record {
     works = works_so before.places a b before after runs.up units c (Ok (say found)) works;
     tidy = tidy;
     draws = draws_few before.places WORK_DRAWS _ a b runs.up (few_drawn did.drawn)
         (λ spent. absurd (cc spent));
     running = running;
+    learns = learns;
     counts = counts;
     cause = tt;
   }
@@ -269,8 +274,9 @@ module _ {T : Type 0} (say : T → Reply) (c : Command) (next : State → State)
       → PageCause b.store.transactions.pages.parts.directory e before after
       → IsSound before.places b.store
       → LeavesTidy (script_keeping before.places) a b before after false
+      → Learns (script_keeping before.places) {T = Reply} a before (Err (Chip e)) b after
       → (counts : Counts before after) → Does c a before (Err (Chip e)) b after
-  failed_does steps e did cause sound tidy counts = record {
+  failed_does steps e did cause sound tidy learns counts = record {
     works = works_so before.places a b before after runs.up units c (Err (Chip e))
         (leads_are_work c next first last (Err (Chip e)) before after
         units runs.up (answers_advance (TurnsMapOf next) next first.memory
@@ -286,6 +292,7 @@ module _ {T : Type 0} (say : T → Reply) (c : Command) (next : State → State)
     draws = draws_few before.places WORK_DRAWS _ a b runs.up (few_drawn did.drawn)
         (λ spent. absurd (cc spent));
     running = tt;
+    learns = learns;
     counts = counts;
     cause = chip_cause before.places a.store.units d e before after are cause;
   }
@@ -304,17 +311,19 @@ module _ {T : Type 0} (say : T → Reply) (c : Command) (next : State → State)
       → Serves next most a.store before result b.store after → IfOk result IsWork
       → IsSound before.places b.store
       → Tidies (tables_in a.store.transactions.pages) result (tables_in b.store.transactions.pages)
-      before after → Counts before after → Does c a before (answer_of say result) b after
-  served_does steps (Ok found) did works sound tidy counts =
+      before after → Learns (script_keeping before.places) a before (answer_of say result) b after
+      → Counts before after → Does c a before (answer_of say result) b after
+  served_does steps (Ok found) did works sound tidy learns counts =
       done_does found did works (record { sound = sound; up = did.ends })
-      (tidy_so before.places a b before after (Ok found) (Ok (say found)) refl tidy) counts
-  served_does steps (Err fault) did works sound tidy counts =
+      (tidy_so before.places a b before after (Ok found) (Ok (say found)) refl tidy) learns counts
+  served_does steps (Err fault) did works sound tidy learns counts =
       let (e, is_chip, cause, down) = did.ends in
       subst (λ (f : StoreFault). Serves {T = T} next most a.store before (Err f) b.store after
+      → Learns (script_keeping before.places) a before (ended f) b after
       → Does c a before (ended f) b after) (sym is_chip)
-      (λ of_chip. failed_does steps e of_chip cause sound
+      (λ of_chip of_it. failed_does steps e of_chip cause sound
       (tidy_so {T = T} {U = Reply} before.places a b before after (Err fault) (Err (Chip e)) refl
-      tidy) counts) did
+      tidy) of_it counts) did learns
 
 -- ---- the work of a command that asks no page for room
 
@@ -424,7 +433,9 @@ module _ {T : Type 0} (say : T → Reply) (c : Command) (refusal : Option Refusa
       (calls.serves none)
       (accepted_work say c next most a b before after runs few units free roomy nexts result
       (calls.serves none) replies)
-      calls.sound calls.tidy calls.counts) is
+      calls.sound calls.tidy
+      (calls_learn a b before after say result runs (early_fault entry refusal) next most calls)
+      calls.counts) is
 
   -- that the store refuses once its numbers are used up
   pub calls_do : Calls (early_fault (entry_fault a.store) refusal) next most a.store before result

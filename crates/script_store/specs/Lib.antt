@@ -1,2 +1,3 @@
+pub mod Worn
 pub mod Keeps
 pub mod Done

@@ -19,7 +19,7 @@ use Rattle.ipl_meaning.specs.Found.{MentionsBelow}
 use Rattle.ipl_meaning.specs.Layout.{Layout, Laid}
 use Rattle.ipl_meaning.specs.Mirrors.{Mirrors}
 use Rattle.ipl_meaning.specs.Rests.{now, EachStands, EachStandsEither, WornAreIdle, StoryRests}
-use Rattle.ipl_meaning.specs.Stands.{Stands}
+use Rattle.ipl_meaning.specs.Stands.{StandsBeside}
 use Rattle.ipl_meaning.specs.Steps.{KeepsPages}
 use Rattle.ipl_meaning.specs.Tables.{Places, OverflowLists, IsFree, Tables, IsCountedClean}
 use Rattle.ipl_meaning.specs.TableSteps.{taken, with_overflow}
@@ -117,7 +117,7 @@ sector_here c p s sector = rw (eq-eqb p p refl, eq-eqb s s refl) refl
 abbrev pub HeaderSays : ℕ → ℕ → Sector → Told → Result (Unit {0}) ChipFault → Told → Type 0
 HeaderSays places p head old result new = (m n : Map) (h : History) → IsSteady h old
     → StoryRests places m h → age h.story p 0 ≡ Clean
-    → Stands places (with_sector (now h) p 0 head) n
+    → StandsBeside places (now h) (with_sector (now h) p 0 head) n
     → WornAreIdle places h.story (with_sector (now h) p 0 head)
     → SwitchesMap places m n (Programs p (IsSpot 0)) (λ done. Gains p 0 head) h old result new
 

@@ -14,7 +14,7 @@ use Rattle.ipl_format.specs.Sector.{Sector}
 use Rattle.ipl_meaning.specs.Chart.{Chart}
 use Rattle.ipl_meaning.specs.Layout.{Layout, Laid, Shape, records_of}
 use Rattle.ipl_meaning.specs.Rests.{now, EachStands, EachStandsEither, WornAreIdle, StoryRests}
-use Rattle.ipl_meaning.specs.Stands.{Shows, Says, Stands, page_in}
+use Rattle.ipl_meaning.specs.Stands.{Shows, Says, Stands, StandsBeside, page_in}
 use Rattle.ipl_meaning.specs.Steps.{with_unit}
 use Rattle.ipl_meaning.specs.Tables.{Tables}
 use Rattle.ipl_meaning.specs.TableSteps.{taken, with_next}
@@ -64,7 +64,7 @@ pub sealed_keeps : (places p units erases u g : ℕ) (pieces : List ℕ) (carrie
     (old : Told) (result : Result (Unit {0}) ChipFault) (new : Told)
     → IsUnitHead units u g pieces carried erases head
     → ((m n : Map) (h : History) → IsSteady h old → StoryRests places m h
-    → age h.story p 0 ≡ Clean → Stands places (with_sector (now h) p 0 head) n
+    → age h.story p 0 ≡ Clean → StandsBeside places (now h) (with_sector (now h) p 0 head) n
     → WornAreIdle places h.story (with_sector (now h) p 0 head)
     → SwitchesMap places m n (Programs p (IsSpot 0)) (λ done. Gains p 0 head) h old result new)
     → SealsUnit places p units erases u g pieces carried old result new

@@ -11,7 +11,7 @@ use Rattle.ipl_rules.specs.State.{Map}
 use Rattle.ipl_meaning.specs.Chart.{Chart}
 use Rattle.ipl_meaning.specs.Layout.{Layout}
 use Rattle.ipl_meaning.specs.Rests.{now, WornAreIdle, StoryRests}
-use Rattle.ipl_meaning.specs.Stands.{Stands}
+use Rattle.ipl_meaning.specs.Stands.{StandsBeside}
 use Rattle.ipl_meaning.specs.Tables.{Tables}
 use Rattle.ipl_meaning.specs.TableSteps.{taken}
 use Rattle.txn_status.specs.Switching.{HasCounts}
@@ -106,7 +106,7 @@ abbrev pub SealsUnit : ℕ → ℕ → ℕ → ℕ → ℕ → ℕ → List ℕ 
 SealsUnit places p units erases u generation pieces carried old result new = (m : Map) (h : History)
     → IsSteady h old → StoryRests places m h → age h.story p 0 ≡ Clean
     → ((head : Sector) → IsUnitHead units u generation pieces carried erases head
-    → Stands places (with_sector (now h) p 0 head) m
+    → StandsBeside places (now h) (with_sector (now h) p 0 head) m
     × WornAreIdle places h.story (with_sector (now h) p 0 head))
     → KeepsMap places m (Programs p (IsSpot 0))
     (λ done. IsSealed p units erases u generation pieces carried) h old result new

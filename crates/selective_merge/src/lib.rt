@@ -18,7 +18,7 @@
 //! chip failed, and the same goes for the place of a log sector.
 //!
 //! Proved, by `log_place`, `carried`: the next log sector goes where the first rule that applies
-//! says, exactly by what would be carried; how many sectors that is.
+//! says, exactly by what would be carried; how many sectors that is; places in use keep their bytes.
 #![tactic(auto)]
 
 mod active;

@@ -1,12 +1,12 @@
 //! A new overflow place.
 ghost use Rattle.std.specs.Prelude.{◌≡◌, ◌<◌, ◌≤◌, ◌+◌, ◌^◌, length, is_ok, IfOk, OnOk};
 ghost use Rattle.unit_io.specs.Accounts.{Accounts};
-ghost use Rattle.unit_io.specs.Charts.{Charts};
+ghost use Rattle.unit_io.specs.Charts.{Charts, Spares};
 ghost use Rattle.unit_io.specs.Costs.{ProgramsAt, Spends};
 ghost use Rattle.unit_io.specs.Leads.{IsStopped};
 ghost use Rattle.unit_io.specs.Spots.{Programs, IsSpot};
 ghost use Rattle.steps.specs.Steps.{Tidies};
-ghost use Rattle.place_taking.specs.Spending.{ErasesFree, is_worn_out};
+ghost use Rattle.place_taking.specs.Spending.{ErasesFree, SparesUsed, is_worn_out};
 ghost use Rattle.place_taking.specs.Takes.{IsNotTaken};
 ghost use Rattle.merge_rules.specs.Known.{KnowsPlaces};
 ghost use Rattle.selective_merge.specs.Merging.{StaysMirrored};
@@ -38,6 +38,7 @@ fn write_overflow<C: Chip>(
         (C.told chip.old) result (C.told chip.new) }
     ensures tells { OnOk result (Charts (IsOpened place units erases generation)
         (C.told chip.old) (C.told chip.new)) }
+    ensures spares { OnOk result (Spares place (C.told chip.old) (C.told chip.new)) }
     ensures costs { Spends (ProgramsAt place 1 2 3) (C.told chip.old) (C.told chip.new) }
     ensures tidy { Spends (Programs place (IsSpot 0) (is_ok result)) (C.told chip.old) (C.told chip.new) }
     ensures accounts { Accounts IsStopped result (C.told chip.old) (C.told chip.new) }
@@ -74,6 +75,9 @@ pub fn open_overflow<C: Chip>(chip: &mut C, parts: &mut Parts) -> Result<Spot, C
     ensures holds { Holds (C.told chip.old).places (tables_of parts.old) (tables_of parts.new) }
     ensures draws { (parts.old.counter ≤ parts.new.counter)
         × (parts.new.counter ≤ parts.old.counter + 1) }
+    // Each place that was in use has the bytes that it had.
+    ensures spares { OnOk result (SparesUsed parts.old.directory
+        (C.told chip.old) (C.told chip.new)) }
     ensures costs { Spends (ErasesFree parts.old.directory parts.new.directory 3 (is_worn_out result))
         (C.told chip.old) (C.told chip.new) }
     ensures tidy { Tidies (tables_of parts.old) result (tables_of parts.new)

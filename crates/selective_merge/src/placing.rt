@@ -1,11 +1,11 @@
 //! Where a log sector of a unit goes: the rules.
-ghost use Rattle.std.specs.Prelude.{◌≡◌, ◌<◌, ◌≤◌, ◌+◌, ◌^◌, length, slice_index, IfOk};
+ghost use Rattle.std.specs.Prelude.{◌≡◌, ◌<◌, ◌≤◌, ◌+◌, ◌^◌, length, slice_index, IfOk, OnOk};
 ghost use Rattle.overflow.specs.Lists.{spots_in};
 ghost use Rattle.unit_io.specs.Accounts.{Accounts};
 ghost use Rattle.unit_io.specs.Costs.{Spends};
 ghost use Rattle.unit_io.specs.ReadsAt.{ReadsAt};
 ghost use Rattle.steps.specs.Steps.{Tidies};
-ghost use Rattle.place_taking.specs.Spending.{ErasesFree, is_worn_out};
+ghost use Rattle.place_taking.specs.Spending.{ErasesFree, SparesUsed, is_worn_out};
 ghost use Rattle.merge_rules.specs.Known.{KnowsPlaces};
 ghost use Rattle.selective_merge.specs.Homes.{IsLearnt, MergeCause};
 ghost use Rattle.selective_merge.specs.Merging.{Merges, StaysMirrored, MergesInSteps, FailsAsMerge, CompletesMerge};
@@ -48,6 +48,8 @@ fn merged_spot<C: Chip>(
     ensures holds { Holds (C.told chip.old).places (tables_of parts.old) (tables_of parts.new) }
     ensures draws { (parts.old.counter ≤ parts.new.counter)
         × (parts.new.counter ≤ parts.old.counter + 13) }
+    ensures spares { OnOk result (SparesUsed parts.old.directory
+        (C.told chip.old) (C.told chip.new)) }
     ensures costs { Spends (ErasesFree parts.old.directory parts.new.directory 3 (is_worn_out result))
         (C.told chip.old) (C.told chip.new) }
     ensures tidy { Tidies (tables_of parts.old) result (tables_of parts.new)
@@ -90,6 +92,8 @@ fn elsewhere<C: Chip>(
     ensures holds { Holds (C.told chip.old).places (tables_of parts.old) (tables_of parts.new) }
     ensures draws { (parts.old.counter ≤ parts.new.counter)
         × (parts.new.counter ≤ parts.old.counter + 13) }
+    ensures spares { OnOk result (SparesUsed parts.old.directory
+        (C.told chip.old) (C.told chip.new)) }
     ensures costs { Spends (ErasesFree parts.old.directory parts.new.directory 3 (is_worn_out result))
         (C.told chip.old) (C.told chip.new) }
     ensures tidy { Tidies (tables_of parts.old) result (tables_of parts.new)
@@ -144,6 +148,8 @@ pub fn log_place<C: Chip>(chip: &mut C, parts: &mut Parts, unit: u32) -> Result<
     ensures holds { Holds (C.told chip.old).places (tables_of parts.old) (tables_of parts.new) }
     ensures draws { (parts.old.counter ≤ parts.new.counter)
         × (parts.new.counter ≤ parts.old.counter + 13) }
+    ensures spares { OnOk result (SparesUsed parts.old.directory
+        (C.told chip.old) (C.told chip.new)) }
     ensures costs { Spends (ErasesFree parts.old.directory parts.new.directory 3 (is_worn_out result))
         (C.told chip.old) (C.told chip.new) }
     ensures tidy { Tidies (tables_of parts.old) result (tables_of parts.new)

@@ -11,11 +11,11 @@ images_rest places m x stands =
 
 pub cuts_may_be_opened : CutsMayBeOpened
 cuts_may_be_opened places m h added later e x each split image =
-    images_rest places m x (each later e split x image)
+    images_rest places m x ((each later e split).1 x image).stands
 
 pub cuts_of_either_may_be_opened : CutsOfEitherMayBeOpened
 cuts_of_either_may_be_opened places m n h added later e x each split image =
-    elim (each later e split x image) [
-      | inl before ↦ inl (images_rest places m x before)
-      | inr after ↦ inr (images_rest places n x after)
+    elim ((each later e split).1 x image) [
+      | inl before ↦ inl (images_rest places m x before.stands)
+      | inr after ↦ inr (images_rest places n x after.stands)
     ]

@@ -17,3 +17,4 @@ pub mod RecoverLemmas
 pub mod CompleteLemmas
 pub mod FaultLemmas
 pub mod TidyLemmas
+pub mod WornLemmas

@@ -6,7 +6,6 @@ use Rattle.chip_trait.specs.Told.{History, Told, Rose}
 use Rattle.ipl_base.specs.declared.fault.ChipFault.{ChipFault}
 use Rattle.ipl_base.specs.Calls.{IsFailedCall}
 use Rattle.ipl_base.specs.declared.fault.ChipFault.TheVariants.{ReadFault, Stopped, Damaged, Malformed, WornOut}
-use Rattle.ipl_format.specs.Sector.{Sector}
 use Rattle.ipl_rules.specs.State.{Map}
 use Rattle.ipl_meaning.specs.Agrees.{Agrees}
 use Rattle.ipl_meaning.specs.Chart.{Chart, chart_of}
@@ -25,7 +24,7 @@ use Rattle.selective_merge.specs.Placing.{SaysErases}
 use Rattle.selective_merge.specs.Throughout.{ChartsThroughout}
 use Rattle.steps.specs.Laws.{Preserves}
 use Rattle.txn_status.specs.Status.{room_of}
-use Rattle.unit_layout.specs.Retired.{retired_in}
+use Rattle.txn_status.specs.Switching.{ListsAt}
 use Rattle.unit_io.specs.Costs.{is_erased}
 use Rattle.unit_io.specs.Leads.{IsSteady}
 use Rattle.unit_io.specs.Reads.{OfContents}
@@ -121,8 +120,7 @@ GoesOnTelling result old new =
 
 -- the header of the status place lists exactly the places that are retired
 abbrev pub ListsRetired : Tables → Chart → Type 0
-ListsRetired t c = (head : Sector) × (c t.status.place 0 ≡ Some head)
-    × (retired_in head.version head.payload ≡ t.places.retired)
+ListsRetired t c = ListsAt t.status.place t.places.retired c
 
 -- All units were passed, and the status has a new place with the numbers that are kept, whose header
 -- says how often the tables have it erased, and lists exactly the places that are retired in them. All

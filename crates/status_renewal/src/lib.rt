@@ -8,8 +8,9 @@
 //! Proved, by `renew`: a renewal keeps the map at every moment. Done, exactly those numbers are
 //! committed that were so and that a live record has, and a unit was merged only where its numbers
 //! would have made more than 3,840; the header of the new place says how often it was erased, and lists
-//! exactly the places that are retired. Each place that is found worn is retired. Not done, and no write
-//! failed, all pages show what they showed and the same numbers are committed.
+//! exactly the places that are retired. Each place that is found worn is retired, and no other, whatever
+//! the chip tells (`wears`). Not done, and no write failed, all pages show what they showed and the same
+//! numbers are committed.
 //! Over what the chip holds it fails with exactly what was wrong with a unit whose numbers don't
 //! fit, which is where it was, or where a call of the chip failed; with that alone where all units'
 //! pages show values and few log sectors of each would be carried.

@@ -9,8 +9,10 @@ ghost use Rattle.place_taking.specs.Takes.{IsNotTaken};
 ghost use Rattle.selective_merge.specs.Throughout.{ChartsThroughout};
 ghost use Rattle.steps.specs.Steps.{Tidies};
 ghost use Rattle.txn_status.specs.Status.{parts_of, room_of};
+ghost use Rattle.txn_status.specs.Switching.{ListsAt};
 ghost use Rattle.unit_directory.specs.Free.{free_count, IsReadyToTake};
 ghost use Rattle.unit_io.specs.Accounts.{Accounts};
+ghost use Rattle.unit_io.specs.Charts.{Charts};
 ghost use Rattle.unit_io.specs.Costs.{Spends};
 ghost use Rattle.unit_io.specs.Unread.{ReadsNothing};
 ghost use Rattle.status_renewal.specs.Renewed.{HasTables, with_tables, IsGivenBack, MovesStatus, Renews, RenewsInSteps};
@@ -67,6 +69,10 @@ pub fn renew_place<C: Chip>(
         (λ done. Renews (C.told chip.old).places directory.old status.old counter.old kept.now
         directory.new status.new counter.new) (λ c y. y ≡ c)
         result (C.told chip.old) (C.told chip.new) }
+    // Whatever it held before, the new header lists exactly the places that are retired then.
+    ensures lists { OnOk result (Charts
+        (λ c y. ListsAt status.new.place directory.new.retired y)
+        (C.told chip.old) (C.told chip.new)) }
     ensures steps { RenewsInSteps (C.told chip.old).places directory.old status.old counter.old
         kept.now directory.new status.new counter.new result (C.told chip.old) (C.told chip.new) }
     // One erase more is tried than places are retired, each of the next free place in its turn, then

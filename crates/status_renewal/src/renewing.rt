@@ -1,8 +1,9 @@
 //! The renewal of the status place.
-ghost use Rattle.std.specs.Prelude.{◌≡◌, ◌<◌, ◌≤◌, ◌+◌, ◌^◌, length, true, OnOk};
+ghost use Rattle.std.specs.Prelude.{◌≡◌, ◌<◌, ◌≤◌, ◌+◌, ◌^◌, length, true, OnOk, is_ok};
 ghost use Rattle.std.specs.Bool.{OnTrue};
 ghost use Rattle.merge_rules.specs.Known.{KnowsPlaces};
 ghost use Rattle.place_taking.specs.Spending.{is_worn_out};
+ghost use Rattle.place_taking.specs.Wear.{Wears};
 ghost use Rattle.selective_merge.specs.Moving.{tables_of};
 ghost use Rattle.steps.specs.Steps.{Tidies};
 ghost use Rattle.unit_io.specs.Accounts.{Accounts};
@@ -50,6 +51,9 @@ pub(crate) fn renew_with<C: Chip>(
         (C.told chip.old) (C.told chip.new) }
     ensures renewed { OnOk result (Spends (HasErased parts.new.status.place)
         (C.told chip.old) (C.told chip.new)) }
+    // What is retired was so before, or was found worn; done, the new header lists no other place.
+    ensures wears { Wears (tables_of parts.old) (tables_of parts.new) (is_ok result)
+        (is_worn_out result) (C.told chip.old) (C.told chip.new) }
     ensures tidy { Tidies (tables_of parts.old) result (tables_of parts.new)
         (C.told chip.old) (C.told chip.new) }
     ensures accounts { Accounts (RenewCause parts.new.directory) result
@@ -112,6 +116,9 @@ pub fn renew<C: Chip>(
     // Done, the place that the status has was erased.
     ensures renewed { OnOk result (Spends (HasErased parts.new.status.place)
         (C.told chip.old) (C.told chip.new)) }
+    // What is retired was so before, or was found worn; done, the new header lists no other place.
+    ensures wears { Wears (tables_of parts.old) (tables_of parts.new) (is_ok result)
+        (is_worn_out result) (C.told chip.old) (C.told chip.new) }
     // Whatever the chip holds, what it adds is lawful after any lawful events that leave clean what
     // the tables count so; and where no write failed, what they count so then is clean.
     ensures tidy { Tidies (tables_of parts.old) result (tables_of parts.new)

@@ -1,16 +1,18 @@
 -- A store whose chip was opened, and faults, as a run over a script asks for them.
-use Rattle.std.proofs.Common.{◌≡◌, arith, true, false, [], Err, inl, refl, sym, ◌∙◌, ap, subst}
-use Rattle.chip_trait.specs.Moment.{Leaves}
+use Rattle.std.proofs.Common.{◌≡◌, ℕ, arith, true, false, [], Err, inl, refl, sym, ◌∙◌, ap, subst}
+use Rattle.chip_trait.specs.Moment.{AtEachMoment, Leaves}
 use Rattle.chip_trait.specs.Chart.{says}
 use Rattle.chip_trait.specs.Story.{Contents, held}
-use Rattle.chip_trait.specs.Told.{History, Told}
+use Rattle.chip_trait.specs.Told.{History, Told, adds_all}
 use Rattle.chip_trait.proofs.HistoryLemmas.{same_history}
-use Rattle.chip_trait.proofs.MomentLemmas.{at_start}
+use Rattle.chip_trait.proofs.ImageLemmas.{held_is_image}
+use Rattle.chip_trait.proofs.MomentLemmas.{at_start, at_end}
 use Rattle.ipl_rules.specs.State.{Limits}
 use Rattle.ipl_model.specs.declared.reply.Reply.{Reply}
 use Rattle.ipl_format.specs.Sector.{sector_in}
 use Rattle.ipl_meaning.specs.Chart.{chart_of}
-use Rattle.ipl_meaning.specs.Rests.{StoryRests}
+use Rattle.ipl_meaning.specs.Rests.{EachStandsIn, StoryRests}
+use Rattle.ipl_meaning.proofs.StoryLemmas.{moments_of_one, rests_in_units}
 use Rattle.steps.specs.Laws.{Preserves}
 use Rattle.pending_writes.proofs.MemoryFitLemmas.{openings_fit}
 use Rattle.store_trait.specs.declared.fault.Fault.{Fault}
@@ -27,6 +29,7 @@ opened_stores_keep places units t slots told h m none_lost none closed sessions 
       limits_are = refl;
       steady = steady;
       rests = rests;
+      many = rests_in_units places m h it rests mirrors.laid ∙ count;
       up = λ runs. record {
         sessions = sessions;
         shows = record {
@@ -82,11 +85,18 @@ faults_that_leave_down c before after fault old new units up down preserves draw
       leaves = work_leaves {T = Reply} {E = Fault} (KeepsMapOf old.places state)
           (λ v k. StoryRests old.places state.map k)
           (λ k. StoryRests old.places state.map k) before after h (Err fault) old new _ way
-          (λ later e split x image. inl (way.each_moment later e split x image));
+          (λ later e split x image. inl (moments later e split x image));
       ends = λ unrisen. record {
         limits_are = ap limits_of (sym units);
         steady = way.steady unrisen;
         rests = way.ends unrisen;
+        many =
+            let k = adds_all way.added h in
+            let is = at_end (λ e. EachStandsIn old.places before.units state.map (adds_all e h))
+            way.added moments (held k.start k.story)
+            (held_is_image (says sector_in) k.start k.story) in
+            rests_in_units old.places state.map k is.stands.layout (way.ends unrisen) is.stands.laid
+            ∙ is.count ∙ sym units;
         up = λ runs. absurd (let clash : true ≡ false = sym down ∙ runs in cc clash);
       };
       drawn = drawn;
@@ -103,3 +113,9 @@ faults_that_leave_down c before after fault old new units up down preserves draw
     way : Preserves {T = Reply} old.places state.map before.memory.tables
         after.memory.tables h (Err fault) old new
     way = preserves h here.shown.layout state here.steady here.story
+
+    moments : AtEachMoment (λ e. EachStandsIn old.places before.units state.map (adds_all e h)) way.added
+    moments = subst (λ (units : ℕ). AtEachMoment (λ e. EachStandsIn old.places units state.map
+        (adds_all e h)) way.added) here.shown.count
+        (moments_of_one old.places state.map h here.shown.layout way.added
+        here.shown.fits.mirrors.laid way.each_moment)

@@ -14,9 +14,10 @@ use Rattle.ipl_model.specs.Step.{Stepped, step}
 use Rattle.ipl_format.specs.Sector.{sector_in}
 use Rattle.record_locks.specs.Held.{Slots}
 use Rattle.ipl_meaning.specs.Chart.{Chart, chart_of}
-use Rattle.ipl_meaning.specs.Layout.{Layout}
-use Rattle.ipl_meaning.specs.Stands.{Says, Stands}
-use Rattle.ipl_meaning.specs.Rests.{now, StoryRests}
+use Rattle.ipl_meaning.specs.Layout.{Layout, Laid}
+use Rattle.ipl_meaning.specs.Stands.{Says, StandsIn}
+use Rattle.ipl_meaning.specs.Rests.{now, EachStandsIn, EachStandsEitherIn, StoryRests}
+use Rattle.ipl_meaning.proofs.StoryLemmas.{moments_keep_units, moments_of_one, rests_in_units}
 use Rattle.unit_io.specs.Leads.{IsSteady}
 use Rattle.steps.specs.Steps.{Settled, EndsWith, Steps}
 use Rattle.pending_writes.specs.Fits.{AreSessionsOf}
@@ -133,6 +134,11 @@ module _ {T E : Type 0} (Each : ℕ → State → History → Type 0) (next : St
         limits_are = ap limits_of (sym units);
         steady = steady;
         rests = rests_then result places next state k (did.ends settled);
+        many = rests_in_units places then.map k at_end.layout
+            (rests_then result places next state k (did.ends settled))
+            (subst (λ (x : Contents). Laid places (chart_of x) at_end.layout)
+            (same_held y (held k.start k.story) new told_then steady.holds) at_end.fits.mirrors.laid)
+            ∙ showing.count;
         up = λ runs. record {
           sessions = at_end.fits.sessions;
           shows = subst (ShowsState places after then)
@@ -165,9 +171,13 @@ leads_are_work c next before after result old new units up leads steps drawn exc
           (λ v k. StoryRests old.places (next state).map k)
           (λ k. StoryRests old.places state.map k) before after h result old new _ way
           (subst (λ (m : Map). AtEachMoment (Leaves (says sector_in) (λ x.
-          Stands old.places (chart_of x) state.map ⊎ Stands old.places (chart_of x) m)
+          StandsIn old.places before.units (chart_of x) state.map
+          ⊎ StandsIn old.places before.units (chart_of x) m)
           h) way.added) (step_map (limits_of before.units) state c (next state) result own_step)
-          way.each_moment);
+          (subst (λ (units : ℕ). AtEachMoment (λ e. EachStandsEitherIn old.places units state.map
+          (next state).map (adds_all e h)) way.added) here.shown.count
+          (moments_keep_units old.places state.map (next state).map h here.shown.layout way.added
+          here.shown.fits.mirrors.laid way.each_moment)));
       ends = by_end result own_step
           (keeps_then (TurnsMapOf next) next before after result old new state h here units
           leads);
@@ -219,7 +229,10 @@ keepers_look_up n before after result old new units up slots keeper finds drawn 
       leaves = work_leaves (KeepsMapOf old.places state)
           (λ v k. StoryRests old.places state.map k)
           (λ k. StoryRests old.places state.map k) before after h result old new _ way
-          way.each_moment;
+          (subst (λ (units : ℕ). AtEachMoment (λ e. EachStandsIn old.places units state.map
+          (adds_all e h)) way.added) here.shown.count
+          (moments_of_one old.places state.map h here.shown.layout way.added
+          here.shown.fits.mirrors.laid way.each_moment));
       ends = by_end result finds
           (keeps_then KeepsMapOf (λ state. state) before after result old new state h here
           units whole);

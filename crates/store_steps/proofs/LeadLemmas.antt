@@ -1,5 +1,5 @@
 -- Calls that lead to a next state.
-use Rattle.std.proofs.Common.{ℕ, Result, Ok, Err, inl}
+use Rattle.std.proofs.Common.{ℕ, Result, Ok, Err}
 use Rattle.chip_trait.specs.Told.{History, Told, Counts}
 use Rattle.ipl_base.specs.declared.fault.ChipFault.{ChipFault}
 use Rattle.ipl_rules.specs.State.{State}
@@ -7,6 +7,7 @@ use Rattle.ipl_rules.specs.Operations.{after_restart}
 use Rattle.ipl_meaning.specs.Chart.{chart_of}
 use Rattle.ipl_meaning.specs.Tables.{Tables}
 use Rattle.ipl_meaning.specs.Rests.{EachStands, StoryRests}
+use Rattle.ipl_meaning.proofs.StoryLemmas.{one_is_either}
 use Rattle.unit_io.proofs.ReadsAtLemmas.{at_none}
 use Rattle.pending_writes.specs.Frames.{Frames}
 use Rattle.pending_writes.proofs.MemoryFitLemmas.{openings_fit}
@@ -19,7 +20,7 @@ use Rattle.store_steps.proofs.StepLemmas.{steps_weaker}
 -- what leaves the map leaves one of two
 pub either_map : (next : State → State) (places : ℕ) (state : State) (k : History)
     → KeepsMapOf places state k → TurnsMapOf next places state k
-either_map next places state k each = λ x is. inl (each x is)
+either_map next places state k each = one_is_either places state.map (next state).map k each
 
 pub memory_leads : MemoryLeads
 memory_leads next before after old fits map clean =

@@ -16,14 +16,14 @@ use Rattle.ipl_meaning.specs.Rests.{EachStandsEither, StoryRests}
 use Rattle.ipl_meaning.specs.Tables.{Tables, Status, IsCountedClean}
 use Rattle.ipl_meaning.specs.Mirrors.{AreApart, Mirrors}
 use Rattle.ipl_meaning.proofs.AgreeLemmas.{barriers_agree}
-use Rattle.ipl_meaning.proofs.StoryLemmas.{held_stands, barriers_rest, barriers_keep_either}
+use Rattle.ipl_meaning.proofs.StoryLemmas.{held_stands, barriers_rest, barriers_keep_either, one_is_either}
 use Rattle.unit_io.specs.Charts.{Charts}
 use Rattle.unit_io.specs.Leads.{IsSteady, Leads, Waited, IsStopped}
 use Rattle.unit_io.proofs.LeadsLemmas.{leads_waited}
 use Rattle.steps.specs.Steps.{NoOtherEnd, TidyWork, RestsAgreeing, Steps}
 use Rattle.steps.proofs.StepLemmas.{writes_are_steps, failed_writes_are_steps}
 use Rattle.steps.proofs.TidyLemmas.{tidy_none}
-use Rattle.txn_status.specs.Adding.{MayAdd, Adds, AddsInSteps, IsReadyToAdd, with_added, layout_added}
+use Rattle.txn_status.specs.Adding.{MayAdd, Adds, AddsInSteps, IsReadyToAdd, with_added, layout_added, KeepsFirstAt}
 use Rattle.record_locks.specs.Held.{is_among}
 use Rattle.pending_writes.specs.Fits.{is_none_of}
 use Rattle.pending_writes.proofs.ActiveLemmas.{among_listed}
@@ -65,6 +65,14 @@ numbers_add places next_places status next tids (Ok v) old mid new same did tell
           (may_add places _ it t tids mirrors mine),
     )
 
+-- and the header of the status place is as it was
+pub header_stays : (p : ℕ) (result : Result (Unit {0}) ChipFault) (old mid new : Told)
+    → Appends Barrier old mid → OnOk result (Charts (KeepsFirstAt p) mid new)
+    → OnOk result (Charts (KeepsFirstAt p) old new)
+header_stays p (Err e) old mid new did stays = tt
+header_stays p (Ok v) old mid new did stays = λ x told.
+    stays x (did.contents ∙ ap (option_map (after Barrier)) told)
+
 -- ---- the first barrier
 
 tidy_barrier : (before : ℕ → ℕ → Type 0) → TidyWork before before (Unit {0}) (Barrier ∷ [])
@@ -86,7 +94,7 @@ module _ (places : ℕ) (m n : Map) (h : History) (it : Layout) (t : Tables) (ol
   HasWaited done k = k ≡ adds Barrier h
 
   at_start : Each h
-  at_start = λ x is. inl (agreeing.rests.each x is)
+  at_start = one_is_either places m n h agreeing.rests.each
 
   waited : (result : Result (Unit {0}) ChipFault) → Waited result old mid
       → Leads Each Tidy HasWaited h old result mid

@@ -19,13 +19,13 @@ use Rattle.ipl_model.specs.Step.{step}
 use Rattle.ipl_format.specs.Sector.{sector_in}
 use Rattle.record_locks.specs.Held.{Slots, number_of}
 use Rattle.ipl_meaning.specs.Chart.{chart_of}
-use Rattle.ipl_meaning.specs.Layout.{Layout}
-use Rattle.ipl_meaning.specs.Stands.{Says, Stands}
-use Rattle.ipl_meaning.specs.Rests.{StoryRests}
+use Rattle.ipl_meaning.specs.Layout.{Layout, Laid}
+use Rattle.ipl_meaning.specs.Stands.{Says, StandsIn}
+use Rattle.ipl_meaning.specs.Rests.{EachStandsIn, StoryRests}
 use Rattle.ipl_meaning.specs.Tables.{Tables, IsCountedClean}
 use Rattle.ipl_meaning.specs.Mirrors.{Mirrors, NoneIsLost}
 use Rattle.ipl_meaning.specs.Agrees.{IsTidy}
-use Rattle.ipl_meaning.proofs.StoryLemmas.{says_keep}
+use Rattle.ipl_meaning.proofs.StoryLemmas.{held_stands, rests_in_units, says_keep}
 use Rattle.unit_io.specs.Leads.{IsSteady}
 use Rattle.unit_io.specs.Reads.{OfContents}
 use Rattle.steps.specs.Laws.{Preserves}
@@ -67,12 +67,13 @@ pub record IsUp (places : ℕ) (store : View) (h : History) (state : State) : Ty
   pub tidy : IsTidy h.story store.memory.tables
 
 -- The chip holds what the history leaves, and no write has failed; the story rests on the state's
--- map; and a store that isn't down keeps the rest.
+-- map, in as many units as the store has; and a store that isn't down keeps the rest.
 pub record KeepsStore (places : ℕ) (limits : Limits) (store : View) (t : Told) (h : History)
     (state : State) : Type 0 where
   pub limits_are : limits ≡ limits_of store.units
   pub steady : IsSteady h t
   pub rests : StoryRests places state.map h
+  pub many : rests.each.0 ≡ store.units
   pub up : store.down ≡ false → IsUp places store h state
 
 -- the store of a chip that was opened: no page is in a frame
@@ -191,6 +192,18 @@ said_held : (start : Contents) (pieces : List (List ℕ)) (story : Story)
 said_held start [] story = refl
 said_held start (piece ∷ pieces) story = said_held start pieces story
 
+-- in as many units
+said_many : (places : ℕ) (m : Map) (pieces : List (List ℕ)) (h : History)
+    → (rests : StoryRests places m h)
+    → (said_rests places m pieces h rests).each.0 ≡ rests.each.0
+said_many places m pieces h rests =
+    let stands = held_stands places m h rests.each in
+    rests_in_units places m (adds_all (sayings pieces) h) stands.layout
+    (said_rests places m pieces h rests)
+    (subst (λ (x : Contents). Laid places (chart_of x) stands.layout)
+    (sym (said_held h.start pieces h.story)) stands.laid)
+    ∙ sym (rests_in_units places m h stands.layout rests stands.laid)
+
 pub keeps_still : (places : ℕ) (limits : Limits) (store : View) (old new : Told) (h : History)
     (state : State) → (still : Still old new) → KeepsStore places limits store old h state
     → KeepsStore places limits store new (adds_all (sayings still.pieces) h) state
@@ -202,6 +215,7 @@ keeps_still places limits store old new h state still keeps = record {
     settled = still.settled ∙ keeps.steady.settled;
   };
   rests = said_rests places state.map still.pieces h keeps.rests;
+  many = said_many places state.map still.pieces h keeps.rests ∙ keeps.many;
   up = λ runs.
       let was = keeps.up runs in record {
         sessions = was.sessions;
@@ -212,25 +226,31 @@ keeps_still places limits store old new h state still keeps = record {
 
 pub keeps_each : (places : ℕ) (limits : Limits) (store : View) (t : Told) (h : History) (state : State)
     → KeepsStore places limits store t h state
-    → Leaves (says sector_in) (λ x. Stands places (chart_of x) state.map) h []
-keeps_each places limits store t h state keeps = keeps.rests.each
+    → Leaves (says sector_in) (λ x. StandsIn places limits.units (chart_of x) state.map) h []
+keeps_each places limits store t h state keeps =
+    subst (λ (units : ℕ). EachStandsIn places units state.map h)
+    (keeps.many ∙ sym (ap (λ (l : Limits). l.units) keeps.limits_are)) keeps.rests.each.1
 
 -- ---- the seam
 
--- such a store over a chip of so many places, as a run knows it
+-- Such a store over a chip of so many places, as a run knows it. It says nothing of worn places, which
+-- a store knows whether or not it keeps a state.
 abbrev pub store_keeping : ℕ → Keeping View
 store_keeping places = record {
   checks = says sector_in;
-  stands = λ limits x m. Stands places (chart_of x) m;
+  stands = λ limits x m. StandsIn places limits.units (chart_of x) m;
   holds = KeepsStore places;
   suits = λ store. store.down ≡ false;
   clean = λ store p s. IsCountedClean store.memory.tables p s;
   counter = λ store. store.memory.tables.next;
   does = λ e. Unit {0};
   cause = StoreCause places;
+  knows = λ entry store t. Unit {0};
+  wears = λ entry fault t. Unit {0};
   tells = λ limits fault. FaultTells (spares_on places limits.units) fault;
   each = keeps_each places;
   still = keeps_still places;
+  known_still = λ entry store old new still known. tt;
   caused = cause_longer places;
 }
 

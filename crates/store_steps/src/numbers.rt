@@ -6,6 +6,7 @@ ghost use Rattle.unit_io.specs.Charts.{Charts};
 ghost use Rattle.unit_io.specs.Costs.{ProgramsAt, Spends};
 ghost use Rattle.unit_io.specs.Leads.{IsStopped};
 ghost use Rattle.unit_io.specs.Spots.{Programs, IsSpot};
+ghost use Rattle.txn_status.specs.Adding.{KeepsFirstAt};
 ghost use Rattle.txn_status.specs.Status.{room_of, after_add};
 ghost use Rattle.store_steps.specs.Numbers.{AddsNumbers, AddsNumbersInSteps};
 
@@ -39,6 +40,9 @@ pub fn add_numbers<C: Chip>(
     // What the chip holds then, and what a power cut leaves.
     ensures adds { OnOk result (Charts
         (AddsNumbers (C.told chip.old).places status.old counter.old tids.now)
+        (C.told chip.old) (C.told chip.new)) }
+    // Whatever it held before, the header of the status place is as it was.
+    ensures header { OnOk result (Charts (KeepsFirstAt status.old.place)
         (C.told chip.old) (C.told chip.new)) }
     ensures steps { AddsNumbersInSteps (C.told chip.old).places status.old counter.old tids.now
         result (C.told chip.old) (C.told chip.new) }

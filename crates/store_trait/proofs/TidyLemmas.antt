@@ -1,17 +1,24 @@
 -- What is added between stores, one part after another.
-use Rattle.std.proofs.Common.{◌≡◌, Bool, true, false, [], ◌∷◌, ◌++◌, ℕ, List, Option, Some, None, inl, inr, refl, ◌∙◌, ap}
+use Rattle.std.proofs.Common.{◌≡◌, Bool, true, false, [], ◌∷◌, ◌++◌, ℕ, List, refl, ◌∙◌, ap}
 use Rattle.std.specs.Option.{option_map}
 use Rattle.std.proofs.lemmas.Bool.{false≢true}
-use Rattle.chip_trait.specs.declared.event.Event.TheVariants.{Said}
-use Rattle.chip_trait.specs.Told.{History, Told, Appends, FailsToSay, adds, adds_all}
+use Rattle.chip_trait.specs.Story.{Story}
+use Rattle.chip_trait.specs.Lawful.{IsLawful, AreClean}
+use Rattle.chip_trait.specs.Told.{Told, adds_all}
 use Rattle.chip_trait.proofs.HistoryLemmas.{same_history, history_then}
 use Rattle.chip_trait.proofs.LawfulLemmas.{lawful_none, lawful_then, clean_none, clean_then}
+use Rattle.store_trait.specs.Onward.{Still, sayings}
 use Rattle.store_trait.specs.Keeping.{Keeping, LeavesTidy}
 
-one_added : (piece : List ℕ) (o : Option History)
-    → option_map (adds (Said piece)) o ≡ option_map (adds_all (Said piece ∷ [])) o
-one_added piece None = refl
-one_added piece (Some h) = refl
+-- pieces change neither what is lawful nor what is clean
+pub lawful_sayings : (pieces : List (List ℕ)) (base : Story) → IsLawful base → IsLawful (sayings pieces ++ base)
+lawful_sayings [] base lawful = lawful
+lawful_sayings (piece ∷ pieces) base lawful = lawful_sayings pieces base lawful
+
+pub clean_sayings : (sectors : ℕ → ℕ → Type 0) (pieces : List (List ℕ)) (base : Story) → AreClean sectors base
+    → AreClean sectors (sayings pieces ++ base)
+clean_sayings sectors [] base clean = clean
+clean_sayings sectors (piece ∷ pieces) base clean = clean_sayings sectors pieces base clean
 
 module _ {S : Type 0} (k : Keeping S) where
   -- nothing was added
@@ -48,24 +55,12 @@ module _ {S : Type 0} (k : Keeping S) where
     clean = λ is. absurd (false≢true is);
   }
 
-  -- a piece was said
-  said_one : (store : S) (piece : List ℕ) (old new : Told) (done : Bool)
-      → new.history ≡ option_map (adds (Said piece)) old.history → LeavesTidy k store store old new done
-  said_one store piece old new done is = record {
-    added = Said piece ∷ [];
-    history = is ∙ one_added piece old.history;
-    lawful = record { lawful = λ base lawful clean. lawful };
-    clean = λ _. record { clean = λ base lawful clean. clean };
+  -- nothing happened to the chip, whatever was said
+  pub tidy_still : (store : S) (old new : Told) (done : Bool) → Still old new
+      → LeavesTidy k store store old new done
+  tidy_still store old new done still = record {
+    added = sayings still.pieces;
+    history = still.history;
+    lawful = record { lawful = λ base lawful clean. lawful_sayings still.pieces base lawful };
+    clean = λ _. record { clean = λ base lawful clean. clean_sayings (k.clean store) still.pieces base clean };
   }
-
-  pub tidy_said : (store : S) (piece : List ℕ) (old new : Told) → Appends (Said piece) old new
-      → LeavesTidy k store store old new true
-  tidy_said store piece old new did = said_one store piece old new true did.history
-
-  -- or a beginning of it, or nothing
-  pub tidy_unsaid : (store : S) (piece : List ℕ) (old new : Told) → FailsToSay piece old new
-      → LeavesTidy k store store old new false
-  tidy_unsaid store piece old new did = elim did.history [
-    | inl some ↦ said_one store some.0 old new false some.2
-    | inr none ↦ tidy_same store old new false none
-  ]

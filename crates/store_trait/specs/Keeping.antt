@@ -43,12 +43,20 @@ pub record Keeping (S : Type 0) : Type 1 where
   pub cause : Fault → Told → Told → Type 0
   -- a store that keeps a state under these limits may fail so
   pub tells : Limits → Fault → Type 0
+  -- Over a chip that told this at an entry and tells that now, each place that the store takes no more,
+  -- or that its chip lists so, is known to be worn.
+  pub knows : Told → S → Told → Type 0
+  -- such a fault comes only where more places are known to be worn since that entry than are spare
+  pub wears : Told → Fault → Told → Type 0
   -- whatever a power cut leaves of such a chip stands for the records
   pub each : (limits : Limits) (store : S) (t : Told) (h : History) (state : State) → holds limits store t h state
       → Leaves checks (λ x. stands limits x state.map) h []
   -- what is said and what is read of a script changes nothing
   pub still : (limits : Limits) (store : S) (old new : Told) (h : History) (state : State) → (still : Still old new)
       → holds limits store old h state → holds limits store new (adds_all (sayings still.pieces) h) state
+  -- nor does it change what is known
+  pub known_still : (entry : Told) (store : S) (old new : Told) → Still old new → knows entry store old
+      → knows entry store new
   -- a cause is one for a longer time too
   pub caused : (fault : Fault) (first old new last : Told) → Further first old → cause fault old new
       → Further new last → cause fault first last
@@ -128,6 +136,12 @@ module _ {S : Type 0} (k : Keeping S) where
     pub history : new.history ≡ option_map (adds_all added) old.history
     pub lawful : IsLawfulAfter (k.clean before) added
     pub clean : done ≡ true → LeavesClean (k.clean before) (k.clean then) added
+
+  -- What is worn since an entry is known still when the work is done. Where it fails with a fault that
+  -- tells of wear, too much is known to be worn.
+  abbrev pub Learns : {T : Type 0} → S → Told → Result T Fault → S → Told → Type 0
+  Learns before old result then new = (entry : Told) → k.knows entry before old →
+      MatchResult result (λ _. k.knows entry then new) (λ fault. k.wears entry fault new)
 
   -- At most n numbers were drawn, from the counter before on or from what an opening found; and where this says that the
   -- numbers are used up, the counter would have come near its end.

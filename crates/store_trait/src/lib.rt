@@ -4,7 +4,7 @@
 //!
 //! Proved, by `Store`, `Keeping`: what a store promises: at each moment of a command's work a cut
 //! leaves the records before it or after it; done, the reply and the records are the model's; how
-//! many numbers it draws, and when each fault comes.
+//! many numbers it draws, when each fault comes, and which places are known to be worn then.
 #![tactic(auto)]
 
 mod fault;

@@ -10,7 +10,7 @@ use ipl_model::{Command, Reply};
 /// A store of records over a chip. It says nothing; a run says its replies.
 pub trait Store {
     ghost use Rattle.ipl_rules.specs.State.{State, Limits};
-    ghost use Rattle.store_trait.specs.Keeping.{Keeping, IsSingle, Works, LooksUp, LeavesTidy, Draws, WORK_DRAWS, LOOK_UP_DRAWS};
+    ghost use Rattle.store_trait.specs.Keeping.{Keeping, IsSingle, Works, LooksUp, LeavesTidy, Learns, Draws, WORK_DRAWS, LOOK_UP_DRAWS};
 
     /// How it keeps a state on a chip of so many places.
     ghost keeping: { ℕ → Keeping Self };
@@ -31,6 +31,8 @@ pub trait Store {
         ensures tidy { LeavesTidy (keeping (C.told chip.old).places) self.old self.new (C.told chip.old) (C.told chip.new)
             (is_ok result) }
         ensures suited { OnOk result ((keeping (C.told chip.old).places).suits self.new) }
+        ensures learns { Learns (keeping (C.told chip.old).places) self.old (C.told chip.old) result self.new
+            (C.told chip.new) }
         ensures counts { Counts (C.told chip.old) (C.told chip.new) }
         ensures cause { IfErr result
             (λ fault. (keeping (C.told chip.old).places).cause fault (C.told chip.old) (C.told chip.new)) };
@@ -44,6 +46,8 @@ pub trait Store {
         ensures tidy { LeavesTidy (keeping (C.told chip.old).places) self.old self.new (C.told chip.old) (C.told chip.new)
             (is_ok result) }
         ensures suited { OnOk result ((keeping (C.told chip.old).places).suits self.new) }
+        ensures learns { Learns (keeping (C.told chip.old).places) self.old (C.told chip.old) result self.new
+            (C.told chip.new) }
         ensures counts { Counts (C.told chip.old) (C.told chip.new) }
         ensures cause { IfErr result
             (λ fault. (keeping (C.told chip.old).places).cause fault (C.told chip.old) (C.told chip.new)) };

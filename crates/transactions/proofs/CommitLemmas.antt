@@ -11,13 +11,18 @@ use Rattle.ipl_meaning.specs.Tables.{Places, Status, Tables, IsCountedClean}
 use Rattle.ipl_meaning.specs.TableSteps.{after_commit as after_commit_of}
 use Rattle.merge_rules.specs.Known.{KnowsPlaces}
 use Rattle.merge_rules.proofs.KnownCleanLemmas.{commit_shrinks}
-use Rattle.unit_io.specs.Costs.{Spends}
+use Rattle.place_taking.specs.Laws.{IsAlikeInWear}
+use Rattle.place_taking.specs.Spending.{tells_worn}
+use Rattle.place_taking.specs.Wear.{Wears}
+use Rattle.place_taking.proofs.WearLemmas.{failures_wear, nothing_wears, programs_retire_none, programs_wear_nothing}
+use Rattle.unit_io.specs.Costs.{ProgramsAt, Spends}
 use Rattle.unit_io.specs.Spots.{Programs, IsSpot}
 use Rattle.steps.specs.Steps.{Settled, Tidies}
 use Rattle.steps.proofs.TablesLemmas.{tables_none, tables_fewer, tables_programmed}
 use Rattle.unit_io.specs.Accounts.{Accounts}
 use Rattle.unit_io.specs.Charts.{Charts}
 use Rattle.unit_io.specs.Leads.{IsStopped}
+use Rattle.txn_status.specs.Adding.{KeepsFirstAt}
 use Rattle.txn_status.specs.Status.{after_add, room_of}
 use Rattle.buffer_pool.specs.Holding.{KeepsPins}
 use Rattle.buffer_pool.specs.Pools.{PoolView}
@@ -64,6 +69,12 @@ stopped_accounts then before after (Err e) did = record {
   cause = subst (λ (f : ChipFault). PageCause then f before after) (sym did.cause.0) did.cause.1;
 }
 
+-- with the same directory the same places are retired
+alike_in_wear : (old new : Pages) → new.parts.directory ≡ old.parts.directory
+    → new.parts.status.place ≡ old.parts.status.place → IsAlikeInWear (tables_in old) (tables_in new)
+alike_in_wear old new directory status =
+    record { retired = ap (λ (d : Places). d.retired) directory; status = status }
+
 -- the numbers of sessions were added, and their changes are values
 pub numbers_added : (ss tids : List ℕ) (old new : Transactions) (added : Pages)
     (before after : Told)
@@ -83,10 +94,12 @@ pub numbers_added : (ss tids : List ℕ) (old new : Transactions) (added : Pages
     → new.sessions ≡ slots_after old.sessions ss
     → new.pages.parts.active ≡ numbers_in new.sessions → LocksHold new.sessions
     → Spends (Programs old.pages.parts.status.place (IsSpot old.pages.parts.status.first) true) before after
+    → Spends (ProgramsAt old.pages.parts.status.place 1 2 6) before after
+    → Charts (KeepsFirstAt old.pages.parts.status.place) before after
     → Accounts IsStopped (Ok (tt {0})) before after
     → Turns (λ state. after_batch state ss) 1 old before (Ok (tt {0})) new after
 numbers_added ss tids old new added before after order are may writers adds steps directory overflow
-    status counter settled pins rest slots active locks programs accounts =
+    status counter settled pins rest slots active locks programs costs header accounts =
     let ended = slots_after old.sessions ss in
     let stands = old.pages.parts.status in
     let next = old.pages.parts.counter in
@@ -116,6 +129,12 @@ numbers_added ss tids old new added before after order are may writers adds step
           after order.ready.known may.room
           (λ end q n counted. subst (λ (m : Memory). IsCountedClean m.tables q n) (sym same) counted)
           programs;
+      wears = programs_wear_nothing (tables_in old.pages) (tables_in new.pages) true false before after
+          (alike_in_wear old.pages new.pages (rest.directory ∙ directory)
+          (ap (λ (it : Status). it.place) (rest.status ∙ status)))
+          (programs_retire_none (tables_in old.pages).places (tables_in new.pages).places stands.place 1 2
+          6 before after (ap (λ (d : Places). d.retired) (rest.directory ∙ directory)) costs)
+          (λ done. header);
       order = record {
         ready = still_ready before.places old.pages new.pages (record {
           places = rest.directory ∙ directory;
@@ -151,10 +170,11 @@ pub numbers_not_added : (ss tids : List ℕ) (e : ChipFault) (old new : Transact
     → (old.pages.parts.counter ≤ new.pages.parts.counter)
     × (new.pages.parts.counter ≤ old.pages.parts.counter + 1)
     → Spends (Programs old.pages.parts.status.place (IsSpot old.pages.parts.status.first) false) before after
+    → Spends (ProgramsAt old.pages.parts.status.place 1 2 6) before after
     → Accounts {T = Unit {0}} IsStopped (Err e) before after
     → Turns {T = Unit {0}} (λ state. after_batch state ss) 1 old before (Err e) new after
 numbers_not_added ss tids e old new before after order are may writers steps sessions pool directory
-    overflow status active draws programs accounts =
+    overflow status active draws programs costs accounts =
     let pins = subst (KeepsPins old.pages.pool) (sym pool) (nothing_keeps old.pages.pool) in record {
       leads = failed_numbers_lead ss (memory_in old) (memory_in new) e e before after are may.out
           (subst (λ (l : List ℕ). AddsNumbersInSteps before.places old.pages.parts.status
@@ -162,6 +182,11 @@ numbers_not_added ss tids e old new before after order are may writers steps ses
       tidy = number_tidy before.places (tables_in old.pages) (tables_in new.pages) false (Err e)
           before after order.ready.known may.room
           (λ unrisen. absurd (omega (arith, accounts.cause.1, unrisen))) programs;
+      wears = subst (λ (f : ChipFault). Wears (tables_in old.pages) (tables_in new.pages) false
+          (tells_worn f) before after) (sym accounts.cause.0)
+          (failures_wear (tables_in old.pages) (tables_in new.pages) false before after
+          (programs_retire_none (tables_in old.pages).places (tables_in new.pages).places
+          old.pages.parts.status.place 1 2 6 before after (ap (λ (d : Places). d.retired) directory) costs));
       order = record {
         ready = still_ready before.places old.pages new.pages (record {
           places = directory;
@@ -231,6 +256,8 @@ empty_committed ss most old new told order are none rest slots active locks =
       tidy = tables_fewer {T = Unit {0}} {E = ChipFault} (tables_in old.pages) (tables_in old.pages) (tables_in new.pages) (Ok tt)
           told told (λ q n counted. active_counted old.pages new.pages rest q n counted)
           (tables_none {T = Unit {0}} {E = ChipFault} (tables_in old.pages) (Ok tt) told);
+      wears = nothing_wears (tables_in old.pages) (tables_in new.pages) true told
+          (alike_in_wear old.pages new.pages rest.directory (ap (λ (it : Status). it.place) rest.status));
       order = record {
         ready = still_ready told.places old.pages new.pages (record {
           places = rest.directory;

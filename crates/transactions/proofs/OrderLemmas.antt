@@ -146,6 +146,7 @@ turned_in_memory next old new t frames slots is same clean pins had active leads
   fewer = λ p s counted. clean p s (subst (λ (m : Memory). IsCountedClean m.tables p s)
       (sym (memory_is t frames slots new is)) counted);
   directory = is.places ∙ same.places;
+  status = ap (λ (s : Status). s.place) is.status ∙ same.status;
   order = λ places order. record {
     ready = still_ready places old.pages new.pages (record {
       places = is.places ∙ same.places;

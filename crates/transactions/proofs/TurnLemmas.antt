@@ -1,5 +1,5 @@
 -- Calls that keep each state, and then one that leads to the next.
-use Rattle.std.proofs.Common.{◌≡◌, ℕ, ◌≤◌, ◌+◌, Result, Ok, Err, sym, ◌∙◌, ap, subst, arith}
+use Rattle.std.proofs.Common.{◌≡◌, ℕ, ◌≤◌, ◌+◌, Bool, true, false, Result, Ok, Err, is_ok, refl, sym, ◌∙◌, ap, subst, arith}
 use Rattle.chip_trait.specs.Told.{Told}
 use Rattle.ipl_base.specs.declared.fault.ChipFault.{ChipFault}
 use Rattle.ipl_rules.specs.State.{State}
@@ -7,6 +7,9 @@ use Rattle.record_locks.specs.Held.{Slots, numbers_in}
 use Rattle.buffer_pool.proofs.HoldingLemmas.{both_keep}
 use Rattle.status_renewal.proofs.CauseLemmas.{accounts_then}
 use Rattle.steps.proofs.TablesLemmas.{tables_none, tables_then}
+use Rattle.place_taking.specs.Spending.{is_worn_out, tells_worn}
+use Rattle.place_taking.specs.Wear.{Wears}
+use Rattle.place_taking.proofs.WearLemmas.{nothing_wears, wears_are_joined}
 use Rattle.unit_io.proofs.ReadsAtLemmas.{at_none}
 use Rattle.store_steps.specs.Advances.{memory_of, LeadsTo}
 use Rattle.store_steps.proofs.KeeperLemmas.{Nowhere, keepers_are_joined, reads_keep_states}
@@ -51,6 +54,8 @@ upheld_then next n m old mid new result before between after did same turns =
           (memory_in new) after) same turns.leads);
       tidy = tables_then (Unit {0}) ChipFault (tables_in old.pages) (tables_in mid.pages)
           (tables_in new.pages) tt result before between after counts did.tidy turns.tidy;
+      wears = wears_are_joined (tables_in old.pages) (tables_in mid.pages) (tables_in new.pages)
+          (is_ok result) (is_worn_out result) before between after did.wears turns.wears;
       order = subst (λ (places : ℕ). IsInOrder places new) counts.places turns.order;
       units = turns.units ∙ did.units;
       pins = both_keep old.pages.pool mid.pages.pool new.pages.pool did.pins turns.pins;
@@ -72,6 +77,7 @@ upheld_no_more next n old new e before after order did same = record {
       (failed_keepers_lead next (memory_in old) (tables_in new.pages) (frames_in new.pages) e e
       before after did.keeps);
   tidy = did.tidy;
+  wears = did.wears;
   order = upheld_order n old new (Err e) before after order did same;
   units = did.units;
   pins = did.pins;
@@ -84,9 +90,9 @@ upheld_no_more next n old new e before after order did same = record {
 pub upheld_refused : (next : State → State) (n : ℕ) (old new : Transactions) (e : ChipFault)
     (before after : Told) → IsInOrder before.places old
     → Upholds n old.pages before (Ok (tt {0})) new.pages after → new.sessions ≡ old.sessions
-    → PageCause new.pages.parts.directory e before after
+    → PageCause new.pages.parts.directory e before after → tells_worn e ≡ false
     → Turns {T = Unit {0}} next n old before (Err e) new after
-upheld_refused next n old new e before after order did same cause =
+upheld_refused next n old new e before after order did same cause calm =
     let t = tables_in new.pages in
     let frames = frames_in new.pages in
     upheld_no_more next n old new e before after order (record {
@@ -95,6 +101,9 @@ upheld_refused next n old new e before after order did same cause =
           (reads_keep_states Nowhere t frames (Err e) after after (at_none Nowhere after));
       tidy = tables_then {U = Unit {0}} {F = ChipFault} (Unit {0}) ChipFault (tables_in old.pages) t
           t tt (Err e) before after after did.accounts.counts did.tidy (tables_none {T = Unit {0}} {E = ChipFault} t (Err e) after);
+      wears = subst (λ (worn_out : Bool). Wears (tables_in old.pages) t false worn_out before after)
+          (sym calm) (wears_are_joined (tables_in old.pages) t t false false before after after did.wears
+          (nothing_wears t t false after (record { retired = refl; status = refl })));
       ready = did.ready;
       units = did.units;
       active = did.active;
@@ -124,6 +133,7 @@ pub turns_weaker : (next : State → State) (n m : ℕ) (old new : Transactions)
 turns_weaker next n m old new result before after fewer turns = record {
   leads = turns.leads;
   tidy = turns.tidy;
+  wears = turns.wears;
   order = turns.order;
   units = turns.units;
   pins = turns.pins;

@@ -1,5 +1,5 @@
 -- What a write makes of the memory of a store.
-use Rattle.std.proofs.Common.{◌≡◌, ◌≢◌, ℕ, ◌<◌, ◌≤◌, ◌*◌, Bool, false, length, Some, None, IsSome, Ok, Err, inl, inr, refl, sym, ◌∙◌, ap, subst, arith}
+use Rattle.std.proofs.Common.{true, ◌≡◌, ◌≢◌, ℕ, ◌<◌, ◌≤◌, ◌*◌, Bool, false, length, Some, None, IsSome, Ok, Err, inl, inr, refl, sym, ◌∙◌, ap, subst, arith}
 use Rattle.std.specs.Prelude.{IfSome}
 use Rattle.chip_trait.specs.Told.{Told}
 use Rattle.chip_trait.proofs.CountsLemmas.{counts_none}
@@ -39,6 +39,7 @@ use Rattle.frame_changes.proofs.RoomLemmas.{puts_by_marks_have_room}
 use Rattle.page_writing.specs.Spending.{ErasesAndLogs}
 use Rattle.page_frames.specs.declared.pages.Pages.{Pages}
 use Rattle.page_frames.specs.Pages.{tables_in, frames_in, IsFramed, KeepsValues, Upholds}
+use Rattle.place_taking.proofs.WearLemmas.{nothing_wears}
 use Rattle.transactions.specs.declared.transactions.Transactions.{Transactions}
 use Rattle.page_frames.specs.Asks.{AsksToPrepare}
 use Rattle.transactions.specs.Costs.{HasRoomFor, AsksToWrite}
@@ -214,6 +215,10 @@ was_put s n u r old new told order low mine of_unit valid home slots locks parts
           (λ i. memory_of (tables_of (sym parts i)) (sym did.frames i) (sym slots i)) led;
       tidy = subst (λ (p : Parts). Tidies {T = Unit {0}} {E = ChipFault} t (Ok tt) (tables_of p) told told)
           (sym parts) (tables_none {T = Unit {0}} {E = ChipFault} t (Ok tt) told);
+      wears = nothing_wears t (tables_in new.pages) true told (record {
+        retired = ap (λ (p : Parts). p.directory.retired) parts;
+        status = ap (λ (p : Parts). p.status.place) parts;
+      });
       order = record {
         ready = still_ready told.places old.pages new.pages (record {
           places = ap (λ (p : Parts). p.directory) parts;

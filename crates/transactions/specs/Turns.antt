@@ -1,5 +1,5 @@
 -- What sessions do to the memory of a store, and to its chip.
-use Rattle.std.specs.Prelude.{ℕ, ◌≡◌, ◌<◌, ◌≤◌, ◌+◌, false, List, All, length, Some, IfSome, Result, Ok, IfErr}
+use Rattle.std.specs.Prelude.{ℕ, ◌≡◌, ◌<◌, ◌≤◌, ◌+◌, false, List, All, length, Some, IfSome, Result, Ok, IfErr, is_ok}
 use Rattle.chip_trait.specs.Told.{Told}
 use Rattle.ipl_base.specs.declared.fault.ChipFault.{ChipFault}
 use Rattle.ipl_base.specs.Places.{home_of}
@@ -13,6 +13,8 @@ use Rattle.ipl_meaning.specs.Tables.{IsCountedClean}
 use Rattle.unit_io.specs.Accounts.{Accounts}
 use Rattle.unit_io.specs.Reads.{OfContents}
 use Rattle.steps.specs.Steps.{Tidies}
+use Rattle.place_taking.specs.Spending.{is_worn_out}
+use Rattle.place_taking.specs.Wear.{Wears}
 use Rattle.txn_status.specs.Status.{room_of}
 use Rattle.merge_rules.specs.Faults.{FailsByChipAlone}
 use Rattle.buffer_pool.specs.Holding.{KeepsPins}
@@ -62,12 +64,15 @@ TellsFaultsFor it result told new = OfContents told (λ x. (layout : Layout) (st
     → IfErr result (FailsByPage x layout (tables_in new)))
 
 -- A call that leads from each state that memory and chip stand for to the next one. Whatever the chip
--- tells: its events are lawful by the tables, the memory is in order, there are as many units, the same
--- pages are held, at most so many numbers were drawn, and a fault has its cause.
+-- tells: its events are lawful by the tables, what is retired besides was found worn, the memory is in
+-- order, there are as many units, the same pages are held, at most so many numbers were drawn, and a fault
+-- has its cause.
 pub record Turns {T : Type 0} (next : State → State) (most : ℕ) (old : Transactions) (before : Told)
     (result : Result T ChipFault) (new : Transactions) (after : Told) : Type 0 where
   pub leads : LeadsTo next (memory_in old) before result (memory_in new) after
   pub tidy : Tidies (tables_in old.pages) result (tables_in new.pages) before after
+  pub wears : Wears (tables_in old.pages) (tables_in new.pages) (is_ok result) (is_worn_out result)
+      before after
   pub order : IsInOrder before.places new
   pub units : length new.pages.parts.directory.current ≡ length old.pages.parts.directory.current
   pub pins : KeepsPins old.pages.pool new.pages.pool
@@ -75,12 +80,13 @@ pub record Turns {T : Type 0} (next : State → State) (most : ℕ) (old : Trans
   pub drawn : new.pages.parts.counter ≤ old.pages.parts.counter + most
   pub accounts : Accounts (PageCause new.pages.parts.directory) result before after
 
--- A call in memory alone that does, over whatever chip. The directory is the same, and no more sectors
--- are counted as clean.
+-- A call in memory alone that does, over whatever chip. The directory is the same, the status has the
+-- same place, and no more sectors are counted as clean.
 pub record TurnsInMemory (next : State → State) (old new : Transactions) : Type 0 where
   pub leads : (told : Told) → LeadsTo {T = Unit {0}} {E = ChipFault} next (memory_in old) told (Ok tt)
       (memory_in new) told
   pub directory : new.pages.parts.directory ≡ old.pages.parts.directory
+  pub status : new.pages.parts.status.place ≡ old.pages.parts.status.place
   pub fewer : (p s : ℕ) → IsCountedClean (tables_in new.pages) p s → IsCountedClean (tables_in old.pages) p s
   pub order : (places : ℕ) → IsInOrder places old → IsInOrder places new
   pub pins : KeepsPins old.pages.pool new.pages.pool

@@ -1,20 +1,20 @@
 -- Pieces that are said, and nothing else.
 use Rattle.std.specs.Prelude.{IfErr, OnErr}
-use Rattle.std.proofs.Common.{◌≡◌, ◌⊎◌, inl, inr, ℕ, ◌+◌, ◌<◌, ◌≤◌, true, false, Result, Ok, Err, Bool, List, [], ◌∷◌, ◌++◌, take, drop, length, get_or, reverse, refl, sym, ◌∙◌, ap, subst}
+use Rattle.std.proofs.Common.{◌≡◌, ◌⊎◌, inl, inr, ℕ, ◌+◌, ◌<◌, ◌≤◌, Result, Ok, Err, Bool, List, [], ◌∷◌, ◌++◌, take, drop, length, get_or, reverse, refl, sym, ◌∙◌, ap, subst}
 use Rattle.std.specs.Option.{option_map}
 use Rattle.std.proofs.lemmas.List.{append-nil, reverse-append, reverse-reverse, take-append-drop, drop_more, take_more}
 use Rattle.ipl_rules.specs.State.{State, Limits}
 use Rattle.chip_trait.specs.declared.event.Event.{Event}
 use Rattle.chip_trait.specs.declared.event.Event.TheVariants.{Said}
-use Rattle.chip_trait.specs.Story.{Story, Contents, pieces}
+use Rattle.chip_trait.specs.Story.{Contents, pieces}
 use Rattle.chip_trait.specs.Moment.{AtEachMoment, Leaves}
-use Rattle.chip_trait.specs.Lawful.{IsLawful, AreClean}
 use Rattle.chip_trait.specs.Told.{History, Told, IsPrefix, Appends, FailsToSay, Rose, adds, adds_all}
 use Rattle.chip_trait.proofs.HistoryLemmas.{same_history, history_then}
 use Rattle.chip_trait.proofs.MomentLemmas.{at_start, at_next, at_end}
 use Rattle.store_trait.specs.Onward.{Onward, Still, sayings}
-use Rattle.store_trait.specs.Keeping.{Keeping, AllOf, LeavesTidy}
+use Rattle.store_trait.specs.Keeping.{Keeping, AllOf}
 use Rattle.store_trait.proofs.OnwardLemmas.{still_said}
+use Rattle.store_trait.proofs.TidyLemmas.{lawful_sayings, clean_sayings}
 use Rattle.script_run.specs.declared.fault.Stop.{Stop}
 use Rattle.script_run.specs.declared.fault.Stop.TheVariants as stop
 use Rattle.script_run.specs.Goes.{Along}
@@ -117,28 +117,22 @@ only_sayings : (P : Event → Type 0) (said : List (List ℕ)) → AllOf (IsSaid
 only_sayings P [] = tt
 only_sayings P (piece ∷ said) = (tt, only_sayings P said)
 
-lawful_sayings : (said : List (List ℕ)) (base : Story) → IsLawful base → IsLawful (sayings said ++ base)
-lawful_sayings [] base lawful = lawful
-lawful_sayings (piece ∷ said) base lawful = lawful_sayings said base lawful
-
-clean_sayings : (sectors : ℕ → ℕ → Type 0) (said : List (List ℕ)) (base : Story) → AreClean sectors base
-    → AreClean sectors (sayings said ++ base)
-clean_sayings sectors [] base clean = clean
-clean_sayings sectors (piece ∷ said) base clean = clean_sayings sectors said base clean
+-- nothing happened to the chip
+abbrev still_of : (said : List (List ℕ)) (old new : Told) → HasSaid said old new → Still old new
+still_of said old new has = record {
+  places = has.places;
+  settled = has.settled;
+  contents = has.contents;
+  pieces = reverse said;
+  history = has.history;
+}
 
 module _ {S : Type 0} (k : Keeping S) (limits : Limits) (state : State) (store : S) (h : History) (old new : Told)
     (said : List (List ℕ)) (holds : k.holds limits store old h state)
     (has : HasSaid said old new) where
   -- the store keeps the state
   pub kept_still : k.holds limits store new (adds_all (sayings (reverse said)) h) state
-  kept_still =
-      let still : Still old new = record {
-        places = has.places;
-        settled = has.settled;
-        contents = has.contents;
-        pieces = reverse said;
-        history = has.history;
-      } in k.still limits store old new h state still holds
+  kept_still = k.still limits store old new h state (still_of said old new has) holds
 
   -- so the lines are said
   pub saying_each : (done : Bool) → (leaves : SayingLeaves k limits state.map said store h store old new done)
@@ -157,15 +151,6 @@ module _ {S : Type 0} (k : Keeping S) (limits : Limits) (state : State) (store :
 
 -- ---- what goes along, whatever the chip tells
 
-said_tidy : {S : Type 0} (k : Keeping S) (store : S) (said : List (List ℕ)) (old new : Told) (done : Bool)
-    → HasSaid said old new → LeavesTidy k store store old new done
-said_tidy k store said old new done has = record {
-  added = sayings (reverse said);
-  history = has.history;
-  lawful = record { lawful = λ base lawful clean. lawful_sayings (reverse said) base lawful };
-  clean = λ e. record { clean = λ base lawful clean. clean_sayings (k.clean store) (reverse said) base clean };
-}
-
 -- the lines behind the look-ups, said or not
 pub along_lines : {S : Type 0} (k : Keeping S) (n m : ℕ) (before then : S) (lines : List (List ℕ)) (old mid new : Told)
     (result : Result (Unit {0}) Stop) → Along k {T = Unit {0}} Onward n before old (Ok tt) then mid
@@ -173,7 +158,7 @@ pub along_lines : {S : Type 0} (k : Keeping S) (n m : ℕ) (before then : S) (li
     → OnErr result (Rose mid.beside.say_faults new.beside.say_faults) → n ≤ m
     → Along k Onward m before old result then new
 along_lines k n m before then lines old mid new (Ok u) first says on stop cause few =
-    along_said first on (said_tidy k then lines mid new true says) few
+    along_said first on (still_of lines mid new says) few
 along_lines k n m before then lines old mid new (Err s) first says on is cause few =
     subst (λ (e : Stop). Along k {T = Unit {0}} Onward m before old (Err e) then new) (sym is)
-    (along_unsaid first on cause (said_tidy k then says.0 mid new false says.2) few)
+    (along_unsaid first on cause (still_of says.0 mid new says.2) few)

@@ -7,7 +7,8 @@
 //! Proved, by `run_trial`: a trial over any store: what is said is the summary of its commands by
 //! the model, or a beginning of it, line by line; each moment of a cut, in the order of the
 //! commands; lawful events, what the store keeps at every end and which commands are done then,
-//! each end's cause, that a fault of the store comes of the chip, how many numbers it draws.
+//! each end's cause, that a fault of the store comes of the chip, how many numbers it draws, and
+//! what is known of worn places at its end.
 #![tactic(auto)]
 
 mod run;

@@ -13,7 +13,7 @@ use Rattle.ipl_format.proofs.PayloadLemmas.{commits_spell_once}
 use Rattle.ipl_rules.specs.State.{Map}
 use Rattle.ipl_meaning.specs.Chart.{Chart}
 use Rattle.ipl_meaning.specs.Layout.{Layout}
-use Rattle.ipl_meaning.specs.Stands.{Says, Stands}
+use Rattle.ipl_meaning.specs.Stands.{Says, StandsBeside}
 use Rattle.ipl_meaning.specs.Rests.{now, EachStandsEither, WornAreIdle, StoryRests}
 use Rattle.ipl_meaning.proofs.PartLemmas.{idle_still}
 use Rattle.ipl_meaning.proofs.WornLemmas.{worn_by_layout}
@@ -132,7 +132,7 @@ module _ (places : ℕ) (c : Chart) (it : Layout) (t : Tables) (numbers active :
         may_commit).1;
   }
 
-  pub stands_added : (n : Map) → Says places c (with_committed it committed) n → Stands places y n
+  pub stands_added : (n : Map) → Says places c (with_committed it committed) n → StandsBeside places c y n
   stands_added n says = stands_after_commits places c it n t.status.first sector numbers committed
       mirrors.laid may_commit says
 
@@ -203,8 +203,8 @@ added_in_steps places status next numbers result old new are least room leads st
     let fits_room : t.status.first < 256 = omega (arith, first) in
     let counted : IsCountedClean t status.place status.first =
     (room, inr (inr (ap (λ (s : Status). s.place) (sym has.status_is), omega (arith, first)))) in
-    let stands : Stands places (with_sector (now h) status.place status.first sector) n =
-    subst (λ (z : Chart). Stands places z n)
+    let stands : StandsBeside places (now h) (with_sector (now h) status.place status.first sector) n =
+    subst (λ (z : Chart). StandsBeside places (now h) z n)
     (same_chart places status next numbers (now h) it t mirrors has)
     (stands_added places (now h) it t numbers active mirrors ready.may are fits_least fits_room n
     ready.then_says) in

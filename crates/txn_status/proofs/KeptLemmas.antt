@@ -76,7 +76,7 @@ parts_none : (p generation serial : ℕ) (numbers : List ℕ) (c : Chart)
 parts_none p generation serial numbers c =
     record { here = λ i low. absurd (omega arith); others = λ q s apart. refl }
 
-put_there : (c : Chart) (p s : ℕ) (sector : Sector) → with_sector c p s sector p s ≡ Some sector
+pub put_there : (c : Chart) (p s : ℕ) (sector : Sector) → with_sector c p s sector p s ≡ Some sector
 put_there c p s sector = rw (eq-eqb p p refl, eq-eqb s s refl) refl
 
 put_apart : (c : Chart) (p s : ℕ) (sector : Sector) (q t : ℕ) → (q ≡ p → t ≡ s → ⊥)

@@ -6,3 +6,5 @@ pub mod SwitchLemmas
 pub mod SwitchedLemmas
 pub mod ReadLemmas
 pub mod TidyLemmas
+pub mod ListedLemmas
+pub mod FirstLemmas

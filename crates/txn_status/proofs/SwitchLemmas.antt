@@ -14,7 +14,7 @@ use Rattle.ipl_rules.specs.State.{Map}
 use Rattle.ipl_meaning.specs.Chart.{Chart}
 use Rattle.ipl_meaning.specs.Layout.{Layout, Laid, IsStatus}
 use Rattle.ipl_meaning.specs.Rests.{WornAreIdle}
-use Rattle.ipl_meaning.specs.Stands.{Says, Stands}
+use Rattle.ipl_meaning.specs.Stands.{Says, StandsBeside}
 use Rattle.ipl_meaning.specs.Steps.{SameBut, KeepsPages, KeepsNumbers, with_status, ComesToNothing, MaySwitch}
 use Rattle.ipl_meaning.specs.Found.{MentionsBelow, IsPlaceBelow}
 use Rattle.ipl_meaning.specs.Tables.{Status, Tables}
@@ -286,7 +286,7 @@ module _ (places : ℕ) (c y : Chart) (it : Layout) (t : Tables) (p : ℕ) (kept
     }
 
   pub stands_then : (m : Map) → Says places c it m → KeepsNumbers it (among kept)
-      → Stands places (with_sector y p 0 head) m
+      → StandsBeside places y (with_sector y p 0 head) m
   stands_then m says keeps = stands_after_renewals places y it m p head (among kept) kept_still.0
       (kept_pages_keep_the_map places c y it it m kept_still.1 refl says) may_switch keeps
 

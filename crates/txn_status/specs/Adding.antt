@@ -50,6 +50,10 @@ pub record Added (places : ℕ) (c y : Chart) (it : Layout) (t : Tables) (number
   pub mirrors : Mirrors places y (layout_added it numbers) (with_added t numbers next active)
   pub pages : KeepsPages places c (layout_added it numbers) y (layout_added it numbers)
 
+-- the first sector of the place is as it was
+abbrev pub KeepsFirstAt : ℕ → Chart → Chart → Type 0
+KeepsFirstAt p c y = y p 0 ≡ c p 0
+
 -- whatever tables of this status and counter mirrored the old chart
 abbrev pub Adds : ℕ → Status → ℕ → List ℕ → Chart → Chart → Type 0
 Adds places status next numbers c y = (it : Layout) (t : Tables) (active : List ℕ)

@@ -19,6 +19,7 @@ use Rattle.unit_io.specs.Leads.{IsSteady}
 use Rattle.unit_io.specs.Spots.{Programs}
 use Rattle.steps.specs.Steps.{Settled, NoOtherEnd, EndsWith, Outcome, RestsAgreeing}
 use Rattle.number_set.specs.Numbers.{among}
+use Rattle.unit_layout.specs.Retired.{retired_in}
 use Rattle.txn_status.specs.Commits.{commit_sector, part_of}
 use Rattle.txn_status.specs.Status.{parts_of, switched_to}
 use Rattle.txn_status.specs.Adding.{HasStatus}
@@ -51,6 +52,11 @@ pub record IsStatusHead (places units erases : ℕ) (retired : List ℕ) (genera
   pub counts : SpellsStatusHeader head.version places units head.payload
   pub says : erases_said (Some head) ≡ erases
   pub lists : counts.retired ≡ retired
+
+-- the header of the place lists exactly these places as retired
+abbrev pub ListsAt : ℕ → List ℕ → Chart → Type 0
+ListsAt p retired y = (head : Sector) × (y p 0 ≡ Some head)
+    × (retired_in head.version head.payload ≡ retired)
 
 -- ---- tables
 

@@ -8,7 +8,7 @@ use Rattle.ipl_base.specs.declared.fault.ChipFault.{ChipFault}
 use Rattle.ipl_format.specs.Sector.{Sector}
 use Rattle.ipl_rules.specs.State.{Map}
 use Rattle.ipl_meaning.specs.Chart.{Chart}
-use Rattle.ipl_meaning.specs.Stands.{Stands}
+use Rattle.ipl_meaning.specs.Stands.{StandsBeside}
 use Rattle.ipl_meaning.specs.Rests.{now, WornAreIdle, StoryRests}
 use Rattle.unit_io.specs.Leads.{IsSteady, KeepsMap, SwitchesMap}
 use Rattle.unit_io.specs.Spots.{Programs, IsSpot}
@@ -21,7 +21,7 @@ abbrev pub LeadsCommit : ℕ → ℕ → ℕ → Sector
     → Told → Result (Unit {0}) ChipFault → Told → Type 0
 LeadsCommit places p s sector old result new = (m n : Map) (h : History)
     → IsSteady h old → StoryRests places m h → IsClosed h.story → age h.story p s ≡ Clean
-    → Stands places (with_sector (now h) p s sector) n
+    → StandsBeside places (now h) (with_sector (now h) p s sector) n
     → WornAreIdle places h.story (with_sector (now h) p s sector)
     → SwitchesMap places m n (Programs p (IsSpot s)) (λ done. Gains p s sector) h old result new
 
@@ -59,6 +59,6 @@ abbrev pub LeadsHeader : ℕ → ℕ → ℕ → ℕ → List ℕ → ℕ
 LeadsHeader places p units erases retired generation old result new = (m : Map) (h : History)
     → IsSteady h old → StoryRests places m h → age h.story p 0 ≡ Clean
     → ((head : Sector) → IsStatusHead places units erases retired generation head
-    → Stands places (with_sector (now h) p 0 head) m × WornAreIdle places h.story (with_sector (now h) p 0 head))
+    → StandsBeside places (now h) (with_sector (now h) p 0 head) m × WornAreIdle places h.story (with_sector (now h) p 0 head))
     → KeepsMap places m (Programs p (IsSpot 0))
     (λ done. IsHeaded places p units erases retired generation) h old result new

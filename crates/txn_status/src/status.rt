@@ -16,9 +16,9 @@ ghost use Rattle.ipl_format.specs.Whole.{IsWhole};
 ghost use Rattle.number_set.specs.Numbers.{AreRising};
 ghost use Rattle.txn_status.specs.ReadingIn.{IsReadIn, IsCommitSpot, IsOfPlace, IsStatusAt};
 ghost use Rattle.txn_status.specs.Status.{empty_status, room_of, after_add, parts_of, switched_to, IsSoundStatus};
-ghost use Rattle.txn_status.specs.Adding.{Adds, AddsInSteps};
+ghost use Rattle.txn_status.specs.Adding.{Adds, AddsInSteps, KeepsFirstAt};
 ghost use Rattle.place_taking.specs.Fills.{FillsAt};
-ghost use Rattle.txn_status.specs.Switching.{IsStatusSpot, Switches, SwitchesInSteps};
+ghost use Rattle.txn_status.specs.Switching.{IsStatusSpot, ListsAt, Switches, SwitchesInSteps};
 
 use crate::commits::write_commit;
 use crate::parts::{part_count, seal_status, write_parts};
@@ -202,6 +202,9 @@ impl Status {
         ensures adds { OnOk result (Charts
             (Adds (C.told chip.old).places self.old counter.old tids.now)
             (C.told chip.old) (C.told chip.new)) }
+        // Whatever it held before, the header of the place is as it was.
+        ensures header { OnOk result (Charts (KeepsFirstAt self.old.place)
+            (C.told chip.old) (C.told chip.new)) }
         ensures steps { AddsInSteps (C.told chip.old).places self.old counter.old tids.now
             result (C.told chip.old) (C.told chip.new) }
         // One program and a barrier.
@@ -258,6 +261,9 @@ impl Status {
         ensures switches { OnOk result (Charts
             (Switches (C.told chip.old).places header.now.units header.now.erases retired.now self.old
             generation place kept.now)
+            (C.told chip.old) (C.told chip.new)) }
+        // Whatever it held before, the new header lists exactly these places.
+        ensures lists { OnOk result (Charts (λ c y. ListsAt place retired.now y)
             (C.told chip.old) (C.told chip.new)) }
         ensures steps { SwitchesInSteps (C.told chip.old).places header.now.units header.now.erases
             retired.now self.old generation place kept.now result (C.told chip.old) (C.told chip.new) }

@@ -12,11 +12,11 @@ use Rattle.ipl_base.specs.declared.fault.ChipFault.{ChipFault}
 use Rattle.ipl_base.specs.declared.fault.ChipFault.TheVariants.{Stopped}
 use Rattle.ipl_rules.specs.State.{Map}
 use Rattle.ipl_format.specs.Sector.{Sector, sector_in}
-use Rattle.ipl_meaning.specs.Stands.{Stands}
+use Rattle.ipl_meaning.specs.Stands.{StandsBeside}
 use Rattle.ipl_meaning.specs.Rests.{now, EachStandsEither, WornAreIdle, StoryRests}
 use Rattle.ipl_meaning.specs.Chart.{Chart}
 use Rattle.std.proofs.lemmas.Bool.{and_parts}
-use Rattle.ipl_meaning.proofs.StoryLemmas.{held_stands, barriers_rest, barriers_keep_either, programs_lead}
+use Rattle.ipl_meaning.proofs.StoryLemmas.{held_stands, barriers_rest, barriers_keep_either, one_is_either, programs_lead}
 use Rattle.unit_io.specs.Leads.{IsSteady, Leads, RestsWith, SwitchesMap, Did, Waited}
 use Rattle.unit_io.specs.Spots.{Programs, IsSpot}
 use Rattle.unit_io.specs.Charts.{Charts, Gains}
@@ -32,7 +32,7 @@ programs_before : (p : ℕ) (Spot : ℕ → Type 0) (done then : Bool) (later ea
 programs_before p Spot done then later earlier first second = programs_then p Spot (λ s. ⊥) Spot done then later earlier (λ s is none. none) (λ s is. is) (λ s none. absurd none) first second
 
 module _ (places : ℕ) (m n : Map) (h : History) (p t : ℕ) (bytes : List ℕ) (head : Sector) (says : sector_in bytes ≡ Some head) (rests : StoryRests places m h)
-    (clean : age h.story p t ≡ Clean) (stands : Stands places (with_sector (now h) p t head) n)
+    (clean : age h.story p t ≡ Clean) (stands : StandsBeside places (now h) (with_sector (now h) p t head) n)
     (worn : WornAreIdle places h.story (with_sector (now h) p t head)) where
   Sealed : Unit {0} → History → Type 0
   Sealed done then = StoryRests places n then × Gains p t head (now h) (now then)
@@ -42,7 +42,7 @@ module _ (places : ℕ) (m n : Map) (h : History) (p t : ℕ) (bytes : List ℕ)
         → Leads (EachStandsEither places m n) (Programs p (IsSpot t)) (λ done then. then ≡ adds (Program p t bytes) h) h old result mid
     header_leads old mid result steady did =
         leads_did (EachStandsEither places m n) (Programs p (IsSpot t)) h old mid steady (λ done then. then ≡ adds (Program p t bytes) h) (Program p t bytes) result did
-        (λ x is. inl (rests.each x is)) (programs_lead places m n h p t bytes head rests closed (untouched h p t clean) says stands worn).0
+        (one_is_either places m n h rests.each) (programs_lead places m n h p t bytes head rests closed (untouched h p t clean) says stands worn).0
         (programs_one p t bytes) (programs_none p (IsSpot t) false) refl
 
     -- the header and the barrier behind it
@@ -86,7 +86,7 @@ steady_settled h old mid steady wait = steady_then Barrier h old mid steady wait
 module _ (places : ℕ) (m n : Map) (h : History) (p : ℕ) (head : Sector) (rests : StoryRests places m h) (old mid : Told) (steady : IsSteady h old) where
   waits : (result : Result (Unit {0}) ChipFault) → Waited result old mid → Leads (EachStandsEither places m n) (Programs p (λ s. ⊥)) (λ done then. then ≡ adds Barrier h) h old result mid
   waits result wait = leads_waited (EachStandsEither places m n) (Programs p (λ s. ⊥)) h old mid steady (λ done then. then ≡ adds Barrier h) result wait
-      (λ x is. inl (rests.each x is)) (λ x is. inl ((settled_rests places m h rests).each x is)) (programs_barrier p (λ s. ⊥) true) (programs_none p (λ s. ⊥) false) refl
+      (one_is_either places m n h rests.each) (one_is_either places m n (adds Barrier h) (settled_rests places m h rests).each) (programs_barrier p (λ s. ⊥) true) (programs_none p (λ s. ⊥) false) refl
 
   pub seal_leads : (new : Told) (result : Result (Unit {0}) ChipFault) → Waited (Ok tt) old mid
       → SwitchesMap places m n (Programs p (IsSpot 0)) (λ done. Gains p 0 head) (adds Barrier h) mid result new

@@ -7,7 +7,7 @@ ghost use Rattle.chip_trait.specs.Chart.{with_sector};
 ghost use Rattle.chip_trait.specs.Told.{Told, History};
 ghost use Rattle.ipl_rules.specs.State.{Map};
 ghost use Rattle.sector_format.specs.Decode.{sector_of};
-ghost use Rattle.ipl_meaning.specs.Stands.{Stands};
+ghost use Rattle.ipl_meaning.specs.Stands.{StandsBeside};
 ghost use Rattle.ipl_meaning.specs.Rests.{now, WornAreIdle, StoryRests};
 ghost use Rattle.unit_io.specs.Accounts.{Accounts};
 ghost use Rattle.unit_io.specs.Leads.{IsSteady, KeepsMap, SwitchesMap, IsStopped};
@@ -66,7 +66,7 @@ pub fn add_commit<C: Chip>(
     requires fits { length payload.now ≤ PAYLOAD_LEN }
     ensures leads { (m n : Map) (h : History) → IsSteady h (C.told chip.old)
         → StoryRests (C.told chip.old).places m h → IsClosed h.story → age h.story spot.place spot.sector ≡ Clean
-        → Stands (C.told chip.old).places (with_sector (now h) spot.place spot.sector (sector_of head.now payload.now)) n
+        → StandsBeside (C.told chip.old).places (now h) (with_sector (now h) spot.place spot.sector (sector_of head.now payload.now)) n
         → WornAreIdle (C.told chip.old).places h.story (with_sector (now h) spot.place spot.sector (sector_of head.now payload.now))
         → SwitchesMap (C.told chip.old).places m n (Programs spot.place (IsSpot spot.sector))
         (λ done. Gains spot.place spot.sector (sector_of head.now payload.now)) h (C.told chip.old) result (C.told chip.new) }

@@ -8,7 +8,7 @@ ghost use Rattle.chip_trait.specs.Told.{Told, History};
 ghost use Rattle.ipl_rules.specs.State.{Map};
 ghost use Rattle.ipl_format.specs.Sector.{Sector, IsKind, sector_in};
 ghost use Rattle.sector_format.specs.Decode.{sector_of};
-ghost use Rattle.ipl_meaning.specs.Stands.{Stands};
+ghost use Rattle.ipl_meaning.specs.Stands.{StandsBeside};
 ghost use Rattle.ipl_meaning.specs.Layout.{Layout, Laid};
 ghost use Rattle.ipl_meaning.specs.Rests.{now, EachStands, WornAreIdle, StoryRests};
 ghost use Rattle.ipl_meaning.specs.Steps.{IsIdle};
@@ -59,7 +59,7 @@ fn add_header<C: Chip>(chip: &mut C, place: u32, bytes: &[u8; 512]) -> Result<()
     requires { place < (C.told chip.old).places }
     ensures leads { (m n : Map) (h : History) (said : Sector) → sector_in bytes.now ≡ Some said → IsSteady h (C.told chip.old)
         → StoryRests (C.told chip.old).places m h → IsClosed h.story → age h.story place 0 ≡ Clean
-        → Stands (C.told chip.old).places (with_sector (now h) place 0 said) n
+        → StandsBeside (C.told chip.old).places (now h) (with_sector (now h) place 0 said) n
         → WornAreIdle (C.told chip.old).places h.story (with_sector (now h) place 0 said)
         → SwitchesMap (C.told chip.old).places m n (Programs place (IsSpot 0))
         (λ done. Gains place 0 said) h (C.told chip.old) result (C.told chip.new) }
@@ -88,7 +88,7 @@ pub fn seal<C: Chip>(chip: &mut C, place: u32, head: &Head, payload: &[u8]) -> R
     requires fits { length payload.now ≤ PAYLOAD_LEN }
     ensures leads { (m n : Map) (h : History) → IsSteady h (C.told chip.old)
         → StoryRests (C.told chip.old).places m h → age h.story place 0 ≡ Clean
-        → Stands (C.told chip.old).places (with_sector (now h) place 0 (sector_of head.now payload.now)) n
+        → StandsBeside (C.told chip.old).places (now h) (with_sector (now h) place 0 (sector_of head.now payload.now)) n
         → WornAreIdle (C.told chip.old).places h.story (with_sector (now h) place 0 (sector_of head.now payload.now))
         → SwitchesMap (C.told chip.old).places m n (Programs place (IsSpot 0))
         (λ done. Gains place 0 (sector_of head.now payload.now)) h (C.told chip.old) result (C.told chip.new) }

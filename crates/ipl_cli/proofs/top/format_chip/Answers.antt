@@ -1,7 +1,7 @@
 use Rattle.store_trait.proofs.OnwardLemmas.{onward_counts, onward_said, further_onward, further_then}
 use Rattle.ipl_cli.specs.Ending.{units_beside}
 use Rattle.ipl_cli.proofs.EndLemmas.{said_ok, said_part}
-use Rattle.ipl_cli.proofs.TopLemmas.{failed_format}
+use Rattle.ipl_cli.proofs.TopLemmas.{failed_format, failed_cause}
 use Rattle.std.proofs.Common.{Ok, Err}
 use Rattle.ipl_cli.proofs.LawfulLemmas.{adds_format, adds_then, adds_said, adds_unsaid}
 use Rattle.ipl_cli.proofs.top.format_chip.Goals as goal
@@ -12,6 +12,12 @@ returns-in-Err-clause-leaves g c =
     (g.D.Chip.told c.format.new.chip) c.format.ensures.counts c.in-Err.fault
     c.in-Err.ensures.unchanged c.in-Err.ensures.stopped c.in-Err.ensures.worn
     c.in-Err.ensures.formats)
+
+pub returns-in-Err-clause-cause : goal.returns-in-Err-clause-cause
+returns-in-Err-clause-cause g c =
+    rw c.format_end.ensures (failed_cause c.args.spares (g.D.Chip.told c.args.desk.now)
+    (g.D.Chip.told c.format.new.chip) c.in-Err.fault c.in-Err.ensures.geometry.0
+    c.in-Err.ensures.stopped c.in-Err.ensures.worn c.in-Err.ensures.formats)
 
 pub returns-in-Ok-say-clause-leaves : goal.returns-in-Ok-say-clause-leaves
 returns-in-Ok-say-clause-leaves g c = said_ok c.args.spares (g.D.Chip.told c.args.desk.now)

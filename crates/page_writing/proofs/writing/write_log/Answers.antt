@@ -8,6 +8,7 @@ use Rattle.page_writing.proofs.LogLemmas.{log_of, log_told, log_steps}
 use Rattle.page_writing.proofs.SpotLemmas.{spot_within, spot_drawn, drawn_before, known_drawn, holds_drawn, log_holds}
 use Rattle.page_writing.proofs.SpendLemmas.{log_uses}
 use Rattle.page_writing.proofs.TidyLemmas.{logs_tidily, fails_tidily}
+use Rattle.page_writing.proofs.WearLemmas.{logs_wear_nothing, unwritten_wears}
 use Rattle.page_writing.proofs.writing.write_log.Given.{Over}
 use Rattle.page_writing.proofs.writing.write_log.Goals as goal
 
@@ -153,3 +154,28 @@ returns-clause-uses g c =
     let at = c.args.at in
     log_uses (with_next (tables_of c.args.parts.now) next) (tables_of c.use_spot.new.parts)
     c.args.unit at.place at.sector c.mask_of-mask.result next c.use_spot.ensures
+
+-- ---- what is worn
+
+pub returns-in_err-program_log-clause-wears : goal.returns-in_err-program_log-clause-wears
+returns-in_err-program_log-clause-wears g c =
+    let e = err_from_is_err_and c.from_residual.result c.from_residual.ensures.1 in
+    let t = tables_of c.args.parts.now in
+    let says = c.in_err-program_log.ensures in
+    rw (e.1, e.2, says.accounts.cause.0) (unwritten_wears t (with_next t c.draw.new.self)
+    c.args.at.place 5 (g.C.Chip.told c.args.chip.now) (g.C.Chip.told c.program_log.new.chip) refl
+    says.costs)
+
+pub returns-clause-wears : goal.returns-clause-wears
+returns-clause-wears g c =
+    let t = tables_of c.args.parts.now in
+    let after = tables_of c.use_spot.new.parts in
+    let next = c.draw.new.self in
+    let at = c.args.at in
+    let payload = c.args.payload.now in
+    let says = c.in_ok-program_log.ensures in
+    logs_wear_nothing t after c.args.unit at.place at.sector (mask_by payload) next
+    (sector_of c.written-head.result payload.bytes) (g.C.Chip.told c.args.chip.now)
+    (g.C.Chip.told c.program_log.new.chip)
+    (drawn_before t after next c.args.unit at.place at.sector (mask_by payload) next (used g c))
+    says.costs says.tells

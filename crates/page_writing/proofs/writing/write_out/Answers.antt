@@ -1,4 +1,4 @@
-use Rattle.std.proofs.Common.{ℕ, Result, Ok, Err, false, refl, ◌∙◌, ap, subst}
+use Rattle.std.proofs.Common.{ℕ, Result, Ok, Err, true, false, refl, ◌∙◌, ap, subst}
 use Rattle.std.proofs.lemmas.Result.{err_from_is_err_and}
 use Rattle.chip_trait.proofs.CountsLemmas.{counts_then}
 use Rattle.unit_io.specs.Charts.{Charts}
@@ -11,6 +11,8 @@ use Rattle.page_writing.proofs.FoundLemmas.{found_told, unplaced_told, found_ste
 use Rattle.page_writing.proofs.OutLemmas.{out_told, out_steps, stopped_told}
 use Rattle.page_writing.proofs.SpendLemmas.{unplaced_costs, placed_costs, room_costs}
 use Rattle.page_writing.proofs.SpotLemmas.{holds_then}
+use Rattle.page_writing.proofs.WearLemmas.{room_wears}
+use Rattle.place_taking.proofs.WearLemmas.{wears_are_joined}
 use Rattle.merge_rules.proofs.FaultLemmas.{fault_as, fault_stopped}
 use Rattle.selective_merge.proofs.CompleteLemmas.{fails_complete}
 use Rattle.ipl_base.specs.declared.fault.ChipFault.{ChipFault}
@@ -255,3 +257,31 @@ returns-in_err-write_log-clause-stays g c = λ x told it mirrors.
     c.from_residual-in_err-write_log.ensures.1 in
     rw e.1 (in_place_stopped (tables_of c.args.parts.now) c.args.unit
     (tables_of c.write_log.new.parts) e.0 (e.2 ∙ c.in_err-write_log.ensures.accounts.cause.0))
+
+-- ---- what is worn
+
+pub returns-in_err-write_log-clause-wears : goal.returns-in_err-write_log-clause-wears
+returns-in_err-write_log-clause-wears g c =
+    let e = err_from_is_err_and c.from_residual-in_err-write_log.result
+    c.from_residual-in_err-write_log.ensures.1 in
+    let old = g.C.Chip.told c.args.chip.now in
+    let mid = g.C.Chip.told c.log_place.new.chip in
+    let t = tables_of c.args.parts.now in
+    let between = tables_of c.log_place.new.parts in
+    let found = c.in_ok-at.ensures in
+    rw (e.1, e.2) (wears_are_joined t between (tables_of c.write_log.new.parts) false
+    (tells_worn c.in_err-write_log.field-0.0) old mid (g.C.Chip.told c.write_log.new.chip)
+    (room_wears old.places t between old mid c.requires.known found.holds found.costs found.spares)
+    c.in_err-write_log.ensures.wears)
+
+pub returns-clause-wears : goal.returns-clause-wears
+returns-clause-wears g c =
+    let old = g.C.Chip.told c.args.chip.now in
+    let mid = g.C.Chip.told c.log_place.new.chip in
+    let t = tables_of c.args.parts.now in
+    let between = tables_of c.log_place.new.parts in
+    let found = c.in_ok-at.ensures in
+    wears_are_joined t between (tables_of c.write_log.new.parts) true false old mid
+    (g.C.Chip.told c.write_log.new.chip)
+    (room_wears old.places t between old mid c.requires.known found.holds found.costs found.spares)
+    c.in_ok-write_log.ensures.wears

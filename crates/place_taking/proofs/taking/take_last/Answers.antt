@@ -17,4 +17,4 @@ returns-in-Worn g c =
     let within : p < old.places = omega (arith, finds.next.within, c.requires.places) in
     place_last d c.take_next.new.directory p old mid within finds c.requires.ready
     (WornOut (1 + c.spares.result)) c.give_back.new.self c.give_back.ensures c.requires.full
-    (ap (λ (n : ℕ). WornOut (1 + n)) c.spares.ensures.count)
+    c.facts.ensures.retired.rising (ap (λ (n : ℕ). WornOut (1 + n)) c.spares.ensures.count)

@@ -1,7 +1,7 @@
 use Rattle.std.proofs.lemmas.Result.{err_from_is_err_and}
 use Rattle.std.proofs.Common.{arith}
 use Rattle.ipl_model.specs.declared.command.Command.TheVariants as command
-use Rattle.store_trait.proofs.TidyLemmas.{tidy_said, tidy_unsaid}
+use Rattle.store_trait.proofs.OnwardLemmas.{still_said, still_cut}
 use Rattle.script_run.proofs.AlongLemmas.{along_none, along_more, along_said, along_unsaid, along_stop}
 use Rattle.script_run.proofs.AnswerLemmas.{answered, unsaid, works_refused, past_names, list_done, list_unsaid, list_failed}
 use Rattle.script_run.proofs.CompleteLemmas.{completes_none, completes_said, completes_unsaid, completes_more, completes_stop}
@@ -40,11 +40,11 @@ returns-in-Err-say_reply-clause-answers g c = λ limits state h holds.
 
 pub returns-in-Ok-clause-along : goal.returns-in-Ok-clause-along
 returns-in-Ok-clause-along g c = along_said (along_none {n = 0}) c.in-Ok.ensures.onward
-    (tidy_said (g.S.Store.keeping g.places) c.args.store.now _ _ _ c.in-Ok.ensures.says) (omega arith)
+    (still_said _ _ _ c.in-Ok.ensures.says) (omega arith)
 
 pub returns-in-Err-clause-along : goal.returns-in-Err-clause-along
 returns-in-Err-clause-along g c = along_unsaid (along_none {n = 0}) c.in-Err.ensures.onward c.in-Err.ensures.cause
-    (tidy_unsaid (g.S.Store.keeping g.places) c.args.store.now _ _ _ c.in-Err.ensures.says) (omega arith)
+    (still_cut _ _ _ c.in-Err.ensures.says) (omega arith)
 
 pub returns-in_err-say_rows-clause-along : goal.returns-in_err-say_rows-clause-along
 returns-in_err-say_rows-clause-along g c =
@@ -53,12 +53,12 @@ returns-in_err-say_rows-clause-along g c =
 pub returns-in-Ok-say_reply-clause-along : goal.returns-in-Ok-say_reply-clause-along
 returns-in-Ok-say_reply-clause-along g c =
     along_said c.in_ok-say_rows.ensures.along c.in-Ok-say_reply.ensures.onward
-    (tidy_said (g.S.Store.keeping g.places) c.say_rows.new.store _ _ _ c.in-Ok-say_reply.ensures.says) (omega (arith, c.names-names.ensures.most, c.if-last-names.false))
+    (still_said _ _ _ c.in-Ok-say_reply.ensures.says) (omega (arith, c.names-names.ensures.most, c.if-last-names.false))
 
 pub returns-in-Err-say_reply-clause-along : goal.returns-in-Err-say_reply-clause-along
 returns-in-Err-say_reply-clause-along g c =
     along_unsaid c.in_ok-say_rows.ensures.along c.in-Err-say_reply.ensures.onward c.in-Err-say_reply.ensures.cause
-    (tidy_unsaid (g.S.Store.keeping g.places) c.say_rows.new.store _ _ _ c.in-Err-say_reply.ensures.says) (omega (arith, c.names-names.ensures.most, c.if-last-names.false))
+    (still_cut _ _ _ c.in-Err-say_reply.ensures.says) (omega (arith, c.names-names.ensures.most, c.if-last-names.false))
 
 pub returns-in-Ok-clause-completes : goal.returns-in-Ok-clause-completes
 returns-in-Ok-clause-completes g c = λ limits keeps. completes_said (completes_none {n = 0} keeps) c.in-Ok.ensures.says (omega arith)

@@ -1,7 +1,7 @@
 use Rattle.std.proofs.Common.{arith, Option, List, ℕ, Ok, subst}
 use Rattle.std.proofs.lemmas.Result.{err_from_is_err_and}
 use Rattle.store_trait.specs.Keeping.{LooksUpFor}
-use Rattle.store_trait.proofs.TidyLemmas.{tidy_said, tidy_unsaid}
+use Rattle.store_trait.proofs.OnwardLemmas.{still_said, still_cut}
 use Rattle.script_run.proofs.AlongLemmas.{along_work, along_fault, along_said, along_unsaid}
 use Rattle.script_run.proofs.AnswerLemmas.{row_said, row_absent, row_unsaid, row_failed}
 use Rattle.script_run.proofs.CompleteLemmas.{completes_look, completes_lost, completes_said, completes_unsaid}
@@ -29,21 +29,21 @@ returns-in-None-clause-says g c = rw (← c.requires.1.1.0) (λ limits named sta
 
 pub returns-in_err-value-clause-along : goal.returns-in_err-value-clause-along
 returns-in_err-value-clause-along g c = rw (← c.requires.1.1.0) (let w = c.in_err-value.ensures in
-    along_fault c.from_residual.result c.from_residual.ensures.1 w.draws w.counts w.cause w.tidy)
+    along_fault c.from_residual.result c.from_residual.ensures.1 w.draws w.counts w.cause w.tidy w.learns)
 
 pub returns-in-Ok-clause-along : goal.returns-in-Ok-clause-along
 returns-in-Ok-clause-along g c = rw (← c.requires.1.1.0) (let w = c.in_ok-value.ensures in
-    along_said (along_work w.draws.most (λ _. w.suited) w.counts w.tidy) c.in-Ok.ensures.onward
-    (tidy_said (g.S.Store.keeping (g.D.Chip.told c.args.desk.now).places) c.look_up.new.self _ _ _ c.in-Ok.ensures.says) (omega arith))
+    along_said (along_work w.draws.most (λ _. w.suited) w.counts w.tidy w.learns) c.in-Ok.ensures.onward
+    (still_said _ _ _ c.in-Ok.ensures.says) (omega arith))
 
 pub returns-in-Err-clause-along : goal.returns-in-Err-clause-along
 returns-in-Err-clause-along g c = rw (← c.requires.1.1.0) (let w = c.in_ok-value.ensures in
-    along_unsaid (along_work w.draws.most (λ _. w.suited) w.counts w.tidy) c.in-Err.ensures.onward c.in-Err.ensures.cause
-    (tidy_unsaid (g.S.Store.keeping (g.D.Chip.told c.args.desk.now).places) c.look_up.new.self _ _ _ c.in-Err.ensures.says) (omega arith))
+    along_unsaid (along_work w.draws.most (λ _. w.suited) w.counts w.tidy w.learns) c.in-Err.ensures.onward c.in-Err.ensures.cause
+    (still_cut _ _ _ c.in-Err.ensures.says) (omega arith))
 
 pub returns-in-None-clause-along : goal.returns-in-None-clause-along
 returns-in-None-clause-along g c = rw (← c.requires.1.1.0) (let w = c.in_ok-value.ensures in
-    along_work w.draws.most (λ _. w.suited) w.counts w.tidy)
+    along_work w.draws.most (λ _. w.suited) w.counts w.tidy w.learns)
 
 pub returns-in_err-value-clause-completes : goal.returns-in_err-value-clause-completes
 returns-in_err-value-clause-completes g c = rw (← c.requires.1.1.0) (λ limits named keeps.

@@ -21,6 +21,7 @@ loop-total-init g c =
           subst (λ (l : List ℕ). Running k limits state source c.args.store.now h c.args.store.now l t t) (sym c.new-line.ensures) (running_none k limits state source c.args.store.now h t holds left);
       tidy = tidy_same k c.args.store.now t t true refl;
       suited = λ suits. suits;
+      learns = λ entry knows. knows;
       further = further_none t;
       bytes = grew_none t.beside.script_bytes;
       read = read_none t;
@@ -40,6 +41,7 @@ loop-total-preserved g c =
           running_more k limits state source c.args.store.now c.loop-total.store t.new.store h c.loop-total.line t.new.line (at c.args.desk.now) (at c.loop-total.desk) (at t.new.desk) c.in_ok-count.count (was.running limits state h holds source left) (λ s g' now. o.takes limits s g' now);
       tidy = tidy_then k c.args.store.now c.loop-total.store t.new.store (at c.args.desk.now) (at c.loop-total.desk) (at t.new.desk) true was.tidy o.along.tidy;
       suited = λ suits. o.along.suited (was.suited suits);
+      learns = λ entry knows. o.along.learns entry (was.learns entry knows);
       further = further_then (at c.args.desk.now) (at c.loop-total.desk) (at t.new.desk) was.further t.ensures.along.beside;
       bytes = grew_then (at c.args.desk.now).beside.script_bytes (at c.loop-total.desk).beside.script_bytes (at t.new.desk).beside.script_bytes c.loop-total.total c.in_ok-count.count was.bytes o.bytes;
       read = read_then (at c.args.desk.now) (at c.loop-total.desk) (at t.new.desk) c.loop-total.total c.in_ok-count.count was.read o.read;
@@ -129,3 +131,15 @@ returns-then-count-eq0-clause-tidy g c =
     tidy_then k c.args.store.now t.store a.new.store (at c.args.desk.now) (at t.desk) (at a.new.desk) (is_ok a.result)
     (tidy_then k c.args.store.now c.loop-total.store t.store (at c.args.desk.now) (at c.loop-total.desk) (at t.desk) true c.loop-total.invariant.tidy c.in_ok-count.ensures.along.tidy)
     a.ensures.along.tidy
+
+pub returns-clause-learns : goal.returns-clause-learns
+returns-clause-learns g c = λ entry knows. tt
+
+pub returns-in_err-count-clause-learns : goal.returns-in_err-count-clause-learns
+returns-in_err-count-clause-learns g c =
+    let stop = err_from_is_err_and c.from_residual.result c.from_residual.ensures.1 in
+    rw stop.1 (rw stop.2 (λ entry knows. c.in_err-count.ensures.along.learns entry (c.loop-total.invariant.learns entry knows)))
+
+pub returns-then-count-eq0-clause-learns : goal.returns-then-count-eq0-clause-learns
+returns-then-count-eq0-clause-learns g c = λ entry knows.
+    c.answer_line.ensures.along.learns entry (c.in_ok-count.ensures.along.learns entry (c.loop-total.invariant.learns entry knows))

@@ -1,9 +1,9 @@
-use Rattle.std.proofs.Common.{◌≡◌, ◌≤◌, ◌-◌, ◌+◌, ◌*◌, max, List, ℕ, Some, true}
+use Rattle.std.proofs.Common.{◌≡◌, ◌≤◌, ◌-◌, ◌+◌, ◌*◌, max, List, ℕ, Some, Ok, true}
 use Rattle.ipl_rules.specs.State.{State, Limits}
 use Rattle.chip_trait.specs.Told.{History, Grew}
 use Rattle.store_trait.specs.Keeping.{FOUND_NUMBER, COMMAND_DRAWS, LeavesTidy}
 use Rattle.store_trait.specs.Onward.{Further}
-use Rattle.script_run.specs.Goes.{KeepsSome, HasRead}
+use Rattle.script_run.specs.Goes.{KeepsSome, HasRead, LearnsAlong}
 use Rattle.script_run.proofs.GoesLemmas.{Running}
 use Rattle.script_run.proofs.CompleteLemmas.{CompletesSoFar}
 use Rattle.script_run.proofs.run.run_script.Given as goal
@@ -17,6 +17,7 @@ invariant-loop-total g l =
           → Running k limits state source l.fn.store h l.store l.line (told l.fn.desk) (told l.desk);
       tidy : LeavesTidy k l.fn.store l.store (told l.fn.desk) (told l.desk) true;
       suited : k.suits l.fn.store → k.suits l.store;
+      learns : LearnsAlong k {T = Unit {0}} l.fn.store (told l.fn.desk) (Ok tt) l.store (told l.desk);
       further : Further (told l.fn.desk) (told l.desk);
       bytes : Grew (told l.fn.desk).beside.script_bytes l.total (told l.desk).beside.script_bytes;
       read : HasRead l.total (told l.fn.desk) (told l.desk);

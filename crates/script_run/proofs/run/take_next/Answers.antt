@@ -2,6 +2,7 @@ use Rattle.std.proofs.Common.{arith, take, refl}
 use Rattle.std.proofs.lemmas.List.{length-take}
 use Rattle.std.proofs.lemmas.Result.{err_from_is_err_and}
 use Rattle.store_trait.specs.Keeping.{Stays}
+use Rattle.store_trait.proofs.OnwardLemmas.{still_beside}
 use Rattle.script_run.proofs.GoesLemmas.{holds_beside, took, stopped, stopped_at_once, stays_later}
 use Rattle.script_run.proofs.RunLemmas.{run_weaker}
 use Rattle.script_run.proofs.ReadLemmas.{further_read, further_failed, read_once, read_ended}
@@ -47,12 +48,12 @@ returns-in-Err-clause-takes g c = λ limits state h holds source left.
 pub returns-in_err-take_piece-in-Ok-clause-along : goal.returns-in_err-take_piece-in-Ok-clause-along
 returns-in_err-take_piece-in-Ok-clause-along g c =
     let r = c.in-Ok.ensures in
-    along_stop c.from_residual.result c.from_residual.ensures.1 (along_more (along_later (further_read (g.D.Chip.told c.args.desk.now) (g.D.Chip.told c.read_script.new.self) c.in-Ok.count r.chip r.bytes.0 r.bytes.1) r.chip.history c.in_err-take_piece-in-Ok.ensures.along) (omega (arith, length-take c.in-Ok.count c.read_script.new.buf)))
+    along_stop c.from_residual.result c.from_residual.ensures.1 (along_more (along_later (further_read (g.D.Chip.told c.args.desk.now) (g.D.Chip.told c.read_script.new.self) c.in-Ok.count r.chip r.bytes.0 r.bytes.1) (still_beside _ _ r.chip) c.in_err-take_piece-in-Ok.ensures.along) (omega (arith, length-take c.in-Ok.count c.read_script.new.buf)))
 
 pub returns-in_ok-take_piece-in-Ok-clause-along : goal.returns-in_ok-take_piece-in-Ok-clause-along
 returns-in_ok-take_piece-in-Ok-clause-along g c =
     let r = c.in-Ok.ensures in
-    along_ok c.in-Ok.count (along_more (along_later (further_read (g.D.Chip.told c.args.desk.now) (g.D.Chip.told c.read_script.new.self) c.in-Ok.count r.chip r.bytes.0 r.bytes.1) r.chip.history c.in_ok-take_piece-in-Ok.ensures.along) (omega (arith, length-take c.in-Ok.count c.read_script.new.buf)))
+    along_ok c.in-Ok.count (along_more (along_later (further_read (g.D.Chip.told c.args.desk.now) (g.D.Chip.told c.read_script.new.self) c.in-Ok.count r.chip r.bytes.0 r.bytes.1) (still_beside _ _ r.chip) c.in_ok-take_piece-in-Ok.ensures.along) (omega (arith, length-take c.in-Ok.count c.read_script.new.buf)))
 
 pub returns-in-Err-clause-along : goal.returns-in-Err-clause-along
 returns-in-Err-clause-along g c =

@@ -14,6 +14,7 @@ use Rattle.unit_directory.specs.Free.{aside}
 use Rattle.merge_rules.specs.Known.{KnowsPlaces}
 use Rattle.selective_merge.specs.Moving.{tables_of, set_aside}
 use Rattle.selective_merge.specs.Placing.{RestsOpened}
+use Rattle.selective_merge.proofs.CompleteLemmas.{used_then}
 use Rattle.selective_merge.proofs.HeldLemmas.{given_back, erases_then, held_aside, held_back, known_aside, units_aside}
 use Rattle.selective_merge.proofs.SpendLemmas.{frees_for, frees_untaken}
 use Rattle.selective_merge.proofs.OverflowLemmas.{opened_mirrors, opened_says, opened_steps, open_failed, taken_told, tables_same}
@@ -184,6 +185,13 @@ returns-in-Err-clause-costs g c =
     (ap (λ (e : Places). e.retired) c.give_back.ensures)
     (ap tells_worn c.in-Err.ensures.accounts.cause.0)
     c.in_ok-place.ensures.costs (fills_programs p 1 2 3 mid new c.in-Err.ensures.costs))
+
+pub returns-in-Ok-clause-spares : goal.returns-in-Ok-clause-spares
+returns-in-Ok-clause-spares g c =
+    used_then (tables_of c.args.parts.now).places c.in_ok-place.place
+    (g.C.Chip.told c.args.chip.now) (g.C.Chip.told c.take_place.new.chip)
+    (g.C.Chip.told c.write_overflow.new.chip) (taken_was_free _ _ _ c.in_ok-place.ensures.taken)
+    c.in_ok-place.ensures.spares c.in-Ok.ensures.spares
 
 pub returns-in-Ok-clause-tidy : goal.returns-in-Ok-clause-tidy
 returns-in-Ok-clause-tidy g c =

@@ -14,7 +14,7 @@ use Rattle.txn_status.specs.Status.{parts_of, switched_to}
 use Rattle.txn_status.specs.Switching.{IsStatusSpot, Switches, SwitchesInSteps}
 use Rattle.unit_directory.specs.Free.{aside}
 use Rattle.unit_directory.proofs.AsideLemmas.{next_places_are_aside}
-use Rattle.unit_io.specs.Charts.{Charts}
+use Rattle.unit_io.specs.Charts.{Charts, IsCleared}
 use Rattle.unit_io.specs.Costs.{Spends}
 use Rattle.unit_io.proofs.UnreadLemmas.{unread_then}
 use Rattle.status_renewal.specs.Renewed.{IsGivenBack}
@@ -24,6 +24,7 @@ use Rattle.status_renewal.proofs.KnownLemmas.{known_renewed, known_back}
 use Rattle.status_renewal.proofs.PlaceLemmas.{erases_then, erased_back, has_between, known_between, moved_to, renews_told}
 use Rattle.status_renewal.proofs.PlaceStepLemmas.{renews_in_steps, failed_in_steps, untaken_in_steps}
 use Rattle.status_renewal.proofs.TidyLemmas.{tidy_renewed, tidy_unrenewed}
+use Rattle.status_renewal.proofs.WornLemmas.{listed_then}
 use Rattle.status_renewal.proofs.place.renew_place.Goals as goal
 
 -- what a switch leaves, at the places of the first chip, with its counts, the places that it lists and
@@ -203,6 +204,16 @@ returns-in-Ok-clause-tells g c =
     (c.erases.ensures ∙ ap (λ (e : Places). slice_index e.erases p) from.places_is)
     (c.retired-retired.ensures ∙ ap (λ (e : Places). e.retired) from.places_is)
     c.draw-generation.ensures.drawn c.in-Ok.ensures.switches)
+
+pub returns-in-Ok-clause-lists : goal.returns-in-Ok-clause-lists
+returns-in-Ok-clause-lists g c =
+    let p = c.in_ok-place.place in
+    listed_then (IsCleared p) p c.switch.new.self.place c.retired-retired.result.now
+    c.give_back.new.self.retired (g.C.Chip.told c.args.chip.now)
+    (g.C.Chip.told c.take_place.new.chip) (g.C.Chip.told c.switch.new.chip)
+    (sym (ap (λ (s : Status). s.place) c.in-Ok.ensures.switched))
+    (c.retired-retired.ensures ∙ sym (ap (λ (e : Places). e.retired) c.give_back.ensures))
+    c.in_ok-place.ensures.tells c.in-Ok.ensures.lists
 
 pub returns-in-Ok-clause-steps : goal.returns-in-Ok-clause-steps
 returns-in-Ok-clause-steps g c =

@@ -17,6 +17,7 @@ use Rattle.status_renewal.proofs.TellingLemmas.{goes_on_from, goes_on_then, rene
 use Rattle.status_renewal.proofs.FaultLemmas.{pass_written, place_written}
 use Rattle.status_renewal.proofs.TidyLemmas.{tidies_then}
 use Rattle.status_renewal.proofs.FoundLemmas.{unread_both}
+use Rattle.status_renewal.proofs.WornLemmas.{wears_renewed, wears_unpassed}
 use Rattle.status_renewal.proofs.renewing.renew_with.Goals as goal
 
 pub returns-in_err-find_numbers-clause-tells : goal.returns-in_err-find_numbers-clause-tells
@@ -154,6 +155,25 @@ returns-clause-renewed g c =
     c.renew_place.new.status.place between c.renew_place.new.directory _ old
     (g.C.Chip.told c.find_numbers.new.chip) (g.C.Chip.told c.renew_place.new.chip)
     c.renew_place.result c.in_ok-find_numbers.ensures.costs c.renew_place.ensures.costs
+
+pub returns-in_err-find_numbers-clause-wears : goal.returns-in_err-find_numbers-clause-wears
+returns-in_err-find_numbers-clause-wears g c =
+    let e = err_from_is_err_and c.from_residual.result c.from_residual.ensures.1 in
+    rw (e.1 ∙ ap Err e.2) (wears_unpassed (tables_of c.args.parts.now)
+    (tables_of c.find_numbers.new.parts) (length c.args.parts.now.directory.current)
+    c.in_err-find_numbers.field-0.0 (g.C.Chip.told c.args.chip.now)
+    (g.C.Chip.told c.find_numbers.new.chip) c.in_err-find_numbers.ensures.costs)
+
+pub returns-clause-wears : goal.returns-clause-wears
+returns-clause-wears g c =
+    let between = tables_of c.find_numbers.new.parts in
+    wears_renewed (tables_of c.args.parts.now) between
+    (with_tables between c.renew_place.new.directory c.renew_place.new.status
+    c.renew_place.new.counter) (length c.args.parts.now.directory.current) 3
+    c.renew_place.new.status.place c.renew_place.result (g.C.Chip.told c.args.chip.now)
+    (g.C.Chip.told c.find_numbers.new.chip) (g.C.Chip.told c.renew_place.new.chip)
+    c.in_ok-find_numbers.ensures.costs c.renew_place.ensures.costs
+    c.in_ok-find_numbers.ensures.goes_on c.renew_place.ensures.lists
 
 pub returns-in_err-find_numbers-clause-complete : goal.returns-in_err-find_numbers-clause-complete
 returns-in_err-find_numbers-clause-complete g c = λ x told it mirrors all.

@@ -3,7 +3,7 @@ use Rattle.std.proofs.lemmas.Result.{err_from_is_err_and}
 use Rattle.unit_io.proofs.CostLemmas.{spends_barred, spends_at_then, spends_at_most}
 use Rattle.unit_io.specs.Spots.{IsSpot}
 use Rattle.unit_io.proofs.TidyLemmas.{tidy_halted, tidy_waits_then}
-use Rattle.store_steps.proofs.NumberLemmas.{numbers_add, numbers_in_steps, no_numbers_in_steps}
+use Rattle.store_steps.proofs.NumberLemmas.{header_stays, numbers_add, numbers_in_steps, no_numbers_in_steps}
 use Rattle.store_steps.proofs.numbers.add_numbers.Goals as goal
 
 pub returns-in_err-barrier-clause-steps : goal.returns-in_err-barrier-clause-steps
@@ -32,6 +32,12 @@ returns-clause-adds g c =
     numbers_add old.places mid.places c.args.status.now c.args.counter.now c.args.tids.now
     c.add.result old mid (g.C.Chip.told c.add.new.chip) waited.accounts.counts.places waited.did
     c.add.ensures.adds
+
+pub returns-clause-header : goal.returns-clause-header
+returns-clause-header g c =
+    header_stays c.args.status.now.place c.add.result (g.C.Chip.told c.args.chip.now)
+    (g.C.Chip.told c.barrier.new.chip) (g.C.Chip.told c.add.new.chip) c.in_ok-barrier.ensures.did
+    c.add.ensures.header
 
 pub returns-clause-steps : goal.returns-clause-steps
 returns-clause-steps g c =

@@ -1,10 +1,11 @@
-use Rattle.std.proofs.Common.{◌≡◌, ◌∙◌, None, sym, ap, arith}
+use Rattle.std.proofs.Common.{◌≡◌, ◌∙◌, None, sym, ap, arith, Some, Err, refl}
+use Rattle.std.proofs.lemmas.Result.{err_from_is_err_and}
 use Rattle.ipl_rules.specs.Operations.{after_abort}
 use Rattle.ipl_rules.specs.Refusals.{refuses_end}
 use Rattle.record_locks.specs.Standing.{state_of}
 use Rattle.store_steps.specs.Keeps.{limits_of}
 use Rattle.ipl_store.specs.Calls.{early_fault, down_fault}
-use Rattle.ipl_store.proofs.CallLemmas.{let_in_down, memory_calls}
+use Rattle.ipl_store.proofs.CallLemmas.{let_in_down, memory_calls, calls_refused, ended_unworn}
 use Rattle.ipl_store.proofs.store.Store.abort.Goals as goal
 
 pub returns-clause-calls : goal.returns-clause-calls
@@ -26,3 +27,16 @@ returns-in_err-admit_end-clause-framed g c = λ u page is. is
 
 pub returns-clause-framed : goal.returns-clause-framed
 returns-clause-framed g c = c.abort.ensures.framed
+
+pub returns-in_err-admit_end-clause-calls : goal.returns-in_err-admit_end-clause-calls
+returns-in_err-admit_end-clause-calls g c =
+    let store = c.args.self.now in
+    let refusal = refuses_end (limits_of store.units) (state_of store.transactions.sessions) c.args.s in
+    let early = early_fault (down_fault store) refusal in
+    let fault = c.in_err-admit_end.field-0.0 in
+    let is : early ≡ Some fault =
+    ap (early_fault (down_fault store)) (sym c.refuses_end.ensures) ∙ sym c.in_err-admit_end.ensures in
+    let e = err_from_is_err_and c.from_residual.result c.from_residual.ensures.1 in
+    rw (e.1 ∙ ap Err e.2) (calls_refused early (λ state. after_abort state c.args.s) 0 store
+    (g.C.Chip.told c.args._chip.now) (Err fault) fault is (ended_unworn store refusal fault is) refl
+    c.requires.sound)

@@ -6,7 +6,7 @@ use Rattle.record_locks.specs.Standing.{state_of}
 use Rattle.store_steps.specs.Keeps.{limits_of}
 use Rattle.store_steps.proofs.RefusalLemmas.{one_is_open}
 use Rattle.ipl_store.specs.Calls.{early_fault, entry_fault}
-use Rattle.ipl_store.proofs.CallLemmas.{early_unworn, let_in, turns_move, moved_calls, kept_holds, kept_framed, ended_asks}
+use Rattle.ipl_store.proofs.CallLemmas.{early_unworn, let_in, turns_move, moved_calls, kept_holds, kept_framed, ended_asks, calls_refused}
 use Rattle.transactions.specs.Costs.{CommitAsks}
 use Rattle.transactions.proofs.CostLemmas.{empty_asks}
 use Rattle.ipl_store.proofs.store.Store.commit.Goals as goal
@@ -76,3 +76,16 @@ returns-clause-asks g c =
     CommitAsks store.transactions (c.args.s ∷ []) worn_out pages old after) store c.end.new.self
     c.commit-done.new.self c.commit-done.new.kept c.commit-done.result c.end.result c.end.ensures.rest
     c.end.ensures.ends c.commit-done.ensures.asks
+
+pub returns-in_err-admit-clause-calls : goal.returns-in_err-admit-clause-calls
+returns-in_err-admit-clause-calls g c =
+    let store = c.args.self.now in
+    let refusal = refuses_end (limits_of store.units) (state_of store.transactions.sessions) c.args.s in
+    let early = early_fault (entry_fault store) refusal in
+    let fault = c.in_err-admit.field-0.0 in
+    let is : early ≡ Some fault =
+    ap (early_fault (entry_fault store)) (sym c.refuses_end.ensures) ∙ sym c.in_err-admit.ensures in
+    let e = err_from_is_err_and c.from_residual.result c.from_residual.ensures.1 in
+    rw (e.1 ∙ ap Err e.2) (calls_refused early (λ state. after_commit state c.args.s) (2 ^ 15) store
+    (g.C.Chip.told c.args.chip.now) (Err fault) fault is (early_unworn store refusal fault is) refl
+    c.requires.sound)

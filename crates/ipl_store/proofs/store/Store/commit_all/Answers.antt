@@ -54,7 +54,8 @@ returns-in_err-admit-clause-calls g c =
     let e = err_from_is_err_and c.from_residual.result c.from_residual.ensures.1 in
     rw (e.1 ∙ ap Err e.2) (calls_refused early
     (λ state. after_batch state c.args.sessions.now) (2 ^ 15) store
-    (g.C.Chip.told c.args.chip.now) (Err fault) fault is refl c.requires.sound)
+    (g.C.Chip.told c.args.chip.now) (Err fault) fault is (early_unworn store refusal fault is) refl
+    c.requires.sound)
 
 pub returns-clause-holds : goal.returns-clause-holds
 returns-clause-holds g c = kept_holds c.args.self.now c.end.new.self c.commit-done.new.self

@@ -65,7 +65,8 @@ returns-in_err-admit-clause-calls g c =
     ap (early_fault (entry_fault store)) (sym c.refuses_del.ensures) ∙ sym c.in_err-admit.ensures in
     let e = err_from_is_err_and c.from_residual.result c.from_residual.ensures.1 in
     rw (e.1 ∙ ap Err e.2) (calls_refused early (λ state. after_write state c.args.s (c.args.n, None)) 14 store
-    (g.C.Chip.told c.args.chip.now) (Err fault) fault is refl c.requires.sound)
+    (g.C.Chip.told c.args.chip.now) (Err fault) fault is (early_unworn store refusal fault is) refl
+    c.requires.sound)
 
 pub returns-in_err-admit-clause-asks : goal.returns-in_err-admit-clause-asks
 returns-in_err-admit-clause-asks g c =

@@ -1,4 +1,4 @@
-use Rattle.std.proofs.Common.{◌≡◌, ◌∙◌, Bool, Some, None, Err, OnOk, is_ok, slice_index, sym, ap, subst}
+use Rattle.std.proofs.Common.{◌≡◌, ◌∙◌, Bool, Some, None, Err, OnOk, is_ok, slice_index, sym, ap, subst, refl}
 use Rattle.std.proofs.lemmas.Result.{err_from_is_err_and}
 use Rattle.ipl_rules.specs.Refusals.{refuses_merge}
 use Rattle.store_steps.specs.Keeps.{limits_of}
@@ -10,7 +10,7 @@ use Rattle.page_frames.specs.declared.pages.Pages.{Pages}
 use Rattle.page_frames.specs.Pages.{tables_in}
 use Rattle.ipl_store.specs.declared.store.Store.{Store}
 use Rattle.ipl_store.specs.Calls.{early_fault, ends_worn_out, entry_fault, tells_wear}
-use Rattle.ipl_store.proofs.CallLemmas.{early_unworn, let_in, pages_move, moved_calls, kept_holds, kept_framed, done_ends, ended_asks, same_answer, throughout_done}
+use Rattle.ipl_store.proofs.CallLemmas.{early_unworn, let_in, pages_move, moved_calls, kept_holds, kept_framed, done_ends, ended_asks, same_answer, throughout_done, calls_refused}
 use Rattle.ipl_store.proofs.MergeLemmas.{refused_merges}
 use Rattle.ipl_store.proofs.store.Store.merge.Goals as goal
 
@@ -92,3 +92,16 @@ returns-clause-costs g c =
     after) store c.end.new.self (record store.transactions { pages = c.merge-done.new.self })
     store.kept c.merge-done.result c.end.result c.end.ensures.rest c.end.ensures.ends
     c.merge-done.ensures.costs)
+
+pub returns-in_err-admit-clause-calls : goal.returns-in_err-admit-clause-calls
+returns-in_err-admit-clause-calls g c =
+    let store = c.args.self.now in
+    let refusal = refuses_merge (limits_of store.units) c.args.unit in
+    let early = early_fault (entry_fault store) refusal in
+    let fault = c.in_err-admit.field-0.0 in
+    let is : early ≡ Some fault =
+    ap (early_fault (entry_fault store)) (sym c.refuses_merge.ensures) ∙ sym c.in_err-admit.ensures in
+    let e = err_from_is_err_and c.from_residual.result c.from_residual.ensures.1 in
+    rw (e.1 ∙ ap Err e.2) (calls_refused early (λ state. state) 13 store
+    (g.C.Chip.told c.args.chip.now) (Err fault) fault is (early_unworn store refusal fault is) refl
+    c.requires.sound)

@@ -61,7 +61,7 @@ returns-in-Err-clause-fills g c = λ pool ready absent takes.
     (frame_of empty_frame []) (frame_of is.loads.view []) takes.frames is.loads.frames)
     c.free_frame.ensures.frames in record {
       upholds = fail_upholds old new c.in-Err.fault told (g.C.Chip.told c.load_frame.new.chip) ready
-          is.tables freed is.reads
+          is.tables freed is.reads is.unworn
           (both_keep pool c.args.self.now.pool c.free_frame.new.pool takes.pins
           (both_keep c.args.self.now.pool mid.pool c.free_frame.new.pool is.pins
           c.free_frame.ensures.pins)) is.accounts.cause;

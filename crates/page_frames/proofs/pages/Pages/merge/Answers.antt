@@ -1,6 +1,7 @@
 use Rattle.std.proofs.Common.{slice_index, refl}
 use Rattle.overflow.specs.Lists.{spots_in}
-use Rattle.page_frames.proofs.TableLemmas.{merge_upholds}
+use Rattle.selective_merge.specs.Moving.{tables_of}
+use Rattle.page_frames.proofs.TableLemmas.{merge_upholds, merge_wears}
 use Rattle.page_frames.proofs.CompleteLemmas.{merge_completes}
 use Rattle.page_frames.proofs.TellLemmas.{merged_tells}
 use Rattle.page_frames.specs.Pages.{tables_in}
@@ -10,10 +11,15 @@ use Rattle.page_frames.proofs.pages.Pages.merge.Goals as goal
 pub returns-clause-upholds : goal.returns-clause-upholds
 returns-clause-upholds g c =
     let is = c.merge.ensures in
+    let old = g.C.Chip.told c.args.chip.now in
+    let new = g.C.Chip.told c.merge.new.chip in
     merge_upholds c.args.unit c.args.self.now
     (record { parts = c.merge.new.parts; pool = c.args.self.now.pool }) c.merge.result
-    (g.C.Chip.told c.args.chip.now) (g.C.Chip.told c.merge.new.chip) c.requires.ready refl is.holds
-    is.tells is.steps is.tidy is.draws (slice_index c.args.self.now.parts.directory.current c.args.unit)
+    old new c.requires.ready refl is.holds is.tells is.steps is.tidy
+    (merge_wears old.places (slice_index c.merge.new.parts.directory.current c.args.unit)
+    (tables_in c.args.self.now) (tables_of c.merge.new.parts) c.merge.result old new
+    c.requires.ready.known is.holds is.spares is.costs) is.draws
+    (slice_index c.args.self.now.parts.directory.current c.args.unit)
     (spots_in c.args.self.now.parts.overflow c.args.unit) is.accounts
 
 pub returns-clause-complete : goal.returns-clause-complete

@@ -14,7 +14,7 @@ returns-clause-upholds g c =
     let is = c.renew.ensures in
     renew_upholds c.args.self.now (record { parts = c.renew.new.parts; pool = c.args.self.now.pool })
     c.renew.result (g.C.Chip.told c.args.chip.now) (g.C.Chip.told c.renew.new.chip) c.requires.ready
-    refl is.holds is.tells is.steps is.tidy is.draws is.accounts
+    refl is.holds is.tells is.steps is.tidy is.wears is.draws is.accounts
 
 pub returns-clause-complete : goal.returns-clause-complete
 returns-clause-complete g c =

@@ -29,7 +29,7 @@ returns-in_err-write_out-clause-upholds g c =
     c.args.self.now (record { parts = c.write_out.new.parts; pool = c.args.self.now.pool })
     c.in_err-write_out.field-0.0 (g.C.Chip.told c.args.chip.now) (g.C.Chip.told c.write_out.new.chip)
     c.requires.ready refl (c.if-not-has_records.ensures.some refl) c.log_payload-payload.ensures.records is.tells
-    is.steps is.holds is.tidy is.draws is.accounts)
+    is.steps is.holds is.tidy is.wears is.draws is.accounts)
 
 pub returns-then-not-has_records-clause-asks : goal.returns-then-not-has_records-clause-asks
 returns-then-not-has_records-clause-asks g c =
@@ -51,7 +51,7 @@ returns-clause-upholds g c =
     (record { parts = c.write_out.new.parts; pool = c.clear_log.new.pool })
     (g.C.Chip.told c.args.chip.now) (g.C.Chip.told c.write_out.new.chip) c.requires.ready
     c.log_payload-payload.ensures.records c.clear_log.ensures.cleared c.clear_log.ensures.pins is.tells is.steps
-    is.holds is.tidy is.draws is.accounts
+    is.holds is.tidy is.wears is.draws is.accounts
 
 pub returns-clause-frames : goal.returns-clause-frames
 returns-clause-frames g c =

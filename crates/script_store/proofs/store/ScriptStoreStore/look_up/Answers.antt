@@ -18,5 +18,8 @@ returns-clause-cause g c = c.look.ensures.finds.cause
 pub returns-clause-tidy : goal.returns-clause-tidy
 returns-clause-tidy g c = c.look.ensures.finds.tidy
 
+pub returns-clause-learns : goal.returns-clause-learns
+returns-clause-learns g c = c.look.ensures.finds.learns
+
 pub returns-clause-done : goal.returns-clause-done
 returns-clause-done g c = c.look.ensures.done

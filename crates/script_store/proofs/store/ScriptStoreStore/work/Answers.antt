@@ -18,5 +18,8 @@ returns-clause-cause g c = c.answer.ensures.does.cause
 pub returns-clause-tidy : goal.returns-clause-tidy
 returns-clause-tidy g c = c.answer.ensures.does.tidy
 
+pub returns-clause-learns : goal.returns-clause-learns
+returns-clause-learns g c = c.answer.ensures.does.learns
+
 pub returns-clause-done : goal.returns-clause-done
 returns-clause-done g c = c.answer.ensures.done

@@ -26,7 +26,7 @@ returns-in_err-add_numbers-clause-turns g c =
       sessions = old.sessions;
     }) (g.C.Chip.told c.args.chip.now) (g.C.Chip.told c.add_numbers.new.chip) c.requires.order
     c.requires.open c.requires.may_add (c.as_slice.ensures.numbers ∙ c.requires.tids) says.steps refl refl refl refl says.same refl says.draws
-    says.tidy says.accounts)
+    says.tidy says.costs says.accounts)
 
 pub returns-clause-turns : goal.returns-clause-turns
 returns-clause-turns g c =
@@ -42,7 +42,8 @@ returns-clause-turns g c =
     (ap (λ (parts : Parts). parts.counter) same ∙ says.drawn) c.settle_all.ensures.settled
     c.settle_all.ensures.pins c.end_all.ensures.rest
     (c.end_all.ensures.sessions ∙ ap (λ (slots : Slots). after_batch slots c.args.numbers.now)
-    c.settle_all.ensures.sessions) c.end_all.ensures.active c.end_all.ensures.locks says.tidy says.accounts
+    c.settle_all.ensures.sessions) c.end_all.ensures.active c.end_all.ensures.locks says.tidy says.costs
+    says.header says.accounts
 
 pub returns-in_err-add_numbers-clause-complete : goal.returns-in_err-add_numbers-clause-complete
 returns-in_err-add_numbers-clause-complete g c =

@@ -211,7 +211,7 @@ returns-then-not-put_record-clause-turns g c =
     (used_upholds 0 mid pool after (subst (λ (k : ℕ). IsReady k mid)
     (sym did.accounts.counts.places) did.ready)
     (OnFalse_at c.if-not-put_record.true c.put_record.ensures.kept) c.put_record.ensures.pins))
-    refl tt)
+    refl tt refl)
 
 pub returns-then-not-put_record-clause-complete : goal.returns-then-not-put_record-clause-complete
 returns-then-not-put_record-clause-complete g c =

@@ -5,9 +5,10 @@ use Rattle.unit_io.specs.Charts.{Charts, Gains}
 use Rattle.number_set.specs.Numbers.{Numbers, AreRising}
 use Rattle.number_set.proofs.NumberLemmas.{length_with_numbers, rising_with_numbers}
 use Rattle.txn_status.specs.Commits.{commit_sector}
-use Rattle.txn_status.specs.Adding.{Adds, AddsInSteps}
+use Rattle.txn_status.specs.Adding.{Adds, AddsInSteps, KeepsFirstAt}
 use Rattle.txn_status.specs.Writing.{LeadsCommit}
 use Rattle.txn_status.proofs.AddLemmas.{AreSpelled, spelled_from, added_in_steps, adds_told}
+use Rattle.txn_status.proofs.FirstLemmas.{firsts_stay}
 use Rattle.unit_io.specs.Costs.{ProgramsAt, Spends}
 use Rattle.unit_io.specs.Spots.{Programs, IsSpot}
 use Rattle.txn_status.proofs.status.Status.add.Goals as goal
@@ -134,3 +135,12 @@ returns-clause-tidy g c =
     subst (λ (s : Status). Spends (Programs s.place (IsSpot s.first) true)
     (g.C.Chip.told c.args.chip.now) (g.C.Chip.told c.write_commit.new.chip)) c.self.view_is
     c.in_ok-write_commit.ensures.tidy
+
+pub returns-clause-header : goal.returns-clause-header
+returns-clause-header g c =
+    let inside = c.self.inside in
+    let old = g.C.Chip.told c.args.chip.now in
+    let new = g.C.Chip.told c.write_commit.new.chip in
+    subst (λ (s : Status). Charts (KeepsFirstAt s.place) old new) c.self.view_is
+    (firsts_stay inside.place inside.first (commit_sector inside.generation c.draw-serial.result c.args.tids.now) old
+    new c.self.invariant.0.least c.in_ok-write_commit.ensures.tells)

@@ -1,11 +1,11 @@
-use Rattle.std.proofs.Common.{true, false, ◌≡◌, ℕ, List, Result, Ok, Err, sym, ◌∙◌, ap, subst, arith}
+use Rattle.std.proofs.Common.{true, false, ◌≡◌, ◌^◌, ℕ, List, Result, Ok, Err, sym, ◌∙◌, ap, subst, arith}
 use Rattle.std.proofs.lemmas.Result.{err_from_is_err_and}
 use Rattle.std.proofs.lemmas.List.Elements.{All-from_get_or}
 use Rattle.chip_trait.specs.Told.{Told}
 use Rattle.ipl_base.specs.declared.fault.ChipFault.{ChipFault}
 use Rattle.ipl_base.specs.declared.limits.TheConstants.{VERSION}
 use Rattle.ipl_format.specs.Commit.{IsLong}
-use Rattle.ipl_format.specs.Header.{AreRetired}
+use Rattle.ipl_format.specs.Header.{AreRetired, IsWithin}
 use Rattle.unit_io.specs.Leads.{IsStopped}
 use Rattle.unit_io.specs.Charts.{Charts}
 use Rattle.unit_io.proofs.UnreadLemmas.{unread_then}
@@ -13,6 +13,7 @@ use Rattle.place_taking.proofs.JoinLemmas.{fills_at_most, fills_programs, fills_
 use Rattle.txn_status.specs.Status.{parts_of}
 use Rattle.txn_status.specs.Switching.{HasParts}
 use Rattle.txn_status.specs.Writing.{LeadsParts, LeadsHeader, IsHeaded}
+use Rattle.txn_status.proofs.ListedLemmas.{lists_told}
 use Rattle.txn_status.proofs.SwitchLemmas.{AreLong}
 use Rattle.txn_status.proofs.SwitchedLemmas.{parts_failed, switched_in_steps, switches_told}
 use Rattle.txn_status.proofs.TidyLemmas.{tidy_parts_only, tidy_switched}
@@ -109,6 +110,19 @@ returns-clause-switches g c =
     c.in_ok-write_parts.ensures.accounts.counts.places c.in_ok-seal_status.ensures.tells in
     switches_told old.places c.args.header.now.units c.args.header.now.erases c.args.retired.now c.args.self.now next place kept c.requires.place each
     c.requires.few old mid new parts seal
+
+pub returns-clause-lists : goal.returns-clause-lists
+returns-clause-lists g c =
+    let old = g.C.Chip.told c.args.chip.now in
+    let mid = g.C.Chip.told c.write_parts.new.chip in
+    let new = g.C.Chip.told c.seal_status.new.chip in
+    let header = c.args.header.now in
+    let retired = c.args.retired.now in
+    let small = All-from_get_or (IsWithin (2 ^ 32)) retired 0
+    (λ i within. omega (arith, c.type_inv.retired i)) in
+    lists_told mid.places c.args.place header.units header.erases retired c.args.generation
+    c.args.kept.now (parts_of c.args.kept.now) old mid new small
+    (_, c.in_ok-write_parts.ensures.tells) c.in_ok-seal_status.ensures.tells
 
 pub returns-in_err-write_parts-clause-costs : goal.returns-in_err-write_parts-clause-costs
 returns-in_err-write_parts-clause-costs g c =

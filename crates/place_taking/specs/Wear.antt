@@ -1,0 +1,27 @@
+-- What calls leave of worn places: which are retired, and which the status header lists.
+use Rattle.std.specs.Prelude.{ℕ, ◌≡◌, ◌⊎◌, Bool, true, Some, Contains}
+use Rattle.chip_trait.specs.Told.{Told}
+use Rattle.ipl_format.specs.Sector.{Sector}
+use Rattle.ipl_meaning.specs.Chart.{Chart}
+use Rattle.ipl_meaning.specs.Tables.{Tables}
+use Rattle.unit_io.specs.Charts.{Charts}
+use Rattle.unit_io.specs.Costs.{Spends}
+use Rattle.unit_layout.specs.Retired.{retired_in}
+use Rattle.place_taking.specs.Spending.{RetiresWorn}
+
+-- the header of the status place lists this place as retired
+abbrev pub IsListed : Tables → Chart → ℕ → Type 0
+IsListed t c p = (head : Sector) × (c t.status.place 0 ≡ Some head)
+    × Contains (retired_in head.version head.payload) p
+
+-- the header of the status place then lists no others than that before did, and what is retired then
+abbrev pub ListsNoOther : Tables → Tables → Chart → Chart → Type 0
+ListsNoOther t after c y = (p : ℕ) → IsListed after y p
+    → IsListed t c p ⊎ Contains after.places.retired p
+
+-- What a call leaves of worn places, whatever the chip tells. What was retired is so still, and what is
+-- retired besides was found worn in it. Done, over a chip that tells what it holds the header of the
+-- status place lists what it listed, or places that are retired.
+pub record Wears (t after : Tables) (done worn_out : Bool) (old new : Told) : Type 0 where
+  pub retires : Spends (RetiresWorn t.places after.places worn_out) old new
+  pub lists : done ≡ true → Charts (ListsNoOther t after) old new
