@@ -104,3 +104,20 @@ fn a_unit_of_an_older_version_is_written_anew(rt: HostRuntime) -> Result<(), Fai
     }
     Ok(())
 }
+
+/// A chip of an older version ends its run where a place is worn, since it has none to spare, and stays
+/// what it was.
+#[test]
+fn an_older_chip_ends_at_a_worn_place(rt: HostRuntime) -> Result<(), Fail> {
+    let alloc = rt.alloc();
+    for version in [1, 2] {
+        let mut chip = of_version(&rt, alloc, version)?;
+        // The lowest place that neither the unit nor the status has.
+        chip.wear_out([2].to_vec(alloc)?);
+        let mut desk = MemDesk::new(alloc, chip, b"list 0 9\n", &[])?;
+        assert_eq!(rt; ends(alloc, "run ram:5", &mut desk)?, 10);
+        assert_eq!(rt; desk.noted(), b"ipl: worn out 1\n".as_slice());
+        assert!(rt; lists(alloc, left_by(alloc, &desk)?, b"5 6869\nend\n")?);
+    }
+    Ok(())
+}
