@@ -18,13 +18,13 @@ use Rattle.opening_rules.specs.Payloads.{said_in, is_data_payload, is_status_pay
 use Rattle.opening_rules.specs.Chosen.{KeptHeader, Winner, head_of, header_at, units_told, current_at, status_at, units_at, is_head_payload}
 use Rattle.opening_rules.specs.Live.{sectors, commit_at, is_overflow_place, live_at, Mark, mark_of, mark_at, marks}
 use Rattle.opening_rules.specs.Faults.{malformed, not_formatted, keeps_units, status_geometry, says_other, other_geometry, missing, bad_header, commit_test, commit_fault, clashes, shares_overflow, is_full, is_log_well, log_test, greatest_found, is_in, holds_live, overflows_found}
-use Rattle.opening_rules.specs.Laws.{IsByteChart, LaidHasNoFault, LaidIsFineOrSpent, LaidSaysItsUnits}
+use Rattle.opening_rules.specs.Laws.{IsByteChart, LaidHasNoFault, LaidHasNoShapeFault, LaidIsFineOrSpent, LaidSaysItsUnits}
 use Rattle.opening_rules.proofs.PayloadLemmas.{spelled_data_passes, spelled_status_passes, spelled_commits_pass, spelled_logs_pass}
 use Rattle.opening_rules.proofs.HeaderLemmas.{current_low}
 use Rattle.opening_rules.proofs.BelowLemmas.{any_none, any_there, count_all, count_within}
 use Rattle.opening_rules.proofs.LiveLemmas.{sectors_are, commit_from, overflow_from, home_apart, live_from}
 use Rattle.opening_rules.proofs.NumberLemmas.{status_is, units_are, home_is, number_found}
-use Rattle.opening_rules.proofs.PartLemmas.{IsFormed, keeps_to, no_fault_from, spent_from}
+use Rattle.opening_rules.proofs.PartLemmas.{IsFormed, keeps_to, no_fault_from, shape_from, spent_from}
 
 -- ---- marks
 
@@ -297,6 +297,9 @@ module _ (c : Chart) (places : ℕ) (it : Layout) (laid : Laid places c it) wher
 
 pub laid_has_no_fault : LaidHasNoFault
 laid_has_no_fault c places it bytes laid above = no_fault_from c places (record { formed = is_formed c places it laid; fresh = fresh c places it laid bytes above })
+
+pub laid_has_no_shape_fault : LaidHasNoShapeFault
+laid_has_no_shape_fault c places it laid = shape_from c places (is_formed c places it laid)
 
 pub laid_is_fine_or_spent : LaidIsFineOrSpent
 laid_is_fine_or_spent c places it laid = elim (cases_lt (greatest_found c places) (2 ^ 63)) [

@@ -21,9 +21,9 @@ use Rattle.opening_rules.specs.First.{passes, count_below, joined_below}
 use Rattle.opening_rules.specs.Payloads.{is_log_payload, pieces_in, numbers_in, is_data_payload, is_status_payload, is_commit_payload}
 use Rattle.opening_rules.specs.Chosen.{KeptHeader, Winner, header_at, units_told, current_at, status_at, units_at, is_head_payload}
 use Rattle.opening_rules.specs.Live.{is_at, sectors, commit_at, is_overflow_place, live_at, Mark, mark_of, mark_at, marks}
-use Rattle.opening_rules.specs.Faults.{malformed, not_formatted, status_geometry, says_other, other_geometry, missing, bad_header, commit_test, commit_fault, clashes, shares_overflow, is_full, is_log_well, log_test, is_in, holds_live}
+use Rattle.opening_rules.specs.Faults.{malformed, not_formatted, status_geometry, says_other, other_geometry, missing, bad_header, commit_test, commit_fault, clashes, shares_overflow, is_full, is_log_well, log_test, is_in, holds_live, fault_for}
 use Rattle.opening_rules.specs.LaidOut.{numbers_of, committed_in, entry_of, entry_at, log_in, no_sector, place_of, sector_of, shape_in, layout_in}
-use Rattle.opening_rules.specs.Laws.{IsByteChart, NoFaultIsLaid, NoFaultIsFresh}
+use Rattle.opening_rules.specs.Laws.{IsByteChart, NoFaultIsLaid, NoFaultIsFresh, NoShapeFaultIsLaid}
 use Rattle.opening_rules.proofs.PayloadLemmas.{data_payloads_are_spelled, data_says, status_payloads_are_spelled, status_says, commit_payloads_are_spelled, spelled_commits_pass, log_payloads_are_spelled}
 use Rattle.opening_rules.proofs.HeaderLemmas.{statuses_are_chosen}
 use Rattle.opening_rules.proofs.BelowLemmas.{none_any, any_some, count_all, passing, passing_has, passing_count, joined_has, joined_from}
@@ -31,7 +31,7 @@ use Rattle.opening_rules.proofs.SortLemmas.{AreApart, sorted_has, sorted_all, so
 use Rattle.opening_rules.proofs.LiveLemmas.{IsSeen, seen_spot, live_seen, sectors_are, commit_from, commit_to, IsHome, home_of, live_from, live_to, away_is_overflow}
 use Rattle.opening_rules.proofs.LaidLemmas.{mark_to}
 use Rattle.opening_rules.proofs.NumberLemmas.{found_below}
-use Rattle.opening_rules.proofs.PartLemmas.{HasNoFault, units_kept, no_fault_parts, if_none}
+use Rattle.opening_rules.proofs.PartLemmas.{IsFormed, units_kept, formed_from, no_fault_parts, if_none}
 
 -- ---- single tests
 
@@ -114,7 +114,7 @@ has_number tid (n ∷ numbers) (suc i, low, at) = or_right _ _ (has_number tid n
 
 -- ---- a chart without a fault
 
-module _ (c : Chart) (places : ℕ) (bytes : IsByteChart places c) (fine : HasNoFault c places) where
+module _ (c : Chart) (places : ℕ) (bytes : IsByteChart places c) (formed : IsFormed c places) where
   abbrev heads : ℕ → Option KeptHeader
   heads = header_at c places
 
@@ -130,7 +130,7 @@ module _ (c : Chart) (places : ℕ) (bytes : IsByteChart places c) (fine : HasNo
   -- ---- log sectors
 
   well : (k : ℕ) (sector : Sector) → k < places * 256 → live k ≡ Some sector → is_log_well (mark_of heads k sector) (marks heads current c k) sector.version sector.payload ≡ true
-  well k sector low is = log_well heads (marks heads current c k) k (live k) sector is (fine.formed.logs k low)
+  well k sector low is = log_well heads (marks heads current c k) k (live k) sector is (formed.logs k low)
 
   -- a live sector stands on the chip
   low_from : (k : ℕ) (sector : Sector) → live k ≡ Some sector → k < places * 256
@@ -265,7 +265,7 @@ module _ (c : Chart) (places : ℕ) (bytes : IsByteChart places c) (fine : HasNo
 
   has_home : (u : ℕ) → u < units_at c places → HasHome u
   has_home u low =
-      let there = there_from u (current u) (fine.formed.there u low) in
+      let there = there_from u (current u) (formed.there u low) in
       record { winner = there.0; is = there.1; home = home_of c places u there.0 there.1 }
 
   sector_is : (o : Option Winner) (winner : Winner) (sector : Sector) → o ≡ Some winner → c winner.place 0 ≡ Some sector → sector_of c o ≡ sector
@@ -278,12 +278,12 @@ module _ (c : Chart) (places : ℕ) (bytes : IsByteChart places c) (fine : HasNo
       let here : c it.winner.place 0 ≡ Some head = it.home.chosen.here in
       let generation : it.winner.head.generation ≡ head.generation = ap (λ (h : KeptHeader). h.generation) it.home.kept in
       let well_is : is_head_payload head.version places head.kind head.payload ≡ true =
-      ap (λ (h : KeptHeader). h.well) (sym it.home.kept) ∙ header_well (current u) it.winner it.is (fine.formed.headers u low) in
+      ap (λ (h : KeptHeader). h.well) (sym it.home.kept) ∙ header_well (current u) it.winner it.is (formed.headers u low) in
       let passes_it : is_data_payload head.version head.payload ≡ true =
       ap (λ (kind : ℕ). is_head_payload head.version places kind head.payload) (sym it.home.chosen.fits.0) ∙ well_is in
       let said : word_at 0 head.payload ≡ units_at c places = same_said (units_at c places) (word_at 0 head.payload) it.winner
       (ap (λ (h : KeptHeader). h.said) it.home.kept ∙ data_says head.version head.payload passes_it)
-      (ap (other_geometry (units_at c places)) (sym it.is) ∙ fine.formed.geometries u low) in
+      (ap (other_geometry (units_at c places)) (sym it.is) ∙ formed.geometries u low) in
       let shape : Shape = record { home = it.winner.place; head = head; pieces = pieces_in head.payload; log = log_in c places u } in
       let same : shape ≡ shape_in c places u = ap₂ (λ (p : ℕ) (s : Sector). let x : Shape = record { home = p; head = s; pieces = pieces_in s.payload; log = log_in c places u } in x)
       (sym (ap place_of it.is)) (sym (sector_is (current u) it.winner head it.is here)) in
@@ -309,7 +309,7 @@ module _ (c : Chart) (places : ℕ) (bytes : IsByteChart places c) (fine : HasNo
     commit_spelled : (s : ℕ) (sector : Sector) → IsCommitSector c winner.place winner.head.generation s sector → SpellsCommit sector.payload (numbers_in sector.payload)
     commit_spelled s sector it =
         let passes_it = commit_well winner.place s (commit_at c (Some winner) s) sector (commit_to c winner s sector it)
-        (ap (λ (o : Option Winner). commit_fault c o s) (sym is) ∙ fine.formed.commits s (omega (arith, it.where_it_is, sectors_are))) in
+        (ap (λ (o : Option Winner). commit_fault c o s) (sym is) ∙ formed.commits s (omega (arith, it.where_it_is, sectors_are))) in
         commit_payloads_are_spelled sector.payload (bytes winner.place s sector (statuses_are_chosen c places winner is).counts.within it.where_it_is.1 (inr (inl at_status)) it.here) passes_it
 
     told_from : (tid s : ℕ) (o : Option Sector) → s < sectors → commit_at c (Some winner) s ≡ o → Contains (numbers_of o) tid → IsCommitted c winner.place winner.head.generation tid
@@ -343,7 +343,7 @@ module _ (c : Chart) (places : ℕ) (bytes : IsByteChart places c) (fine : HasNo
         let here : c winner.place 0 ≡ Some head = it.counts.here in
         let generation : winner.head.generation ≡ head.generation = ap (λ (h : KeptHeader). h.generation) it.head in
         let well_is : is_head_payload head.version places head.kind head.payload ≡ true =
-        ap (λ (h : KeptHeader). h.well) (sym it.head) ∙ header_well (status_at c places) winner is fine.formed.header in
+        ap (λ (h : KeptHeader). h.well) (sym it.head) ∙ header_well (status_at c places) winner is formed.header in
         let passes_it : is_status_payload head.version places head.payload ≡ true =
         ap (λ (kind : ℕ). is_head_payload head.version places kind head.payload) (sym it.counts.fits) ∙ well_is in
         let units : units_at c places ≡ units_told places (Some winner) = ap (units_told places) is in
@@ -353,24 +353,33 @@ module _ (c : Chart) (places : ℕ) (bytes : IsByteChart places c) (fine : HasNo
         let same : layout ≡ layout_in c places = ap₂ (λ (o : Option Winner) (s : Sector). let x : Layout = record { status = place_of o; head = s; committed = committed_in c o; count = units_at c places; units = shape_in c places } in x)
         (sym is) (sym (sector_is (status_at c places) winner head is here)) in
         subst (Laid places c) same (record {
-          least = fine.formed.least;
-          most = fine.formed.most;
-          count = subst (KeepsUnits places) (sym units) (units_kept places winner (ap (status_geometry places) (sym is) ∙ fine.formed.geometry));
+          least = formed.least;
+          most = formed.most;
+          count = subst (KeepsUnits places) (sym units) (units_kept places winner (ap (status_geometry places) (sym is) ∙ formed.geometry));
           chosen = it.counts;
           counts = subst (λ (n : ℕ). SpellsStatusHeader head.version places n head.payload) (sym said)
               (status_payloads_are_spelled head.version places head.payload (bytes winner.place 0 head it.counts.within (omega arith) (inl refl) here) passes_it);
           commits = subst (λ (g : ℕ). IsStatus c winner.place g (committed_in c (Some winner))) generation status_is;
           each = unit_is;
           overflows = passing (holds_live heads all_marks) places;
-          two = omega (arith, passing_count (holds_live heads all_marks) places, fine.formed.few_overflows);
+          two = omega (arith, passing_count (holds_live heads all_marks) places, formed.few_overflows);
           in_overflow = in_overflow;
         })
 
+  -- a chart that passes all tests but that of the numbers is laid out
   pub laid_from : Laid places c (layout_in c places)
-  laid_from = let formatted = formatted_from (status_at c places) fine.formed.formatted in laid_with formatted.0 formatted.1
+  laid_from = let there = formatted_from (status_at c places) formed.formatted in laid_with there.0 there.1
+
+-- whether numbers will be drawn or not
+pub no_fault_lays : (draws : Bool) (c : Chart) (places : ℕ) → IsByteChart places c → fault_for draws c places ≡ None
+    → Laid places c (layout_in c places)
+no_fault_lays draws c places bytes none = laid_from c places bytes (formed_from c places draws none)
 
 pub no_fault_is_laid : NoFaultIsLaid
-no_fault_is_laid c places bytes none = laid_from c places bytes (no_fault_parts c places none)
+no_fault_is_laid = no_fault_lays true
+
+pub no_shape_fault_is_laid : NoShapeFaultIsLaid
+no_shape_fault_is_laid = no_fault_lays false
 
 pub no_fault_is_fresh : NoFaultIsFresh
 no_fault_is_fresh c places it laid none number found =

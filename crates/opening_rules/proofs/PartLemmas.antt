@@ -8,7 +8,7 @@ use Rattle.ipl_meaning.specs.Chart.{Chart}
 use Rattle.ipl_base.specs.First.{first_below}
 use Rattle.opening_rules.specs.Chosen.{Winner, header_at, current_at, status_at, units_told, units_at}
 use Rattle.opening_rules.specs.Live.{sectors}
-use Rattle.opening_rules.specs.Faults.{size_fault, not_formatted, keeps_units, status_geometry, other_geometry, missing, bad_header, header_fault, commit_fault, first_commit_fault, log_fault, first_log_fault, greatest_found, spent, overflows_found, no_spare, first_fault}
+use Rattle.opening_rules.specs.Faults.{size_fault, not_formatted, keeps_units, status_geometry, other_geometry, missing, bad_header, header_fault, commit_fault, first_commit_fault, log_fault, first_log_fault, greatest_found, spent, spent_for, overflows_found, no_spare, fault_for, first_fault, shape_fault}
 use Rattle.ipl_base.proofs.FirstLemmas.{or_none, first_none, none_before}
 use Rattle.ipl_base.specs.Places.{KeepsUnits}
 
@@ -81,27 +81,33 @@ module _ (c : Chart) (places : ℕ) where
   abbrev headers_fault : Option ImageFault
   headers_fault = first_below (λ u. bad_header (current_at c places u)) (units_at c places)
 
-  pub no_fault_parts : first_fault c places ≡ None → HasNoFault c places
-  no_fault_parts e =
-      let all = six_parts (size_fault places) (header_fault c places) (first_commit_fault c places) (first_log_fault c places) (spent (greatest_found c places))
-      (no_spare (overflows_found c places)) e in
+  pub formed_from : (draws : Bool) → fault_for draws c places ≡ None → IsFormed c places
+  formed_from draws e =
+      let all = six_parts (size_fault places) (header_fault c places) (first_commit_fault c places) (first_log_fault c places)
+      (spent_for draws (greatest_found c places)) (no_spare (overflows_found c places)) e in
       let heads = six_parts (not_formatted (status_at c places)) (status_geometry places (status_at c places)) geometries_fault missing_fault headers_fault
       (bad_header (status_at c places)) all.1 in
       let bounds = and_parts (nat_le 5 places) (nat_le places 1028) (if_none (nat_le 5 places && nat_le places 1028) Geometry all.0) in
       record {
-        formed = record {
-          least = leb-true 5 places bounds.0;
-          most = leb-true places 1028 bounds.1;
-          formatted = heads.0;
-          geometry = heads.1;
-          geometries = none_before (λ u. other_geometry (units_at c places) (current_at c places u)) (units_at c places) heads.2;
-          there = none_before (λ u. missing u (current_at c places u)) (units_at c places) heads.3;
-          headers = none_before (λ u. bad_header (current_at c places u)) (units_at c places) heads.4;
-          header = heads.5;
-          commits = none_before (commit_fault c (status_at c places)) sectors all.2;
-          logs = none_before (log_fault (header_at c places) (current_at c places) c) (places * 256) all.3;
-          few_overflows = leb-true (overflows_found c places) 2 (if_none (nat_le (overflows_found c places) 2) (NoSpare (overflows_found c places)) all.5);
-        };
+        least = leb-true 5 places bounds.0;
+        most = leb-true places 1028 bounds.1;
+        formatted = heads.0;
+        geometry = heads.1;
+        geometries = none_before (λ u. other_geometry (units_at c places) (current_at c places u)) (units_at c places) heads.2;
+        there = none_before (λ u. missing u (current_at c places u)) (units_at c places) heads.3;
+        headers = none_before (λ u. bad_header (current_at c places u)) (units_at c places) heads.4;
+        header = heads.5;
+        commits = none_before (commit_fault c (status_at c places)) sectors all.2;
+        logs = none_before (log_fault (header_at c places) (current_at c places) c) (places * 256) all.3;
+        few_overflows = leb-true (overflows_found c places) 2 (if_none (nat_le (overflows_found c places) 2) (NoSpare (overflows_found c places)) all.5);
+      }
+
+  pub no_fault_parts : first_fault c places ≡ None → HasNoFault c places
+  no_fault_parts e =
+      let all = six_parts (size_fault places) (header_fault c places) (first_commit_fault c places) (first_log_fault c places) (spent (greatest_found c places))
+      (no_spare (overflows_found c places)) e in
+      record {
+        formed = formed_from true e;
         fresh = ltb-true (greatest_found c places) (2 ^ 63) (if_none (nat_lt (greatest_found c places) (2 ^ 63)) Spent all.4);
       }
 
@@ -127,6 +133,17 @@ module _ (c : Chart) (places : ℕ) where
     -- numbers that are used up are then the one fault
     pub spent_from : 2 ^ 63 ≤ greatest_found c places → first_fault c places ≡ Some Spent
     spent_from high = rw (size_passes, headers_pass, commits_pass, logs_pass, cond-false (nat_lt (greatest_found c places) (2 ^ 63)) None (Some Spent) (le-ltb (greatest_found c places) (2 ^ 63) high)) refl
+
+  -- whatever the numbers are
+  pub shape_from : IsFormed c places → shape_fault c places ≡ None
+  shape_from it = six_none (size_fault places) (header_fault c places) (first_commit_fault c places) (first_log_fault c places) None
+      (no_spare (overflows_found c places))
+      (size_passes it)
+      (headers_pass it)
+      (commits_pass it)
+      (logs_pass it)
+      refl
+      (cond-true (nat_le (overflows_found c places) 2) None (Some (NoSpare (overflows_found c places))) (le-leb (overflows_found c places) 2 it.few_overflows))
 
   pub no_fault_from : HasNoFault c places → first_fault c places ≡ None
   no_fault_from all = six_none (size_fault places) (header_fault c places) (first_commit_fault c places) (first_log_fault c places) (spent (greatest_found c places))

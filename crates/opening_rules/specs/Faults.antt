@@ -167,6 +167,11 @@ greatest_found c places =
 abbrev pub spent : ℕ → Option ImageFault
 spent greatest = if nat_lt greatest (2 ^ 63) then None else Some Spent
 
+-- the numbers are tested, or aren't
+abbrev pub spent_for : Bool → ℕ → Option ImageFault
+spent_for true greatest = spent greatest
+spent_for false greatest = None
+
 -- ---- overflow places
 
 -- the mark is of this place
@@ -188,35 +193,48 @@ no_spare n = if nat_le n OVERFLOW_PLACES then None else Some (NoSpare n)
 
 -- ---- all of it
 
--- all that is tested, in order
-abbrev pub tests : Chart → ℕ → List (Option ImageFault)
-tests c places =
+-- all that is tested, in order; that numbers are left where some will be drawn
+abbrev pub tests : Bool → Chart → ℕ → List (Option ImageFault)
+tests draws c places =
     size_fault places
     ∷ header_fault c places
     ∷ first_commit_fault c places
     ∷ first_log_fault c places
-    ∷ spent (greatest_found c places)
+    ∷ spent_for draws (greatest_found c places)
     ∷ no_spare (overflows_found c places)
     ∷ []
 
--- the first fault, if there is one
+-- the first fault, if there is one, where numbers will be drawn or not
+abbrev pub fault_for : Bool → Chart → ℕ → Option ImageFault
+fault_for draws c places = first_of (tests draws c places)
+
+-- the first fault of a chip that is opened
 abbrev pub first_fault : Chart → ℕ → Option ImageFault
-first_fault c places = first_of (tests c places)
+first_fault c places = fault_for true c places
+
+-- the first fault of how a chip is laid out
+abbrev pub shape_fault : Chart → ℕ → Option ImageFault
+shape_fault c places = fault_for false c places
 
 -- ---- told
 
--- the fault is about what the chip holds, and not about a call that failed
+-- the fault is about what the chip holds, and not about a call that failed; that the numbers are used up
+-- is one where some will be drawn
+abbrev pub is_told : Bool → ImageFault → Bool
+is_told draws Geometry = true
+is_told draws NotFormatted = true
+is_told draws (Missing u) = true
+is_told draws (Chip ReadFault) = false
+is_told draws (Chip Stopped) = false
+is_told draws (Chip (Damaged p s stored computed)) = false
+is_told draws (Chip (Malformed p s)) = true
+is_told draws (Chip (WornOut n)) = false
+is_told draws Spent = draws
+is_told draws (NoSpare n) = true
+
+-- the same of an opening
 abbrev pub is_image : ImageFault → Bool
-is_image Geometry = true
-is_image NotFormatted = true
-is_image (Missing u) = true
-is_image (Chip ReadFault) = false
-is_image (Chip Stopped) = false
-is_image (Chip (Damaged p s stored computed)) = false
-is_image (Chip (Malformed p s)) = true
-is_image (Chip (WornOut n)) = false
-is_image Spent = true
-is_image (NoSpare n) = true
+is_image e = is_told true e
 
 -- Ok exactly where there is no fault, and else this one, unless a call failed
 abbrev pub TellsImageFault : {T : Type 0} → Option ImageFault → Result T ImageFault → Type 0

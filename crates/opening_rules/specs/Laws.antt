@@ -13,7 +13,7 @@ use Rattle.ipl_meaning.specs.Layout.{Layout, Laid}
 use Rattle.ipl_meaning.specs.Found.{IsFoundNumber, IsAbove}
 use Rattle.opening_rules.specs.Chosen.{header_at, current_at, status_at, units_at}
 use Rattle.opening_rules.specs.Live.{is_at, is_log_spot}
-use Rattle.opening_rules.specs.Faults.{first_fault, greatest_found}
+use Rattle.opening_rules.specs.Faults.{first_fault, shape_fault, greatest_found}
 use Rattle.opening_rules.specs.LaidOut.{layout_in}
 
 -- an opening reads this sector: a header, one of the status place, or one where log sectors may stand
@@ -50,6 +50,14 @@ abbrev pub LaidHasNoFault : Type 0
 LaidHasNoFault =
     (c : Chart) (places : ℕ) (it : Layout) → IsByteChart places c → Laid places c it → IsAbove places c it (2 ^ 63)
     → first_fault c places ≡ None
+
+-- a chart is laid out exactly where all is well but its numbers
+abbrev pub NoShapeFaultIsLaid : Type 0
+NoShapeFaultIsLaid =
+    (c : Chart) (places : ℕ) → IsByteChart places c → shape_fault c places ≡ None → Laid places c (layout_in c places)
+
+abbrev pub LaidHasNoShapeFault : Type 0
+LaidHasNoShapeFault = (c : Chart) (places : ℕ) (it : Layout) → Laid places c it → shape_fault c places ≡ None
 
 -- whatever its sectors are, it has no fault, or its numbers are used up
 abbrev pub LaidIsFineOrSpent : Type 0

@@ -2,7 +2,7 @@
 ghost use Rattle.opening_rules.specs.FirstLaws.{FirstIsFirst, FirstIsFound, NoneIsFound, NoneIsThere};
 ghost use Rattle.opening_rules.specs.PayloadLaws.{DataPayloadsAreSpelled, SpelledDataPasses, StatusPayloadsAreSpelled, SpelledStatusPasses, CommitPayloadsAreSpelled, SpelledCommitsPass, LogPayloadsAreSpelled, SpelledLogsPass};
 ghost use Rattle.opening_rules.specs.LiveLaws.{SectorsAre256, FoundCommitsCount, CommitsAreFound, FoundLogsAreLive, LiveLogsAreFound};
-ghost use Rattle.opening_rules.specs.Laws.{WholeSectorsMakeByteCharts, NoFaultIsLaid, NoFaultIsFresh, LaidHasNoFault, LaidIsFineOrSpent, LaidSaysItsUnits, FormattedChipsHaveNoFault, GreatestIsAbove, GreatestIsFound};
+ghost use Rattle.opening_rules.specs.Laws.{WholeSectorsMakeByteCharts, NoFaultIsLaid, NoFaultIsFresh, LaidHasNoFault, LaidIsFineOrSpent, LaidSaysItsUnits, FormattedChipsHaveNoFault, NoShapeFaultIsLaid, LaidHasNoShapeFault, GreatestIsAbove, GreatestIsFound};
 ghost use Rattle.opening_rules.specs.CauseLaws.{FaultsAreCaused};
 ghost use Rattle.opening_rules.specs.FaultLaws.{NotFormattedIsExact, MissingIsLeast, BadLogsAreFirst};
 ghost use Rattle.opening_rules.specs.ChosenLaws.{CurrentsAreChosen, ChosenAreCurrent, NoneIsCurrent, StatusesAreChosen, ChosenAreStatus, NoneIsStatus};
@@ -55,6 +55,8 @@ pub fn opening_laws()
     ensures fine_or_spent { LaidIsFineOrSpent }
     ensures units { LaidSaysItsUnits }
     ensures formatted { FormattedChipsHaveNoFault }
+    ensures shape { NoShapeFaultIsLaid }
+    ensures no_shape_fault { LaidHasNoShapeFault }
 {}
 
 /// The greatest number found.

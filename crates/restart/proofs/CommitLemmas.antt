@@ -1,5 +1,5 @@
 -- The commit sectors, as the status takes them in.
-use Rattle.std.proofs.Common.{◌≡◌, ℕ, zero, suc, max, List, [], Option, Some, Result, Ok, Err, inl, inr, refl, sym, ◌∙◌, ap, subst, arith}
+use Rattle.std.proofs.Common.{◌≡◌, ℕ, zero, suc, max, false, List, [], Option, Some, Result, Ok, Err, inl, inr, refl, sym, ◌∙◌, ap, subst, arith}
 use native.Mathlib.Numerals.{unary_clauses}
 use Rattle.std.specs.Result.{IsErrAnd}
 use Rattle.std.specs.List.{Contains}
@@ -25,7 +25,7 @@ use Rattle.number_set.proofs.NumberLemmas.{numbers_are_a_union}
 use Rattle.txn_status.specs.ReadingIn.{under, status_in}
 use Rattle.opened_tables.specs.Opened.{IsOpenedStatus}
 use Rattle.unit_io.proofs.ReadsAtLemmas.{at_wider}
-use Rattle.restart.specs.Looks.{OnlyReads, HasCause, Looks}
+use Rattle.restart.specs.Looks.{OnlyReads, HasCauseFor, Looks}
 
 -- ---- what it does to the chip
 
@@ -34,7 +34,7 @@ pub at_reads : (At : ℕ → ℕ → Type 0) (old new : Told) → ReadsAt At old
 at_reads At old new = at_wider At Anywhere old new (λ p s is. tt)
 
 -- their fault is about what the chip holds, or a read failed
-at_cause : (At : ℕ → ℕ → Type 0) (e : ChipFault) (old new : Told) → IsCauseAt At e old new → HasCause (Chip e) old new
+at_cause : (At : ℕ → ℕ → Type 0) (e : ChipFault) (old new : Told) → IsCauseAt At e old new → HasCauseFor false (Chip e) old new
 at_cause At ReadFault old new cause = λ other. record { fault = refl; rose = cause }
 at_cause At Stopped old new cause = absurd cause
 at_cause At (Damaged p s stored computed) old new cause = absurd cause
@@ -43,11 +43,11 @@ at_cause At (WornOut n) old new cause = absurd cause
 
 -- and it is handed on
 pub at_looks : {T : Type 0} (At : ℕ → ℕ → Type 0) (r : Result T ImageFault) (e : ChipFault) (old new : Told)
-    → ReadsAt At old new → IsCauseAt At e old new → IsErrAnd r (λ y. y ≡ Chip e) → Looks HasCause r old new
+    → ReadsAt At old new → IsCauseAt At e old new → IsErrAnd r (λ y. y ≡ Chip e) → Looks (HasCauseFor false) r old new
 at_looks At (Ok v) e old new did cause exit = absurd exit
 at_looks At (Err y) e old new did cause exit = record {
   reads = at_reads At old new did;
-  cause = subst (λ (f : ImageFault). HasCause f old new) (sym exit) (at_cause At e old new cause);
+  cause = subst (λ (f : ImageFault). HasCauseFor false f old new) (sym exit) (at_cause At e old new cause);
 }
 
 -- ---- what it finds

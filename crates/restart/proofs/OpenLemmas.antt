@@ -21,7 +21,7 @@ use Rattle.ipl_meaning.specs.Tables.{Places, OverflowLists, IsFree}
 use Rattle.opening_rules.specs.First.{at, first_of, count_below}
 use Rattle.opening_rules.specs.Chosen.{KeptHeader, Winner, is_head_payload, head_of, is_header, is_data_of, is_status, chosen, header_in, header_at, units_told, units_in, units_at, current_in, current_at, status_in, status_at}
 use Rattle.opening_rules.specs.Live.{sectors, is_at, is_log_spot, is_overflow_place, Mark, marks, marks_in}
-use Rattle.opening_rules.specs.Faults.{TellsImageFault, size_fault, keeps_units, status_geometry, header_tests, header_fault, first_fault, greatest_of_heads, greatest_of_commits, greatest_of_logs, greatest_found, spent, no_spare, holds_live}
+use Rattle.opening_rules.specs.Faults.{TellsImageFault, size_fault, keeps_units, status_geometry, header_tests, header_fault, fault_for, greatest_of_heads, greatest_of_commits, greatest_of_logs, greatest_found, spent_for, no_spare, holds_live}
 use Rattle.opening_rules.specs.LaidOut.{no_sector, place_of, sector_of, retired_at, layout_in}
 use Rattle.unit_layout.specs.Retired.{retired_in, may_be_retired}
 use Rattle.opening_rules.specs.Payloads.{is_status_payload}
@@ -32,7 +32,7 @@ use Rattle.opening_rules.specs.Laws.{MayBeRead, IsByteChart}
 use Rattle.opening_rules.proofs.ChosenLemmas.{chosen_is_best}
 use Rattle.opening_rules.proofs.PartLemmas.{keeps_to}
 use Rattle.opening_rules.proofs.ContentsLemmas.{whole_sectors_make_byte_charts}
-use Rattle.opening_rules.proofs.NoFaultLemmas.{no_fault_is_laid}
+use Rattle.opening_rules.proofs.NoFaultLemmas.{no_fault_lays}
 use Rattle.opening_rules.proofs.TellsLemmas.{tells_exit, tells_past}
 use Rattle.restart.specs.Bytes.{IsRestWhole}
 use Rattle.restart.specs.Looks.{IsMissed}
@@ -163,14 +163,14 @@ current_low heads current status counts u winner is =
 pub held_is : (heads : List (Option KeptHeader)) (notes : Notes) (lists : OverflowLists) (all : List Mark) → IsNoted notes lists all → (p : ℕ) → is_held heads notes p ≡ holds_live (at heads) all p
 held_is heads notes lists all it p = ap (λ (b : Bool). is_overflow_place (at heads p) && b) (it.holds p)
 
-pub end_tells : {T : Type 0} (heads : List (Option KeptHeader)) (notes : Notes) (lists : OverflowLists) (all : List Mark) (greatest number places : ℕ) (r : Result T ImageFault) → greatest ≡ number → length heads ≡ places → IsNoted notes lists all
-    → TellsImageFault (option_or (spent greatest) (option_or (no_spare (count_below (is_held heads notes) (length heads))) None)) r
-    → TellsImageFault (option_or (spent number) (option_or (no_spare (count_below (holds_live (at heads) all) places)) None)) r
-end_tells heads notes lists all greatest number places r is size it tells =
+pub end_tells : {T : Type 0} (draws : Bool) (heads : List (Option KeptHeader)) (notes : Notes) (lists : OverflowLists) (all : List Mark) (greatest number places : ℕ) (r : Result T ImageFault) → greatest ≡ number → length heads ≡ places → IsNoted notes lists all
+    → TellsImageFault (option_or (spent_for draws greatest) (option_or (no_spare (count_below (is_held heads notes) (length heads))) None)) r
+    → TellsImageFault (option_or (spent_for draws number) (option_or (no_spare (count_below (holds_live (at heads) all) places)) None)) r
+end_tells draws heads notes lists all greatest number places r is size it tells =
     let count : count_below (is_held heads notes) (length heads) ≡ count_below (holds_live (at heads) all) places =
     count_alike (is_held heads notes) (holds_live (at heads) all) (length heads) (λ p low. held_is heads notes lists all it p) ∙ ap (count_below (holds_live (at heads) all)) size in
-    subst (λ (n : ℕ). TellsImageFault (option_or (spent number) (option_or (no_spare n) None)) r) count
-    (subst (λ (n : ℕ). TellsImageFault (option_or (spent n) (option_or (no_spare (count_below (is_held heads notes) (length heads))) None)) r) is tells)
+    subst (λ (n : ℕ). TellsImageFault (option_or (spent_for draws number) (option_or (no_spare n) None)) r) count
+    (subst (λ (n : ℕ). TellsImageFault (option_or (spent_for draws n) (option_or (no_spare (count_below (is_held heads notes) (length heads))) None)) r) is tells)
 
 pub number_is : (c : Chart) (heads : ℕ → Option KeptHeader) (current : ℕ → Option Winner) (status : Option Winner) (size places first least greatest : ℕ) → size ≡ places → first ≡ greatest_of_heads heads size
     → least ≡ greatest_of_commits first c status sectors → greatest ≡ greatest_of_logs least heads current c (places * 256) → greatest ≡ number_by c heads current status places
@@ -225,14 +225,14 @@ module _ (c : Chart) (places : ℕ) (heads : List (Option KeptHeader)) (current 
       (subst (λ (cur : ℕ → Option Winner). P (at heads) cur (status_at c places)) shows.current_are
       (subst (λ (st : Option Winner). P (at heads) (at current) st) shows.status_is it))
 
-  rest_tells : {T : Type 0} (r : Result T ImageFault) → TellsImageFault (fault_by c (at heads) (at current) (Some status) places) r
-      → TellsImageFault (fault_by c (header_at c places) (current_at c places) (status_at c places) places) r
-  rest_tells r tells = to_chart (λ h cur st. TellsImageFault (fault_by c h cur st places) r) tells
+  rest_tells : {T : Type 0} (draws : Bool) (r : Result T ImageFault) → TellsImageFault (fault_by draws c (at heads) (at current) (Some status) places) r
+      → TellsImageFault (fault_by draws c (header_at c places) (current_at c places) (status_at c places) places) r
+  rest_tells draws r tells = to_chart (λ h cur st. TellsImageFault (fault_by draws c h cur st places) r) tells
 
   -- where the size and the headers are well, the rest tells the first fault
-  pub all_tells : {T : Type 0} (r : Result T ImageFault) → 5 ≤ places → places ≤ 1028 → header_fault c places ≡ None
-      → TellsImageFault (fault_by c (at heads) (at current) (Some status) places) r → TellsImageFault (first_fault c places) r
-  all_tells r least most well tells = tells_past _ _ r (size_none places least most) (tells_past _ _ r well (rest_tells r tells))
+  pub all_tells : {T : Type 0} (draws : Bool) (r : Result T ImageFault) → 5 ≤ places → places ≤ 1028 → header_fault c places ≡ None
+      → TellsImageFault (fault_by draws c (at heads) (at current) (Some status) places) r → TellsImageFault (fault_for draws c places) r
+  all_tells draws r least most well tells = tells_past _ _ r (size_none places least most) (tells_past _ _ r well (rest_tells draws r tells))
 
   pub number_found : (n : ℕ) → n ≡ number_by c (at heads) (at current) (Some status) places → n ≡ greatest_found c places
   number_found n is = to_chart (λ h cur st. n ≡ number_by c h cur st places) is
@@ -360,8 +360,8 @@ read_bytes x places heads current status shows first rest =
         (subst (λ (cur : ℕ → Option Winner). is_log_spot (header_at (chart_of x) places) cur p s ≡ true) (sym shows.current_are) spot))
 
 -- where there is no fault, the contents are laid out
-pub laid : (x : Contents) (places : ℕ) (heads : List (Option KeptHeader)) (current : List (Option Winner)) (status : Winner) → ShowsHeaders (chart_of x) places heads current status
+pub laid : (draws : Bool) (x : Contents) (places : ℕ) (heads : List (Option KeptHeader)) (current : List (Option Winner)) (status : Winner) → ShowsHeaders (chart_of x) places heads current status
     → ((p : ℕ) → p < places → IsWhole (x p 0)) → IsRestWhole x places heads current status
-    → first_fault (chart_of x) places ≡ None → Laid places (chart_of x) (layout_in (chart_of x) places)
-laid x places heads current status shows first rest none =
-    no_fault_is_laid (chart_of x) places (read_bytes x places heads current status shows first rest) none
+    → fault_for draws (chart_of x) places ≡ None → Laid places (chart_of x) (layout_in (chart_of x) places)
+laid draws x places heads current status shows first rest none =
+    no_fault_lays draws (chart_of x) places (read_bytes x places heads current status shows first rest) none

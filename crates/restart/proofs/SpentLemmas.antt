@@ -13,12 +13,13 @@ use Rattle.opening_rules.specs.First.{first_of}
 use Rattle.opening_rules.specs.Chosen.{KeptHeader, Winner, units_told, current_at, status_at, units_at}
 use Rattle.opening_rules.specs.Live.{sectors, Mark, mark_of, marks, commit_at, live_at}
 use Rattle.opening_rules.specs.Payloads.{is_commit_payload}
-use Rattle.opening_rules.specs.Faults.{TellsImageFault, is_image, malformed, not_formatted, keeps_units, status_geometry, says_other, other_geometry, missing, bad_header, header_fault, commit_test, commit_fault, is_log_well, log_test, log_fault, first_fault}
+use Rattle.opening_rules.specs.Faults.{TellsImageFault, is_image, malformed, not_formatted, keeps_units, status_geometry, says_other, other_geometry, missing, bad_header, header_fault, commit_test, commit_fault, is_log_well, log_test, log_fault, fault_for}
 use Rattle.opening_rules.specs.Laws.{IsByteChart}
 use Rattle.opening_rules.proofs.TellsLemmas.{tells_past, tells_here}
 use Rattle.unit_io.specs.Reads.{OfContents}
-use Rattle.restart.specs.Bytes.{ReadsBytes}
-use Rattle.restart.specs.Looks.{HasCause}
+use Rattle.restart.specs.Bytes.{ReadsBytesFor}
+use Rattle.restart.specs.Looks.{HasCauseFor}
+use Rattle.restart.proofs.LookLemmas.{untold_still}
 use Rattle.restart.proofs.OpenLemmas.{size_none}
 
 -- ---- no other fault is that the numbers are used up
@@ -103,20 +104,21 @@ spent_exit (Ok v) e exit says = absurd exit
 spent_exit (Err y) e exit says = λ is. says (sym exit ∙ is)
 
 -- a fault of the headers is the first one
-pub headers_tell_first : {T : Type 0} (c : Chart) (places : ℕ) (r : Result T ImageFault) (e : ImageFault) → 5 ≤ places → places ≤ 1028 → IsErrAnd r (λ y. y ≡ e)
-    → (is_image e ≡ true → header_fault c places ≡ Some e) → TellsImageFault (first_fault c places) r
-headers_tell_first c places r e least most exit says = tells_past _ _ r (size_none places least most) (tells_here _ _ r e exit says)
+pub headers_tell_first : {T : Type 0} (draws : Bool) (c : Chart) (places : ℕ) (r : Result T ImageFault) (e : ImageFault) → 5 ≤ places → places ≤ 1028 → IsErrAnd r (λ y. y ≡ e)
+    → (is_image e ≡ true → header_fault c places ≡ Some e) → TellsImageFault (fault_for draws c places) r
+headers_tell_first draws c places r e least most exit says = tells_past _ _ r (size_none places least most) (tells_here _ _ r e exit says)
 
 -- with a fault of what it read: its numbers are used up, or it has the first fault
-pub failed_bytes : {T : Type 0} (places : ℕ) (r : Result T ImageFault) (e : ImageFault) (told mid new : Told) → IsErrAnd r (λ y. y ≡ e) → HasCause e mid new
-    → OfContents told (λ x. TellsImageFault (first_fault (chart_of x) places) r)
+pub failed_bytes : {T : Type 0} (draws : Bool) (places : ℕ) (r : Result T ImageFault) (e : ImageFault) (told mid new : Told)
+    → IsErrAnd r (λ y. y ≡ e) → HasCauseFor draws e mid new
+    → OfContents told (λ x. TellsImageFault (fault_for draws (chart_of x) places) r)
     → (e ≡ Spent → OfContents told (λ x. IsByteChart places (chart_of x)))
-    → ReadsBytes places told r
-failed_bytes places (Ok v) e told mid new exit cause tells spent = absurd exit
-failed_bytes places (Err y) e told mid new exit cause tells spent = λ x holds unread unstopped why. elim why [
+    → ReadsBytesFor draws places told r
+failed_bytes draws places (Ok v) e told mid new exit cause tells spent = absurd exit
+failed_bytes draws places (Err y) e told mid new exit cause tells spent = λ x holds unread unstopped why. elim why [
   | inl is ↦ spent (sym exit ∙ is) x holds
   | inr none ↦ elim (cases_Bool (is_image y)) [
     | inl image ↦ (let some : None ≡ Some y = sym none ∙ tells x holds image in absurd (cc some))
-    | inr other ↦ absurd (unread (exit ∙ (cause (ap is_image (sym exit) ∙ other)).fault))
+    | inr other ↦ absurd (unread (exit ∙ (cause (untold_still draws e (ap is_image (sym exit) ∙ other))).fault))
   ]
 ]

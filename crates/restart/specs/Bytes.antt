@@ -1,5 +1,5 @@
 -- What an opening read is whole, and so it is bytes.
-use Rattle.std.specs.Prelude.{ℕ, ◌≡◌, ◌≢◌, ◌⊎◌, ◌<◌, ◌≤◌, true, List, Option, None, Result, MatchResult}
+use Rattle.std.specs.Prelude.{ℕ, ◌≡◌, ◌≢◌, ◌⊎◌, ◌<◌, ◌≤◌, Bool, true, List, Option, None, Result, MatchResult}
 use Rattle.ipl_base.specs.declared.limits.TheConstants.{SECTORS}
 use Rattle.ipl_base.specs.declared.fault.ChipFault.TheVariants.{ReadFault, Stopped}
 use Rattle.ipl_base.specs.declared.fault.ImageFault.{ImageFault}
@@ -12,7 +12,7 @@ use Rattle.unit_io.specs.Reads.{OfContents}
 use Rattle.opening_rules.specs.First.{at}
 use Rattle.opening_rules.specs.Chosen.{KeptHeader, Winner}
 use Rattle.opening_rules.specs.Live.{is_log_spot}
-use Rattle.opening_rules.specs.Faults.{first_fault}
+use Rattle.opening_rules.specs.Faults.{fault_for}
 use Rattle.opening_rules.specs.Laws.{IsByteChart}
 
 -- by these headers, the other sectors of the status place and those where log sectors may stand are whole
@@ -24,9 +24,13 @@ IsRestWhole x places heads current status =
 
 -- what it read is bytes: where it was done, or failed though every call of the chip was done and
 -- what it read had no fault but that the numbers are used up
-abbrev pub ReadsBytes : {T : Type 0} → ℕ → Told → Result T ImageFault → Type 0
-ReadsBytes places told result = OfContents told (λ x. MatchResult result
+abbrev pub ReadsBytesFor : {T : Type 0} → Bool → ℕ → Told → Result T ImageFault → Type 0
+ReadsBytesFor draws places told result = OfContents told (λ x. MatchResult result
     (λ done. IsByteChart places (chart_of x))
     (λ e. e ≢ Chip ReadFault → e ≢ Chip Stopped
-    → (e ≡ Spent) ⊎ (first_fault (chart_of x) places ≡ None)
+    → (e ≡ Spent) ⊎ (fault_for draws (chart_of x) places ≡ None)
     → IsByteChart places (chart_of x)))
+
+-- the same of an opening
+abbrev pub ReadsBytes : {T : Type 0} → ℕ → Told → Result T ImageFault → Type 0
+ReadsBytes places told result = ReadsBytesFor true places told result

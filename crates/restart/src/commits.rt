@@ -1,5 +1,5 @@
 //! The commit sectors of the status place are read.
-ghost use Rattle.std.specs.Prelude.{◌≡◌, ◌<◌, ◌≤◌, ℕ, Some, IfOk, OnOk};
+ghost use Rattle.std.specs.Prelude.{◌≡◌, ◌<◌, ◌≤◌, ℕ, Some, IfOk, OnOk, false};
 ghost use Rattle.ipl_meaning.specs.Chart.{chart_of};
 ghost use Rattle.unit_io.specs.Reads.{OfContents};
 ghost use Rattle.ipl_base.specs.First.{first_below};
@@ -8,7 +8,7 @@ ghost use Rattle.opening_rules.specs.Faults.{TellsImageFault, commit_fault, grea
 ghost use Rattle.ipl_format.specs.Whole.{IsWhole};
 ghost use Rattle.unit_io.specs.ReadsAt.{ReadsOnce};
 ghost use Rattle.txn_status.specs.ReadingIn.{status_in, IsCommitSpot};
-ghost use Rattle.restart.specs.Looks.{Looks, HasCause};
+ghost use Rattle.restart.specs.Looks.{Looks, HasCauseFor};
 
 use crate::kept::Winner;
 use chip_trait::Chip;
@@ -34,7 +34,7 @@ pub(crate) fn read_commits<C: Chip>(
         TellsImageFault (first_below (commit_fault (chart_of x) (Some winner.now)) sectors) result) }
     ensures whole { OnOk result (OfContents (C.told chip.old) (λ x.
         (s : ℕ) → 1 ≤ s → s < 256 → IsWhole (x winner.now.place s))) }
-    ensures looks { Looks HasCause result (C.told chip.old) (C.told chip.new) }
+    ensures looks { Looks (HasCauseFor false) result (C.told chip.old) (C.told chip.new) }
     ensures once { ReadsOnce (IsCommitSpot winner.now.place) (C.told chip.old) (C.told chip.new) }
 {
     let greatest = status.read_under(chip, winner.place(), winner.header().generation())?;

@@ -15,11 +15,11 @@ ghost use Rattle.opening_rules.specs.First.{at, with_one};
 ghost use Rattle.opening_rules.specs.Live.{kept, Mark, mark_of, is_log, is_log_spot, is_overflow_place, is_live};
 ghost use Rattle.opening_rules.specs.Payloads.{is_log_payload};
 ghost use Rattle.opened_tables.specs.Found.{mask_of_sector};
-ghost use Rattle.opening_rules.specs.Faults.{TellsImageFault, is_image, log_test, log_fault, log_number};
+ghost use Rattle.opening_rules.specs.Faults.{TellsImageFault, is_image, is_told, log_test, log_fault, log_number};
 ghost use Rattle.overflow.specs.Lists.{spots_in};
 ghost use Rattle.unit_io.specs.ReadsAt.{ReadsOnce};
 ghost use Rattle.txn_status.specs.ReadingIn.{IsAt};
-ghost use Rattle.restart.specs.Looks.{Looks, HasCause, MayHoldLog};
+ghost use Rattle.restart.specs.Looks.{Looks, HasCauseFor, MayHoldLog};
 ghost use Rattle.restart.specs.Notes.{units_of, HasRoom, AreSized, overflow_count_of, listed, IsNoted, IsRoomy};
 ghost use Rattle.restart.specs.Masked.{SamePlaces, NoneNamed, masked, IsMasked};
 ghost use Rattle.restart.specs.Collected.{records_at, AreKept};
@@ -58,7 +58,7 @@ fn check_log(
     ensures room { OnOk result (is_overflow_place (at heads.now spot.place) ≡ true
         → overflow_count_of overflow.now head.now.unit < OVERFLOW_SECTORS) }
     ensures list { OnOk result (is_log_payload head.now.version payload.now ≡ true) }
-    ensures image { IfErr result (λ e. is_image e ≡ true) }
+    ensures image { IfErr result (λ e. is_told false e ≡ true) }
 {
     if !is_log_payload(payload, head.version)
         || noted.has(head.unit, head.serial)
@@ -149,7 +149,7 @@ fn take_log(
         noted.new overflow.new) }
     ensures sized { AreSized (length current.now) (length heads.now) noted.new overflow.new }
     ensures places { SamePlaces directory.old directory.new }
-    ensures image { IfErr result (λ e. is_image e ≡ true) }
+    ensures image { IfErr result (λ e. is_told false e ≡ true) }
 {
     if is_live(heads, current, spot.place, head) {
         directory.facts();
@@ -213,7 +213,7 @@ fn take_found(
         noted.new overflow.new) }
     ensures sized { AreSized (length current.now) (length heads.now) noted.new overflow.new }
     ensures places { SamePlaces directory.old directory.new }
-    ensures image { IfErr result (λ e. is_image e ≡ true) }
+    ensures image { IfErr result (λ e. is_told false e ≡ true) }
 {
     match found {
         Some((head, used)) => {
@@ -279,7 +279,7 @@ fn scan_sector<C: Chip>(
         noted.new overflow.new) }
     ensures sized { AreSized (length current.now) (length heads.now) noted.new overflow.new }
     ensures places { SamePlaces directory.old directory.new }
-    ensures looks { Looks HasCause result (C.told chip.old) (C.told chip.new) }
+    ensures looks { Looks (HasCauseFor false) result (C.told chip.old) (C.told chip.new) }
     ensures once { ReadsOnce (λ p s. IsAt spot.place spot.sector p s
         × MayHoldLog (at heads.now) (at current.now) p s) (C.told chip.old) (C.told chip.new) }
 {
@@ -327,7 +327,7 @@ fn scan_place<C: Chip>(
         noted.new overflow.new) }
     ensures sized { AreSized (length current.now) (length heads.now) noted.new overflow.new }
     ensures places { SamePlaces directory.old directory.new }
-    ensures looks { Looks HasCause result (C.told chip.old) (C.told chip.new) }
+    ensures looks { Looks (HasCauseFor false) result (C.told chip.old) (C.told chip.new) }
     ensures once { ReadsOnce (λ p s. (p ≡ place) × MayHoldLog (at heads.now) (at current.now) p s)
         (C.told chip.old) (C.told chip.new) }
 {
@@ -373,7 +373,7 @@ pub(crate) fn scan<C: Chip>(
     ensures none { OnOk result (overflow.new.in_use ≡ []) }
     ensures sized { AreSized (length current.now) geometry.places noted.new overflow.new }
     ensures places { SamePlaces directory.old directory.new }
-    ensures looks { Looks HasCause result (C.told chip.old) (C.told chip.new) }
+    ensures looks { Looks (HasCauseFor false) result (C.told chip.old) (C.told chip.new) }
     ensures once { ReadsOnce (MayHoldLog (at heads.now) (at current.now))
         (C.told chip.old) (C.told chip.new) }
 {

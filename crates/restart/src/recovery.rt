@@ -1,5 +1,5 @@
 //! The opening of a chip.
-ghost use Rattle.std.specs.Prelude.{◌≡◌, ◌≢◌, ◌<◌, ◌≤◌, ◌*◌, ◌^◌, ℕ, [], length, Some, None, IfOk, IfErr, OnOk};
+ghost use Rattle.std.specs.Prelude.{◌≡◌, ◌≢◌, ◌<◌, ◌≤◌, ◌+◌, ◌*◌, ◌^◌, ℕ, [], true, false, length, Some, None, IfOk, IfErr, OnOk};
 ghost use Rattle.chip_trait.specs.Told.{Told};
 ghost use Rattle.ipl_base.specs.Places.{KeepsUnits, units_on};
 ghost use Rattle.ipl_base.specs.declared.fault.ImageFault.TheVariants.{Spent};
@@ -9,12 +9,13 @@ ghost use Rattle.ipl_meaning.specs.Mirrors.{Mirrors};
 ghost use Rattle.unit_io.specs.Reads.{OfContents};
 ghost use Rattle.opening_rules.specs.First.{at, count_below};
 ghost use Rattle.opening_rules.specs.Live.{marks};
-ghost use Rattle.opening_rules.specs.Faults.{TellsImageFault, header_fault, first_fault};
+ghost use Rattle.opening_rules.specs.Faults.{TellsImageFault, header_fault, fault_for, first_fault, shape_fault, greatest_found};
+ghost use Rattle.opening_rules.specs.Laws.{IsByteChart};
 ghost use Rattle.opening_rules.specs.LaidOut.{layout_in};
 ghost use Rattle.ipl_format.specs.Whole.{IsWhole};
-ghost use Rattle.restart.specs.Bytes.{IsRestWhole, ReadsBytes};
+ghost use Rattle.restart.specs.Bytes.{IsRestWhole, ReadsBytes, ReadsBytesFor};
 ghost use Rattle.unit_io.specs.ReadsAt.{Anywhere, ReadsOnce};
-ghost use Rattle.restart.specs.Looks.{Looks, HasCause, IsHeaderSpot, IsBehindHeader, MayHoldLog};
+ghost use Rattle.restart.specs.Looks.{Looks, HasCause, HasCauseFor, IsHeaderSpot, IsBehindHeader, MayHoldLog};
 ghost use Rattle.txn_status.specs.ReadingIn.{status_in};
 ghost use Rattle.merge_rules.specs.Known.{KnowsPlaces};
 ghost use Rattle.opened_tables.specs.Opened.{AreOpened, tables_of};
@@ -67,7 +68,7 @@ fn read_headers<C: Chip>(
         TellsImageFault (header_fault (chart_of x) geometry.places) result) }
     ensures whole { OnOk result (OfContents (C.told chip.old) (λ x.
         (p : ℕ) → p < geometry.places → IsWhole (x p 0))) }
-    ensures looks { Looks HasCause result (C.told chip.old) (C.told chip.new) }
+    ensures looks { Looks (HasCauseFor false) result (C.told chip.old) (C.told chip.new) }
     ensures once { ReadsOnce IsHeaderSpot (C.told chip.old) (C.told chip.new) }
     ensures size { length table.new ≡ length table.old }
 {
@@ -92,6 +93,7 @@ fn read_rest<C: Chip>(
     overflow: &mut Overflow,
     status: &mut Status,
     numbers: &mut KeptNumbers,
+    draws: bool,
 ) -> Result<Gathered, ImageFault>
     requires size { geometry.places ≡ (C.told chip.old).places }
     requires heads { length heads.now ≡ geometry.places }
@@ -102,7 +104,8 @@ fn read_rest<C: Chip>(
     requires blank { NoneNamed (length current.now) directory.old }
     requires winner { winner.now.place < geometry.places }
     ensures fault { OfContents (C.told chip.old) (λ x. TellsImageFault
-        (fault_by (chart_of x) (at heads.now) (at current.now) (Some winner.now) geometry.places) result) }
+        (fault_by draws (chart_of x) (at heads.now) (at current.now) (Some winner.now)
+        geometry.places) result) }
     ensures number { IfOk result (λ all. OfContents (C.told chip.old) (λ x. all.greatest
         ≡ number_by (chart_of x) (at heads.now) (at current.now) (Some winner.now) geometry.places)) }
     ensures collected { IfOk result (λ all. OfContents (C.told chip.old) (λ x. AreKept
@@ -123,12 +126,12 @@ fn read_rest<C: Chip>(
         IsRestWhole x geometry.places heads.now current.now winner.now)) }
     ensures spent { IfErr result (λ e. e ≡ Spent → OfContents (C.told chip.old) (λ x.
         IsRestWhole x geometry.places heads.now current.now winner.now)) }
-    ensures left { IfOk result (λ all. all.greatest < 2 ^ 63) }
+    ensures left { IfOk result (λ all. draws ≡ true → all.greatest < 2 ^ 63) }
     ensures two { OnOk result (count_below (is_held heads.now noted.new) (length heads.now) ≤ 2) }
     ensures none { OnOk result (overflow.new.in_use ≡ []) }
     ensures sized { OnOk result (AreSized (length current.now) geometry.places noted.new overflow.new) }
     ensures room { HasRoom geometry.places noted.new × (overflow.new.places ≡ geometry.places) }
-    ensures looks { Looks HasCause result (C.told chip.old) (C.told chip.new) }
+    ensures looks { Looks (HasCauseFor draws) result (C.told chip.old) (C.told chip.new) }
     ensures once { ((s : ℕ) → ¬ MayHoldLog (at heads.now) (at current.now) winner.now.place s)
         → ReadsOnce IsBehindHeader (C.told chip.old) (C.told chip.new) }
 {
@@ -137,7 +140,67 @@ fn read_rest<C: Chip>(
     let gathered = scan(
         chip, geometry, heads, current, noted, directory, overflow, numbers, status, least,
     )?;
-    check_found(heads, noted, gathered.greatest)?;
+    check_found(heads, noted, gathered.greatest, draws)?;
+    Ok(gathered)
+}
+
+/// Reads a chip into these tables, whose counter is the number after the greatest found. Answers that
+/// number, and whether the committed numbers of live records fit.
+fn read_chip<C: Chip>(
+    chip: &mut C,
+    geometry: Geometry,
+    heads: &mut [Option<Header>],
+    table: &mut [Option<Winner>],
+    noted: &mut Noted,
+    directory: &mut Directory,
+    overflow: &mut Overflow,
+    status: &mut Status,
+    numbers: &mut KeptNumbers,
+    draws: bool,
+) -> Result<Gathered, ImageFault>
+    requires size { geometry.places ≡ (C.told chip.old).places }
+    requires heads { length heads.old ≡ geometry.places }
+    requires table { length table.old ≡ units_on geometry.places }
+    requires noted { HasRoom geometry.places noted.old }
+    requires overflow { overflow.old.places ≡ geometry.places }
+    requires directory { length directory.old.in_use ≡ geometry.places }
+    ensures fault { OfContents (C.told chip.old) (λ x.
+        TellsImageFault (fault_for draws (chart_of x) geometry.places) result) }
+    ensures opened { IfOk result (λ all. OfContents (C.told chip.old) (λ x.
+        AreOpened geometry.places (chart_of x)
+        (tables_of directory.new overflow.new status.new (all.greatest + 1)))) }
+    ensures laid { OnOk result (OfContents (C.told chip.old) (λ x.
+        Laid geometry.places (chart_of x) (layout_in (chart_of x) geometry.places))) }
+    ensures mirrors { IfOk result (λ all. OfContents (C.told chip.old) (λ x.
+        Mirrors geometry.places (chart_of x) (layout_in (chart_of x) geometry.places)
+        (tables_of directory.new overflow.new status.new (all.greatest + 1)))) }
+    ensures collected { IfOk result (λ all. OfContents (C.told chip.old) (λ x.
+        AreCollected geometry.places (chart_of x) all.fits numbers.new)) }
+    ensures bytes { ReadsBytesFor draws geometry.places (C.told chip.old) result }
+    ensures known { IfOk result (λ all. KnowsPlaces geometry.places
+        (tables_of directory.new overflow.new status.new (all.greatest + 1))) }
+    ensures unclean { IfOk result (λ all. NoneIsClean
+        (tables_of directory.new overflow.new status.new (all.greatest + 1))) }
+    ensures free { OnOk result (HasFree directory.new) }
+    ensures left { IfOk result (λ all. draws ≡ true → all.greatest < 2 ^ 63) }
+    ensures size { length directory.new.in_use ≡ geometry.places }
+    ensures table { length table.new ≡ length table.old }
+    ensures room { HasRoom geometry.places noted.new × (overflow.new.places ≡ geometry.places) }
+    ensures looks { Looks (HasCauseFor draws) result (C.told chip.old) (C.told chip.new) }
+    ensures once { ReadsOnce Anywhere (C.told chip.old) (C.told chip.new) }
+{
+    let mut kept = HeadSector::none();
+    let winner = read_headers(chip, geometry, heads, table, &mut kept)?;
+    let current = &table[..winner.units(geometry) as usize];
+    adopt_all(directory, current);
+    let gathered = read_rest(
+        chip, geometry, heads, current, &winner, noted, directory, overflow, status, numbers, draws,
+    )?;
+    fill_places(directory, heads, &winner, noted);
+    retire_listed(directory, &kept);
+    list_places(overflow, heads, noted);
+    directory.facts();
+    overflow.facts();
     Ok(gathered)
 }
 
@@ -165,8 +228,6 @@ fn open<C: Chip>(
     ensures opened { OnOk result (OfContents (C.told chip.old) (λ x.
         AreOpened geometry.places (chart_of x)
         (tables_of directory.new overflow.new status.new counter.new))) }
-    ensures laid { OnOk result (OfContents (C.told chip.old) (λ x.
-        Laid geometry.places (chart_of x) (layout_in (chart_of x) geometry.places))) }
     ensures mirrors { OnOk result (OfContents (C.told chip.old) (λ x.
         Mirrors geometry.places (chart_of x) (layout_in (chart_of x) geometry.places)
         (tables_of directory.new overflow.new status.new counter.new))) }
@@ -185,20 +246,59 @@ fn open<C: Chip>(
     ensures looks { Looks HasCause result (C.told chip.old) (C.told chip.new) }
     ensures once { ReadsOnce Anywhere (C.told chip.old) (C.told chip.new) }
 {
-    let mut kept = HeadSector::none();
-    let winner = read_headers(chip, geometry, heads, table, &mut kept)?;
-    let current = &table[..winner.units(geometry) as usize];
-    adopt_all(directory, current);
-    let gathered = read_rest(
-        chip, geometry, heads, current, &winner, noted, directory, overflow, status, numbers,
-    )?;
-    fill_places(directory, heads, &winner, noted);
-    retire_listed(directory, &kept);
-    list_places(overflow, heads, noted);
-    directory.facts();
-    overflow.facts();
-    *counter = Counter::at(gathered.greatest + 1);
-    Ok(gathered.fits)
+    match read_chip(
+        chip, geometry, heads, table, noted, directory, overflow, status, numbers, true,
+    ) {
+        Ok(all) => {
+            *counter = Counter::at(all.greatest + 1);
+            Ok(all.fits)
+        }
+        Err(fault) => Err(fault),
+    }
+}
+
+/// Looks a chip over into these tables, where no number will be drawn.
+fn look_over<C: Chip>(
+    chip: &mut C,
+    geometry: Geometry,
+    heads: &mut [Option<Header>],
+    table: &mut [Option<Winner>],
+    noted: &mut Noted,
+    directory: &mut Directory,
+    overflow: &mut Overflow,
+    status: &mut Status,
+    numbers: &mut KeptNumbers,
+) -> Result<(), ImageFault>
+    requires size { geometry.places ≡ (C.told chip.old).places }
+    requires heads { length heads.old ≡ geometry.places }
+    requires table { length table.old ≡ units_on geometry.places }
+    requires noted { HasRoom geometry.places noted.old }
+    requires overflow { overflow.old.places ≡ geometry.places }
+    requires directory { length directory.old.in_use ≡ geometry.places }
+    ensures fault { OfContents (C.told chip.old) (λ x.
+        TellsImageFault (shape_fault (chart_of x) geometry.places) result) }
+    ensures laid { OnOk result (OfContents (C.told chip.old) (λ x.
+        Laid geometry.places (chart_of x) (layout_in (chart_of x) geometry.places))) }
+    ensures mirrors { OnOk result (OfContents (C.told chip.old) (λ x.
+        Mirrors geometry.places (chart_of x) (layout_in (chart_of x) geometry.places)
+        (tables_of directory.new overflow.new status.new
+        (greatest_found (chart_of x) geometry.places + 1)))) }
+    ensures bytes { OnOk result (OfContents (C.told chip.old) (λ x.
+        IsByteChart geometry.places (chart_of x))) }
+    ensures known { OnOk result ((counter : ℕ) × KnowsPlaces geometry.places
+        (tables_of directory.new overflow.new status.new counter)) }
+    ensures size { length directory.new.in_use ≡ geometry.places }
+    ensures table { length table.new ≡ length table.old }
+    ensures room { HasRoom geometry.places noted.new × (overflow.new.places ≡ geometry.places) }
+    ensures looks { Looks (HasCauseFor false) result (C.told chip.old) (C.told chip.new) }
+    ensures once { ReadsOnce Anywhere (C.told chip.old) (C.told chip.new) }
+{
+    match read_chip(
+        chip, geometry, heads, table, noted, directory, overflow, status, numbers, false,
+    ) {
+        Ok(_) => Ok(()),
+        Err(fault) => Err(fault),
+    }
 }
 
 /// The scratch memory of an opening: what is kept of each header, the header of each unit that counts, and what is noted of
@@ -319,6 +419,62 @@ pub fn recover<C: Chip>(
         overflow,
         status,
         counter,
+        numbers,
+    )
+}
+
+/// Looks a chip over, as `recover` does, and fails with the same faults but for one: it draws no
+/// number, so that none are left is none. Of a chip without a fault the tables then say what was
+/// found, as after `recover`.
+pub fn survey<C: Chip>(
+    chip: &mut C,
+    scratch: &mut Scratch,
+    directory: &mut Directory,
+    overflow: &mut Overflow,
+    status: &mut Status,
+    numbers: &mut KeptNumbers,
+) -> Result<(), ImageFault>
+    requires scratch { scratch.old ≡ (C.told chip.old).places }
+    requires directory { length directory.old.in_use ≡ (C.told chip.old).places }
+    requires overflow { overflow.old.places ≡ (C.told chip.old).places }
+
+    // It fails exactly with the first fault of how the chip is laid out, unless a read failed.
+    ensures fault { OfContents (C.told chip.old) (λ x.
+        TellsImageFault (shape_fault (chart_of x) (C.told chip.old).places) result) }
+
+    // Else the chip is laid out rightly, and the tables mirror it, with the number after the greatest.
+    ensures laid { OnOk result (OfContents (C.told chip.old) (λ x.
+        Laid (C.told chip.old).places (chart_of x)
+        (layout_in (chart_of x) (C.told chip.old).places))) }
+    ensures mirrors { OnOk result (OfContents (C.told chip.old) (λ x.
+        Mirrors (C.told chip.old).places (chart_of x)
+        (layout_in (chart_of x) (C.told chip.old).places)
+        (tables_of directory.new overflow.new status.new
+        (greatest_found (chart_of x) (C.told chip.old).places + 1)))) }
+    ensures bytes { OnOk result (OfContents (C.told chip.old) (λ x.
+        IsByteChart (C.told chip.old).places (chart_of x))) }
+
+    // Whether the chip tells its contents or not, the tables know each of its places.
+    ensures known { OnOk result ((counter : ℕ) × KnowsPlaces (C.told chip.old).places
+        (tables_of directory.new overflow.new status.new counter)) }
+
+    // It only reads, each sector at most once, and fails with no other cause than a fault of the contents
+    // or a failed read.
+    ensures looks { Looks (HasCauseFor false) result (C.told chip.old) (C.told chip.new) }
+    ensures once { ReadsOnce Anywhere (C.told chip.old) (C.told chip.new) }
+    ensures sized { (scratch.new ≡ scratch.old)
+        × (length directory.new.in_use ≡ length directory.old.in_use)
+        × (overflow.new.places ≡ overflow.old.places) }
+{
+    look_over(
+        chip,
+        scratch.geometry,
+        &mut scratch.heads,
+        &mut scratch.current,
+        &mut scratch.noted,
+        directory,
+        overflow,
+        status,
         numbers,
     )
 }

@@ -1,4 +1,4 @@
-use Rattle.std.proofs.Common.{◌∙◌, ◌+◌, ◌*◌, None, sym, arith, refl}
+use Rattle.std.proofs.Common.{◌∙◌, ◌+◌, ◌*◌, false, None, sym, arith, refl}
 use Rattle.std.proofs.lemmas.Result.{err_from_is_err_and}
 use Rattle.ipl_meaning.specs.Chart.{chart_of}
 use Rattle.opening_rules.specs.First.{at}
@@ -29,7 +29,7 @@ returns-in_err-found-clause-looks g c =
 
 pub returns-in_err-gathered-clause-looks : goal.returns-in_err-gathered-clause-looks
 returns-in_err-gathered-clause-looks g c =
-    looks_found c.from_residual-in_err-gathered.result _ (asked_reads c.args.spot.place c.args.spot.sector c.read_sector.result c.read_sector.ensures.asks c.read_sector.ensures.accounts.counts)
+    looks_found false c.from_residual-in_err-gathered.result _ (asked_reads c.args.spot.place c.args.spot.sector c.read_sector.result c.read_sector.ensures.asks c.read_sector.ensures.accounts.counts)
     c.in_err-gathered.ensures.image c.from_residual-in_err-gathered.ensures.1
 
 pub returns-clause-looks : goal.returns-clause-looks
