@@ -37,7 +37,7 @@ use Rattle.page_ops.specs.Pending.{Pendings, fill_by}
 use Rattle.page_ops.specs.Rebuilt.{with_records}
 use Rattle.page_ops.proofs.TextLemmas.{texts_say_values}
 use Rattle.page_rebuild.specs.Taken.{pending_of, last_changes, AreTaken}
-use Rattle.page_rebuild.specs.Loaded.{IsLoaded, HasPageOf, AreTables, base_fault, loaded_values, loaded_pending, fill_fault, load_fault, SoundPagesShowValues}
+use Rattle.page_rebuild.specs.Loaded.{IsLoaded, HasPageOf, AreTables, IsKnown, WholeUnitsAreKnown, base_fault, loaded_values, loaded_pending, fill_fault, load_fault, SoundPagesShowValues}
 use Rattle.page_rebuild.proofs.ReadLemmas.{within, home_is}
 use Rattle.page_rebuild.proofs.RoomLemmas.{same_fills, values_in_fill}
 
@@ -170,28 +170,24 @@ sound_pages_show_values x it active u page = (shown, λ (now, shows, room). soun
               (λ slot low. refl),
         ))
 
--- ---- a frame that was loaded
+-- ---- what is known of a unit
 
+-- by tables that mirror the chart, which numbers are committed
+pub numbers_are : {places : ℕ} {c : Chart} {it : Layout} {t : Tables} {directory : Places} {overflow : OverflowLists}
+    {status : Status} → AreTables places c it t directory overflow status
+    → (tid : ℕ) → it.committed tid ≡ among status.numbers tid
+numbers_are {it = it} {t = t} are tid =
+    among_from t.status.numbers tid (it.committed tid) (are.mirrored.mirrors.status.numbers tid)
+    ∙ ap (λ (s : Status). among s.numbers tid) are.status_is
+
+-- and what is known of a page whose log was read
 module _ {places u place : ℕ} {c : Chart} {it : Layout} {t : Tables} {directory : Places}
     {overflow : OverflowLists} {status : Status} {head : UnitHead} {kept : List LogSector}
     (are : AreTables places c it t directory overflow status)
     (low : u < length directory.current) (here : place ≡ slice_index directory.current u)
     (page : ℕ) (live : IsLiveOf it u page head kept) where
-  place_is : place ≡ (it.units u).home
-  place_is = here ∙ home_is are low
-
   pub count_is : slice_index head.pieces page ≡ slice_index (it.units u).pieces page
   count_is = ap (λ (l : List ℕ). slice_index l page) live.pieces
-
-  pub fault_is : (x : Contents)
-      → page_fault x place head.version u head.generation page (slice_index head.pieces page)
-      ≡ base_fault x it u page
-  fault_is x = rw (place_is, live.version, live.generation, live.pieces) refl
-
-  committed_is : (tid : ℕ) → it.committed tid ≡ among status.numbers tid
-  committed_is tid =
-      among_from t.status.numbers tid (it.committed tid) (are.mirrored.mirrors.status.numbers tid)
-      ∙ ap (λ (s : Status). among s.numbers tid) are.status_is
 
   log_is : records_kept kept ≡ log_records_of (of_page page (it.units u).log)
   log_is =
@@ -200,14 +196,6 @@ module _ {places u place : ℕ} {c : Chart} {it : Layout} {t : Tables} {director
       (All-filter (is_of_page page) (IsEntry c places u (it.units u).home (it.units u).head.generation) (it.units u).log
       (are.mirrored.mirrors.laid.each u (within are low)).log.each)
 
-  reads_well : (base : Slots)
-      → HoldsPage c place head.version u head.generation page (slice_index head.pieces page) base
-      → ReadsWell c u (it.units u) page base
-  reads_well base held =
-      (held_pages_read_well c u (it.units u) page base).0
-      (rw (place_is, live.version, live.generation, live.pieces) at held)
-
-  -- the records of the log give the values and the pending changes
   values_shown : (slot : ℕ) (value : Option (List ℕ))
       → after_records (among status.numbers) page slot (records_kept kept) value
       ≡ after_records it.committed page slot (log_records_of (it.units u).log) value
@@ -216,13 +204,62 @@ module _ {places u place : ℕ} {c : Chart} {it : Layout} {t : Tables} {director
       ap (λ (l : List Record). after_records (among status.numbers) page slot l value) log_is
       ∙ page_applied (among status.numbers) page slot (it.units u).log value
       ∙ sym (same_applied it.committed (among status.numbers) page slot log value
-      (λ i d within. sym (committed_is _)))
+      (λ i d within. sym (numbers_are are _)))
 
-  pending_left : (active : ℕ → Bool) (slot : ℕ)
-      → last_changes active page (records_kept kept) slot ≡ loaded_pending it active u page slot
-  pending_left active slot =
-      ap (λ (l : List Record). last_changes active page l slot) log_is
-      ∙ ap pending_of (page_last active page slot (it.units u).log None)
+  pub known_by : IsKnown it place u page head kept status
+  known_by = record {
+    place_is = here ∙ home_is are low;
+    version = live.version;
+    generation = live.generation;
+    pieces = live.pieces;
+    values = values_shown;
+    pending = λ active slot.
+        ap (λ (l : List Record). last_changes active page l slot) log_is
+        ∙ ap pending_of (page_last active page slot (it.units u).log None);
+  }
+
+-- by the log sectors that are the same
+pub known_as : {it : Layout} {place u page : ℕ} {head : UnitHead} {kept same : List LogSector} {status : Status}
+    → same ≡ kept → IsKnown it place u page head kept status → IsKnown it place u page head same status
+known_as {it} {place} {u} {page} {head} {kept} {same} {status} is known =
+    subst (λ (l : List LogSector). IsKnown it place u page head l status) (sym is) known
+
+-- of each page, where all of its log was read
+pub whole_units_are_known : WholeUnitsAreKnown
+whole_units_are_known places c it place u head kept status whole page =
+    let log = log_records_of (it.units u).log in
+    let log_is : records_kept kept ≡ log =
+    ap records_kept whole.live.log
+    ∙ kept_records c places u (it.units u).home (it.units u).head.generation (it.units u).log
+    (whole.laid.each u whole.within).log.each in record {
+      place_is = whole.place_is;
+      version = whole.live.version;
+      generation = whole.live.generation;
+      pieces = whole.live.pieces;
+      values = λ slot value.
+          ap (λ (l : List Record). after_records (among status.numbers) page slot l value) log_is
+          ∙ sym (same_applied it.committed (among status.numbers) page slot log value
+          (λ i d within. sym (whole.numbers _)));
+      pending = λ active slot. ap (λ (l : List Record). last_changes active page l slot) log_is;
+    }
+
+-- ---- a frame that was loaded
+
+module _ {u place page : ℕ} {it : Layout} {status : Status} {head : UnitHead}
+    {kept : List LogSector} (known : IsKnown it place u page head kept status) where
+  pub fault_is : (x : Contents)
+      → page_fault x place head.version u head.generation page (slice_index head.pieces page)
+      ≡ base_fault x it u page
+  fault_is x = rw (known.place_is, known.version, known.generation, known.pieces) refl
+
+module _ {u place page : ℕ} {c : Chart} {it : Layout} {status : Status} {head : UnitHead}
+    {kept : List LogSector} (known : IsKnown it place u page head kept status) where
+  reads_well : (base : Slots)
+      → HoldsPage c place head.version u head.generation page (slice_index head.pieces page) base
+      → ReadsWell c u (it.units u) page base
+  reads_well base held =
+      (held_pages_read_well c u (it.units u) page base).0
+      (rw (known.place_is, known.version, known.generation, known.pieces) at held)
 
   -- a frame whose page was read
   module _ (f : FrameView)
@@ -239,7 +276,7 @@ module _ {places u place : ℕ} {c : Chart} {it : Layout} {t : Tables} {director
           shows = record {
             base = f.page;
             reads = reads_well f.page held;
-            says = λ slot less. taken.values slot less ∙ values_shown slot (value_in f.page slot);
+            says = λ slot less. taken.values slot less ∙ known.values slot (value_in f.page slot);
             room = omega (
               arith,
               room,
@@ -247,7 +284,7 @@ module _ {places u place : ℕ} {c : Chart} {it : Layout} {t : Tables} {director
               values_in_fill values (last_changes (among active) page (records_kept kept)),
             );
           };
-          pending = λ slot less. taken.pending slot less ∙ pending_left (among active) slot;
+          pending = λ slot less. taken.pending slot less ∙ known.pending (among active) slot;
         }
 
     -- the values of its page with the records that were kept are those that the layout says, and so is
@@ -260,11 +297,11 @@ module _ {places u place : ℕ} {c : Chart} {it : Layout} {t : Tables} {director
         same_fills (with_records (among status.numbers) page (records_kept kept) (values_in f))
         (loaded_values x it u page) (last_changes active page (records_kept kept))
         (loaded_pending it active u page)
-        (λ slot low. values_shown slot (value_in f.page slot)
+        (λ slot low. known.values slot (value_in f.page slot)
         ∙ sym (loaded_slot x it u page f.page
         (subst (λ (d : Chart). ReadsWell d u (it.units u) page f.page) same (reads_well f.page held))
         slot low))
-        (λ slot low. pending_left active slot)
+        (λ slot low. known.pending active slot)
 
     -- what is told where the base page reads well
     module _ (x : Contents) (active : ℕ → Bool) (same : c ≡ chart_of x)
@@ -275,16 +312,16 @@ module _ {places u place : ℕ} {c : Chart} {it : Layout} {t : Tables} {director
           (last_changes active page (records_kept kept))
           → load_fault x it active u page ≡ Some (Malformed place 0)
       full_is_told over =
-          full_then x it active u page (sym (fault_is x) ∙ sound)
+          full_then x it active u page (sym (fault_is known x) ∙ sound)
           (omega (arith, over, fill_is x active same))
-          ∙ ap (λ (p : ℕ). Some (Malformed p 0)) (sym place_is)
+          ∙ ap (λ (p : ℕ). Some (Malformed p 0)) (sym known.place_is)
 
       pub none_is_told : fill_by
           (with_records (among status.numbers) page (records_kept kept) (values_in f))
           (last_changes active page (records_kept kept)) ≤ PAGE_LEN
           → load_fault x it active u page ≡ None
       none_is_told room =
-          none_then x it active u page (sym (fault_is x) ∙ sound)
+          none_then x it active u page (sym (fault_is known x) ∙ sound)
           (omega (arith, room, fill_is x active same))
 
 -- whatever map the chart stands for, the frame has that map's page

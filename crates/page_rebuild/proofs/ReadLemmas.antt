@@ -6,18 +6,21 @@ use Rattle.std.proofs.lemmas.List.{get_or_past}
 use Rattle.std.proofs.lemmas.List.Elements.{All-nil, All-cons}
 use Rattle.chip_trait.specs.declared.event.Event.TheVariants.{Read}
 use Rattle.chip_trait.specs.Told.{Told, Counts}
+use Rattle.std.specs.Prelude.{OnOk, IfErr}
 use Rattle.ipl_base.specs.declared.fault.ChipFault.{ChipFault}
+use Rattle.ipl_base.specs.declared.fault.ChipFault.TheVariants.{ReadFault, Stopped, Damaged, Malformed, WornOut}
 use Rattle.ipl_format.specs.Place.{base_sector_of}
 use Rattle.ipl_meaning.specs.Chart.{Chart}
 use Rattle.ipl_meaning.specs.Layout.{Layout}
 use Rattle.ipl_meaning.specs.Allowed.{IsAllowed}
 use Rattle.ipl_meaning.specs.Tables.{Places, OverflowLists, Status, Tables}
 use Rattle.unit_io.specs.Reads.{Reads, PageAsked, page_reads}
-use Rattle.unit_io.specs.ReadsAt.{IsReadAt, ReadsAt}
+use Rattle.unit_io.specs.Faults.{IsPageCause}
+use Rattle.unit_io.specs.ReadsAt.{IsReadAt, IsCauseAt, ReadsAt}
 use Rattle.unit_io.proofs.ReadsAtLemmas.{at_then, at_wider}
 use Rattle.unit_log.specs.Paged.{page_spots, IsPageLogRead, AddsAtMost}
 use Rattle.unit_log.proofs.PagedLemmas.{spot_of_page}
-use Rattle.page_rebuild.specs.Loaded.{AreTables, IsBaseRead, IsLoadRead}
+use Rattle.page_rebuild.specs.Loaded.{AreTables, IsBaseRead, IsLoadRead, IsLoadCause, IsRebuildCause}
 
 -- ---- base sectors that were read
 
@@ -161,3 +164,34 @@ module _ {places u : ℕ} {c : Chart} {it : Layout} {t : Tables} {directory : Pl
 pub fault_told : {o own : Option ChipFault} {e other : ChipFault} → o ≡ own → own ≡ Some e
     → other ≡ e → o ≡ Some other
 fault_told is told same = is ∙ told ∙ ap (λ (f : ChipFault). Some f) (sym same)
+
+-- ---- by a call's result
+
+-- what is so where it is done
+pub ok_then : {T E A B : Type 0} (r : Result T E) → OnOk r A → (A → B) → OnOk r B
+ok_then (Ok v) a next = next a
+ok_then (Err e) a next = tt
+
+pub ok_always : {T E B : Type 0} (r : Result T E) → B → OnOk r B
+ok_always (Ok v) b = b
+ok_always (Err e) b = tt
+
+-- after other reads a base page reads badly
+page_cause : (place home page : ℕ) (old mid new : Told) (e : ChipFault) → place ≡ home → Counts old mid
+    → IsPageCause place page e mid new → IsPageCause home page e old new
+page_cause place home page old mid new ReadFault here counts cause = omega (arith, counts.reads, cause)
+page_cause place home page old mid new Stopped here counts cause = absurd cause
+page_cause place home page old mid new (Damaged p s stored computed) here counts cause =
+    (cause.0 ∙ here, cause.1, cause.2)
+page_cause place home page old mid new (Malformed p s) here counts cause = (cause.0 ∙ here, cause.1)
+page_cause place home page old mid new (WornOut n) here counts cause = absurd cause
+
+-- or a page has no room
+pub rebuilt_cause : (place home page : ℕ) (spots : List (ℕ × ℕ)) (old mid new : Told) → place ≡ home
+    → (r : Result (Unit {0}) ChipFault) → Counts old mid
+    → IfErr r (λ e. IsRebuildCause place page e mid new) → IfErr r (λ e. IsLoadCause home spots page e old new)
+rebuilt_cause place home page spots old mid new here (Ok v) counts cause = tt
+rebuilt_cause place home page spots old mid new here (Err e) counts (inl base) =
+    inr (page_cause place home page old mid new e here counts base)
+rebuilt_cause place home page spots old mid new here (Err e) counts (inr is) =
+    inl (subst (λ (f : ChipFault). IsCauseAt (IsPageLogRead home spots) f old new) (sym is) (inl (here, refl)))

@@ -8,15 +8,19 @@ use Rattle.ipl_base.specs.declared.fault.ChipFault.{ChipFault}
 use Rattle.ipl_base.specs.declared.fault.ChipFault.TheVariants.{Malformed}
 use Rattle.ipl_rules.specs.State.{Map}
 use Rattle.ipl_meaning.specs.Chart.{Chart, chart_of}
-use Rattle.ipl_meaning.specs.Values.{Values}
-use Rattle.ipl_meaning.specs.Layout.{Layout, records_of}
+use Rattle.ipl_meaning.specs.Values.{Values, after_records}
+use Rattle.ipl_meaning.specs.Layout.{Layout, Laid, records_of}
+use Rattle.number_set.specs.Numbers.{among}
 use Rattle.ipl_meaning.specs.Stands.{Shows, page_in}
 use Rattle.ipl_meaning.specs.Tables.{Places, OverflowLists, Status, Tables}
 use Rattle.unit_io.specs.Faults.{page_fault, text_below, IsPageCause}
 use Rattle.unit_io.specs.Reads.{OfContents}
 use Rattle.unit_io.specs.ReadsAt.{IsCauseAt}
 use Rattle.unit_io.specs.Spots.{IsPieceSpot}
-use Rattle.unit_log.specs.Live.{AreMirrored}
+use Rattle.unit_log.specs.declared.live.UnitHead.{UnitHead}
+use Rattle.unit_log.specs.declared.scratch.LogSector.{LogSector}
+use Rattle.unit_log.specs.Kept.{records_kept}
+use Rattle.unit_log.specs.Live.{IsLive, AreMirrored}
 use Rattle.unit_log.specs.Paged.{IsPageLogRead}
 use Rattle.page_ops.specs.Pending.{Pendings, fill_by}
 use Rattle.page_ops.specs.Frames.{FrameView, values_in, pending_in}
@@ -54,6 +58,42 @@ pub record AreTables (places : ℕ) (c : Chart) (it : Layout) (t : Tables)
 abbrev pub OfTables : Told → Places → OverflowLists → Status → (Contents → Layout → Type 0) → Type 0
 OfTables told directory overflow status P = OfContents told (λ x. (it : Layout) (t : Tables)
     → AreTables told.places (chart_of x) it t directory overflow status → P x it)
+
+-- What is known of a unit of which a page is made anew: its place, its header, and the records of log
+-- sectors, which do to this page what all of the unit's log does. These numbers are committed.
+pub record IsKnown (it : Layout) (place u page : ℕ) (head : UnitHead) (kept : List LogSector)
+    (status : Status) : Type 0 where
+  pub place_is : place ≡ (it.units u).home
+  pub version : head.version ≡ (it.units u).head.version
+  pub generation : head.generation ≡ (it.units u).head.generation
+  pub pieces : head.pieces ≡ (it.units u).pieces
+  pub values : (slot : ℕ) (value : Option (List ℕ))
+      → after_records (among status.numbers) page slot (records_kept kept) value
+      ≡ after_records it.committed page slot (records_of (it.units u).log) value
+  pub pending : (active : ℕ → Bool) (slot : ℕ)
+      → last_changes active page (records_kept kept) slot ≡ loaded_pending it active u page slot
+
+-- where the chip tells what it holds, this is so of it and of each layout of which this is known
+abbrev pub OfKnown : Told → ℕ → ℕ → ℕ → UnitHead → List LogSector → Status
+    → (Contents → Layout → Type 0) → Type 0
+OfKnown told place u page head kept status P = OfContents told (λ x. (it : Layout)
+    → IsKnown it place u page head kept status → P x it)
+
+-- A unit that was read whole: the chart is laid out so, and these are its place, its header, its log
+-- and the committed numbers.
+pub record IsReadWhole (places : ℕ) (c : Chart) (it : Layout) (place u : ℕ) (head : UnitHead)
+    (kept : List LogSector) (status : Status) : Type 0 where
+  pub laid : Laid places c it
+  pub within : u < it.count
+  pub place_is : place ≡ (it.units u).home
+  pub live : IsLive it u head kept
+  pub numbers : (tid : ℕ) → it.committed tid ≡ among status.numbers tid
+
+-- then it is known, of each page
+abbrev pub WholeUnitsAreKnown : Type 0
+WholeUnitsAreKnown = (places : ℕ) (c : Chart) (it : Layout) (place u : ℕ) (head : UnitHead)
+    (kept : List LogSector) (status : Status) → IsReadWhole places c it place u head kept status
+    → (page : ℕ) → IsKnown it place u page head kept status
 
 -- what is wrong with the base page, where the layout has it
 abbrev pub base_fault : Contents → Layout → ℕ → ℕ → Option ChipFault
@@ -94,6 +134,12 @@ IsBaseRead home page pieces p s = (p ≡ home) × IsPieceSpot page pieces s
 -- where a page may be read: its unit's header, these spots, and its base sectors
 abbrev pub IsLoadRead : ℕ → List (ℕ × ℕ) → ℕ → ℕ → ℕ → Type 0
 IsLoadRead home spots page p s = IsPageLogRead home spots p s ⊎ IsBaseRead home page PAGE_SECTORS p s
+
+-- why a page isn't made anew: its base page isn't read, or it has no room for its values with what is
+-- pending, which is said of its unit's header
+abbrev pub IsRebuildCause : ℕ → ℕ → ChipFault → Told → Told → Type 0
+IsRebuildCause place page fault old new =
+    IsPageCause place page fault old new ⊎ (fault ≡ Malformed place 0)
 
 -- why a page isn't loaded, whatever the chip tells: its log isn't read, or its base page; or a page
 -- has no room for its values with what is pending, which is said of its unit's header

@@ -13,6 +13,8 @@
 //! that has a record of the page. However it ends, what the story rested on and the tables that agreed
 //! do so still. After a fault the frame is empty.
 //!
+//! Proved, by `rebuild`: the same of a page of a unit whose header and log were read before.
+//!
 //! Proved, by `load_laws`: nothing is wrong with a page exactly where it shows values for which, with
 //! what is pending, a page has room.
 #![tactic(auto)]
@@ -25,4 +27,4 @@ mod pending;
 mod taking;
 
 pub use laws::load_laws;
-pub use loading::load;
+pub use loading::{load, rebuild};

@@ -1,6 +1,6 @@
 //! A page is read, and its unit's log.
 ghost use Rattle.std.specs.Prelude.{◌≡◌, ◌≤◌, ◌<◌, ◌+◌, ℕ, length, slice_index, All, IfErr, OnOk, OnErr};
-ghost use Rattle.ipl_base.specs.declared.limits.TheConstants.{PAGE_SECTORS};
+ghost use Rattle.ipl_base.specs.declared.limits.TheConstants.{LIVE_SECTORS, PAGE_SECTORS};
 ghost use Rattle.chip_trait.specs.Told.{Told};
 ghost use Rattle.ipl_rules.specs.State.{Map};
 ghost use Rattle.ipl_format.specs.Page.{empty_page};
@@ -14,7 +14,7 @@ ghost use Rattle.unit_io.specs.Reads.{OfContents};
 ghost use Rattle.unit_io.specs.ReadsAt.{ReadsAt};
 ghost use Rattle.unit_log.specs.Paged.{page_spots, AddsAtMost};
 ghost use Rattle.page_ops.specs.Frames.{empty_frame, IsIdle};
-ghost use Rattle.page_rebuild.specs.Loaded.{IsLoaded, OfTables, HasPageOf, IsBaseRead, IsLoadRead, IsLoadCause, load_fault};
+ghost use Rattle.page_rebuild.specs.Loaded.{IsLoaded, OfKnown, OfTables, HasPageOf, IsBaseRead, IsLoadRead, IsLoadCause, IsRebuildCause, load_fault};
 ghost use Rattle.page_rebuild.specs.Keeps.{KeepsWhatRests};
 
 use crate::taking::take_sectors;
@@ -26,7 +26,7 @@ use sector_format::Head;
 use txn_status::Status;
 use unit_directory::Directory;
 use unit_io::read_page;
-use unit_log::{Scratch, UnitHead, read_page_log};
+use unit_log::{LogSector, Scratch, UnitHead, read_page_log};
 
 /// Reads the base sectors of a page (0 to 14) into a frame of which nothing is pending, as many as the
 /// header of its unit says, at most 16. After a fault the frame's page is empty.
@@ -75,6 +75,48 @@ fn read_base<C: Chip>(
         frame.committed_mut(),
         &mut tails,
     )
+}
+
+/// Loads a page (0 to 14) into a frame, of a unit at this place whose header was read, and those of its
+/// live log sectors, at most 31, that have a record of the page: all of them, by `unit_log::read_live`, or
+/// no others. Only the base sectors of the page are read. Records of committed numbers become values; of
+/// those of active numbers the last one on each slot is pending there. After a fault the frame is empty.
+///
+/// Fails where a read failed, the base page reads badly, or a page has no room for the values, whichever
+/// pending changes become values, which is told as a malformed header.
+pub fn rebuild<C: Chip>(
+    chip: &mut C,
+    place: u32,
+    unit: u32,
+    header: &UnitHead,
+    sectors: &[LogSector],
+    page: u32,
+    status: &Status,
+    active: &[u64],
+    frame: &mut Frame,
+) -> Result<(), ChipFault>
+    requires place { place < (C.told chip.old).places }
+    requires few { All (λ n. n ≤ PAGE_SECTORS) header.now.pieces }
+    requires sectors { length sectors.now ≤ LIVE_SECTORS }
+    requires page { page < 15 }
+    ensures loads { OnOk result (OfKnown (C.told chip.old) place unit page header.now sectors.now
+        status.now (λ x it. IsLoaded (chart_of x) it (among active.now) unit page frame.new)) }
+    ensures fault { OfKnown (C.told chip.old) place unit page header.now sectors.now status.now
+        (λ x it. TellsChipFault (load_fault x it (among active.now) unit page) result) }
+    ensures empty { OnErr result (frame.new ≡ empty_frame) }
+    ensures reads { ReadsAt (IsBaseRead place page (slice_index header.now.pieces page))
+        (C.told chip.old) (C.told chip.new) }
+    ensures count { AddsAtMost PAGE_SECTORS (C.told chip.old) (C.told chip.new) }
+    ensures cause { IfErr result (λ e.
+        IsRebuildCause place page e (C.told chip.old) (C.told chip.new)) }
+{
+    frame.reset();
+    read_base(chip, place, unit, header, page, frame)?;
+    if !take_sectors(frame, page, sectors, status, active) {
+        frame.reset();
+        return Err(ChipFault::Malformed { place, sector: 0 });
+    }
+    Ok(())
 }
 
 /// Loads a page (0 to 14) into a frame. The unit's header is read, those of its live log sectors that
@@ -128,13 +170,23 @@ pub fn load<C: Chip>(
         (page_spots directory.now overflow.now unit page) page e
         (C.told chip.old) (C.told chip.new)) }
 {
-    frame.reset();
     let place = directory.current(unit);
-    let header = read_page_log(chip, directory, overflow, unit, page, scratch)?;
-    read_base(chip, place, unit, &header, page, frame)?;
-    if !take_sectors(frame, page, scratch.sectors(), status, active) {
-        frame.reset();
-        return Err(ChipFault::Malformed { place, sector: 0 });
-    }
-    Ok(())
+    let header = match read_page_log(chip, directory, overflow, unit, page, scratch) {
+        Ok(header) => header,
+        Err(fault) => {
+            frame.reset();
+            return Err(fault);
+        }
+    };
+    rebuild(
+        chip,
+        place,
+        unit,
+        &header,
+        scratch.sectors(),
+        page,
+        status,
+        active,
+        frame,
+    )
 }
