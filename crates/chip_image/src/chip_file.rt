@@ -15,17 +15,19 @@ use std::{fs, io};
 /// What a file's name has behind it until the file is whole.
 const UNFINISHED: &str = ".ipl-new";
 
-/// Opens the file of a chip, or makes it where it isn't there.
+/// Opens the file of a chip, for reading alone where nothing is to be written, or makes it where it
+/// isn't there.
 pub(crate) fn open_or_make<R: Files<File = File>>(
     files: &R,
     alloc: Global,
     path: &str,
     places: u32,
     blank: &[u8],
+    writes: bool,
 ) -> Result<File, AttachFault>
     ensures { IfOk result IsApart }
 {
-    match File::options().read(true).write(true).open(files, path) {
+    match File::options().read(true).write(writes).open(files, path) {
         Ok(file) => take(files, file, path, places),
         Err(fault) if fault.kind() == ErrorKind::NotFound => {
             make(files, alloc, path, places, blank)

@@ -74,8 +74,36 @@ impl FileChip {
         // Its file is none of the standard streams.
         ensures apart { IfOk result HasFileApart }
     {
+        FileChip::attached(files, alloc, path, places, true)
+    }
+
+    /// The same, of which a file that is there is opened for reading alone: each write of the chip
+    /// fails then. One that may only be read can be had so.
+    pub fn attach_to_read<R: Files<File = File>>(
+        files: &R,
+        alloc: Global,
+        path: &str,
+        places: u32,
+    ) -> Result<FileChip, AttachFault>
+        ensures tells { IfOk result (λ chip. file_told_of chip ≡ telling_faults places none_yet) }
+        ensures apart { IfOk result HasFileApart }
+    {
+        FileChip::attached(files, alloc, path, places, false)
+    }
+
+    /// The chip in a file that is opened for writing too, or for reading alone.
+    fn attached<R: Files<File = File>>(
+        files: &R,
+        alloc: Global,
+        path: &str,
+        places: u32,
+        writes: bool,
+    ) -> Result<FileChip, AttachFault>
+        ensures tells { IfOk result (λ chip. file_told_of chip ≡ telling_faults places none_yet) }
+        ensures apart { IfOk result HasFileApart }
+    {
         let blank = blank_bytes(alloc, PLACE)?;
-        let file = open_or_make(files, alloc, path, places, &blank)?;
+        let file = open_or_make(files, alloc, path, places, &blank, writes)?;
         Ok(FileChip {
             places,
             file,

@@ -18,6 +18,7 @@ words = record {
   flag_before = refl;
   chip_behind_dashes = refl;
   says_its_view = refl;
+  checks = refl;
   memory = refl;
   in_file = refl;
 }
@@ -62,6 +63,7 @@ no_words = record {
   two_chips = refl;
   other_chip = refl;
   format_flag = refl;
+  check_flag = refl;
   view_flag = refl;
   twice = refl;
   valued = refl;

@@ -11,7 +11,7 @@ use Rattle.command_line.specs.Ipl.{ipl_command}
 use Rattle.command_line.specs.Chip.{Chip, chip_of, word_view}
 use Rattle.command_line.specs.declared.asked.Asked.{Asked}
 use Rattle.command_line.specs.declared.asked.Request.{Request}
-use Rattle.command_line.specs.declared.asked.Request.TheVariants.{Format, Run, Serial, Trial}
+use Rattle.command_line.specs.declared.asked.Request.TheVariants.{Format, Run, Serial, Check, Trial}
 
 -- what is to be done, with which chip
 pub record Asks : Type 0 where
@@ -59,6 +59,7 @@ abbrev pub request_at : Text → List Row → Request
 request_at name rows = if bytes_eq name (codes "format") then Format (spares_at rows)
     else if bytes_eq name (codes "serial") then Serial
     else if bytes_eq name (codes "trial") then trial_at rows
+    else if bytes_eq name (codes "check") then Check
     else run_at rows
 
 -- the chip that CHIP names
@@ -81,5 +82,6 @@ abbrev pub IsInBounds : Request → Type 0
 IsInBounds (Format spares) = spares ≤ 64
 IsInBounds (Run frames format) = (2 ≤ frames) × (frames ≤ 64)
 IsInBounds Serial = ⊤
+IsInBounds Check = ⊤
 IsInBounds (Trial seed count frames) =
     (seed ≤ 4294967295) × (count ≤ 1000000) × (2 ≤ frames) × (frames ≤ 64)

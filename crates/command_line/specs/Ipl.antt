@@ -48,6 +48,10 @@ abbrev pub trial_command : App
 trial_command = with_rule (with_rule (with_rule (with_rule (new_app (codes "trial")) chip_rule)
     (wanted_rule (codes "seed") 0 4294967295)) (wanted_rule (codes "count") 0 1000000)) frames_rule
 
+-- check CHIP
+abbrev pub check_command : App
+check_command = with_rule (new_app (codes "check")) chip_rule
+
 -- the words come without the program's name, and none of them asks for help or a version
 abbrev pub bare : Shape → Shape
 bare s = record s {
@@ -60,6 +64,6 @@ bare s = record s {
 -- ipl
 unfoldable pub ipl_command : App
 ipl_command =
-    with_subcommand (with_subcommand (with_subcommand (with_subcommand
+    with_subcommand (with_subcommand (with_subcommand (with_subcommand (with_subcommand
     (on_top bare (new_app (codes "ipl"))) format_command.top) run_command.top) serial_command.top)
-    trial_command.top
+    trial_command.top) check_command.top

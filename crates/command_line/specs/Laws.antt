@@ -6,7 +6,7 @@ use Rattle.clap.specs.Words.{Text}
 use Rattle.command_line.specs.Chip.{Chip, chip_of, ram, file}
 use Rattle.command_line.specs.Choice.{chosen, requested}
 use Rattle.command_line.specs.declared.asked.Request.{Request}
-use Rattle.command_line.specs.declared.asked.Request.TheVariants.{Format, Run, Serial, Trial}
+use Rattle.command_line.specs.declared.asked.Request.TheVariants.{Format, Run, Serial, Check, Trial}
 use Rattle.command_line.specs.declared.choice.Choice.TheVariants as choice
 
 -- the word that spells a chip
@@ -61,6 +61,7 @@ pub record WordExamples : Type 0 where
   pub chip_behind_dashes : requested (codes "run" ∷ codes "--" ∷ codes "ram:5" ∷ [])
       ≡ Some (Run 16 false)
   pub says_its_view : requested (codes "serial" ∷ codes "ram:5" ∷ []) ≡ Some Serial
+  pub checks : requested (codes "check" ∷ codes "ram:5" ∷ []) ≡ Some Check
   pub memory : chosen (codes "run" ∷ codes "ram:5" ∷ []) ≡ choice.Ram 5
   pub in_file : chosen (codes "run" ∷ codes "file:5:a:b" ∷ []) ≡ choice.File 5 (codes "a:b")
 
@@ -114,6 +115,7 @@ pub record NoWordExamples : Type 0 where
   pub two_chips : requested (codes "run" ∷ codes "ram:5" ∷ codes "ram:6" ∷ []) ≡ None
   pub other_chip : requested (codes "run" ∷ codes "ram:05" ∷ []) ≡ None
   pub format_flag : requested (codes "format" ∷ codes "ram:5" ∷ codes "--format" ∷ []) ≡ None
+  pub check_flag : requested (codes "check" ∷ codes "ram:5" ∷ codes "--format" ∷ []) ≡ None
   pub view_flag : requested (codes "serial" ∷ codes "ram:5" ∷ codes "--format" ∷ []) ≡ None
   pub twice : requested (codes "run" ∷ codes "ram:5" ∷ codes "--format" ∷ codes "--format" ∷ [])
       ≡ None

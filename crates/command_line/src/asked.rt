@@ -24,6 +24,8 @@ pub enum Request {
     Run { frames: u32, format: bool },
     /// The serial view of a script is said.
     Serial,
+    /// It is checked: all that it holds is read, and its records are counted.
+    Check,
     /// So many transactions that a seed chooses are run, with so many page frames.
     Trial { seed: u32, count: u32, frames: u32 },
 }
@@ -127,6 +129,9 @@ fn request_at(name: &str, matches: &ArgMatches<'_>) -> Request
     }
     if name == "trial" {
         return trial_at(matches);
+    }
+    if name == "check" {
+        return Request::Check;
     }
     run_at(matches)
 }

@@ -5,7 +5,7 @@
 use chip_image::{AttachFault, FileChip, NoChip};
 use chip_mem::PlainChip;
 use chip_trait::Chip;
-use command_line::{Choice, chip_choice};
+use command_line::{Choice, Request, chip_choice, request};
 use ipl_base::{Geometry, OutOfMemory};
 use ipl_cli::RealDesk;
 use ipl_cli::top::top;
@@ -71,7 +71,12 @@ fn over_file(
     if Geometry::of(places).is_none() {
         return over(rt, alloc, words, NoChip::of(places));
     }
-    match FileChip::attach(rt, alloc, path, places) {
+    // A check writes nothing, so a file that may only be read will do for it.
+    let attached = match request(alloc, words) {
+        Ok(Some(Request::Check)) => FileChip::attach_to_read(rt, alloc, path, places),
+        _ => FileChip::attach(rt, alloc, path, places),
+    };
+    match attached {
         Ok(chip) => over(rt, alloc, words, chip),
         Err(AttachFault::NoFile) => over(rt, alloc, words, NoChip::of(places)),
         Err(AttachFault::OutOfMemory) => out_of_memory(rt),

@@ -1,7 +1,7 @@
 -- What was done with how many frames stays so once the end was noted.
 use Rattle.std.proofs.Common.{◌≡◌, ◌∙◌, ℕ, true, false, Some, None, OnOk, sym, ap, subst}
 use Rattle.chip_trait.specs.Told.{Told}
-use Rattle.command_line.specs.declared.asked.Request.TheVariants.{Format, Run, Serial, Trial}
+use Rattle.command_line.specs.declared.asked.Request.TheVariants.{Format, Run, Serial, Check, Trial}
 use Rattle.script_store.specs.declared.store.ScriptStore.{ScriptStore}
 use Rattle.ipl_cli.specs.Ending.{AskedFor, Ending, but_noted, status_at}
 use Rattle.ipl_cli.specs.Frames.{DoesWith, DoesAsAsked}
@@ -28,6 +28,7 @@ module _ (old mid new : Told) (only : new ≡ but_noted mid new.beside.noted) wh
   asked_noted (Some (Run frames true)) d = with_noted _ _ frames d
   asked_noted (Some (Run frames false)) d = with_noted _ _ frames d
   asked_noted (Some Serial) d = tt
+  asked_noted (Some Check) d = tt
   asked_noted (Some (Trial seed count frames)) d = with_noted _ _ frames d
 
 -- at 0 all was done

@@ -11,6 +11,8 @@ use Rattle.ipl_base.specs.declared.fault.FormatFault.{FormatFault}
 use Rattle.ipl_base.specs.declared.fault.ImageFault.{ImageFault}
 use Rattle.ipl_meaning.specs.Tables.{Tables}
 use Rattle.restart.specs.Fresh.{Formats}
+use Rattle.restart.specs.Looks.{OnlyReads}
+use Rattle.restart.proofs.ReadingLemmas.{reads_lawful}
 use Rattle.store_trait.specs.Keeping.{LeavesTidy}
 use Rattle.store_trait.specs.Onward.{Still, sayings}
 use Rattle.ipl_store.specs.Openings.{Tries}
@@ -38,6 +40,14 @@ adds_then old mid new first second = record {
       ∙ history_then second.added first.added old.history;
   lawful = λ base is. subst IsLawful (sym (append_assoc second.added first.added base))
       (second.lawful (first.added ++ base) (first.lawful base is));
+}
+
+-- reads alone
+pub adds_reads : (old new : Told) → OnlyReads old new → AddsLawful old new
+adds_reads old new reads = record {
+  added = reads.added;
+  history = reads.history;
+  lawful = λ base is. reads_lawful reads.added base reads.each is;
 }
 
 -- ---- what is said

@@ -10,4 +10,5 @@ mod FrameLemmas
 mod TopLemmas
 mod SayLemmas
 mod ViewLemmas
+mod CheckLemmas
 mod LawfulLemmas

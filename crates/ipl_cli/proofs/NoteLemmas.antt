@@ -9,13 +9,14 @@ use Rattle.ipl_model.specs.declared.command.Command.{Command}
 use Rattle.unit_io.specs.Leads.{IsSteady}
 use Rattle.store_trait.specs.Onward.{Further}
 use Rattle.command_line.specs.declared.asked.Request.{Request}
-use Rattle.command_line.specs.declared.asked.Request.TheVariants.{Format, Run, Serial, Trial}
+use Rattle.command_line.specs.declared.asked.Request.TheVariants.{Format, Run, Serial, Check, Trial}
 use Rattle.program_end.specs.declared.end.End.{End}
 use Rattle.program_end.specs.declared.end.End.TheVariants.{Words, Chip, OutOfMemory, Script, Output, TooLong}
 use Rattle.ipl_cli.specs.Ending.{AskedFor, Ending, StopsEarly, IsStopped, IsUntouched, but_noted, note_at, status_at}
 use Rattle.ipl_cli.specs.Trials.{Trials, TrialsFormatted, TrialsOrStops, TrialLeaves}
 use Rattle.ipl_cli.specs.Top.{OpenedCause, FormatCause, FormattedCause, RequestCause, EndCause, Runs, RunsOpened, RunsFormatted, RunsOrStops, IsLaidOut, LaysOut, OnlyLooks, IsRefused, OpenedRuns, FormatLeaves, FormattedLeaves, OpenedLeaves, EndLeaves, Ends, NoneFalls}
 use Rattle.ipl_cli.proofs.ViewLemmas.{serial_left}
+use Rattle.ipl_cli.proofs.CheckLemmas.{checked_cause, check_left}
 
 module _ (old mid : Told) (noted : Option (List ℕ)) where
   abbrev then : Told
@@ -68,16 +69,19 @@ module _ (old mid : Told) (noted : Option (List ℕ)) where
   request_cause (Run frames true) (Chip e) c = formatted_cause e c
   request_cause (Run frames false) (Chip e) c = opened_cause e c
   request_cause Serial (Chip e) c = c
+  request_cause Check (Chip e) c = checked_cause old mid noted e c
   request_cause (Trial seed count frames) (Chip e) c = formatted_cause e c
   request_cause request OutOfMemory c = c
   request_cause (Format spares) Script c = c
   request_cause (Run frames formats) Script c = c
   request_cause Serial Script c = c
+  request_cause Check Script c = c
   request_cause (Trial seed count frames) Script c = c
   request_cause request Output c = c
   request_cause (Format spares) TooLong c = c
   request_cause (Run frames formats) TooLong c = record { grew = c.grew; told = c.told }
   request_cause Serial TooLong c = record { grew = c.grew; told = c.told }
+  request_cause Check TooLong c = c
   request_cause (Trial seed count frames) TooLong c = c
 
   end_cause : (asked : AskedFor) (ending : Ending) → EndCause asked ending old mid
@@ -269,6 +273,7 @@ module _ (old mid : Told) (noted : Option (List ℕ)) where
   end_left (Some (Run frames true)) ending l = formatted_left ending l
   end_left (Some (Run frames false)) ending l = opened_left ending l
   end_left (Some Serial) ending l = serial_left old mid noted ending l
+  end_left (Some Check) ending l = check_left old mid noted ending l
   end_left (Some (Trial seed count frames)) ending l = trial_left seed count ending l
 
 -- all that is to be known of the end

@@ -18,17 +18,19 @@ use Rattle.status_renewal.proofs.ChainLemmas.{images_rest}
 use Rattle.script_run.specs.Goes.{ReadsAll}
 use Rattle.script_store.specs.Worn.{WearsOut}
 use Rattle.command_line.specs.declared.asked.Request.{Request}
-use Rattle.command_line.specs.declared.asked.Request.TheVariants.{Format, Run, Serial, Trial}
+use Rattle.command_line.specs.declared.asked.Request.TheVariants.{Format, Run, Serial, Check, Trial}
 use Rattle.program_end.specs.Ends.{status_of, fault_status}
 use Rattle.program_end.specs.declared.end.End.TheVariants.{Words, Chip, OutOfMemory, Script, Output, TooLong}
 use Rattle.ipl_cli.specs.Ending.{AskedFor, AsksOpened, AsksFormatted, AsksAnew, AtStatus, Ending, IsUntouched, but_noted, format_end, status_at, units_beside}
 use Rattle.ipl_cli.specs.Trials.{TrialLeaves}
+use Rattle.ipl_cli.specs.Checks.{CheckLeaves}
 use Rattle.ipl_cli.specs.Views.{ViewsTold, OnlyViews, OnlyHears, SerialLeaves}
-use Rattle.ipl_cli.specs.Top.{HasFault, IsLaidWell, RestsWithNumbersLeft, LaidCause, FindsWorn, WearsAsAsked, StrayCause, OpenedCause, FormatCause, AnewCause, FormattedCause, ChipCause, IsTooLong, EndCause, RunsOpened, RunsFormatted, LaysOut, OnlyLooks, EndsAtFault, FormatLeaves, FormattedLeaves, OpenedLeaves, EndLeaves, Ends, RefusesFaults, StrayCause, SpentCause, IsMetLater, IsUnfit, IsSilent, LacksUnits, EndsUnfit, UntouchedOrRuns, IsCalm, IsTold, Suffices, EndsInTime}
+use Rattle.ipl_cli.specs.Top.{HasFault, IsStray, IsLaidWell, RestsWithNumbersLeft, LaidCause, FindsWorn, WearsAsAsked, StrayCause, OpenedCause, FormatCause, AnewCause, FormattedCause, ChipCause, IsTooLong, EndCause, RunsOpened, RunsFormatted, LaysOut, OnlyLooks, EndsAtFault, FormatLeaves, FormattedLeaves, OpenedLeaves, EndLeaves, Ends, RefusesFaults, StrayCause, SpentCause, IsMetLater, IsUnfit, IsSilent, LacksUnits, EndsUnfit, UntouchedOrRuns, IsCalm, IsTold, Suffices, EndsInTime}
 use Rattle.ipl_cli.proofs.EndLemmas.{stopped_early, untouched_runs}
 use Rattle.ipl_cli.proofs.WornLemmas.{format_finds}
 use Rattle.ipl_cli.proofs.StartLemmas.{opened_excused, stands_well}
 use Rattle.ipl_cli.proofs.ViewLemmas.{untouched_hears, hears_views, hears_only}
+use Rattle.ipl_cli.proofs.CheckLemmas.{checked_chip, checked_worn, checked_spent, checked_stray, checked_never}
 use Rattle.ipl_cli.proofs.RecordLemmas.{steady_start}
 use Rattle.ipl_cli.proofs.StatusLemmas.{chip_status, above_zero, not_zero}
 
@@ -44,6 +46,7 @@ no_memory (Some (Format spares)) t = refl
 no_memory (Some (Run frames true)) t = refl
 no_memory (Some (Run frames false)) t = refl
 no_memory (Some Serial) t = untouched_hears t t refl
+no_memory (Some Check) t = refl
 no_memory (Some (Trial seed count frames)) t = refl
 
 abbrev failed : FormatFault → Result (Unit {0}) FormatFault
@@ -423,6 +426,9 @@ module _ (asked : AskedFor) (old new : Told) (status : ℕ) (e : Ends asked old 
   end_formats spares is at = formats_by old new spares e.ending (leaves_of (Format spares) is)
       (sym e.status_is ∙ at)
 
+  pub end_checks : asked ≡ Some Check → AtStatus (λ ending. CheckLeaves ending old new) status
+  end_checks is = (e.ending, e.status_is, leaves_of Check is)
+
   pub end_views : asked ≡ Some Serial → ViewsTold old new (status == 0)
   end_views is = subst (λ (n : ℕ). ViewsTold old new (n == 0)) (sym e.status_is) (views_by old new
       e.ending (leaves_of Serial is))
@@ -465,6 +471,7 @@ module _ (old new : Told) where
   wanting_by (Some (Trial seed count frames)) (Err OutOfMemory) c l is = wanting_untouched
       (Some (Trial seed count frames)) l
   wanting_by (Some Serial) (Err OutOfMemory) c l is = (l, λ apart. absurd (apart refl))
+  wanting_by (Some Check) (Err OutOfMemory) c l is = wanting_untouched (Some Check) l
   wanting_by (Some request) (Err Script) c l is = absurd (omega (arith, is))
   wanting_by (Some request) (Err Output) c l is = absurd (omega (arith, is))
   wanting_by (Some request) (Err TooLong) c l is = absurd (omega (arith, is))
@@ -511,6 +518,7 @@ module _ (old new : Told) where
   chip_other (Run frames false) e c l is misfit =
       l.other (outside (Run frames false) (λ spares same. cc) misfit)
   chip_other Serial e c l is misfit = l
+  chip_other Check e c l is misfit = l.other (outside Check (λ spares same. cc) misfit)
   chip_other (Trial seed count frames) e c l is misfit = trial_other seed count e l
       (outside (Trial seed count frames) (λ spares same. cc) misfit)
 
@@ -552,6 +560,7 @@ module _ (old new : Told) where
   chip_by (Run frames false) e c is = opened_chip old new e c is
   chip_by (Trial seed count frames) e c is = formatted_chip old new e c is
   chip_by Serial e c is = absurd (omega (arith, is, ap fault_status c.0))
+  chip_by Check e c is = inl (checked_chip old new e c is)
 
   worn_by : (request : Request) (e : ImageFault) → ChipCause request e old new → fault_status e ≡ 10
       → Rose old.worn_erases new.worn_erases × WearsAsAsked (Some request) old new
@@ -560,10 +569,12 @@ module _ (old new : Told) where
   worn_by (Run frames false) e c is = opened_worn old new e c is
   worn_by (Trial seed count frames) e c is = formatted_worn old new e c is
   worn_by Serial e c is = absurd (omega (arith, is, ap fault_status c.0))
+  worn_by Check e c is = absurd (checked_worn old new e c is)
 
   abbrev Imaged : AskedFor → Type 0
   Imaged asked = (¬ IsGeometry old.places) ⊎ LacksUnits asked old
       ⊎ (AsksOpened asked × StrayCause old) ⊎ (AsksAnew asked × AnewCause old)
+      ⊎ ((asked ≡ Some Check) × IsStray old)
 
   image_by : (request : Request) (e : ImageFault) → ChipCause request e old new → fault_status e ≡ 4
       → Imaged (Some request)
@@ -571,15 +582,16 @@ module _ (old new : Told) where
       inr (inl (spares, refl, (format_image old new spares e c).0 is))
   image_by (Run frames true) e c is = elim (formatted_image old new e c is) [
     | inl other ↦ inl other
-    | inr anew ↦ inr (inr (inr (inl (frames, refl), anew)))
+    | inr anew ↦ inr (inr (inr (inl (inl (frames, refl), anew))))
   ]
   image_by (Trial seed count frames) e c is = elim (formatted_image old new e c is) [
     | inl other ↦ inl other
-    | inr anew ↦ inr (inr (inr (inr (seed, count, frames, refl), anew)))
+    | inr anew ↦ inr (inr (inr (inl (inr (seed, count, frames, refl), anew))))
   ]
   image_by (Run frames false) e c is =
       inr (inr (inl ((frames, refl), opened_image old new e c is)))
   image_by Serial e c is = inl c.1
+  image_by Check e c is = inr (inr (inr (inr (refl, checked_stray old new e c is))))
 
   abbrev Spends : AskedFor → Type 0
   Spends asked = (AsksOpened asked × SpentCause old) ⊎ (AsksAnew asked × AnewCause old)
@@ -595,6 +607,7 @@ module _ (old new : Told) where
   )
   spent_by (Run frames false) e c is = inl ((frames, refl), opened_spent old new e c is)
   spent_by Serial e c is = absurd (omega (arith, is, ap fault_status c.0))
+  spent_by Check e c is = absurd (checked_spent old new e c is)
 
   -- a status of a fault of the chip comes with one
   fault_by : (n : ℕ) → n ≢ 0 → n ≢ 2 → n ≢ 5 → n ≢ 6 → n ≢ 7 → n ≢ 8
@@ -620,6 +633,7 @@ module _ (old new : Told) where
   script_by (Some (Format spares)) (Err Script) c is = absurd c
   script_by (Some (Run frames formats)) (Err Script) c is = c
   script_by (Some Serial) (Err Script) c is = c
+  script_by (Some Check) (Err Script) c is = absurd c
   script_by (Some (Trial seed count frames)) (Err Script) c is = absurd c
   script_by (Some request) (Err Output) c is = absurd (omega (arith, is))
   script_by (Some request) (Err TooLong) c is = absurd (omega (arith, is))
@@ -647,6 +661,7 @@ module _ (old new : Told) where
   long_by (Some (Format spares)) (Err TooLong) c is = absurd c
   long_by (Some (Run frames formats)) (Err TooLong) c is = c
   long_by (Some Serial) (Err TooLong) c is = c
+  long_by (Some Check) (Err TooLong) c is = absurd c
   long_by (Some (Trial seed count frames)) (Err TooLong) c is = absurd c
 
 -- ---- what a chip held at which a run ended with 4 or 9
@@ -728,6 +743,7 @@ module _ (old new : Told) (consistent : IsConsistent old) (calm : IsCalm old new
   chip_ends (Run frames true) holds e c = formatted_ends holds e c
   chip_ends (Run frames false) holds e c = opened_ends holds e c
   chip_ends Serial holds e c = absurd (c.1 holds)
+  chip_ends Check holds e c = absurd (checked_never old new calm holds e c)
   chip_ends (Trial seed count frames) holds e c = formatted_ends holds e c
 
   never_long : EndsInTime old new → ¬ IsTooLong old new
@@ -745,11 +761,13 @@ module _ (old new : Told) (consistent : IsConsistent old) (calm : IsCalm old new
   complete_by (Format spares) holds time (Err Script) c = absurd c
   complete_by (Run frames formats) holds time (Err Script) c = absurd (calm.script c)
   complete_by Serial holds time (Err Script) c = absurd (calm.script c)
+  complete_by Check holds time (Err Script) c = absurd c
   complete_by (Trial seed count frames) holds time (Err Script) c = absurd c
   complete_by request holds time (Err Output) c = absurd (calm.says c)
   complete_by (Format spares) holds time (Err TooLong) c = absurd c
   complete_by (Run frames formats) holds time (Err TooLong) c = absurd (never_long time c)
   complete_by Serial holds time (Err TooLong) c = absurd (never_long time c)
+  complete_by Check holds time (Err TooLong) c = absurd c
   complete_by (Trial seed count frames) holds time (Err TooLong) c = absurd c
 
 module _ (asked : AskedFor) (old new : Told) (status : ℕ) (e : Ends asked old new status) where
@@ -805,10 +823,11 @@ module _ (asked : AskedFor) (old new : Told) (status : ℕ) (e : Ends asked old 
   unfit_at_4 : IsConsistent old → Imaged old new asked → IsGeometry old.places
       → EndsUnfit asked old
   unfit_at_4 consistent (inl other) fits = absurd (other fits)
-  unfit_at_4 consistent (inr (inl lacks)) fits = inr (inr lacks)
+  unfit_at_4 consistent (inr (inl lacks)) fits = inr (inr (inl lacks))
   unfit_at_4 consistent (inr (inr (inl (asks, stray)))) fits =
       inl (asks, stray_unfit old consistent stray)
-  unfit_at_4 consistent (inr (inr (inr (asks, anew)))) fits =
+  unfit_at_4 consistent (inr (inr (inr (inr stray)))) fits = inr (inr (inr stray))
+  unfit_at_4 consistent (inr (inr (inr (inl (asks, anew))))) fits =
       inr (inl (asks, anew_silent old consistent anew))
 
   unfit_at_9 : IsConsistent old → (AsksOpened asked × SpentCause old)

@@ -1,7 +1,7 @@
 -- With how many page frames what was asked was done.
 use Rattle.std.specs.Prelude.{ℕ, ◌≡◌, true, false, None, Some, Ok}
 use Rattle.chip_trait.specs.Told.{Told}
-use Rattle.command_line.specs.declared.asked.Request.TheVariants.{Format, Run, Serial, Trial}
+use Rattle.command_line.specs.declared.asked.Request.TheVariants.{Format, Run, Serial, Check, Trial}
 use Rattle.script_store.specs.declared.store.ScriptStore.{ScriptStore}
 use Rattle.ipl_cli.specs.Ending.{AskedFor, but_noted}
 use Rattle.ipl_cli.specs.Runs.{StartsOpened, StartsFormatted, RunsOver, TriesOver}
@@ -28,5 +28,6 @@ DoesAsAsked (Some (Run frames true)) old new =
 DoesAsAsked (Some (Run frames false)) old new =
     DoesWith StartsOpened (RunsOver (Ok tt)) frames old new
 DoesAsAsked (Some Serial) old new = Unit {0}
+DoesAsAsked (Some Check) old new = Unit {0}
 DoesAsAsked (Some (Trial seed count frames)) old new =
     DoesWith StartsFormatted (TriesOver seed count (Ok tt)) frames old new

@@ -31,13 +31,14 @@ use Rattle.script_store.specs.Worn.{WearsOut}
 use Rattle.script_run.specs.Run.{SaysLines, EndsBetween, EndsUnsaid}
 use Rattle.script_run.specs.Goes.{ReadsAll}
 use Rattle.command_line.specs.declared.asked.Request.{Request}
-use Rattle.command_line.specs.declared.asked.Request.TheVariants.{Format, Run, Serial, Trial}
+use Rattle.command_line.specs.declared.asked.Request.TheVariants.{Format, Run, Serial, Check, Trial}
 use Rattle.program_end.specs.declared.end.End.{End}
 use Rattle.program_end.specs.declared.end.End.TheVariants.{Words, Chip, OutOfMemory, Script, Output, TooLong}
 use Rattle.program_end.specs.Ends.{fault_status}
 use Rattle.ipl_cli.specs.Ending.{AskedFor, AsksOpened, AsksAnew, Ending, StopsEarly, IsStopped, IsUntouched, but_noted, note_at, status_at, units_beside}
 use Rattle.ipl_cli.specs.Trials.{TrialLeaves}
 use Rattle.ipl_cli.specs.Views.{ViewedCause, SerialLeaves}
+use Rattle.ipl_cli.specs.Checks.{CheckedCause, CheckLeaves}
 
 -- ---- what the chip holds
 
@@ -77,10 +78,11 @@ abbrev pub LacksUnits : AskedFor → Told → Type 0
 LacksUnits asked old =
     (spares : ℕ) × (asked ≡ Some (Format spares)) × ¬ IsSpared old.places spares
 
--- what a chip of 5 to 1,028 places held that a run ended at with 4 or 9, or a format that left no unit
+-- what a chip of 5 to 1,028 places held that a run ended at with 4 or 9, or a check; or a format that left
+-- no unit
 abbrev pub EndsUnfit : AskedFor → Told → Type 0
 EndsUnfit asked old = (AsksOpened asked × IsUnfit old) ⊎ (AsksAnew asked × IsSilent old)
-    ⊎ LacksUnits asked old
+    ⊎ LacksUnits asked old ⊎ ((asked ≡ Some Check) × IsStray old)
 
 -- No write has failed; a history that leaves what the chip holds rests on records; and no number
 -- that is found is 2^62 or more.
@@ -191,6 +193,7 @@ ChipCause (Run frames true) e old new = FormattedCause e old new
 ChipCause (Run frames false) e old new = OpenedCause e old new
 ChipCause (Trial seed count frames) e old new = FormattedCause e old new
 ChipCause Serial e old new = ViewedCause e old new
+ChipCause Check e old new = CheckedCause e old new
 
 -- so many bytes of the script were read; where the script is told it has so many
 pub record IsTooLong (old new : Told) : Type 0 where
@@ -206,11 +209,13 @@ RequestCause (Format spares) Script old new = ⊥
 RequestCause (Run frames formats) Script old new =
     Rose old.beside.script_faults new.beside.script_faults
 RequestCause Serial Script old new = Rose old.beside.script_faults new.beside.script_faults
+RequestCause Check Script old new = ⊥
 RequestCause (Trial seed count frames) Script old new = ⊥
 RequestCause request Output old new = Rose old.beside.say_faults new.beside.say_faults
 RequestCause (Format spares) TooLong old new = ⊥
 RequestCause (Run frames formats) TooLong old new = IsTooLong old new
 RequestCause Serial TooLong old new = IsTooLong old new
+RequestCause Check TooLong old new = ⊥
 RequestCause (Trial seed count frames) TooLong old new = ⊥
 
 -- when the program ends so
@@ -231,6 +236,7 @@ WearsAsAsked (Some (Format spares)) old new = FindsWorn old new
 WearsAsAsked (Some (Run frames true)) old new = FindsWorn old new
 WearsAsAsked (Some (Run frames false)) old new = WearsOut old new
 WearsAsAsked (Some Serial) old new = ⊥
+WearsAsAsked (Some Check) old new = ⊥
 WearsAsAsked (Some (Trial seed count frames)) old new = FindsWorn old new
 
 -- ---- the headline
@@ -461,6 +467,7 @@ EndLeaves (Some (Format spares)) ending old new = FormatLeaves spares ending old
 EndLeaves (Some (Run frames true)) ending old new = FormattedLeaves ending old new
 EndLeaves (Some (Run frames false)) ending old new = OpenedLeaves ending old new
 EndLeaves (Some Serial) ending old new = SerialLeaves ending old new
+EndLeaves (Some Check) ending old new = CheckLeaves ending old new
 EndLeaves (Some (Trial seed count frames)) ending old new = TrialLeaves seed count ending old new
 
 -- How the program ends: with its status and its line, which is noted alone; for a cause; and what it
@@ -517,13 +524,14 @@ pub record IsTold (t : Told) : Type 0 where
   pub told : t.contents ≡ Some contents
 
 -- what a request asks of the chip: 5 to 1,028 places, and a unit besides those to spare; where commands
--- are done, that it tells what it holds; and where it is opened, that a history of that rests on
--- records, with numbers left
+-- are done, that it tells what it holds; where it is opened, that a history of that rests on records,
+-- with numbers left; and where it is checked, that what it holds stands for records
 abbrev pub Suffices : Request → Told → Type 0
 Suffices (Format spares) old = IsSpared old.places spares
 Suffices (Run frames true) old = IsTold old
 Suffices (Run frames false) old = RestsWithNumbersLeft old
 Suffices Serial old = IsGeometry old.places
+Suffices Check old = (m : Map) × HoldsRecords old.places m old
 Suffices (Trial seed count frames) old = IsTold old
 
 -- the script ends in time: by the count of its bytes, or as it is told

@@ -43,11 +43,16 @@
 //! all of them, with nothing of the script left; over every desk that tells its history no sector is
 //! touched.
 //!
+//! Proved, by `top`: `checks`: over every desk a check adds reads alone, and then says its line. Over one
+//! that tells what its chip holds, at 0 it says how many records there are for which that stands; at 4
+//! that stands for none, and the first fault is noted.
+//!
 //! Proved, by `MemDesk`, `RealDesk`: in memory: each call as the trait says, failing exactly where
 //! it is told to. Over the real streams: each call as the trait says, and one of the chip is the
 //! same call of the chip within: its event there, or its failure.
 #![tactic(auto)]
 
+mod checking;
 mod failing;
 mod mem_desk;
 mod real_desk;

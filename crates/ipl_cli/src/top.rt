@@ -11,19 +11,21 @@ ghost use Rattle.script_store.specs.Keeps.{IsRunning, next_number};
 ghost use Rattle.ipl_store.specs.Calls.{IsSound};
 ghost use Rattle.command_line.specs.Choice.{requested};
 ghost use Rattle.command_line.specs.declared.asked.Request.{Request};
-ghost use Rattle.command_line.specs.declared.asked.Request.TheVariants.{Format, Run, Serial, Trial};
+ghost use Rattle.command_line.specs.declared.asked.Request.TheVariants.{Format, Run, Serial, Check, Trial};
 ghost use Rattle.ipl_cli.specs.Trials.{TrialLeaves};
 ghost use Rattle.ipl_cli.specs.Adds.{AddsLawful};
 ghost use Rattle.ipl_cli.specs.Ending.{AsksOpened, AsksFormatted, AsksAnew, AtStatus, status_at, note_at, but_noted, format_end, IsUntouched};
+ghost use Rattle.ipl_cli.specs.Checks.{CheckLeaves};
 ghost use Rattle.ipl_cli.specs.Views.{ViewsTold, OnlyViews, OnlyHears, SerialLeaves, view_end};
 ghost use Rattle.ipl_cli.specs.Top.{NoneFalls, EndCause, RequestCause, FormatLeaves, FormattedLeaves, OpenedLeaves, EndLeaves};
 ghost use Rattle.ipl_cli.specs.Top.{RunsOpened, RunsFormatted, UntouchedOrRuns, RefusesFaults, IsLaidWell, LaysOut};
 ghost use Rattle.ipl_cli.specs.Top.{EndsWithRecords, FromItsRecords, FromNoRecords};
-ghost use Rattle.ipl_cli.specs.Top.{StrayCause, SpentCause, AnewCause, LacksUnits, EndsUnfit, IsCalm, Suffices, EndsInTime, Ends, WearsAsAsked};
+ghost use Rattle.ipl_cli.specs.Top.{IsStray, StrayCause, SpentCause, AnewCause, LacksUnits, EndsUnfit, IsCalm, Suffices, EndsInTime, Ends, WearsAsAsked};
 ghost use Rattle.ipl_cli.specs.Survives.{Survives, SurvivesAnew};
 ghost use Rattle.ipl_cli.specs.Frames.{DoesWith, DoesAsAsked};
 ghost use Rattle.ipl_cli.specs.Runs.{StartsFormatted, StartsOpened, ClosesFor, FormatsFirst, OpensOver, IsNotStarted, RunsOver, TriesOver, end_of};
 
+use crate::checking::check_chip;
 use chip_trait::Desk;
 use command_line::{Request, request};
 use ipl_base::{ChipFault, FormatFault, Geometry, ImageFault, MOST_UNITS};
@@ -295,6 +297,7 @@ fn run<D: Desk>(alloc: Global, words: &[String], desk: &mut D) -> Result<(), End
             },
         ) => run_opened(alloc, frames, desk),
         Some(Request::Serial) => say_view(alloc, desk),
+        Some(Request::Check) => check_chip(alloc, desk),
         Some(
             Request::Trial {
                 seed,
@@ -394,6 +397,11 @@ pub fn top<D: Desk>(alloc: Global, words: &[String], desk: &mut D) -> u8
         → requested (map string_bytes words.now) ≡ Some (Trial seed count frames)
         → AtStatus (λ ending. TrialLeaves seed count ending (D.told desk.old) (D.told desk.new)) result }
 
+    // A check only reads. At 0 it said how many records there are for which the chip stands; at 4 the chip
+    // stands for none, and its first fault is the one that is noted.
+    ensures checks { requested (map string_bytes words.now) ≡ Some Check
+        → AtStatus (λ ending. CheckLeaves ending (D.told desk.old) (D.told desk.new)) result }
+
     // A view is said at 0, and a part of it wherever else the program ends; by the history that the desk
     // tells no sector is touched.
     ensures views { requested (map string_bytes words.now) ≡ Some Serial
@@ -420,7 +428,8 @@ pub fn top<D: Desk>(alloc: Global, words: &[String], desk: &mut D) -> u8
         → ¬ IsGeometry (D.told desk.old).places
         ⊎ LacksUnits (requested (map string_bytes words.now)) (D.told desk.old)
         ⊎ (AsksOpened (requested (map string_bytes words.now)) × StrayCause (D.told desk.old))
-        ⊎ (AsksAnew (requested (map string_bytes words.now)) × AnewCause (D.told desk.old)) }
+        ⊎ (AsksAnew (requested (map string_bytes words.now)) × AnewCause (D.told desk.old))
+        ⊎ ((requested (map string_bytes words.now) ≡ Some Check) × IsStray (D.told desk.old)) }
     // So over a chip of 5 to 1,028 places that tells what it holds: at 4 and 9 that stood for no records, or
     // a number of 2^62 or more was among it, or a format was to spare so many that no unit is left; and
     // never where it was formatted first.

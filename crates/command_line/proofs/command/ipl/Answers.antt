@@ -23,5 +23,7 @@ returns c =
     ∙ ap₂ with_subcommand first (ap top c.in_ok-run_part.ensures.app) in
     let third = c.in_ok-subcommand-3.ensures.shape c.in_ok-serial_part.ensures.local
     ∙ ap₂ with_subcommand second (ap top c.in_ok-serial_part.ensures.app) in
-    IfOk-weaker c.subcommand-4.result _ _ (λ r h. h.shape c.in_ok-trial_part.ensures.local
-    ∙ ap₂ with_subcommand third (ap top c.in_ok-trial_part.ensures.app)) c.subcommand-4.ensures
+    let fourth = c.in_ok-subcommand-4.ensures.shape c.in_ok-trial_part.ensures.local
+    ∙ ap₂ with_subcommand third (ap top c.in_ok-trial_part.ensures.app) in
+    IfOk-weaker c.subcommand-5.result _ _ (λ r h. h.shape c.in_ok-check_part.ensures.local
+    ∙ ap₂ with_subcommand fourth (ap top c.in_ok-check_part.ensures.app)) c.subcommand-5.ensures
