@@ -30,6 +30,14 @@ for mode in 000 444 222; do
     ends_here 3 "ipl: chip read failed" run file:5:chip
     ends_here 3 "ipl: chip write failed" format file:5:chip
 done
+# To be checked a file has to be read alone.
+for mode in 000 222; do
+    chmod $mode chip
+    ends_here 3 "ipl: chip read failed" check file:5:chip
+done
+chmod 444 chip
+ends_here 0 "" check file:5:chip
+wants "it is checked" [ "$(cat said)" = "records 0" ]
 mkdir closed
 chmod 555 closed
 ends_here 3 "ipl: chip write failed" format file:5:closed/chip

@@ -126,12 +126,32 @@ fn check(rt: &impl Abort, alloc: Global, chip: MemChip, fault: &str) -> Result<(
     if fault.is_empty() {
         assert_eq!(rt; desk.noted().len(), 0);
         assert_eq!(rt; lines.as_slice(), b"end\n".as_slice());
-        return Ok(());
+    } else {
+        is_noted(rt, alloc, &desk, fault)?;
     }
+    check_too(rt, alloc, left_by(alloc, &desk)?, fault)
+}
+
+/// This fault was noted alone, and nothing was said.
+fn is_noted(rt: &impl Abort, alloc: Global, desk: &MemDesk, fault: &str) -> Result<(), Fail> {
     let line = format!(in alloc; "ipl: {fault}\n")?;
     assert_eq!(rt; desk.noted(), line.as_bytes());
-    assert_eq!(rt; lines.len(), 0, "{fault}");
+    assert_eq!(rt; said(alloc, desk)?.len(), 0, "{fault}");
     Ok(())
+}
+
+/// Checks a chip of no records: the same fault is noted, but that numbers which are used up are none.
+fn check_too(rt: &impl Abort, alloc: Global, chip: MemChip, fault: &str) -> Result<(), Fail> {
+    let mut desk = MemDesk::new(alloc, chip, b"", &[])?;
+    let status = ends(alloc, "check ram:5", &mut desk)?;
+    if fault.is_empty() || fault == "numbers spent" {
+        assert_eq!(rt; status, 0);
+        let lines = said(alloc, &desk)?;
+        assert_eq!(rt; lines.as_slice(), b"records 0\n".as_slice());
+        return Ok(());
+    }
+    assert_eq!(rt; status, 4);
+    is_noted(rt, alloc, &desk, fault)
 }
 
 #[test]
@@ -211,6 +231,17 @@ fn with_record(rt: &impl Abort, alloc: Global) -> Result<(MemChip, u32), Fail> {
         }
     }
     Ok((left_by(alloc, &desk)?, home))
+}
+
+#[test]
+fn a_check_counts_records(rt: HostRuntime) -> Result<(), Fail> {
+    let alloc = rt.alloc();
+    let (chip, _) = with_record(&rt, alloc)?;
+    let mut desk = MemDesk::new(alloc, chip, b"", &[])?;
+    assert_eq!(rt; ends(alloc, "check ram:5", &mut desk)?, 0);
+    let lines = said(alloc, &desk)?;
+    assert_eq!(rt; lines.as_slice(), b"records 1\n".as_slice());
+    Ok(())
 }
 
 #[test]

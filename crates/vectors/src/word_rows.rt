@@ -26,6 +26,7 @@ fn asked_text(alloc: Global, asked: Option<Request>) -> Result<String> {
         None => text_of(alloc, "nothing"),
         Some(Request::Format { spares }) => Ok(format!(in alloc; "format spares {spares}")?),
         Some(Request::Serial) => text_of(alloc, "serial"),
+        Some(Request::Check) => text_of(alloc, "check"),
         Some(Request::Run { frames, format }) => {
             let how = if format { " format" } else { "" };
             Ok(format!(in alloc; "run frames {frames}{how}")?)
