@@ -10,7 +10,7 @@ use std::test::Fail;
 
 /// What a cut leaves of a sector.
 #[derive(Clone, Copy, Debug, PartialEq, Eq)]
-enum Left {
+pub(crate) enum Left {
     Old,
     Whole,
     Torn,
@@ -43,7 +43,7 @@ fn choice(left: Left, number: usize, bytes: &[u8; 512]) -> Choice {
 }
 
 /// The chip that a cut leaves right after the last event that programs this sector.
-fn cut_in(
+pub(crate) fn cut_in(
     alloc: Global,
     chip: &MemChip,
     place: u32,

@@ -1,7 +1,7 @@
 //! Tests of a store over chips in memory, for what no clause says: worked rows of refusals, frames, reads
-//! and writes, with the numbers that they draw; power cuts in the sectors that decide; and a table in
-//! which each call of the chip fails. They stand in a crate of their own so that the store is proved
-//! once.
+//! and writes, with the numbers that they draw; power cuts in the sectors that decide; a table in which
+//! each call of the chip fails; and the records that values by keys are kept in. They stand in a crate
+//! of their own so that the store is proved once.
 #![tactic(auto)]
 
 #[cfg(test)]
@@ -16,6 +16,8 @@ mod events;
 mod faults;
 #[cfg(test)]
 mod frames;
+#[cfg(test)]
+mod keys;
 #[cfg(test)]
 mod long_values;
 #[cfg(test)]
