@@ -24,6 +24,17 @@ def program_path(named: Optional[str]) -> str:
     return os.path.join(ROOT, "crates", "ipl", "out", "ipl")
 
 
+def keys_program_path(named: Optional[str]) -> str:
+    """The program of keys that was named, or else the one that is built here."""
+    if named is not None:
+        return os.path.realpath(named)
+    crate = os.path.join(ROOT, "crates", "keys_example")
+    # This builds the program where it is older than its sources.
+    subprocess.run(["rt", "run", "--", "ram:5"], cwd=crate, check=True, stdin=subprocess.DEVNULL,
+                   stdout=subprocess.DEVNULL)
+    return os.path.join(crate, "out", "keys_example")
+
+
 def make_file(path: str, places: int) -> None:
     """Makes the file of an erased chip, so that no run counts what that takes."""
     with open(path, "wb") as file:

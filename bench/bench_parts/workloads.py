@@ -174,6 +174,53 @@ def joined(transactions: Iterator[Transaction]) -> Iterator[Transaction]:
         yield [put for puts in together for put in puts]
 
 
+def key_of(number: int) -> str:
+    """The key of ten letters and digits that a number has."""
+    return f"meter{number:05}"
+
+
+def text_of(turn: int) -> str:
+    """A text of 40 bytes that differs from turn to turn."""
+    return value_of(turn, SHORT_VALUE // 2)
+
+
+def write_key_puts(out: TextIO, keys: int, count: int) -> None:
+    """Transactions of a put of a text, over so many keys in turn."""
+    for turn in range(count):
+        out.write(f"begin 0\nput 0 {key_of(turn % keys)} {text_of(turn)}\ncommit 0\n")
+
+
+def write_name_puts(out: TextIO, names: List[int], count: int) -> None:
+    """The same texts, over names in turn."""
+    for turn in range(count):
+        value = text_of(turn).encode().hex()
+        out.write(f"begin 0\nput 0 {names[turn % len(names)]} {value}\ncommit 0\n")
+
+
+def write_key_sql(out: TextIO, keys: int, count: int) -> None:
+    """The puts of keys as SQL, into a table of its own, with a log that is synced at each commit."""
+    out.write("pragma journal_mode=wal;\npragma synchronous=full;\n")
+    out.write("create table record (key text primary key, value text) without rowid;\n")
+    for turn in range(count):
+        key, text = key_of(turn % keys), text_of(turn)
+        out.write(f"begin;\ninsert or replace into record values ('{key}', '{text}');\ncommit;\n")
+
+
+def write_gets(out: TextIO, names: List[object], count: int) -> None:
+    """So many gets of one session, over keys or names in turn."""
+    out.write("begin 0\n")
+    out.writelines(f"get 0 {names[turn % len(names)]}\n" for turn in range(count))
+    out.write("abort 0\n")
+
+
+def write_selects(out: TextIO, keys: int, count: int) -> None:
+    """The gets of keys as SQL, in one transaction."""
+    out.write("begin;\n")
+    out.writelines(f"select value from record where key = '{key_of(turn % keys)}';\n"
+                   for turn in range(count))
+    out.write("commit;\n")
+
+
 def write_sql(out: TextIO, transactions: Iterator[Transaction]) -> None:
     """The same records as SQL."""
     for puts in transactions:
