@@ -1,0 +1,230 @@
+/* What a store takes: memory, stack and processor time; with -DWITH_SQLITE -lsqlite3 also SQLite's on the
+ * same records. Linked with -Wl,--wrap=malloc,--wrap=realloc,--wrap=free and -pthread. usage: measure */
+#define _GNU_SOURCE
+#include "../ipl.h"
+#include <pthread.h>
+#include <stdio.h>
+#include <stdlib.h>
+#include <string.h>
+#include <time.h>
+#ifdef WITH_SQLITE
+#include <sqlite3.h>
+#endif
+
+enum { SECTORS = 256, SECTOR = 512, TIMED_PLACES = 8, NAMES = 960 * (TIMED_PLACES - 4), FRAMES = 16 };
+
+/* ---- a driver that does nothing but its copies */
+
+static uint8_t (*bytes)[SECTORS][SECTOR];
+static uint64_t reads, programs, erases, barriers;
+
+int32_t ipl_nand_read(uint32_t part, uint32_t place, uint32_t sector, uint8_t *into,
+                      size_t length) {
+    (void)part;
+    reads++;
+    memcpy(into, bytes[place][sector], length);
+    return IPL_NAND_DONE;
+}
+
+int32_t ipl_nand_program(uint32_t part, uint32_t place, uint32_t sector, const uint8_t *from,
+                         size_t length) {
+    (void)part;
+    programs++;
+    memcpy(bytes[place][sector], from, length);
+    return IPL_NAND_DONE;
+}
+
+int32_t ipl_nand_erase(uint32_t part, uint32_t place) {
+    (void)part;
+    erases++;
+    memset(bytes[place], 0xFF, sizeof bytes[place]);
+    return IPL_NAND_DONE;
+}
+
+int32_t ipl_nand_barrier(uint32_t part) {
+    (void)part;
+    barriers++;
+    return IPL_NAND_DONE;
+}
+
+/* ---- memory: what is asked of malloc */
+
+void *__real_malloc(size_t n);
+void *__real_realloc(void *p, size_t n);
+void __real_free(void *p);
+void *__wrap_malloc(size_t n);
+void *__wrap_realloc(void *p, size_t n);
+void __wrap_free(void *p);
+
+static size_t taken, blocks, freed;
+
+void *__wrap_malloc(size_t n) {
+    taken += n;
+    blocks++;
+    return __real_malloc(n);
+}
+
+void *__wrap_realloc(void *p, size_t n) {
+    taken += n;
+    blocks++;
+    return __real_realloc(p, n);
+}
+
+void __wrap_free(void *p) {
+    if (p != NULL) freed++;
+    __real_free(p);
+}
+
+static void must(int holds, const char *what) {
+    if (holds) return;
+    fprintf(stderr, "measure: %s\n", what);
+    exit(1);
+}
+
+static struct ipl store;
+static uint32_t x = 12345;
+
+static uint32_t any(void) { return (x = x * 1664525u + 1013904223u) >> 8; }
+
+static void commit_puts(uint32_t names, int puts, uint32_t len, uint32_t in_turn) {
+    uint8_t value[IPL_VALUE];
+    must(ipl_begin(&store, 0) == IPL_OK, "begin");
+    for (int i = 0; i < puts; i++) {
+        memset(value, (int)(any() & 255), len);
+        must(ipl_put(&store, 0, puts == 1 ? in_turn % names : any() % names, value, len) == IPL_OK, "put");
+    }
+    must(ipl_commit(&store, 0) == IPL_OK, "commit");
+}
+
+struct size { uint32_t places, frames; };
+
+static void *use(void *it) {
+    struct size *size = it;
+    uint32_t names = (size->places - 4) * 960, found;
+    taken = blocks = freed = 0;
+    must(ipl_format(0, size->places, 0, NULL) == IPL_OK && blocks == 0, "format");
+    must(ipl_open(&store, 0, size->places, size->frames) == IPL_OK, "open");
+    size_t opened = taken, count = blocks;
+    for (uint32_t i = 0; i < 2000; i++) commit_puts(names, 3, 100, i);
+    must(ipl_merge(&store, 0) == IPL_OK && ipl_reopen(&store) == IPL_OK, "merge and reopen");
+    must(blocks == count, "memory that is taken later");
+    ipl_close(&store);
+    must(freed == count, "memory that isn't given back");
+    taken = blocks = 0;
+    must(ipl_check(0, size->places, &found, NULL) == IPL_OK, "check");
+    printf("memory: %u places, %u frames: %zu bytes in %zu blocks; a check %zu in %zu\n", size->places,
+           size->frames, opened, count, taken, blocks);
+    return NULL;
+}
+
+/* In a thread of its own, whose stack was painted before. */
+static void measure_memory(struct size size) {
+    size_t room = 1 << 20, untouched = 0;
+    uint8_t *stack = aligned_alloc(4096, room);
+    pthread_attr_t how;
+    pthread_t thread;
+    bytes = malloc(size.places * sizeof *bytes);
+    must(bytes != NULL && stack != NULL, "room");
+    memset(stack, 0xCC, room);
+    pthread_attr_init(&how);
+    pthread_attr_setstack(&how, stack, room);
+    must(pthread_create(&thread, &how, use, &size) == 0, "a thread");
+    pthread_join(thread, NULL);
+    while (untouched < room && stack[untouched] == 0xCC) untouched++;
+    printf("stack: %zu bytes, with what a thread and printf take\n", room - untouched);
+    free(bytes);
+    free(stack);
+}
+
+/* ---- time */
+
+static double seconds(void) {
+    struct timespec t;
+    clock_gettime(CLOCK_PROCESS_CPUTIME_ID, &t);
+    return (double)t.tv_sec + (double)t.tv_nsec / 1e9;
+}
+
+/* Names in turn; of long values 16 of each page, which has room for so many. */
+static uint32_t name_in_turn(int i, uint32_t len) {
+    return len > 100 ? (uint32_t)i % 16 * 64 + (uint32_t)i / 16 % 16 : (uint32_t)i % NAMES;
+}
+
+static double time_store(int commits, int puts, uint32_t len) {
+    must(ipl_format(0, TIMED_PLACES, 0, NULL) == IPL_OK, "format");
+    must(ipl_open(&store, 0, TIMED_PLACES, FRAMES) == IPL_OK, "open");
+    x = 12345;
+    reads = programs = erases = barriers = 0;
+    double start = seconds();
+    for (int i = 0; i < commits; i++) commit_puts(NAMES, puts, len, name_in_turn(i, len));
+    double spent = seconds() - start;
+    ipl_close(&store);
+    return spent * 1e6 / commits;
+}
+
+#ifdef WITH_SQLITE
+static double time_sqlite(int commits, int puts, uint32_t len) {
+    sqlite3 *db;
+    sqlite3_stmt *begin, *put, *commit;
+    uint8_t value[IPL_VALUE];
+    must(sqlite3_open(":memory:", &db) == SQLITE_OK, "sqlite");
+    must(sqlite3_exec(db, "create table r (n integer primary key, v blob)", 0, 0, 0) == SQLITE_OK, "table");
+    must(sqlite3_prepare_v2(db, "begin", -1, &begin, 0) == SQLITE_OK, "begin");
+    must(sqlite3_prepare_v2(db, "commit", -1, &commit, 0) == SQLITE_OK, "commit");
+    must(sqlite3_prepare_v2(db, "insert or replace into r values (?, ?)", -1, &put, 0) == SQLITE_OK, "put");
+    x = 12345;
+    double start = seconds();
+    for (int i = 0; i < commits; i++) {
+        must(sqlite3_step(begin) == SQLITE_DONE && sqlite3_reset(begin) == SQLITE_OK, "begin");
+        for (int j = 0; j < puts; j++) {
+            memset(value, (int)(any() & 255), len);
+            sqlite3_bind_int64(put, 1, puts == 1 ? name_in_turn(i, len) : any() % NAMES);
+            sqlite3_bind_blob(put, 2, value, (int)len, SQLITE_STATIC);
+            must(sqlite3_step(put) == SQLITE_DONE && sqlite3_reset(put) == SQLITE_OK, "put");
+        }
+        must(sqlite3_step(commit) == SQLITE_DONE && sqlite3_reset(commit) == SQLITE_OK, "commit");
+    }
+    double spent = seconds() - start;
+    sqlite3_finalize(begin);
+    sqlite3_finalize(put);
+    sqlite3_finalize(commit);
+    sqlite3_close(db);
+    return spent * 1e6 / commits;
+}
+#endif
+
+static int by_size(const void *a, const void *b) {
+    double d = *(const double *)a - *(const double *)b;
+    return (d > 0) - (d < 0);
+}
+
+/* The median of five turns, in turn with the other's. */
+static void measure_time(const char *what, int puts, uint32_t len) {
+    enum { TURNS = 5, COMMITS = 20000 };
+    double ours[TURNS], others[TURNS] = {0};
+    for (int i = 0; i < TURNS; i++) {
+        ours[i] = time_store(COMMITS, puts, len);
+#ifdef WITH_SQLITE
+        others[i] = time_sqlite(COMMITS, puts, len);
+#endif
+    }
+    qsort(ours, TURNS, sizeof *ours, by_size);
+    qsort(others, TURNS, sizeof *others, by_size);
+    printf("time: %s: %.2f us (%.2f to %.2f), %.2f reads, %.2f programs, %.3f erases, %.2f barriers", what,
+           ours[TURNS / 2], ours[0], ours[TURNS - 1], (double)reads / COMMITS,
+           (double)programs / COMMITS, (double)erases / COMMITS, (double)barriers / COMMITS);
+    if (others[0] > 0)
+        printf("; SQLite in memory %.2f us (%.2f to %.2f)", others[TURNS / 2], others[0], others[TURNS - 1]);
+    printf("\n");
+}
+
+int main(void) {
+    struct size sizes[] = {{5, 2}, {8, 16}, {257, 16}, {1028, 16}};
+    for (size_t i = 0; i < sizeof sizes / sizeof *sizes; i++) measure_memory(sizes[i]);
+    bytes = malloc(TIMED_PLACES * sizeof *bytes);
+    must(bytes != NULL, "room");
+    measure_time("one put of 40 bytes", 1, 40);
+    measure_time("four puts of 40 bytes at random", 4, 40);
+    measure_time("one put of 400 bytes", 1, 400);
+    free(bytes);
+    return 0;
+}
