@@ -9,7 +9,7 @@
 enum { PLACES = 6, SECTORS = 256, SECTOR = 512 };
 
 static uint8_t places[PLACES][SECTORS][SECTOR];
-static int writes_left = -1; /* the power goes after so many writes; -1: it stays on */
+static int writes_left = -1; /* the power goes in the last of so many writes; -1: it stays on */
 
 static int is_on(void) {
     if (writes_left > 0) writes_left--;
@@ -79,7 +79,7 @@ int main(void) {
     must(write_text(7, "the first text"), "the first commit");
     show_text(7);
 
-    /* The power goes in the midst of a commit: after one more write of the part. */
+    /* The power goes in the midst of a commit: in its first write to the part. */
     writes_left = 1;
     printf("a commit without power: answer %d\n", write_text(7, "the second text"));
 

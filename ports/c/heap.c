@@ -19,10 +19,14 @@ static struct tried tried(void *p) {
 }
 
 /* `align` bytes where none are asked for, so that there is a block. */
-struct tried rattle_alloc(size_t n, size_t align) { return tried(malloc(n != 0 ? n : align)); }
+struct tried rattle_alloc(size_t n, size_t align) {
+    if (align > _Alignof(max_align_t)) return tried(NULL);
+    return tried(malloc(n != 0 ? n : align));
+}
 
 struct tried rattle_realloc(void *p, size_t kept, size_t n, size_t align) {
     (void)kept;
+    if (align > _Alignof(max_align_t)) return tried(NULL);
     return tried(realloc(p, n != 0 ? n : align));
 }
 

@@ -20,8 +20,9 @@ extern "C" {
  * number that you passed to ipl_open, ipl_keys_open, ipl_format or ipl_check. Nothing checks these
  * functions: what stands here is taken as written, and the store is proved over it.
  *
- * Always: place < places, sector < 256, length is 512. Keep no pointer past the call. Write nothing
- * but into[0..511] and memory of your own. Return. Call no function of this header.
+ * Always: place < places, sector < 256, length is 512; the bytes may begin at any address. Keep no
+ * pointer past the call. Write nothing but into[0..511] and memory of your own. Return. Call no function
+ * of this header.
  */
 enum { IPL_NAND_DONE = 0, IPL_NAND_WORN = 1, IPL_NAND_FAILED = 2 };
 
@@ -38,7 +39,7 @@ int32_t ipl_nand_program(uint32_t part, uint32_t place, uint32_t sector, const u
                          size_t length);
 
 /* Erases a place: done, and each of its 256 sectors reads as bytes FF; or worn, and it holds what it
- * held; or failed, and it holds anything. */
+ * held, as long as there is power; or failed, and it holds anything. */
 int32_t ipl_nand_erase(uint32_t part, uint32_t place);
 
 /* Returns once all that was programmed and erased is sure to last: done, or failed. */
@@ -73,7 +74,7 @@ enum {
     IPL_BAD_CALL = 19,     /* frames not 2 to 64, more than 32 sessions, or no store is open */
 
     /* Failed: all that was committed lasts. Where the store goes on, so do its sessions; where it is
-     * down, it does nothing until it is reopened, and what isn't committed is gone. */
+     * down, it does nothing until it is opened again, and what isn't committed is gone. */
     IPL_DOWN = 20,       /* it was put down by an earlier call, and nothing was asked of the part */
     IPL_SPENT = 21,      /* the numbers of calls are used up: copy the records, and format */
     IPL_READ_FAULT = 22, /* a read failed: the store goes on, also the session */
@@ -83,12 +84,13 @@ enum {
     IPL_WORN_OUT = 26,   /* detail: how many places are worn, one more than are spare. It is down */
     IPL_BAD_BUCKET = 27, /* detail: the name of a record that is no bucket. The store goes on */
 
-    /* An opening, a format or a check has failed, as also by 21 to 25: nothing is open, or after a
-     * reopen the store is down. A format leaves the part unformatted. */
-    IPL_GEOMETRY = 30,      /* not 5 to 1,028 places, or more than 64 spare, or no unit left */
+    /* An opening, a format or a check has failed, as also by 21 to 26: nothing is open, or after a
+     * reopen the store is down. After 23 or 35 of a format the part is to be formatted. */
+    IPL_GEOMETRY = 30,      /* not 5 to 1,028 places, or too many or few for what stands there; of a
+                               format also more than 64 spare, or no unit left, and nothing is erased */
     IPL_NOT_FORMATTED = 31,
     IPL_MISSING = 32,       /* detail: the unit */
-    IPL_NO_SPARE = 33,      /* detail: the unit that can't be merged */
+    IPL_NO_SPARE = 33,      /* detail: how many overflow places have log sectors, more than two */
     IPL_OUT_OF_MEMORY = 34,
     IPL_WORN = 35           /* format: detail: the place */
 };
@@ -105,7 +107,8 @@ struct ipl_request {
 
 /* ---- a part ------------------------------------------------------------------------------------
  *
- * `detail` has room for four numbers, or is NULL. No store has the part open.
+ * `detail` has room for four numbers, or is NULL; no other pointer is, here and below. No store has
+ * the part open.
  */
 /* Formats a part, with `spares` places (0 to 64) for those that wear out. All that it held is gone. */
 int ipl_format(uint32_t part, uint32_t places, uint32_t spares, uint32_t *detail);
@@ -115,16 +118,18 @@ int ipl_check(uint32_t part, uint32_t places, uint32_t *records, uint32_t *detai
 
 /* ---- records -----------------------------------------------------------------------------------
  *
- * An open store: memory of yours, which stays where it is while the store is open. Don't touch it.
- * Calls one at a time, from any one thread; not from an interrupt, and not from the driver.
+ * An open store: memory of yours, which stays where it is while the store is open. Don't touch it, nor
+ * copy it. Before ipl_open it may hold anything; for the other calls, zeros are a store that isn't open.
+ * Calls one at a time, from any thread; not from an interrupt, and not from the driver.
  */
 struct ipl {
     void *at;
     struct ipl_request request;
 };
 
-/* Opens a part, with 2 to 64 frames of pages. All memory is taken here, by malloc. Where it doesn't
- * answer IPL_OK nothing is open. One store at a time has a part. */
+/* Opens a part, with 2 to 64 frames of pages; `s` isn't open. `places` is as in the format: that it is
+ * another number isn't always told. All memory is taken here, by malloc. Where it doesn't answer IPL_OK
+ * nothing is open. One store at a time has a part. */
 int ipl_open(struct ipl *s, uint32_t part, uint32_t places, uint32_t frames);
 /* Gives the memory back; what isn't committed is gone. The part isn't asked. Of a store that isn't
  * open it does nothing. */
@@ -135,12 +140,14 @@ int ipl_reopen(struct ipl *s);
 uint32_t ipl_unit_count(struct ipl *s);
 
 int ipl_begin(struct ipl *s, uint32_t session);
-/* What the session sees: its own write, or the committed record. `value` has room for 464 bytes. */
+/* What the session sees: its own write, or the committed record. `value` has room for 464 bytes; where
+ * the answer isn't IPL_OK, `*len` is 0 and `value` as it was. */
 int ipl_get(struct ipl *s, uint32_t session, uint32_t name, void *value, uint32_t *len);
 /* The same, and no other session may write the name until this one ends. */
 int ipl_share(struct ipl *s, uint32_t session, uint32_t name, void *value, uint32_t *len);
 /* The committed record, for no session. */
 int ipl_committed(struct ipl *s, uint32_t name, void *value, uint32_t *len);
+/* Of 0 to 464 bytes; of none `value` isn't read. */
 int ipl_put(struct ipl *s, uint32_t session, uint32_t name, const void *value, uint32_t len);
 int ipl_del(struct ipl *s, uint32_t session, uint32_t name);
 /* IPL_OK: the session's writes last, all of them, and it is closed. */
@@ -153,12 +160,13 @@ int ipl_merge(struct ipl *s, uint32_t unit);
 /* Keeps a page (0 to 14) of a unit in its frame, so that its gets ask the part nothing. */
 int ipl_hold(struct ipl *s, uint32_t unit, uint32_t page);
 int ipl_release(struct ipl *s, uint32_t unit, uint32_t page);
-/* The four numbers that go with the last answer. */
+/* The four numbers that go with the last answer, zeros but for what the table says. */
 const uint32_t *ipl_detail(const struct ipl *s);
 
 /* ---- values by keys ----------------------------------------------------------------------------
  *
- * The same of a part whose records are written by these calls alone.
+ * The same of a part whose records are written by these calls alone. A store that is down is closed and
+ * opened.
  */
 struct ipl_keys {
     struct ipl store;

@@ -45,6 +45,7 @@ int ipl_check(uint32_t part, uint32_t places, uint32_t *records, uint32_t *detai
 
 static int ask(struct ipl *s, uint32_t op, uint32_t session, uint32_t name) {
     struct ipl_handle handle = {s->at};
+    memset(s->request.detail, 0, sizeof s->request.detail);
     if (s->at == NULL) return IPL_BAD_CALL;
     s->request.op = op;
     s->request.session = session;
@@ -52,16 +53,17 @@ static int ask(struct ipl *s, uint32_t op, uint32_t session, uint32_t name) {
     return (int)ipl_port_call(handle, &s->request, &s->at);
 }
 
-/* A call that answers a value. */
-static int find(struct ipl *s, uint32_t op, uint32_t session, uint32_t name, void *value,
+/* A call that answers a value. No clause of a store of keys says that its values have at most 200 bytes,
+ * so the caller's room is asked for. */
+static int find(struct ipl *s, uint32_t op, uint32_t session, uint32_t name, void *value, uint32_t room,
                 uint32_t *len) {
     int answer = ask(s, op, session, name);
     *len = 0;
-    if (answer == IPL_OK) {
-        *len = s->request.len;
-        memcpy(value, s->request.value, *len);
-    }
-    return answer;
+    if (answer != IPL_OK) return answer;
+    if (s->request.len > room) return IPL_BAD_CALL;
+    *len = s->request.len;
+    memcpy(value, s->request.value, *len);
+    return IPL_OK;
 }
 
 /* The value of a put; of one that is too long the length alone, which is refused. */
@@ -91,15 +93,15 @@ uint32_t ipl_unit_count(struct ipl *s) {
 int ipl_begin(struct ipl *s, uint32_t session) { return ask(s, BEGIN, session, 0); }
 
 int ipl_get(struct ipl *s, uint32_t session, uint32_t name, void *value, uint32_t *len) {
-    return find(s, GET, session, name, value, len);
+    return find(s, GET, session, name, value, IPL_VALUE, len);
 }
 
 int ipl_share(struct ipl *s, uint32_t session, uint32_t name, void *value, uint32_t *len) {
-    return find(s, SHARE, session, name, value, len);
+    return find(s, SHARE, session, name, value, IPL_VALUE, len);
 }
 
 int ipl_committed(struct ipl *s, uint32_t name, void *value, uint32_t *len) {
-    return find(s, COMMITTED, 0, name, value, len);
+    return find(s, COMMITTED, 0, name, value, IPL_VALUE, len);
 }
 
 int ipl_put(struct ipl *s, uint32_t session, uint32_t name, const void *value, uint32_t len) {
@@ -150,7 +152,7 @@ int ipl_keys_begin(struct ipl_keys *k, uint32_t session) { return ask(&k->store,
 int ipl_keys_get(struct ipl_keys *k, uint32_t session, const void *key, uint32_t key_len,
                  void *value, uint32_t *len) {
     take_key(&k->store.request, key, key_len);
-    return find(&k->store, GET, session, 0, value, len);
+    return find(&k->store, GET, session, 0, value, IPL_KEY_VALUE, len);
 }
 
 int ipl_keys_put(struct ipl_keys *k, uint32_t session, const void *key, uint32_t key_len,

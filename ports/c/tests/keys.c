@@ -27,7 +27,7 @@ static void must(int holds, const char *what, int answer) {
     if (!holds) die(what, answer);
 }
 
-/* A key of 1 to 16 bytes for each number. */
+/* A key of 2 to 16 bytes for each number. */
 static uint32_t key_of(uint32_t number, uint8_t *key) {
     uint32_t len = 2 + number % 15;
     for (uint32_t i = 0; i < len; i++) key[i] = (uint8_t)(number >> (i % 2 * 8));

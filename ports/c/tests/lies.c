@@ -53,8 +53,9 @@ static void change_weather(void) {
 /* A number that is right, mostly. */
 static uint32_t about(uint32_t n) { return any_below(50) ? any_below(n) : any_number(); }
 
-static void look(int answer, const uint32_t *len) {
-    if (known(answer) != IPL_OK || *len <= IPL_VALUE) return;
+/* The length by its address: it is read only once the call has answered. */
+static void look(int answer, const uint32_t *len, uint32_t most) {
+    if (known(answer) == IPL_OK ? *len <= most : *len == 0) return;
     fprintf(stderr, "lies: a value of %u bytes\n", *len);
     exit(1);
 }
@@ -64,9 +65,9 @@ static void ask_records(void) {
     uint32_t s = about(4), name = about(4 * 960), len = about(IPL_VALUE + 1), named[40], count;
     memset(value, (int)any_number(), sizeof value);
     switch (any_below(13)) {
-    case 0: look(ipl_get(&records, s, name, value, &len), &len); break;
-    case 1: look(ipl_share(&records, s, name, value, &len), &len); break;
-    case 2: look(ipl_committed(&records, name, value, &len), &len); break;
+    case 0: look(ipl_get(&records, s, name, value, &len), &len, IPL_VALUE); break;
+    case 1: look(ipl_share(&records, s, name, value, &len), &len, IPL_VALUE); break;
+    case 2: look(ipl_committed(&records, name, value, &len), &len, IPL_VALUE); break;
     case 3: case 4: case 5: known(ipl_put(&records, s, name, value, len)); break;
     case 6: known(ipl_del(&records, s, name)); break;
     case 7: known(ipl_commit(&records, s)); break;
@@ -88,12 +89,12 @@ static void ask_records(void) {
 }
 
 static void ask_keys(void) {
-    uint8_t key[IPL_KEY], value[IPL_VALUE];
+    uint8_t key[IPL_KEY], value[IPL_VALUE], found[IPL_KEY_VALUE];
     uint32_t s = about(4), key_len = about(IPL_KEY + 1), len = about(IPL_KEY_VALUE + 1);
     memset(key, (int)any_below(8), sizeof key);
     memset(value, (int)any_number(), sizeof value);
     switch (any_below(7)) {
-    case 0: look(ipl_keys_get(&keys, s, key, key_len, value, &len), &len); break;
+    case 0: look(ipl_keys_get(&keys, s, key, key_len, found, &len), &len, IPL_KEY_VALUE); break;
     case 1: case 2: known(ipl_keys_put(&keys, s, key, key_len, value, len)); break;
     case 3: known(ipl_keys_del(&keys, s, key, key_len)); break;
     case 4: known(ipl_keys_commit(&keys, s)); break;

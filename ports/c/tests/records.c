@@ -188,7 +188,7 @@ static void write_one(uint32_t s) {
 static void end_one(uint32_t s, int commits_it) {
     struct session *it = &sessions[s];
     int answer = commits_it ? ipl_commit(store, s) : ipl_abort(store, s);
-    if (!goes_on(commits_it ? COMMIT : ABORT, answer, &s, commits_it)) return;
+    if (!goes_on(commits_it ? COMMIT : ABORT, answer, &s, (uint32_t)commits_it)) return;
     must(answer == (it->is_open ? IPL_OK : IPL_NOT_OPEN), "the end of a session", answer);
     if (commits_it && it->is_open) {
         keep(s);

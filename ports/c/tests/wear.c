@@ -10,7 +10,7 @@ enum { PLACES = 9, SPARES = 3, NAMES = 960 * (PLACES - 4 - SPARES) };
 
 static uint32_t kept[PARTS][NAMES]; /* each record is a number; 0: there is none */
 static struct ipl stores[PARTS];
-static uint64_t commits, worn;
+static uint64_t commits, worn, shut;
 
 static void must(int holds, const char *what, int answer) {
     if (holds) return;
@@ -53,6 +53,12 @@ static int commit_one(uint32_t part) {
     answer = ipl_check(part, PLACES, &found, NULL);
     must(answer == IPL_OK && (found == records || (!was && found == records + 1)), "the check",
          answer);
+    /* An opening takes a place too, as a rule the one that was found worn. */
+    answer = ipl_open(s, part, PLACES, 3);
+    must(answer == IPL_OK || (answer == IPL_WORN_OUT && ipl_detail(s)[0] == SPARES + 1),
+         "an opening of a worn part", answer);
+    shut += answer != IPL_OK;
+    ipl_close(s);
     worn++;
     return 0;
 }
@@ -84,7 +90,7 @@ int main(int argc, char **argv) {
             part_free(part);
         }
     }
-    printf("wear: %llu commits on %d pairs of parts, until %llu were worn out\n",
-           (unsigned long long)commits, rounds, (unsigned long long)worn);
+    printf("wear: %llu commits on %d pairs of parts, until %llu were worn out, of which %llu didn't open again\n",
+           (unsigned long long)commits, rounds, (unsigned long long)worn, (unsigned long long)shut);
     return 0;
 }
