@@ -72,6 +72,7 @@ enum {
     IPL_LONG_VALUE = 17,   /* a value by a key of more than 200 bytes */
     IPL_BUCKET_FULL = 18,  /* detail: the name of the bucket, of 464 bytes */
     IPL_BAD_CALL = 19,     /* frames not 2 to 64, more than 32 sessions, or no store is open */
+    IPL_SESSIONS_OPEN = 28, /* shutdown: detail: the least session that is open */
 
     /* Failed: all that was committed lasts. Where the store goes on, so do its sessions; where it is
      * down, it does nothing until it is opened again, and what isn't committed is gone. */
@@ -134,6 +135,10 @@ int ipl_open(struct ipl *s, uint32_t part, uint32_t places, uint32_t frames);
 /* Gives the memory back; what isn't committed is gone. The part isn't asked. Of a store that isn't
  * open it does nothing. */
 void ipl_close(struct ipl *s);
+/* Where no session is open: writes down of which units the log sectors are known, so that the next
+ * opening of the part takes their clean ones for clean, and their first changes cost no merge. The store
+ * is down then, also where a write failed. To be done before the power is switched off in order. */
+int ipl_shutdown(struct ipl *s);
 /* Opens the part again, with no memory more: all sessions and holds are dropped. */
 int ipl_reopen(struct ipl *s);
 /* How many units the part has: 960 names each, in 15 pages. 0 where no store is open. */
@@ -174,6 +179,7 @@ struct ipl_keys {
 
 int ipl_keys_open(struct ipl_keys *k, uint32_t part, uint32_t places, uint32_t frames);
 void ipl_keys_close(struct ipl_keys *k);
+int ipl_keys_shutdown(struct ipl_keys *k);
 int ipl_keys_begin(struct ipl_keys *k, uint32_t session);
 /* `value` has room for 200 bytes. */
 int ipl_keys_get(struct ipl_keys *k, uint32_t session, const void *key, uint32_t key_len,

@@ -19,7 +19,7 @@ _Static_assert(sizeof(struct ipl_request) == 648, "the request has no gaps");
 
 enum {
     BEGIN = 1, GET, SHARE, COMMITTED, PUT, DEL, COMMIT, COMMIT_ALL, ABORT, MERGE, HOLD, RELEASE,
-    REOPEN, UNIT_COUNT
+    REOPEN, UNIT_COUNT, SHUTDOWN
 };
 
 /* ---- a part */
@@ -85,6 +85,7 @@ void ipl_close(struct ipl *s) {
 }
 
 int ipl_reopen(struct ipl *s) { return ask(s, REOPEN, 0, 0); }
+int ipl_shutdown(struct ipl *s) { return ask(s, SHUTDOWN, 0, 0); }
 
 uint32_t ipl_unit_count(struct ipl *s) {
     return ask(s, UNIT_COUNT, 0, 0) == IPL_OK ? s->request.name : 0;
@@ -147,6 +148,7 @@ int ipl_keys_open(struct ipl_keys *k, uint32_t part, uint32_t places, uint32_t f
 }
 
 void ipl_keys_close(struct ipl_keys *k) { ipl_close(&k->store); }
+int ipl_keys_shutdown(struct ipl_keys *k) { return ipl_shutdown(&k->store); }
 int ipl_keys_begin(struct ipl_keys *k, uint32_t session) { return ask(&k->store, BEGIN, session, 0); }
 
 int ipl_keys_get(struct ipl_keys *k, uint32_t session, const void *key, uint32_t key_len,

@@ -1,6 +1,6 @@
 """Cases of what is wrong with a chip, and of which fault is told first."""
 from asking import Picture, case, wants, wants_fault, wants_letters, wants_records
-from images import (COMMIT, DATA, FIRST_PUT_RECORD, LOG, OVERFLOW, PUT_RECORD, STATUS, base,
+from images import (COMMIT, DATA, FIRST_PUT_RECORD, LOG, MARK, OVERFLOW, PUT_RECORD, STATUS, base,
                     commit, data_header, first_record, formatted, log, overflow_header, raw_sector,
                     record, sector, status_header, status_payload, text_of)
 
@@ -101,6 +101,20 @@ def commit_payloads_out_of_the_grammar_are_malformed():
         wants_fault(payload.hex(), image, "malformed place 1 sector 3")
         wants_letters("at fault", image, (1, 0, "H..!."))
     wants_records("sixty numbers", formatted().put(1, 255, commit(2, 9, *range(60))), [])
+
+
+@case
+def marks_out_of_the_grammar_are_malformed_in_order_with_commit_sectors():
+    one = bytes.fromhex("00 00 00 01")
+    for payload in (b"", one, one + b"\x00\x00", one + b"\x02", bytes.fromhex("00 00 00 02 01")):
+        wrong = sector(MARK, 0, 2, 9, payload)
+        wants_fault(payload.hex(), formatted().put(1, 3, wrong), "malformed place 1 sector 3")
+        wants_letters("at fault", formatted().put(1, 3, wrong), (1, 0, "H..!."))
+        wants_records("left over", formatted().put(1, 3, sector(MARK, 0, 1, 9, payload)), [])
+        before = formatted().put(1, 4, wrong).put(1, 3, sector(COMMIT, 0, 2, 9, bytes(12)))
+        wants_fault("the commit sector before", before, "malformed place 1 sector 3")
+        behind = formatted().put(1, 3, wrong).put(1, 4, sector(COMMIT, 0, 2, 9, bytes(12)))
+        wants_fault("the commit sector behind", behind, "malformed place 1 sector 3")
 
 
 @case
@@ -229,7 +243,7 @@ def a_number_of_2_to_the_63_is_spent():
 def strange_sectors_are_told_from_torn_ones():
     whole = log(1, 9, record(0, 0, 4, b"\x01"))
     head, payload = whole[:28], whole[32:]
-    strange = [(b"IPL2" + head[4:], payload), (head[:4] + b"\x07" + head[5:], payload),
+    strange = [(b"IPL2" + head[4:], payload), (head[:4] + b"\x08" + head[5:], payload),
                (head[:4] + b"\x00" + head[5:], payload), (head[:5] + b"\x04" + head[6:], payload),
                (head[:5] + b"\x00" + head[6:], payload),
                (head[:6] + b"\x01\xe1" + head[8:], payload), (head, payload[:479] + b"\x01")]

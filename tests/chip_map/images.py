@@ -3,7 +3,7 @@ import struct
 
 SECTOR_BYTES = 512
 PLACE_BYTES = 256 * SECTOR_BYTES
-DATA, STATUS, OVERFLOW, BASE, LOG, COMMIT = range(1, 7)
+DATA, STATUS, OVERFLOW, BASE, LOG, COMMIT, MARK = range(1, 8)
 PUT, DELETE = 1, 2
 
 # The examples at the end of docs/FORMAT.md: bytes 0..28 of a sector, its sum, its payload.
@@ -140,6 +140,14 @@ def log(generation, serial, *records, unit=0, version=3):
 def commit(generation, serial, *numbers, version=3):
     payload = struct.pack(f">{len(numbers)}Q", *numbers)
     return sector(COMMIT, 0, generation, serial, payload, version)
+
+
+def mark(generation, serial, *units, of=1, version=3):
+    """The mark of a clean close on a chip of so many units."""
+    bits = bytearray((of + 7) // 8)
+    for unit in units:
+        bits[unit // 8] |= 1 << unit % 8
+    return sector(MARK, 0, generation, serial, struct.pack(">I", of) + bytes(bits), version)
 
 
 class Image:

@@ -4,7 +4,7 @@ from images import (BASE_SECTOR, DATA, DELETE_RECORD, FIRST_BASE_SECTOR, FIRST_D
                     FIRST_HEADER, FIRST_PAGE_TEXT, FIRST_PUT_RECORD, FORMATTED_HEADER, Image, LOG,
                     OVERFLOW, OVERFLOW_HEADER, PAGE_TEXT, PUT_RECORD, RETIRING_HEADER, SECOND_HEADER,
                     SECOND_STATUS_HEADER, STATUS, STATUS_HEADER, base, commit, crc32, data_header,
-                    first_record, formatted, full_log, log, merged_log, overflow_header, record, sector,
+                    first_record, formatted, full_log, log, mark, merged_log, overflow_header, record, sector,
                     sixteen_commits, spelled, status_header, status_payload, text_of)
 
 
@@ -218,6 +218,35 @@ def the_younger_status_counts_with_its_own_commits():
     image.put(3, 0, status_header(9)).put(3, 255, commit(9, 10, 6))
     wants_records("a younger one", image, ["1 02"])
     wants_letters("two", image, (1, 0, "hcc."), (3, 0, "H."), (3, 254, ".C"))
+
+
+def marked_line(image):
+    """The line of a picture that says which units are marked, if one does."""
+    lines = [line for line in Picture(image).head if line.startswith("units whose")]
+    return lines[0] if lines else None
+
+
+@case
+def the_youngest_mark_counts_unless_a_commit_sector_is_younger():
+    # Units 0 and 9 of ten, whose places are 0 to 9; the status place is 10.
+    image = formatted(14).put(10, 1, mark(11, 20, 3, of=10)).put(10, 2, mark(11, 21, 0, 9, of=10))
+    said = "units whose erased log sectors are marked as clean: "
+    wants("the youngest", marked_line(image), said + "0, 9")
+    wants_letters("the youngest", image, (10, 0, "HmM."))
+    image.put(10, 3, commit(11, 21, 4))
+    wants("a commit sector of the same serial", marked_line(image), said + "0, 9")
+    image.put(10, 4, commit(11, 22, 5))
+    wants("a younger one", marked_line(image), None)
+    wants_letters("a younger one", image, (10, 0, "HmmCC."))
+
+
+@case
+def a_mark_is_of_its_own_status_and_of_headers_before_it():
+    image = formatted(14).put(10, 1, mark(10, 20, 0, of=10)).put(9, 5, mark(11, 20, 0, of=10))
+    wants("of another generation or place", marked_line(image), None)
+    wants_letters("of another generation or place", image, (10, 0, "Hm."), (9, 4, ".m."))
+    image.put(10, 2, mark(11, 30, 0, 1, of=10)).put(12, 0, data_header(30, 10, unit=1))
+    wants("a header as young", marked_line(image), "units whose erased log sectors are marked as clean: 0")
 
 
 @case

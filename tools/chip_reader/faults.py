@@ -4,7 +4,8 @@ from __future__ import annotations
 from typing import Callable, Dict, Iterator, List, Set, Tuple
 
 from .layout import Layout, Spot
-from .sectors import Kind, PAGES, Sector, log_records, transaction_numbers, units_of
+from .sectors import (Kind, PAGES, Sector, log_records, marked_units, transaction_numbers,
+                      units_of)
 from .values import Fault, malformed, page_values
 
 MOST_SPOTS_ELSEWHERE = 16
@@ -38,8 +39,11 @@ def header_faults(layout: Layout) -> Iterator[Fault]:
 
 
 def commit_faults(layout: Layout) -> Iterator[Fault]:
-    for spot, sector in layout.commits.items():
-        if transaction_numbers(sector.payload) is None:
+    """The commit sectors, and the marks of clean closes among them, that aren't in the grammar."""
+    for spot, sector in sorted({**layout.commits, **layout.close_marks}.items()):
+        is_mark = sector.kind == Kind.MARK
+        said = marked_units(sector.payload, layout.units) if is_mark else transaction_numbers(sector.payload)
+        if said is None:
             yield malformed(spot)
 
 
@@ -61,7 +65,8 @@ def log_faults(layout: Layout) -> Iterator[Fault]:
 def found_numbers(layout: Layout) -> Iterator[Tuple[int, Spot]]:
     """The numbers that an opening reads, each with its sector."""
     sectors = {Spot(place, 0): header for place, header in layout.headers.items()}
-    for spot, sector in {**sectors, **layout.commits, **layout.log_sectors}.items():
+    read = {**sectors, **layout.commits, **layout.close_marks, **layout.log_sectors}
+    for spot, sector in read.items():
         yield sector.generation, spot
         yield sector.serial, spot
         for number in transactions_in(sector):

@@ -2,11 +2,11 @@
 from __future__ import annotations
 
 from functools import cached_property
-from typing import Dict, Iterator, List, NamedTuple, Optional, Set, Tuple
+from typing import Dict, FrozenSet, Iterator, List, NamedTuple, Optional, Set, Tuple
 
 from .sectors import (Chart, DataHeader, FIRST_LOG_SECTOR, Kind, MOST_PIECES, RESERVED_PLACES, SECTORS,
-                      Sector, SectorClass, StatusHeader, data_header, erases_of, may_have_units,
-                      status_header, transaction_numbers, units_of)
+                      Sector, SectorClass, StatusHeader, data_header, erases_of, marked_units,
+                      may_have_units, status_header, transaction_numbers, units_of)
 
 
 class Spot(NamedTuple):
@@ -111,6 +111,35 @@ class Layout:
         generation = self.headers[self.status].generation
         return {spot: sector for spot, sector in self.checked(self.status, 1)
                 if sector.kind == Kind.COMMIT and sector.generation == generation}
+
+    @cached_property
+    def close_marks(self) -> Dict[Spot, Sector]:
+        """The marks of clean closes in the status place that have its generation, in rising order."""
+        if self.status is None:
+            return {}
+        generation = self.headers[self.status].generation
+        return {spot: sector for spot, sector in self.checked(self.status, 1)
+                if sector.kind == Kind.MARK and sector.generation == generation}
+
+    @cached_property
+    def close_mark(self) -> Optional[Spot]:
+        """The mark that counts: the youngest, where no commit sector is younger."""
+        last_commit = max((sector.serial for sector in self.commits.values()), default=0)
+        best = None
+        for spot, sector in self.close_marks.items():
+            if best is None or sector.serial > self.close_marks[best].serial:
+                best = spot
+        return best if best is not None and self.close_marks[best].serial >= last_commit else None
+
+    @cached_property
+    def marked_units(self) -> FrozenSet[int]:
+        """The units whose erased log sectors are known to be clean by the mark that counts."""
+        if self.close_mark is None:
+            return frozenset()
+        mark = self.close_marks[self.close_mark]
+        said = marked_units(mark.payload, self.units) or frozenset()
+        return frozenset(unit for unit in said
+                         if unit in self.homes and self.home_header(unit).serial < mark.serial)
 
     @cached_property
     def committed(self) -> Set[int]:

@@ -20,10 +20,12 @@ class Fill(Enum):
     BASE = ("B", "base sector")
     LOG = ("L", "log sector")
     COMMIT = ("C", "commit sector")
+    MARK = ("M", "mark of a clean close")
     OLD_HEADER = ("h", "header, left over")
     OLD_BASE = ("b", "base sector, left over")
     OLD_LOG = ("l", "log sector, left over")
     OLD_COMMIT = ("c", "commit sector, left over")
+    OLD_MARK = ("m", "mark of a clean close, left over")
     ERASED = (".", "erased")
     TORN = ("x", "torn: its sum is wrong")
     STRANGE = ("?", "strange: another rule is broken")
@@ -42,6 +44,7 @@ FILLS_BY_KIND = {
     Kind.BASE: (Fill.BASE, Fill.OLD_BASE),
     Kind.LOG: (Fill.LOG, Fill.OLD_LOG),
     Kind.COMMIT: (Fill.COMMIT, Fill.OLD_COMMIT),
+    Kind.MARK: (Fill.MARK, Fill.OLD_MARK),
 }
 
 
@@ -79,6 +82,8 @@ def counting_spots(layout: Layout) -> Set[Spot]:
         header_places.append(layout.status)
     spots = {Spot(place, 0) for place in header_places}
     spots.update(layout.commits, layout.live)
+    if layout.close_mark is not None:
+        spots.add(layout.close_mark)
     for unit in layout.homes:
         for page in range(PAGES):
             spots.update(sound_spots(layout, unit, page))
@@ -205,6 +210,9 @@ def summary(layout: Layout, found_faults: List[Fault]) -> List[str]:
     if layout.retired:
         retired = ", ".join(at_most(MOST_RANGES, ranges(list(layout.retired))))
         lines.append(f"retired places: {retired}")
+    if layout.marked_units:
+        marked = ", ".join(at_most(MOST_RANGES, ranges(sorted(layout.marked_units))))
+        lines.append(f"units whose erased log sectors are marked as clean: {marked}")
     missing = missing_units(layout)
     if missing:
         listed = ", ".join(at_most(MOST_RANGES, ranges(missing)))

@@ -5,7 +5,7 @@ import struct
 import zlib
 from dataclasses import dataclass
 from enum import IntEnum
-from typing import BinaryIO, Dict, List, Optional, Sequence, Tuple, Union
+from typing import BinaryIO, Dict, FrozenSet, List, Optional, Sequence, Tuple, Union
 
 SECTOR_BYTES = 512
 SECTORS = 256
@@ -44,6 +44,7 @@ class Kind(IntEnum):
     BASE = 4
     LOG = 5
     COMMIT = 6
+    MARK = 7
 
     @property
     def is_header(self) -> bool:
@@ -287,3 +288,12 @@ def transaction_numbers(payload: bytes) -> Optional[List[int]]:
     if rest or not 1 <= count <= MOST_COMMITTED:
         return None
     return list(struct.unpack(f">{count}Q", payload))
+
+
+def marked_units(payload: bytes, units: int) -> Optional[FrozenSet[int]]:
+    """The units that a mark's payload says on a chip of so many, or none where it isn't in the grammar."""
+    if len(payload) != 4 + (units + 7) // 8 or units_of(payload) != units:
+        return None
+    bits = int.from_bytes(payload[4:], "little")
+    said = frozenset(unit for unit in range(bits.bit_length()) if bits >> unit & 1)
+    return said if max(said, default=0) < units else None

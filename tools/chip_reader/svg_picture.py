@@ -22,6 +22,7 @@ MOST_IN_ONE_COLUMN = 64
 # From dark to light.
 HEADER_COLOUR = "#14213d"
 COMMIT_COLOUR = "#7b2cbf"
+MARK_COLOUR = "#2a9d5c"
 FAULT_COLOUR = "#d62828"
 BASE_COLOUR = "#3a86c8"
 LOG_COLOUR = "#f4a300"
@@ -32,11 +33,12 @@ LINE_COLOUR = "#c4c8ce"
 PAINTS = {
     Fill.HEADER: HEADER_COLOUR, Fill.OLD_HEADER: HEADER_COLOUR,
     Fill.COMMIT: COMMIT_COLOUR, Fill.OLD_COMMIT: COMMIT_COLOUR,
+    Fill.MARK: MARK_COLOUR, Fill.OLD_MARK: MARK_COLOUR,
     Fill.BASE: BASE_COLOUR, Fill.OLD_BASE: BASE_COLOUR,
     Fill.LOG: LOG_COLOUR, Fill.OLD_LOG: LOG_COLOUR,
     Fill.TORN: "url(#torn)", Fill.STRANGE: "url(#strange)", Fill.FAULT: "url(#fault)",
 }
-LEFT_OVER = {Fill.OLD_HEADER, Fill.OLD_BASE, Fill.OLD_LOG, Fill.OLD_COMMIT}
+LEFT_OVER = {Fill.OLD_HEADER, Fill.OLD_BASE, Fill.OLD_LOG, Fill.OLD_COMMIT, Fill.OLD_MARK}
 
 STYLE = """\
 text { font-family: sans-serif; font-size: 12px; fill: #1b1b1b; }

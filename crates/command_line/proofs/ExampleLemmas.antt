@@ -17,6 +17,8 @@ words = record {
   formats_first = refl;
   flag_before = refl;
   chip_behind_dashes = refl;
+  closes = refl;
+  formats_and_closes = refl;
   says_its_view = refl;
   checks = refl;
   memory = refl;
@@ -63,6 +65,8 @@ no_words = record {
   two_chips = refl;
   other_chip = refl;
   format_flag = refl;
+  close_flag = refl;
+  closes_twice = refl;
   check_flag = refl;
   view_flag = refl;
   twice = refl;
@@ -112,6 +116,7 @@ no_trials = record {
   minus = refl;
   too_many_frames = refl;
   format_flag = refl;
+  close_flag = refl;
   seed_at_run = refl;
 }
 

@@ -47,7 +47,7 @@ spares_at = number_at 0 64 (codes "spares")
 
 -- what `run` asks to be done
 abbrev pub run_at : List Row → Request
-run_at rows = Run (frames_at rows) (is_set (codes "format") rows)
+run_at rows = Run (frames_at rows) (is_set (codes "format") rows) (is_set (codes "close") rows)
 
 -- what `trial` asks to be done
 abbrev pub trial_at : List Row → Request
@@ -80,7 +80,7 @@ asked_of words = if is_empty (fault_of ipl_command words)
 -- the numbers of a request are within their bounds
 abbrev pub IsInBounds : Request → Type 0
 IsInBounds (Format spares) = spares ≤ 64
-IsInBounds (Run frames format) = (2 ≤ frames) × (frames ≤ 64)
+IsInBounds (Run frames format close) = (2 ≤ frames) × (frames ≤ 64)
 IsInBounds Serial = ⊤
 IsInBounds Check = ⊤
 IsInBounds (Trial seed count frames) =

@@ -9,9 +9,9 @@ use Rattle.clap.specs.declared.builder.value_parser.ValueParser.TheVariants.{Uns
 abbrev pub chip_rule : Rule
 chip_rule = record (new_rule (codes "chip")) { required = true }
 
--- --format
-abbrev pub format_rule : Rule
-format_rule = record (new_rule (codes "format")) { long = Some (codes "format"); action = Some SetTrue }
+-- a flag, --format or --close
+abbrev pub flag_rule : Text → Rule
+flag_rule id = record (new_rule id) { long = Some id; action = Some SetTrue }
 
 -- an option with one value, a number within the bounds
 abbrev pub number_rule : Text → ℕ → ℕ → Rule
@@ -34,10 +34,10 @@ spares_rule = record (number_rule (codes "spares") 0 64) { defaults = codes "0" 
 abbrev pub format_command : App
 format_command = with_rule (with_rule (new_app (codes "format")) chip_rule) spares_rule
 
--- run CHIP [--frames N] [--format]
+-- run CHIP [--frames N] [--format] [--close]
 abbrev pub run_command : App
-run_command = with_rule (with_rule (with_rule (new_app (codes "run")) chip_rule) frames_rule)
-    format_rule
+run_command = with_rule (with_rule (with_rule (with_rule (new_app (codes "run")) chip_rule)
+    frames_rule) (flag_rule (codes "format"))) (flag_rule (codes "close"))
 
 -- serial CHIP
 abbrev pub serial_command : App

@@ -53,13 +53,17 @@ pub record NoChipExamples : Type 0 where
 -- valid words, and what they ask
 pub record WordExamples : Type 0 where
   pub formats : requested (codes "format" ∷ codes "ram:5" ∷ []) ≡ Some (Format 0)
-  pub runs : requested (codes "run" ∷ codes "ram:5" ∷ []) ≡ Some (Run 16 false)
+  pub runs : requested (codes "run" ∷ codes "ram:5" ∷ []) ≡ Some (Run 16 false false)
   pub formats_first : requested (codes "run" ∷ codes "ram:5" ∷ codes "--format" ∷ [])
-      ≡ Some (Run 16 true)
+      ≡ Some (Run 16 true false)
   pub flag_before : requested (codes "run" ∷ codes "--format" ∷ codes "ram:5" ∷ [])
-      ≡ Some (Run 16 true)
+      ≡ Some (Run 16 true false)
   pub chip_behind_dashes : requested (codes "run" ∷ codes "--" ∷ codes "ram:5" ∷ [])
-      ≡ Some (Run 16 false)
+      ≡ Some (Run 16 false false)
+  pub closes : requested (codes "run" ∷ codes "ram:5" ∷ codes "--close" ∷ [])
+      ≡ Some (Run 16 false true)
+  pub formats_and_closes : requested (codes "run" ∷ codes "--close" ∷ codes "ram:5" ∷ codes "--format" ∷ [])
+      ≡ Some (Run 16 true true)
   pub says_its_view : requested (codes "serial" ∷ codes "ram:5" ∷ []) ≡ Some Serial
   pub checks : requested (codes "check" ∷ codes "ram:5" ∷ []) ≡ Some Check
   pub memory : chosen (codes "run" ∷ codes "ram:5" ∷ []) ≡ choice.Ram 5
@@ -83,14 +87,14 @@ run_with words = requested (codes "run" ∷ codes "ram:5" ∷ words)
 
 -- valid words with a number of frames
 pub record FrameExamples : Type 0 where
-  pub least : run_with (codes "--frames" ∷ codes "2" ∷ []) ≡ Some (Run 2 false)
-  pub most : run_with (codes "--frames" ∷ codes "64" ∷ []) ≡ Some (Run 64 false)
-  pub attached : run_with (codes "--frames=16" ∷ []) ≡ Some (Run 16 false)
-  pub plus : run_with (codes "--frames" ∷ codes "+16" ∷ []) ≡ Some (Run 16 false)
-  pub leading_zero : run_with (codes "--frames" ∷ codes "016" ∷ []) ≡ Some (Run 16 false)
-  pub with_format : run_with (codes "--frames=4" ∷ codes "--format" ∷ []) ≡ Some (Run 4 true)
+  pub least : run_with (codes "--frames" ∷ codes "2" ∷ []) ≡ Some (Run 2 false false)
+  pub most : run_with (codes "--frames" ∷ codes "64" ∷ []) ≡ Some (Run 64 false false)
+  pub attached : run_with (codes "--frames=16" ∷ []) ≡ Some (Run 16 false false)
+  pub plus : run_with (codes "--frames" ∷ codes "+16" ∷ []) ≡ Some (Run 16 false false)
+  pub leading_zero : run_with (codes "--frames" ∷ codes "016" ∷ []) ≡ Some (Run 16 false false)
+  pub with_format : run_with (codes "--frames=4" ∷ codes "--format" ∷ []) ≡ Some (Run 4 true false)
   pub before_chip : requested (codes "run" ∷ codes "--frames=4" ∷ codes "ram:5" ∷ [])
-      ≡ Some (Run 4 false)
+      ≡ Some (Run 4 false false)
 
 -- what `trial` asks of a chip with these words behind it
 abbrev pub trial_with : List Text → Option Request
@@ -115,6 +119,9 @@ pub record NoWordExamples : Type 0 where
   pub two_chips : requested (codes "run" ∷ codes "ram:5" ∷ codes "ram:6" ∷ []) ≡ None
   pub other_chip : requested (codes "run" ∷ codes "ram:05" ∷ []) ≡ None
   pub format_flag : requested (codes "format" ∷ codes "ram:5" ∷ codes "--format" ∷ []) ≡ None
+  pub close_flag : requested (codes "format" ∷ codes "ram:5" ∷ codes "--close" ∷ []) ≡ None
+  pub closes_twice : requested (codes "run" ∷ codes "ram:5" ∷ codes "--close" ∷ codes "--close" ∷ [])
+      ≡ None
   pub check_flag : requested (codes "check" ∷ codes "ram:5" ∷ codes "--format" ∷ []) ≡ None
   pub view_flag : requested (codes "serial" ∷ codes "ram:5" ∷ codes "--format" ∷ []) ≡ None
   pub twice : requested (codes "run" ∷ codes "ram:5" ∷ codes "--format" ∷ codes "--format" ∷ [])
@@ -161,5 +168,7 @@ pub record NoTrialExamples : Type 0 where
   pub too_many_frames : trial_with (codes "--seed=1" ∷ codes "--count=3" ∷ codes "--frames=65" ∷ [])
       ≡ None
   pub format_flag : trial_with (codes "--seed=1" ∷ codes "--count=3" ∷ codes "--format" ∷ [])
+      ≡ None
+  pub close_flag : trial_with (codes "--seed=1" ∷ codes "--count=3" ∷ codes "--close" ∷ [])
       ≡ None
   pub seed_at_run : run_with (codes "--seed=1" ∷ []) ≡ None

@@ -18,16 +18,26 @@ use std::alloc::{AllocError, Global};
 #[derive(Clone, Copy, Debug, PartialEq, Eq)]
 pub enum Request {
     /// It is formatted, with so many places kept for those that wear out.
-    Format { spares: u32 },
+    Format {
+        spares: u32,
+    },
     /// A script is run with so many page frames, over a chip that is formatted first where that is
-    /// asked.
-    Run { frames: u32, format: bool },
+    /// asked, and closed at the end where that is.
+    Run {
+        frames: u32,
+        format: bool,
+        close: bool,
+    },
     /// The serial view of a script is said.
     Serial,
     /// It is checked: all that it holds is read, and its records are counted.
     Check,
     /// So many transactions that a seed chooses are run, with so many page frames.
-    Trial { seed: u32, count: u32, frames: u32 },
+    Trial {
+        seed: u32,
+        count: u32,
+        frames: u32,
+    },
 }
 
 /// All that valid words ask.
@@ -102,6 +112,7 @@ fn run_at(matches: &ArgMatches<'_>) -> Request
     Request::Run {
         frames: frames_at(matches),
         format: is_set(matches, "format"),
+        close: is_set(matches, "close"),
     }
 }
 

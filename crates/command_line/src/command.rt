@@ -2,7 +2,7 @@
 ghost use Rattle.std.specs.Prelude.{◌≡◌, IfOk, false};
 ghost use Rattle.clap.specs.Words.{app_of, rule_of};
 ghost use Rattle.clap.specs.declared.builder.command.Command.TheViews.{out-Command as fields_of};
-ghost use Rattle.command_line.specs.Ipl.{chip_rule, format_rule, number_rule, frames_rule, spares_rule};
+ghost use Rattle.command_line.specs.Ipl.{chip_rule, flag_rule, number_rule, frames_rule, spares_rule};
 ghost use Rattle.command_line.specs.Ipl.{wanted_rule, format_command, run_command, serial_command};
 ghost use Rattle.command_line.specs.Ipl.{trial_command, check_command, ipl_command};
 
@@ -18,14 +18,12 @@ fn chip_argument<'a>(alloc: Global) -> Arg<'a>
     Arg::new(alloc, "chip").required(true)
 }
 
-/// `--format`.
-fn format_flag<'a>(alloc: Global) -> Arg<'a>
-    ensures rule { rule_of result ≡ format_rule }
+/// A flag, `--format` or `--close`.
+fn flag<'a>(alloc: Global, id: &'a str) -> Arg<'a>
+    ensures rule { rule_of result ≡ flag_rule id.entry.now }
     ensures local { result.global ≡ false }
 {
-    Arg::new(alloc, "format")
-        .long("format")
-        .action(ArgAction::SetTrue)
+    Arg::new(alloc, id).long(id).action(ArgAction::SetTrue)
 }
 
 /// An option with one value, a number from `low` to `high`.
@@ -72,7 +70,7 @@ fn format_part<'a>(alloc: Global) -> Result<Command<'a>, AllocError>
         .arg(spares_option(alloc))
 }
 
-/// `run CHIP [--frames N] [--format]`.
+/// `run CHIP [--frames N] [--format] [--close]`.
 fn run_part<'a>(alloc: Global) -> Result<Command<'a>, AllocError>
     ensures app { IfOk result (λ c. app_of c ≡ run_command) }
     ensures local { IfOk result (λ c. (fields_of c).has_globals ≡ false) }
@@ -80,7 +78,8 @@ fn run_part<'a>(alloc: Global) -> Result<Command<'a>, AllocError>
     Command::new(alloc, "run")
         .arg(chip_argument(alloc))?
         .arg(frames_option(alloc))?
-        .arg(format_flag(alloc))
+        .arg(flag(alloc, "format"))?
+        .arg(flag(alloc, "close"))
 }
 
 /// `serial CHIP`.

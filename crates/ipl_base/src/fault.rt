@@ -38,6 +38,8 @@ pub enum Refusal {
     PageFull,
     #[error("session {0} is named twice")]
     Twice(u32),
+    #[error("session {0} is open")]
+    SessionsOpen(u32),
 }
 
 /// What a chip did not do, or what it held that it must not hold.

@@ -26,6 +26,7 @@ use Rattle.ipl_meaning.specs.Chart.{chart_of}
 use Rattle.ipl_meaning.specs.Stands.{StandsIn}
 use Rattle.ipl_meaning.specs.Rests.{now, EachStands, EachStandsIn, StoryRests}
 use Rattle.ipl_meaning.specs.FirstTables.{first_layout}
+use Rattle.ipl_meaning.specs.Tables.{Tables, IsCountedClean}
 use Rattle.opening_rules.specs.Chosen.{units_at}
 use Rattle.opening_rules.proofs.LaidLemmas.{laid_says_its_units}
 use Rattle.opening_rules.proofs.MomentLemmas.{moments_as_said}
@@ -34,6 +35,7 @@ use Rattle.unit_io.specs.Leads.{IsSteady}
 use Rattle.unit_io.proofs.LeadsLemmas.{steady_then}
 use Rattle.restart.specs.Events.{format_events}
 use Rattle.restart.specs.Fresh.{Formats}
+use Rattle.status_renewal.specs.Recovers.{TakesMarks}
 use Rattle.store_trait.specs.Keeping.{Stays}
 use Rattle.store_trait.specs.declared.fault.Fault.TheVariants as fault
 use Rattle.store_trait.proofs.OnwardLemmas.{unrisen_later}
@@ -49,7 +51,7 @@ use Rattle.script_store.specs.Keeps.{KeepsScript, script_keeping}
 use Rattle.program_end.specs.declared.end.End.{End}
 use Rattle.program_end.specs.declared.end.End.TheVariants.{Words, Chip, OutOfMemory, Script, Output, TooLong}
 use Rattle.ipl_cli.specs.Ending.{Ending, IsStopped, StopRose, IsUntouched, format_end, units_beside}
-use Rattle.ipl_cli.specs.Top.{Runs, RunsOpened, RunsFormatted, IsLaidOut, LaysOut, IsAbout, StandsAbout, IsBetween, EndsBy, answers, ok_line}
+use Rattle.ipl_cli.specs.Top.{AreMarked, Runs, RunsFrom, RunsOpened, RunsFormatted, IsLaidOut, LaysOut, IsAbout, StandsAbout, IsBetween, EndsBy, answers, ok_line}
 use Rattle.ipl_cli.specs.Runs.{StartsOpened, IsNotOpened, WasFormatted, ending_of}
 
 -- what stands beside the chip is left as it was
@@ -233,10 +235,10 @@ pub all_done : (result : Result (Unit {0}) Stop) → ending_of result ≡ Ok tt 
 all_done (Ok u) is = refl
 all_done (Err s) is = absurd cc
 
-module _ (places units : ℕ) (m : Map) (script : List ℕ) (h : History) (first : Story)
+module _ (marks : Bool) (places units : ℕ) (m : Map) (script : List ℕ) (h : History) (first : Story)
     (silent : pieces first ≡ [])
     (each : AtEachMoment (λ e. EachStandsIn places units m (adds_all e h)) first)
-    (lawful : (base : Story) → IsLawful base → IsLawful (first ++ base)) where
+    (lawful : (base : Story) → IsLawful base → AreClean (AreMarked marks places h) base → IsLawful (first ++ base)) where
   abbrev limits : Limits
   limits = limits_of units
 
@@ -266,7 +268,7 @@ module _ (places units : ℕ) (m : Map) (script : List ℕ) (h : History) (first
 
     pub runs_none : (ending : Ending) → (ending ≡ Ok tt → ⊥)
         → EndsBy ending Resting units m script (pieces first)
-        → Runs places units m script h [] old new ending
+        → Runs marks places units m script h [] old new ending
     runs_none ending unfinished ends = record {
       added = first;
       history = history ∙ ap (option_map (adds_all first)) (same_history old.history);
@@ -289,10 +291,10 @@ module _ (places units : ℕ) (m : Map) (script : List ℕ) (h : History) (first
       all = λ is. absurd (unfinished is);
     }
 
-    pub none_failed : (e : ImageFault) → Runs places units m script h [] old new (Err (Chip e))
+    pub none_failed : (e : ImageFault) → Runs marks places units m script h [] old new (Err (Chip e))
     none_failed e = runs_none (Err (Chip e)) (λ is. cc) none_between
 
-    pub none_wanting : Runs places units m script h [] old new (Err OutOfMemory)
+    pub none_wanting : Runs marks places units m script h [] old new (Err OutOfMemory)
     none_wanting = runs_none (Err OutOfMemory) (λ is. cc) none_between
 
   -- ---- then the script was run
@@ -300,7 +302,8 @@ module _ (places units : ℕ) (m : Map) (script : List ℕ) (h : History) (first
   module _ (old mid new : Told) (before then : ScriptStore)
       (later : old.write_faults ≤ mid.write_faults)
       (told : mid.history ≡ option_map (adds_all first) old.history)
-      (clean : (base : Story) → AreClean ((script_keeping places).clean before) (first ++ base)) where
+      (clean : (base : Story) → AreClean (AreMarked marks places h) base
+      → AreClean ((script_keeping places).clean before) (first ++ base)) where
     module _ (R : History → State → Type 0) (result : Result (Unit {0}) Stop)
         (stays : (k : History) (s : State) → R k s → Stays (script_keeping places) limits then mid new k s)
         (leaves : RunLeaves (script_keeping places) limits (at_rest m) (commands_of script) before
@@ -353,7 +356,7 @@ module _ (places units : ℕ) (m : Map) (script : List ℕ) (h : History) (first
 
       runs_by : (read unread : List ℕ) → script ≡ read ++ unread → new.beside.left ≡ Some unread
           → (is_ok result ≡ true → unread ≡ [])
-          → Runs places units m script h [] old new (ending_of result)
+          → Runs marks places units m script h [] old new (ending_of result)
       runs_by read unread script_is left_is ends = record {
         added = leaves.added ++ first;
         history = leaves.history ∙ ap (option_map (adds_all leaves.added)) told
@@ -364,8 +367,8 @@ module _ (places units : ℕ) (m : Map) (script : List ℕ) (h : History) (first
         is_prefix = subst (λ (bytes : List ℕ). IsPrefix bytes
             (joined_text (answers units m script))) (sym all_said)
             (says_prefix (answers units m script) (pieces leaves.added) leaves.replies);
-        lawful = λ base good. subst IsLawful (sym (append_assoc leaves.added first base))
-            (leaves.lawful.lawful (first ++ base) (lawful base good) (clean base));
+        lawful = λ base good marked. subst IsLawful (sym (append_assoc leaves.added first base))
+            (leaves.lawful.lawful (first ++ base) (lawful base good marked) (clean base marked));
         steady = λ unrisen. subst (λ (k : History). IsSteady k new) all_history
             (steady_near leaves.rests unrisen);
         rests = λ unrisen. subst (λ (k : History). IsAbout (λ s. StoryRests places s.map k) units m
@@ -389,19 +392,27 @@ module _ (places units : ℕ) (m : Map) (script : List ℕ) (h : History) (first
       }
 
     pub runs_ended : Ended (script_keeping places) limits (at_rest m) script before (adds_all first h) then
-        mid new → Runs places units m script h [] old new (Ok tt)
+        mid new → Runs marks places units m script h [] old new (Ok tt)
     runs_ended e = runs_by ((script_keeping places).holds limits then new) (Ok tt) (λ k s held unrisen. held)
         e.leaves script [] (sym (append-nil script)) e.left_is (λ is. refl)
 
     pub runs_stopped : (s : Stop) → Stopped (script_keeping places) limits (at_rest m) (commands_of script)
         script before (adds_all first h) (Stays (script_keeping places) limits then mid new) then mid new s
-        → Runs places units m script h [] old new (ending_of (Err s))
+        → Runs marks places units m script h [] old new (ending_of (Err s))
     runs_stopped s e = runs_by (Stays (script_keeping places) limits then mid new) (Err s)
         (λ k state stays. stays) e.leaves e.read e.rest e.source_is e.left_is (λ is. absurd cc)
 
 -- ---- over a chip that was opened
 
-module _ (old mid : Told) (store : ScriptStore) (s : StartsOpened old store mid) where
+-- what an opening takes from a mark, where marks count, is marked
+pub took_marked : (marks : Bool) (old : Told) (first : Tables) (h : History) → IsSteady h old
+    → TakesMarks marks old.places old first → (base : Story) → AreClean (AreMarked marks old.places h) base
+    → AreClean (IsCountedClean first) base
+took_marked true old first h steady takes base marked p s counted =
+    marked p s (takes.marked _ steady.holds p s counted)
+took_marked false old first h steady takes base marked p s counted = absurd (takes.none refl p s counted)
+
+module _ {marks : Bool} (old mid : Told) (store : ScriptStore) (s : StartsOpened marks old store mid) where
   -- the store has as many units as the chip says
   pub units_told : (h : History) → IsSteady h old
       → store.store.units ≡ units_at (now h) old.places
@@ -411,23 +422,23 @@ module _ (old mid : Told) (store : ScriptStore) (s : StartsOpened old store mid)
   pub opened_keeps : (m : Map) (h : History) (steady : IsSteady h old)
       (rests : StoryRests old.places m h)
       → KeepsScript old.places (limits_of store.store.units) store mid
-      (adds_all (s.tries.steps m h steady rests).added h) (at_rest m)
+      (adds_all (s.tries.steps m h steady rests).2.added h) (at_rest m)
   opened_keeps m h steady rests =
       let made = s.running.sound.made in
-      let did = s.tries.steps m h steady rests in
+      let did = (s.tries.steps m h steady rests).2 in
       let k = adds_all did.added h in record {
         kept = s.opens.keeps m k (held h.start h.story) steady.holds
-            (held_stands old.places m h rests.each) (did.steady tt) (did.ends tt)
-            (did.does.clean refl h.story (λ p q nowhere. absurd nowhere));
+            (held_stands old.places m h rests.each) (did.steady tt) (did.ends tt).rests
+            (did.ends tt).tidy;
         few = omega (arith, made.units, made.geometry.1);
       }
 
   -- an opening leaves as many units at each moment
   pub opened_each : (m : Map) (h : History) (steady : IsSteady h old) (rests : StoryRests old.places m h)
       → AtEachMoment (λ e. EachStandsIn old.places store.store.units m (adds_all e h))
-      (s.tries.steps m h steady rests).added
+      (s.tries.steps m h steady rests).2.added
   opened_each m h steady rests =
-      let did = s.tries.steps m h steady rests in
+      let did = (s.tries.steps m h steady rests).2 in
       subst (λ (n : ℕ). AtEachMoment (λ e. EachStandsIn old.places n m (adds_all e h)) did.added)
       (sym (units_told h steady)) (moments_as_said old.places m h did.added rests did.each_moment)
 
@@ -436,43 +447,45 @@ module _ (old mid : Told) (store : ScriptStore) (s : StartsOpened old store mid)
         → RunsScript (script_keeping old.places) store mid result then new
         → (h : History) (script : List ℕ) → IsSteady h old → old.beside.left ≡ Some script
         → (m : Map) → StoryRests old.places m h
-        → Runs old.places store.store.units m script h [] old new (ending_of result)
+        → Runs marks old.places store.store.units m script h [] old new (ending_of result)
     opened_so (Ok u) run h script steady left m rests =
-        let did = s.tries.steps m h steady rests in
-        runs_ended old.places store.store.units m script h did.added did.does.silent
+        let (took, takes, did) = s.tries.steps m h steady rests in
+        let taken = took_marked marks old took h steady takes in
+        runs_ended marks old.places store.store.units m script h did.added did.does.silent
         (opened_each m h steady rests)
-        (λ base good. did.does.lawful.lawful base good (λ p q nowhere. absurd nowhere))
+        (λ base good marked. did.does.lawful.lawful base good (taken base marked))
         old mid new store then s.tries.accounts.counts.writes did.history
-        (λ base. did.does.clean refl base (λ p q nowhere. absurd nowhere))
+        (λ base marked. did.does.clean refl base (taken base marked))
         (run (limits_of store.store.units) (at_rest m) (adds_all did.added h) (opened_keeps m h
         steady rests) script (left_counts old mid s.tries.accounts.counts ∙ left))
     opened_so (Err e) run h script steady left m rests =
-        let did = s.tries.steps m h steady rests in
-        runs_stopped old.places store.store.units m script h did.added did.does.silent
+        let (took, takes, did) = s.tries.steps m h steady rests in
+        let taken = took_marked marks old took h steady takes in
+        runs_stopped marks old.places store.store.units m script h did.added did.does.silent
         (opened_each m h steady rests)
-        (λ base good. did.does.lawful.lawful base good (λ p q nowhere. absurd nowhere))
+        (λ base good marked. did.does.lawful.lawful base good (taken base marked))
         old mid new store then s.tries.accounts.counts.writes did.history
-        (λ base. did.does.clean refl base (λ p q nowhere. absurd nowhere)) e
+        (λ base marked. did.does.clean refl base (taken base marked)) e
         (run (limits_of store.store.units) (at_rest m) (adds_all did.added h) (opened_keeps m h
         steady rests) script (left_counts old mid s.tries.accounts.counts ∙ left))
 
     pub opened_runs : (result : Result (Unit {0}) Stop)
         → RunsScript (script_keeping mid.places) store mid result then new
-        → RunsOpened old new (ending_of result)
+        → RunsFrom marks old new (ending_of result)
     opened_runs result run = λ h script steady left m rests.
-        subst (λ (n : ℕ). Runs old.places n m script h [] old new (ending_of result))
+        subst (λ (n : ℕ). Runs marks old.places n m script h [] old new (ending_of result))
         (units_told h steady)
         (opened_so result (subst (λ (n : ℕ). RunsScript (script_keeping n) store mid result then new)
         s.tries.accounts.counts.places run) h script steady left m rests)
 
 -- an opening that fails leaves the records
-pub unopened_runs : (old new : Told) (end : End) → (n : IsNotOpened end old new)
-    → RunsOpened old new (Err (Chip n.fault))
-unopened_runs old new end n = λ h script steady left m rests.
-    let did = n.tries.steps m h steady rests in
-    none_failed old.places (units_at (now h) old.places) m script h did.added did.does.silent
+pub unopened_runs : {marks : Bool} (old new : Told) (end : End) → (n : IsNotOpened marks end old new)
+    → RunsFrom marks old new (Err (Chip n.fault))
+unopened_runs {marks} old new end n = λ h script steady left m rests.
+    let (took, takes, did) = n.tries.steps m h steady rests in
+    none_failed marks old.places (units_at (now h) old.places) m script h did.added did.does.silent
     (moments_as_said old.places m h did.added rests did.each_moment)
-    (λ base good. did.does.lawful.lawful base good (λ p q nowhere. absurd nowhere))
+    (λ base good marked. did.does.lawful.lawful base good (took_marked marks old took h steady takes base marked))
     old new did.history (left_counts old new n.tries.accounts.counts ∙ left) did.steady did.ends
     n.fault
 
@@ -497,17 +510,17 @@ module _ (old new : Told) (is : IsUntouched old new) where
 
   pub untouched_runs : RunsOpened old new (Err OutOfMemory)
   untouched_runs = λ h script steady left m rests.
-      none_wanting old.places (units_at (now h) old.places) m script h [] refl
+      none_wanting true old.places (units_at (now h) old.places) m script h [] refl
       (still_each old.places m h rests)
-      (λ base good. good)
+      (λ base good marked. good)
       old new told_still (left_still script left) (λ unrisen. steady_still h steady)
       (λ unrisen. rests)
 
   pub untouched_stops : (e : ImageFault) → RunsOpened old new (Err (Chip e))
   untouched_stops e = λ h script steady left m rests.
-      none_failed old.places (units_at (now h) old.places) m script h [] refl
+      none_failed true old.places (units_at (now h) old.places) m script h [] refl
       (still_each old.places m h rests)
-      (λ base good. good)
+      (λ base good marked. good)
       old new told_still (left_still script left) (λ unrisen. steady_still h steady)
       (λ unrisen. rests) e
 
@@ -551,8 +564,8 @@ module _ (old mid new : Told) (f : WasFormatted old mid) where
 
   -- a run from there on is one after the events of the format
   after_format : {ending : Ending} (script : List ℕ) (h : History)
-      → Runs old.places (units_on old.places) empty script (adds_all first h) [] mid new ending
-      → Runs old.places (units_on old.places) empty script h first old new ending
+      → Runs false old.places (units_on old.places) empty script (adds_all first h) [] mid new ending
+      → Runs false old.places (units_on old.places) empty script h first old new ending
   after_format {ending} script h r = let last : History = adds_all r.added
       (adds_all first h) in record {
         added = r.added;
@@ -561,8 +574,8 @@ module _ (old mid new : Told) (f : WasFormatted old mid) where
         each_moment = r.each_moment;
         replies = r.replies;
         is_prefix = r.is_prefix;
-        lawful = λ base good. r.lawful (first ++ base) (lawful_format h base
-            good);
+        lawful = λ base good marked. r.lawful (first ++ base) (lawful_format h base good)
+            (λ p s none. absurd none);
         steady = λ unrisen. r.steady (earlier unrisen);
         rests = λ unrisen. r.rests (earlier unrisen);
         ends = ends_state (λ s. Unrisen mid new → StoryRests old.places s.map last) (λ s. Unrisen old
@@ -579,13 +592,13 @@ module _ (old mid new : Told) (f : WasFormatted old mid) where
       earlier : Unrisen old new → Unrisen mid new
       earlier = unrisen_later old mid new f.counts.writes
 
-  pub formatted_runs : {ending : Ending} → RunsOpened mid new ending → RunsFormatted old new ending
+  pub formatted_runs : {ending : Ending} → RunsFrom false mid new ending → RunsFormatted old new ending
   formatted_runs {ending} runs = λ h script steady left.
       let fresh = fresh_story h steady in
       after_format script h
-      (subst (λ (n : ℕ). Runs old.places n empty script (adds_all first h) [] mid new ending)
+      (subst (λ (n : ℕ). Runs false old.places n empty script (adds_all first h) [] mid new ending)
       (fresh_units h)
-      (subst (λ (q : ℕ). Runs q (units_at (now (adds_all first h)) q) empty script
+      (subst (λ (q : ℕ). Runs false q (units_at (now (adds_all first h)) q) empty script
       (adds_all first h) [] mid new ending) f.counts.places
       (runs (adds_all first h) script fresh.0
       (left_counts old mid f.counts ∙ left) empty

@@ -4,7 +4,7 @@ use Rattle.chip_trait.specs.Told.{Told}
 use Rattle.command_line.specs.declared.asked.Request.TheVariants.{Format, Run, Serial, Check, Trial}
 use Rattle.script_store.specs.declared.store.ScriptStore.{ScriptStore}
 use Rattle.ipl_cli.specs.Ending.{AskedFor, Ending, but_noted, status_at}
-use Rattle.ipl_cli.specs.Frames.{DoesWith, DoesAsAsked}
+use Rattle.ipl_cli.specs.Frames.{DoesWith, DoesAsAsked, ClosesAsAsked}
 use Rattle.ipl_cli.proofs.StatusLemmas.{done_at_zero}
 
 module _ (old mid new : Told) (only : new ≡ but_noted mid new.beside.noted) where
@@ -25,11 +25,24 @@ module _ (old mid new : Told) (only : new ≡ but_noted mid new.beside.noted) wh
   pub asked_noted : (asked : AskedFor) → DoesAsAsked asked old mid → DoesAsAsked asked old new
   asked_noted None d = tt
   asked_noted (Some (Format spares)) d = tt
-  asked_noted (Some (Run frames true)) d = with_noted _ _ frames d
-  asked_noted (Some (Run frames false)) d = with_noted _ _ frames d
+  asked_noted (Some (Run frames true closes)) d = with_noted _ _ frames d
+  asked_noted (Some (Run frames false closes)) d = with_noted _ _ frames d
   asked_noted (Some Serial) d = tt
   asked_noted (Some Check) d = tt
   asked_noted (Some (Trial seed count frames)) d = with_noted _ _ frames d
+
+  closed_noted : (asked : AskedFor) → ClosesAsAsked asked old mid → ClosesAsAsked asked old new
+  closed_noted None d = tt
+  closed_noted (Some (Format spares)) d = tt
+  closed_noted (Some (Run frames formats closes)) d = λ is.
+      let ends = d is in record {
+        added = ends.added;
+        does = ends.does;
+        history = ap (λ (t : Told). t.history) only ∙ ends.history;
+      }
+  closed_noted (Some Serial) d = tt
+  closed_noted (Some Check) d = tt
+  closed_noted (Some (Trial seed count frames)) d = tt
 
 -- at 0 all was done
 pub done_as_asked : (asked : AskedFor) (ending : Ending) (old mid new : Told) (status : ℕ)
@@ -38,4 +51,12 @@ pub done_as_asked : (asked : AskedFor) (ending : Ending) (old mid new : Told) (s
 done_as_asked asked ending old mid new status did is only zero =
     asked_noted old mid new only asked
     (subst (λ (e : Ending). OnOk e (DoesAsAsked asked old mid))
+    (done_at_zero ending (sym is ∙ zero)) did)
+
+pub closed_as_asked : (asked : AskedFor) (ending : Ending) (old mid new : Told) (status : ℕ)
+    → OnOk ending (ClosesAsAsked asked old mid) → status ≡ status_at ending
+    → new ≡ but_noted mid new.beside.noted → status ≡ 0 → ClosesAsAsked asked old new
+closed_as_asked asked ending old mid new status did is only zero =
+    closed_noted old mid new only asked
+    (subst (λ (e : Ending). OnOk e (ClosesAsAsked asked old mid))
     (done_at_zero ending (sym is ∙ zero)) did)

@@ -1,3 +1,5 @@
+mod CloseLemmas
+mod CountLemmas
 mod EndLemmas
 mod WornLemmas
 mod StartLemmas
@@ -7,6 +9,7 @@ mod SurviveLemmas
 pub mod StatusLemmas
 mod NoteLemmas
 mod FrameLemmas
+mod CalmLemmas
 mod TopLemmas
 mod SayLemmas
 mod ViewLemmas

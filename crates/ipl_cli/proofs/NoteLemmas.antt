@@ -66,20 +66,20 @@ module _ (old mid : Told) (noted : Option (List ℕ)) where
       → RequestCause request end old then
   request_cause request Words c = c
   request_cause (Format spares) (Chip e) c = format_cause spares e c
-  request_cause (Run frames true) (Chip e) c = formatted_cause e c
-  request_cause (Run frames false) (Chip e) c = opened_cause e c
+  request_cause (Run frames true closes) (Chip e) c = formatted_cause e c
+  request_cause (Run frames false closes) (Chip e) c = opened_cause e c
   request_cause Serial (Chip e) c = c
   request_cause Check (Chip e) c = checked_cause old mid noted e c
   request_cause (Trial seed count frames) (Chip e) c = formatted_cause e c
   request_cause request OutOfMemory c = c
   request_cause (Format spares) Script c = c
-  request_cause (Run frames formats) Script c = c
+  request_cause (Run frames formats closes) Script c = c
   request_cause Serial Script c = c
   request_cause Check Script c = c
   request_cause (Trial seed count frames) Script c = c
   request_cause request Output c = c
   request_cause (Format spares) TooLong c = c
-  request_cause (Run frames formats) TooLong c = record { grew = c.grew; told = c.told }
+  request_cause (Run frames formats closes) TooLong c = record { grew = c.grew; told = c.told }
   request_cause Serial TooLong c = record { grew = c.grew; told = c.told }
   request_cause Check TooLong c = c
   request_cause (Trial seed count frames) TooLong c = c
@@ -94,9 +94,9 @@ module _ (old mid : Told) (noted : Option (List ℕ)) where
   steady_noted : {h : History} → IsSteady h mid → IsSteady h then
   steady_noted steady = record { holds = steady.holds; settled = steady.settled }
 
-  runs_noted : {places units : ℕ} {m : Map} {script : List ℕ} {h : History} {first : List _}
-      {ending : Ending} → Runs places units m script h first old mid ending
-      → Runs places units m script h first old then ending
+  runs_noted : {marks : Bool} {places units : ℕ} {m : Map} {script : List ℕ} {h : History} {first : List _}
+      {ending : Ending} → Runs marks places units m script h first old mid ending
+      → Runs marks places units m script h first old then ending
   runs_noted r = record {
     added = r.added;
     history = r.history;
@@ -270,8 +270,8 @@ module _ (old mid : Told) (noted : Option (List ℕ)) where
       → EndLeaves asked ending old then
   end_left None ending l = untouched_noted l
   end_left (Some (Format spares)) ending l = format_left spares ending l
-  end_left (Some (Run frames true)) ending l = formatted_left ending l
-  end_left (Some (Run frames false)) ending l = opened_left ending l
+  end_left (Some (Run frames true closes)) ending l = formatted_left ending l
+  end_left (Some (Run frames false closes)) ending l = opened_left ending l
   end_left (Some Serial) ending l = serial_left old mid noted ending l
   end_left (Some Check) ending l = check_left old mid noted ending l
   end_left (Some (Trial seed count frames)) ending l = trial_left seed count ending l

@@ -1,5 +1,5 @@
 -- Chips that tell what they hold, and maybe no story.
-use Rattle.std.proofs.Common.{◌≡◌, ℕ, [], List, Some, Ok, sym, subst}
+use Rattle.std.proofs.Common.{◌≡◌, ℕ, Bool, true, [], List, Some, Ok, sym, subst}
 use Rattle.std.specs.FinMap.{empty}
 use Rattle.chip_trait.specs.Story.{Contents, held}
 use Rattle.chip_trait.specs.Told.{History, Told, IsConsistent, Unrisen, adds_all}
@@ -21,8 +21,8 @@ steady_start x t consistent told = record { holds = told; settled = consistent.s
 
 module _ (old new : Told) (consistent : IsConsistent old) where
   -- a run that is done leaves what it rests on
-  module _ (units : ℕ) (m : Map) (script : List ℕ) (x : Contents) (first : List _)
-      (r : Runs old.places units m script (starts_at x) first old new (Ok tt))
+  module _ {marks : Bool} (units : ℕ) (m : Map) (script : List ℕ) (x : Contents) (first : List _)
+      (r : Runs marks old.places units m script (starts_at x) first old new (Ok tt))
       (unrisen : Unrisen old new) where
     abbrev last : History
     last = adds_all r.added (adds_all first (starts_at x))
@@ -40,7 +40,7 @@ module _ (old new : Told) (consistent : IsConsistent old) where
       let x = has.contents in
       let runs = subst (λ (e : Ending). RunsOpened old new e) (done_at_zero at.0 (sym at.1)) at.2 in
       holds_records units m script x []
-      (subst (λ (n : ℕ). Runs old.places n m script (starts_at x) [] old new (Ok tt))
+      (subst (λ (n : ℕ). Runs true old.places n m script (starts_at x) [] old new (Ok tt))
       (sym from.units_are)
       (runs (starts_at x) script (steady_start x old consistent has.told) left m
       (images_rest old.places m x has.stands))) unrisen

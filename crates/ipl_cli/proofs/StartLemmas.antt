@@ -1,6 +1,6 @@
 -- How the program starts a run, and why it doesn't.
-use Rattle.std.proofs.Common.{◌≡◌, ◌⊎◌, ◌≤◌, ◌<◌, ◌+◌, ◌-◌, ◌^◌, ℕ, true, false, length, Some, None, Result, Ok, Err, inl, inr, refl, sym, ◌∙◌, ap, subst, arith}
-use Rattle.std.specs.Prelude.{◌&&◌, nat_le, OnOk, IfErr, IsErrOf, is_ok}
+use Rattle.std.proofs.Common.{◌≡◌, ◌⊎◌, ◌≤◌, ◌<◌, ◌+◌, ◌-◌, ◌^◌, ℕ, Bool, true, false, length, Some, None, Result, Ok, Err, inl, inr, refl, sym, ◌∙◌, ap, subst, arith}
+use Rattle.std.specs.Prelude.{◌&&◌, nat_le, OnOk, IfErr, IsErrOf}
 use Rattle.std.proofs.lemmas.Bool.{cases_Bool, cases_eq, and_parts}
 use Rattle.std.proofs.lemmas.Bool.Decides.{nat_tests}
 use Rattle.std.specs.FinMap.{empty}
@@ -36,9 +36,7 @@ use Rattle.opening_rules.proofs.NumberLemmas.{greatest_is_found}
 use Rattle.restart.specs.Events.{format_events}
 use Rattle.restart.specs.Fresh.{IsFresh, Formats, TellsFresh}
 use Rattle.restart.proofs.LookLemmas.{reads_none}
-use Rattle.store_trait.specs.Keeping.{ChipRose, SaysFailedCall, Draws, LeavesTidy, SCRIPT_DRAWS, FOUND_NUMBER}
-use Rattle.store_trait.specs.Onward.{Further}
-use Rattle.store_trait.proofs.DrawLemmas.{numbers_last}
+use Rattle.store_trait.specs.Keeping.{ChipRose, SaysFailedCall, SCRIPT_DRAWS, WORK_DRAWS, FOUND_NUMBER}
 use Rattle.store_trait.specs.declared.fault.Fault.{Fault}
 use Rattle.store_trait.specs.declared.fault.Fault.TheVariants as fault
 use Rattle.place_taking.proofs.SpendingLemmas.{or_right}
@@ -48,7 +46,7 @@ use Rattle.status_renewal.proofs.ReadyLemmas.{layouts_say}
 use Rattle.store_steps.specs.Keeps.{IsWornCount, FaultTells, StoreCause, limits_of}
 use Rattle.script_run.specs.declared.fault.Stop.{Stop}
 use Rattle.script_run.specs.declared.fault.Stop.TheVariants as stop
-use Rattle.script_run.specs.Goes.{StopCause, StopWears, LearnsAlong, KeepsSome, CompletesOver, HasRead, ReadsAll, RunsScript}
+use Rattle.script_run.specs.Goes.{StopCause, StopWears, LearnsAlong, KeepsSome, CompletesOver, ReadsAll}
 use Rattle.page_frames.specs.Pages.{tables_in}
 use Rattle.ipl_store.specs.declared.store.Store.{Store}
 use Rattle.ipl_store.specs.Calls.{counter_of, IsSound}
@@ -62,7 +60,7 @@ use Rattle.program_end.specs.declared.end.End.{End}
 use Rattle.program_end.specs.declared.end.End.TheVariants.{Words, Chip, OutOfMemory, Script, Output, TooLong}
 use Rattle.command_line.specs.declared.asked.Request.TheVariants.{Run}
 use Rattle.ipl_cli.specs.Ending.{Ending, StopsEarly, StopRose, format_end}
-use Rattle.ipl_cli.specs.Top.{IsLaidWell, RestsWithNumbersLeft, IsMetLater, LaidCause, StrayCause, OpenedCause, WornOutCause, AnewCause, FormattedCause, FindsWorn, IsTooLong, RequestCause, EndCause, RunsOpened, IsRefused, OpenedRuns, FormattedLeaves, OpenedLeaves}
+use Rattle.ipl_cli.specs.Top.{IsLaidWell, RestsWithNumbersLeft, IsMetLater, LaidCause, StrayCause, OpenedCause, WornOutCause, AnewCause, FormattedCause, FindsWorn, IsTooLong, RequestCause, EndCause, RunsFrom, RunsOpened, IsRefused, OpenedRuns, FormattedLeaves, OpenedLeaves}
 use Rattle.ipl_cli.specs.Runs.{ClosesFor, StartsOpened, IsNotOpened, WasFormatted, IsNotFormatted, StartsFormatted, IsNotStarted, RunsOver, end_of, ending_of}
 use Rattle.ipl_cli.proofs.WornLemmas.{format_finds, fresh_finds}
 use Rattle.ipl_cli.proofs.EndLemmas.{left_counts, stopped_early, units_told, opened_keeps, opened_runs, unopened_runs, untouched_stops, formatted_runs, fresh_story, fresh_units}
@@ -178,20 +176,11 @@ module _ (t : Told) (sound : RestsWithNumbersLeft t) where
 
 -- ---- a chip that isn't opened
 
-module _ (old new : Told) (end : End) (n : IsNotOpened end old new) where
-  refused : IsRefused n.fault old new
+module _ {marks : Bool} (old new : Told) (end : End) (n : IsNotOpened marks end old new) where
+  pub refused : IsRefused n.fault old new
   refused e has =
       let looked = n.tries.looks has.contents has.told e has.fault in
       (record { read = new; reads = looked.0; noted = refl }, looked.1)
-
-  pub unopened_left : OpenedLeaves (Err end) old new
-  unopened_left = subst (λ (e : End). OpenedLeaves (Err e) old new) (sym n.end_is)
-      (record {
-        runs = unopened_runs old new end n;
-        refused = refused;
-        other = λ misfit. absurd
-            (misfit n.fits);
-      })
 
   -- a fault of how the chip is laid out is its first fault
   laid_cause : (f : ImageFault) → ((c : ChipFault) → f ≡ image.Chip c → ⊥) → n.fault ≡ f
@@ -268,13 +257,22 @@ module _ (old new : Told) (end : End) (n : IsNotOpened end old new) where
   pub unopened_cause : OpenedCause n.fault old new
   unopened_cause = unopened_by n.fault refl n.tries.accounts.cause
 
-  pub unopened_ends : (frames : ℕ) → RequestCause (Run frames false) end old new
-  unopened_ends frames = subst (λ (e : End). RequestCause (Run frames false) e old new)
+  pub unopened_ends : (frames : ℕ) (closes : Bool) → RequestCause (Run frames false closes) end old new
+  unopened_ends frames closes = subst (λ (e : End). RequestCause (Run frames false closes) e old new)
       (sym n.end_is) unopened_cause
+
+-- and it is left so, where its marks count
+pub unopened_left : (old new : Told) (end : End) → IsNotOpened true end old new → OpenedLeaves (Err end) old new
+unopened_left old new end n = subst (λ (e : End). OpenedLeaves (Err e) old new) (sym n.end_is)
+    (record {
+      runs = unopened_runs old new end n;
+      refused = refused old new end n;
+      other = λ misfit. absurd (misfit n.fits);
+    })
 
 -- ---- a chip that is opened
 
-module _ (old mid : Told) (store : ScriptStore) (s : StartsOpened old store mid) where
+module _ {marks : Bool} (old mid : Told) (store : ScriptStore) (s : StartsOpened marks old store mid) where
   opened_laid : IsLaidWell old
   opened_laid x told = let (y, there, is) = s.tries.tells x told in is.none
 
@@ -289,7 +287,7 @@ module _ (old mid : Told) (store : ScriptStore) (s : StartsOpened old store mid)
 
   module _ (then : ScriptStore) (new : Told) where
     abbrev Completes : Stop → Type 0
-    Completes e = CompletesOver (script_keeping mid.places) {T = Unit {0}} SCRIPT_DRAWS store mid
+    Completes e = CompletesOver (script_keeping mid.places) {T = Unit {0}} (SCRIPT_DRAWS + WORK_DRAWS) store mid
         (Err e) then new
 
     -- it keeps the records on which a history rests
@@ -299,7 +297,7 @@ module _ (old mid : Told) (store : ScriptStore) (s : StartsOpened old store mid)
         KeepsSome (script_keeping n) (limits_of store.store.units) store mid)
         (sym s.tries.accounts.counts.places) (record {
           state = at_rest m;
-          history = adds_all (s.tries.steps m h steady rests).added h;
+          history = adds_all (s.tries.steps m h steady rests).2.added h;
           holds = opened_keeps old mid store s m h steady rests;
         })
 
@@ -364,81 +362,84 @@ module _ (old mid : Told) (store : ScriptStore) (s : StartsOpened old store mid)
     image_met (image.NoSpare k) met tells wears cause = inr (met (λ none. none))
 
     -- why the run stops
-    stop_cause : (frames : ℕ) (e : Stop) → Completes e
+    stop_cause : (frames : ℕ) (closes : Bool) (e : Stop) → Completes e
         → StopCause (script_keeping mid.places) mid new e
         → StopWears (script_keeping mid.places) old e new
         → (e ≡ stop.Store fault.Spent → ⊥) → (e ≡ stop.TooLong → IsTooLong mid new)
-        → RequestCause (Run frames false) (end_of e) old new
-    stop_cause frames (stop.Store (fault.Chip c)) completes cause wears unspent long = chip_met c
+        → RequestCause (Run frames false closes) (end_of e) old new
+    stop_cause frames closes (stop.Store (fault.Chip c)) completes cause wears unspent long = chip_met c
         (later (fault.Chip c) completes) (tells_so (fault.Chip c) completes) wears cause
-    stop_cause frames (stop.Store (fault.Image e)) completes cause wears unspent long = image_met e
+    stop_cause frames closes (stop.Store (fault.Image e)) completes cause wears unspent long = image_met e
         (later (fault.Image e) completes) (tells_so (fault.Image e) completes) wears cause
-    stop_cause frames (stop.Store fault.Spent) completes cause wears unspent long =
+    stop_cause frames closes (stop.Store fault.Spent) completes cause wears unspent long =
         absurd (unspent refl)
-    stop_cause frames stop.Script completes cause wears unspent long = script_earlier old mid new
+    stop_cause frames closes stop.Script completes cause wears unspent long = script_earlier old mid new
         s.tries.accounts.counts cause
-    stop_cause frames stop.Output completes cause wears unspent long = says_earlier old mid new
+    stop_cause frames closes stop.Output completes cause wears unspent long = says_earlier old mid new
         s.tries.accounts.counts cause
-    stop_cause frames stop.TooLong completes cause wears unspent long = long_earlier old mid new
+    stop_cause frames closes stop.TooLong completes cause wears unspent long = long_earlier old mid new
         s.tries.accounts.counts (long refl)
 
-    pub over_cause : (frames : ℕ) (result : Result (Unit {0}) Stop)
-        → CompletesOver (script_keeping mid.places) SCRIPT_DRAWS store mid result then new
+    pub over_cause : (frames : ℕ) (closes : Bool) (result : Result (Unit {0}) Stop)
+        → CompletesOver (script_keeping mid.places) (SCRIPT_DRAWS + WORK_DRAWS) store mid result then new
         → IfErr result (λ e. StopCause (script_keeping mid.places) mid new e)
         → LearnsAlong (script_keeping mid.places) store mid result then new
         → (IsErrOf result (stop.Store fault.Spent) → ⊥)
         → (IsErrOf result stop.TooLong → IsTooLong mid new)
-        → EndCause (Some (Run frames false)) (ending_of result) old new
-    over_cause frames (Ok u) completes cause learns unspent long = tt
-    over_cause frames (Err e) completes cause learns unspent long = stop_cause frames e completes
+        → EndCause (Some (Run frames false closes)) (ending_of result) old new
+    over_cause frames closes (Ok u) completes cause learns unspent long = tt
+    over_cause frames closes (Err e) completes cause learns unspent long = stop_cause frames closes e completes
         cause (learns old (opening_knows old mid store s.opens s.tries))
         (λ is. unspent (err_of is)) (λ is. long (err_of is))
 
-    pub opened_cause : (frames : ℕ) (ending : Ending) → RunsOver ending store mid then new
-        → EndCause (Some (Run frames false)) ending old new
-    opened_cause frames ending r = subst (λ (e : Ending). EndCause (Some (Run frames false)) e old
-        new) (sym r.ending_is) (over_cause frames r.result r.completes r.cause r.learns
+    pub opened_cause : (frames : ℕ) (closes : Bool) (ending : Ending) → RunsOver ending store mid then new
+        → EndCause (Some (Run frames false closes)) ending old new
+    opened_cause frames closes ending r = subst (λ (e : Ending). EndCause (Some (Run frames false closes)) e old
+        new) (sym r.ending_is) (over_cause frames closes r.result r.completes r.cause r.learns
         r.unspent r.long)
 
-  -- what is left of it
-  module _ (then : ScriptStore) (new : Told) where
-    stops : (e : ImageFault) → RunsOpened old new (Err (Chip e))
-        → OpenedLeaves (Err (Chip e)) old new
-    stops e runs = record {
-      runs = runs;
-      refused = λ f has. absurd (none_is_some (sym (opened_laid has.contents has.told) ∙
-          has.fault));
-      other = λ misfit. absurd (misfit s.running.sound.made.geometry);
-    }
+  -- all that was left of the script before the opening was read
+  pub read_before : (new : Told) (result : Result (Unit {0}) Stop) → OnOk result (ReadsAll mid new)
+      → OnOk result (ReadsAll old new)
+  read_before new (Ok u) all = λ source told. all source (left_counts old mid s.tries.accounts.counts ∙ told)
+  read_before new (Err e) all = tt
 
-    -- all that was left of the script before the opening was read
-    read_whole : ReadsAll mid new → ReadsAll old new
-    read_whole all = λ source told. all source (left_counts old mid s.tries.accounts.counts ∙ told)
+-- what is left of it, where its marks count
+module _ (old mid : Told) (store : ScriptStore) (s : StartsOpened true old store mid)
+    (then : ScriptStore) (new : Told) where
+  stops : (e : ImageFault) → RunsOpened old new (Err (Chip e))
+      → OpenedLeaves (Err (Chip e)) old new
+  stops e runs = record {
+    runs = runs;
+    refused = λ f has. absurd (none_is_some (sym (opened_laid old mid store s has.contents has.told) ∙
+        has.fault));
+    other = λ misfit. absurd (misfit s.running.sound.made.geometry);
+  }
 
-    ran : (ending : Ending) → RunsOpened old new ending → (ending ≡ Ok tt → ReadsAll old new)
-        → OpenedRuns old new ending
-    ran ending runs read = record {
-      runs = runs;
-      read = read;
-      laid = opened_laid;
-      fits =
-          s.running.sound.made.geometry;
-    }
+  ran : (ending : Ending) → RunsOpened old new ending → (ending ≡ Ok tt → ReadsAll old new)
+      → OpenedRuns old new ending
+  ran ending runs read = record {
+    runs = runs;
+    read = read;
+    laid = opened_laid old mid store s;
+    fits = s.running.sound.made.geometry;
+  }
 
-    leaves_by : (result : Result (Unit {0}) Stop) → RunsOpened old new (ending_of result)
-        → OnOk result (ReadsAll mid new) → OpenedLeaves (ending_of result) old new
-    leaves_by (Ok u) runs all = ran (Ok u) runs (λ is. read_whole all)
-    leaves_by (Err (stop.Store (fault.Chip c))) runs all = stops (image.Chip c) runs
-    leaves_by (Err (stop.Store (fault.Image e))) runs all = stops e runs
-    leaves_by (Err (stop.Store fault.Spent)) runs all = stops image.Spent runs
-    leaves_by (Err stop.Script) runs all = ran (Err Script) runs (λ is. absurd cc)
-    leaves_by (Err stop.Output) runs all = ran (Err Output) runs (λ is. absurd cc)
-    leaves_by (Err stop.TooLong) runs all = ran (Err TooLong) runs (λ is. absurd cc)
+  leaves_by : (result : Result (Unit {0}) Stop) → RunsOpened old new (ending_of result)
+      → OnOk result (ReadsAll old new) → OpenedLeaves (ending_of result) old new
+  leaves_by (Ok u) runs all = ran (Ok u) runs (λ is. all)
+  leaves_by (Err (stop.Store (fault.Chip c))) runs all = stops (image.Chip c) runs
+  leaves_by (Err (stop.Store (fault.Image e))) runs all = stops e runs
+  leaves_by (Err (stop.Store fault.Spent)) runs all = stops image.Spent runs
+  leaves_by (Err stop.Script) runs all = ran (Err Script) runs (λ is. absurd cc)
+  leaves_by (Err stop.Output) runs all = ran (Err Output) runs (λ is. absurd cc)
+  leaves_by (Err stop.TooLong) runs all = ran (Err TooLong) runs (λ is. absurd cc)
 
-    pub opened_left : (ending : Ending) → RunsOver ending store mid then new
-        → OpenedLeaves ending old new
-    opened_left ending r = subst (λ (e : Ending). OpenedLeaves e old new) (sym r.ending_is)
-        (leaves_by r.result (opened_runs old mid store s then new r.result r.runs) r.read)
+  pub opened_left : (ending : Ending) → RunsOver ending store mid then new
+      → OpenedLeaves ending old new
+  opened_left ending r = subst (λ (e : Ending). OpenedLeaves e old new) (sym r.ending_is)
+      (leaves_by r.result (opened_runs old mid store s then new r.result r.runs)
+      (read_before old mid store s new r.result r.read))
 
 -- ---- memory that was wanting, and other numbers of places
 
@@ -458,15 +459,15 @@ module _ (t : Told) where
   closed_left Output c = absurd c
   closed_left TooLong c = absurd c
 
-  pub closed_cause : (frames : ℕ) (end : End) → ClosesFor t.places (Err end)
-      → RequestCause (Run frames false) end t t
-  closed_cause frames Words c = absurd c
-  closed_cause frames (Chip e) c = subst (λ (f : ImageFault). OpenedCause f t t) (sym c.1)
+  pub closed_cause : (frames : ℕ) (closes : Bool) (end : End) → ClosesFor t.places (Err end)
+      → RequestCause (Run frames false closes) end t t
+  closed_cause frames closes Words c = absurd c
+  closed_cause frames closes (Chip e) c = subst (λ (f : ImageFault). OpenedCause f t t) (sym c.1)
       (inl (λ x told. size_first (chart_of x) t.places c.0))
-  closed_cause frames OutOfMemory c = tt
-  closed_cause frames Script c = absurd c
-  closed_cause frames Output c = absurd c
-  closed_cause frames TooLong c = absurd c
+  closed_cause frames closes OutOfMemory c = tt
+  closed_cause frames closes Script c = absurd c
+  closed_cause frames closes Output c = absurd c
+  closed_cause frames closes TooLong c = absurd c
 
   pub unmade_left : (end : End) → ClosesFor t.places (Err end) → FormattedLeaves (Err end) t t
   unmade_left Words c = absurd c
@@ -476,15 +477,15 @@ module _ (t : Told) where
   unmade_left Output c = absurd c
   unmade_left TooLong c = absurd c
 
-  pub unmade_cause : (frames : ℕ) (end : End) → ClosesFor t.places (Err end)
-      → RequestCause (Run frames true) end t t
-  unmade_cause frames Words c = absurd c
-  unmade_cause frames (Chip e) c = subst (λ (f : ImageFault). FormattedCause f t t) (sym c.1)
+  pub unmade_cause : (frames : ℕ) (closes : Bool) (end : End) → ClosesFor t.places (Err end)
+      → RequestCause (Run frames true closes) end t t
+  unmade_cause frames closes Words c = absurd c
+  unmade_cause frames closes (Chip e) c = subst (λ (f : ImageFault). FormattedCause f t t) (sym c.1)
       (inl c.0)
-  unmade_cause frames OutOfMemory c = tt
-  unmade_cause frames Script c = absurd c
-  unmade_cause frames Output c = absurd c
-  unmade_cause frames TooLong c = absurd c
+  unmade_cause frames closes OutOfMemory c = tt
+  unmade_cause frames closes Script c = absurd c
+  unmade_cause frames closes Output c = absurd c
+  unmade_cause frames closes TooLong c = absurd c
 
 -- ---- a chip that is formatted first
 
@@ -577,74 +578,62 @@ module _ (old mid : Told) (f : WasFormatted old mid) where
     anew_by (image.NoSpare k) c = laid_anew (image.NoSpare k) c
 
     -- why a run over it ends
-    ends_anew : (frames : ℕ) (end : End) → RequestCause (Run frames false) end mid new
-        → RequestCause (Run frames true) end old new
-    ends_anew frames Words c = absurd c
-    ends_anew frames (Chip e) c = anew_by e c
-    ends_anew frames OutOfMemory c = tt
-    ends_anew frames Script c = script_earlier old mid new f.counts c
-    ends_anew frames Output c = says_earlier old mid new f.counts c
-    ends_anew frames TooLong c = long_earlier old mid new f.counts c
+    ends_anew : (frames : ℕ) (closes : Bool) (end : End) → RequestCause (Run frames false closes) end mid new
+        → RequestCause (Run frames true closes) end old new
+    ends_anew frames closes Words c = absurd c
+    ends_anew frames closes (Chip e) c = anew_by e c
+    ends_anew frames closes OutOfMemory c = tt
+    ends_anew frames closes Script c = script_earlier old mid new f.counts c
+    ends_anew frames closes Output c = says_earlier old mid new f.counts c
+    ends_anew frames closes TooLong c = long_earlier old mid new f.counts c
 
-    pub unopened_anew : (frames : ℕ) (end : End) → IsNotOpened end mid new
-        → RequestCause (Run frames true) end old new
-    unopened_anew frames end n = ends_anew frames end (unopened_ends mid new end n frames)
+    pub unopened_anew : (frames : ℕ) (closes : Bool) (end : End) → IsNotOpened false end mid new
+        → RequestCause (Run frames true closes) end old new
+    unopened_anew frames closes end n = ends_anew frames closes end (unopened_ends mid new end n frames closes)
 
-    pub unopened_stops : (end : End) → IsNotOpened end mid new → FormattedLeaves (Err end) old new
+    stops_anew : (e : ImageFault) → RunsFrom false mid new (Err (Chip e)) → FormattedLeaves (Err (Chip e)) old new
+    stops_anew e runs = inr (
+      f.fits,
+      λ h script steady left. inl (formatted_runs old mid new f runs h script steady left),
+    )
+
+    pub unopened_stops : (end : End) → IsNotOpened false end mid new → FormattedLeaves (Err end) old new
     unopened_stops end n = subst (λ (e : End). FormattedLeaves (Err e) old new) (sym n.end_is)
-        (inr (
-          f.fits,
-          λ h script steady left. inl (formatted_runs old mid new f
-              (unopened_runs mid new end n) h script steady left),
-        ))
+        (stops_anew n.fault (unopened_runs mid new end n))
 
     -- and what it leaves
-    leaves_anew : (ending : Ending) → (ending ≡ Err OutOfMemory → ⊥) → OpenedLeaves ending mid new
-        → FormattedLeaves ending old new
-    leaves_anew (Ok u) apart l = (
-      formatted_runs old mid new f l.runs,
-      λ source told. l.read refl
-          source (left_counts old mid f.counts ∙ told),
+    leaves_anew : (result : Result (Unit {0}) Stop) → RunsFrom false mid new (ending_of result)
+        → OnOk result (ReadsAll mid new) → FormattedLeaves (ending_of result) old new
+    leaves_anew (Ok u) runs all = (
+      formatted_runs old mid new f runs,
+      λ source told. all source (left_counts old mid f.counts ∙ told),
     )
-    leaves_anew (Err Words) apart l = absurd l
-    leaves_anew (Err (Chip e)) apart l = inr (
-      f.fits,
-      λ h script steady left. inl
-          (formatted_runs old mid new f l.runs h script steady left),
-    )
-    leaves_anew (Err OutOfMemory) apart l = absurd (apart refl)
-    leaves_anew (Err Script) apart l = formatted_runs old mid new f l.runs
-    leaves_anew (Err Output) apart l = formatted_runs old mid new f l.runs
-    leaves_anew (Err TooLong) apart l = formatted_runs old mid new f l.runs
-
--- memory is never wanting in a run
-runs_have_memory : (result : Result (Unit {0}) Stop) → ending_of result ≡ Err OutOfMemory → ⊥
-runs_have_memory (Ok u) is = cc
-runs_have_memory (Err (stop.Store (fault.Chip c))) is = cc
-runs_have_memory (Err (stop.Store (fault.Image e))) is = cc
-runs_have_memory (Err (stop.Store fault.Spent)) is = cc
-runs_have_memory (Err stop.Script) is = cc
-runs_have_memory (Err stop.Output) is = cc
-runs_have_memory (Err stop.TooLong) is = cc
+    leaves_anew (Err (stop.Store (fault.Chip c))) runs all = stops_anew (image.Chip c) runs
+    leaves_anew (Err (stop.Store (fault.Image e))) runs all = stops_anew e runs
+    leaves_anew (Err (stop.Store fault.Spent)) runs all = stops_anew image.Spent runs
+    leaves_anew (Err stop.Script) runs all = formatted_runs old mid new f runs
+    leaves_anew (Err stop.Output) runs all = formatted_runs old mid new f runs
+    leaves_anew (Err stop.TooLong) runs all = formatted_runs old mid new f runs
 
 module _ (old mid : Told) (store : ScriptStore) (s : StartsFormatted old store mid)
     (then : ScriptStore) (new : Told) where
   pub formatted_left : (ending : Ending) → RunsOver ending store mid then new
       → FormattedLeaves ending old new
-  formatted_left ending r = leaves_anew old s.formatted s.formats new ending (λ is. runs_have_memory
-      r.result (sym r.ending_is ∙ is))
-      (opened_left s.formatted mid store s.opened then new ending r)
+  formatted_left ending r = subst (λ (e : Ending). FormattedLeaves e old new) (sym r.ending_is)
+      (leaves_anew old s.formatted s.formats new r.result
+      (opened_runs s.formatted mid store s.opened then new r.result r.runs)
+      (read_before s.formatted mid store s.opened new r.result r.read))
 
-  pub cause_anew : (frames : ℕ) (ending : Ending)
-      → EndCause (Some (Run frames false)) ending s.formatted new
-      → EndCause (Some (Run frames true)) ending old new
-  cause_anew frames (Ok u) c = tt
-  cause_anew frames (Err end) c = ends_anew old s.formatted s.formats new frames end c
+  pub cause_anew : (frames : ℕ) (closes : Bool) (ending : Ending)
+      → EndCause (Some (Run frames false closes)) ending s.formatted new
+      → EndCause (Some (Run frames true closes)) ending old new
+  cause_anew frames closes (Ok u) c = tt
+  cause_anew frames closes (Err end) c = ends_anew old s.formatted s.formats new frames closes end c
 
-  pub formatted_cause : (frames : ℕ) (ending : Ending) → RunsOver ending store mid then new
-      → EndCause (Some (Run frames true)) ending old new
-  formatted_cause frames ending r = cause_anew frames ending (opened_cause s.formatted mid store
-      s.opened then new frames ending r)
+  pub formatted_cause : (frames : ℕ) (closes : Bool) (ending : Ending) → RunsOver ending store mid then new
+      → EndCause (Some (Run frames true closes)) ending old new
+  formatted_cause frames closes ending r = cause_anew frames closes ending (opened_cause s.formatted mid store
+      s.opened then new frames closes ending r)
 
 module _ (old mid : Told) (store : ScriptStore) (s : StartsFormatted old store mid) where
   pub formatted_running : IsRunning mid.places store
@@ -690,10 +679,10 @@ module _ (old new : Told) (end : End) (n : IsNotFormatted end old new) where
             StopsEarly old.places (units_on old.places) h old new (Err last)) is (n.stops h)),
       ))
 
-  pub stopped_cause : (frames : ℕ) → RequestCause (Run frames true) end old new
-  stopped_cause frames =
+  pub stopped_cause : (frames : ℕ) (closes : Bool) → RequestCause (Run frames true closes) end old new
+  stopped_cause frames closes =
       let (e, is, cause) = stopped_end in
-      subst (λ (last : End). RequestCause (Run frames true) last old new) (sym is) cause
+      subst (λ (last : End). RequestCause (Run frames true closes) last old new) (sym is) cause
 
 -- ---- a run that isn't started
 
@@ -704,13 +693,13 @@ module _ (old new : Told) where
   not_started_left end (inr (inl stopped)) = stopped_left old new end stopped
   not_started_left end (inr (inr (formatted, f, n))) = unopened_stops old formatted f new end n
 
-  pub not_started_cause : (frames : ℕ) (end : End) → IsNotStarted end old new
-      → RequestCause (Run frames true) end old new
-  not_started_cause frames end (inl unmade) = subst (RequestCause (Run frames true) end old)
-      (sym unmade.1) (unmade_cause old frames end unmade.0)
-  not_started_cause frames end (inr (inl stopped)) = stopped_cause old new end stopped frames
-  not_started_cause frames end (inr (inr (formatted, f, n))) = unopened_anew old formatted f new
-      frames end n
+  pub not_started_cause : (frames : ℕ) (closes : Bool) (end : End) → IsNotStarted end old new
+      → RequestCause (Run frames true closes) end old new
+  not_started_cause frames closes end (inl unmade) = subst (RequestCause (Run frames true closes) end old)
+      (sym unmade.1) (unmade_cause old frames closes end unmade.0)
+  not_started_cause frames closes end (inr (inl stopped)) = stopped_cause old new end stopped frames closes
+  not_started_cause frames closes end (inr (inr (formatted, f, n))) = unopened_anew old formatted f new
+      frames closes end n
 
 -- ---- as the calls have it
 
@@ -770,10 +759,10 @@ module _ (old new : Told) (fits : IsGeometry old.places) (counts : Counts old ne
   }
 
 -- a chip of which a store was opened
-pub starts_over : (old new : Told) (store : Store) (s : ScriptStore) → s.store ≡ store
+pub starts_over : (marks : Bool) (old new : Told) (store : Store) (s : ScriptStore) → s.store ≡ store
     → IsSound old.places store → Opens old.places old store new
-    → Tries old.places old (Ok tt) (tables_in store.transactions.pages) new → StartsOpened old s new
-starts_over old new store s same sound opens tries =
+    → Tries marks old.places old (Ok tt) (tables_in store.transactions.pages) new → StartsOpened marks old s new
+starts_over marks old new store s same sound opens tries =
     let there : store ≡ s.store = sym same in record {
       running = record {
         sound = subst (IsSound old.places) there sound;
@@ -781,55 +770,6 @@ starts_over old new store s same sound opens tries =
             (λ (it : Store). it.down) same ∙ opens.fresh.up;
       };
       opens = subst (λ (it : Store). Opens old.places old it new) there opens;
-      tries = subst (λ (it : Store). Tries old.places old (Ok tt) (tables_in it.transactions.pages)
+      tries = subst (λ (it : Store). Tries marks old.places old (Ok tt) (tables_in it.transactions.pages)
           new) there tries;
     }
-
--- a run leaves what was noted, and its stops have their causes
-module _ (before then : ScriptStore) (old new : Told) where
-  -- a script that is told has as many bytes as were read of it
-  too_long : Grew old.beside.script_bytes 4294967295 new.beside.script_bytes
-      → HasRead 4294967295 old new → IsTooLong old new
-  too_long grew read = record { grew = grew; told = λ source left. (read source left).1 }
-
-  pub runs_over : (result : Result (Unit {0}) Stop) → next_number before ≤ FOUND_NUMBER
-      → RunsScript (script_keeping old.places) before old result then new
-      → LeavesTidy (script_keeping old.places) before then old new (is_ok result)
-      → Draws (script_keeping old.places) SCRIPT_DRAWS before
-      (IsErrOf result (stop.Store fault.Spent)) then
-      → CompletesOver (script_keeping old.places) SCRIPT_DRAWS before old result then new
-      → Further old new
-      → IfErr result (λ e. StopCause (script_keeping old.places) old new e)
-      → LearnsAlong (script_keeping old.places) before old result then new
-      → (IsErrOf result stop.TooLong → Grew old.beside.script_bytes 4294967295
-      new.beside.script_bytes) → (IsErrOf result stop.TooLong → HasRead 4294967295 old new)
-      → OnOk result (ReadsAll old new)
-      → RunsOver (ending_of result) before old then new
-  runs_over result low run tidy draws completes further cause learns exact long read = record {
-    result = result;
-    ending_is = refl;
-    runs = run;
-    tidy = tidy;
-    completes = completes;
-    cause = cause;
-    learns = learns;
-    unspent = numbers_last draws low;
-    long = λ is. too_long (exact is) (long is);
-    further = further;
-    read = read;
-  }
-
-  -- one that is done read all of the script
-  pub ran_over : next_number before ≤ FOUND_NUMBER
-      → RunsScript (script_keeping old.places) before old (Ok tt) then new
-      → LeavesTidy (script_keeping old.places) before then old new true
-      → Draws (script_keeping old.places) SCRIPT_DRAWS before (IsErrOf {T = Unit {0}} (Ok tt)
-      (stop.Store fault.Spent)) then
-      → CompletesOver (script_keeping old.places) {T = Unit {0}} SCRIPT_DRAWS before old (Ok tt) then
-      new
-      → Further old new
-      → LearnsAlong (script_keeping old.places) {T = Unit {0}} before old (Ok tt) then new
-      → ReadsAll old new → RunsOver (Ok tt) before old then new
-  ran_over low run tidy draws completes further learns read =
-      runs_over (Ok tt) low run tidy draws completes further tt learns (λ is. absurd cc)
-      (λ is. absurd cc) read

@@ -1,5 +1,5 @@
 -- What a power cut leaves of a run, where the chip tells what it holds.
-use Rattle.std.proofs.Common.{◌≡◌, ◌<◌, ℕ, zero, suc, [], ◌++◌, List, Some, Ok, Err, inl, inr, sym, ◌∙◌, ap, subst, refl, arith, append_assoc, ◌≤◌, length}
+use Rattle.std.proofs.Common.{◌≡◌, ◌<◌, ℕ, false, zero, suc, [], ◌++◌, List, Some, Ok, Err, inl, inr, sym, ◌∙◌, ap, subst, refl, arith, append_assoc, ◌≤◌, length}
 use Rattle.std.proofs.lemmas.List.{append-nil, append_cancel_right, length-append, nil_from_length}
 use Rattle.std.specs.Option.{option_map}
 use Rattle.std.specs.FinMap.{empty}
@@ -76,7 +76,7 @@ module _ (old new : Told) where
   module _ (x : Contents) (script : List ℕ) where
     -- the script was run
     run_survives : (ending : Ending)
-        → Runs old.places (units_on old.places) empty script (starts_at x) first old new ending
+        → Runs false old.places (units_on old.places) empty script (starts_at x) first old new ending
         → SurvivesFormat script x old new
     run_survives ending r = record {
       added = r.added ++ first;
@@ -188,5 +188,5 @@ module _ (old new : Told) where
 
   pub formatted_survives : IsConsistent old → (asked : AskedFor) (status : ℕ)
       → Ends asked old new status → AsksFormatted asked → SurvivesAnew old new
-  formatted_survives consistent asked status e (frames, is) = anew_by consistent e.ending
+  formatted_survives consistent asked status e (frames, closes, is) = anew_by consistent e.ending
       (subst (λ (a : AskedFor). EndLeaves a e.ending old new) is e.leaves)

@@ -1,6 +1,5 @@
 -- What the end of the program says.
-use Rattle.std.proofs.Common.{◌≡◌, ◌≢◌, ◌⊎◌, ◌==◌, ◌^◌, ℕ, true, false, Some, None, Result, Ok, Err, inl, inr, refl, sym, ◌∙◌, ap, subst, arith}
-use Rattle.std.proofs.lemmas.Bool.{cases_lt}
+use Rattle.std.proofs.Common.{◌≡◌, ◌≢◌, ◌⊎◌, ◌==◌, ℕ, true, false, Some, None, Result, Ok, Err, inl, inr, refl, sym, ◌∙◌, ap, subst, arith}
 use Rattle.chip_trait.specs.Told.{History, Told, Counts, Rose, Grew, IsConsistent}
 use Rattle.ipl_base.specs.Places.{IsGeometry, IsSpared}
 use Rattle.ipl_base.specs.declared.fault.ChipFault.TheVariants.{ReadFault, Stopped, Damaged, Malformed, WornOut}
@@ -9,12 +8,9 @@ use Rattle.ipl_base.specs.declared.fault.ImageFault.TheVariants as image
 use Rattle.ipl_base.specs.declared.fault.FormatFault.{FormatFault}
 use Rattle.ipl_base.specs.declared.fault.FormatFault.TheVariants as format
 use Rattle.ipl_meaning.specs.Chart.{chart_of}
-use Rattle.opening_rules.specs.Faults.{greatest_found}
 use Rattle.opening_rules.proofs.CauseLemmas.{faults_are_caused}
 use Rattle.restart.specs.Fresh.{Formats}
 use Rattle.restart.proofs.LookLemmas.{reads_none}
-use Rattle.status_renewal.specs.Chains.{starts_at}
-use Rattle.status_renewal.proofs.ChainLemmas.{images_rest}
 use Rattle.script_run.specs.Goes.{ReadsAll}
 use Rattle.script_store.specs.Worn.{WearsOut}
 use Rattle.command_line.specs.declared.asked.Request.{Request}
@@ -25,14 +21,14 @@ use Rattle.ipl_cli.specs.Ending.{AskedFor, AsksOpened, AsksFormatted, AsksAnew, 
 use Rattle.ipl_cli.specs.Trials.{TrialLeaves}
 use Rattle.ipl_cli.specs.Checks.{CheckLeaves}
 use Rattle.ipl_cli.specs.Views.{ViewsTold, OnlyViews, OnlyHears, SerialLeaves}
-use Rattle.ipl_cli.specs.Top.{HasFault, IsStray, IsLaidWell, RestsWithNumbersLeft, LaidCause, FindsWorn, WearsAsAsked, StrayCause, OpenedCause, FormatCause, AnewCause, FormattedCause, ChipCause, IsTooLong, EndCause, RunsOpened, RunsFormatted, LaysOut, OnlyLooks, EndsAtFault, FormatLeaves, FormattedLeaves, OpenedLeaves, EndLeaves, Ends, RefusesFaults, StrayCause, SpentCause, IsMetLater, IsUnfit, IsSilent, LacksUnits, EndsUnfit, UntouchedOrRuns, IsCalm, IsTold, Suffices, EndsInTime}
+use Rattle.ipl_cli.specs.Top.{HasFault, IsStray, IsLaidWell, LaidCause, FindsWorn, WearsAsAsked, StrayCause, OpenedCause, FormatCause, AnewCause, FormattedCause, ChipCause, IsTooLong, EndCause, RunsOpened, RunsFormatted, LaysOut, OnlyLooks, EndsAtFault, FormatLeaves, FormattedLeaves, OpenedLeaves, EndLeaves, Ends, RefusesFaults, StrayCause, SpentCause, LacksUnits, EndsUnfit, UntouchedOrRuns, IsCalm, Suffices, EndsInTime}
 use Rattle.ipl_cli.proofs.EndLemmas.{stopped_early, untouched_runs}
 use Rattle.ipl_cli.proofs.WornLemmas.{format_finds}
-use Rattle.ipl_cli.proofs.StartLemmas.{opened_excused, stands_well}
+use Rattle.ipl_cli.proofs.StartLemmas.{stands_well}
 use Rattle.ipl_cli.proofs.ViewLemmas.{untouched_hears, hears_views, hears_only}
-use Rattle.ipl_cli.proofs.CheckLemmas.{checked_chip, checked_worn, checked_spent, checked_stray, checked_never}
-use Rattle.ipl_cli.proofs.RecordLemmas.{steady_start}
+use Rattle.ipl_cli.proofs.CheckLemmas.{checked_chip, checked_worn, checked_spent, checked_stray}
 use Rattle.ipl_cli.proofs.StatusLemmas.{chip_status, above_zero, not_zero}
+use Rattle.ipl_cli.proofs.CalmLemmas.{stray_unfit, spent_unfit, anew_silent, complete_by}
 
 -- ---- a format that fails
 
@@ -43,8 +39,8 @@ untouched old new is = subst (λ (t : Told). t ≡ but_noted old t.beside.noted)
 pub no_memory : (asked : AskedFor) (t : Told) → EndLeaves asked (Err OutOfMemory) t t
 no_memory None t = refl
 no_memory (Some (Format spares)) t = refl
-no_memory (Some (Run frames true)) t = refl
-no_memory (Some (Run frames false)) t = refl
+no_memory (Some (Run frames true closes)) t = refl
+no_memory (Some (Run frames false closes)) t = refl
 no_memory (Some Serial) t = untouched_hears t t refl
 no_memory (Some Check) t = refl
 no_memory (Some (Trial seed count frames)) t = refl
@@ -372,49 +368,49 @@ module _ (asked : AskedFor) (old new : Told) (status : ℕ) (e : Ends asked old 
   leaves_of request is = subst (λ (a : AskedFor). EndLeaves a e.ending old new) is e.leaves
 
   pub end_opened : AsksOpened asked → AtStatus (RunsOpened old new) status
-  end_opened (frames, is) = (
+  end_opened (frames, closes, is) = (
     e.ending,
     e.status_is,
     opened_by old new e.ending
-        (leaves_of (Run frames false) is),
+        (leaves_of (Run frames false closes) is),
   )
 
   pub end_refuses : AsksOpened asked → RefusesFaults old new status
-  end_refuses (frames, is) = subst (RefusesFaults old new) (sym e.status_is) (refuses_by old new
-      e.ending (leaves_of (Run frames false) is))
+  end_refuses (frames, closes, is) = subst (RefusesFaults old new) (sym e.status_is) (refuses_by old new
+      e.ending (leaves_of (Run frames false closes) is))
 
   pub end_laid : AsksOpened asked → (status ≡ 0) ⊎ (status ≡ 6) ⊎ (status ≡ 7) ⊎ (status ≡ 8)
       → IsLaidWell old × IsGeometry old.places
-  end_laid (frames, is) at = laid_by old new e.ending (leaves_of (Run frames false) is)
+  end_laid (frames, closes, is) at = laid_by old new e.ending (leaves_of (Run frames false closes) is)
       (rw e.status_is at at)
 
   pub end_read : AsksOpened asked ⊎ AsksFormatted asked → status ≡ 0 → ReadsAll old new
-  end_read (inl (frames, is)) at = opened_read old new e.ending (leaves_of (Run frames false) is)
+  end_read (inl (frames, closes, is)) at = opened_read old new e.ending (leaves_of (Run frames false closes) is)
       (sym e.status_is ∙ at)
-  end_read (inr (frames, is)) at = formatted_read old new e.ending (leaves_of (Run frames true) is)
+  end_read (inr (frames, closes, is)) at = formatted_read old new e.ending (leaves_of (Run frames true closes) is)
       (sym e.status_is ∙ at)
 
   pub end_formatted : AsksFormatted asked → status ≡ 0 → RunsFormatted old new (Ok tt)
-  end_formatted (frames, is) at = formatted_by old new e.ending (leaves_of (Run frames true) is)
+  end_formatted (frames, closes, is) at = formatted_by old new e.ending (leaves_of (Run frames true closes) is)
       (sym e.status_is ∙ at)
 
   pub end_part : AsksFormatted asked → (status ≡ 6) ⊎ (status ≡ 7) ⊎ (status ≡ 8)
       → AtStatus (RunsFormatted old new) status
-  end_part (frames, is) at = (
+  end_part (frames, closes, is) at = (
     e.ending,
     e.status_is,
     part_by old new e.ending
-        (leaves_of (Run frames true) is) (rw e.status_is at at),
+        (leaves_of (Run frames true closes) is) (rw e.status_is at at),
   )
 
   pub end_stops : AsksFormatted asked
       → (status ≡ 3) ⊎ (status ≡ 4) ⊎ (status ≡ 9) ⊎ (status ≡ 10)
       → AtStatus (UntouchedOrRuns old new) status
-  end_stops (frames, is) at = (
+  end_stops (frames, closes, is) at = (
     e.ending,
     e.status_is,
     stops_by old new e.ending
-        (leaves_of (Run frames true) is) (rw e.status_is at at),
+        (leaves_of (Run frames true closes) is) (rw e.status_is at at),
   )
 
   pub end_trials : (seed count frames : ℕ) → asked ≡ Some (Trial seed count frames)
@@ -464,10 +460,10 @@ module _ (old new : Told) where
   wanting_by (Some request) (Err (Chip e)) c l is = absurd (omega (arith, is, chip_status e))
   wanting_by (Some (Format spares)) (Err OutOfMemory) c l is = wanting_untouched
       (Some (Format spares)) l
-  wanting_by (Some (Run frames true)) (Err OutOfMemory) c l is = wanting_untouched
-      (Some (Run frames true)) l
-  wanting_by (Some (Run frames false)) (Err OutOfMemory) c l is = wanting_untouched
-      (Some (Run frames false)) l
+  wanting_by (Some (Run frames true closes)) (Err OutOfMemory) c l is = wanting_untouched
+      (Some (Run frames true closes)) l
+  wanting_by (Some (Run frames false closes)) (Err OutOfMemory) c l is = wanting_untouched
+      (Some (Run frames false closes)) l
   wanting_by (Some (Trial seed count frames)) (Err OutOfMemory) c l is = wanting_untouched
       (Some (Trial seed count frames)) l
   wanting_by (Some Serial) (Err OutOfMemory) c l is = (l, λ apart. absurd (apart refl))
@@ -513,10 +509,10 @@ module _ (old new : Told) where
       → EndLeaves (Some request) (Err (Chip e)) old new → fault_status e ≡ 4
       → IsMisfit (Some request) → IsUntouched old new
   chip_other (Format spares) e c l is misfit = format_other spares e c l is
-  chip_other (Run frames true) e c l is misfit =
-      formatted_other e l (outside (Run frames true) (λ spares same. cc) misfit)
-  chip_other (Run frames false) e c l is misfit =
-      l.other (outside (Run frames false) (λ spares same. cc) misfit)
+  chip_other (Run frames true closes) e c l is misfit =
+      formatted_other e l (outside (Run frames true closes) (λ spares same. cc) misfit)
+  chip_other (Run frames false closes) e c l is misfit =
+      l.other (outside (Run frames false closes) (λ spares same. cc) misfit)
   chip_other Serial e c l is misfit = l
   chip_other Check e c l is misfit = l.other (outside Check (λ spares same. cc) misfit)
   chip_other (Trial seed count frames) e c l is misfit = trial_other seed count e l
@@ -556,8 +552,8 @@ module _ (old new : Told) where
   chip_by : (request : Request) (e : ImageFault) → ChipCause request e old new → fault_status e ≡ 3
       → CallFailed old new
   chip_by (Format spares) e c is = inr ((format_image old new spares e c).1 is)
-  chip_by (Run frames true) e c is = formatted_chip old new e c is
-  chip_by (Run frames false) e c is = opened_chip old new e c is
+  chip_by (Run frames true closes) e c is = formatted_chip old new e c is
+  chip_by (Run frames false closes) e c is = opened_chip old new e c is
   chip_by (Trial seed count frames) e c is = formatted_chip old new e c is
   chip_by Serial e c is = absurd (omega (arith, is, ap fault_status c.0))
   chip_by Check e c is = inl (checked_chip old new e c is)
@@ -565,8 +561,8 @@ module _ (old new : Told) where
   worn_by : (request : Request) (e : ImageFault) → ChipCause request e old new → fault_status e ≡ 10
       → Rose old.worn_erases new.worn_erases × WearsAsAsked (Some request) old new
   worn_by (Format spares) e c is = format_worn old new spares e c is
-  worn_by (Run frames true) e c is = formatted_worn old new e c is
-  worn_by (Run frames false) e c is = opened_worn old new e c is
+  worn_by (Run frames true closes) e c is = formatted_worn old new e c is
+  worn_by (Run frames false closes) e c is = opened_worn old new e c is
   worn_by (Trial seed count frames) e c is = formatted_worn old new e c is
   worn_by Serial e c is = absurd (omega (arith, is, ap fault_status c.0))
   worn_by Check e c is = absurd (checked_worn old new e c is)
@@ -580,16 +576,16 @@ module _ (old new : Told) where
       → Imaged (Some request)
   image_by (Format spares) e c is =
       inr (inl (spares, refl, (format_image old new spares e c).0 is))
-  image_by (Run frames true) e c is = elim (formatted_image old new e c is) [
+  image_by (Run frames true closes) e c is = elim (formatted_image old new e c is) [
     | inl other ↦ inl other
-    | inr anew ↦ inr (inr (inr (inl (inl (frames, refl), anew))))
+    | inr anew ↦ inr (inr (inr (inl (inl (frames, closes, refl), anew))))
   ]
   image_by (Trial seed count frames) e c is = elim (formatted_image old new e c is) [
     | inl other ↦ inl other
     | inr anew ↦ inr (inr (inr (inl (inr (seed, count, frames, refl), anew))))
   ]
-  image_by (Run frames false) e c is =
-      inr (inr (inl ((frames, refl), opened_image old new e c is)))
+  image_by (Run frames false closes) e c is =
+      inr (inr (inl ((frames, closes, refl), opened_image old new e c is)))
   image_by Serial e c is = inl c.1
   image_by Check e c is = inr (inr (inr (inr (refl, checked_stray old new e c is))))
 
@@ -599,13 +595,13 @@ module _ (old new : Told) where
   spent_by : (request : Request) (e : ImageFault) → ChipCause request e old new → fault_status e ≡ 9
       → Spends (Some request)
   spent_by (Format spares) e c is = absurd ((format_image old new spares e c).2 is)
-  spent_by (Run frames true) e c is = inr (inl (frames, refl), formatted_spent old new e c is)
+  spent_by (Run frames true closes) e c is = inr (inl (frames, closes, refl), formatted_spent old new e c is)
   spent_by (Trial seed count frames) e c is = inr (
     inr (seed, count, frames, refl),
     formatted_spent
         old new e c is,
   )
-  spent_by (Run frames false) e c is = inl ((frames, refl), opened_spent old new e c is)
+  spent_by (Run frames false closes) e c is = inl ((frames, closes, refl), opened_spent old new e c is)
   spent_by Serial e c is = absurd (omega (arith, is, ap fault_status c.0))
   spent_by Check e c is = absurd (checked_spent old new e c is)
 
@@ -631,7 +627,7 @@ module _ (old new : Told) where
   script_by (Some request) (Err (Chip e)) c is = absurd (omega (arith, is, chip_status e))
   script_by (Some request) (Err OutOfMemory) c is = absurd (omega (arith, is))
   script_by (Some (Format spares)) (Err Script) c is = absurd c
-  script_by (Some (Run frames formats)) (Err Script) c is = c
+  script_by (Some (Run frames formats closes)) (Err Script) c is = c
   script_by (Some Serial) (Err Script) c is = c
   script_by (Some Check) (Err Script) c is = absurd c
   script_by (Some (Trial seed count frames)) (Err Script) c is = absurd c
@@ -659,116 +655,12 @@ module _ (old new : Told) where
   long_by (Some request) (Err Script) c is = absurd (omega (arith, is))
   long_by (Some request) (Err Output) c is = absurd (omega (arith, is))
   long_by (Some (Format spares)) (Err TooLong) c is = absurd c
-  long_by (Some (Run frames formats)) (Err TooLong) c is = c
+  long_by (Some (Run frames formats closes)) (Err TooLong) c is = c
   long_by (Some Serial) (Err TooLong) c is = c
   long_by (Some Check) (Err TooLong) c is = absurd c
   long_by (Some (Trial seed count frames)) (Err TooLong) c is = absurd c
 
--- ---- what a chip held at which a run ended with 4 or 9
-
-module _ (old : Told) (consistent : IsConsistent old) where
-  met_unfit : IsMetLater old → IsUnfit old
-  met_unfit met x told m stands = elim (cases_lt (greatest_found (chart_of x) old.places) (2 ^ 62)) [
-    | inl low ↦ absurd (met.unsound (record {
-      map = m;
-      history = starts_at x;
-      steady = steady_start x old consistent told;
-      rests = images_rest old.places m x stands;
-      left = low;
-    }))
-    | inr high ↦ high
-  ]
-
-  stray_unfit : StrayCause old → IsUnfit old
-  stray_unfit (inl stray) = λ x told m stands. absurd (stray x told m stands)
-  stray_unfit (inr met) = met_unfit met
-
-  spent_unfit : SpentCause old → IsUnfit old
-  spent_unfit (inl spent) = λ x told m stands. let high = spent x told in omega (arith, high)
-  spent_unfit (inr met) = met_unfit met
-
-  anew_silent : AnewCause old → IsSilent old
-  anew_silent anew x told = anew (starts_at x) (steady_start x old consistent told)
-
--- ---- completeness
-
-module _ (old new : Told) (consistent : IsConsistent old) (calm : IsCalm old new) where
-  -- no other fault of the chip ends it than that too many places are worn
-  format_ends : (spares : ℕ) → IsSpared old.places spares → (e : ImageFault)
-      → FormatCause spares e old new → fault_status e ≡ 10
-  format_ends spares fits image.Geometry c = absurd (c fits)
-  format_ends spares fits image.NotFormatted c = absurd c
-  format_ends spares fits (image.Missing u) c = absurd c
-  format_ends spares fits (image.Chip ReadFault) c = absurd c
-  format_ends spares fits (image.Chip Stopped) c = absurd (calm.writes c)
-  format_ends spares fits (image.Chip (Damaged p s stored computed)) c = absurd c
-  format_ends spares fits (image.Chip (Malformed p s)) c = absurd c
-  format_ends spares fits (image.Chip (WornOut n)) c = refl
-  format_ends spares fits image.Spent c = absurd c
-  format_ends spares fits (image.NoSpare n) c = absurd c
-
-  anew_never : IsTold old → ¬ AnewCause old
-  anew_never told anew = anew (starts_at told.contents)
-      (steady_start told.contents old consistent told.told)
-
-  geometry_never : IsTold old → ¬ ((¬ IsGeometry old.places) ⊎ AnewCause old)
-  geometry_never told (inl other) = other told.fits
-  geometry_never told (inr anew) = anew_never told anew
-
-  formatted_ends : IsTold old → (e : ImageFault) → FormattedCause e old new → fault_status e ≡ 10
-  formatted_ends told image.Geometry c = absurd (geometry_never told c)
-  formatted_ends told image.NotFormatted c = absurd (anew_never told c)
-  formatted_ends told (image.Missing u) c = absurd (anew_never told c)
-  formatted_ends told (image.Chip ReadFault) c = absurd (calm.reads c)
-  formatted_ends told (image.Chip Stopped) c = absurd (calm.writes c)
-  formatted_ends told (image.Chip (Damaged p s stored computed)) c = absurd (anew_never told c.1)
-  formatted_ends told (image.Chip (Malformed p s)) c = absurd (anew_never told c)
-  formatted_ends told (image.Chip (WornOut n)) c = refl
-  formatted_ends told image.Spent c = absurd (anew_never told c)
-  formatted_ends told (image.NoSpare n) c = absurd (anew_never told c)
-
-  opened_ends : RestsWithNumbersLeft old → (e : ImageFault) → OpenedCause e old new
-      → fault_status e ≡ 10
-  opened_ends sound e c = elim (opened_excused old sound e new c) [
-    | inl read ↦ absurd (calm.reads read)
-    | inr other ↦ elim other [
-      | inl written ↦ absurd (calm.writes written)
-      | inr worn ↦ worn
-    ]
-  ]
-
-  chip_ends : (request : Request) → Suffices request old → (e : ImageFault)
-      → ChipCause request e old new → fault_status e ≡ 10
-  chip_ends (Format spares) holds e c = format_ends spares holds e c
-  chip_ends (Run frames true) holds e c = formatted_ends holds e c
-  chip_ends (Run frames false) holds e c = opened_ends holds e c
-  chip_ends Serial holds e c = absurd (c.1 holds)
-  chip_ends Check holds e c = absurd (checked_never old new calm holds e c)
-  chip_ends (Trial seed count frames) holds e c = formatted_ends holds e c
-
-  never_long : EndsInTime old new → ¬ IsTooLong old new
-  never_long (inl short) long = omega (arith, short, long.grew.at_least)
-  never_long (inr (source, told, short)) long = let many = long.told source told in omega
-      (arith, short, many)
-
-  complete_by : (request : Request) → Suffices request old → EndsInTime old new → (ending : Ending)
-      → EndCause (Some request) ending old new
-      → (status_at ending ≡ 0) ⊎ (status_at ending ≡ 5) ⊎ (status_at ending ≡ 10)
-  complete_by request holds time (Ok u) c = inl refl
-  complete_by request holds time (Err Words) c = absurd c
-  complete_by request holds time (Err (Chip e)) c = inr (inr (chip_ends request holds e c))
-  complete_by request holds time (Err OutOfMemory) c = inr (inl refl)
-  complete_by (Format spares) holds time (Err Script) c = absurd c
-  complete_by (Run frames formats) holds time (Err Script) c = absurd (calm.script c)
-  complete_by Serial holds time (Err Script) c = absurd (calm.script c)
-  complete_by Check holds time (Err Script) c = absurd c
-  complete_by (Trial seed count frames) holds time (Err Script) c = absurd c
-  complete_by request holds time (Err Output) c = absurd (calm.says c)
-  complete_by (Format spares) holds time (Err TooLong) c = absurd c
-  complete_by (Run frames formats) holds time (Err TooLong) c = absurd (never_long time c)
-  complete_by Serial holds time (Err TooLong) c = absurd (never_long time c)
-  complete_by Check holds time (Err TooLong) c = absurd c
-  complete_by (Trial seed count frames) holds time (Err TooLong) c = absurd c
+-- ---- as it was asked
 
 module _ (asked : AskedFor) (old new : Told) (status : ℕ) (e : Ends asked old new status) where
   pub end_early : status ≡ 2 → IsUntouched old new

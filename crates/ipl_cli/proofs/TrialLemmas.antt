@@ -1,5 +1,5 @@
 -- What a trial leaves, and why it ends.
-use Rattle.std.proofs.Common.{◌≡◌, ◌≤◌, ℕ, true, [], ◌∷◌, List, ◌++◌, Some, Result, Ok, Err, inl, inr, refl, sym, ◌∙◌, ap, subst, append_assoc}
+use Rattle.std.proofs.Common.{◌≡◌, ◌≤◌, ℕ, true, false, [], ◌∷◌, List, ◌++◌, Some, Result, Ok, Err, inl, inr, refl, sym, ◌∙◌, ap, subst, append_assoc, arith}
 use Rattle.std.specs.Prelude.{IfErr, IsErrOf}
 use Rattle.std.specs.FinMap.{empty}
 use Rattle.std.specs.Option.{option_map}
@@ -46,7 +46,8 @@ use Rattle.ipl_cli.specs.Ending.{Ending, StopsEarly}
 use Rattle.ipl_cli.specs.Top.{IsTooLong, RequestCause, EndCause}
 use Rattle.ipl_cli.specs.Trials.{commands_on, state_after, summary, StandsBehind, EndsAlong, EndsTrial, Trials, TrialsFormatted, TrialLeaves}
 use Rattle.ipl_cli.specs.Runs.{ClosesFor, StartsOpened, IsNotOpened, WasFormatted, StartsFormatted, IsNotStarted, TriesOver, ending_of}
-use Rattle.ipl_cli.proofs.EndLemmas.{Kept, kept, pieces_behind, history_behind, all_done, left_counts, units_told, opened_keeps, opened_each, fresh_story, fresh_units, told_format, lawful_format}
+use Rattle.ipl_cli.proofs.EndLemmas.{Kept, kept, pieces_behind, history_behind, all_done, left_counts, units_told, opened_keeps, opened_each, took_marked, fresh_story, fresh_units, told_format, lawful_format}
+use Rattle.script_run.proofs.CompleteLemmas.{completes_more}
 use Rattle.ipl_cli.proofs.StartLemmas.{cause_anew, over_cause, not_started_cause, stopped_end}
 
 -- ---- what the chip stands for
@@ -220,7 +221,7 @@ TrialsOpened seed count old new ending = (h : History) → IsSteady h old
     → StoryRests old.places empty h → units_at (now h) old.places ≡ units_on old.places
     → Trials old.places (commands_on old.places seed count) h [] old new ending
 
-module _ (old mid : Told) (store : ScriptStore) (s : StartsOpened old store mid)
+module _ (old mid : Told) (store : ScriptStore) (s : StartsOpened false old store mid)
     (then : ScriptStore) (new : Told) (seed count : ℕ) (onward : Onward mid new) where
   left_alone : new.beside.left ≡ old.beside.left
   left_alone = ap (λ (b : Beside). b.left) onward.keeps ∙ left_counts old mid
@@ -230,18 +231,18 @@ module _ (old mid : Told) (store : ScriptStore) (s : StartsOpened old store mid)
   keeps_none : (h : History) (steady : IsSteady h old) (rests : StoryRests old.places empty h)
       → store.store.units ≡ units_on old.places
       → KeepsScript old.places (limits_of (units_on old.places)) store mid
-      (adds_all (s.tries.steps empty h steady rests).added h) (at_rest empty)
+      (adds_all (s.tries.steps empty h steady rests).2.added h) (at_rest empty)
   keeps_none h steady rests many = subst (λ (u : ℕ). KeepsScript old.places (limits_of u) store mid
-      (adds_all (s.tries.steps empty h steady rests).added h) (at_rest empty)) many
+      (adds_all (s.tries.steps empty h steady rests).2.added h) (at_rest empty)) many
       (opened_keeps old mid store s empty h steady rests)
 
   -- an opening leaves all units at each moment
   opened_all : (h : History) (steady : IsSteady h old) (rests : StoryRests old.places empty h)
       → store.store.units ≡ units_on old.places
       → AtEachMoment (λ e. EachStandsIn old.places (units_on old.places) empty (adds_all e h))
-      (s.tries.steps empty h steady rests).added
+      (s.tries.steps empty h steady rests).2.added
   opened_all h steady rests many = subst (λ (n : ℕ). AtEachMoment (λ e. EachStandsIn old.places n empty
-      (adds_all e h)) (s.tries.steps empty h steady rests).added) many
+      (adds_all e h)) (s.tries.steps empty h steady rests).2.added) many
       (opened_each old mid store s empty h steady rests)
 
   abbrev Ran : Result (Unit {0}) Stop → ℕ → Type 0
@@ -253,23 +254,25 @@ module _ (old mid : Told) (store : ScriptStore) (s : StartsOpened old store mid)
       → store.store.units ≡ units_on old.places
       → Trials old.places (commands_on old.places seed count) h [] old new (ending_of result)
   opened_so (Ok u) run h steady rests many =
-      let did = s.tries.steps empty h steady rests in
+      let (took, takes, did) = s.tries.steps empty h steady rests in
+      let taken = took_marked false old took h steady takes in
       tried_by old.places (commands_on old.places seed count) h did.added did.does.silent
       (opened_all h steady rests many)
-      (λ base good. did.does.lawful.lawful base good (λ p q nowhere. absurd nowhere))
+      (λ base good. did.does.lawful.lawful base good (taken base (λ p q none. absurd none)))
       old mid new store then s.tries.accounts.counts.writes
-      did.history (λ base. did.does.clean refl base (λ p q nowhere. absurd nowhere)) left_alone
+      did.history (λ base. did.does.clean refl base (taken base (λ p q none. absurd none))) left_alone
       (KeepsScript old.places (limits_of (units_on old.places)) then new) (Ok tt)
       (λ k state held unrisen. held)
       (run (limits_of (units_on old.places)) (at_rest empty) (adds_all did.added h)
       (keeps_none h steady rests many))
   opened_so (Err e) run h steady rests many =
-      let did = s.tries.steps empty h steady rests in
+      let (took, takes, did) = s.tries.steps empty h steady rests in
+      let taken = took_marked false old took h steady takes in
       tried_by old.places (commands_on old.places seed count) h did.added did.does.silent
       (opened_all h steady rests many)
-      (λ base good. did.does.lawful.lawful base good (λ p q nowhere. absurd nowhere))
+      (λ base good. did.does.lawful.lawful base good (taken base (λ p q none. absurd none)))
       old mid new store then s.tries.accounts.counts.writes
-      did.history (λ base. did.does.clean refl base (λ p q nowhere. absurd nowhere)) left_alone
+      did.history (λ base. did.does.clean refl base (taken base (λ p q none. absurd none))) left_alone
       (Stays (script_keeping old.places) (limits_of (units_on old.places)) then mid new) (Err e)
       (λ k state stays. stays)
       (run (limits_of (units_on old.places)) (at_rest empty) (adds_all did.added h)
@@ -286,13 +289,14 @@ module _ (old mid : Told) (store : ScriptStore) (s : StartsOpened old store mid)
 
 -- an opening that fails leaves no records
 unopened_trial : (seed count : ℕ) (old new : Told) (end : End)
-    → (n : IsNotOpened end old new) → TrialsOpened seed count old new (Err (Chip n.fault))
+    → (n : IsNotOpened false end old new) → TrialsOpened seed count old new (Err (Chip n.fault))
 unopened_trial seed count old new end n = λ h steady rests all.
-    let did = n.tries.steps empty h steady rests in
+    let (took, takes, did) = n.tries.steps empty h steady rests in
     none_tried old.places (commands_on old.places seed count) h did.added did.does.silent
     (subst (λ (n : ℕ). AtEachMoment (λ e. EachStandsIn old.places n empty (adds_all e h)) did.added)
     all (moments_as_said old.places empty h did.added rests did.each_moment))
-    (λ base good. did.does.lawful.lawful base good (λ p q nowhere. absurd nowhere))
+    (λ base good. did.does.lawful.lawful base good
+    (took_marked false old took h steady takes base (λ p q none. absurd none)))
     old new n.fault did.history (left_counts old new n.tries.accounts.counts) did.steady did.ends
 
 -- ---- after a format
@@ -405,7 +409,7 @@ module _ (old new : Told) (seed count : ℕ) where
       ∙ is in cc)
 
   as_trial : (frames : ℕ) (end : End) → (end ≡ Script → ⊥) → (end ≡ TooLong → ⊥)
-      → RequestCause (Run frames true) end old new
+      → RequestCause (Run frames true false) end old new
       → RequestCause (Trial seed count frames) end old new
   as_trial frames Words script long c = c
   as_trial frames (Chip e) script long c = c
@@ -417,7 +421,7 @@ module _ (old new : Told) (seed count : ℕ) where
   pub trial_not_started_cause : (frames : ℕ) (end : End) → IsNotStarted end old new
       → RequestCause (Trial seed count frames) end old new
   trial_not_started_cause frames end n = as_trial frames end (not_script end n) (not_long end n)
-      (not_started_cause old new frames end n)
+      (not_started_cause old new frames false end n)
 
 -- ---- a trial that was started
 
@@ -459,7 +463,7 @@ module _ (old mid : Told) (store : ScriptStore) (s : StartsFormatted old store m
   never_long (Err stop.TooLong) stops is = absurd stops
 
   cause_by : (frames : ℕ) (result : Result (Unit {0}) Stop) → IfErr result IsTrialStop
-      → EndCause (Some (Run frames true)) (ending_of result) old new
+      → EndCause (Some (Run frames true false)) (ending_of result) old new
       → EndCause (Some (Trial seed count frames)) (ending_of result) old new
   cause_by frames (Ok u) stops c = tt
   cause_by frames (Err (stop.Store (fault.Chip f))) stops c = c
@@ -473,10 +477,10 @@ module _ (old mid : Told) (store : ScriptStore) (s : StartsFormatted old store m
       → EndCause (Some (Trial seed count frames)) ending old new
   tried_cause frames ending t = subst (λ (e : Ending). EndCause (Some (Trial seed count frames)) e
       old new) (sym t.ending_is)
-      (cause_by frames t.result t.stops (cause_anew old mid store s then new frames
+      (cause_by frames t.result t.stops (cause_anew old mid store s then new frames false
       (ending_of t.result)
-      (over_cause s.formatted mid store s.opened then new frames t.result
-      t.completes t.cause t.learns t.unspent (never_long t.result t.stops))))
+      (over_cause s.formatted mid store s.opened then new frames false t.result
+      (λ limits keeps. completes_more (t.completes limits keeps) (omega arith)) t.cause t.learns t.unspent (never_long t.result t.stops))))
 
 -- ---- as the calls have it
 

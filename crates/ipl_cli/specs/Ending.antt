@@ -1,5 +1,5 @@
 -- How the program ends, and what is noted of it.
-use Rattle.std.specs.Prelude.{◌≡◌, ◌⊎◌, ◌-◌, ℕ, true, false, List, [], Option, Some, Result, Ok, Err}
+use Rattle.std.specs.Prelude.{◌≡◌, ◌⊎◌, ◌-◌, ℕ, Bool, true, false, List, [], Option, Some, Result, Ok, Err}
 use Rattle.chip_trait.specs.Told.{History, Told, Counts, Rose}
 use Rattle.ipl_base.specs.Places.{units_on}
 use Rattle.ipl_base.specs.declared.fault.ChipFault.TheVariants.{Stopped, WornOut}
@@ -19,11 +19,11 @@ AskedFor = Option Request
 
 -- they ask for a run over a chip that is opened, with so many page frames
 abbrev pub AsksOpened : AskedFor → Type 0
-AsksOpened asked = (frames : ℕ) × (asked ≡ Some (Run frames false))
+AsksOpened asked = (frames : ℕ) × (closes : Bool) × (asked ≡ Some (Run frames false closes))
 
 -- they ask for a run over a chip that is formatted first
 abbrev pub AsksFormatted : AskedFor → Type 0
-AsksFormatted asked = (frames : ℕ) × (asked ≡ Some (Run frames true))
+AsksFormatted asked = (frames : ℕ) × (closes : Bool) × (asked ≡ Some (Run frames true closes))
 
 -- or for a trial, which formats it first too
 abbrev pub AsksAnew : AskedFor → Type 0

@@ -1,10 +1,10 @@
--- With how many page frames what was asked was done.
+-- With how many page frames what was asked was done, and whether the chip was closed.
 use Rattle.std.specs.Prelude.{ℕ, ◌≡◌, true, false, None, Some, Ok}
 use Rattle.chip_trait.specs.Told.{Told}
 use Rattle.command_line.specs.declared.asked.Request.TheVariants.{Format, Run, Serial, Check, Trial}
 use Rattle.script_store.specs.declared.store.ScriptStore.{ScriptStore}
 use Rattle.ipl_cli.specs.Ending.{AskedFor, but_noted}
-use Rattle.ipl_cli.specs.Runs.{StartsOpened, StartsFormatted, RunsOver, TriesOver}
+use Rattle.ipl_cli.specs.Runs.{StartsOpened, StartsFormatted, RunsOver, TriesOver, EndsClosed}
 
 -- A store of so many frames was started so over the chip, and then it did this to its end.
 pub record DoesWith (Starts : Told → ScriptStore → Told → Type 0)
@@ -23,11 +23,20 @@ pub record DoesWith (Starts : Told → ScriptStore → Told → Type 0)
 abbrev pub DoesAsAsked : AskedFor → Told → Told → Type 0
 DoesAsAsked None old new = Unit {0}
 DoesAsAsked (Some (Format spares)) old new = Unit {0}
-DoesAsAsked (Some (Run frames true)) old new =
+DoesAsAsked (Some (Run frames true closes)) old new =
     DoesWith StartsFormatted (RunsOver (Ok tt)) frames old new
-DoesAsAsked (Some (Run frames false)) old new =
-    DoesWith StartsOpened (RunsOver (Ok tt)) frames old new
+DoesAsAsked (Some (Run frames false closes)) old new =
+    DoesWith (StartsOpened true) (RunsOver (Ok tt)) frames old new
 DoesAsAsked (Some Serial) old new = Unit {0}
 DoesAsAsked (Some Check) old new = Unit {0}
 DoesAsAsked (Some (Trial seed count frames)) old new =
     DoesWith StartsFormatted (TriesOver seed count (Ok tt)) frames old new
+
+-- a run that is to close the chip did so last of all
+abbrev pub ClosesAsAsked : AskedFor → Told → Told → Type 0
+ClosesAsAsked None old new = Unit {0}
+ClosesAsAsked (Some (Format spares)) old new = Unit {0}
+ClosesAsAsked (Some (Run frames formats closes)) old new = closes ≡ true → EndsClosed old new
+ClosesAsAsked (Some Serial) old new = Unit {0}
+ClosesAsAsked (Some Check) old new = Unit {0}
+ClosesAsAsked (Some (Trial seed count frames)) old new = Unit {0}

@@ -1,5 +1,5 @@
 -- How the program starts and runs.
-use Rattle.std.specs.Prelude.{ℕ, ◌≡◌, ◌⊎◌, Some, Result, Ok, Err, OnOk, IfErr, IsErrOf, is_ok}
+use Rattle.std.specs.Prelude.{ℕ, ◌≡◌, ◌⊎◌, ◌+◌, Bool, true, false, Some, Result, Ok, Err, OnOk, IfErr, IsErrOf, is_ok}
 use Rattle.chip_trait.specs.Story.{Contents}
 use Rattle.chip_trait.specs.Told.{History, Told, Counts}
 use Rattle.ipl_base.specs.Places.{IsGeometry, units_on}
@@ -10,10 +10,12 @@ use Rattle.ipl_base.specs.declared.fault.ImageFault.TheVariants as image
 use Rattle.ipl_meaning.specs.Tables.{Tables}
 use Rattle.restart.specs.Fresh.{Formats, TellsFresh}
 use Rattle.store_trait.specs.Onward.{Onward, Further}
-use Rattle.store_trait.specs.Keeping.{SCRIPT_DRAWS, LeavesTidy}
+use Rattle.store_trait.specs.Keeping.{SCRIPT_DRAWS, WORK_DRAWS, LeavesTidy}
+use Rattle.store_trait.specs.declared.fault.Fault.{Fault}
 use Rattle.store_trait.specs.declared.fault.Fault.TheVariants as fault
 use Rattle.script_run.specs.declared.fault.Stop.{Stop}
 use Rattle.script_run.specs.declared.fault.Stop.TheVariants as stop
+use Rattle.script_run.specs.Behind.{stop_of}
 use Rattle.script_run.specs.Goes.{LearnsAlong, StopCause, CompletesOver, ReadsAll, RunsScript}
 use Rattle.page_frames.specs.Pages.{tables_in}
 use Rattle.ipl_store.specs.declared.store.Store.{Store}
@@ -21,6 +23,9 @@ use Rattle.ipl_store.specs.Calls.{IsSound}
 use Rattle.ipl_store.specs.Openings.{Opens, Tries}
 use Rattle.script_store.specs.declared.store.ScriptStore.{ScriptStore}
 use Rattle.script_store.specs.Keeps.{IsRunning, script_keeping}
+use Rattle.script_store.specs.Closes.{Closes}
+use Rattle.clean_close.specs.Closing.{EndsWithMark}
+use Rattle.unit_io.specs.Costs.{Spends}
 use Rattle.trial_commands.specs.Words.{trial_commands}
 use Rattle.trial_run.specs.Trial.{RunsTrial, IsTrialStop}
 use Rattle.program_end.specs.declared.end.End.{End}
@@ -41,24 +46,24 @@ ClosesFor places (Err Script) = ⊥
 ClosesFor places (Err Output) = ⊥
 ClosesFor places (Err TooLong) = ⊥
 
--- The chip was opened, and the store runs over it.
-pub record StartsOpened (old : Told) (store : ScriptStore) (new : Told) : Type 0 where
+-- The chip was opened, where a mark counts or doesn't, and the store runs over it.
+pub record StartsOpened (marks : Bool) (old : Told) (store : ScriptStore) (new : Told) : Type 0 where
   pub running : IsRunning old.places store
   pub opens : Opens old.places old store.store new
-  pub tries : Tries old.places old (Ok tt) (tables_in store.store.transactions.pages) new
+  pub tries : Tries marks old.places old (Ok tt) (tables_in store.store.transactions.pages) new
 
 -- the chip wasn't opened, and it ends so
-pub record IsNotOpened (end : End) (old new : Told) : Type 0 where
+pub record IsNotOpened (marks : Bool) (end : End) (old new : Told) : Type 0 where
   pub fault : ImageFault
   pub end_is : end ≡ Chip fault
   pub fits : IsGeometry old.places
   pub tables : Tables
-  pub tries : Tries old.places old (Err fault) tables new
+  pub tries : Tries marks old.places old (Err fault) tables new
 
 -- the chip was opened, or it wasn't
-abbrev pub OpensOver : Result ScriptStore End → Told → Told → Type 0
-OpensOver (Ok store) old new = StartsOpened old store new
-OpensOver (Err end) old new = IsNotOpened end old new
+abbrev pub OpensOver : Bool → Result ScriptStore End → Told → Told → Type 0
+OpensOver marks (Ok store) old new = StartsOpened marks old store new
+OpensOver marks (Err end) old new = IsNotOpened marks end old new
 
 -- The chip was formatted, with no place to spare.
 pub record WasFormatted (old new : Told) : Type 0 where
@@ -88,7 +93,7 @@ FormatsFirst (Err end) old new = IsNotFormatted end old new
 pub record StartsFormatted (old : Told) (store : ScriptStore) (new : Told) : Type 0 where
   pub formatted : Told
   pub formats : WasFormatted old formatted
-  pub opened : StartsOpened formatted store new
+  pub opened : StartsOpened false formatted store new
 
 -- It isn't started: there is no memory for a store, or none for so many places; the format was
 -- stopped; or the chip that was formatted wasn't opened.
@@ -96,7 +101,7 @@ abbrev pub IsNotStarted : End → Told → Told → Type 0
 IsNotStarted end old new =
     (ClosesFor old.places (Err end) × (new ≡ old))
     ⊎ IsNotFormatted end old new
-    ⊎ ((formatted : Told) × WasFormatted old formatted × IsNotOpened end formatted new)
+    ⊎ ((formatted : Told) × WasFormatted old formatted × IsNotOpened false end formatted new)
 
 -- ---- the run
 
@@ -120,13 +125,40 @@ pub record RunsOver (ending : Ending) (before : ScriptStore) (old : Told) (then 
   pub ending_is : ending ≡ ending_of result
   pub runs : RunsScript (script_keeping old.places) before old result then new
   pub tidy : LeavesTidy (script_keeping old.places) before then old new (is_ok result)
-  pub completes : CompletesOver (script_keeping old.places) SCRIPT_DRAWS before old result then new
+  pub completes : CompletesOver (script_keeping old.places) (SCRIPT_DRAWS + WORK_DRAWS) before old result then new
   pub cause : IfErr result (λ s. StopCause (script_keeping old.places) old new s)
   pub learns : LearnsAlong (script_keeping old.places) before old result then new
   pub unspent : IsErrOf result (stop.Store fault.Spent) → ⊥
   pub long : IsErrOf result stop.TooLong → IsTooLong old new
   pub further : Further old new
   pub read : OnOk result (ReadsAll old new)
+
+-- ---- a close behind a run
+
+-- The chip was closed behind a script, or it wasn't.
+pub record ClosesBehind (result : Result (Unit {0}) Stop) (before : ScriptStore) (old : Told) (then : ScriptStore)
+    (new : Told) : Type 0 where
+  pub closed : Result (Unit {0}) Fault
+  pub result_is : result ≡ stop_of closed
+  pub closes : Closes before old closed then new
+
+-- the last two events since were the program of a mark and a barrier
+abbrev pub EndsClosed : Told → Told → Type 0
+EndsClosed = Spends EndsWithMark
+
+-- The script was run to its end and the chip closed behind it, where that is asked; or it stopped.
+pub record RunsClosing (closes : Bool) (result : Result (Unit {0}) Stop) (before : ScriptStore) (old : Told)
+    (then : ScriptStore) (new : Told) : Type 0 where
+  pub runs : RunsScript (script_keeping old.places) before old result then new
+  pub tidy : LeavesTidy (script_keeping old.places) before then old new (is_ok result)
+  pub completes : CompletesOver (script_keeping old.places) (SCRIPT_DRAWS + WORK_DRAWS) before old result then new
+  pub cause : IfErr result (λ s. StopCause (script_keeping old.places) old new s)
+  pub learns : LearnsAlong (script_keeping old.places) before old result then new
+  pub unspent : IsErrOf result (stop.Store fault.Spent) → ⊥
+  pub long : IsErrOf result stop.TooLong → IsTooLong old new
+  pub further : Further old new
+  pub read : OnOk result (ReadsAll old new)
+  pub closed : OnOk result (closes ≡ true → EndsClosed old new)
 
 -- ---- the trial
 

@@ -4,9 +4,9 @@ use Rattle.std.specs.Option.{option_map}
 use Rattle.std.specs.FinMap.{empty}
 use Rattle.chip_trait.specs.declared.event.Event.TheVariants.{Said}
 use Rattle.chip_trait.specs.Chart.{says}
-use Rattle.chip_trait.specs.Story.{Story, Contents, pieces, said}
+use Rattle.chip_trait.specs.Story.{Story, Contents, held, pieces, said}
 use Rattle.chip_trait.specs.Moment.{AtEachMoment, Leaves}
-use Rattle.chip_trait.specs.Lawful.{IsLawful}
+use Rattle.chip_trait.specs.Lawful.{IsLawful, AreClean}
 use Rattle.chip_trait.specs.Told.{History, Told, Grew, IsPrefix, Rose, adds_all, Unrisen}
 use Rattle.ipl_base.specs.Places.{IsGeometry, IsSpared, units_on, spares_on}
 use Rattle.ipl_base.specs.declared.fault.ChipFault.TheVariants.{ReadFault, Stopped, Damaged, Malformed, WornOut}
@@ -17,6 +17,7 @@ use Rattle.ipl_model.specs.Grammar.{commands_of}
 use Rattle.ipl_model.specs.Run.{joined, lines, after_all, IsNear}
 use Rattle.ipl_format.specs.Sector.{sector_in}
 use Rattle.ipl_meaning.specs.Chart.{chart_of}
+use Rattle.ipl_meaning.specs.Marks.{IsMarked}
 use Rattle.ipl_meaning.specs.Stands.{Stands, StandsIn}
 use Rattle.ipl_meaning.specs.Rests.{now, StoryRests}
 use Rattle.unit_io.specs.Leads.{IsSteady}
@@ -189,8 +190,8 @@ FormattedCause (image.NoSpare n) old new = AnewCause old
 -- when a fault of the chip ends what was asked
 abbrev pub ChipCause : Request → ImageFault → Told → Told → Type 0
 ChipCause (Format spares) e old new = FormatCause spares e old new
-ChipCause (Run frames true) e old new = FormattedCause e old new
-ChipCause (Run frames false) e old new = OpenedCause e old new
+ChipCause (Run frames true closes) e old new = FormattedCause e old new
+ChipCause (Run frames false closes) e old new = OpenedCause e old new
 ChipCause (Trial seed count frames) e old new = FormattedCause e old new
 ChipCause Serial e old new = ViewedCause e old new
 ChipCause Check e old new = CheckedCause e old new
@@ -206,14 +207,14 @@ RequestCause request Words old new = ⊥
 RequestCause request (Chip e) old new = ChipCause request e old new
 RequestCause request OutOfMemory old new = Unit {0}
 RequestCause (Format spares) Script old new = ⊥
-RequestCause (Run frames formats) Script old new =
+RequestCause (Run frames formats closes) Script old new =
     Rose old.beside.script_faults new.beside.script_faults
 RequestCause Serial Script old new = Rose old.beside.script_faults new.beside.script_faults
 RequestCause Check Script old new = ⊥
 RequestCause (Trial seed count frames) Script old new = ⊥
 RequestCause request Output old new = Rose old.beside.say_faults new.beside.say_faults
 RequestCause (Format spares) TooLong old new = ⊥
-RequestCause (Run frames formats) TooLong old new = IsTooLong old new
+RequestCause (Run frames formats closes) TooLong old new = IsTooLong old new
 RequestCause Serial TooLong old new = IsTooLong old new
 RequestCause Check TooLong old new = ⊥
 RequestCause (Trial seed count frames) TooLong old new = ⊥
@@ -233,8 +234,8 @@ EndCause (Some request) (Err end) old new = RequestCause request end old new
 abbrev pub WearsAsAsked : AskedFor → Told → Told → Type 0
 WearsAsAsked None old new = ⊥
 WearsAsAsked (Some (Format spares)) old new = FindsWorn old new
-WearsAsAsked (Some (Run frames true)) old new = FindsWorn old new
-WearsAsAsked (Some (Run frames false)) old new = WearsOut old new
+WearsAsAsked (Some (Run frames true closes)) old new = FindsWorn old new
+WearsAsAsked (Some (Run frames false closes)) old new = WearsOut old new
 WearsAsAsked (Some Serial) old new = ⊥
 WearsAsAsked (Some Check) old new = ⊥
 WearsAsAsked (Some (Trial seed count frames)) old new = FindsWorn old new
@@ -275,15 +276,21 @@ EndsBy (Err Output) Q units m script said =
     EndsUnsaid (limits_of units) (at_rest m) (commands_of script) said Q
 EndsBy (Err TooLong) Q units m script said = IsBetween Q units m script said
 
+-- the sectors that are marked as clean on a chip that holds what this history leaves; none where marks don't count
+abbrev pub AreMarked : Bool → ℕ → History → ℕ → ℕ → Type 0
+AreMarked false places h p s = ⊥
+AreMarked true places h p s = IsMarked places (held h.start h.story) p s
+
 -- What a run of a script leaves, from these records on and on so many units, after these first events
--- on a chip of so many places that holds what this history leaves. What the chip tells grew by these
+-- on a chip of so many places that holds what this history leaves, where its marks count or don't. What the chip tells grew by these
 -- events. Whatever moment the power is cut at, within a chip operation too, the chip stands for the
 -- records after the commands whose replies were said, or after one more. What is said is a beginning of
--- the model's text, line by line. No sector is programmed twice between erases of its place. Where no
--- write failed, the chip holds at the end what the history then leaves; that rests on such records, and
--- by how the run ended exactly on those of the commands that are done: the next run may begin there.
--- Where all is done, the whole text is said, and the script was read to its end.
-pub record Runs (places units : ℕ) (m : Map) (script : List ℕ) (h : History) (first : Story)
+-- the model's text, line by line. No sector is programmed twice between erases of its place,
+-- after events that leave clean what is marked so. Where no write failed, the chip holds at the end what
+-- the history then leaves; that rests on such records, and by how the run ended exactly on those of the
+-- commands that are done: the next run may begin there. Where all is done, the whole text is said, and the
+-- script was read to its end.
+pub record Runs (marks : Bool) (places units : ℕ) (m : Map) (script : List ℕ) (h : History) (first : Story)
     (old new : Told) (ending : Ending) : Type 0 where
   pub added : Story
   pub history : new.history
@@ -294,7 +301,8 @@ pub record Runs (places units : ℕ) (m : Map) (script : List ℕ) (h : History)
       added
   pub replies : SaysLines (answers units m script) (pieces added)
   pub is_prefix : IsPrefix (said added) (joined (answers units m script))
-  pub lawful : (base : Story) → IsLawful base → IsLawful (added ++ (first ++ base))
+  pub lawful : (base : Story) → IsLawful base → AreClean (AreMarked marks places h) base
+      → IsLawful (added ++ (first ++ base))
   pub steady : Unrisen old new → IsSteady (adds_all added (adds_all first h)) new
   pub rests : Unrisen old new
       → IsAbout (λ s. StoryRests places s.map (adds_all added (adds_all first h))) units m script
@@ -316,17 +324,20 @@ abbrev pub OverTold : (ℕ → List ℕ → History → Type 0) → Told → Typ
 OverTold P old = (h : History) (script : List ℕ) → IsSteady h old
     → old.beside.left ≡ Some script → P old.places script h
 
--- The chip was opened, and the script was run: from the records on which such a history rests, on as
--- many units as the chip says. All events are in this, those of the opening too.
-abbrev pub RunsOpened : Told → Told → Ending → Type 0
-RunsOpened old new ending = OverTold
+-- The chip was opened, where its marks count or don't, and the script was run: from the records on which
+-- such a history rests, on as many units as the chip says. All events are in this, those of the opening too.
+abbrev pub RunsFrom : Bool → Told → Told → Ending → Type 0
+RunsFrom marks old new ending = OverTold
     (λ places script h. (m : Map) → StoryRests places m h
-    → Runs places (units_at (now h) places) m script h [] old new ending) old
+    → Runs marks places (units_at (now h) places) m script h [] old new ending) old
+
+abbrev pub RunsOpened : Told → Told → Ending → Type 0
+RunsOpened = RunsFrom true
 
 -- the chip was formatted with no place to spare, and the script was run from no records on
 abbrev pub RunsFormatted : Told → Told → Ending → Type 0
 RunsFormatted old new ending = OverTold
-    (λ places script h. Runs places (units_on places) empty script h
+    (λ places script h. Runs false places (units_on places) empty script h
     (format_events places (units_on places)) old new ending) old
 
 -- the records after all commands of a script, on so many units, from these records on
@@ -360,7 +371,7 @@ FromNoRecords old units m = (m ≡ empty) × (units ≡ units_on old.places)
 -- the script was run, or a part of it, or the format before it was stopped
 abbrev pub RunsOrStops : Told → Told → Ending → Type 0
 RunsOrStops old new ending = OverTold
-    (λ places script h. Runs places (units_on places) empty script h
+    (λ places script h. Runs false places (units_on places) empty script h
     (format_events places (units_on places)) old new ending
     ⊎ StopsEarly places (units_on places) h old new ending) old
 
@@ -464,8 +475,8 @@ OpenedLeaves (Err TooLong) old new = OpenedRuns old new (Err TooLong)
 abbrev pub EndLeaves : AskedFor → Ending → Told → Told → Type 0
 EndLeaves None ending old new = IsUntouched old new
 EndLeaves (Some (Format spares)) ending old new = FormatLeaves spares ending old new
-EndLeaves (Some (Run frames true)) ending old new = FormattedLeaves ending old new
-EndLeaves (Some (Run frames false)) ending old new = OpenedLeaves ending old new
+EndLeaves (Some (Run frames true closes)) ending old new = FormattedLeaves ending old new
+EndLeaves (Some (Run frames false closes)) ending old new = OpenedLeaves ending old new
 EndLeaves (Some Serial) ending old new = SerialLeaves ending old new
 EndLeaves (Some Check) ending old new = CheckLeaves ending old new
 EndLeaves (Some (Trial seed count frames)) ending old new = TrialLeaves seed count ending old new
@@ -528,8 +539,8 @@ pub record IsTold (t : Told) : Type 0 where
 -- with numbers left; and where it is checked, that what it holds stands for records
 abbrev pub Suffices : Request → Told → Type 0
 Suffices (Format spares) old = IsSpared old.places spares
-Suffices (Run frames true) old = IsTold old
-Suffices (Run frames false) old = RestsWithNumbersLeft old
+Suffices (Run frames true closes) old = IsTold old
+Suffices (Run frames false closes) old = RestsWithNumbersLeft old
 Suffices Serial old = IsGeometry old.places
 Suffices Check old = (m : Map) × HoldsRecords old.places m old
 Suffices (Trial seed count frames) old = IsTold old

@@ -1,5 +1,5 @@
 //! The program, over a desk.
-ghost use Rattle.std.specs.Prelude.{◌≡◌, ◌≢◌, ◌<◌, ◌≤◌, ◌⊎◌, ◌+◌, ◌++◌, ◌==◌, true, false, map, List, ℕ, Some, None, Ok, IfOk, IfErr, OnOk};
+ghost use Rattle.std.specs.Prelude.{Bool, ◌≡◌, ◌≢◌, ◌<◌, ◌≤◌, ◌⊎◌, ◌+◌, ◌++◌, ◌==◌, true, false, map, List, ℕ, Some, None, Ok, IfOk, IfErr, OnOk};
 ghost use Rattle.std.specs.String.{string_bytes};
 ghost use Rattle.chip_trait.specs.Told.{Counts, Grew, Rose};
 ghost use Rattle.ipl_base.specs.declared.limits.TheConstants.{MOST_SPARES};
@@ -13,7 +13,7 @@ ghost use Rattle.command_line.specs.Choice.{requested};
 ghost use Rattle.command_line.specs.declared.asked.Request.{Request};
 ghost use Rattle.command_line.specs.declared.asked.Request.TheVariants.{Format, Run, Serial, Check, Trial};
 ghost use Rattle.ipl_cli.specs.Trials.{TrialLeaves};
-ghost use Rattle.ipl_cli.specs.Adds.{AddsLawful};
+ghost use Rattle.ipl_cli.specs.Adds.{AddsLawful, AddsLawfulByMark, AddsAsAsked};
 ghost use Rattle.ipl_cli.specs.Ending.{AsksOpened, AsksFormatted, AsksAnew, AtStatus, status_at, note_at, but_noted, format_end, IsUntouched};
 ghost use Rattle.ipl_cli.specs.Checks.{CheckLeaves};
 ghost use Rattle.ipl_cli.specs.Views.{ViewsTold, OnlyViews, OnlyHears, SerialLeaves, view_end};
@@ -22,8 +22,8 @@ ghost use Rattle.ipl_cli.specs.Top.{RunsOpened, RunsFormatted, UntouchedOrRuns, 
 ghost use Rattle.ipl_cli.specs.Top.{EndsWithRecords, FromItsRecords, FromNoRecords};
 ghost use Rattle.ipl_cli.specs.Top.{IsStray, StrayCause, SpentCause, AnewCause, LacksUnits, EndsUnfit, IsCalm, Suffices, EndsInTime, Ends, WearsAsAsked};
 ghost use Rattle.ipl_cli.specs.Survives.{Survives, SurvivesAnew};
-ghost use Rattle.ipl_cli.specs.Frames.{DoesWith, DoesAsAsked};
-ghost use Rattle.ipl_cli.specs.Runs.{StartsFormatted, StartsOpened, ClosesFor, FormatsFirst, OpensOver, IsNotStarted, RunsOver, TriesOver, end_of};
+ghost use Rattle.ipl_cli.specs.Frames.{DoesWith, DoesAsAsked, ClosesAsAsked};
+ghost use Rattle.ipl_cli.specs.Runs.{StartsFormatted, StartsOpened, ClosesFor, FormatsFirst, OpensOver, IsNotStarted, ClosesBehind, EndsClosed, RunsClosing, RunsOver, TriesOver, end_of};
 
 use crate::checking::check_chip;
 use chip_trait::Desk;
@@ -98,12 +98,12 @@ fn format_first<D: Desk>(desk: &mut D) -> Result<(), End>
 }
 
 /// Opens the chip, and makes the store of what it holds.
-fn open_over<D: Desk>(mut store: Store, desk: &mut D) -> Result<ScriptStore, End>
+fn open_over<D: Desk>(mut store: Store, desk: &mut D, marks: bool) -> Result<ScriptStore, End>
     requires sound { IsSound (D.told desk.old).places store }
-    ensures opens { OpensOver result (D.told desk.old) (D.told desk.new) }
+    ensures opens { OpensOver marks result (D.told desk.old) (D.told desk.new) }
     ensures frames { IfOk result (λ started. started.store.frames ≡ store.frames) }
 {
-    match store.open_chip(desk) {
+    match store.open_chip(desk, marks) {
         Ok(()) => Ok(ScriptStore::over(store)),
         Err(fault) => Err(End::Chip(fault)),
     }
@@ -121,7 +121,8 @@ fn start_formatted<D: Desk>(alloc: Global, frames: u32, desk: &mut D) -> Result<
 {
     let store = closed(alloc, desk.units(), frames)?;
     format_first(desk)?;
-    let started = open_over(store, desk)?;
+    // What was just formatted has no mark.
+    let started = open_over(store, desk, false)?;
     Ok(started)
 }
 
@@ -129,15 +130,15 @@ fn start_formatted<D: Desk>(alloc: Global, frames: u32, desk: &mut D) -> Result<
 fn start_opened<D: Desk>(alloc: Global, frames: u32, desk: &mut D) -> Result<ScriptStore, End>
     requires two { 2 ≤ frames }
     requires few { frames ≤ 64 }
-    ensures starts { IfOk result (λ store. StartsOpened (D.told desk.old) store (D.told desk.new)) }
+    ensures starts { IfOk result (λ store. StartsOpened true (D.told desk.old) store (D.told desk.new)) }
     ensures frames { IfOk result (λ store. store.store.frames ≡ frames) }
     ensures leaves { IfErr result (λ end. OpenedLeaves (Err end) (D.told desk.old) (D.told desk.new)) }
-    ensures cause { IfErr result (λ end. RequestCause (Run frames false) end (D.told desk.old) (D.told desk.new)) }
-    ensures lawful { IfErr result (λ end. AddsLawful (D.told desk.old) (D.told desk.new)) }
+    ensures cause { IfErr result (λ end. (closes : Bool) → RequestCause (Run frames false closes) end (D.told desk.old) (D.told desk.new)) }
+    ensures lawful { IfErr result (λ end. AddsLawfulByMark (D.told desk.old) (D.told desk.new)) }
     ensures counts { Counts (D.told desk.old) (D.told desk.new) }
 {
     let store = closed(alloc, desk.units(), frames)?;
-    let started = open_over(store, desk)?;
+    let started = open_over(store, desk, true)?;
     Ok(started)
 }
 
@@ -156,47 +157,74 @@ fn end_of(stop: Stop) -> End
     }
 }
 
-/// Runs the script over a store whose numbers last for it.
-fn run_over<D: Desk>(store: &mut ScriptStore, desk: &mut D) -> Result<(), End>
+/// Closes the chip behind a script that was run to its end.
+fn close_behind<D: Desk>(store: &mut ScriptStore, desk: &mut D) -> Result<(), Stop>
+    requires running { IsRunning (D.told desk.old).places store.old }
+    ensures closes { ClosesBehind result store.old (D.told desk.old) store.new (D.told desk.new) }
+{
+    match store.close(desk) {
+        Ok(()) => Ok(()),
+        Err(fault) => Err(Stop::Store(fault)),
+    }
+}
+
+/// Runs the script, and closes the chip behind it where that is asked.
+fn run_closing<D: Desk>(store: &mut ScriptStore, desk: &mut D, closes: bool) -> Result<(), Stop>
+    requires running { IsRunning (D.told desk.old).places store.old }
+    requires left { next_number store.old ≤ FOUND_NUMBER }
+    ensures runs { RunsClosing closes result store.old (D.told desk.old) store.new (D.told desk.new) }
+{
+    run_script(store, desk)?;
+    if closes {
+        close_behind(store, desk)?;
+    }
+    Ok(())
+}
+
+/// Runs the script over a store whose numbers last for it, and closes the chip where that is asked.
+fn run_over<D: Desk>(store: &mut ScriptStore, desk: &mut D, closes: bool) -> Result<(), End>
     requires running { IsRunning (D.told desk.old).places store.old }
     requires left { next_number store.old ≤ FOUND_NUMBER }
     ensures runs { RunsOver result store.old (D.told desk.old) store.new (D.told desk.new) }
+    ensures closed { OnOk result (closes ≡ true → EndsClosed (D.told desk.old) (D.told desk.new)) }
 {
-    match run_script(store, desk) {
+    match run_closing(store, desk, closes) {
         Ok(()) => Ok(()),
         Err(stop) => Err(end_of(stop)),
     }
 }
 
-/// Runs the script over a chip that is formatted first.
-fn run_formatted<D: Desk>(alloc: Global, frames: u32, desk: &mut D) -> Result<(), End>
+/// Runs the script over a chip that is formatted first, and closes that where it is asked.
+fn run_formatted<D: Desk>(alloc: Global, frames: u32, closes: bool, desk: &mut D) -> Result<(), End>
     requires two { 2 ≤ frames }
     requires few { frames ≤ 64 }
     ensures leaves { FormattedLeaves result (D.told desk.old) (D.told desk.new) }
     ensures framed { OnOk result (DoesWith StartsFormatted (RunsOver (Ok tt)) frames
         (D.told desk.old) (D.told desk.new)) }
-    ensures cause { EndCause (Some (Run frames true)) result (D.told desk.old) (D.told desk.new) }
+    ensures closed { OnOk result (closes ≡ true → EndsClosed (D.told desk.old) (D.told desk.new)) }
+    ensures cause { EndCause (Some (Run frames true closes)) result (D.told desk.old) (D.told desk.new) }
     ensures further { Further (D.told desk.old) (D.told desk.new) }
     ensures lawful { AddsLawful (D.told desk.old) (D.told desk.new) }
 {
     let mut store = start_formatted(alloc, frames, desk)?;
-    run_over(&mut store, desk)?;
+    run_over(&mut store, desk, closes)?;
     Ok(())
 }
 
-/// Runs the script over a chip that is opened.
-fn run_opened<D: Desk>(alloc: Global, frames: u32, desk: &mut D) -> Result<(), End>
+/// Runs the script over a chip that is opened, and closes that where it is asked.
+fn run_opened<D: Desk>(alloc: Global, frames: u32, closes: bool, desk: &mut D) -> Result<(), End>
     requires two { 2 ≤ frames }
     requires few { frames ≤ 64 }
     ensures leaves { OpenedLeaves result (D.told desk.old) (D.told desk.new) }
-    ensures framed { OnOk result (DoesWith StartsOpened (RunsOver (Ok tt)) frames
+    ensures framed { OnOk result (DoesWith (StartsOpened true) (RunsOver (Ok tt)) frames
         (D.told desk.old) (D.told desk.new)) }
-    ensures cause { EndCause (Some (Run frames false)) result (D.told desk.old) (D.told desk.new) }
+    ensures closed { OnOk result (closes ≡ true → EndsClosed (D.told desk.old) (D.told desk.new)) }
+    ensures cause { EndCause (Some (Run frames false closes)) result (D.told desk.old) (D.told desk.new) }
     ensures further { Further (D.told desk.old) (D.told desk.new) }
-    ensures lawful { AddsLawful (D.told desk.old) (D.told desk.new) }
+    ensures lawful { AddsLawfulByMark (D.told desk.old) (D.told desk.new) }
 {
     let mut store = start_opened(alloc, frames, desk)?;
-    run_over(&mut store, desk)?;
+    run_over(&mut store, desk, closes)?;
     Ok(())
 }
 
@@ -274,9 +302,10 @@ fn say_view<D: Desk>(alloc: Global, desk: &mut D) -> Result<(), End>
 fn run<D: Desk>(alloc: Global, words: &[String], desk: &mut D) -> Result<(), End>
     ensures leaves { EndLeaves (requested (map string_bytes words.now)) result (D.told desk.old) (D.told desk.new) }
     ensures framed { OnOk result (DoesAsAsked (requested (map string_bytes words.now)) (D.told desk.old) (D.told desk.new)) }
+    ensures closed { OnOk result (ClosesAsAsked (requested (map string_bytes words.now)) (D.told desk.old) (D.told desk.new)) }
     ensures cause { EndCause (requested (map string_bytes words.now)) result (D.told desk.old) (D.told desk.new) }
     ensures further { Further (D.told desk.old) (D.told desk.new) }
-    ensures lawful { AddsLawful (D.told desk.old) (D.told desk.new) }
+    ensures lawful { AddsAsAsked (requested (map string_bytes words.now)) (D.told desk.old) (D.told desk.new) }
 {
     let Ok(request) = request(alloc, words) else {
         return Err(End::OutOfMemory);
@@ -288,14 +317,16 @@ fn run<D: Desk>(alloc: Global, words: &[String], desk: &mut D) -> Result<(), End
             Request::Run {
                 frames,
                 format: true,
+                close,
             },
-        ) => run_formatted(alloc, frames, desk),
+        ) => run_formatted(alloc, frames, close, desk),
         Some(
             Request::Run {
                 frames,
                 format: false,
+                close,
             },
-        ) => run_opened(alloc, frames, desk),
+        ) => run_opened(alloc, frames, close, desk),
         Some(Request::Serial) => say_view(alloc, desk),
         Some(Request::Check) => check_chip(alloc, desk),
         Some(
@@ -335,8 +366,9 @@ pub fn top<D: Desk>(alloc: Global, words: &[String], desk: &mut D) -> u8
 
     // Whatever is asked and whatever the chip holds, also where that stands for no records: by the history
     // that the desk tells no sector is programmed twice between erases of its place. Of one that tells none
-    // this says nothing.
-    ensures lawful { AddsLawful (D.told desk.old) (D.told desk.new) }
+    // this says nothing. Where a chip is opened that was closed, it is so after events that leave clean what
+    // a mark there says to be.
+    ensures lawful { AddsAsAsked (requested (map string_bytes words.now)) (D.told desk.old) (D.told desk.new) }
 
     // The headline, over a chip that is opened, on as many units as that says: wherever the program ends.
     // At 0 the whole script was run, at 7 a line of a reply couldn't be said, and else it ended between
@@ -363,6 +395,10 @@ pub fn top<D: Desk>(alloc: Global, words: &[String], desk: &mut D) -> u8
     // At 0 it was done by a store of as many page frames as the words ask for.
     ensures framed { result ≡ 0
         → DoesAsAsked (requested (map string_bytes words.now)) (D.told desk.old) (D.told desk.new) }
+
+    // And where they ask to close the chip, the last two events are the program of a mark and a barrier.
+    ensures closed { result ≡ 0
+        → ClosesAsAsked (requested (map string_bytes words.now)) (D.told desk.old) (D.told desk.new) }
 
     // At 0 the script was read to its end, whatever the chip tells.
     ensures read { AsksOpened (requested (map string_bytes words.now)) ⊎ AsksFormatted (requested (map string_bytes words.now))

@@ -1,12 +1,18 @@
 -- Bytes of the formats, computed from the definitions.
-use Rattle.std.proofs.Common.{◌≡◌, ◌≢◌, ℕ, List, [], ◌∷◌, ◌++◌, Some, None, refl, arith, length, replicate}
+use Rattle.std.proofs.Common.{◌≡◌, ◌≢◌, ◌≤◌, ◌+◌, ◌/◌, ◌%◌, ℕ, true, false, eqb, List, [], ◌∷◌, ◌++◌, Some, None, ◌∙◌, ap, refl, arith, length, replicate, get_or, inl, inr}
+use Rattle.std.proofs.lemmas.Bool.{cases_lt}
+use Rattle.std.proofs.lemmas.List.{get_or_past}
+use Rattle.std.proofs.lemmas.Nat.Bits.{bit_at-zero, bit_at_above}
 use Rattle.crc_sum.specs.Crc.{shifted, shifted_8, with_byte, crc}
 use Rattle.ipl_format.specs.Numbers.{half, word, long, half_at, word_at, long_at}
 use Rattle.ipl_format.specs.Sector.{front, is_formed, said_in, sector_in}
 use Rattle.ipl_format.specs.Record.{record_bytes, record_head}
 use Rattle.ipl_format.specs.Commit.{SpellsCommit}
+use Rattle.ipl_format.specs.Mark.{SpellsMark, bit_of, has_unit}
 use Rattle.ipl_format.specs.Header.{SpellsDataHeader, data_header_bytes, erases_bytes, retired_bytes, erases_said}
 use Rattle.ipl_format.specs.Page.{page_text, text_from}
+use Rattle.ipl_format.proofs.ListLemmas.{bytes-nil, bytes-cons, bytes-append}
+use Rattle.ipl_format.proofs.NumberLemmas.{bytes-word}
 use Rattle.ipl_format.proofs.PayloadLemmas.{commits_have_sizes}
 use Rattle.ipl_format.proofs.HeaderOnceLemmas.{data_headers_have_sizes}
 
@@ -111,3 +117,21 @@ other_length_of_three payload units pieces other spelled =
 said_of_two : erases_said (Some (record { kind = 3; version = 2; unit = 0; generation = 1; serial = 1; payload = 0 ∷ 0 ∷ 0 ∷ 1 ∷ 0 ∷ 0 ∷ 0 ∷ 7 ∷ [] })) ≡ 1
 unfolding erases_said
 said_of_two = refl
+
+-- ---- marks
+
+-- of a chip of one unit, which it has
+one_unit : SpellsMark 1 (0 ∷ 0 ∷ 0 ∷ 1 ∷ 1 ∷ []) × (has_unit (0 ∷ 0 ∷ 0 ∷ 1 ∷ 1 ∷ []) 0 ≡ true)
+unfolding word
+one_unit = (record { bytes = bytes-append (0 ∷ 0 ∷ 0 ∷ 1 ∷ []) (1 ∷ []) (bytes-word 1) (bytes-cons 1 [] (omega arith) bytes-nil); size = refl; says = refl; unused = λ u beyond. no_more u beyond }, refl)
+  where
+    no_more : (u : ℕ) → 1 ≤ u → has_unit (0 ∷ 0 ∷ 0 ∷ 1 ∷ 1 ∷ []) u ≡ false
+    no_more u beyond = elim (cases_lt u 8) [
+      | inl low ↦
+          let first : u / 8 ≡ 0 = omega (arith, low) in
+          ap (λ (i : ℕ). bit_of (get_or (0 ∷ 0 ∷ 0 ∷ 1 ∷ 1 ∷ []) (4 + i) 0) (u % 8)) first
+          ∙ ap (λ (x : ℕ). eqb x 1) (bit_at_above 1 1 (u % 8) (omega arith) (omega (arith, low, beyond)))
+      | inr past ↦
+          ap (λ (byte : ℕ). bit_of byte (u % 8)) (get_or_past (0 ∷ 0 ∷ 0 ∷ 1 ∷ 1 ∷ []) (4 + u / 8) 0 (omega (arith, past)))
+          ∙ ap (λ (x : ℕ). eqb x 1) (bit_at-zero (u % 8))
+    ]

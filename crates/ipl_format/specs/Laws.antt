@@ -6,6 +6,7 @@ use Rattle.ipl_format.specs.Numbers.{IsBytes}
 use Rattle.ipl_format.specs.Sector.{Sector, IsSector, sector_bytes, sector_in}
 use Rattle.ipl_format.specs.Record.{Record, IsRecord, SpellsLog, record_bytes, value_of}
 use Rattle.ipl_format.specs.Commit.{SpellsCommit}
+use Rattle.ipl_format.specs.Mark.{SpellsMark, has_unit}
 use Rattle.ipl_format.specs.Header.{SpellsDataHeader, SpellsStatusHeader, SpellsOverflowHeader, erases_said}
 use Rattle.ipl_format.specs.Page.{Slots, IsShort, IsPage, SpellsPage, IsCutInto, empty_page, piece_of}
 
@@ -63,6 +64,13 @@ CommitsSpellOnce = (payload : List ℕ) (a b : List ℕ) → SpellsCommit payloa
 -- each number has eight bytes
 abbrev pub CommitsHaveSizes : Type 0
 CommitsHaveSizes = (payload : List ℕ) (numbers : List ℕ) → SpellsCommit payload numbers → length payload ≡ 8 * length numbers
+
+-- ---- marks
+
+-- of these units there is one mark
+abbrev pub MarksSpellOnce : Type 0
+MarksSpellOnce = (units : ℕ) (a b : List ℕ) → SpellsMark units a → SpellsMark units b
+    → ((u : ℕ) → u < units → has_unit a u ≡ has_unit b u) → a ≡ b
 
 -- ---- headers
 

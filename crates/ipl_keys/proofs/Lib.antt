@@ -6,3 +6,4 @@ pub mod NeverLemmas
 pub mod ReadLemmas
 pub mod ChangeLemmas
 pub mod OpenLemmas
+pub mod CloseLemmas

@@ -1,5 +1,5 @@
 -- A chip is opened whose records have keys.
-use Rattle.std.proofs.Common.{◌≡◌, ◌∙◌, ℕ, inl, inr, [], Result, Ok, Err, refl, sym, subst}
+use Rattle.std.proofs.Common.{◌≡◌, ◌∙◌, ℕ, true, inl, inr, [], Result, Ok, Err, sym, subst}
 use Rattle.chip_trait.specs.Moment.{AtEachMoment}
 use Rattle.chip_trait.specs.Story.{Story, held}
 use Rattle.chip_trait.specs.Told.{History, Told, adds_all}
@@ -50,10 +50,10 @@ module _ (old new : Told) (units : ℕ) (records : Map) (m : KeyMap) (h : Histor
   }
 
   -- it was, and not opened
-  failed : (e : ImageFault) (t : Tables) → Tries old.places old (Err e) t new
+  failed : (e : ImageFault) (t : Tables) → Tries true old.places old (Err e) t new
       → OpensFor old.places units m h old (Err (Image e)) new
   failed e t tries =
-      let did = tries.steps records h steady rests in record {
+      let (first, takes, did) = tries.steps records h steady rests in record {
         added = did.added;
         history = did.history;
         each_moment = λ later part is. leaves (adds_all part h)
@@ -64,9 +64,9 @@ module _ (old new : Told) (units : ℕ) (records : Map) (m : KeyMap) (h : Histor
   -- it was opened
   opened : (keys : Keys) → OpensAs old.places old (Ok keys.store) new → OpensFor old.places units m h old (Ok keys) new
   opened keys (sound, opens, tries) =
-      let did = tries.steps records h steady rests in
+      let (first, takes, did) = tries.steps records h steady rests in
       let later = adds_all did.added h in
-      let tidy = did.does.clean refl h.story (λ p s nowhere. absurd nowhere) in
+      let ends = did.ends tt in
       let store = keys.store in
       let alike : store.units ≡ units = opens.units (held h.start h.story) steady.holds ∙ sym suits in
       record {
@@ -78,7 +78,7 @@ module _ (old new : Told) (units : ℕ) (records : Map) (m : KeyMap) (h : Histor
           record {
             state = at_rest records;
             keeps = opens.keeps records later (held h.start h.story) steady.holds
-                (held_stands old.places records h rests.each) (did.steady tt) (did.ends tt) tidy;
+                (held_stands old.places records h rests.each) (did.steady tt) ends.rests ends.tidy;
             has = resting_states_have_keys store.units records m
                 (subst (λ (n : ℕ). HasKeys n records m) (sym alike) has);
           },

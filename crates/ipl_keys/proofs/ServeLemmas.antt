@@ -5,6 +5,7 @@ use Rattle.chip_trait.specs.Story.{Contents, held}
 use Rattle.chip_trait.specs.Told.{History, Told, adds_all}
 use Rattle.ipl_base.specs.declared.fault.StoreFault.{StoreFault}
 use Rattle.ipl_rules.specs.State.{Map, State, Limits}
+use Rattle.ipl_meaning.proofs.CarriedLemmas.{tidy_is_carried}
 use Rattle.ipl_meaning.specs.Chart.{chart_of}
 use Rattle.ipl_meaning.specs.Layout.{Laid}
 use Rattle.ipl_meaning.specs.Rests.{now, EachStandsEitherIn, StoryRests}
@@ -90,7 +91,8 @@ module _ {T E : Type 0} (next : State → State) (a b : Store) (before after : T
           sessions = at_end.fits.sessions;
           shows = subst (ShowsState places (view_of b) then)
               (same_held y (held k.start k.story) after told_then steady.holds) showing;
-          tidy = did.does.clean settled h.story at.story.tidy;
+          tidy = tidy_is_carried places h at.shown.layout (view_of a).memory.tables (view_of b).memory.tables did.added
+              (record { mirrors = at.shown.fits.mirrors; tidy = at.story.tidy }) (did.does.clean settled);
         };
       }
 
@@ -104,11 +106,13 @@ module _ {T E : Type 0} (next : State → State) (a b : Store) (before after : T
   pub leading_steps : StoreSteps next a before result b after h state
   leading_steps = record {
     added = did.added;
+    places = did.places;
     history = did.history;
     each_moment = subst (λ (units : ℕ). AtEachMoment (λ e. EachStandsEitherIn places units state.map
         (next state).map (adds_all e h)) did.added) at.shown.count
         (moments_keep_units places state.map (next state).map h at.shown.layout did.added
         at.shown.fits.mirrors.laid did.each_moment);
+    marks = did.marks;
     does = did.does;
     steady = did.steady;
     ends = λ settled. ends_so result (adds_all did.added h) (keeps_then settled);

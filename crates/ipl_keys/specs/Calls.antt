@@ -201,6 +201,7 @@ may_meet refused.HoldsFull = true
 may_meet refused.NotHeld = true
 may_meet refused.PageFull = true
 may_meet (refused.Twice s) = true
+may_meet (refused.SessionsOpen s) = true
 
 abbrev pub is_met : KeyFault → Bool
 is_met (key.Store Down) = true

@@ -5,3 +5,4 @@ pub mod Laws
 pub mod Keeps
 pub mod Calls
 pub mod Opening
+pub mod Closing

@@ -10,13 +10,15 @@
 //! is no bucket, the bucket is full, or the store refuses the write of the changed bytes; it never
 //! refuses them for their name or their length. Else a call answers and changes the key state as a
 //! map with lists of writes does, or leaves it where it fails, and no record is found to be no
-//! bucket; at each moment a power cut leaves the keys before, or in a commit those after it. By
-//! `key_laws`, without a chip: records have one map of keys, and each operation on records is one on
-//! keys.
+//! bucket; at each moment a power cut leaves the keys before, or in a commit those after it. A close
+//! is refused exactly where the store is down, its numbers are used up or a session is open; else it
+//! keeps the keys, and once it is done the store is down. By `key_laws`, without a chip: records have
+//! one map of keys, and each operation on records is one on keys.
 #![tactic(auto)]
 
 mod admitting;
 mod changing;
+mod closing;
 mod fault;
 mod keys;
 mod laws;

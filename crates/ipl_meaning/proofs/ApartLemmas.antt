@@ -13,6 +13,13 @@ none_still c p s sector q t none apart = elim (cases_Bool (eqb p q && eqb s t)) 
   | inr elsewhere ↦ rw elsewhere none
 ]
 
+-- where something is there is something still
+pub some_still : (c : Chart) (p s : ℕ) (sector : Sector) (q t : ℕ) → c q t ≢ None → with_sector c p s sector q t ≢ None
+some_still c p s sector q t some none = elim (cases_Bool (eqb p q && eqb s t)) [
+  | inl at ↦ let here : Some sector ≡ None = rw at at none in cc here
+  | inr elsewhere ↦ some (rw elsewhere at none)
+]
+
 module _ (places : ℕ) (c : Chart) (it : Layout) (laid : Laid places c it) where
   pub homes_apart : (u v : ℕ) → u < it.count → v < it.count → (it.units u).home ≡ (it.units v).home → u ≡ v
   homes_apart u v low less same =

@@ -1,5 +1,5 @@
 -- How the tables follow a commit sector.
-use Rattle.std.proofs.Common.{◌≡◌, ◌≢◌, ℕ, ◌<◌, ◌≤◌, List, get_or, inl, inr, arith, Bool, false}
+use Rattle.std.proofs.Common.{◌≡◌, ◌≢◌, ℕ, ◌<◌, ◌≤◌, List, get_or, inl, inr, refl, arith, Bool, false}
 use Rattle.std.specs.List.{All, AllPairs, Contains}
 use Rattle.std.proofs.lemmas.Bool.{cases_Bool}
 use Rattle.std.proofs.lemmas.List.Elements.{All-contains, Contains-append_left, Contains-append_right, Contains-append_cases}
@@ -13,10 +13,11 @@ use Rattle.ipl_meaning.specs.Tables.{Tables}
 use Rattle.ipl_meaning.specs.Mirrors.{AreApart, MirrorsOverflow, MirrorsStatus, MirrorsNumbers, Mirrors}
 use Rattle.ipl_meaning.specs.TableSteps.{after_commit}
 use Rattle.ipl_meaning.specs.FollowingLaws.{TablesFollowCommits}
-use Rattle.ipl_meaning.proofs.PutLemmas.{kept, live_still, live_back}
+use Rattle.ipl_meaning.proofs.PutLemmas.{kept, live_still, live_back, mark_before}
 use Rattle.ipl_meaning.proofs.CommitLemmas.{commit_sectors_add}
 use Rattle.ipl_meaning.proofs.CounterLemmas.{commit_sectors_keep_the_counter}
-use Rattle.ipl_meaning.proofs.ApartLemmas.{none_still}
+use Rattle.ipl_meaning.proofs.ApartLemmas.{none_still, some_still}
+use Rattle.ipl_meaning.proofs.KnownLogLemmas.{logs_still}
 use Rattle.ipl_meaning.proofs.CountedLemmas.{commit_counted}
 
 module _ (places : ℕ) (c : Chart) (it : Layout) (t : Tables) (sector : Sector) (numbers : List ℕ) (committed : ℕ → Bool) (next : ℕ) (active : List ℕ) (mirrors : Mirrors places c it t)
@@ -94,6 +95,8 @@ module _ (places : ℕ) (c : Chart) (it : Layout) (t : Tables) (sector : Sector)
     status = status;
     numbers = numbers_there;
     masks = let was = mirrors.masks in record { units = was.units; lists = was.lists; sectors = was.sectors; home = was.home; elsewhere = was.elsewhere };
+    logs = logs_still c y it jt (mark_before c it.status first sector may.free (λ is. omega (arith, is, may.kind)) it.status it.head.generation)
+        refl (λ v. refl) (λ v. refl) (λ v n low. some_still c it.status first sector (it.units v).home n) t tables (λ v. refl) mirrors.logs;
     counted_clean = λ q n is. let (before, apart) = commit_counted places c it t mirrors numbers active next q n is in none_still c it.status first sector q n (mirrors.counted_clean q n before) apart;
   }
 

@@ -7,7 +7,7 @@ use Rattle.ipl_meaning.specs.Chart.{Chart, IsStatusHeader}
 use Rattle.ipl_meaning.specs.Layout.{IsCommitSector, IsCommitted, Layout, Laid}
 use Rattle.ipl_meaning.specs.Steps.{with_committed, MayCommit}
 use Rattle.ipl_meaning.specs.Laws.{CommitSectorsAdd}
-use Rattle.ipl_meaning.proofs.PutLemmas.{new_or_old, here, chosen_still, live_back, unit_still, committed_still, pages_still}
+use Rattle.ipl_meaning.proofs.PutLemmas.{new_or_old, here, chosen_still, live_back, unit_still, committed_still, marks_still, pages_still}
 use Rattle.ipl_format.proofs.PayloadLemmas.{commits_spell_once}
 
 module _ (places : ℕ) (c : Chart) (it : Layout) (s : ℕ) (sector : Sector) (numbers : List ℕ) (committed : ℕ → Bool) (laid : Laid places c it) (may : MayCommit c it s sector numbers committed) where
@@ -56,6 +56,7 @@ module _ (places : ℕ) (c : Chart) (it : Layout) (s : ℕ) (sector : Sector) (n
     chosen = chosen_still c it.status s sector may.free places IsStatusHeader it.status it.head (λ none. absurd (no_header none)) laid.chosen;
     counts = laid.counts;
     commits = record { spelled = spelled; told = λ tid is_so. told tid (may.no_more tid is_so); all_told = all_told };
+    marks = marks_still c it.status s sector may.free (λ is. omega (arith, is, may.kind)) it.status it.head.generation it.count laid.marks;
     each = λ u low. unit_still c it.status s sector may.free places it.count u (it.units u) (λ none. absurd (no_header none))
         (live_back c it.status s sector may.free (λ none. absurd (no_header none)) places u (it.units u).home (it.units u).head.generation (λ is _. omega (arith, is, may.kind))) (laid.each u low);
     overflows = laid.overflows;

@@ -6,13 +6,13 @@ use Rattle.std.proofs.lemmas.List.{get_or-set_same, get_or-set_other, length-map
 use Rattle.std.proofs.lemmas.List.Elements.{Contains-get_or}
 use Rattle.ipl_meaning.specs.Chart.{Chart, IsOverflow}
 use Rattle.ipl_meaning.specs.Layout.{Layout}
-use Rattle.ipl_meaning.specs.Tables.{Tables, place_of, first_log}
+use Rattle.ipl_meaning.specs.Tables.{Tables, place_of, first_log, clean_from}
 use Rattle.ipl_meaning.specs.Mirrors.{AreApart, Mirrors}
 use Rattle.ipl_meaning.specs.TableSteps.{after_home_log, after_overflow_log, after_commit, with_next_spot, CountedShrink}
 use Rattle.ipl_meaning.specs.FollowingLaws.{CountedFollow}
-use Rattle.ipl_meaning.proofs.PutLemmas.{here}
 use Rattle.ipl_meaning.proofs.MirrorLemmas.{map_contains}
 use Rattle.ipl_meaning.proofs.ApartLemmas.{home_not_over, home_not_status, homes_apart, status_not_over}
+use Rattle.ipl_meaning.proofs.KnownLogLemmas.{counted_few}
 
 pub same_places : (p : ℕ) (l : List (ℕ × ℕ)) → map place_of (map (with_next_spot p) l) ≡ map place_of l
 same_places p [] = refl
@@ -67,22 +67,25 @@ module _ (places : ℕ) (c : Chart) (it : Layout) (t : Tables) (mirrors : Mirror
   home_of : (v q : ℕ) → v < length t.places.current → q ≡ slice_index t.places.current v → (v < it.count) × (q ≡ (it.units v).home)
   home_of v q less is = let low : v < it.count = omega (arith, less, mirrors.directory.units) in (low, is ∙ mirrors.directory.current v low)
 
-  pub home_counted : (u mask next : ℕ) → u < it.count → CountedShrink t (after_home_log t u mask next) (slice_index t.places.current u) (first_log t u)
-  home_counted u mask next low q n (small, inl (v, less, is, first)) = elim (cases_eq v u) [
+  pub home_counted : (u mask next : ℕ) → u < it.count → slice_index t.places.written u < 15
+      → CountedShrink t (after_home_log t u mask next) (slice_index t.places.current u) (first_log t u)
+  home_counted u mask next low left q n (small, inl (v, less, is, first)) = elim (cases_eq v u) [
     | inl same ↦
         let mine : slice_index (after_home_log t u mask next).places.written u ≡ slice_index t.places.written u + 1 = get_or-set_same t.places.written u (slice_index t.places.written u + 1) 0 (omega (arith, low, mirrors.directory.logs)) in
-        let above : first_log t u + 1 ≤ n = let one = rw same at first in omega (arith, one, mine) in
-        ((small, inl (v, less, is, rw same (omega (arith, above)))), λ _ there. omega (arith, above, there))
+        let few = counted_few (slice_index t.places.written u) (omega (arith, left)) in
+        let one_more = counted_few (slice_index t.places.written u + 1) (omega (arith, left)) in
+        let above : first_log t u + 1 ≤ n = let one = rw (same, mine, one_more) at first in omega (arith, one) in
+        ((small, inl (v, less, is, rw (same, few) (omega (arith, above)))), λ _ there. omega (arith, above, there))
     | inr apart ↦
-        let above : first_log t v ≤ n = omega (arith, first, get_or-set_other t.places.written u v (slice_index t.places.written u + 1) 0 apart) in
+        let above : clean_from t v ≤ n = rw (get_or-set_other t.places.written u v (slice_index t.places.written u + 1) 0 apart) at first in
         let (inside, home) = home_of v q less is in
         ((small, inl (v, less, is, above)), λ same _. apart (homes_apart places c it mirrors.laid v u inside low (sym home ∙ same ∙ mirrors.directory.current u low)))
   ]
-  home_counted u mask next low q n (small, inr (inl (first, is, above))) = (
+  home_counted u mask next low left q n (small, inr (inl (first, is, above))) = (
     (small, inr (inl (first, is, above))),
     λ same _. home_not_over places c it mirrors.laid u low (let over = overflow_headed q first is in rw (same ∙ mirrors.directory.current u low) at over),
   )
-  home_counted u mask next low q n (small, inr (inr (is, above))) = (
+  home_counted u mask next low left q n (small, inr (inr (is, above))) = (
     (small, inr (inr (is, above))),
     λ same _. home_not_status places c it mirrors.laid u low (sym (mirrors.directory.current u low) ∙ sym same ∙ is ∙ mirrors.status.place),
   )

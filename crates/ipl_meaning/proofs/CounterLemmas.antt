@@ -1,14 +1,14 @@
 -- What the counter draws is new, and it stays above all that is found.
-use Rattle.std.proofs.Common.{◌≡◌, ◌≢◌, ◌⊎◌, ℕ, ◌<◌, Some, None, inl, inr, refl, sym, ◌∙◌, ap, arith, get_or}
+use Rattle.std.proofs.Common.{◌≡◌, ◌≢◌, ◌⊎◌, ℕ, ◌<◌, ◌≤◌, Some, None, inl, inr, refl, sym, ◌∙◌, ap, arith, get_or}
 use Rattle.std.proofs.lemmas.Bool.{cases_Bool, cases_eq, eq-eqb, ne_eqb}
 use Rattle.std.proofs.lemmas.List.Elements.{Contains-get_or}
 use Rattle.chip_trait.specs.Chart.{with_sector}
 use Rattle.ipl_format.specs.Sector.{Sector}
 use Rattle.ipl_meaning.specs.Chart.{Chart, IsHeader}
-use Rattle.ipl_meaning.specs.Layout.{Layout, IsLiveIn}
+use Rattle.ipl_meaning.specs.Layout.{Layout, IsCommitSector, IsMark, IsLiveIn}
 use Rattle.ipl_meaning.specs.Steps.{with_log, with_committed, with_unit, with_status}
 use Rattle.ipl_meaning.specs.Found.{IsLogSpot, IsRead, MentionsBelow, IsAbove, IsPlaceBelow}
-use Rattle.ipl_meaning.specs.CounterLaws.{NewGenerationsWakeNothing, NewSerialsAreGreatest, NewNumbersWait, LogSectorsKeepTheCounter, CommitSectorsKeepTheCounter, HeadersKeepTheCounter, BarePlacesKeepTheCounter}
+use Rattle.ipl_meaning.specs.CounterLaws.{NewGenerationsWakeNothing, NewSerialsAreGreatest, NewNumbersWait, NewSerialsPassTheStatus, LogSectorsKeepTheCounter, CommitSectorsKeepTheCounter, HeadersKeepTheCounter, BarePlacesKeepTheCounter}
 use Rattle.ipl_meaning.proofs.PutLemmas.{new_or_old}
 
 -- what is read is below
@@ -35,12 +35,42 @@ new_serials_are_greatest places c it next serial above new = (
       let below : other.serial < next = read_below places c it next q t other above (live_is_read places c it u q t other low live) other.serial (inr (inl refl)) in omega (arith, below, new),
 )
 
+-- a commit sector or a mark of the status place
+abbrev pub IsOfStatus : Chart → ℕ → ℕ → ℕ → Sector → Type 0
+IsOfStatus c status generation s sector = IsCommitSector c status generation s sector ⊎ IsMark c status generation s sector
+
+-- it stands there, behind the header, and is of a kind
+pub of_status_here : (c : Chart) (status generation s : ℕ) (sector : Sector) → IsOfStatus c status generation s sector
+    → (c status s ≡ Some sector) × (1 ≤ s) × ((sector.kind ≡ 5) ⊎ (sector.kind ≡ 6) ⊎ (sector.kind ≡ 7))
+of_status_here c status generation s sector (inl w) = (w.here, w.where_it_is.0, inr (inl w.kind))
+of_status_here c status generation s sector (inr w) = (w.here, w.where_it_is.0, inr (inr w.kind))
+
+-- it is one of another, where it stands and the generation is the same
+of_status_there : (c y : Chart) (status other generation own s : ℕ) (sector : Sector) → c status s ≡ Some sector → own ≡ generation
+    → IsOfStatus y other own s sector → IsOfStatus c status generation s sector
+of_status_there c y status other generation own s sector there same (inl w) =
+    inl (record { here = there; kind = w.kind; of_generation = w.of_generation ∙ same; where_it_is = w.where_it_is })
+of_status_there c y status other generation own s sector there same (inr w) =
+    inr (record { here = there; kind = w.kind; of_generation = w.of_generation ∙ same; where_it_is = w.where_it_is })
+
+pub new_serials_pass_the_status : NewSerialsPassTheStatus
+new_serials_pass_the_status places c it next serial above new = (
+  λ s sector w. passed s sector (inr w),
+  λ s sector w. passed s sector (inl w),
+)
+  where
+    passed : (s : ℕ) (sector : Sector) → IsOfStatus c it.status it.head.generation s sector → sector.serial < serial
+    passed s sector w =
+        let below : sector.serial < next = read_below places c it next it.status s sector above (inr (inl (refl, w))) sector.serial (inr (inl refl)) in
+        omega (arith, below, new)
+
 pub new_numbers_wait : NewNumbersWait
 new_numbers_wait places c it next tid laid above new = (
   elim (cases_Bool (it.committed tid)) [
     | inl is_so ↦
         let w = laid.commits.told tid is_so in
-        let below : tid < next = read_below places c it next it.status w.number w.sector above (inr (inl (refl, w.is))) tid (inr (inr (inl (w.is.kind, w.numbers, w.spelled, w.has)))) in
+        let below : tid < next = read_below places c it next it.status w.number w.sector above (inr (inl (refl, inl w.is))) tid
+        (inr (inr (inl (w.is.kind, w.numbers, w.spelled, w.has)))) in
         absurd (omega (arith, below, new))
     | inr is_not ↦ is_not
   ],
@@ -78,9 +108,13 @@ module _ (places : ℕ) (c : Chart) (it jt : Layout) (p s : ℕ) (sector : Secto
 
   read_before : (q t : ℕ) (x : Sector) → IsRead places y jt q t x → MentionsBelow next x ⊎ IsRead places c it q t x
   read_before q t x (inl (header, low, there, fits)) = inr (inl (header, low, header_before q x there, fits))
-  read_before q t x (inr (inl (at_status, w))) = elim (new_or_old c p s sector free jt.status t x w.here) [
+  read_before q t x (inr (inl (at_status, w))) = elim (new_or_old c p s sector free jt.status t x (of_status_here y jt.status jt.head.generation t x w).0) [
     | inl new ↦ inl (new_below x new.2)
-    | inr old ↦ inr (inr (inl (at_status ∙ status, record { here = ap (λ (z : ℕ). c z t) (sym status) ∙ old; kind = w.kind; of_generation = w.of_generation ∙ ap (λ (z : Sector). z.generation) head; where_it_is = w.where_it_is })))
+    | inr old ↦ inr (inr (inl (
+      at_status ∙ status,
+      of_status_there c y it.status jt.status it.head.generation jt.head.generation t x (ap (λ (z : ℕ). c z t) (sym status) ∙ old)
+          (ap (λ (z : Sector). z.generation) head) w,
+    )))
   ]
   read_before q t x (inr (inr (low, small, there, kind, spot))) = elim (new_or_old c p s sector free q t x there) [
     | inl new ↦ inl (new_below x new.2)
@@ -105,14 +139,18 @@ module _ (places : ℕ) (c : Chart) (it jt : Layout) (p : ℕ) (head : Sector) (
   abbrev z : Chart
   z = with_sector c p 0 head
 
-  -- a log or commit sector was there before
-  old_there : (q t : ℕ) (x : Sector) → z q t ≡ Some x → (x.kind ≡ 5) ⊎ (x.kind ≡ 6) → c q t ≡ Some x
+  -- a log sector, a commit sector or a mark was there before
+  old_there : (q t : ℕ) (x : Sector) → z q t ≡ Some x → (x.kind ≡ 5) ⊎ (x.kind ≡ 6) ⊎ (x.kind ≡ 7) → c q t ≡ Some x
   old_there q t x there kind = elim (new_or_old c p 0 head free q t x there) [
-    | inl new ↦ absurd (let same = ap (λ (z : Sector). z.kind) new.2 in elim kind [ inl five ↦ omega (arith, same, five, is_header.1) | inr six ↦ omega (arith, same, six, is_header.1) ])
+    | inl new ↦ absurd (let same = ap (λ (z : Sector). z.kind) new.2 in elim kind [
+      | inl five ↦ omega (arith, same, five, is_header.1)
+      | inr (inl six) ↦ omega (arith, same, six, is_header.1)
+      | inr (inr seven) ↦ omega (arith, same, seven, is_header.1)
+    ])
     | inr old ↦ old
   ]
 
-  at_place : (q t : ℕ) (x : Sector) → q ≡ p → c q t ≡ Some x → (x.kind ≡ 5) ⊎ (x.kind ≡ 6) → MentionsBelow next x
+  at_place : (q t : ℕ) (x : Sector) → q ≡ p → c q t ≡ Some x → (x.kind ≡ 5) ⊎ (x.kind ≡ 6) ⊎ (x.kind ≡ 7) → MentionsBelow next x
   at_place q t x at there kind = all_below t x (rw at at there) kind
 
   spot_or_place : (q t : ℕ) → IsLogSpot z jt q t → (q ≡ p) ⊎ IsLogSpot c it q t
@@ -125,10 +163,15 @@ module _ (places : ℕ) (c : Chart) (it jt : Layout) (p : ℕ) (head : Sector) (
     | inr old ↦ inr (inl (header, low, old, fits))
   ]
   read_then q t x (inr (inl (at_status, w))) =
-      let old = old_there jt.status t x w.here (inr w.kind) in
+      let (there, number, kind) = of_status_here z jt.status jt.head.generation t x w in
+      let old = old_there jt.status t x there kind in
       elim status [
-        | inl at ↦ inl (at_place jt.status t x at old (inr w.kind))
-        | inr same ↦ inr (inr (inl (at_status ∙ same.0, record { here = ap (λ (z : ℕ). c z t) (sym same.0) ∙ old; kind = w.kind; of_generation = w.of_generation ∙ ap (λ (z : Sector). z.generation) same.1; where_it_is = w.where_it_is })))
+        | inl at ↦ inl (at_place jt.status t x at old kind)
+        | inr same ↦ inr (inr (inl (
+          at_status ∙ same.0,
+          of_status_there c z it.status jt.status it.head.generation jt.head.generation t x (ap (λ (z : ℕ). c z t) (sym same.0) ∙ old)
+              (ap (λ (z : Sector). z.generation) same.1) w,
+        )))
       ]
   read_then q t x (inr (inr (low, small, there, kind, spot))) =
       let old = old_there q t x there (inl kind) in
@@ -163,5 +206,10 @@ bare_places_keep_the_counter places c it p y next not_status not_home same bare 
 
     read_still : (q t : ℕ) (x : Sector) → IsRead places y it q t x → MentionsBelow next x ⊎ IsRead places c it q t x
     read_still q t x (inl (header, low, there, fits)) = inr (inl (header, low, back q 0 x (has_header q x there) there, fits))
-    read_still q t x (inr (inl (at_status, w))) = inr (inr (inl (at_status, record { here = back it.status t x not_status w.here; kind = w.kind; of_generation = w.of_generation; where_it_is = w.where_it_is })))
+    read_still q t x (inr (inl (at_status, w))) =
+        inr (inr (inl (
+          at_status,
+          of_status_there c y it.status it.status it.head.generation it.head.generation t x
+              (back it.status t x not_status (of_status_here y it.status it.head.generation t x w).0) refl w,
+        )))
     read_still q t x (inr (inr (low, small, there, kind, spot))) = let (apart, before) = spot_still q t spot in inr (inr (inr (low, small, back q t x apart there, kind, before)))

@@ -8,12 +8,13 @@ use Rattle.ipl_base.specs.Places.{KeepsUnits}
 use Rattle.ipl_format.specs.Sector.{Sector}
 use Rattle.ipl_meaning.specs.Chart.{Chart}
 use Rattle.ipl_meaning.specs.Found.{IsRead, Mentions}
-use Rattle.ipl_meaning.specs.Tables.{IsFree, Tables, masks_in, spots_of, masks_of, IsCountedClean}
+use Rattle.ipl_meaning.specs.Tables.{IsFree, Tables, masks_in, spots_of, masks_of, written_of, IsCountedClean}
 use Rattle.ipl_meaning.specs.Mirrors.{Mirrors}
 use Rattle.ipl_meaning.specs.Formatted.{first_head, first_status, formatted}
 use Rattle.ipl_meaning.specs.FirstTables.{first_layout, first_tables}
 use Rattle.ipl_meaning.specs.TableLaws.{FirstTablesMirror}
 use Rattle.ipl_meaning.proofs.FormattedLemmas.{header_is, no_sector, laid, never_live}
+use Rattle.ipl_meaning.proofs.CounterLemmas.{of_status_here}
 
 module _ (places units : ℕ) (least : 5 ≤ places) (most : places ≤ 1028) (keeps : KeepsUnits places units) where
   abbrev c : Chart
@@ -44,8 +45,12 @@ module _ (places units : ℕ) (least : 5 ≤ places) (most : places ≤ 1028) (k
   none_listed : {X : Type 0} (x : X) → ¬ Contains [] x
   none_listed x (k, within, is) = omega (arith, within)
 
+  none_known : (u : ℕ) → u < units → written_of t u ≡ 32
+  none_known u low = get_or-replicate {A = ℕ} (units) u 32 0 low
+
   none_counted : (p s : ℕ) → ¬ IsCountedClean t p s
-  none_counted p s (small, inl (u, less, is, first)) = omega (arith, small, first, get_or-replicate {A = ℕ} (units) u 15 0 (omega (arith, less, length-range_with_len 0 (units))))
+  none_counted p s (small, inl (u, less, is, first)) =
+      let from : 256 ≤ s = rw (none_known u (omega (arith, less, length-range_with_len 0 (units)))) at first in omega (arith, small, from)
   none_counted p s (small, inr (inl (first, is, above))) = none_listed (p, first) is
   none_counted p s (small, inr (inr (is, above))) = omega (arith, small, above)
 
@@ -64,7 +69,9 @@ module _ (places units : ℕ) (least : 5 ≤ places) (most : places ≤ 1028) (k
 
   read_below : (p s : ℕ) (x : Sector) (n : ℕ) → IsRead places c (first_layout units) p s x → Mentions x n → n < units + 2
   read_below p s x n (inl (header, low, there, fits)) mentions = header_below p x n there mentions
-  read_below p s x n (inr (inl (at, w))) mentions = absurd (no_sector places units least most keeps _ s x (λ none. omega (arith, w.where_it_is.0, none)) w.here)
+  read_below p s x n (inr (inl (at, w))) mentions =
+      let (there, number, kind) = of_status_here c units (units + 1) s x w in
+      absurd (no_sector places units least most keeps _ s x (λ none. omega (arith, number, none)) there)
   read_below p s x n (inr (inr (low, small, there, kind, inl (u, less, at, region)))) mentions = absurd (no_sector places units least most keeps p s x (λ none. omega (arith, region, none)) there)
   read_below p s x n (inr (inr (low, small, there, kind, inr (over, number)))) mentions = absurd (no_sector places units least most keeps p s x (λ none. omega (arith, number, none)) there)
 
@@ -73,7 +80,7 @@ module _ (places units : ℕ) (least : 5 ≤ places) (most : places ≤ 1028) (k
     laid = laid places units least most keeps;
     directory = record {
       units = length-range_with_len 0 (units);
-      logs = length-replicate (units) 15;
+      logs = length-replicate (units) 32;
       all = omega (arith, keeps.1, length-append (replicate (units + 1) true) (replicate (places - units - 1) false), length-replicate (units + 1) true, length-replicate (places - units - 1) false, keeps.1);
       counts = length-replicate places 1;
       current = λ u low. get_or-range_with_len 0 (units) u 0 low ∙ (let e : 0 + u ≡ u = omega arith in e);
@@ -107,6 +114,10 @@ module _ (places units : ℕ) (least : 5 ≤ places) (most : places ≤ 1028) (k
       sectors = λ u low. rw (no_masks u low) (length-replicate {A = ℕ} 15 0);
       home = λ u s low least most. rw (no_masks u low) (get_or-replicate {A = ℕ} 15 (s - 241) 0 0 (omega (arith, least, most)));
       elsewhere = λ u low. rw (no_list u low, no_spots u low) refl;
+    };
+    logs = record {
+      unmarked = λ u low first. absurd (omega (arith, first, none_known u low));
+      whole = λ u n low known. absurd (omega (arith, known, none_known u low));
     };
     counted_clean = λ p s is. absurd (none_counted p s is);
   }

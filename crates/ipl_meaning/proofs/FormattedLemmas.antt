@@ -1,5 +1,5 @@
 -- A formatted chip stands for the empty map.
-use Rattle.std.proofs.Common.{◌≡◌, ◌≢◌, ◌⊎◌, ℕ, ◌<◌, ◌≤◌, ◌+◌, ◌-◌, ◌*◌, [], slice_index, Some, None, inl, inr, refl, sym, ◌∙◌, ap, arith, false}
+use Rattle.std.proofs.Common.{◌≡◌, ◌≢◌, ◌⊎◌, ℕ, ◌<◌, ◌≤◌, ◌+◌, ◌*◌, [], slice_index, Some, None, inl, inr, refl, sym, ◌∙◌, ap, arith, false}
 use Rattle.std.proofs.lemmas.Bool.{cases_eq, cases_lt, eq-eqb, ne_eqb, lt-ltb, le-ltb}
 use Rattle.std.proofs.lemmas.List.{get_or-replicate, get_or_past}
 use Rattle.std.proofs.lemmas.List.Elements.{All-replicate}
@@ -116,6 +116,7 @@ module _ (places units : ℕ) (least : 5 ≤ places) (most : places ≤ 1028) (k
       told = λ tid is_so. absurd (cc is_so);
       all_told = λ tid w. absurd (no_sector _ w.number w.sector (λ none. omega (arith, w.is.where_it_is.0, none)) w.is.here);
     };
+    marks = λ s x w. absurd (no_sector _ s x (λ none. omega (arith, w.where_it_is.0, none)) w.here);
     each = unit;
     overflows = [];
     two = omega arith;

@@ -1,5 +1,5 @@
 -- How the tables follow a log sector at home.
-use Rattle.std.proofs.Common.{◌≡◌, ℕ, ◌<◌, ◌≤◌, ◌-◌, ◌≢◌, List, [], slice_index, slice_set, inl, inr, refl, sym, ◌∙◌, ap, arith}
+use Rattle.std.proofs.Common.{◌≡◌, ℕ, ◌<◌, ◌≤◌, ◌+◌, ◌-◌, ◌≢◌, List, [], slice_index, slice_set, inl, inr, refl, sym, ◌∙◌, ap, arith}
 use Rattle.std.proofs.lemmas.Bool.{cases_eq}
 use Rattle.std.proofs.lemmas.List.{length-set, get_or-set_same, get_or-set_other}
 use Rattle.chip_trait.specs.Chart.{with_sector}
@@ -10,13 +10,15 @@ use Rattle.ipl_meaning.specs.Layout.{Layout}
 use Rattle.ipl_meaning.specs.Steps.{with_log, MayLog, entry_at}
 use Rattle.ipl_meaning.specs.Found.{MentionsBelow}
 use Rattle.ipl_meaning.specs.Masks.{mask_of, mask_at, mask_at_spot}
-use Rattle.ipl_meaning.specs.Tables.{Tables, first_log, masks_in, home_mask, spots_of}
-use Rattle.ipl_meaning.specs.Mirrors.{MirrorsPlaces, MirrorsOverflow, MirrorsMasks, Mirrors}
+use Rattle.ipl_meaning.specs.Tables.{Tables, written_of, first_log, masks_in, home_mask, spots_of}
+use Rattle.ipl_meaning.specs.Mirrors.{MirrorsPlaces, MirrorsOverflow, MirrorsMasks, MirrorsLogs, Mirrors}
 use Rattle.ipl_meaning.specs.TableSteps.{IsFreshLog, after_home_log}
 use Rattle.ipl_meaning.specs.FollowingLaws.{TablesFollowHomeLogs}
+use Rattle.ipl_meaning.proofs.PutLemmas.{here, mark_before}
 use Rattle.ipl_meaning.proofs.WaitLemmas.{log_sectors_wait}
 use Rattle.ipl_meaning.proofs.MirrorLemmas.{log_sectors_may_go_home}
-use Rattle.ipl_meaning.proofs.ApartLemmas.{none_still}
+use Rattle.ipl_meaning.proofs.ApartLemmas.{none_still, some_still}
+use Rattle.ipl_meaning.proofs.KnownLogLemmas.{counted_few, unmarked_still}
 use Rattle.ipl_meaning.proofs.CountedLemmas.{home_counted}
 use Rattle.ipl_meaning.proofs.MaskLemmas.{NoneStands, mask_of_new, mask_of_others, stands_here, stands_away, map_same}
 use Rattle.ipl_meaning.proofs.LogFollowLemmas.{log_mine, log_other, none_stands, live_then, new_or_live, numbers_then, over_then, same_head, same_home}
@@ -113,6 +115,34 @@ module _ (places : ℕ) (c : Chart) (it : Layout) (t : Tables) (u next : ℕ) (s
             (stands_away (entry_at p s sector records) (it.units u).home n (λ place number. apart (sym number)))))
       ]
 
+  -- the one more that counts as written checks
+  logs : MirrorsLogs (with_sector c p s sector) jt tables
+  logs = let was = mirrors.logs in record {
+    unmarked = λ v less first. unmarked_still c (with_sector c p s sector) it jt
+        (mark_before c p s sector may.free (λ is. omega (arith, is, may.kind)) it.status it.head.generation) v (same_head places c it u p s sector records may v) (elim (cases_eq v u) [
+          | inl same ↦ rw same (was.unmarked u low (omega (arith, left)))
+          | inr apart ↦ was.unmarked v less (rw (written_other v apart) at first)
+        ]);
+    whole = λ v n less known least most. rw (same_home places c it u p s sector records may v) (elim (cases_eq v u) [
+      | inl same ↦
+          let one_more = counted_few (slice_index t.places.written u + 1) (omega (arith, left)) in
+          let end : n < 241 + (slice_index t.places.written u + 1) = rw (same, written_mine, one_more) at most in
+          elim (cases_eq n s) [
+            | inl last ↦ rw (last, same, ← at, here c p s sector may.free) (λ none. cc none)
+            | inr before ↦ some_still c p s sector (it.units v).home n (rw same (was.whole u n low (omega (arith, left)) least
+                (rw (counted_few (slice_index t.places.written u) (omega (arith, left))) (omega (arith, end, before)))))
+          ]
+      | inr apart ↦ some_still c p s sector (it.units v).home n
+          (was.whole v n less (rw (written_other v apart) at known) least (rw (written_other v apart) at most))
+    ]);
+  }
+    where
+      written_mine : written_of tables u ≡ slice_index t.places.written u + 1
+      written_mine = get_or-set_same t.places.written u _ 0 (omega (arith, low, mirrors.directory.logs))
+
+      written_other : (v : ℕ) → v ≢ u → written_of tables v ≡ written_of t v
+      written_other v apart = get_or-set_other t.places.written u v _ 0 apart
+
   home_followed : Mirrors places (with_sector c p s sector) jt tables
   home_followed = record {
     laid = (log_sectors_wait places c it u p s sector records mirrors.laid may).0;
@@ -121,7 +151,8 @@ module _ (places : ℕ) (c : Chart) (it : Layout) (t : Tables) (u next : ℕ) (s
     status = let was = mirrors.status in record { place = was.place; generation = was.generation; numbers = was.numbers };
     numbers = numbers_then places c it u p s sector records may t tables next mirrors.numbers more below refl refl;
     masks = masks;
-    counted_clean = λ q n is. let (before, apart) = home_counted places c it t mirrors u (mask_of records) next low q n is in none_still c p s sector q n (mirrors.counted_clean q n before) apart;
+    logs = logs;
+    counted_clean = λ q n is. let (before, apart) = home_counted places c it t mirrors u (mask_of records) next low left q n is in none_still c p s sector q n (mirrors.counted_clean q n before) apart;
   }
 
 pub tables_follow_home_logs : TablesFollowHomeLogs

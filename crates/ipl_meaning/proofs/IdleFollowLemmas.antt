@@ -1,19 +1,20 @@
 -- How the tables follow places that change, and places that are taken.
-use Rattle.std.proofs.Common.{◌≡◌, ◌≢◌, ℕ, ◌<◌, ◌≤◌, get_or, set, List, length, None, inl, inr, sym, ◌∙◌, arith, true}
+use Rattle.std.proofs.Common.{◌≡◌, ◌≢◌, ℕ, ◌<◌, ◌≤◌, get_or, set, None, inl, inr, refl, sym, ◌∙◌, arith, eqb, true}
 use Rattle.std.specs.List.{Contains}
-use Rattle.std.proofs.lemmas.Bool.{cases_eq}
+use Rattle.std.proofs.lemmas.Bool.{cases_eq, eq-eqb, ne_eqb}
 use Rattle.std.proofs.lemmas.List.{length-set, get_or-set_same, get_or-set_other}
 use Rattle.ipl_format.specs.Sector.{Sector}
 use Rattle.ipl_meaning.specs.Chart.{Chart}
 use Rattle.ipl_meaning.specs.Layout.{Layout, IsLiveIn}
-use Rattle.ipl_meaning.specs.Steps.{SameBut, IsIdle, ComesToNothing}
+use Rattle.ipl_meaning.specs.Steps.{SameBut, SameOff, IsIdle, ComesToNothing}
 use Rattle.ipl_meaning.specs.Tables.{IsFree, one_more, inserted, Tables, overflow_places, IsCountedClean}
 use Rattle.ipl_meaning.specs.Mirrors.{Mirrors}
 use Rattle.ipl_meaning.specs.TableSteps.{with_next, with_erases, taken}
 use Rattle.ipl_meaning.specs.MovingLaws.{TablesFollowIdlePlaces, PlacesMayBeTaken, CountsAreFree, RetiredAreFree, PlacesMayBeRetired}
-use Rattle.ipl_meaning.proofs.IdleLemmas.{idle_places_do_not_count}
+use Rattle.ipl_meaning.proofs.IdleLemmas.{idle_places_do_not_count, mark_back}
 use Rattle.ipl_meaning.proofs.CounterLemmas.{bare_places_keep_the_counter}
 use Rattle.ipl_meaning.proofs.MirrorLemmas.{map_contains}
+use Rattle.ipl_meaning.proofs.KnownLogLemmas.{logs_still}
 
 -- none of its sectors is counted as clean
 pub counted_apart : (places : ℕ) (c : Chart) (it : Layout) (t : Tables) (p : ℕ) → Mirrors places c it t → IsIdle places c it p → ¬ Contains (overflow_places t) p → (q n : ℕ) → IsCountedClean t q n → q ≢ p
@@ -59,6 +60,9 @@ module _ (places : ℕ) (c : Chart) (it : Layout) (t : Tables) (p : ℕ) (y : Ch
     counts = elim live.counts [ inl at_home ↦ inl at_home | inr over ↦ inr ((over.0.0, sym (same q 0 apart) ∙ over.0.1, over.0.2), over.1) ];
   }
 
+  apart_off : SameOff (eqb p) c y
+  apart_off q s off = same q s (λ at. let on : eqb p q ≡ true = eq-eqb p q (sym at) in cc (on, off))
+
   idle_followed : Mirrors places y it (with_next t next)
   idle_followed = record {
     laid = (idle_places_do_not_count places c it p y mirrors.laid idle same nothing).0;
@@ -84,6 +88,9 @@ module _ (places : ℕ) (c : Chart) (it : Layout) (t : Tables) (p : ℕ) (y : Ch
       waits = was.waits;
     };
     masks = let was = mirrors.masks in record { units = was.units; lists = was.lists; sectors = was.sectors; home = was.home; elsewhere = was.elsewhere };
+    logs = logs_still c y it it (mark_back (eqb p) c y apart_off it.status it.head.generation (ne_eqb p it.status (λ at. idle.not_status (sym at))))
+        refl (λ v. refl) (λ v. refl)
+        (λ v n low some none. some (sym (same (it.units v).home n (idle.not_home v low)) ∙ none)) t (with_next t next) (λ v. refl) mirrors.logs;
     counted_clean = λ q n is. same q n (counted_apart places c it t p mirrors idle not_overflow q n is) ∙ mirrors.counted_clean q n is;
   }
 
@@ -117,6 +124,7 @@ module _ (places : ℕ) (c : Chart) (it : Layout) (t : Tables) (p : ℕ) (mirror
     status = let was = mirrors.status in record { place = was.place; generation = was.generation; numbers = was.numbers };
     numbers = let was = mirrors.numbers in record { above = was.above; below = was.below; once = was.once; waits = was.waits };
     masks = let was = mirrors.masks in record { units = was.units; lists = was.lists; sectors = was.sectors; home = was.home; elsewhere = was.elsewhere };
+    logs = let was = mirrors.logs in record { unmarked = was.unmarked; whole = was.whole };
     counted_clean = mirrors.counted_clean;
   }
 
@@ -142,6 +150,7 @@ counts_are_free places c it t erases mirrors sized = record {
   status = let was = mirrors.status in record { place = was.place; generation = was.generation; numbers = was.numbers };
   numbers = let was = mirrors.numbers in record { above = was.above; below = was.below; once = was.once; waits = was.waits };
   masks = let was = mirrors.masks in record { units = was.units; lists = was.lists; sectors = was.sectors; home = was.home; elsewhere = was.elsewhere };
+  logs = let was = mirrors.logs in record { unmarked = was.unmarked; whole = was.whole };
   counted_clean = mirrors.counted_clean;
 }
 
@@ -164,6 +173,7 @@ retired_are_free places c it t retired mirrors = record {
   status = let was = mirrors.status in record { place = was.place; generation = was.generation; numbers = was.numbers };
   numbers = let was = mirrors.numbers in record { above = was.above; below = was.below; once = was.once; waits = was.waits };
   masks = let was = mirrors.masks in record { units = was.units; lists = was.lists; sectors = was.sectors; home = was.home; elsewhere = was.elsewhere };
+  logs = let was = mirrors.logs in record { unmarked = was.unmarked; whole = was.whole };
   counted_clean = mirrors.counted_clean;
 }
 

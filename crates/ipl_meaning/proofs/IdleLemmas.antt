@@ -1,10 +1,10 @@
 -- A place at which nothing counts may change.
-use Rattle.std.proofs.Common.{◌≡◌, ◌≢◌, ℕ, Some, None, eqb, true, false, ◌<◌, refl, inl, inr, sym, ◌∙◌, List, All, get_or, Bool}
+use Rattle.std.proofs.Common.{◌≡◌, ℕ, Some, None, eqb, true, false, ◌<◌, refl, inl, inr, sym, ◌∙◌, List, All, get_or, Bool}
 use Rattle.std.proofs.lemmas.Bool.{cases_Bool, eqb-true, eq-eqb}
 use Rattle.ipl_format.specs.Sector.{Sector}
 use Rattle.ipl_meaning.specs.Chart.{Chart, Beats, IsChosen, IsDataHeader, IsStatusHeader, IsLive}
-use Rattle.ipl_meaning.specs.Layout.{Shape, Entry, IsEntry, IsUnit, IsCommitSector, IsStatus, Layout, Laid}
-use Rattle.ipl_meaning.specs.Steps.{SameBut, SameOff, KeepsPages, IsIdle, ComesToNothing}
+use Rattle.ipl_meaning.specs.Layout.{Shape, Entry, IsEntry, IsUnit, IsCommitSector, IsStatus, IsMark, Layout, Laid}
+use Rattle.ipl_meaning.specs.Steps.{SameOff, KeepsPages, IsIdle, ComesToNothing}
 use Rattle.ipl_meaning.specs.Laws.{IdlePlacesDoNotCount}
 
 module _ (w : ℕ → Bool) (c y : Chart) (same : SameOff w c y) where
@@ -75,6 +75,9 @@ module _ (w : ℕ → Bool) (c y : Chart) (same : SameOff w c y) where
     commit_back : (s : ℕ) (sector : Sector) → IsCommitSector y status generation s sector → IsCommitSector c status generation s sector
     commit_back s sector is = record { here = sym (same status s away) ∙ is.here; kind = is.kind; of_generation = is.of_generation; where_it_is = is.where_it_is }
 
+    pub mark_back : (s : ℕ) (sector : Sector) → IsMark y status generation s sector → IsMark c status generation s sector
+    mark_back s sector is = record { here = sym (same status s away) ∙ is.here; kind = is.kind; of_generation = is.of_generation; where_it_is = is.where_it_is }
+
     status_still : (committed : ℕ → Bool) → IsStatus c status generation committed → IsStatus y status generation committed
     status_still committed was = record {
       spelled = λ s sector is. was.spelled s sector (commit_back s sector is);
@@ -100,6 +103,7 @@ module _ (w : ℕ → Bool) (c y : Chart) (same : SameOff w c y) where
         chosen = chosen_still places IsStatusHeader it.status it.head status_off laid.chosen (λ q other at low there fits. (nothing q at low).status other there fits);
         counts = laid.counts;
         commits = status_still it.status it.head.generation status_off it.committed laid.commits;
+        marks = λ s sector is. laid.marks s sector (mark_back it.status it.head.generation status_off s sector is);
         each = λ u low. unit_still places u (it.units u) (home_off u low) (λ q s sector at live. (idle q at).no_live u low s sector live)
             (λ q s sector at live. (nothing q at live.within.0).no_live u low s sector live)
             it.count (λ q head at within there fits. (nothing q at within).unit_header u low head there fits) (laid.each u low);

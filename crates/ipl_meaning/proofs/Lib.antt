@@ -19,6 +19,7 @@ pub mod AllowedLemmas
 pub mod PackLemmas
 pub mod WeightLemmas
 pub mod ApartLemmas
+pub mod KnownLogLemmas
 pub mod CountedLemmas
 pub mod MaskLemmas
 pub mod LogFollowLemmas
@@ -30,5 +31,10 @@ pub mod MergeFollowLemmas
 pub mod RenewalFollowLemmas
 pub mod OverflowFollowLemmas
 pub mod AgreeLemmas
+pub mod CarriedLemmas
 pub mod RoomLemmas
 pub mod WornLemmas
+pub mod MarkLemmas
+pub mod MarkStoryLemmas
+pub mod MarkProgramLemmas
+pub mod CloseLemmas

@@ -7,18 +7,19 @@ use Rattle.std.proofs.lemmas.List.Elements.{All-contains}
 use Rattle.chip_trait.specs.Chart.{with_sector}
 use Rattle.ipl_format.specs.Sector.{Sector}
 use Rattle.ipl_meaning.specs.Chart.{Chart, IsOverflow, IsLive}
-use Rattle.ipl_meaning.specs.Layout.{Entry, Shape, Layout, IsLiveIn}
-use Rattle.ipl_meaning.specs.Steps.{with_unit, MaySeal}
+use Rattle.ipl_meaning.specs.Layout.{Entry, Shape, Layout, IsMark, IsLiveIn}
+use Rattle.ipl_meaning.specs.Steps.{with_unit, NoMarkHas, MaySeal}
 use Rattle.ipl_meaning.specs.Found.{MentionsBelow, IsPlaceBelow}
-use Rattle.ipl_meaning.specs.Tables.{IsFree, Status, Tables, spots_of, overflow_places, place_of, IsCountedClean}
-use Rattle.ipl_meaning.specs.Mirrors.{MirrorsPlaces, MirrorsOverflow, MirrorsMasks, Mirrors}
+use Rattle.ipl_meaning.specs.Tables.{IsFree, Status, Tables, spots_of, overflow_places, place_of, written_of, IsCountedClean}
+use Rattle.ipl_meaning.specs.Mirrors.{MirrorsPlaces, MirrorsOverflow, MirrorsMasks, MirrorsLogs, Mirrors}
 use Rattle.ipl_meaning.specs.TableSteps.{IsReady, IsMoved, TellsShape}
 use Rattle.ipl_meaning.specs.MovingLaws.{CountedFollowMerges, TablesFollowMerges}
-use Rattle.ipl_meaning.proofs.PutLemmas.{kept, live_still, live_back}
+use Rattle.ipl_meaning.proofs.PutLemmas.{kept, live_still, live_back, mark_before}
 use Rattle.ipl_meaning.proofs.SwitchLemmas.{headers_switch}
-use Rattle.ipl_meaning.proofs.CounterLemmas.{headers_keep_the_counter}
+use Rattle.ipl_meaning.proofs.CounterLemmas.{new_serials_pass_the_status, headers_keep_the_counter}
 use Rattle.ipl_meaning.proofs.MirrorLemmas.{map_contains, headers_may_go}
-use Rattle.ipl_meaning.proofs.ApartLemmas.{home_not_over, home_not_status, homes_apart, none_still, status_not_over}
+use Rattle.ipl_meaning.proofs.ApartLemmas.{home_not_over, home_not_status, homes_apart, none_still, some_still, status_not_over}
+use Rattle.ipl_meaning.proofs.KnownLogLemmas.{counted_few, unmarked_still}
 
 module _ (places : ℕ) (c : Chart) (it : Layout) (t after : Tables) (u p used : ℕ) (fresh : Shape) (mirrors : Mirrors places c it t) (low : u < it.count) (ready : IsReady places c t u p fresh)
     (in_use : ¬ IsFree t.places p) (moved : IsMoved t after u p used) (below : MentionsBelow after.next fresh.head) (all_below : IsPlaceBelow after.next c p) (clean : (s : ℕ) → 241 + used ≤ s → s < 256 → c p s ≡ None) where
@@ -180,6 +181,12 @@ module _ (places : ℕ) (c : Chart) (it : Layout) (t after : Tables) (u p used :
     apart = moved.apart;
   }
 
+  written_mine : written_of after u ≡ used
+  written_mine = rw moved.written (get_or-set_same t.places.written u used 0 (omega (arith, low, mirrors.directory.logs)))
+
+  written_other : (v : ℕ) → v ≢ u → written_of after v ≡ written_of t v
+  written_other v apart = rw moved.written (get_or-set_other t.places.written u v used 0 apart)
+
   -- what is counted as clean now was so before, or stands behind the log sectors of the new place
   merge_counted : (q n : ℕ) → IsCountedClean after q n → (IsCountedClean t q n ⊎ ((q ≡ p) × (241 + used ≤ n) × (n < 256))) × (q ≡ p → n ≢ 0)
   merge_counted q n (small, inl (v, less, is, first)) =
@@ -188,13 +195,11 @@ module _ (places : ℕ) (c : Chart) (it : Layout) (t after : Tables) (u p used :
       elim (cases_eq v u) [
         | inl same ↦
             let at : q ≡ p = is ∙ current v inside ∙ ap (λ (w : ℕ). (jt.units w).home) same ∙ home_mine in
-            let count : slice_index after.places.written u ≡ used = rw moved.written (get_or-set_same t.places.written u used 0 (omega (arith, low, mirrors.directory.logs))) in
-            let from : 241 + used ≤ n = let one = rw same at first in omega (arith, one, count) in
+            let from : 241 + used ≤ n = rw (same, written_mine, counted_few used moved.few) at first in
             (inr (at, from, small), λ _. number)
         | inr apart ↦
-            let count : slice_index after.places.written v ≡ slice_index t.places.written v = rw moved.written (get_or-set_other t.places.written u v used 0 apart) in
             let home : q ≡ slice_index t.places.current v = is ∙ current v inside ∙ ap (λ (z : Shape). z.home) (shape_other v apart) ∙ sym (mirrors.directory.current v inside) in
-            (inl (small, inl (v, omega (arith, inside, mirrors.directory.units), home, omega (arith, first, count))), λ _. number)
+            (inl (small, inl (v, omega (arith, inside, mirrors.directory.units), home, rw (written_other v apart) at first)), λ _. number)
       ]
   merge_counted q n (small, inr (inl (first, is, above))) = (
     inl (small, inr (inl (first, All-contains (Contains t.overflow.in_use) after.overflow.in_use (q, first) moved.some is, above))),
@@ -228,8 +233,33 @@ module _ (places : ℕ) (c : Chart) (it : Layout) (t after : Tables) (u p used :
     ];
   }
 
-  merge_followed : TellsShape t after u fresh → Mirrors places y jt after
-  merge_followed told = record {
+  mark_then : (s : ℕ) (mark : Sector) → IsMark y it.status it.head.generation s mark → IsMark c it.status it.head.generation s mark
+  mark_then = mark_before c p 0 fresh.head may.free (λ is. omega (arith, is, may.fits.0)) it.status it.head.generation
+
+  -- no mark comes behind the new header
+  none_behind : NoMarkHas y jt u
+  none_behind s mark w has =
+      let passed = (new_serials_pass_the_status places c it t.next fresh.head.serial mirrors.numbers.above ready.new_serial).0 s mark (mark_then s mark w) in
+      rw shape_mine (omega (arith, passed))
+
+  logs : ((s : ℕ) → 241 ≤ s → s < 241 + used → c p s ≢ None) → MirrorsLogs y jt after
+  logs carried = let was = mirrors.logs in record {
+    unmarked = λ v less first. elim (cases_eq v u) [
+      | inl same ↦ rw same none_behind
+      | inr apart ↦ unmarked_still c y it jt mark_then v (ap (λ (z : Shape). z.head) (shape_other v apart))
+          (was.unmarked v less (rw (written_other v apart) at first))
+    ];
+    whole = λ v n less known least most. elim (cases_eq v u) [
+      | inl same ↦
+          let end : n < 241 + used = rw (same, written_mine, counted_few used moved.few) at most in
+          rw (same, home_mine) (some_still c p 0 fresh.head p n (carried n least end))
+      | inr apart ↦ rw (shape_other v apart) (some_still c p 0 fresh.head (it.units v).home n
+          (was.whole v n less (rw (written_other v apart) at known) least (rw (written_other v apart) at most)))
+    ];
+  }
+
+  merge_followed : TellsShape t after u fresh → ((s : ℕ) → 241 ≤ s → s < 241 + used → c p s ≢ None) → Mirrors places y jt after
+  merge_followed told carried = record {
     laid = (headers_switch places c it u p fresh mirrors.laid may).0;
     directory = directory told;
     overflow = overflow_there;
@@ -245,11 +275,13 @@ module _ (places : ℕ) (c : Chart) (it : Layout) (t after : Tables) (u p used :
       waits = rw moved.active was.waits;
     };
     masks = masks_there told;
+    logs = logs carried;
     counted_clean = counted_clean;
   }
 
 pub tables_follow_merges : TablesFollowMerges
-tables_follow_merges places c it t after u p used fresh mirrors low ready in_use moved masked below all_below clean = merge_followed places c it t after u p used fresh mirrors low ready in_use moved below all_below clean masked
+tables_follow_merges places c it t after u p used fresh mirrors low ready in_use moved masked below all_below clean carried =
+    merge_followed places c it t after u p used fresh mirrors low ready in_use moved below all_below clean masked carried
 
 pub counted_follow_merges : CountedFollowMerges
 counted_follow_merges places c it t after u p used fresh mirrors low ready in_use moved below all_below clean = merge_counted places c it t after u p used fresh mirrors low ready in_use moved below all_below clean

@@ -6,15 +6,18 @@ use Rattle.std.proofs.lemmas.List.Elements.{All-contains, Contains-append_left, 
 use Rattle.std.proofs.lemmas.Bool.{cases_eq}
 use Rattle.ipl_format.specs.Sector.{Sector}
 use Rattle.ipl_format.specs.Record.{Record}
+use Rattle.ipl_format.specs.Mark.{SpellsMark}
 use Rattle.ipl_format.specs.Header.{SpellsDataHeader, SpellsStatusHeader}
 use Rattle.ipl_meaning.specs.Chart.{Chart}
 use Rattle.ipl_meaning.specs.Layout.{Entry, Layout, IsLiveIn}
 use Rattle.ipl_meaning.specs.Steps.{IsIdle, MayLog}
-use Rattle.ipl_meaning.specs.Tables.{IsFree, Tables, spots_of, overflow_places, place_of, first_log}
+use Rattle.ipl_meaning.specs.Tables.{IsFree, Tables, spots_of, overflow_places, place_of, written_of, first_log}
 use Rattle.ipl_meaning.specs.Mirrors.{Mirrors}
 use Rattle.ipl_meaning.specs.TableSteps.{IsFreshLog}
-use Rattle.ipl_meaning.specs.TableLaws.{FreePlacesAreIdle, LogSectorsMayGoHome, LogSectorsMayGoElsewhere, CommitSectorsMayGo, HeadersMayGo, StatusHeadersMayGo, OverflowHeadersMayGo}
+use Rattle.ipl_meaning.specs.TableLaws.{FreePlacesAreIdle, LogSectorsMayGoHome, LogSectorsMayGoElsewhere, CommitSectorsMayGo, MarksMayGo, HeadersMayGo, StatusHeadersMayGo, OverflowHeadersMayGo}
 use Rattle.ipl_meaning.proofs.CounterLemmas.{new_generations_wake_nothing, new_serials_are_greatest}
+use Rattle.ipl_meaning.proofs.ApartLemmas.{home_not_over}
+use Rattle.ipl_meaning.proofs.KnownLogLemmas.{counted_few}
 
 pub map_contains : (l : List (ℕ × ℕ)) (p s : ℕ) → Contains l (p, s) → Contains (map place_of l) p
 map_contains l p s (k, within, is) = (k, omega (arith, within, length-map l place_of), get_or-map place_of l k (p, s) p within ∙ ap place_of is)
@@ -51,9 +54,9 @@ module _ (places : ℕ) (c : Chart) (it : Layout) (t : Tables) (mirrors : Mirror
     last q number other live = (new_serials_are_greatest places c it t.next sector.serial mirrors.numbers.above fresh.new).1 u q number other low live
 
     may_go_home : slice_index t.places.written u < 15 → MayLog places c it u (slice_index t.places.current u) (first_log t u) sector records
-    may_go_home left = let at = mirrors.directory.current u low in record {
+    may_go_home left = let at = mirrors.directory.current u low in let few = counted_few (written_of t u) (omega (arith, left)) in record {
       unit = low;
-      free = mirrors.counted_clean _ _ (omega (arith, left), inl (u, omega (arith, low, mirrors.directory.units), refl, omega arith));
+      free = mirrors.counted_clean _ _ (omega (arith, left), inl (u, omega (arith, low, mirrors.directory.units), refl, rw few (omega arith)));
       kind = fresh.kind;
       of_unit = fresh.of_unit;
       of_generation = fresh.of_generation;
@@ -62,6 +65,7 @@ module _ (places : ℕ) (c : Chart) (it : Layout) (t : Tables) (mirrors : Mirror
       spelled = fresh.spelled;
       waits = waits records fresh.active;
       last = last;
+      unmarked = λ _. mirrors.logs.unmarked u low (omega (arith, left));
       spots = spots_of t u;
       few = mirrors.overflow.few u low;
       listed = λ q number other live away. mirrors.overflow.listed u q number other low live away;
@@ -87,6 +91,7 @@ module _ (places : ℕ) (c : Chart) (it : Layout) (t : Tables) (mirrors : Mirror
           spelled = fresh.spelled;
           waits = waits records fresh.active;
           last = last;
+          unmarked = λ home. absurd (home_not_over places c it mirrors.laid u low (rw (← home) over));
           spots = spots_of t u ++ (p, s) ∷ [];
           few = omega (arith, room, length-append (spots_of t u) ((p, s) ∷ []));
           listed = λ q number other live away. Contains-append_left (spots_of t u) ((p, s) ∷ []) (q, number) (mirrors.overflow.listed u q number other low live away);
@@ -118,6 +123,15 @@ commit_sectors_may_go places c it t sector numbers committed mirrors some small 
   no_more = only;
 }
 
+pub marks_may_go : MarksMayGo
+marks_may_go places c it t mark mirrors some small kind generation spelled = record {
+  free = mirrors.counted_clean it.status t.status.first (small, inr (inr (sym mirrors.status.place, omega arith)));
+  kind = kind;
+  of_generation = generation ∙ mirrors.status.generation;
+  where_it_is = (some, small);
+  spelled = subst (λ (n : ℕ). SpellsMark n mark.payload) mirrors.directory.units spelled;
+}
+
 pub headers_may_go : HeadersMayGo
 headers_may_go places c it t u p fresh mirrors low ready = record {
   unit = low;
@@ -142,13 +156,14 @@ headers_may_go places c it t u p fresh mirrors low ready = record {
 }
 
 pub status_headers_may_go : StatusHeadersMayGo
-status_headers_may_go places c it t p head committed mirrors within bare fits counts new commits = record {
+status_headers_may_go places c it t p head committed mirrors within bare fits counts new commits none = record {
   within = within;
   free = bare;
   fits = fits;
   counts = subst (λ (n : ℕ). SpellsStatusHeader head.version places n head.payload) mirrors.directory.units counts;
   newest = λ q other less there it_fits. (new_serials_are_greatest places c it t.next head.serial mirrors.numbers.above new).0 q other less there (omega (arith, it_fits), omega (arith, it_fits));
   commits = commits;
+  unmarked = none;
 }
 
 pub overflow_headers_may_go : OverflowHeadersMayGo

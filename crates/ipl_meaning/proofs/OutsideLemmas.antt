@@ -4,7 +4,7 @@ use Rattle.std.proofs.lemmas.List.Elements.{All-get_or}
 use Rattle.ipl_format.specs.Sector.{Sector}
 use Rattle.ipl_format.specs.Header.{IsCount}
 use Rattle.ipl_meaning.specs.Chart.{Chart, IsChosen, IsDataHeader, IsStatusHeader, IsLive}
-use Rattle.ipl_meaning.specs.Layout.{Shape, IsUnit, IsCommitSector, IsStatus}
+use Rattle.ipl_meaning.specs.Layout.{Shape, IsUnit, IsCommitSector, IsStatus, IsMark}
 use Rattle.ipl_meaning.specs.Steps.{SameWithin}
 use Rattle.ipl_meaning.specs.Laws.{OutsideDoesNotCount}
 
@@ -58,6 +58,9 @@ module _ (places : ℕ) (c y : Chart) (same : SameWithin places c y) where
     pub commit_back : (s : ℕ) (x : Sector) → IsCommitSector y status generation s x → IsCommitSector c status generation s x
     commit_back s x w = record { here = sym (same status s low w.where_it_is.1) ∙ w.here; kind = w.kind; of_generation = w.of_generation; where_it_is = w.where_it_is }
 
+    pub mark_back : (s : ℕ) (x : Sector) → IsMark y status generation s x → IsMark c status generation s x
+    mark_back s x w = record { here = sym (same status s low w.where_it_is.1) ∙ w.here; kind = w.kind; of_generation = w.of_generation; where_it_is = w.where_it_is }
+
     status_same : (committed : ℕ → Bool) → IsStatus c status generation committed → IsStatus y status generation committed
     status_same committed was = record {
       spelled = λ s x w. was.spelled s x (commit_back s x w);
@@ -74,6 +77,7 @@ outside_does_not_count places c it y laid same = (
     chosen = chosen_same places c y same IsStatusHeader it.status it.head laid.chosen;
     counts = laid.counts;
     commits = status_same places c y same it.status it.head.generation laid.chosen.within it.committed laid.commits;
+    marks = λ s x w. laid.marks s x (mark_back places c y same it.status it.head.generation laid.chosen.within s x w);
     each = λ u low. unit_same places c y same it.count u (it.units u) (laid.each u low);
     overflows = laid.overflows;
     two = laid.two;

@@ -14,11 +14,12 @@ use Rattle.ipl_meaning.specs.Tables.{IsFree, Tables, overflow_places, place_of, 
 use Rattle.ipl_meaning.specs.Mirrors.{AreApart, Mirrors}
 use Rattle.ipl_meaning.specs.TableSteps.{with_overflow}
 use Rattle.ipl_meaning.specs.MovingLaws.{CountedFollowOverflows, TablesFollowOverflows}
-use Rattle.ipl_meaning.proofs.PutLemmas.{here, kept, live_still}
+use Rattle.ipl_meaning.proofs.PutLemmas.{here, kept, live_still, mark_before}
 use Rattle.ipl_meaning.proofs.SwitchLemmas.{overflow_headers_wait, live_before_overflow}
 use Rattle.ipl_meaning.proofs.CounterLemmas.{headers_keep_the_counter}
 use Rattle.ipl_meaning.proofs.MirrorLemmas.{map_contains}
-use Rattle.ipl_meaning.proofs.ApartLemmas.{none_still}
+use Rattle.ipl_meaning.proofs.ApartLemmas.{none_still, some_still}
+use Rattle.ipl_meaning.proofs.KnownLogLemmas.{logs_still}
 
 more_places : (l : List (ℕ × ℕ)) (p : ℕ) → map place_of (l ++ (p, 1) ∷ []) ≡ map place_of l ++ p ∷ []
 more_places [] p = refl
@@ -107,6 +108,8 @@ module _ (places : ℕ) (c : Chart) (it : Layout) (t : Tables) (p next : ℕ) (h
       waits = was.waits;
     };
     masks = let was = mirrors.masks in record { units = was.units; lists = was.lists; sectors = was.sectors; home = was.home; elsewhere = was.elsewhere };
+    logs = logs_still c y it it (mark_before c p 0 head may.free (λ is. omega (arith, is, may.kind)) it.status it.head.generation) refl (λ v. refl) (λ v. refl)
+        (λ v n less. some_still c p 0 head (it.units v).home n) t tables (λ v. refl) mirrors.logs;
     counted_clean = counted_clean;
   }
 

@@ -17,10 +17,11 @@ use Rattle.ipl_meaning.specs.Tables.{Tables, spots_of, masks_of}
 use Rattle.ipl_meaning.specs.Mirrors.{AreApart, MirrorsPlaces, MirrorsOverflow, MirrorsMasks, Mirrors}
 use Rattle.ipl_meaning.specs.TableSteps.{IsFreshLog, after_overflow_log, with_next_spot}
 use Rattle.ipl_meaning.specs.FollowingLaws.{TablesFollowOverflowLogs}
-use Rattle.ipl_meaning.proofs.PutLemmas.{here, kept}
+use Rattle.ipl_meaning.proofs.PutLemmas.{here, kept, mark_before}
 use Rattle.ipl_meaning.proofs.WaitLemmas.{log_sectors_wait}
 use Rattle.ipl_meaning.proofs.MirrorLemmas.{map_contains, log_sectors_may_go_elsewhere}
-use Rattle.ipl_meaning.proofs.ApartLemmas.{home_not_over, none_still}
+use Rattle.ipl_meaning.proofs.ApartLemmas.{home_not_over, none_still, some_still}
+use Rattle.ipl_meaning.proofs.KnownLogLemmas.{logs_still}
 use Rattle.ipl_meaning.proofs.CountedLemmas.{same_places, overflow_counted}
 use Rattle.ipl_meaning.proofs.MaskLemmas.{NoneStands, mask_of_new, mask_of_others, stands_here, stands_away, map_same}
 use Rattle.ipl_meaning.proofs.LogFollowLemmas.{log_mine, log_other, none_stands, live_then, new_or_live, numbers_then, over_then, same_head, same_home}
@@ -177,6 +178,9 @@ module _ (places : ℕ) (c : Chart) (it : Layout) (t : Tables) (u p s next : ℕ
     status = let was = mirrors.status in record { place = was.place; generation = was.generation; numbers = was.numbers };
     numbers = numbers_then places c it u p s sector records may t tables next mirrors.numbers more below refl refl;
     masks = masks;
+    logs = logs_still c y it jt (mark_before c p s sector may.free (λ is. omega (arith, is, may.kind)) it.status it.head.generation) refl
+        (same_home places c it u p s sector records may) (same_head places c it u p s sector records may)
+        (λ v n less. some_still c p s sector (it.units v).home n) t tables (λ v. refl) mirrors.logs;
     counted_clean = λ q n is. let (before, apart) = overflow_counted places c it t mirrors u p s (mask_of records) next spot q n is in none_still c p s sector q n (mirrors.counted_clean q n before) apart;
   }
 

@@ -1,11 +1,11 @@
 -- A chart that has lost some sectors, but no header, has the same units at the same places.
-use Rattle.std.proofs.Common.{◌≡◌, ℕ, ◌<◌, Option, Some, None, inl, inr, refl, sym, ◌∙◌, ap, List, Bool, true, false}
+use Rattle.std.proofs.Common.{◌≡◌, ℕ, ◌<◌, ◌≤◌, Option, Some, None, inl, inr, refl, sym, ◌∙◌, ap, subst, List, Bool, true, false}
 use Rattle.std.proofs.lemmas.Bool.{cases_Bool}
 use Rattle.ipl_format.specs.Sector.{Sector}
 use Rattle.ipl_format.specs.Record.{Record}
 use Rattle.ipl_format.proofs.HeaderOnceLemmas.{status_headers_spell_once}
 use Rattle.ipl_meaning.specs.Chart.{Chart, IsChosen, IsDataHeader, IsStatusHeader}
-use Rattle.ipl_meaning.specs.Layout.{IsCommitted, Layout, Laid, IsLiveIn}
+use Rattle.ipl_meaning.specs.Layout.{IsCommitted, IsMark, Layout, Laid, IsLiveIn}
 use Rattle.ipl_meaning.specs.Steps.{IsPart, SameOff, LeftAt, KeepsPages, IsIdle, ComesToNothing, MayLog}
 use Rattle.ipl_meaning.specs.Laws.{LossesDoNotCount}
 use Rattle.ipl_meaning.proofs.OnceLemmas.{chosen_once}
@@ -68,6 +68,15 @@ module _ (places : ℕ) (c h : Chart) (part : IsPart c h) (jt it : Layout) (less
     | inr is_not ↦ is_not
   ]
 
+  -- a mark of the part is one of the whole
+  pub mark_there : (s : ℕ) (mark : Sector) → IsMark c jt.status jt.head.generation s mark → IsMark h it.status it.head.generation s mark
+  mark_there s mark w = record {
+    here = ap (λ (x : ℕ). h x s) (sym same_status.0) ∙ part.each jt.status s mark w.here;
+    kind = w.kind;
+    of_generation = w.of_generation ∙ ap (λ (z : Sector). z.generation) same_status.1;
+    where_it_is = w.where_it_is;
+  }
+
   none_there : (p s : ℕ) → h p s ≡ None → c p s ≡ None
   none_there p s nothing = from (c p s) refl
     where
@@ -115,6 +124,9 @@ module _ (places : ℕ) (c h : Chart) (part : IsPart c h) (jt it : Layout) (less
     spelled = may.spelled;
     waits = λ k none within. committed_there _ (may.waits k none within);
     last = λ q t other live. may.last q t other (live_there u low q t other live);
+    unmarked = λ at s mark w has.
+        let behind = may.unmarked (at ∙ unit.0) s mark (mark_there s mark w) has in
+        subst (λ (head : Sector). mark.serial ≤ head.serial) (sym unit.1) behind;
     spots = may.spots;
     few = may.few;
     listed = λ q t other live away. may.listed q t other (live_there u low q t other live) (λ at_home. away (at_home ∙ sym unit.0));

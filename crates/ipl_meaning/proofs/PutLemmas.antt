@@ -6,7 +6,7 @@ use Rattle.chip_trait.specs.Chart.{with_sector}
 use Rattle.ipl_format.specs.Sector.{Sector}
 use Rattle.ipl_meaning.specs.Chart.{Chart, IsChosen, IsDataHeader, IsOverflow, IsLive}
 use Rattle.ipl_meaning.specs.Values.{Values}
-use Rattle.ipl_meaning.specs.Layout.{Shape, Entry, IsEntry, IsLog, IsUnit, IsCommitSector, IsCommitted, IsStatus, Layout}
+use Rattle.ipl_meaning.specs.Layout.{Shape, Entry, IsEntry, IsLog, IsUnit, IsCommitSector, IsCommitted, IsStatus, IsMark, AreMarks, Layout}
 use Rattle.ipl_meaning.specs.Stands.{Shows}
 use Rattle.ipl_meaning.specs.Steps.{KeepsPages}
 
@@ -132,15 +132,31 @@ module _ (c : Chart) (p s : ℕ) (sector : Sector) (free : c p s ≡ None) where
     log = log_still places u it.home it.head.generation it.log back unit.log;
   }
 
-  commit_sector_still : (status generation t : ℕ) (x : Sector) → IsCommitSector c status generation t x → IsCommitSector y status generation t x
+  pub commit_sector_still : (status generation t : ℕ) (x : Sector) → IsCommitSector c status generation t x → IsCommitSector y status generation t x
   commit_sector_still status generation t x w = record { here = kept status t x w.here; kind = w.kind; of_generation = w.of_generation; where_it_is = w.where_it_is }
 
   pub committed_still : (status generation tid : ℕ) → IsCommitted c status generation tid → IsCommitted y status generation tid
   committed_still status generation tid w = record { number = w.number; sector = w.sector; is = commit_sector_still status generation w.number w.sector w.is; numbers = w.numbers; spelled = w.spelled; has = w.has }
 
+  pub mark_still : (status generation t : ℕ) (x : Sector) → IsMark c status generation t x → IsMark y status generation t x
+  mark_still status generation t x w = record { here = kept status t x w.here; kind = w.kind; of_generation = w.of_generation; where_it_is = w.where_it_is }
+
+  -- a status place that gets no new mark
+  module _ (unmarked : sector.kind ≢ 7) (status generation : ℕ) where
+    pub mark_before : (t : ℕ) (x : Sector) → IsMark y status generation t x → IsMark c status generation t x
+    mark_before t x w = record {
+      here = elim (new_or_old status t x w.here) [ inl new ↦ absurd (unmarked (ap (λ (z : Sector). z.kind) new.2 ∙ w.kind)) | inr old ↦ old ];
+      kind = w.kind;
+      of_generation = w.of_generation;
+      where_it_is = w.where_it_is;
+    }
+
+    pub marks_still : (count : ℕ) → AreMarks c status generation count → AreMarks y status generation count
+    marks_still count was t x w = was t x (mark_before t x w)
+
   -- a status place that gets no new commit sector
   module _ (other : sector.kind ≢ 6) (status generation : ℕ) where
-    commit_sector_before : (t : ℕ) (x : Sector) → IsCommitSector y status generation t x → IsCommitSector c status generation t x
+    pub commit_sector_before : (t : ℕ) (x : Sector) → IsCommitSector y status generation t x → IsCommitSector c status generation t x
     commit_sector_before t x w = record {
       here = elim (new_or_old status t x w.here) [ inl new ↦ absurd (other (ap (λ (z : Sector). z.kind) new.2 ∙ w.kind)) | inr old ↦ old ];
       kind = w.kind;

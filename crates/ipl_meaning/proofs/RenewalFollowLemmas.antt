@@ -7,15 +7,15 @@ use Rattle.ipl_meaning.specs.Chart.{Chart}
 use Rattle.ipl_meaning.specs.Layout.{Layout, IsLiveIn}
 use Rattle.ipl_meaning.specs.Steps.{with_status, MaySwitch}
 use Rattle.ipl_meaning.specs.Found.{MentionsBelow, IsPlaceBelow}
-use Rattle.ipl_meaning.specs.Tables.{IsFree, OverflowLists, Tables, spots_of, overflow_places, place_of, first_log, IsCountedClean}
+use Rattle.ipl_meaning.specs.Tables.{IsFree, OverflowLists, Tables, spots_of, overflow_places, place_of, written_of, clean_from, IsCountedClean}
 use Rattle.ipl_meaning.specs.Mirrors.{MirrorsPlaces, Mirrors}
 use Rattle.ipl_meaning.specs.TableSteps.{IsRenewed}
 use Rattle.ipl_meaning.specs.MovingLaws.{CountedFollowRenewals, TablesFollowRenewals}
-use Rattle.ipl_meaning.proofs.PutLemmas.{kept, live_still, live_back}
+use Rattle.ipl_meaning.proofs.PutLemmas.{kept, live_still, live_back, mark_before}
 use Rattle.ipl_meaning.proofs.SwitchLemmas.{status_headers_switch}
 use Rattle.ipl_meaning.proofs.CounterLemmas.{headers_keep_the_counter}
 use Rattle.ipl_meaning.proofs.MirrorLemmas.{map_contains}
-use Rattle.ipl_meaning.proofs.ApartLemmas.{home_not_status, none_still, status_not_over}
+use Rattle.ipl_meaning.proofs.ApartLemmas.{home_not_status, none_still, some_still, status_not_over}
 
 module _ (places : ℕ) (c : Chart) (it : Layout) (t after : Tables) (p first : ℕ) (head : Sector) (committed : ℕ → Bool) (mirrors : Mirrors places c it t) (may : MaySwitch places it.count c p head committed) (in_use : ¬ IsFree t.places p)
     (renewed : IsRenewed t after p head.generation first) (numbers : (tid : ℕ) → IsTrue (committed tid) ↔ Contains after.status.numbers tid) (wait_still : All (λ n. committed n ≡ false) t.active)
@@ -40,6 +40,9 @@ module _ (places : ℕ) (c : Chart) (it : Layout) (t after : Tables) (p first : 
 
   same_spots : (v : ℕ) → spots_of after v ≡ spots_of t v
   same_spots v = ap (λ (s : OverflowLists). get_or s.spots v []) renewed.overflow
+
+  same_written : (v : ℕ) → written_of after v ≡ written_of t v
+  same_written v = ap (λ (l : List ℕ). slice_index l v) renewed.written
 
   directory : MirrorsPlaces places jt after
   directory = let was = mirrors.directory in record {
@@ -68,7 +71,7 @@ module _ (places : ℕ) (c : Chart) (it : Layout) (t after : Tables) (p first : 
   renewal_counted q n (small, inl (v, less, is, above)) =
       let inside : v < it.count = omega (arith, less, directory.units) in
       let home : q ≡ slice_index t.places.current v = rw renewed.current at is in
-      let from : first_log t v ≤ n = rw renewed.written at above in
+      let from : clean_from t v ≤ n = rw renewed.written at above in
       (inl (small, inl (v, omega (arith, inside, mirrors.directory.units), home, from)), λ _ none. omega (arith, above, none))
   renewal_counted q n (small, inr (inl (its_first, is, above))) =
       let listed : Contains t.overflow.in_use (q, its_first) = rw renewed.overflow at is in (
@@ -111,6 +114,12 @@ module _ (places : ℕ) (c : Chart) (it : Layout) (t after : Tables) (p first : 
       sectors = λ v less. rw renewed.masks (was.sectors v less);
       home = λ v s less least most. rw renewed.masks (was.home v s less least most);
       elsewhere = λ v less. rw renewed.overflow (was.elsewhere v less);
+    };
+    logs = record {
+      unmarked = λ v less first s mark w.
+          absurd (may.unmarked s mark (mark_before c p 0 head may.free (λ is. omega (arith, is, may.fits)) p head.generation s mark w));
+      whole = λ v n less known least most. some_still c p 0 head (it.units v).home n
+          (mirrors.logs.whole v n less (rw (same_written v) at known) least (rw (same_written v) at most));
     };
     counted_clean = counted_clean;
   }

@@ -1,5 +1,5 @@
 -- What keeps the pages keeps the map, and what a chart stands for after each step.
-use Rattle.std.proofs.Common.{◌≡◌, ◌≤◌, ◌*◌, ℕ, refl, ◌∙◌, ap, subst}
+use Rattle.std.proofs.Common.{◌≡◌, ◌≤◌, ◌*◌, ℕ, refl, ◌∙◌, subst}
 use Rattle.chip_trait.specs.Chart.{with_sector}
 use Rattle.ipl_rules.specs.State.{Map}
 use Rattle.ipl_meaning.specs.Chart.{Chart}
@@ -7,11 +7,12 @@ use Rattle.ipl_meaning.specs.Layout.{Layout, Laid}
 use Rattle.ipl_meaning.specs.Stands.{Says, StandsIn, StandsBeside}
 use Rattle.ipl_meaning.specs.Steps.{KeepsPages, with_unit, with_status, with_committed}
 use Rattle.ipl_meaning.specs.Laws.{KeptPagesKeepTheMap}
-use Rattle.ipl_meaning.specs.StandingLaws.{StandsAfterIdle, StandsAfterLogs, StandsAfterCommits, StandsAfterHeaders, StandsAfterMerges, StandsAfterRenewals, StandsAfterOverflows}
+use Rattle.ipl_meaning.specs.StandingLaws.{StandsAfterIdle, StandsAfterLogs, StandsAfterCommits, StandsAfterMarks, StandsAfterHeaders, StandsAfterMerges, StandsAfterRenewals, StandsAfterOverflows}
 use Rattle.ipl_meaning.proofs.OnceLemmas.{same_count}
 use Rattle.ipl_meaning.proofs.IdleLemmas.{idle_places_do_not_count}
 use Rattle.ipl_meaning.proofs.WaitLemmas.{log_sectors_wait}
 use Rattle.ipl_meaning.proofs.CommitLemmas.{commit_sectors_add}
+use Rattle.ipl_meaning.proofs.MarkLemmas.{marks_wait}
 use Rattle.ipl_meaning.proofs.SwitchLemmas.{headers_switch, merges_keep_pages, same_units_keep_pages, status_headers_switch, kept_numbers_keep_pages, overflow_headers_wait}
 
 pub kept_pages_keep_the_map : KeptPagesKeepTheMap
@@ -43,6 +44,11 @@ stands_after_commits places c it n s sector numbers committed laid may says =
     let new = with_committed it committed in
     beside places n c (with_sector c it.status s sector) it laid
     (stands_by places n c (with_sector c it.status s sector) new new (commit_sectors_add places c it s sector numbers committed laid may) refl says)
+
+pub stands_after_marks : StandsAfterMarks
+stands_after_marks places c it m s mark laid says may =
+    beside places m c (with_sector c it.status s mark) it laid
+    (stands_by places m c (with_sector c it.status s mark) it it (marks_wait places c it s mark laid may) refl says)
 
 pub stands_after_headers : StandsAfterHeaders
 stands_after_headers places c it n u p fresh laid may says =

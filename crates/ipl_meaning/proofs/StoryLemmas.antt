@@ -1,19 +1,18 @@
 -- From bytes to charts.
-use Rattle.std.proofs.Common.{Some, ◌≡◌, ◌≢◌, ◌⊎◌, ℕ, None, inl, inr, refl, sym, ◌∙◌, ap, subst, List, arith, eqb, ◌&&◌, ◌||◌, not, Bool, [], ◌∷◌, ◌<◌, true, false}
-use Rattle.std.proofs.lemmas.Bool.{cases_Bool, cases_eq, and_parts, eqb-true, ne_eqb, eq-eqb}
-use Rattle.std.proofs.Math.Path.{fun_ext}
+use Rattle.std.proofs.Common.{Some, ◌≡◌, ◌≢◌, ◌⊎◌, ℕ, None, inl, inr, refl, sym, ◌∙◌, subst, List, arith, eqb, ◌&&◌, ◌||◌, Bool, [], ◌∷◌, ◌<◌, true, false}
+use Rattle.std.proofs.lemmas.Bool.{cases_Bool, and_parts, eqb-true, ne_eqb, eq-eqb}
 use Rattle.chip_trait.specs.declared.event.Event.{Event}
 use Rattle.chip_trait.specs.declared.event.Event.TheVariants.{Read, Program, Erase, Worn, Barrier, Said}
 use Rattle.chip_trait.specs.Story.{Story, Contents, held}
-use Rattle.chip_trait.specs.Image.{is_worn, IsNamedValue, IsNoChanceImage, IsQuiet, IsClosed}
+use Rattle.chip_trait.specs.Image.{is_worn, IsNamedValue, IsNoChanceImage, IsQuiet}
 use Rattle.chip_trait.specs.Chart.{with_sector, says}
 use Rattle.chip_trait.specs.Moment.{AtEachMoment}
 use Rattle.chip_trait.specs.Told.{History, adds, adds_all}
 use Rattle.chip_trait.proofs.MomentLemmas.{at_end, at_part}
-use Rattle.chip_trait.proofs.ImageLemmas.{held_is_named, held_is_image, image_if_closed, image_before_barrier, closed_is_quiet}
+use Rattle.chip_trait.proofs.ImageLemmas.{held_is_named, held_is_image, image_before_barrier, closed_is_quiet}
 use Rattle.chip_trait.proofs.ClosedLemmas.{held_program, closed_means, program_leads}
 use Rattle.chip_trait.proofs.ProgramLemmas.{EachWholeMeans, part_in_quiet, headers_there, program_keeps}
-use Rattle.chip_trait.proofs.LossLemmas.{Loses, each_by_whole, worn_keeps, lossy, erase_keeps}
+use Rattle.chip_trait.proofs.LossLemmas.{Loses, each_by_whole, worn_keeps, erase_keeps}
 use Rattle.ipl_format.specs.Sector.{Sector, sector_in}
 use Rattle.ipl_format.specs.Record.{Record}
 use Rattle.ipl_format.proofs.SectorLemmas.{blank_says_nothing}

@@ -11,7 +11,7 @@ use Rattle.ipl_meaning.specs.Layout.{Shape, IsUnit, IsInOverflow, Layout, Laid, 
 use Rattle.ipl_meaning.specs.Steps.{with_unit, with_status, MaySeal, MaySwitch, MayOpenOverflow}
 use Rattle.ipl_meaning.specs.Laws.{HeadersSwitch, MergesKeepPages, SameUnitsKeepPages, StatusHeadersSwitch, KeptNumbersKeepPages, OverflowHeadersWait}
 use Rattle.ipl_meaning.proofs.WaitLemmas.{waiting}
-use Rattle.ipl_meaning.proofs.PutLemmas.{new_or_old, pages_still, chosen_still, chosen_new, live_back, log_still, unit_still, status_still}
+use Rattle.ipl_meaning.proofs.PutLemmas.{new_or_old, pages_still, chosen_still, chosen_new, live_back, log_still, unit_still, status_still, mark_before, marks_still}
 
 -- ---- Data headers
 module _ (places : ℕ) (c : Chart) (it : Layout) (u p : ℕ) (fresh : Shape) (laid : Laid places c it) (may : MaySeal places c it u p fresh) where
@@ -55,6 +55,7 @@ module _ (places : ℕ) (c : Chart) (it : Layout) (u p : ℕ) (fresh : Shape) (l
     chosen = chosen_still c p 0 fresh.head may.free places IsStatusHeader it.status it.head (λ _ is. omega (arith, may.fits.0, is)) laid.chosen;
     counts = laid.counts;
     commits = status_still c p 0 fresh.head may.free (λ is. omega (arith, may.fits.0, is)) it.status it.head.generation it.committed laid.commits;
+    marks = marks_still c p 0 fresh.head may.free (λ is. omega (arith, may.fits.0, is)) it.status it.head.generation it.count laid.marks;
     each = each_unit;
     overflows = laid.overflows;
     two = laid.two;
@@ -94,6 +95,7 @@ module _ (places : ℕ) (c : Chart) (it : Layout) (p : ℕ) (head : Sector) (com
     chosen = chosen_new c p 0 head may.free places IsStatusHeader refl may.within may.fits may.newest;
     counts = may.counts;
     commits = status_still c p 0 head may.free (λ is. omega (arith, may.fits, is)) p head.generation committed may.commits;
+    marks = λ t mark w. absurd (may.unmarked t mark (mark_before c p 0 head may.free (λ is. omega (arith, may.fits, is)) p head.generation t mark w));
     each = λ v low. unit_still c p 0 head may.free places it.count v (it.units v) (λ _ fits. omega (arith, may.fits, fits.0))
         (live_back c p 0 head may.free no_overflow_status places v (it.units v).home (it.units v).head.generation (λ is _. omega (arith, may.fits, is))) (laid.each v low);
     overflows = laid.overflows;
@@ -153,6 +155,7 @@ module _ (places : ℕ) (c : Chart) (it : Layout) (p : ℕ) (head : Sector) (lai
     chosen = chosen_still c p 0 head may.free places IsStatusHeader it.status it.head (λ _ is. omega (arith, may.kind, is)) laid.chosen;
     counts = laid.counts;
     commits = status_still c p 0 head may.free (λ is. omega (arith, may.kind, is)) it.status it.head.generation it.committed laid.commits;
+    marks = marks_still c p 0 head may.free (λ is. omega (arith, may.kind, is)) it.status it.head.generation it.count laid.marks;
     each = λ v low. unit_still c p 0 head may.free places it.count v (it.units v) (λ _ fits. omega (arith, may.kind, fits.0)) (live_before_overflow v low) (laid.each v low);
     overflows = laid.overflows;
     two = laid.two;

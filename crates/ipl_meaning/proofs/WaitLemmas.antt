@@ -15,7 +15,7 @@ use Rattle.ipl_meaning.specs.Layout.{Shape, Entry, IsEntry, IsListed, IsInOverfl
 use Rattle.ipl_meaning.specs.Stands.{Shows}
 use Rattle.ipl_meaning.specs.Steps.{with_log, grown, KeepsPages, MayLog}
 use Rattle.ipl_meaning.specs.Laws.{LogSectorsWait}
-use Rattle.ipl_meaning.proofs.PutLemmas.{new_or_old, here, kept, chosen_still, entries_still, live_before, live_back, unit_still, status_still, shows_more}
+use Rattle.ipl_meaning.proofs.PutLemmas.{new_or_old, here, kept, chosen_still, entries_still, live_before, live_back, unit_still, status_still, marks_still, shows_more}
 
 not_and : (a b : Bool) → b ≡ false → (a && b) ≡ false
 not_and true b none = none
@@ -117,6 +117,7 @@ module _ (places : ℕ) (c : Chart) (it : Layout) (u p s : ℕ) (sector : Sector
     chosen = chosen_still c p s sector may.free places IsStatusHeader it.status it.head (λ none. absurd (no_header none)) laid.chosen;
     counts = laid.counts;
     commits = status_still c p s sector may.free (λ is. omega (arith, is, may.kind)) it.status it.head.generation it.committed laid.commits;
+    marks = marks_still c p s sector may.free (λ is. omega (arith, is, may.kind)) it.status it.head.generation it.count laid.marks;
     each = each_unit;
     overflows = may.overflows;
     two = may.two;

@@ -1,14 +1,13 @@
 -- Idle places stay idle, as units and the status move.
-use Rattle.std.proofs.Common.{◌≡◌, ◌≢◌, ℕ, ◌<◌, eqb, ◌==◌, Bool, true, false, Some, inl, inr, refl, sym, ◌∙◌, ap}
-use Rattle.std.specs.List.{Contains}
-use Rattle.std.proofs.lemmas.Bool.{cases_Bool, eqb-true, eq-eqb, ne_eqb}
+use Rattle.std.proofs.Common.{◌≡◌, ◌≢◌, ℕ, ◌<◌, ◌==◌, Bool, true, false, inl, inr, refl, sym, ◌∙◌}
+use Rattle.std.proofs.lemmas.Bool.{eqb-true, ne_eqb}
 use Rattle.std.proofs.lemmas.List.Elements.{All-contains}
 use Rattle.chip_trait.specs.Chart.{with_sector}
 use Rattle.ipl_format.specs.Sector.{Sector}
 use Rattle.ipl_meaning.specs.Chart.{Chart, IsLive}
 use Rattle.ipl_meaning.specs.Layout.{Entry, Shape, Layout, IsLiveIn}
-use Rattle.ipl_meaning.specs.Steps.{IsIdle, MaySeal, with_unit, with_status, with_committed}
-use Rattle.ipl_meaning.specs.StoryLaws.{WornByLayout, IdleAfterCommits, IdleAfterHeaders, IdleAfterRenewals, IdleAfterOverflows}
+use Rattle.ipl_meaning.specs.Steps.{IsIdle, MaySeal, with_unit, with_committed}
+use Rattle.ipl_meaning.specs.StoryLaws.{WornByLayout, IdleAfterCommits, IdleAfterMarks, IdleAfterHeaders, IdleAfterRenewals, IdleAfterOverflows}
 use Rattle.ipl_meaning.proofs.PartLemmas.{idle_once, idle_still}
 
 pub worn_by_layout : WornByLayout
@@ -21,6 +20,11 @@ elsewhere c p s sector q apart t = rw (ne_eqb p q (λ is. apart (sym is))) refl
 pub idle_after_commits : IdleAfterCommits
 idle_after_commits places c it s sector numbers committed q may idle =
     idle_still places c (with_sector c it.status s sector) it (with_committed it committed) q (elsewhere c it.status s sector q (λ is. idle.not_status (sym is))) refl refl (λ u low. (refl, refl)) idle
+
+pub idle_after_marks : IdleAfterMarks
+idle_after_marks places c it s mark q may idle =
+    idle_still places c (with_sector c it.status s mark) it it q (elsewhere c it.status s mark q (λ is. idle.not_status (sym is))) refl refl
+    (λ u low. (refl, refl)) idle
 
 pub idle_after_overflows : IdleAfterOverflows
 idle_after_overflows places c it p head q apart idle = idle_still places c (with_sector c p 0 head) it it q (elsewhere c p 0 head q apart) refl refl (λ u low. (refl, refl)) idle

@@ -5,7 +5,7 @@ use Rattle.chip_trait.specs.Chart.{with_sector}
 use Rattle.ipl_format.specs.Sector.{Sector}
 use Rattle.ipl_format.specs.Record.{Record}
 use Rattle.ipl_meaning.specs.Chart.{Chart, IsHeader, IsOverflowHeader, IsLive}
-use Rattle.ipl_meaning.specs.Layout.{Shape, Layout, Laid, IsLiveIn}
+use Rattle.ipl_meaning.specs.Layout.{Shape, Layout, Laid, IsCommitSector, IsMark, IsLiveIn}
 use Rattle.ipl_meaning.specs.Steps.{SameBut, with_log, with_committed, with_unit, with_status, entry_at, MayLog, MayCommit}
 use Rattle.ipl_meaning.specs.Found.{MentionsBelow, IsAbove, IsPlaceBelow}
 
@@ -36,6 +36,13 @@ LogSectorsKeepTheCounter =
     (places : ℕ) (c : Chart) (it : Layout) (u p s : ℕ) (sector : Sector) (records : List Record) (next : ℕ)
     → MayLog places c it u p s sector records → MentionsBelow next sector → IsAbove places c it next
     → IsAbove places (with_sector c p s sector) (with_log it u (entry_at p s sector records)) next
+
+-- it is above each mark and each commit sector
+abbrev pub NewSerialsPassTheStatus : Type 0
+NewSerialsPassTheStatus =
+    (places : ℕ) (c : Chart) (it : Layout) (next serial : ℕ) → IsAbove places c it next → next ≤ serial
+    → ((s : ℕ) (sector : Sector) → IsMark c it.status it.head.generation s sector → sector.serial < serial)
+    × ((s : ℕ) (sector : Sector) → IsCommitSector c it.status it.head.generation s sector → sector.serial < serial)
 
 -- the same after a commit sector
 abbrev pub CommitSectorsKeepTheCounter : Type 0

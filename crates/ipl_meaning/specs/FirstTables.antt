@@ -4,7 +4,7 @@ use Rattle.std.specs.List.{range_with_len}
 use Rattle.ipl_base.specs.declared.limits.TheConstants.{SECTORS, LOG_SECTORS}
 use Rattle.ipl_meaning.specs.Layout.{Layout}
 use Rattle.ipl_meaning.specs.Formatted.{no_pieces, first_head, first_status}
-use Rattle.ipl_meaning.specs.Tables.{Tables}
+use Rattle.ipl_meaning.specs.Tables.{Tables, UNKNOWN_LOGS}
 
 -- how a formatted chip is laid out
 abbrev pub first_layout : ℕ → Layout
@@ -24,7 +24,7 @@ first_tables places units = record {
     in_use = replicate (units + 1) true ++ replicate (places - units - 1) false;
     erases = replicate places 1;
     retired = [];
-    written = replicate units LOG_SECTORS;
+    written = replicate units UNKNOWN_LOGS;
     generations = range_with_len 1 units;
     masks = replicate units (replicate LOG_SECTORS 0);
   };

@@ -46,6 +46,7 @@ TablesFollowCommits =
 abbrev pub CountedFollow : Type 0
 CountedFollow =
     (places : ℕ) (c : Chart) (it : Layout) (t : Tables) → Mirrors places c it t
-    → ((u mask next : ℕ) → u < it.count → CountedShrink t (after_home_log t u mask next) (slice_index t.places.current u) (first_log t u))
+    → ((u mask next : ℕ) → u < it.count → slice_index t.places.written u < LOG_SECTORS
+    → CountedShrink t (after_home_log t u mask next) (slice_index t.places.current u) (first_log t u))
     × ((u p s mask next : ℕ) → Contains t.overflow.in_use (p, s) → CountedShrink t (after_overflow_log t u p s mask next) p s)
     × ((numbers active : List ℕ) (next : ℕ) → CountedShrink t (after_commit t numbers next active) it.status t.status.first)

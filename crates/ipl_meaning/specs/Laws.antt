@@ -14,7 +14,7 @@ use Rattle.ipl_meaning.specs.Values.{Values}
 use Rattle.ipl_meaning.specs.Stands.{Shows, Says, Stands}
 use Rattle.ipl_meaning.specs.Formatted.{formatted}
 use Rattle.ipl_base.specs.Places.{KeepsUnits}
-use Rattle.ipl_meaning.specs.Steps.{IsPart, SameBut, SameOff, LeftAt, SameWithin, KeepsPages, with_unit, with_log, with_status, with_committed, entry_at, IsIdle, ComesToNothing, MayLog, MayCommit, MaySeal, IsSameUnit, IsMerged, MaySwitch, KeepsNumbers, MayOpenOverflow}
+use Rattle.ipl_meaning.specs.Steps.{IsPart, SameBut, SameOff, LeftAt, SameWithin, KeepsPages, with_unit, with_log, with_status, with_committed, entry_at, IsIdle, ComesToNothing, MayLog, MayCommit, MayMark, MaySeal, IsSameUnit, IsMerged, MaySwitch, KeepsNumbers, MayOpenOverflow}
 
 -- a chart stands for one map at most
 abbrev pub StandsOnce : Type 0
@@ -91,6 +91,12 @@ CommitSectorsAdd =
     → Laid places c it → MayCommit c it s sector numbers committed
     → let new = with_committed it committed in
     Laid places (with_sector c it.status s sector) new × KeepsPages places c new (with_sector c it.status s sector) new
+
+-- a mark changes nothing of what stands
+abbrev pub MarksWait : Type 0
+MarksWait =
+    (places : ℕ) (c : Chart) (it : Layout) (s : ℕ) (mark : Sector) → Laid places c it → MayMark c it s mark
+    → Laid places (with_sector c it.status s mark) it × KeepsPages places c it (with_sector c it.status s mark) it
 
 -- a data header switches the unit to its new place at once, and its pages then show what the new place has
 abbrev pub HeadersSwitch : Type 0

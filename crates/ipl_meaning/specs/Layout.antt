@@ -6,6 +6,7 @@ use Rattle.ipl_base.specs.Places.{KeepsUnits}
 use Rattle.ipl_format.specs.Sector.{Sector}
 use Rattle.ipl_format.specs.Record.{Record, SpellsLog}
 use Rattle.ipl_format.specs.Commit.{SpellsCommit}
+use Rattle.ipl_format.specs.Mark.{SpellsMark}
 use Rattle.ipl_format.specs.Header.{SpellsDataHeader, SpellsStatusHeader}
 use Rattle.ipl_format.specs.Page.{Slots, IsPage, IsCutInto, page_text, piece_of}
 use Rattle.ipl_format.specs.Place.{base_sector_of}
@@ -102,6 +103,24 @@ pub record IsStatus (c : Chart) (status generation : ℕ) (committed : ℕ → B
   pub told : (tid : ℕ) → IsTrue (committed tid) → IsCommitted c status generation tid
   pub all_told : (tid : ℕ) → IsCommitted c status generation tid → IsTrue (committed tid)
 
+-- ---- marks
+
+-- a mark of the status place, of its header's generation
+pub record IsMark (c : Chart) (status generation s : ℕ) (sector : Sector) : Type 0 where
+  pub here : c status s ≡ Some sector
+  pub kind : sector.kind ≡ 7
+  pub of_generation : sector.generation ≡ generation
+  pub where_it_is : (1 ≤ s) × (s < SECTORS)
+
+-- each of them is one of so many units
+abbrev pub AreMarks : Chart → ℕ → ℕ → ℕ → Type 0
+AreMarks c status generation count = (s : ℕ) (sector : Sector) → IsMark c status generation s sector
+    → SpellsMark count sector.payload
+
+-- there is none
+abbrev pub HasNoMark : Chart → ℕ → ℕ → Type 0
+HasNoMark c status generation = (s : ℕ) (sector : Sector) → ¬ IsMark c status generation s sector
+
 -- ---- all of it
 
 -- the chart is laid out so: all that it takes to stand for a map, but for the base pages
@@ -112,6 +131,7 @@ pub record Laid (places : ℕ) (c : Chart) (it : Layout) : Type 0 where
   pub chosen : IsChosen c places IsStatusHeader it.status it.head
   pub counts : SpellsStatusHeader it.head.version places it.count it.head.payload
   pub commits : IsStatus c it.status it.head.generation it.committed
+  pub marks : AreMarks c it.status it.head.generation it.count
   pub each : (u : ℕ) → u < it.count → IsUnit c places it.count u (it.units u)
   -- at most two overflow places hold live sectors: these are all
   pub overflows : List ℕ

@@ -5,6 +5,7 @@ pub mod Masks
 pub mod Stands
 pub mod Allowed
 pub mod Rests
+pub mod Marks
 pub mod Last
 pub mod Found
 pub mod Formatted
@@ -21,5 +22,6 @@ pub mod FollowingLaws
 pub mod MovingLaws
 pub mod StandingLaws
 pub mod StoryLaws
+pub mod MarkLaws
 pub mod Agrees
 pub mod AgreeingLaws

@@ -4,9 +4,10 @@ use Rattle.ipl_base.specs.declared.limits.TheConstants.{SECTORS, FIRST_LOG_SECTO
 use Rattle.ipl_format.specs.Sector.{Sector}
 use Rattle.ipl_meaning.specs.Chart.{Chart, IsOverflow}
 use Rattle.ipl_meaning.specs.Layout.{Layout, Laid, IsLiveIn}
+use Rattle.ipl_meaning.specs.Steps.{NoMarkHas}
 use Rattle.ipl_meaning.specs.Masks.{mask_at, mask_at_spot}
 use Rattle.ipl_meaning.specs.Found.{IsAbove}
-use Rattle.ipl_meaning.specs.Tables.{IsFree, Tables, masks_in, spots_of, masks_of, home_mask, overflow_places, IsCountedClean}
+use Rattle.ipl_meaning.specs.Tables.{IsFree, Tables, masks_in, spots_of, masks_of, home_mask, overflow_places, written_of, first_log, clean_from, UNKNOWN_LOGS, IsCountedClean}
 
 -- the two are not the same
 abbrev pub AreApart : {X : Type 0} → X → X → Type 0
@@ -66,6 +67,14 @@ pub record MirrorsMasks (it : Layout) (t : Tables) : Type 0 where
   pub elsewhere : (u : ℕ) → u < it.count
       → masks_of t u ≡ map (mask_at_spot (it.units u).log) (spots_of t u)
 
+-- what the tables know of the log sectors at the units' places
+pub record MirrorsLogs (c : Chart) (it : Layout) (t : Tables) : Type 0 where
+  -- where one may be written, no mark behind the unit's header has the unit
+  pub unmarked : (u : ℕ) → u < it.count → first_log t u < SECTORS → NoMarkHas c it u
+  -- where something is known, each that counts as written checks
+  pub whole : (u n : ℕ) → u < it.count → written_of t u < UNKNOWN_LOGS → FIRST_LOG_SECTOR ≤ n → n < clean_from t u
+      → c (it.units u).home n ≢ None
+
 -- no place is lost: each that is in use is a unit's, the status place, an overflow place or a retired one
 abbrev pub NoneIsLost : ℕ → Tables → Type 0
 NoneIsLost places t = (p : ℕ) → p < places → ¬ IsFree t.places p
@@ -80,5 +89,6 @@ pub record Mirrors (places : ℕ) (c : Chart) (it : Layout) (t : Tables) : Type 
   pub status : MirrorsStatus it t
   pub numbers : MirrorsNumbers places c it t
   pub masks : MirrorsMasks it t
+  pub logs : MirrorsLogs c it t
   -- no sector that is counted as clean checks
   pub counted_clean : (p s : ℕ) → IsCountedClean t p s → c p s ≡ None

@@ -1,15 +1,15 @@
 -- How the tables follow places that are taken, and units that move.
-use Rattle.std.specs.Prelude.{ℕ, ◌≡◌, ◌↔◌, ◌<◌, ◌≤◌, ◌+◌, Bool, false, IsTrue, List, length, None, All, Contains}
+use Rattle.std.specs.Prelude.{ℕ, ◌≡◌, ◌≢◌, ◌↔◌, ◌<◌, ◌≤◌, ◌+◌, Bool, false, IsTrue, List, length, None, All, Contains}
 use Rattle.ipl_base.specs.declared.limits.TheConstants.{SECTORS, FIRST_LOG_SECTOR, OVERFLOW_PLACES}
 use Rattle.chip_trait.specs.Chart.{with_sector}
 use Rattle.ipl_format.specs.Sector.{Sector}
 use Rattle.ipl_meaning.specs.Chart.{Chart}
-use Rattle.ipl_meaning.specs.Layout.{Shape, Layout}
+use Rattle.ipl_meaning.specs.Layout.{Shape, Layout, HasNoMark}
 use Rattle.ipl_meaning.specs.Found.{MentionsBelow, IsPlaceBelow}
 use Rattle.ipl_meaning.specs.Steps.{SameBut, with_unit, with_status, IsIdle, MaySwitch, MayOpenOverflow}
-use Rattle.ipl_meaning.specs.Tables.{IsFree, Tables, overflow_places}
+use Rattle.ipl_meaning.specs.Tables.{IsFree, Tables, overflow_places, IsCountedClean}
 use Rattle.ipl_meaning.specs.Mirrors.{Mirrors}
-use Rattle.ipl_meaning.specs.TableSteps.{IsReady, with_next, with_erases, with_all_retired, without_worn, taken, IsMoved, TellsShape, IsRenewed, with_overflow, CountedMove}
+use Rattle.ipl_meaning.specs.TableSteps.{IsReady, with_next, with_erases, with_all_retired, without_worn, taken, IsMoved, TellsShape, IsRenewed, with_overflow, without_marks, CountedMove}
 
 -- a place that is no one's may change, but for a header, and numbers may be drawn
 abbrev pub TablesFollowIdlePlaces : Type 0
@@ -45,6 +45,7 @@ TablesFollowMerges =
     → u < it.count → IsReady places c t u p fresh → ¬ IsFree t.places p
     → IsMoved t after u p used → TellsShape t after u fresh → MentionsBelow after.next fresh.head → IsPlaceBelow after.next c p
     → ((s : ℕ) → FIRST_LOG_SECTOR + used ≤ s → s < SECTORS → c p s ≡ None)
+    → ((s : ℕ) → FIRST_LOG_SECTOR ≤ s → s < FIRST_LOG_SECTOR + used → c p s ≢ None)
     → Mirrors places (with_sector c p 0 fresh.head) (with_unit it u fresh) after
 
 -- after the header of a new status place
@@ -57,6 +58,16 @@ TablesFollowRenewals =
     → MentionsBelow after.next head → IsPlaceBelow after.next c p → 1 ≤ first
     → ((s : ℕ) → first ≤ s → s < SECTORS → c p s ≡ None)
     → Mirrors places (with_sector c p 0 head) (with_status it p head committed) after
+
+-- once the status place has no mark, what a mark said is known
+abbrev pub TablesFollowEndsOfMarks : Type 0
+TablesFollowEndsOfMarks =
+    (places : ℕ) (c : Chart) (it : Layout) (t : Tables) → Mirrors places c it t → HasNoMark c it.status it.head.generation
+    → Mirrors places c it (without_marks t)
+
+-- and as much is counted as clean
+abbrev pub CountedFollowEndsOfMarks : Type 0
+CountedFollowEndsOfMarks = (t : Tables) (p s : ℕ) → IsCountedClean t p s ↔ IsCountedClean (without_marks t) p s
 
 -- after the header of a new overflow place
 abbrev pub TablesFollowOverflows : Type 0

@@ -1,7 +1,7 @@
 -- When a chip rests on a map.
-use Rattle.std.specs.Prelude.{ℕ, ◌≡◌, ◌⊎◌, true, Some}
-use Rattle.chip_trait.specs.Story.{Story, held}
-use Rattle.chip_trait.specs.Image.{IsQuiet, is_worn}
+use Rattle.std.specs.Prelude.{ℕ, ◌≡◌, ◌⊎◌, true, false, Some}
+use Rattle.chip_trait.specs.Story.{Story, blank, held}
+use Rattle.chip_trait.specs.Image.{IsQuiet, is_open, is_worn}
 use Rattle.chip_trait.specs.Chart.{EachMeans}
 use Rattle.chip_trait.specs.Told.{History, Told}
 use Rattle.ipl_rules.specs.State.{Map}
@@ -14,6 +14,10 @@ use Rattle.ipl_meaning.specs.Steps.{IsIdle}
 -- what a chip with this history holds
 abbrev pub now : History → Chart
 now h = chart_of (held h.start h.story)
+
+-- the sector is blank, and was neither programmed nor erased since the last barrier, and its place isn't worn
+abbrev pub IsUntouched : History → ℕ → ℕ → Type 0
+IsUntouched h p s = (held h.start h.story p s ≡ blank) × (is_open h.story p s ≡ false) × (is_worn h.story p ≡ false)
 
 -- whatever a power cut leaves, but by chance, stands for the map, laid out in so many units
 abbrev pub EachStandsIn : ℕ → ℕ → Map → History → Type 0

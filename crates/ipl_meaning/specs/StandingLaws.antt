@@ -7,7 +7,7 @@ use Rattle.ipl_format.specs.Record.{Record}
 use Rattle.ipl_meaning.specs.Chart.{Chart}
 use Rattle.ipl_meaning.specs.Layout.{Shape, Layout, Laid}
 use Rattle.ipl_meaning.specs.Stands.{Says, StandsBeside}
-use Rattle.ipl_meaning.specs.Steps.{SameBut, IsIdle, ComesToNothing, with_unit, with_committed, MayLog, MayCommit, MaySeal, IsMerged, MaySwitch, KeepsNumbers, MayOpenOverflow}
+use Rattle.ipl_meaning.specs.Steps.{SameBut, IsIdle, ComesToNothing, with_unit, with_committed, MayLog, MayCommit, MayMark, MaySeal, IsMerged, MaySwitch, KeepsNumbers, MayOpenOverflow}
 
 -- for the same map, where a place changed at which nothing counts
 abbrev pub StandsAfterIdle : Type 0
@@ -28,6 +28,12 @@ StandsAfterCommits =
     (places : ℕ) (c : Chart) (it : Layout) (n : Map) (s : ℕ) (sector : Sector) (numbers : List ℕ) (committed : ℕ → Bool)
     → Laid places c it → MayCommit c it s sector numbers committed → Says places c (with_committed it committed) n
     → StandsBeside places c (with_sector c it.status s sector) n
+
+-- for the same map, with a mark
+abbrev pub StandsAfterMarks : Type 0
+StandsAfterMarks =
+    (places : ℕ) (c : Chart) (it : Layout) (m : Map) (s : ℕ) (mark : Sector) → Laid places c it → Says places c it m
+    → MayMark c it s mark → StandsBeside places c (with_sector c it.status s mark) m
 
 -- with a data header, for the map that the new place makes
 abbrev pub StandsAfterHeaders : Type 0

@@ -5,11 +5,12 @@ use Rattle.chip_trait.specs.Chart.{IsPartOf}
 use Rattle.ipl_format.specs.Sector.{Sector}
 use Rattle.ipl_format.specs.Record.{Record, SpellsLog}
 use Rattle.ipl_format.specs.Commit.{SpellsCommit}
+use Rattle.ipl_format.specs.Mark.{SpellsMark, has_unit}
 use Rattle.ipl_format.specs.Header.{SpellsDataHeader, SpellsStatusHeader}
 use Rattle.ipl_format.specs.Page.{Slots, value_in}
 use Rattle.ipl_meaning.specs.Chart.{Chart, Beats, IsDataHeader, IsStatusHeader, IsOverflowHeader, IsOverflow}
 use Rattle.ipl_meaning.specs.Values.{Values, after_records}
-use Rattle.ipl_meaning.specs.Layout.{Entry, Shape, Layout, IsLog, IsStatus, IsLiveIn, ReadsWell, records_of}
+use Rattle.ipl_meaning.specs.Layout.{Entry, Shape, Layout, IsLog, IsStatus, IsMark, HasNoMark, IsLiveIn, ReadsWell, records_of}
 use Rattle.ipl_meaning.specs.Stands.{Shows}
 
 -- ---- two charts
@@ -96,6 +97,11 @@ pub record ComesToNothing (places : ℕ) (y : Chart) (it : Layout) (p : ℕ) : T
 
 -- ---- log sectors
 
+-- no mark behind the unit's header has the unit
+abbrev pub NoMarkHas : Chart → Layout → ℕ → Type 0
+NoMarkHas c it u = (s : ℕ) (mark : Sector) → IsMark c it.status it.head.generation s mark
+    → has_unit mark.payload u ≡ true → mark.serial ≤ (it.units u).head.serial
+
 -- no record of the list has a number of the set
 abbrev pub AllWait : (ℕ → Bool) → List Record → Type 0
 AllWait committed records = All (λ r. committed r.tid ≡ false) records
@@ -112,6 +118,8 @@ pub record MayLog (places : ℕ) (c : Chart) (it : Layout) (u p s : ℕ) (sector
   pub spelled : SpellsLog sector.version sector.payload records
   pub waits : AllWait it.committed records
   pub last : (q t : ℕ) (other : Sector) → IsLiveIn c places it u q t other → other.serial < sector.serial
+  -- at home, where no mark behind the unit's header has the unit
+  pub unmarked : p ≡ (it.units u).home → NoMarkHas c it u
   -- with the new one, these spots are all of the unit's that stand elsewhere
   pub spots : List (ℕ × ℕ)
   pub few : length spots ≤ OVERFLOW_SECTORS
@@ -138,6 +146,16 @@ pub record MayCommit (c : Chart) (it : Layout) (s : ℕ) (sector : Sector) (numb
   pub old_too : (tid : ℕ) → IsTrue (it.committed tid) → IsTrue (committed tid)
   pub new_too : (tid : ℕ) → Contains numbers tid → IsTrue (committed tid)
   pub no_more : (tid : ℕ) → IsTrue (committed tid) → IsTrue (it.committed tid) ⊎ Contains numbers tid
+
+-- ---- marks
+
+-- a mark that may go to the status place
+pub record MayMark (c : Chart) (it : Layout) (s : ℕ) (mark : Sector) : Type 0 where
+  pub free : c it.status s ≡ None
+  pub kind : mark.kind ≡ 7
+  pub of_generation : mark.generation ≡ it.head.generation
+  pub where_it_is : (1 ≤ s) × (s < SECTORS)
+  pub spelled : SpellsMark it.count mark.payload
 
 -- ---- data headers
 
@@ -183,6 +201,7 @@ pub record MaySwitch (places count : ℕ) (c : Chart) (p : ℕ) (head : Sector) 
   pub newest : (q : ℕ) (other : Sector) → q < places → c q 0 ≡ Some other → IsStatusHeader other
       → other.serial < head.serial
   pub commits : IsStatus c p head.generation committed
+  pub unmarked : HasNoMark c p head.generation
 
 -- exactly the committed numbers of the unit's live sectors are committed still
 abbrev pub KeepsNumbers : Layout → (ℕ → Bool) → Type 0

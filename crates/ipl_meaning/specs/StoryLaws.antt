@@ -1,8 +1,8 @@
 -- From bytes to charts: what each call makes of all that a power cut may leave.
 use Rattle.std.specs.Prelude.{ℕ, ◌≡◌, ◌≢◌, ◌<◌, ◌∷◌, List, Bool, Some, None, true, false}
 use Rattle.chip_trait.specs.declared.event.Event.TheVariants.{Read, Program, Erase, Worn, Barrier, Said}
-use Rattle.chip_trait.specs.Story.{Story, Contents, blank, held}
-use Rattle.chip_trait.specs.Image.{is_open, is_worn, IsNoChanceImage, IsQuiet, IsClosed, IsWhole}
+use Rattle.chip_trait.specs.Story.{Story, Contents, held}
+use Rattle.chip_trait.specs.Image.{is_worn, IsNoChanceImage, IsQuiet, IsClosed, IsWhole}
 use Rattle.chip_trait.specs.Chart.{with_sector, says}
 use Rattle.chip_trait.specs.Moment.{AtEachMoment}
 use Rattle.chip_trait.specs.Told.{History, Told, adds, adds_all}
@@ -12,12 +12,8 @@ use Rattle.ipl_format.specs.Record.{Record}
 use Rattle.ipl_meaning.specs.Chart.{Chart, chart_of}
 use Rattle.ipl_meaning.specs.Layout.{Shape, Layout, Laid}
 use Rattle.ipl_meaning.specs.Stands.{Stands, StandsBeside}
-use Rattle.ipl_meaning.specs.Rests.{now, EachStands, EachStandsEither, EachStandsEitherIn, WornAreIdle, StoryRests, Rests}
-use Rattle.ipl_meaning.specs.Steps.{IsPart, IsIdle, MayLog, MayCommit, MaySeal, with_committed, with_unit, with_status}
-
--- the sector is blank, and was neither programmed nor erased since the last barrier, and its place isn't worn
-abbrev pub IsUntouched : History → ℕ → ℕ → Type 0
-IsUntouched h p s = (held h.start h.story p s ≡ blank) × (is_open h.story p s ≡ false) × (is_worn h.story p ≡ false)
+use Rattle.ipl_meaning.specs.Rests.{now, IsUntouched, EachStands, EachStandsEither, EachStandsEitherIn, WornAreIdle, StoryRests, Rests}
+use Rattle.ipl_meaning.specs.Steps.{IsPart, IsIdle, MayLog, MayCommit, MayMark, MaySeal, with_committed, with_unit, with_status}
 
 -- in a quiet story, what a power cut leaves is a part of what is held, with the same headers where nothing is lost at worn
 -- places
@@ -126,6 +122,12 @@ abbrev pub IdleAfterCommits : Type 0
 IdleAfterCommits =
     (places : ℕ) (c : Chart) (it : Layout) (s : ℕ) (sector : Sector) (numbers : List ℕ) (committed : ℕ → Bool) (q : ℕ)
     → MayCommit c it s sector numbers committed → IsIdle places c it q → IsIdle places (with_sector c it.status s sector) (with_committed it committed) q
+
+-- with a mark
+abbrev pub IdleAfterMarks : Type 0
+IdleAfterMarks =
+    (places : ℕ) (c : Chart) (it : Layout) (s : ℕ) (mark : Sector) (q : ℕ)
+    → MayMark c it s mark → IsIdle places c it q → IsIdle places (with_sector c it.status s mark) it q
 
 -- with a data header at another place
 abbrev pub IdleAfterHeaders : Type 0

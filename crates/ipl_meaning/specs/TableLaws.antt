@@ -5,11 +5,12 @@ use Rattle.ipl_base.specs.Places.{KeepsUnits}
 use Rattle.ipl_format.specs.Sector.{Sector}
 use Rattle.ipl_format.specs.Record.{Record}
 use Rattle.ipl_format.specs.Commit.{SpellsCommit}
+use Rattle.ipl_format.specs.Mark.{SpellsMark}
 use Rattle.ipl_format.specs.Header.{SpellsStatusHeader}
 use Rattle.ipl_meaning.specs.Chart.{Chart, IsStatusHeader, IsOverflowHeader}
-use Rattle.ipl_meaning.specs.Layout.{Shape, Layout, IsStatus}
+use Rattle.ipl_meaning.specs.Layout.{Shape, Layout, IsStatus, HasNoMark}
 use Rattle.ipl_meaning.specs.Formatted.{formatted}
-use Rattle.ipl_meaning.specs.Steps.{IsIdle, MayLog, MayCommit, MaySeal, MaySwitch, MayOpenOverflow}
+use Rattle.ipl_meaning.specs.Steps.{IsIdle, MayLog, MayCommit, MaySeal, MayMark, MaySwitch, MayOpenOverflow}
 use Rattle.ipl_meaning.specs.Tables.{IsFree, Tables, spots_of, first_log}
 use Rattle.ipl_meaning.specs.Mirrors.{Mirrors}
 use Rattle.ipl_meaning.specs.TableSteps.{IsFreshLog, IsReady}
@@ -47,6 +48,13 @@ CommitSectorsMayGo =
     → ((tid : ℕ) → IsTrue (it.committed tid) ⊎ Contains numbers tid → IsTrue (committed tid))
     → MayCommit c it t.status.first sector numbers committed
 
+-- a mark may go there too
+abbrev pub MarksMayGo : Type 0
+MarksMayGo =
+    (places : ℕ) (c : Chart) (it : Layout) (t : Tables) (mark : Sector) → Mirrors places c it t
+    → 1 ≤ t.status.first → t.status.first < SECTORS → mark.kind ≡ 7 → mark.generation ≡ t.status.generation
+    → SpellsMark (length t.places.current) mark.payload → MayMark c it t.status.first mark
+
 -- a data header may go to a place that is ready
 abbrev pub HeadersMayGo : Type 0
 HeadersMayGo =
@@ -60,7 +68,7 @@ StatusHeadersMayGo =
     → Mirrors places c it t
     → p < places → c p 0 ≡ None → IsStatusHeader head
     → SpellsStatusHeader head.version places (length t.places.current) head.payload → t.next ≤ head.serial
-    → IsStatus c p head.generation committed
+    → IsStatus c p head.generation committed → HasNoMark c p head.generation
     → MaySwitch places it.count c p head committed
 
 -- an overflow header on a place where nothing checks

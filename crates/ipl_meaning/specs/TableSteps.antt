@@ -7,7 +7,7 @@ use Rattle.ipl_format.specs.Header.{SpellsDataHeader}
 use Rattle.ipl_meaning.specs.Chart.{Chart, IsDataHeader, IsLive}
 use Rattle.ipl_meaning.specs.Layout.{Entry, Shape, Layout, AllRise, IsEntry}
 use Rattle.ipl_meaning.specs.Masks.{mask_at}
-use Rattle.ipl_meaning.specs.Tables.{IsFree, with_use, with_erased, with_retired, with_written, with_mask, Tables, spots_of, masks_of, overflow_places, first_log, IsCountedClean}
+use Rattle.ipl_meaning.specs.Tables.{IsFree, with_use, with_erased, with_retired, with_written, with_mask, with_marks_ended, Tables, spots_of, masks_of, overflow_places, first_log, IsCountedClean}
 use Rattle.ipl_meaning.specs.Mirrors.{AreApart}
 
 -- a log sector as the counter and the open sessions make it
@@ -89,6 +89,10 @@ abbrev pub CountedMove : Tables → Tables → ℕ → ℕ → ℕ → Type 0
 CountedMove t after p s from = (q n : ℕ) → IsCountedClean after q n
     → (IsCountedClean t q n ⊎ ((q ≡ p) × (from ≤ n) × (n < SECTORS))) × (q ≡ p → n ≢ s)
 
+-- no mark counts any more
+abbrev pub without_marks : Tables → Tables
+without_marks t = record { places = with_marks_ended t.places; overflow = t.overflow; status = t.status; next = t.next; active = t.active }
+
 -- numbers were drawn
 abbrev pub with_next : Tables → ℕ → Tables
 with_next t next = record { places = t.places; overflow = t.overflow; status = t.status; next = next; active = t.active }
@@ -109,10 +113,11 @@ without_worn t p = record { places = with_retired (with_use t.places p true) p; 
 abbrev pub taken : Tables → ℕ → Tables
 taken t p = record { places = with_erased (with_use t.places p true) p; overflow = t.overflow; status = t.status; next = t.next; active = t.active }
 
--- the tables once the unit stands at its new place, with this many log sectors written there
+-- the tables once the unit stands at its new place, with this many log sectors written there, at most 15
 pub record IsMoved (t after : Tables) (u p used : ℕ) : Type 0 where
   pub current : after.places.current ≡ slice_set t.places.current u p
   pub written : after.places.written ≡ slice_set t.places.written u used
+  pub few : used ≤ LOG_SECTORS
   pub all : length after.places.in_use ≡ length t.places.in_use
   pub erases : after.places.erases ≡ t.places.erases
   pub retired : after.places.retired ≡ t.places.retired

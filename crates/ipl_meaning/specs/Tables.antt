@@ -1,9 +1,9 @@
 -- What the tables in memory say, as lists.
 use Rattle.std.specs.Prelude.{ℕ, ◌≡◌, ◌⊎◌, ◌<◌, ◌≤◌, ◌+◌, ◌-◌, ◌^◌, ◌==◌, nat_lt, if◌then◌else◌, Bool, true, false, List, [], ◌∷◌, map, length, slice_index, slice_index_or, slice_set, Contains}
-use Rattle.ipl_base.specs.declared.limits.TheConstants.{SECTORS, FIRST_LOG_SECTOR}
+use Rattle.ipl_base.specs.declared.limits.TheConstants.{SECTORS, FIRST_LOG_SECTOR, LOG_SECTORS}
 
--- the place of each unit, whether each place is in use, how often each place was erased, which places are retired, how many of the last 15 sectors of
--- each unit's place count as written, the generation of each unit, and by unit which pages each of these sectors names
+-- the place of each unit, whether each place is in use, how often each place was erased, which places are retired, what is known of the last 15 sectors
+-- of each unit's place, the generation of each unit, and by unit which pages each of these sectors names
 pub record Places : Type 0 where
   pub current : List ℕ
   pub in_use : List Bool
@@ -12,6 +12,24 @@ pub record Places : Type 0 where
   pub written : List ℕ
   pub generations : List ℕ
   pub masks : List (List ℕ)
+
+-- That is a number: so many of them were written, or so many more than 16 by a mark, while the mark counts; and it is 32
+-- where nothing is known.
+abbrev pub UNKNOWN_LOGS : ℕ
+UNKNOWN_LOGS = 32
+
+abbrev pub MARKED_LOGS : ℕ
+MARKED_LOGS = 16
+
+-- how many count as written: all, where nothing is known
+abbrev pub counted_written : ℕ → ℕ
+counted_written written =
+    if nat_lt written MARKED_LOGS then written else (if nat_lt written UNKNOWN_LOGS then written - MARKED_LOGS else LOG_SECTORS)
+
+-- the same, once no mark counts any more
+abbrev pub unmarked_written : ℕ → ℕ
+unmarked_written written =
+    if nat_lt written MARKED_LOGS then written else (if nat_lt written UNKNOWN_LOGS then written - MARKED_LOGS else written)
 
 -- the place is free
 abbrev pub IsFree : Places → ℕ → Type 0
@@ -38,6 +56,10 @@ inserted p (q ∷ places) =
 -- the place is retired: it was found worn, and is taken no more
 abbrev pub with_retired : Places → ℕ → Places
 with_retired it p = record it { retired = inserted p it.retired }
+
+-- no mark counts any more: what it said is known
+abbrev pub with_marks_ended : Places → Places
+with_marks_ended it = record it { written = map unmarked_written it.written }
 
 -- one more log sector of the unit is written
 abbrev pub with_written : Places → ℕ → Places
@@ -102,14 +124,22 @@ place_of spot = spot.0
 abbrev pub overflow_places : Tables → List ℕ
 overflow_places t = map place_of t.overflow.in_use
 
--- the first log sector of the unit that is known clean (256 where there is none)
+-- what is known of the unit's last 15 sectors: so many of them count as written, and the others as clean
+abbrev pub written_of : Tables → ℕ → ℕ
+written_of t u = slice_index t.places.written u
+
+-- the first log sector of the unit that is known clean and may be written (256 or more where there is none)
 abbrev pub first_log : Tables → ℕ → ℕ
-first_log t u = FIRST_LOG_SECTOR + slice_index t.places.written u
+first_log t u = FIRST_LOG_SECTOR + written_of t u
+
+-- the first that is known clean, also by a mark (256 where there is none)
+abbrev pub clean_from : Tables → ℕ → ℕ
+clean_from t u = FIRST_LOG_SECTOR + counted_written (written_of t u)
 
 -- the tables count the sector as clean
 abbrev pub IsCountedClean : Tables → ℕ → ℕ → Type 0
 IsCountedClean t p s =
     (s < SECTORS)
-    × (((u : ℕ) × (u < length t.places.current) × (p ≡ slice_index t.places.current u) × (first_log t u ≤ s))
+    × (((u : ℕ) × (u < length t.places.current) × (p ≡ slice_index t.places.current u) × (clean_from t u ≤ s))
     ⊎ ((first : ℕ) × Contains t.overflow.in_use (p, first) × (first ≤ s))
     ⊎ ((p ≡ t.status.place) × (t.status.first ≤ s)))

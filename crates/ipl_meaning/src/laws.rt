@@ -1,13 +1,14 @@
 //! The laws of what the sectors of a chip mean.
-ghost use Rattle.ipl_meaning.specs.Laws.{StandsOnce, LaidOnce, AllowedSectorsSuffice, KeptPagesKeepTheMap, IdlePlacesDoNotCount, LossesDoNotCount, OutsideDoesNotCount, LogSectorsWait, CommitSectorsAdd, HeadersSwitch, MergesKeepPages, SameUnitsKeepPages, StatusHeadersSwitch, KeptNumbersKeepPages, OverflowHeadersWait, FormattedChipsAreEmpty};
-ghost use Rattle.ipl_meaning.specs.StandingLaws.{StandsAfterIdle, StandsAfterLogs, StandsAfterCommits, StandsAfterHeaders, StandsAfterMerges, StandsAfterRenewals, StandsAfterOverflows};
-ghost use Rattle.ipl_meaning.specs.StoryLaws.{QuietImagesAreParts, HeldStands, RestsOnce, ChipsRestOnce, ClosedRests, BarriersRest, BarriersKeepEither, ReadsKeep, SaysKeep, WornsKeep, ErasesKeep, LogSectorsKeep, AsidesKeep, ProgramsLead, OneIsEither, EitherIsKept, MomentsKeepUnits, WornByLayout, IdleAfterCommits, IdleAfterHeaders, IdleAfterRenewals, IdleAfterOverflows};
+ghost use Rattle.ipl_meaning.specs.Laws.{StandsOnce, LaidOnce, AllowedSectorsSuffice, KeptPagesKeepTheMap, IdlePlacesDoNotCount, LossesDoNotCount, OutsideDoesNotCount, LogSectorsWait, CommitSectorsAdd, MarksWait, HeadersSwitch, MergesKeepPages, SameUnitsKeepPages, StatusHeadersSwitch, KeptNumbersKeepPages, OverflowHeadersWait, FormattedChipsAreEmpty};
+ghost use Rattle.ipl_meaning.specs.StandingLaws.{StandsAfterIdle, StandsAfterLogs, StandsAfterCommits, StandsAfterMarks, StandsAfterHeaders, StandsAfterMerges, StandsAfterRenewals, StandsAfterOverflows};
+ghost use Rattle.ipl_meaning.specs.StoryLaws.{QuietImagesAreParts, HeldStands, RestsOnce, ChipsRestOnce, ClosedRests, BarriersRest, BarriersKeepEither, ReadsKeep, SaysKeep, WornsKeep, ErasesKeep, LogSectorsKeep, AsidesKeep, ProgramsLead, OneIsEither, EitherIsKept, MomentsKeepUnits, WornByLayout, IdleAfterCommits, IdleAfterMarks, IdleAfterHeaders, IdleAfterRenewals, IdleAfterOverflows};
 ghost use Rattle.ipl_meaning.specs.RecordLaws.{TheLastGivesTheValue, MergesCarryTheLast, CommitsApplyTheLast, PacksAreTheList, PacksFit, FewAreCarried, TextsHaveSizes, ShortValuesHaveRoom};
-ghost use Rattle.ipl_meaning.specs.CounterLaws.{NewGenerationsWakeNothing, NewSerialsAreGreatest, NewNumbersWait, LogSectorsKeepTheCounter, CommitSectorsKeepTheCounter, HeadersKeepTheCounter, BarePlacesKeepTheCounter};
-ghost use Rattle.ipl_meaning.specs.TableLaws.{FreePlacesAreIdle, LogSectorsMayGoHome, LogSectorsMayGoElsewhere, CommitSectorsMayGo, HeadersMayGo, StatusHeadersMayGo, OverflowHeadersMayGo, FirstTablesMirror};
+ghost use Rattle.ipl_meaning.specs.CounterLaws.{NewGenerationsWakeNothing, NewSerialsAreGreatest, NewNumbersWait, NewSerialsPassTheStatus, LogSectorsKeepTheCounter, CommitSectorsKeepTheCounter, HeadersKeepTheCounter, BarePlacesKeepTheCounter};
+ghost use Rattle.ipl_meaning.specs.TableLaws.{FreePlacesAreIdle, LogSectorsMayGoHome, LogSectorsMayGoElsewhere, CommitSectorsMayGo, MarksMayGo, HeadersMayGo, StatusHeadersMayGo, OverflowHeadersMayGo, FirstTablesMirror};
 ghost use Rattle.ipl_meaning.specs.FollowingLaws.{TablesFollowHomeLogs, TablesFollowOverflowLogs, TablesFollowCommits, CountedFollow};
-ghost use Rattle.ipl_meaning.specs.MovingLaws.{TablesFollowIdlePlaces, PlacesMayBeTaken, CountsAreFree, RetiredAreFree, PlacesMayBeRetired, TablesFollowMerges, TablesFollowRenewals, TablesFollowOverflows, CountedFollowMerges, CountedFollowRenewals, CountedFollowOverflows};
-ghost use Rattle.ipl_meaning.specs.AgreeingLaws.{CountedAreUntouched, CountedMayBeProgrammed, TidyAfterPrograms, TidyAfterMoves, TidyAfterBarriers, TidyAfterErases, TidyAfterWorns, ProgramsAgree, BarriersAgree, ReadsAgree, SaysAgree, ErasesAgree, WornsAgree};
+ghost use Rattle.ipl_meaning.specs.MovingLaws.{TablesFollowIdlePlaces, PlacesMayBeTaken, CountsAreFree, RetiredAreFree, PlacesMayBeRetired, TablesFollowMerges, TablesFollowRenewals, TablesFollowOverflows, TablesFollowEndsOfMarks, CountedFollowMerges, CountedFollowRenewals, CountedFollowOverflows, CountedFollowEndsOfMarks};
+ghost use Rattle.ipl_meaning.specs.MarkLaws.{IdleEventsKeepMarks, ErasesKeepMarks, WornsKeepMarks, AsidesKeepMarks, LogSectorsKeepMarks, ProgramsKeepMarks, CommitsMarkNoMore, HeadersMarkNoMore, RenewalsMarkNoMore, OverflowsMarkNoMore, ClosesKeepMarks, ClosesMarkWhatIsClean};
+ghost use Rattle.ipl_meaning.specs.AgreeingLaws.{TidyAfterPrograms, TidyAfterMoves, TidyAfterBarriers, TidyAfterErases, TidyAfterWorns, TidyIsCarried, UnusedIsCarried, ProgramsAgree, BarriersAgree, ReadsAgree, SaysAgree, ErasesAgree, WornsAgree};
 
 /// A chart is laid out in one way and stands for one map at most; what keeps its pages keeps the map; a page is rebuilt from
 /// the allowed sectors alone.
@@ -52,6 +53,7 @@ pub fn unit_laws()
 pub fn worn_laws()
     ensures layout { WornByLayout }
     ensures commits { IdleAfterCommits }
+    ensures marks { IdleAfterMarks }
     ensures headers { IdleAfterHeaders }
     ensures renewals { IdleAfterRenewals }
     ensures overflows { IdleAfterOverflows }
@@ -64,10 +66,11 @@ pub fn idle_laws()
     ensures outside { OutsideDoesNotCount }
 {}
 
-/// Log sectors wait, and commit sectors make them count.
+/// Log sectors wait, and commit sectors make them count; marks change nothing.
 pub fn log_laws()
     ensures waits { LogSectorsWait }
     ensures commits { CommitSectorsAdd }
+    ensures marks { MarksWait }
 {}
 
 /// Headers switch a unit, or the status, to a new place at once.
@@ -85,6 +88,7 @@ pub fn standing_laws()
     ensures idle { StandsAfterIdle }
     ensures logs { StandsAfterLogs }
     ensures commits { StandsAfterCommits }
+    ensures marks { StandsAfterMarks }
     ensures headers { StandsAfterHeaders }
     ensures merges { StandsAfterMerges }
     ensures renewals { StandsAfterRenewals }
@@ -109,6 +113,7 @@ pub fn counter_laws()
     ensures wakes_nothing { NewGenerationsWakeNothing }
     ensures greatest { NewSerialsAreGreatest }
     ensures waits { NewNumbersWait }
+    ensures passes { NewSerialsPassTheStatus }
     ensures log_sectors { LogSectorsKeepTheCounter }
     ensures commit_sectors { CommitSectorsKeepTheCounter }
     ensures headers { HeadersKeepTheCounter }
@@ -127,6 +132,7 @@ pub fn table_laws()
     ensures home_logs { LogSectorsMayGoHome }
     ensures overflow_logs { LogSectorsMayGoElsewhere }
     ensures commits { CommitSectorsMayGo }
+    ensures marks { MarksMayGo }
     ensures headers { HeadersMayGo }
     ensures status_headers { StatusHeadersMayGo }
     ensures overflow_headers { OverflowHeadersMayGo }
@@ -140,7 +146,8 @@ pub fn following_laws()
     ensures counted_clean { CountedFollow }
 {}
 
-/// The tables follow places that are taken, units and the status that move, and new overflow places.
+/// The tables follow places that are taken, units and the status that move, new overflow places and
+/// the end of marks.
 pub fn moving_laws()
     ensures idle_places { TablesFollowIdlePlaces }
     ensures taken { PlacesMayBeTaken }
@@ -150,22 +157,24 @@ pub fn moving_laws()
     ensures merges { TablesFollowMerges }
     ensures renewals { TablesFollowRenewals }
     ensures overflows { TablesFollowOverflows }
+    ensures ends_of_marks { TablesFollowEndsOfMarks }
 
     // what is counted as clean then
     ensures merge_counted { CountedFollowMerges }
     ensures renewal_counted { CountedFollowRenewals }
     ensures overflow_counted { CountedFollowOverflows }
+    ensures end_counted { CountedFollowEndsOfMarks }
 {}
 
-/// What the tables count as clean may be programmed, and stays clean until it is.
+/// What the tables count as clean stays clean until it is programmed.
 pub fn clean_laws()
-    ensures untouched { CountedAreUntouched }
-    ensures programmed { CountedMayBeProgrammed }
     ensures programs { TidyAfterPrograms }
     ensures moves { TidyAfterMoves }
     ensures barriers { TidyAfterBarriers }
     ensures erases { TidyAfterErases }
     ensures worns { TidyAfterWorns }
+    ensures carried { TidyIsCarried }
+    ensures unused { UnusedIsCarried }
 {}
 
 /// The tables agree with the chip after each call, where they mirror its chart.
@@ -176,4 +185,26 @@ pub fn agreeing_laws()
     ensures says { SaysAgree }
     ensures erases { ErasesAgree }
     ensures worns { WornsAgree }
+{}
+
+/// Each call keeps the marked sectors unused; a clean close marks what is counted as clean, and that alone.
+pub fn mark_laws()
+    ensures idle_events { IdleEventsKeepMarks }
+    ensures erases { ErasesKeepMarks }
+    ensures worns { WornsKeepMarks }
+    ensures asides { AsidesKeepMarks }
+    ensures log_sectors { LogSectorsKeepMarks }
+    ensures programs { ProgramsKeepMarks }
+
+    // a close
+    ensures closes { ClosesKeepMarks }
+    ensures marks_clean { ClosesMarkWhatIsClean }
+{}
+
+/// After a commit sector and after each header no more is marked than before.
+pub fn marking_laws()
+    ensures commits { CommitsMarkNoMore }
+    ensures headers { HeadersMarkNoMore }
+    ensures renewals { RenewalsMarkNoMore }
+    ensures overflows { OverflowsMarkNoMore }
 {}

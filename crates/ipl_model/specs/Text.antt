@@ -3,7 +3,7 @@ use Rattle.std.specs.Prelude.{ℕ, List, [], ◌∷◌, ◌++◌, codes}
 use Rattle.std.specs.Fmt.{decimal}
 use Rattle.hex.specs.Hex.{encode_lower}
 use Rattle.ipl_base.specs.declared.fault.Refusal.{Refusal}
-use Rattle.ipl_base.specs.declared.fault.Refusal.TheVariants.{BadSession, BadName, TooLong, AlreadyOpen, NotOpen, Conflict, WritesFull, SharesFull, PendingFull, BadUnit, HoldsFull, NotHeld, PageFull, Twice}
+use Rattle.ipl_base.specs.declared.fault.Refusal.TheVariants.{BadSession, BadName, TooLong, AlreadyOpen, NotOpen, Conflict, WritesFull, SharesFull, PendingFull, BadUnit, HoldsFull, NotHeld, PageFull, Twice, SessionsOpen}
 use Rattle.ipl_model.specs.declared.reply.Reply.{Reply}
 use Rattle.ipl_model.specs.declared.reply.Reply.TheVariants as reply
 
@@ -28,6 +28,7 @@ refusal_text HoldsFull = codes "12 holdsfull"
 refusal_text NotHeld = codes "13 notheld"
 refusal_text PageFull = codes "14 pagefull"
 refusal_text (Twice s) = codes "15 twice " ++ decimal s
+refusal_text (SessionsOpen s) = codes "16 sessionsopen " ++ decimal s
 
 -- one line of a reply, with its line feed
 abbrev pub reply_text : Reply → List ℕ

@@ -2,7 +2,7 @@
 use Rattle.std.specs.Prelude.{ℕ, ◌+◌, ◌==◌, ◌/◌, nat_le, nat_lt, Bool, not, ◌&&◌, ◌||◌, List, [], ◌∷◌, ◌++◌, length, filter, find, Option, Some, None, is_some, unwrap_or, if◌then◌else◌}
 use Rattle.ipl_base.specs.declared.limits.TheConstants.{VALUE_LEN, UNIT_NAMES, SESSION_NAMES}
 use Rattle.ipl_base.specs.declared.fault.Refusal.{Refusal}
-use Rattle.ipl_base.specs.declared.fault.Refusal.TheVariants.{BadSession, BadName, TooLong, AlreadyOpen, NotOpen, Conflict, WritesFull, SharesFull, PendingFull, BadUnit, PageFull, Twice}
+use Rattle.ipl_base.specs.declared.fault.Refusal.TheVariants.{BadSession, BadName, TooLong, AlreadyOpen, NotOpen, Conflict, WritesFull, SharesFull, PendingFull, BadUnit, PageFull, Twice, SessionsOpen}
 use Rattle.std.specs.List.{list_any, range_with_len}
 use Rattle.ipl_base.specs.Sizes.{size_in_page}
 use Rattle.ipl_rules.specs.State.{Write, State, Limits, is_open, writes_of, shared_of, last_write, written_names, holder_for_share, holder_for_write}
@@ -75,6 +75,10 @@ least_twice limits ss = find (is_twice ss) (range_with_len 0 limits.sessions)
 abbrev pub twice : Option ℕ → Test
 twice least = (is_some least, Twice (unwrap_or least 0))
 
+-- a session is open; the least is named
+abbrev pub sessions_open : Option ℕ → Test
+sessions_open least = (is_some least, SessionsOpen (unwrap_or least 0))
+
 -- ---- the operations, each with its tests in order
 
 abbrev pub refuses_begin : Limits → State → ℕ → Option Refusal
@@ -111,6 +115,14 @@ refuses_end limits state s = first_of (bad_session limits s ∷ not_open state s
 abbrev pub refuses_batch : Limits → State → List ℕ → Option Refusal
 refuses_batch limits state ss = first_of ((list_any (λ s. nat_le limits.sessions s) ss, BadSession)
     ∷ twice (least_twice limits ss) ∷ (list_any (λ s. not (is_open state s)) ss, NotOpen) ∷ [])
+
+-- the least session that is open
+abbrev pub least_open : Limits → State → Option ℕ
+least_open limits state = find (is_open state) (range_with_len 0 limits.sessions)
+
+-- of a clean close
+abbrev pub refuses_close : Limits → State → Option Refusal
+refuses_close limits state = first_of (sessions_open (least_open limits state) ∷ [])
 
 abbrev pub refuses_list : Limits → ℕ → ℕ → Option Refusal
 refuses_list limits a b = first_of ((nat_le limits.names a || nat_le limits.names b, BadName) ∷ [])

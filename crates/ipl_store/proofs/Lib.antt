@@ -7,3 +7,4 @@ pub mod RoomLemmas
 pub mod PutLemmas
 pub mod HoldLemmas
 pub mod MergeLemmas
+pub mod ClosingLemmas

@@ -1,5 +1,5 @@
 -- What an opening of a chip leaves of a store.
-use Rattle.std.proofs.Common.{◌≡◌, inl, inr, ℕ, ◌+◌, ◌<◌, ◌≤◌, ◌^◌, Bool, List, Option, Some, None, Ok, get_or, length, slice_index_or, count_by, replicate, refl, sym, ◌∙◌, ap, subst, arith}
+use Rattle.std.proofs.Common.{◌≡◌, inl, inr, ℕ, ◌+◌, ◌<◌, ◌≤◌, ◌^◌, Bool, false, List, Option, Some, None, Ok, get_or, length, slice_index_or, count_by, replicate, refl, sym, ◌∙◌, ap, subst, arith}
 use Rattle.std.specs.FinMap.{empty}
 use Rattle.std.specs.Option.{option_map}
 use Rattle.std.proofs.lemmas.Bool.{cases_lt}
@@ -79,9 +79,9 @@ none_open s = ap (option_map (λ (h : Held). h.number)) (none_at s)
 
 -- ---- a store of which a chip was opened
 
-module _ (places : ℕ) (t : Tables) (old new : Told)
+module _ (marks : Bool) (places : ℕ) (t : Tables) (old new : Told)
     (tells : RecoversTold places old (Ok tt) t new)
-    (steps : RecoversInSteps places old (Ok tt) t new)
+    (steps : RecoversInSteps marks places old (Ok tt) t new)
     (holds : HoldsOpened places t) where
   opened_says : (m : Map) (x y : Contents) → old.contents ≡ Some x
       → Stands places (chart_of x) m → new.contents ≡ Some y
@@ -97,11 +97,11 @@ module _ (places : ℕ) (t : Tables) (old new : Told)
             (layout_in (chart_of x) places) is.now m is.pages is.count said,
       )
 
-  -- it leads to the state without sessions
-  pub opened_leads : (before : Memory) → old.places ≡ places
+  -- where no mark counts, it leads to the state without sessions
+  pub opened_leads : marks ≡ false → (before : Memory) → old.places ≡ places
       → LeadsTo {T = Unit {0}} {E = ChipFault} (λ state. after_restart state) before old (Ok tt)
       (memory_of t (λ u page. None) (replicate 32 None)) new
-  opened_leads before suits = restarts_lead before t (replicate 32 None) old new holds.active
+  opened_leads unmarked before suits = restarts_lead before t (replicate 32 None) old new holds.active
       none_open empty_slots_are_at_rest opens keeps
     where
       reopened : (x : Contents) → old.contents ≡ Some x → (y : Contents)
@@ -133,20 +133,23 @@ module _ (places : ℕ) (t : Tables) (old new : Told)
       preserved : (m : Map) (h : History) → IsSteady h old → StoryRests places m h
           → Preserves {T = Unit {0}} {E = ChipFault} places m before.tables t h (Ok tt) old new
       preserved m h steady rests =
-          let did = steps m h steady rests in record {
+          let (first, takes, did) = steps m h steady rests in record {
             added = did.added;
+            places = did.places;
             history = did.history;
             each_moment = did.each_moment;
+            marks = did.marks;
             does = record {
               silent = did.does.silent;
               lawful = record {
-                lawful = λ base is clean.
-                    did.does.lawful.lawful base is (λ p s nowhere. absurd nowhere);
+                lawful = λ base is clean. did.does.lawful.lawful base is
+                    (λ p s counts. absurd (takes.none unmarked p s counts));
               };
-              clean = λ done base clean. did.does.clean refl base (λ p s nowhere. absurd nowhere);
+              clean = λ done base clean. did.does.clean refl base
+                  (λ p s counts. absurd (takes.none unmarked p s counts));
             };
             steady = λ done. did.steady tt;
-            ends = λ done. did.ends tt;
+            ends = λ done. (did.ends tt).rests;
           }
 
       keeps : (all : ℕ) (m : Map) (it : Layout) (h : History) → old.places ≡ all → IsSteady h old
@@ -156,9 +159,9 @@ module _ (places : ℕ) (t : Tables) (old new : Told)
           subst (λ (n : ℕ). StoryRests n m h → Preserves {T = Unit {0}} {E = ChipFault} n m
           before.tables t h (Ok tt) old new) (sym suits ∙ same) (preserved m h steady) rests
 
-module _ (places units : ℕ) (t : Tables) (old new : Told)
+module _ (marks : Bool) (places units : ℕ) (t : Tables) (old new : Told)
     (tells : RecoversTold places old (Ok tt) t new)
-    (steps : RecoversInSteps places old (Ok tt) t new)
+    (steps : RecoversInSteps marks places old (Ok tt) t new)
     (holds : HoldsOpened places t) (many : length t.places.current ≡ units) where
   -- as many as the status header says
   pub opened_counts : OfContents old (λ x. units ≡ units_at (chart_of x) places)
@@ -171,7 +174,7 @@ module _ (places units : ℕ) (t : Tables) (old new : Told)
       → Stands places (chart_of x) m → new.contents ≡ Some y
       → ShowsState places (opened_with units t (replicate 32 None)) (at_rest m) y
   opened_shows m x y told stands then =
-      let (it, mirrors, says) = opened_says places t old new tells steps holds m x y told stands then
+      let (it, mirrors, says) = opened_says marks places t old new tells steps holds m x y told stands then
       in record {
         layout = it;
         count = sym mirrors.directory.units ∙ many;
@@ -190,14 +193,14 @@ module _ (places units : ℕ) (t : Tables) (old new : Told)
   -- and over a history then that rests on it
   pub opened_keeps : (m : Map) (k : History) (x : Contents) → old.contents ≡ Some x
       → Stands places (chart_of x) m → IsSteady k new → StoryRests places m k
-      → IsTidy k.story t
+      → IsTidy k t
       → KeepsStore places (limits_of units) (opened_with units t (replicate 32 None)) new k
       (at_rest m)
   opened_keeps m k x told stands =
       opened_stores_keep places units t (replicate 32 None) new k m holds.known.none_lost
       holds.active none_open (empty_slots_are_at_rest m)
       (λ y then.
-      let (it, mirrors, says) = opened_says places t old new tells steps holds m x y told stands then
+      let (it, mirrors, says) = opened_says marks places t old new tells steps holds m x y told stands then
       in (it, sym mirrors.directory.units ∙ many, mirrors, says))
 
 -- ---- as its fields have it
@@ -248,14 +251,14 @@ module _ (places : ℕ) (store : Store) (made : IsMade places store) (fresh : Is
   }
 
   -- and it has the records for which the chip stood
-  pub fresh_opens : (old new : Told)
+  pub fresh_opens : (marks : Bool) (old new : Told)
       → RecoversTold places old (Ok tt) (tables_in store.transactions.pages) new
-      → RecoversInSteps places old (Ok tt) (tables_in store.transactions.pages) new
+      → RecoversInSteps marks places old (Ok tt) (tables_in store.transactions.pages) new
       → OfContents old (λ x. counter_of store ≤ greatest_found (chart_of x) places + 1 + 2 ^ 14)
       → counter_of store ≤ 2 ^ 63 + 2 ^ 14 → Opens places old store new
-  fresh_opens old new tells steps number left = record {
+  fresh_opens marks old new tells steps number left = record {
     fresh = fresh;
-    units = opened_counts places store.units t old new tells steps holds many;
+    units = opened_counts marks places store.units t old new tells steps holds many;
     anew = λ x told.
         let (y, then, has) = tells x told in (
           y,
@@ -264,18 +267,18 @@ module _ (places : ℕ) (store : Store) (made : IsMade places store) (fresh : Is
             layout = has.now;
             fits = subst (λ (v : View). MemoryFits places (chart_of y) has.now v.memory (at_rest empty))
                 (fresh_view store fresh)
-                (opened_fits places store.units t old new tells steps holds many (chart_of y) has.now
+                (opened_fits marks places store.units t old new tells steps holds many (chart_of y) has.now
                 has.mirrors);
             lists = has.lists;
           },
         );
     shows = λ m x told stands y then.
         subst (λ (v : View). ShowsState places v (at_rest m) y) (fresh_view store fresh)
-        (opened_shows places store.units t old new tells steps holds many m x y told stands then);
+        (opened_shows marks places store.units t old new tells steps holds many m x y told stands then);
     keeps = λ m k x told stands steady rests tidy.
         subst (λ (v : View). KeepsStore places (limits_of store.units) v new k (at_rest m))
         (fresh_view store fresh)
-        (opened_keeps places store.units t old new tells steps holds many m k x told stands steady
+        (opened_keeps marks places store.units t old new tells steps holds many m k x told stands steady
         rests tidy);
     number = number;
     left = left;
@@ -284,15 +287,15 @@ module _ (places : ℕ) (store : Store) (made : IsMade places store) (fresh : Is
       t : Tables
       t = tables_in store.transactions.pages
 
-  -- a store that stood for states stands for them with no session open
-  pub fresh_restarts : (before : Memory) (old new : Told) → old.places ≡ places
+  -- a store that stood for states stands for them with no session open, where no mark counts
+  pub fresh_restarts : (marks : Bool) → marks ≡ false → (before : Memory) (old new : Told) → old.places ≡ places
       → RecoversTold places old (Ok tt) (tables_in store.transactions.pages) new
-      → RecoversInSteps places old (Ok tt) (tables_in store.transactions.pages) new
+      → RecoversInSteps marks places old (Ok tt) (tables_in store.transactions.pages) new
       → Restarts before old (memory_of_store store) new
-  fresh_restarts before old new suits tells steps =
+  fresh_restarts marks unmarked before old new suits tells steps =
       subst (λ (v : View). Restarts before old v.memory new) (fresh_view store fresh)
-      (opened_leads places (tables_in store.transactions.pages) old new tells steps holds before
-      suits)
+      (opened_leads marks places (tables_in store.transactions.pages) old new tells steps holds
+      unmarked before suits)
 
 -- ---- a store whose tables an opening wrote
 

@@ -1,5 +1,5 @@
 -- What an opening of a chip leaves of a store.
-use Rattle.std.specs.Prelude.{ℕ, ◌≡◌, ◌⊎◌, ◌≤◌, ◌+◌, ◌^◌, false, true, [], length, replicate, None, Result, Ok, Err, MatchResult, OnOk, is_ok}
+use Rattle.std.specs.Prelude.{ℕ, ◌≡◌, ◌⊎◌, Bool, ◌≤◌, ◌+◌, ◌^◌, false, true, [], length, replicate, None, Result, Ok, Err, MatchResult, OnOk}
 use Rattle.chip_trait.specs.Told.{History, Told}
 use Rattle.ipl_base.specs.declared.fault.ChipFault.{ChipFault}
 use Rattle.ipl_base.specs.declared.fault.ImageFault.{ImageFault}
@@ -16,7 +16,7 @@ use Rattle.ipl_meaning.specs.Chart.{Chart, chart_of}
 use Rattle.ipl_meaning.specs.Layout.{Layout}
 use Rattle.ipl_meaning.specs.Rests.{StoryRests}
 use Rattle.ipl_meaning.specs.Stands.{Stands}
-use Rattle.ipl_meaning.specs.Tables.{Tables, IsCountedClean}
+use Rattle.ipl_meaning.specs.Tables.{Tables}
 use Rattle.opening_rules.specs.Chosen.{units_at}
 use Rattle.opening_rules.specs.Faults.{greatest_found}
 use Rattle.restart.specs.Bytes.{ReadsBytes}
@@ -26,8 +26,7 @@ use Rattle.unit_io.specs.Costs.{Spends}
 use Rattle.unit_io.specs.Leads.{IsSteady}
 use Rattle.unit_io.specs.Reads.{OfContents}
 use Rattle.status_renewal.specs.Passes.{HasErased, ListsRetired}
-use Rattle.steps.specs.Steps.{TidyWork}
-use Rattle.status_renewal.specs.Recovers.{CompletesOpening, ErasesOpening, RecoversTold, LooksAtFaults, RecoversInSteps, IsNowhere, OpeningCause}
+use Rattle.status_renewal.specs.Recovers.{CompletesOpening, ErasesOpening, RecoversTold, LooksAtFaults, RecoversInSteps, TidiesOpening, OpeningCause}
 use Rattle.store_steps.specs.Advances.{Memory, MemoryFits, LeadsTo}
 use Rattle.store_steps.specs.Keeps.{limits_of, ShowsState, KeepsStore}
 use Rattle.page_frames.specs.Pages.{tables_in}
@@ -37,6 +36,7 @@ use Rattle.ipl_store.specs.Calls.{memory_of_store, view_of, counter_of, IsSound}
 -- the store isn't down, no session is open, and no page is in a frame
 pub record IsFresh (store : Store) : Type 0 where
   pub up : store.down ≡ false
+  pub unclosed : store.closed ≡ false
   pub idle : store.transactions.sessions ≡ replicate SESSIONS None
   pub empty : store.transactions.pages.pool.buffers.slots ≡ []
 
@@ -59,7 +59,7 @@ pub record Opens (places : ℕ) (old : Told) (store : Store) (new : Told) : Type
       → OfContents new (ShowsState places (view_of store) (at_rest m)))
   pub keeps : (m : Map) (k : History) → OfContents old (λ x. Stands places (chart_of x) m
       → IsSteady k new → StoryRests places m k
-      → IsTidy k.story (tables_in store.transactions.pages)
+      → IsTidy k (tables_in store.transactions.pages)
       → KeepsStore places (limits_of store.units) (view_of store) new k (at_rest m))
   pub number : OfContents old (λ x. counter_of store
       ≤ greatest_found (chart_of x) places + 1 + 2 ^ 14)
@@ -70,20 +70,20 @@ abbrev pub Restarts : Memory → Told → Memory → Told → Type 0
 Restarts before old after new = LeadsTo {T = Unit {0}} {E = ChipFault}
     (λ state. after_restart state) before old (Ok tt) after new
 
--- What an opening does to the chip, which fails so or leaves these tables: what it tells, what a
--- power cut leaves, that a faulty chip is only read, when it may fail, that what it read is bytes,
--- that its events are lawful after any lawful ones, and done, leave clean what the tables count so;
--- how many erases it makes and what it retires, done, one of the place that the status has then; why
--- it fails; and that the tables have as many units as may be kept.
-pub record Tries (places : ℕ) (old : Told) (result : Result (Unit {0}) ImageFault) (t : Tables)
+-- What an opening does to the chip, where a mark counts or doesn't, which fails so or leaves these tables:
+-- what it tells, what a power cut leaves, that a faulty chip is only read, when it may fail, that what it
+-- read is bytes, that its events are lawful after any lawful ones that leave clean what a mark said was so,
+-- and done, leave clean what the tables count so; how many erases it makes and what it retires, done, one
+-- of the place that the status has then; why it fails; and that the tables have as many units as may be kept.
+pub record Tries (marks : Bool) (places : ℕ) (old : Told) (result : Result (Unit {0}) ImageFault) (t : Tables)
     (new : Told) : Type 0 where
   pub tells : RecoversTold places old result t new
-  pub steps : RecoversInSteps places old result t new
+  pub steps : RecoversInSteps marks places old result t new
   pub looks : LooksAtFaults places old result new
   pub complete : CompletesOpening places result old
   pub bytes : ReadsBytes places old result
-  pub tidy : Spends (TidyWork IsNowhere (IsCountedClean t) (is_ok result ≡ true)) old new
-  pub costs : ErasesOpening places result t.places old new
+  pub tidy : TidiesOpening marks places old result t new
+  pub costs : ErasesOpening marks places result t.places old new
   pub renewed : OnOk result (Spends (HasErased t.status.place) old new)
   pub accounts : Accounts (OpeningCause t.places) result old new
   pub all : length t.places.in_use ≡ places
@@ -99,11 +99,11 @@ Reopens places before old result store new = MatchResult result
 abbrev pub FailsToOpen : ℕ → Told → ImageFault → Told → Type 0
 FailsToOpen places old e new =
     ((IsGeometry places → ⊥) × (e ≡ Geometry) × (new ≡ old))
-    ⊎ (IsGeometry places × ((t : Tables) × Tries places old (Err e) t new))
+    ⊎ (IsGeometry places × ((t : Tables) × Tries true places old (Err e) t new))
 
 -- a chip was opened, or wasn't; it wasn't asked where memory was wanting
 abbrev pub OpensAs : ℕ → Told → Result Store OpenFault → Told → Type 0
 OpensAs places old (Ok store) new = IsSound places store × Opens places old store new
-    × Tries places old (Ok tt) (tables_in store.transactions.pages) new
+    × Tries true places old (Ok tt) (tables_in store.transactions.pages) new
 OpensAs places old (Err (Image e)) new = FailsToOpen places old e new
 OpensAs places old (Err OutOfMemory) new = new ≡ old

@@ -1,7 +1,8 @@
 //! Sessions begin, and are aborted: in memory alone.
-ghost use Rattle.std.specs.Prelude.{◌≡◌, ◌+◌, OnOk};
+ghost use Rattle.std.specs.Prelude.{◌≡◌, ◌+◌, Some, IfErr, OnOk};
 ghost use Rattle.ipl_rules.specs.Operations.{after_begin, after_abort};
 ghost use Rattle.ipl_rules.specs.Refusals.{refuses_begin, refuses_end};
+ghost use Rattle.record_locks.specs.Held.{after_end};
 ghost use Rattle.record_locks.specs.Standing.{state_of};
 ghost use Rattle.store_steps.specs.Keeps.{limits_of};
 ghost use Rattle.page_frames.specs.Pages.{KeepsFramed};
@@ -50,6 +51,12 @@ impl Store {
         ensures holds { KeepsHolds self.old self.new }
         ensures framed { KeepsFramed self.old.transactions.pages self.new.transactions.pages }
         ensures idle { C.told _chip.new ≡ C.told _chip.old }
+        // It fails only early; done, the session is closed, and no other is touched.
+        ensures early { IfErr result (λ fault. early_fault (down_fault self.old)
+            (refuses_end (limits_of self.old.units) (state_of self.old.transactions.sessions) s)
+            ≡ Some fault) }
+        ensures ended { OnOk result (self.new.transactions.sessions
+            ≡ after_end self.old.transactions.sessions s) }
     {
         self.admit_end(self.refuses_end(s))?;
         passing_laws();

@@ -25,12 +25,16 @@
 //! was in one or a frame was free, no page leaves its frame, and one that leaves isn't held and was
 //! used longest ago; a begin, an abort, a commit, a batch, a merge and a release keep all pages in
 //! their frames. An opening gives the records for which the contents stand, with no session open and
-//! as many units as the chip says, and a power cut in it leaves them.
+//! as many units as the chip says, and a power cut in it leaves them. A close is refused where a session
+//! is open; else it makes the status place ready and writes one mark there, with a barrier before it and
+//! one behind it. The store is down then. A power cut leaves the same records at each moment of it, and
+//! done, exactly those log sectors are marked that the store knows to be clean.
 #![tactic(auto)]
 
 mod admitting;
 mod beginning;
 mod changing;
+mod closing;
 mod holding;
 mod merging;
 mod opening;

@@ -1,5 +1,5 @@
 //! A chip is opened, at first and again.
-ghost use Rattle.std.specs.Prelude.{◌≡◌, ◌≤◌, ℕ, [], true, None, IfOk, OnOk, replicate};
+ghost use Rattle.std.specs.Prelude.{◌≡◌, ◌≤◌, ℕ, [], false, true, None, IfOk, OnOk, replicate};
 ghost use Rattle.ipl_base.specs.declared.limits.TheConstants.{SESSIONS};
 ghost use Rattle.page_frames.specs.Pages.{tables_in};
 ghost use Rattle.ipl_store.specs.Calls.{memory_of_store, IsMade, IsSound};
@@ -23,7 +23,7 @@ impl Store {
         requires two { 2 ≤ frames }
         requires few { frames ≤ 64 }
         ensures sound { IfOk result (λ store. IsSound geometry.places store) }
-        ensures down { IfOk result (λ store. store.down ≡ true) }
+        ensures down { IfOk result (λ store. (store.down ≡ true) × (store.closed ≡ false)) }
         ensures frames { IfOk result (λ store. store.frames ≡ frames) }
     {
         let pages = Pages::new(alloc, geometry, frames)?;
@@ -35,6 +35,7 @@ impl Store {
             units: geometry.units(),
             frames,
             down: true,
+            closed: false,
         })
     }
 
@@ -43,12 +44,13 @@ impl Store {
         ensures idle { self.new.transactions.sessions ≡ replicate SESSIONS None }
         ensures empty { self.new.transactions.pages.pool.buffers.slots ≡ [] }
         ensures active { self.new.transactions.pages.parts.active ≡ [] }
-        ensures down { self.new.down ≡ true }
+        ensures down { (self.new.down ≡ true) × (self.new.closed ≡ false) }
         ensures units { self.new.units ≡ self.old.units }
         ensures frames { self.new.frames ≡ self.old.frames }
         ensures made { (places : ℕ) → IsMade places self.old → IsMade places self.new }
     {
         self.down = true;
+        self.closed = false;
         self.transactions.sessions.reset();
         self.transactions.pages.pool.reset();
         self.transactions.pages.parts.active = Active::none();
@@ -56,22 +58,23 @@ impl Store {
 
     /// Opens the chip, or what is left of it, whatever the memory has: all sessions are dropped, and
     /// all holds. The store has as many units as the chip says then. Where that fails the store is down,
-    /// and has as many as before.
-    pub fn open_chip<C: Chip>(&mut self, chip: &mut C) -> Result<(), ImageFault>
+    /// and has as many as before. A mark on the chip counts only where it is told to: not where the chip
+    /// was formatted, or was open and not closed since, which leaves no mark.
+    pub fn open_chip<C: Chip>(&mut self, chip: &mut C, marks: bool) -> Result<(), ImageFault>
         requires sound { IsSound (C.told chip.old).places self.old }
         ensures sound { IsSound (C.told chip.old).places self.new }
         ensures frames { self.new.frames ≡ self.old.frames }
         ensures opens { Reopens (C.told chip.old).places self.old (C.told chip.old) result self.new
             (C.told chip.new) }
-        ensures tries { Tries (C.told chip.old).places (C.told chip.old) result
+        ensures tries { Tries marks (C.told chip.old).places (C.told chip.old) result
             (tables_in self.new.transactions.pages) (C.told chip.new) }
-        // Of a store that stands for states: each is left with no session open.
-        ensures leads { OnOk result (Restarts (memory_of_store self.old) (C.told chip.old)
-            (memory_of_store self.new) (C.told chip.new)) }
+        // Of a store that stands for states: each is left with no session open, where no mark counts.
+        ensures leads { marks ≡ false → OnOk result (Restarts (memory_of_store self.old)
+            (C.told chip.old) (memory_of_store self.new) (C.told chip.new)) }
     {
         self.forget();
         let parts = &mut self.transactions.pages.parts;
-        let recovered = recover(chip, &mut self.scratch, parts, &mut self.kept);
+        let recovered = recover(chip, &mut self.scratch, parts, &mut self.kept, marks);
         parts.directory.facts();
         recovered?;
         self.units = self.transactions.pages.parts.directory.units();
@@ -95,25 +98,27 @@ impl Store {
         let Ok(mut store) = Store::closed(alloc, geometry, frames) else {
             return Err(OpenFault::OutOfMemory);
         };
-        store.open_chip(chip)?;
+        store.open_chip(chip, true)?;
         Ok(store)
     }
 
     /// Opens the chip again, or what is left of it: all sessions are dropped, and all holds. Where
-    /// that fails the store is down, and has as many units as before.
+    /// that fails the store is down, and has as many units as before. Where the store was closed, its mark
+    /// on the chip counts.
     pub fn reopen<C: Chip>(mut self, chip: &mut C) -> (Store, Result<(), ImageFault>)
         requires sound { IsSound (C.told chip.old).places self }
         ensures sound { IsSound (C.told chip.old).places result.0 }
         ensures frames { result.0.frames ≡ self.frames }
         ensures opens { Reopens (C.told chip.old).places self (C.told chip.old) result.1 result.0
             (C.told chip.new) }
-        ensures tries { Tries (C.told chip.old).places (C.told chip.old) result.1
+        ensures tries { Tries self.closed (C.told chip.old).places (C.told chip.old) result.1
             (tables_in result.0.transactions.pages) (C.told chip.new) }
-        // Of a store that stands for states: each is left with no session open.
-        ensures leads { OnOk result.1 (Restarts (memory_of_store self) (C.told chip.old)
-            (memory_of_store result.0) (C.told chip.new)) }
+        // Of a store that stands for states and wasn't closed: each is left with no session open.
+        ensures leads { self.closed ≡ false → OnOk result.1 (Restarts (memory_of_store self)
+            (C.told chip.old) (memory_of_store result.0) (C.told chip.new)) }
     {
-        let opened = self.open_chip(chip);
+        let marks = self.closed;
+        let opened = self.open_chip(chip, marks);
         (self, opened)
     }
 }

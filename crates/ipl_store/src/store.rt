@@ -18,9 +18,11 @@ pub struct Store {
     pub(crate) units: u32,
     // So many pages may be in frames.
     pub(crate) frames: u32,
-    // A write failed, too many places are worn, or the chip wasn't opened again: nothing is done until
-    // it is.
+    // A write failed, too many places are worn, the store was closed, or the chip wasn't opened again:
+    // nothing is done until it is.
     pub(crate) down: bool,
+    // It was closed, and its chip wasn't opened again: a mark says what is known of the chip's log sectors.
+    pub(crate) closed: bool,
 }
 
 impl Store {

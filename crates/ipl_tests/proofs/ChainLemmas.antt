@@ -12,8 +12,8 @@ use Rattle.ipl_tests.specs.Chains.{RestsOn, IsFormattable, no_records, units_kep
 module _ (old new : Told) (m : Map) (script : List ℕ) (on : RestsOn m script old)
     (at : AtStatus (RunsOpened old new) 0) (falls : NoneFalls old new)
     (unrisen : Unrisen old new) where
-  ran : Runs old.places (units_kept old on.history) m script on.history [] old new (Ok tt)
-  ran = subst (λ (e : Ending). Runs old.places (units_kept old on.history) m script on.history [] old new e)
+  ran : Runs true old.places (units_kept old on.history) m script on.history [] old new (Ok tt)
+  ran = subst (λ (e : Ending). Runs true old.places (units_kept old on.history) m script on.history [] old new e)
       (done_at_zero at.0 (sym at.1)) (at.2 on.history script on.steady on.left m on.rests)
 
   pub run_rests : RestsOn (records_after (units_kept old on.history) m script) [] new

@@ -9,7 +9,9 @@ use sector_format::{Decoded, Head, decode, encode};
 use std::alloc::Global;
 
 /// The words for the kinds of sector, from kind 1 on.
-const KINDS: [&str; 6] = ["data", "status", "overflow", "base", "log", "commit"];
+const KINDS: [&str; 7] = [
+    "data", "status", "overflow", "base", "log", "commit", "mark",
+];
 
 /// The kind that a word stands for.
 pub fn kind_of(word: &str) -> Result<u8> {
@@ -20,6 +22,7 @@ pub fn kind_of(word: &str) -> Result<u8> {
         "base" => Ok(Head::BASE),
         "log" => Ok(Head::LOG),
         "commit" => Ok(Head::COMMIT),
+        "mark" => Ok(Head::MARK),
         _ => bail!("no kind {word}"),
     }
 }
@@ -59,7 +62,7 @@ fn head_of(kind: &str, version: &str, unit: &str, generation: &str, serial: &str
 fn sector_of(head: &Head, payload: &[u8]) -> Result<[u8; 512]> {
     let mut bytes = [0; 512];
     ensure!(payload.len() <= 480, "a payload of more than 480 bytes");
-    ensure!(1 <= head.kind && head.kind <= 6, "no kind");
+    ensure!(1 <= head.kind && head.kind <= 7, "no kind");
     ensure!(1 <= head.version && head.version <= VERSION, "no version");
     encode(head, payload, &mut bytes);
     Ok(bytes)

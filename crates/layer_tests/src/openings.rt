@@ -170,6 +170,7 @@ fn opened(rt: &impl Abort, alloc: Global, chip: &mut MemChip) -> Result<Tables, 
         &mut status,
         &mut counter,
         &mut kept,
+        true,
     )?;
     assert!(rt; fits);
     assert!(rt; directory.free_count() > 0);

@@ -20,7 +20,7 @@ pub(crate) fn at(place: u32, sector: u32) -> Spot
 fn put(rt: &impl Abort, chip: &mut MemChip, put: &Put<'_>) {
     let (spot, head, payload) = put;
     let mut bytes = [0; 512];
-    assert!(rt; 1 <= head.kind && head.kind <= 6 && payload.len() <= 480);
+    assert!(rt; 1 <= head.kind && head.kind <= 7 && payload.len() <= 480);
     assert!(rt; 1 <= head.version && head.version <= VERSION);
     encode(head, payload, &mut bytes);
     assert!(rt; spot.place < chip.units() && spot.sector < 256);

@@ -4,10 +4,11 @@ use Rattle.std.specs.List.{AllPairs, Contains}
 use Rattle.std.proofs.lemmas.Bool.{cases_Bool, cases_eq, cases_lt, eq-eqb}
 use Rattle.std.proofs.lemmas.List.{get_or-set_same, get_or-set_other, length-map, length-set, get_or-map, get_or_default}
 use Rattle.std.proofs.lemmas.List.Elements.{All-contains, Contains-get_or, Contains-append_cases}
-use Rattle.ipl_base.specs.declared.limits.TheConstants.{FIRST_LOG_SECTOR}
+use Rattle.ipl_base.specs.declared.limits.TheConstants.{FIRST_LOG_SECTOR, LOG_SECTORS}
 use Rattle.ipl_meaning.specs.Mirrors.{AreApart}
-use Rattle.ipl_meaning.specs.Tables.{IsFree, Tables, place_of, first_log, IsCountedClean}
+use Rattle.ipl_meaning.specs.Tables.{IsFree, Tables, place_of, first_log, clean_from, IsCountedClean}
 use Rattle.ipl_meaning.specs.TableSteps.{IsMoved, IsRenewed, CountedShrink, after_home_log, after_overflow_log, after_commit, taken, with_next, with_next_spot, with_overflow}
+use Rattle.ipl_meaning.proofs.KnownLogLemmas.{counted_few}
 use Rattle.ipl_meaning.proofs.MirrorLemmas.{map_contains}
 use Rattle.unit_directory.specs.Free.{AreNext, aside}
 use Rattle.unit_directory.proofs.AsideLemmas.{next_places_are_aside}
@@ -105,36 +106,36 @@ module _ (places : ℕ) (t : Tables) (known : KnowsPlaces places t) where
   -- the first log sector at a unit's home
   pub home_shrinks : (u mask next : ℕ) → u < length t.places.current
       → length t.places.written ≡ length t.places.current
+      → slice_index t.places.written u < LOG_SECTORS
       → CountedShrink t (after_home_log t u mask next) (slice_index t.places.current u) (first_log t u)
-  home_shrinks u mask next low logs q n (small, inl (v, less, is, first)) = elim (cases_eq v u) [
+  home_shrinks u mask next low logs left q n (small, inl (v, less, is, first)) = elim (cases_eq v u) [
     | inl same ↦
         let mine : slice_index (after_home_log t u mask next).places.written u
         ≡ slice_index t.places.written u + 1 =
         get_or-set_same t.places.written u (slice_index t.places.written u + 1) 0
         (omega (arith, logs, low)) in
+        let few = counted_few (slice_index t.places.written u) (omega (arith, left)) in
+        let one_more = counted_few (slice_index t.places.written u + 1) (omega (arith, left)) in
         let above : first_log t u + 1 ≤ n =
-        let one = rw same at first in omega (arith, one, mine) in (
-          (small, inl (v, less, is, rw same (omega (arith, above)))),
+        let one = rw (same, mine, one_more) at first in omega (arith, one) in (
+          (small, inl (v, less, is, rw (same, few) (omega (arith, above)))),
           λ _ there. omega (arith, above, there),
         )
     | inr apart ↦
-        let above : first_log t v ≤ n = omega (
-          arith,
-          first,
-          get_or-set_other t.places.written u v
-              (slice_index t.places.written u + 1) 0 apart,
-        ) in (
+        let above : clean_from t v ≤ n =
+        rw (get_or-set_other t.places.written u v (slice_index t.places.written u + 1) 0 apart)
+        at first in (
           (small, inl (v, less, is, above)),
           λ same _. homes_differ t.places.current u v known.homes_apart low less
               apart (sym is ∙ same),
         )
   ]
-  home_shrinks u mask next low logs q n (small, inr (inl (first, is, above))) = (
+  home_shrinks u mask next low logs left q n (small, inr (inl (first, is, above))) = (
     (small, inr (inl (first, is, above))),
     λ same _. known.no_home q (map_contains t.overflow.in_use q first is)
         (is_home u q low same),
   )
-  home_shrinks u mask next low logs q n (small, inr (inr (is, above))) = (
+  home_shrinks u mask next low logs left q n (small, inr (inr (is, above))) = (
     (small, inr (inr (is, above))),
     λ same _. known.status_apart.0 (is_home u t.status.place low (sym is ∙ same)),
   )
@@ -208,7 +209,7 @@ module _ (places : ℕ) (t : Tables) (known : KnowsPlaces places t) where
             ∙ get_or-set_same t.places.written u used 0
             (omega (arith, logs, low)) in
             let from : FIRST_LOG_SECTOR + used ≤ n =
-            let one = rw same at first in omega (arith, one, count) in
+            rw (same, count, counted_few used moved.few) at first in
             inr (at, from)
         | inr apart ↦
             let count : slice_index after.places.written v ≡ slice_index t.places.written v =
@@ -217,7 +218,7 @@ module _ (places : ℕ) (t : Tables) (known : KnowsPlaces places t) where
             let home : q ≡ slice_index t.places.current v =
             is ∙ ap (λ (l : List ℕ). slice_index l v) moved.current
             ∙ get_or-set_other t.places.current u v p 0 apart in
-            stays p _ q n (small, inl (v, there, home, omega (arith, first, count)))
+            stays p _ q n (small, inl (v, there, home, rw count at first))
       ]
   merged_clean after u p used next low logs moved q n (small, inr (inl (first, is, above))) =
       stays p _ q n (
@@ -257,7 +258,7 @@ module _ (places : ℕ) (t : Tables) (known : KnowsPlaces places t) where
       let there : v < length t.places.current =
       omega (arith, less, ap (λ (l : List ℕ). length l) renewed.current) in
       let home : q ≡ slice_index t.places.current v = rw renewed.current at is in
-      let first : first_log t v ≤ n = rw renewed.written at above in
+      let first : clean_from t v ≤ n = rw renewed.written at above in
       stays p from q n (small, inl (v, there, home, first))
   renewed_clean after p own from next renewed q n (small, inr (inl (first, is, above))) =
       let listed : Contains t.overflow.in_use (q, first) = rw renewed.overflow at is in

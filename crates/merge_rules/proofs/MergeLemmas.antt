@@ -1,5 +1,5 @@
 -- What a chip stands for once a unit is merged.
-use Rattle.std.proofs.Common.{◌≡◌, ◌≢◌, ◌<◌, ◌≤◌, ◌+◌, ℕ, List, length, false, [], None, get_or, slice_index, inl, inr, refl, sym, ◌∙◌, ap, subst, arith}
+use Rattle.std.proofs.Common.{◌≡◌, ◌≢◌, ◌<◌, ◌≤◌, ◌+◌, ◌-◌, ℕ, List, length, false, [], Some, None, get_or, slice_index, inl, inr, refl, sym, ◌∙◌, ap, subst, arith}
 use Rattle.std.specs.Prelude.{slice_index_or}
 use Rattle.std.specs.List.{All, Contains}
 use Rattle.std.proofs.lemmas.List.Elements.{All-contains, All-weaker}
@@ -244,16 +244,24 @@ module _ (places : ℕ) (c y : Chart) (it : Layout) (t : Tables) (u p : ℕ) (he
     place_below s sector here is = elim (full.there s sector here) [
       | inl base ↦ elim is [
         | inl log ↦ absurd (omega (arith, log, base.0))
-        | inr commit ↦ absurd (omega (arith, commit, base.0))
+        | inr other ↦ absurd (omega (arith, other, base.0))
       ]
       | inr log ↦ log_mentions log.0 log.1 sector log.3
     ]
+
+    -- each log sector that is carried checks
+    log_checks : (s : ℕ) → 241 ≤ s → s < 241 + length packs → y p s ≢ None
+    log_checks s least less none =
+        let there = full.log_at (s - 241) (omega (arith, least, less)) in
+        let at : 241 + (s - 241) ≡ s = omega (arith, least) in
+        let both : Some (sector_at u g serial packs (s - 241)) ≡ None =
+        sym there ∙ ap (y p) at ∙ none in cc both
 
     mirrors_then : Mirrors places (with_sector y p 0 head) (with_unit it u fresh) after
     mirrors_then =
         tables_follow_merges places y it t_taken after u p (length packs) fresh mirrors_taken
         may.low ready (taken_is_used t p) moved masked mentions place_below
-        (λ s high within. full.beyond s high)
+        (λ s high within. full.beyond s high) log_checks
 
 pub filled_places_are_ready : FilledPlacesAreReady
 filled_places_are_ready places c y it t u p head pieces serial may =

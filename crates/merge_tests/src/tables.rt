@@ -76,7 +76,7 @@ pub(crate) fn opened(rt: &impl Abort, alloc: Global, chip: &mut MemChip) -> Resu
     let mut parts = fresh(alloc, geometry)?;
     let mut scratch = Scratch::new(alloc, geometry)?;
     let mut kept = KeptNumbers::new(alloc)?;
-    match recover(chip, &mut scratch, &mut parts, &mut kept) {
+    match recover(chip, &mut scratch, &mut parts, &mut kept, true) {
         Ok(()) => Ok(parts),
         Err(_) => Err(Fail::from("the chip isn't opened")),
     }

@@ -1,4 +1,5 @@
 pub mod ListLemmas
 pub mod SpotLemmas
+pub mod LogLemmas
 pub mod OpenedLemmas
 pub mod MaskLemmas

@@ -1,5 +1,5 @@
 -- After an opening, the tables mirror the chart.
-use Rattle.std.proofs.Common.{◌≡◌, ◌≢◌, inl, inr, ◌<◌, ◌≤◌, ◌+◌, ◌*◌, ◌/◌, ◌%◌, ℕ, Bool, true, false, List, length, map, Option, Some, sym, ◌∙◌, ap, subst, arith}
+use Rattle.std.proofs.Common.{◌≡◌, ◌≢◌, inl, inr, ◌<◌, ◌≤◌, ◌+◌, ◌*◌, ◌/◌, ◌%◌, ℕ, Bool, true, false, List, length, map, Option, Some, None, sym, ◌∙◌, ap, subst, arith}
 use Rattle.std.specs.List.{Contains, AllPairs}
 use Rattle.std.specs.Prelude.{IsTrue}
 use Rattle.std.proofs.lemmas.List.{length-map}
@@ -10,8 +10,8 @@ use Rattle.ipl_format.specs.Sector.{Sector}
 use Rattle.ipl_meaning.specs.Chart.{Chart, IsLive, IsOverflow}
 use Rattle.ipl_meaning.specs.Layout.{Layout, Laid, IsListed, IsLiveIn}
 use Rattle.ipl_meaning.specs.Found.{IsAbove}
-use Rattle.ipl_meaning.specs.Tables.{Tables, IsFree, spots_of, overflow_places, IsCountedClean}
-use Rattle.ipl_meaning.specs.Mirrors.{MirrorsMasks, Mirrors, AreApart}
+use Rattle.ipl_meaning.specs.Tables.{Tables, IsFree, spots_of, overflow_places, written_of, IsCountedClean}
+use Rattle.ipl_meaning.specs.Mirrors.{MirrorsMasks, MirrorsLogs, Mirrors, AreApart}
 use Rattle.opening_rules.specs.First.{passes, count_below}
 use Rattle.opening_rules.specs.Chosen.{KeptHeader, Winner, header_at, current_at, status_at, units_at, head_of}
 use Rattle.opening_rules.specs.Live.{is_overflow_place, Mark, mark_of, mark_at, marks_in}
@@ -27,6 +27,7 @@ use Rattle.ipl_meaning.proofs.MaskLemmas.{map_same}
 use Rattle.opened_tables.specs.Found.{spot_of, spots_in, generation_of, mask_found}
 use Rattle.opened_tables.proofs.MaskLemmas.{mask_is}
 use Rattle.opened_tables.specs.Opened.{AreOpened, OpenedTablesMirror}
+use Rattle.opened_tables.proofs.LogLemmas.{opened_beyond, opened_whole, opened_clean}
 use Rattle.opened_tables.proofs.ListLemmas.{any, all_apart, all_length}
 use Rattle.opened_tables.proofs.SpotLemmas.{free_low, number_has, has_number, spot_listed, spot_from, spot_to, same_spot, in_use_from, listed_holds, held_listed, places_apart, as_many}
 
@@ -210,14 +211,26 @@ module _ (places : ℕ) (c : Chart) (t : Tables) (it : AreOpened places c t) (la
       let none = ((it.directory.free p (free_within p free)).0 free).0.not_held in
       let no_way : true ≡ false = sym held.0 ∙ none in cc no_way
 
-  none_counted : (p s : ℕ) → ¬ IsCountedClean t p s
-  none_counted p s (small, inl (u, less, is, first)) =
-      let all = it.directory.written u (omega (arith, less, it.directory.units)) in
-      omega (arith, small, first, all)
-  none_counted p s (small, inr (inl (first, is, above_it))) =
+  -- ---- the log sectors at the units' places
+
+  -- only of these some may count as clean, and none of them checks
+  counted_clean : (p s : ℕ) → IsCountedClean t p s → c p s ≡ None
+  counted_clean p s (small, inl (u, less, is, first)) =
+      let low : u < units_at c places = omega (arith, less, it.directory.units) in
+      ap (λ (q : ℕ). c q s) (is ∙ it.directory.current u low)
+      ∙ opened_clean places c u (written_of t u) (it.directory.written u low) s first small
+  counted_clean p s (small, inr (inl (first, is, above_it))) =
       let held = in_use_from holds places t.overflow.in_use it.overflow.in_use_are p first is in
-      omega (arith, small, above_it, held.1)
-  none_counted p s (small, inr (inr (is, above_it))) = omega (arith, small, above_it, it.status.first_is)
+      absurd (omega (arith, small, above_it, held.1))
+  counted_clean p s (small, inr (inr (is, above_it))) = absurd (omega (arith, small, above_it, it.status.first_is))
+
+  logs : MirrorsLogs c lay t
+  logs = record {
+    unmarked = λ u low first.
+        let beyond = opened_beyond places c u (written_of t u) (it.directory.written u low) in
+        absurd (omega (arith, beyond, first));
+    whole = λ u n low. opened_whole places c u (written_of t u) (it.directory.written u low) n;
+  }
 
   -- ---- all of it
 
@@ -288,7 +301,8 @@ module _ (places : ℕ) (c : Chart) (t : Tables) (it : AreOpened places c t) (la
       waits = λ k e within. absurd (none_active k within);
     };
     masks = masks;
-    counted_clean = λ p s is. absurd (none_counted p s is);
+    logs = logs;
+    counted_clean = counted_clean;
   }
 
 pub opened_tables_mirror : OpenedTablesMirror

@@ -1,15 +1,16 @@
 -- What an opening makes of the tables.
-use Rattle.std.specs.Prelude.{ℕ, ◌≡◌, ◌≢◌, ◌↔◌, ◌<◌, ◌≤◌, ◌+◌, ◌-◌, ◌*◌, false, [], length, map, slice_index, slice_index_or, Some, Contains}
+use Rattle.std.specs.Prelude.{ℕ, ◌≡◌, ◌≢◌, ◌⊎◌, ◌↔◌, ◌<◌, ◌≤◌, ◌+◌, ◌-◌, ◌*◌, true, false, [], length, map, slice_index, slice_index_or, Some, None, Contains}
 use Rattle.ipl_base.specs.declared.limits.TheConstants.{SECTORS, FIRST_LOG_SECTOR, LOG_SECTORS}
 use Rattle.ipl_format.specs.Header.{erases_said}
 use Rattle.ipl_meaning.specs.Chart.{Chart}
 use Rattle.ipl_meaning.specs.Layout.{Laid}
-use Rattle.ipl_meaning.specs.Tables.{Places, masks_in, IsFree, OverflowLists, Status, Tables}
+use Rattle.ipl_meaning.specs.Tables.{UNKNOWN_LOGS, MARKED_LOGS, Places, masks_in, IsFree, OverflowLists, Status, Tables}
 use Rattle.ipl_meaning.specs.Mirrors.{Mirrors}
 use Rattle.opening_rules.specs.Chosen.{Winner, header_at, current_at, status_at, units_at}
 use Rattle.opening_rules.specs.Live.{marks_in}
 use Rattle.opening_rules.specs.Faults.{holds_live, greatest_found}
 use Rattle.opening_rules.specs.LaidOut.{place_of, committed_numbers, retired_at, layout_in}
+use Rattle.opening_rules.specs.Marked.{is_marked_unit}
 use Rattle.opened_tables.specs.Found.{spots_in, overflows_in, generation_of, mask_found}
 
 -- the place is neither that of a unit, nor the status place, nor an overflow place that holds live log sectors
@@ -20,9 +21,25 @@ pub record IsUnused (places : ℕ) (c : Chart) (p : ℕ) : Type 0 where
   pub not_status : (winner : Winner) → status_at c places ≡ Some winner → winner.place ≢ p
   pub not_held : holds_live (header_at c places) (marks_in c places (places * SECTORS)) p ≡ false
 
--- the directory has each unit's place and generation, and how often each place was erased, as its sector 0 says it; no log sector
--- counts as clean; of the unused places those that the status header lists are retired, and exactly the others are free; and
--- the counter is the number after the greatest found
+-- What is known of the log sectors at this place by a close mark: so many of them, the first, check, and the others don't.
+pub record KnowsLogs (c : Chart) (home written : ℕ) : Type 0 where
+  pub count : ℕ
+  pub few : count ≤ LOG_SECTORS
+  pub says : written ≡ MARKED_LOGS + count
+  pub whole : (n : ℕ) → FIRST_LOG_SECTOR ≤ n → n < FIRST_LOG_SECTOR + count → c home n ≢ None
+  pub others : (n : ℕ) → FIRST_LOG_SECTOR + count ≤ n → n < SECTORS → c home n ≡ None
+
+-- what stands of a unit's log sectors: that nothing is known of them, or, where the close mark that counts has the unit, what
+-- is known by it
+abbrev pub IsOpenedLog : ℕ → Chart → ℕ → ℕ → Type 0
+IsOpenedLog places c u written =
+    (written ≡ UNKNOWN_LOGS)
+    ⊎ ((is_marked_unit c (status_at c places) (current_at c places) u ≡ true)
+    × KnowsLogs c (place_of (current_at c places u)) written)
+
+-- the directory has each unit's place and generation, and how often each place was erased, as its sector 0 says it; of a unit's
+-- log sectors what a close mark says is known, or nothing; of the unused places those that the status header lists are
+-- retired, and exactly the others are free; and the counter is the number after the greatest found
 pub record IsOpened (places : ℕ) (c : Chart) (directory : Places) (counter : ℕ) : Type 0 where
   pub units : length directory.current ≡ units_at c places
   pub logs : length directory.written ≡ units_at c places
@@ -34,7 +51,7 @@ pub record IsOpened (places : ℕ) (c : Chart) (directory : Places) (counter : �
   pub generation : (u : ℕ) → u < units_at c places
       → slice_index directory.generations u ≡ generation_of (current_at c places u)
   pub written : (u : ℕ) → u < units_at c places
-      → slice_index directory.written u ≡ LOG_SECTORS
+      → IsOpenedLog places c u (slice_index directory.written u)
   pub erases : (p : ℕ) → p < places → slice_index directory.erases p ≡ erases_said (c p 0)
   pub free : (p : ℕ) → p < places
       → IsFree directory p ↔ (IsUnused places c p × ¬ Contains (retired_at c places) p)

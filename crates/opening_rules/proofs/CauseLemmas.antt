@@ -10,16 +10,16 @@ use Rattle.ipl_meaning.specs.Chart.{Chart, IsDataHeader, IsStatusHeader}
 use Rattle.ipl_base.specs.First.{first_below}
 use Rattle.ipl_base.specs.Places.{units_on}
 use Rattle.opening_rules.specs.FirstLaws.{IsFirst}
-use Rattle.opening_rules.specs.Payloads.{said_in, is_commit_payload}
+use Rattle.opening_rules.specs.Payloads.{said_in}
 use Rattle.opening_rules.specs.Chosen.{KeptHeader, Winner, units_told, current_at, status_at, units_at}
 use Rattle.opening_rules.specs.ChosenLaws.{IsWinnerOf}
-use Rattle.opening_rules.specs.Live.{sectors, commit_at}
-use Rattle.opening_rules.specs.Faults.{malformed, size_fault, not_formatted, keeps_units, status_geometry, says_other, other_geometry, missing, bad_header, header_fault, commit_test, commit_fault, first_commit_fault, first_log_fault, greatest_found, spent, overflows_found, no_spare, first_fault}
+use Rattle.opening_rules.specs.Live.{sectors, noted_at}
+use Rattle.opening_rules.specs.Faults.{malformed, size_fault, not_formatted, keeps_units, status_geometry, says_other, other_geometry, missing, bad_header, header_fault, is_noted_payload, noted_test, noted_fault, first_noted_fault, first_log_fault, greatest_found, spent, overflows_found, no_spare, first_fault}
 use Rattle.opening_rules.specs.FaultLaws.{IsFirstBadLog}
 use Rattle.opening_rules.specs.CauseLaws.{HeaderCounts, IsCaused, FaultsAreCaused}
 use Rattle.opening_rules.proofs.FirstLemmas.{first_is_first}
 use Rattle.opening_rules.proofs.HeaderLemmas.{currents_are_chosen, statuses_are_chosen, none_is_status}
-use Rattle.opening_rules.proofs.PartLemmas.{if_none, keeps_to}
+use Rattle.opening_rules.proofs.PartLemmas.{note_well, keeps_to}
 use Rattle.opening_rules.proofs.FaultLemmas.{missing_is_least, bad_logs_are_first}
 
 or_some : {A : Type 0} (a b : Option A) (x : A) → option_or a b ≡ Some x → (a ≡ Some x) ⊎ (b ≡ Some x)
@@ -64,14 +64,11 @@ header_some : (o : Option Winner) (fault : ImageFault) → bad_header o ≡ Some
 header_some None fault e = cc
 header_some (Some winner) fault e = let parts = if_some winner.head.well (malformed winner.place 0) fault e in (winner, refl, parts.0, parts.1)
 
-commit_some : (p s : ℕ) (o : Option Sector) (fault : ImageFault) → commit_test p s o ≡ Some fault
-    → (sector : Sector) × (o ≡ Some sector) × (is_commit_payload sector.payload ≡ false) × (malformed p s ≡ fault)
-commit_some p s None fault e = cc
-commit_some p s (Some sector) fault e =
-    let parts = if_some (is_commit_payload sector.payload) (malformed p s) fault e in (sector, refl, parts.0, parts.1)
-
-commit_well : (p s : ℕ) (o : Option Sector) (sector : Sector) → o ≡ Some sector → commit_test p s o ≡ None → is_commit_payload sector.payload ≡ true
-commit_well p s o sector is e = if_none (is_commit_payload sector.payload) (malformed p s) (ap (commit_test p s) (sym is) ∙ e)
+note_some : (units p s : ℕ) (o : Option Sector) (fault : ImageFault) → noted_test units p s o ≡ Some fault
+    → (sector : Sector) × (o ≡ Some sector) × (is_noted_payload units sector ≡ false) × (malformed p s ≡ fault)
+note_some units p s None fault e = cc
+note_some units p s (Some sector) fault e =
+    let parts = if_some (is_noted_payload units sector) (malformed p s) fault e in (sector, refl, parts.0, parts.1)
 
 module _ (c : Chart) (places : ℕ) (fault : ImageFault) where
   size_cause : size_fault places ≡ Some fault → IsCaused c places fault
@@ -185,10 +182,13 @@ module _ (c : Chart) (places : ℕ) (fault : ImageFault) where
 
   -- ---- sectors
 
-  commit_of : (o : Option Winner) → status_at c places ≡ o → (first : IsFirst (commit_fault c o) sectors fault) → IsCaused c places fault
-  commit_of None is first = absurd (let none = first.here in cc none)
-  commit_of (Some winner) is first =
-      let (sector, here, bad, same) = commit_some winner.place first.number (commit_at c (Some winner) first.number) fault first.here in
+  abbrev units : ℕ
+  units = units_at c places
+
+  note_of : (o : Option Winner) → status_at c places ≡ o → (first : IsFirst (noted_fault units c o) sectors fault) → IsCaused c places fault
+  note_of None is first = absurd (let none = first.here in cc none)
+  note_of (Some winner) is first =
+      let (sector, here, bad, same) = note_some units winner.place first.number (noted_at c (Some winner) first.number) fault first.here in
       subst (IsCaused c places) same (inr (inl (record {
         status = winner;
         here = is;
@@ -197,11 +197,11 @@ module _ (c : Chart) (places : ℕ) (fault : ImageFault) where
         sector = sector;
         counts = here;
         bad = bad;
-        earlier = λ t other less at. commit_well winner.place t (commit_at c (Some winner) t) other at (first.earlier t less);
+        earlier = λ t other less at. note_well units winner.place t (noted_at c (Some winner) t) other at (first.earlier t less);
       })))
 
-  commit_cause : first_commit_fault c places ≡ Some fault → IsCaused c places fault
-  commit_cause e = commit_of (status_at c places) refl (first_is_first (commit_fault c (status_at c places)) sectors fault e)
+  note_cause : first_noted_fault c places ≡ Some fault → IsCaused c places fault
+  note_cause e = note_of (status_at c places) refl (first_is_first (noted_fault units c (status_at c places)) sectors fault e)
 
   log_cause : first_log_fault c places ≡ Some fault → IsCaused c places fault
   log_cause e =
@@ -221,15 +221,15 @@ module _ (c : Chart) (places : ℕ) (fault : ImageFault) where
       subst (IsCaused c places) parts.1 (leb-false (overflows_found c places) 2 parts.0, refl)
 
   is_caused : first_fault c places ≡ Some fault → IsCaused c places fault
-  is_caused e = elim (or_some (size_fault places) (option_or (header_fault c places) (option_or (first_commit_fault c places) (option_or (first_log_fault c places)
+  is_caused e = elim (or_some (size_fault places) (option_or (header_fault c places) (option_or (first_noted_fault c places) (option_or (first_log_fault c places)
       (option_or (spent (greatest_found c places)) (option_or (no_spare (overflows_found c places)) None))))) fault e) [
         | inl here ↦ size_cause here
-        | inr rest ↦ elim (or_some (header_fault c places) (option_or (first_commit_fault c places) (option_or (first_log_fault c places)
+        | inr rest ↦ elim (or_some (header_fault c places) (option_or (first_noted_fault c places) (option_or (first_log_fault c places)
             (option_or (spent (greatest_found c places)) (option_or (no_spare (overflows_found c places)) None)))) fault rest) [
               | inl here ↦ header_cause e here
-              | inr more ↦ elim (or_some (first_commit_fault c places) (option_or (first_log_fault c places)
+              | inr more ↦ elim (or_some (first_noted_fault c places) (option_or (first_log_fault c places)
                   (option_or (spent (greatest_found c places)) (option_or (no_spare (overflows_found c places)) None))) fault more) [
-                    | inl here ↦ commit_cause here
+                    | inl here ↦ note_cause here
                     | inr last ↦ elim (or_some (first_log_fault c places) (option_or (spent (greatest_found c places)) (option_or (no_spare (overflows_found c places)) None)) fault last) [
                       | inl here ↦ log_cause here
                       | inr numbers ↦ elim (or_some (spent (greatest_found c places)) (option_or (no_spare (overflows_found c places)) None) fault numbers) [

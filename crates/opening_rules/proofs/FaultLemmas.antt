@@ -11,10 +11,10 @@ use Rattle.ipl_meaning.specs.Chart.{Chart, IsStatusHeader}
 use Rattle.ipl_base.specs.First.{first_below}
 use Rattle.opening_rules.specs.First.{passes, count_below}
 use Rattle.opening_rules.specs.FirstLaws.{IsFirst}
-use Rattle.opening_rules.specs.Payloads.{is_commit_payload, is_log_payload}
+use Rattle.opening_rules.specs.Payloads.{is_log_payload}
 use Rattle.opening_rules.specs.Chosen.{KeptHeader, Winner, header_at, units_told, current_at, status_at, units_at}
-use Rattle.opening_rules.specs.Live.{sectors, commit_at, live_at, Mark, mark_of, mark_at, marks}
-use Rattle.opening_rules.specs.Faults.{malformed, size_fault, not_formatted, keeps_units, status_geometry, says_other, other_geometry, missing, bad_header, header_fault, commit_test, commit_fault, first_commit_fault, clashes, shares_overflow, is_full, is_log_well, log_test, log_fault, first_log_fault, greatest_found, spent, overflows_found, no_spare, first_fault}
+use Rattle.opening_rules.specs.Live.{sectors, noted_at, live_at, Mark, mark_of, mark_at, marks}
+use Rattle.opening_rules.specs.Faults.{malformed, size_fault, not_formatted, keeps_units, status_geometry, says_other, other_geometry, missing, bad_header, header_fault, is_noted_payload, noted_test, noted_fault, first_noted_fault, clashes, shares_overflow, is_full, is_log_well, log_test, log_fault, first_log_fault, greatest_found, spent, overflows_found, no_spare, first_fault}
 use Rattle.opening_rules.specs.FaultLaws.{well_at, is_overflow_of, HasCause, NotFormattedIsExact, MissingIsLeast, BadLogsAreFirst}
 use Rattle.opening_rules.proofs.FirstLemmas.{first_is_first}
 use Rattle.opening_rules.proofs.HeaderLemmas.{currents_are_chosen, none_is_current, statuses_are_chosen, none_is_status}
@@ -90,13 +90,13 @@ module _ (test : ImageFault → Bool) (geometry : test Geometry ≡ false) (chip
   header_other None = refl
   header_other (Some winner) = if_other test winner.head.well (malformed winner.place 0) (chip winner.place 0)
 
-  commit_other : (p s : ℕ) (o : Option Sector) → passes test (commit_test p s o) ≡ false
-  commit_other p s None = refl
-  commit_other p s (Some sector) = if_other test (is_commit_payload sector.payload) (malformed p s) (chip p s)
+  note_other : (units p s : ℕ) (o : Option Sector) → passes test (noted_test units p s o) ≡ false
+  note_other units p s None = refl
+  note_other units p s (Some sector) = if_other test (is_noted_payload units sector) (malformed p s) (chip p s)
 
-  commits_other : (o : Option Winner) (s : ℕ) → passes test (commit_fault c o s) ≡ false
-  commits_other None s = refl
-  commits_other (Some winner) s = commit_other winner.place s (commit_at c (Some winner) s)
+  notes_other : (units : ℕ) (o : Option Winner) (s : ℕ) → passes test (noted_fault units c o s) ≡ false
+  notes_other units None s = refl
+  notes_other units (Some winner) s = note_other units winner.place s (noted_at c (Some winner) s)
 
   log_other : (heads : ℕ → Option KeptHeader) (earlier : List Mark) (k : ℕ) (o : Option Sector) → passes test (log_test heads earlier k o) ≡ false
   log_other heads earlier k None = refl
@@ -109,9 +109,9 @@ module _ (test : ImageFault → Bool) (geometry : test Geometry ≡ false) (chip
   abbrev last_two : Option ImageFault
   last_two = option_or (spent (greatest_found c places)) (option_or (no_spare (overflows_found c places)) None)
 
-  rest_other : passes test (option_or (first_commit_fault c places) (option_or (first_log_fault c places) last_two)) ≡ false
-  rest_other = or_other test (first_commit_fault c places) (option_or (first_log_fault c places) last_two)
-      (below_other test (commit_fault c (status_at c places)) sectors (commits_other (status_at c places)))
+  rest_other : passes test (option_or (first_noted_fault c places) (option_or (first_log_fault c places) last_two)) ≡ false
+  rest_other = or_other test (first_noted_fault c places) (option_or (first_log_fault c places) last_two)
+      (below_other test (noted_fault (units_at c places) c (status_at c places)) sectors (notes_other (units_at c places) (status_at c places)))
       (or_other test (first_log_fault c places) last_two
       (below_other test (log_fault (header_at c places) (current_at c places) c) (places * 256) logs_other)
       (or_other test (spent (greatest_found c places)) (option_or (no_spare (overflows_found c places)) None)
@@ -121,8 +121,8 @@ module _ (test : ImageFault → Bool) (geometry : test Geometry ≡ false) (chip
   -- such a fault is a header's
   of_headers : (fault : ImageFault) → test fault ≡ true → first_fault c places ≡ Some fault → header_fault c places ≡ Some fault
   of_headers fault is e =
-      sooner test (header_fault c places) (option_or (first_commit_fault c places) (option_or (first_log_fault c places) last_two)) fault rest_other is
-      (later test (size_fault places) (option_or (header_fault c places) (option_or (first_commit_fault c places) (option_or (first_log_fault c places) last_two)))
+      sooner test (header_fault c places) (option_or (first_noted_fault c places) (option_or (first_log_fault c places) last_two)) fault rest_other is
+      (later test (size_fault places) (option_or (header_fault c places) (option_or (first_noted_fault c places) (option_or (first_log_fault c places) last_two)))
       fault size_other is e)
 
 -- ---- the headers' tests

@@ -2,7 +2,7 @@
 use Rattle.std.proofs.Common.{ℕ, suc, ◌≡◌, ◌≢◌, inl, inr, ◌+◌, ◌*◌, ◌/◌, ◌%◌, ◌^◌, ◌<◌, ◌≤◌, Bool, true, false, ◌==◌, List, length, map, get_or, Option, Some, None, refl, sym, ◌∙◌, ap, ap₂, subst, arith, cond}
 use Rattle.std.specs.List.{Contains, count_by}
 use Rattle.std.specs.Option.{option_map}
-use Rattle.std.proofs.lemmas.Bool.{cases_Bool, cases_lt, cases_order, eqb-true, eq-eqb, lt-leb, and_parts, and_from, and_left, and_right, or_from, not_from_true, not_from_false, cond-true, cond-false}
+use Rattle.std.proofs.lemmas.Bool.{cases_Bool, cases_lt, cases_order, eqb-true, eq-eqb, ne_eqb, lt-leb, and_parts, and_from, and_left, and_right, or_from, not_from_true, not_from_false, cond-true, cond-false}
 use Rattle.std.proofs.lemmas.List.{get_or_default, length-map, get_or-map}
 use Rattle.std.proofs.lemmas.List.Elements.{All-contains}
 use Rattle.std.proofs.lemmas.Option.{same_Some}
@@ -13,16 +13,19 @@ use Rattle.ipl_format.specs.Sector.{Sector}
 use Rattle.ipl_meaning.specs.Chart.{Chart, IsLive, IsOverflow}
 use Rattle.ipl_meaning.specs.Layout.{Entry, AllRise, IsEntry, IsListed, IsInOverflow, Layout, Laid, IsLiveIn}
 use Rattle.ipl_meaning.specs.Found.{IsAbove}
+use Rattle.unit_layout.specs.Mark.{is_mark_payload}
 use Rattle.opening_rules.specs.First.{passes, count_below}
 use Rattle.opening_rules.specs.Payloads.{said_in, is_data_payload, is_status_payload, is_commit_payload, is_log_payload}
 use Rattle.opening_rules.specs.Chosen.{KeptHeader, Winner, head_of, header_at, units_told, current_at, status_at, units_at, is_head_payload}
-use Rattle.opening_rules.specs.Live.{sectors, commit_at, is_overflow_place, live_at, Mark, mark_of, mark_at, marks}
-use Rattle.opening_rules.specs.Faults.{malformed, not_formatted, keeps_units, status_geometry, says_other, other_geometry, missing, bad_header, commit_test, commit_fault, clashes, shares_overflow, is_full, is_log_well, log_test, greatest_found, is_in, holds_live, overflows_found}
+use Rattle.opening_rules.specs.Live.{sectors, is_commit_sector, noted_at, is_overflow_place, live_at, Mark, mark_of, mark_at, marks}
+use Rattle.opening_rules.specs.Faults.{malformed, not_formatted, keeps_units, status_geometry, says_other, other_geometry, missing, bad_header, is_noted_payload, noted_test, noted_fault, clashes, shares_overflow, is_full, is_log_well, log_test, greatest_found, is_in, holds_live, overflows_found}
+use Rattle.opening_rules.specs.LiveLaws.{IsNoted}
 use Rattle.opening_rules.specs.Laws.{IsByteChart, LaidHasNoFault, LaidHasNoShapeFault, LaidIsFineOrSpent, LaidSaysItsUnits}
+use Rattle.unit_layout.proofs.MarkLemmas.{mark_passes}
 use Rattle.opening_rules.proofs.PayloadLemmas.{spelled_data_passes, spelled_status_passes, spelled_commits_pass, spelled_logs_pass}
 use Rattle.opening_rules.proofs.HeaderLemmas.{current_low}
 use Rattle.opening_rules.proofs.BelowLemmas.{any_none, any_there, count_all, count_within}
-use Rattle.opening_rules.proofs.LiveLemmas.{sectors_are, commit_from, overflow_from, home_apart, live_from}
+use Rattle.opening_rules.proofs.LiveLemmas.{sectors_are, note_from, overflow_from, home_apart, live_from}
 use Rattle.opening_rules.proofs.NumberLemmas.{status_is, units_are, home_is, number_found}
 use Rattle.opening_rules.proofs.PartLemmas.{IsFormed, keeps_to, no_fault_from, shape_from, spent_from}
 
@@ -74,9 +77,9 @@ rise_once log a b rise (i, low, first) (j, less, second) same = elim (cases_orde
 own_units : (units said : ℕ) (o : Option ℕ) → o ≡ Some said → said ≡ units → says_other units o ≡ false
 own_units units said o is same = ap (says_other units) is ∙ not_from_true (said == units) (eq-eqb said units same)
 
-commit_none : (p s : ℕ) (o : Option Sector) → ((sector : Sector) → o ≡ Some sector → is_commit_payload sector.payload ≡ true) → commit_test p s o ≡ None
-commit_none p s None each = refl
-commit_none p s (Some sector) each = cond-true (is_commit_payload sector.payload) None (Some (malformed p s)) (each sector refl)
+noted_none : (units p s : ℕ) (o : Option Sector) → ((sector : Sector) → o ≡ Some sector → is_noted_payload units sector ≡ true) → noted_test units p s o ≡ None
+noted_none units p s None each = refl
+noted_none units p s (Some sector) each = cond-true (is_noted_payload units sector) None (Some (malformed p s)) (each sector refl)
 
 log_none : (heads : ℕ → Option KeptHeader) (earlier : List Mark) (k : ℕ) (o : Option Sector)
     → ((sector : Sector) → o ≡ Some sector → is_log_well (mark_of heads k sector) earlier sector.version sector.payload ≡ true) → log_test heads earlier k o ≡ None
@@ -261,10 +264,23 @@ module _ (c : Chart) (places : ℕ) (it : Layout) (laid : Laid places c it) wher
   data_good u low = cond-true (is_head_payload (it.units u).head.version places (it.units u).head.kind (it.units u).head.payload) None (Some (malformed (it.units u).home 0))
       (ap (λ (kind : ℕ). is_head_payload (it.units u).head.version places kind (it.units u).head.payload) (laid.each u (unit_low u low)).chosen.fits.0 ∙ (data_passes u low).0)
 
-  commit_good : (s : ℕ) → s < sectors → commit_fault c (Some status) s ≡ None
-  commit_good s low = commit_none it.status s (commit_at c (Some status) s) (λ sector at.
-      let spelled = laid.commits.spelled s sector (commit_from c status s sector (omega (arith, low, sectors_are)) at) in
-      (spelled_commits_pass sector.payload spelled.0 spelled.1).0)
+  -- a commit sector spells its numbers, and a close mark its units
+  noted_passes : (s : ℕ) (sector : Sector) → IsNoted c status s sector → is_noted_payload units sector ≡ true
+  noted_passes s sector (inl commit) =
+      let spelled = laid.commits.spelled s sector commit in
+      cond-true (is_commit_sector sector) (is_commit_payload sector.payload) (is_mark_payload units sector.payload) (eq-eqb sector.kind 6 commit.kind)
+      ∙ (spelled_commits_pass sector.payload spelled.0 spelled.1).0
+  noted_passes s sector (inr close) =
+      let most = laid.most in
+      let (some, kept, few) = laid.count in
+      cond-false (is_commit_sector sector) (is_commit_payload sector.payload) (is_mark_payload units sector.payload)
+      (ne_eqb sector.kind 6 (λ same. omega (arith, same, close.kind)))
+      ∙ (ap (λ (n : ℕ). is_mark_payload n sector.payload) (units_are c places it laid)
+      ∙ mark_passes it.count sector.payload some (omega (arith, kept, most)) (laid.marks s sector close))
+
+  note_good : (s : ℕ) → s < sectors → noted_fault units c (Some status) s ≡ None
+  note_good s low = noted_none units it.status s (noted_at c (Some status) s) (λ sector at.
+      noted_passes s sector (note_from c status s sector (omega (arith, low, sectors_are)) at))
 
   fresh : IsByteChart places c → IsAbove places c it (2 ^ 63) → greatest_found c places < 2 ^ 63
   fresh bytes above = elim (number_found c places it laid bytes) [
@@ -290,7 +306,7 @@ module _ (c : Chart) (places : ℕ) (it : Layout) (laid : Laid places c it) wher
         there = λ u low. ap (missing u) (home_here u low);
         headers = λ u low. ap bad_header (home_here u low) ∙ data_good u low;
         header = ap bad_header status_here ∙ status_good;
-        commits = λ s low. ap (λ (o : Option Winner). commit_fault c o s) status_here ∙ commit_good s low;
+        notes = λ s low. ap (λ (o : Option Winner). noted_fault units c o s) status_here ∙ note_good s low;
         logs = λ k low. log_none heads (marks heads current c k) k (live k) (λ sector at. is_well k sector at);
         few_overflows = few_overflows;
       }

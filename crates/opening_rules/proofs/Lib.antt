@@ -17,3 +17,4 @@ pub mod FormattedLemmas
 pub mod TellsLemmas
 pub mod ScanLemmas
 pub mod CauseLemmas
+pub mod MarkedLemmas

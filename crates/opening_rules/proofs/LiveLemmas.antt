@@ -1,12 +1,12 @@
 -- The sectors that count beside the headers, as they are found and as they are meant.
-use Rattle.std.proofs.Common.{ℕ, ◌≡◌, ◌≢◌, ◌⊎◌, inl, inr, ◌/◌, ◌%◌, ◌<◌, ◌≤◌, Bool, true, nat_le, Option, Some, None, refl, sym, ◌∙◌, ap, arith, cond}
-use Rattle.std.proofs.lemmas.Bool.{cases_Bool, eqb-true, eq-eqb, leb-true, le-leb, and_parts, and_from, or_cases, or_left, or_right, cond-true, cond-false}
+use Rattle.std.proofs.Common.{ℕ, ◌≡◌, ◌≢◌, ◌⊎◌, inl, inr, ◌/◌, ◌%◌, ◌<◌, ◌≤◌, Bool, true, false, nat_le, ◌==◌, ◌&&◌, ◌||◌, Option, Some, None, refl, sym, ◌∙◌, ap, arith, cond}
+use Rattle.std.proofs.lemmas.Bool.{cases_Bool, eqb-true, eq-eqb, leb-true, le-leb, and_parts, and_from, or_cases, or_left, or_right, and_left, cond-true, cond-false}
 use Rattle.std.proofs.lemmas.Option.{same_Some, cond_some}
 use Rattle.ipl_format.specs.Sector.{Sector}
 use Rattle.ipl_meaning.specs.Chart.{Chart, IsChosen, IsDataHeader, IsOverflow, IsLive}
 use Rattle.opening_rules.specs.Chosen.{KeptHeader, Winner, head_of, header_at, current_at, units_at}
-use Rattle.opening_rules.specs.Live.{live_at, sectors, kept, is_commit_of, is_at, is_generation, is_log_spot_of, is_log_spot, is_log, seen, seen_at, is_overflow_place, is_place_of, is_live}
-use Rattle.opening_rules.specs.LiveLaws.{SectorsAre256, FoundCommitsCount, CommitsAreFound, FoundLogsAreLive, LiveLogsAreFound}
+use Rattle.opening_rules.specs.Live.{live_at, sectors, kept, is_commit_sector, is_commit_of, is_close_mark, is_noted_of, is_at, is_generation, is_log_spot_of, is_log_spot, is_log, seen, seen_at, is_overflow_place, is_place_of, is_live, noted_at}
+use Rattle.opening_rules.specs.LiveLaws.{SectorsAre256, FoundCommitsCount, CommitsAreFound, FoundNotesCount, NotesAreFound, NotedCommitsCount, FoundLogsAreLive, LiveLogsAreFound}
 use Rattle.opening_rules.proofs.HeaderLemmas.{header_there, header_kept, currents_are_chosen}
 
 pub sectors_are : SectorsAre256
@@ -46,6 +46,65 @@ commit_to c winner s sector it =
     kept_to (is_commit_of winner.head.generation) (c winner.place s) sector it.here
     (and_from _ _ (eq-eqb sector.kind 6 it.kind) (eq-eqb sector.generation winner.head.generation it.of_generation)) in
     rw (le-leb 1 s it.where_it_is.0) found
+
+-- ---- commit sectors and close marks
+
+pub note_from : FoundNotesCount
+note_from c winner s sector low is = elim (cases_Bool (nat_le 1 s)) [
+  | inl some ↦
+      let parts = kept_from (is_noted_of winner.head.generation) (c winner.place s) sector (rw some at is) in
+      let of_it = and_parts (is_commit_sector sector || is_close_mark sector) (sector.generation == winner.head.generation) parts.1 in
+      let generation : sector.generation ≡ winner.head.generation = eqb-true sector.generation winner.head.generation of_it.1 in
+      let within : (1 ≤ s) × (s < 256) = (leb-true 1 s some, low) in
+      elim (or_cases (is_commit_sector sector) (is_close_mark sector) of_it.0) [
+        | inl commit ↦ inl (record { here = parts.0; kind = eqb-true sector.kind 6 commit; of_generation = generation; where_it_is = within })
+        | inr close ↦ inr (record { here = parts.0; kind = eqb-true sector.kind 7 close; of_generation = generation; where_it_is = within })
+      ]
+  | inr zero_ ↦ absurd (let none : None ≡ Some sector = rw zero_ at is in cc none)
+]
+
+noted_to : (c : Chart) (winner : Winner) (s : ℕ) (sector : Sector) → 1 ≤ s → c winner.place s ≡ Some sector
+    → (is_commit_sector sector || is_close_mark sector) ≡ true → sector.generation ≡ winner.head.generation
+    → noted_at c (Some winner) s ≡ Some sector
+noted_to c winner s sector some here kind generation =
+    let found : kept (is_noted_of winner.head.generation) (c winner.place s) ≡ Some sector =
+    kept_to (is_noted_of winner.head.generation) (c winner.place s) sector here
+    (and_from _ _ kind (eq-eqb sector.generation winner.head.generation generation)) in
+    rw (le-leb 1 s some) found
+
+pub note_to : NotesAreFound
+note_to c winner s sector (inl it) =
+    noted_to c winner s sector it.where_it_is.0 it.here (or_left _ _ (eq-eqb sector.kind 6 it.kind)) it.of_generation
+note_to c winner s sector (inr it) =
+    noted_to c winner s sector it.where_it_is.0 it.here (or_right _ _ (eq-eqb sector.kind 7 it.kind)) it.of_generation
+
+-- of what is noted the commit sectors are kept
+noted_commit : (generation : ℕ) (o : Option Sector) → kept is_commit_sector (kept (is_noted_of generation) o) ≡ kept (is_commit_of generation) o
+noted_commit generation None = refl
+noted_commit generation (Some sector) = elim (cases_Bool (is_commit_sector sector)) [
+  | inl commit ↦
+      let same : is_noted_of generation sector ≡ is_commit_of generation sector =
+      ap (λ (b : Bool). (b || is_close_mark sector) && (sector.generation == generation)) commit
+      ∙ sym (ap (λ (b : Bool). b && (sector.generation == generation)) commit) in
+      ap (λ (b : Bool). kept is_commit_sector (cond b (Some sector) None)) same ∙ stays commit (is_commit_of generation sector)
+  | inr other ↦
+      goes other (is_noted_of generation sector) ∙ sym (cond-false (is_commit_of generation sector) (Some sector) None (and_left _ _ other))
+]
+  where
+    stays : is_commit_sector sector ≡ true → (b : Bool) → kept is_commit_sector (cond b (Some sector) None) ≡ cond b (Some sector) None
+    stays commit true = cond-true (is_commit_sector sector) (Some sector) None commit
+    stays commit false = refl
+
+    goes : is_commit_sector sector ≡ false → (b : Bool) → kept is_commit_sector (cond b (Some sector) None) ≡ None
+    goes other true = cond-false (is_commit_sector sector) (Some sector) None other
+    goes other false = refl
+
+pub noted_commits : NotedCommitsCount
+noted_commits c None s = refl
+noted_commits c (Some winner) s = elim (cases_Bool (nat_le 1 s)) [
+  | inl some ↦ rw some (noted_commit winner.head.generation (c winner.place s))
+  | inr zero_ ↦ rw zero_ refl
+]
 
 -- ---- current headers
 

@@ -3,35 +3,39 @@ use Rattle.std.proofs.Common.{ℕ, zero, suc, ◌≡◌, inl, inr, ◌+◌, ◌*
 use Rattle.std.specs.Prelude.{IsTrue, not, ◌||◌}
 use Rattle.std.specs.List.{Contains, list_any, count_by}
 use Rattle.std.specs.Option.{option_map}
-use Rattle.std.proofs.lemmas.Bool.{cases_Bool, eqb-true, eq-eqb, leb-false, and_parts, and_from, and_cases, or_parts, or_cases, or_left, or_right, not-true, not-false, cond-true, both_ways}
+use Rattle.std.proofs.lemmas.Bool.{cases_Bool, eqb-true, eq-eqb, ne_eqb, leb-false, and_parts, and_from, and_cases, or_parts, or_cases, or_left, or_right, not-true, not-false, cond-true, cond-false, both_ways}
 use Rattle.std.proofs.lemmas.List.{length-map, get_or-map}
 use Rattle.std.proofs.lemmas.Option.{same_Some, cond_some}
 use Rattle.ipl_base.specs.declared.fault.ImageFault.TheVariants.{Geometry}
 use Rattle.ipl_base.specs.Places.{KeepsUnits, units_on}
-use Rattle.ipl_format.specs.Numbers.{word_at}
+use Rattle.ipl_format.specs.Numbers.{IsBytes, word_at}
 use Rattle.ipl_format.specs.Header.{SpellsDataHeader, SpellsStatusHeader}
 use Rattle.ipl_format.specs.Record.{SpellsLog}
 use Rattle.ipl_format.specs.Commit.{SpellsCommit}
+use Rattle.ipl_format.specs.Mark.{SpellsMark}
 use Rattle.ipl_format.specs.Sector.{Sector}
 use Rattle.log_records.specs.Reading.{records_of}
 use Rattle.ipl_meaning.specs.Chart.{Chart, IsLive}
 use Rattle.ipl_meaning.specs.Last.{is_number}
-use Rattle.ipl_meaning.specs.Layout.{Entry, Shape, IsEntry, IsListed, IsInOverflow, IsLog, IsUnit, IsCommitSector, IsCommitted, IsStatus, Layout, Laid}
+use Rattle.ipl_meaning.specs.Layout.{Entry, Shape, IsEntry, IsListed, IsInOverflow, IsLog, IsUnit, IsCommitSector, IsCommitted, IsStatus, IsMark, AreMarks, Layout, Laid}
+use Rattle.unit_layout.specs.Mark.{is_mark_payload}
 use Rattle.opening_rules.specs.First.{passes, count_below, joined_below}
 use Rattle.opening_rules.specs.Payloads.{is_log_payload, pieces_in, numbers_in, is_data_payload, is_status_payload, is_commit_payload}
 use Rattle.opening_rules.specs.Chosen.{KeptHeader, Winner, header_at, units_told, current_at, status_at, units_at, is_head_payload}
-use Rattle.opening_rules.specs.Live.{is_at, sectors, commit_at, is_overflow_place, live_at, Mark, mark_of, mark_at, marks}
-use Rattle.opening_rules.specs.Faults.{malformed, not_formatted, status_geometry, says_other, other_geometry, missing, bad_header, commit_test, commit_fault, clashes, shares_overflow, is_full, is_log_well, log_test, is_in, holds_live, fault_for}
+use Rattle.opening_rules.specs.Live.{is_at, sectors, is_commit_sector, commit_at, noted_at, is_overflow_place, live_at, Mark, mark_of, mark_at, marks}
+use Rattle.opening_rules.specs.Faults.{malformed, not_formatted, status_geometry, says_other, other_geometry, missing, bad_header, is_noted_payload, noted_fault, clashes, shares_overflow, is_full, is_log_well, log_test, is_in, holds_live, fault_for}
 use Rattle.opening_rules.specs.LaidOut.{numbers_of, committed_in, entry_of, entry_at, log_in, no_sector, place_of, sector_of, shape_in, layout_in}
+use Rattle.opening_rules.specs.LiveLaws.{IsNoted}
 use Rattle.opening_rules.specs.Laws.{IsByteChart, NoFaultIsLaid, NoFaultIsFresh, NoShapeFaultIsLaid}
+use Rattle.unit_layout.proofs.MarkLemmas.{mark_told}
 use Rattle.opening_rules.proofs.PayloadLemmas.{data_payloads_are_spelled, data_says, status_payloads_are_spelled, status_says, commit_payloads_are_spelled, spelled_commits_pass, log_payloads_are_spelled}
 use Rattle.opening_rules.proofs.HeaderLemmas.{statuses_are_chosen}
 use Rattle.opening_rules.proofs.BelowLemmas.{none_any, any_some, count_all, passing, passing_has, passing_count, joined_has, joined_from}
 use Rattle.opening_rules.proofs.SortLemmas.{AreApart, sorted_has, sorted_all, sorted_rises}
-use Rattle.opening_rules.proofs.LiveLemmas.{IsSeen, seen_spot, live_seen, sectors_are, commit_from, commit_to, IsHome, home_of, live_from, live_to, away_is_overflow}
+use Rattle.opening_rules.proofs.LiveLemmas.{IsSeen, seen_spot, live_seen, sectors_are, commit_from, commit_to, note_to, IsHome, home_of, live_from, live_to, away_is_overflow}
 use Rattle.opening_rules.proofs.LaidLemmas.{mark_to}
 use Rattle.opening_rules.proofs.NumberLemmas.{found_below}
-use Rattle.opening_rules.proofs.PartLemmas.{IsFormed, units_kept, formed_from, no_fault_parts, if_none}
+use Rattle.opening_rules.proofs.PartLemmas.{IsFormed, note_well, units_kept, formed_from, no_fault_parts, if_none}
 
 -- ---- single tests
 
@@ -55,9 +59,6 @@ same_said units said winner is e =
 
 header_well : (o : Option Winner) (winner : Winner) → o ≡ Some winner → bad_header o ≡ None → winner.head.well ≡ true
 header_well o winner is e = if_none winner.head.well (malformed winner.place 0) (ap bad_header (sym is) ∙ e)
-
-commit_well : (p s : ℕ) (o : Option Sector) (sector : Sector) → o ≡ Some sector → commit_test p s o ≡ None → is_commit_payload sector.payload ≡ true
-commit_well p s o sector is e = if_none (is_commit_payload sector.payload) (malformed p s) (ap (commit_test p s) (sym is) ∙ e)
 
 log_well : (heads : ℕ → Option KeptHeader) (earlier : List Mark) (k : ℕ) (o : Option Sector) (sector : Sector) → o ≡ Some sector → log_test heads earlier k o ≡ None
     → is_log_well (mark_of heads k sector) earlier sector.version sector.payload ≡ true
@@ -306,11 +307,39 @@ module _ (c : Chart) (places : ℕ) (bytes : IsByteChart places c) (formed : IsF
     at_status : is_at (status_at c places) winner.place ≡ true
     at_status = ap (λ (o : Option Winner). is_at o winner.place) is ∙ eq-eqb winner.place winner.place refl
 
+    abbrev units : ℕ
+    units = units_at c places
+
+    -- a sector of the place holds bytes
+    has_bytes : (s : ℕ) (sector : Sector) → s < 256 → c winner.place s ≡ Some sector → IsBytes sector.payload
+    has_bytes s sector low here =
+        bytes winner.place s sector (statuses_are_chosen c places winner is).counts.within low (inr (inl at_status)) here
+
+    note_passes : (s : ℕ) (sector : Sector) → s < 256 → IsNoted c winner s sector → is_noted_payload units sector ≡ true
+    note_passes s sector low it =
+        note_well units winner.place s (noted_at c (Some winner) s) sector (note_to c winner s sector it)
+        (ap (λ (o : Option Winner). noted_fault units c o s) (sym is) ∙ formed.notes s (omega (arith, low, sectors_are)))
+
     commit_spelled : (s : ℕ) (sector : Sector) → IsCommitSector c winner.place winner.head.generation s sector → SpellsCommit sector.payload (numbers_in sector.payload)
     commit_spelled s sector it =
-        let passes_it = commit_well winner.place s (commit_at c (Some winner) s) sector (commit_to c winner s sector it)
-        (ap (λ (o : Option Winner). commit_fault c o s) (sym is) ∙ formed.commits s (omega (arith, it.where_it_is, sectors_are))) in
-        commit_payloads_are_spelled sector.payload (bytes winner.place s sector (statuses_are_chosen c places winner is).counts.within it.where_it_is.1 (inr (inl at_status)) it.here) passes_it
+        let passes_it : is_commit_payload sector.payload ≡ true =
+        sym (cond-true (is_commit_sector sector) (is_commit_payload sector.payload) (is_mark_payload units sector.payload) (eq-eqb sector.kind 6 it.kind))
+        ∙ note_passes s sector it.where_it_is.1 (inl it) in
+        commit_payloads_are_spelled sector.payload (has_bytes s sector it.where_it_is.1 it.here) passes_it
+
+    -- as many units as the status header says may be kept
+    kept_units : KeepsUnits places units
+    kept_units = subst (KeepsUnits places) (sym (ap (units_told places) is)) (units_kept places winner (ap (status_geometry places) (sym is) ∙ formed.geometry))
+
+    close_spelled : (s : ℕ) (sector : Sector) → IsMark c winner.place winner.head.generation s sector → SpellsMark units sector.payload
+    close_spelled s sector it =
+        let most = formed.most in
+        let (some, kept, few) = kept_units in
+        let passes_it : is_mark_payload units sector.payload ≡ true =
+        sym (cond-false (is_commit_sector sector) (is_commit_payload sector.payload) (is_mark_payload units sector.payload)
+        (ne_eqb sector.kind 6 (λ same. omega (arith, same, it.kind))))
+        ∙ note_passes s sector it.where_it_is.1 (inr it) in
+        mark_told units sector.payload (has_bytes s sector it.where_it_is.1 it.here) some passes_it
 
     told_from : (tid s : ℕ) (o : Option Sector) → s < sectors → commit_at c (Some winner) s ≡ o → Contains (numbers_of o) tid → IsCommitted c winner.place winner.head.generation tid
     told_from tid s None low at has = absurd (let some = has.1 in omega (arith, some))
@@ -346,8 +375,8 @@ module _ (c : Chart) (places : ℕ) (bytes : IsByteChart places c) (formed : IsF
         ap (λ (h : KeptHeader). h.well) (sym it.head) ∙ header_well (status_at c places) winner is formed.header in
         let passes_it : is_status_payload head.version places head.payload ≡ true =
         ap (λ (kind : ℕ). is_head_payload head.version places kind head.payload) (sym it.counts.fits) ∙ well_is in
-        let units : units_at c places ≡ units_told places (Some winner) = ap (units_told places) is in
-        let said : units_at c places ≡ word_at 0 head.payload = units ∙ ap (λ (o : Option ℕ). unwrap_or o (units_on places))
+        let told : units ≡ units_told places (Some winner) = ap (units_told places) is in
+        let said : units ≡ word_at 0 head.payload = told ∙ ap (λ (o : Option ℕ). unwrap_or o (units_on places))
         (ap (λ (h : KeptHeader). h.said) it.head ∙ status_says head.version places head.payload passes_it) in
         let layout : Layout = record { status = winner.place; head = head; committed = committed_in c (Some winner); count = units_at c places; units = shape_in c places } in
         let same : layout ≡ layout_in c places = ap₂ (λ (o : Option Winner) (s : Sector). let x : Layout = record { status = place_of o; head = s; committed = committed_in c o; count = units_at c places; units = shape_in c places } in x)
@@ -355,11 +384,12 @@ module _ (c : Chart) (places : ℕ) (bytes : IsByteChart places c) (formed : IsF
         subst (Laid places c) same (record {
           least = formed.least;
           most = formed.most;
-          count = subst (KeepsUnits places) (sym units) (units_kept places winner (ap (status_geometry places) (sym is) ∙ formed.geometry));
+          count = kept_units;
           chosen = it.counts;
           counts = subst (λ (n : ℕ). SpellsStatusHeader head.version places n head.payload) (sym said)
               (status_payloads_are_spelled head.version places head.payload (bytes winner.place 0 head it.counts.within (omega arith) (inl refl) here) passes_it);
           commits = subst (λ (g : ℕ). IsStatus c winner.place g (committed_in c (Some winner))) generation status_is;
+          marks = subst (λ (g : ℕ). AreMarks c winner.place g units) generation close_spelled;
           each = unit_is;
           overflows = passing (holds_live heads all_marks) places;
           two = omega (arith, passing_count (holds_live heads all_marks) places, formed.few_overflows);

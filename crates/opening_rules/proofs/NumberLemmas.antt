@@ -2,7 +2,7 @@
 use Rattle.std.proofs.Common.{ℕ, ◌≡◌, ◌⊎◌, inl, inr, ◌+◌, ◌*◌, ◌/◌, ◌%◌, ◌<◌, ◌≤◌, List, [], map, max, Option, Some, None, unwrap_or, refl, sym, ◌∙◌, ap, ap₂, subst, arith, zero, suc, ◌∷◌}
 use Rattle.std.specs.List.{Contains}
 use Rattle.std.proofs.Math.Nat.{le-max_left, le-max_right}
-use Rattle.std.proofs.lemmas.Bool.{cases_Bool, leb-true, le-leb, and_parts, and_from, cond-true, cond-false}
+use Rattle.std.proofs.lemmas.Bool.{cases_Bool, eq-eqb, ne_eqb, leb-true, le-leb, and_parts, and_from, cond-true, cond-false}
 use Rattle.std.proofs.lemmas.Option.{same_Some}
 use Rattle.std.proofs.lemmas.List.{length-map, get_or-map}
 use Rattle.ipl_base.specs.Places.{units_on}
@@ -11,17 +11,18 @@ use Rattle.ipl_format.specs.Record.{Record, SpellsLog}
 use Rattle.ipl_format.specs.Commit.{SpellsCommit}
 use Rattle.log_records.specs.Reading.{records_of}
 use Rattle.ipl_meaning.specs.Chart.{Chart, IsHeader}
-use Rattle.ipl_meaning.specs.Layout.{Layout, Laid, IsCommitSector}
+use Rattle.ipl_meaning.specs.Layout.{Layout, Laid}
 use Rattle.ipl_meaning.specs.Found.{IsLogSpot, IsRead, Mentions, IsFoundNumber}
 use Rattle.opening_rules.specs.Payloads.{numbers_in, is_commit_payload, is_log_payload, numbers_told, tid_of, tids_told}
 use Rattle.opening_rules.specs.Chosen.{KeptHeader, Winner, head_of, header_at, units_told, current_at, status_at, units_at}
-use Rattle.opening_rules.specs.Live.{sectors, commit_at, seen, seen_at}
-use Rattle.opening_rules.specs.Faults.{head_number, commit_number, log_number, greatest_of_heads, greatest_of_commits, greatest_found}
+use Rattle.opening_rules.specs.Live.{sectors, is_commit_sector, noted_at, seen, seen_at}
+use Rattle.opening_rules.specs.LiveLaws.{IsNoted}
+use Rattle.opening_rules.specs.Faults.{head_number, numbers_noted, noted_number, log_number, greatest_of_heads, greatest_of_notes, greatest_found}
 use Rattle.opening_rules.specs.Laws.{IsByteChart, GreatestIsAbove, GreatestIsFound}
 use Rattle.opening_rules.proofs.PayloadLemmas.{spelled_status_passes, spelled_commits_pass, spelled_logs_pass, log_payloads_are_spelled}
 use Rattle.opening_rules.proofs.HeaderLemmas.{header_there, header_kept, current_low, chosen_are_current, chosen_are_status}
 use Rattle.opening_rules.proofs.BelowLemmas.{max_cases, least-le, each-le, greatest_from, greatest_of-least, greatest_of-each, greatest_of_from}
-use Rattle.opening_rules.proofs.LiveLemmas.{seen_spot, sectors_are, MayStand, IsSeen, seen_from, seen_to, commit_from, commit_to}
+use Rattle.opening_rules.proofs.LiveLemmas.{seen_spot, sectors_are, MayStand, IsSeen, seen_from, seen_to, note_from, note_to}
 
 -- ---- lists of records
 
@@ -44,6 +45,15 @@ commit_has sector numbers it =
     let read = spelled_commits_pass sector.payload numbers it in
     cond-true (is_commit_payload sector.payload) (numbers_in sector.payload) [] read.0 ∙ read.1
 
+noted_has : (sector : Sector) (numbers : List ℕ) → sector.kind ≡ 6 → SpellsCommit sector.payload numbers → numbers_noted sector ≡ numbers
+noted_has sector numbers kind it =
+    cond-true (is_commit_sector sector) (numbers_told sector.payload) [] (eq-eqb sector.kind 6 kind) ∙ commit_has sector numbers it
+
+-- a close mark has none
+close_has : (sector : Sector) → sector.kind ≡ 7 → numbers_noted sector ≡ []
+close_has sector kind =
+    cond-false (is_commit_sector sector) (numbers_told sector.payload) [] (ne_eqb sector.kind 6 (λ same. omega (arith, same, kind)))
+
 log_has : (sector : Sector) (records : List Record) → SpellsLog sector.version sector.payload records → tids_told sector.version sector.payload ≡ map tid_of records
 log_has sector records it =
     let read = spelled_logs_pass sector.version sector.payload records it in
@@ -61,16 +71,16 @@ head-le places sector n kind mentions = elim mentions [
   ]
 ]
 
-commit-le : (sector : Sector) (n : ℕ) → sector.kind ≡ 6 → Mentions sector n → n ≤ commit_number (Some sector)
-commit-le sector n kind mentions =
-    let least = greatest_of-least (max sector.generation sector.serial) (numbers_told sector.payload) in
+noted-le : (sector : Sector) (n : ℕ) → 6 ≤ sector.kind → Mentions sector n → n ≤ noted_number (Some sector)
+noted-le sector n kind mentions =
+    let least = greatest_of-least (max sector.generation sector.serial) (numbers_noted sector) in
     elim mentions [
       | inl own ↦ omega (arith, own, le-max_left sector.generation sector.serial, least)
       | inr other ↦ elim other [
         | inl own ↦ omega (arith, own, le-max_right sector.generation sector.serial, least)
         | inr inner ↦ elim inner [
-          | inl commit ↦ greatest_of-each (max sector.generation sector.serial) (numbers_told sector.payload) n
-              (subst (λ (xs : List ℕ). Contains xs n) (sym (commit_has sector commit.1 commit.2)) commit.3)
+          | inl commit ↦ greatest_of-each (max sector.generation sector.serial) (numbers_noted sector) n
+              (subst (λ (xs : List ℕ). Contains xs n) (sym (noted_has sector commit.1 commit.0 commit.2)) commit.3)
           | inr log ↦ absurd (omega (arith, kind, log.0))
         ]
       ]
@@ -115,14 +125,14 @@ module _ (c : Chart) (places : ℕ) (it : Layout) (laid : Laid places c it) wher
   abbrev heads_greatest : ℕ
   heads_greatest = greatest_of_heads (header_at c places) places
 
-  abbrev commits_greatest : ℕ
-  commits_greatest = greatest_of_commits heads_greatest c (status_at c places) sectors
+  abbrev notes_greatest : ℕ
+  notes_greatest = greatest_of_notes heads_greatest c (status_at c places) sectors
 
-  commits-le : commits_greatest ≤ greatest_found c places
-  commits-le = least-le commits_greatest (λ j. log_number (seen_at (header_at c places) (current_at c places) c j)) (places * 256)
+  notes-le : notes_greatest ≤ greatest_found c places
+  notes-le = least-le notes_greatest (λ j. log_number (seen_at (header_at c places) (current_at c places) c j)) (places * 256)
 
   heads-le : heads_greatest ≤ greatest_found c places
-  heads-le = let more = least-le heads_greatest (λ s. commit_number (commit_at c (status_at c places) s)) sectors in omega (arith, more, commits-le)
+  heads-le = let more = least-le heads_greatest (λ s. noted_number (noted_at c (status_at c places) s)) sectors in omega (arith, more, notes-le)
 
   header_below : (p : ℕ) (sector : Sector) (n : ℕ) → p < places → c p 0 ≡ Some sector → IsHeader sector → Mentions sector n → n ≤ greatest_found c places
   header_below p sector n low here kind mentions =
@@ -133,14 +143,20 @@ module _ (c : Chart) (places : ℕ) (it : Layout) (laid : Laid places c it) wher
       let among : head_number (header_at c places p) ≤ heads_greatest = each-le 0 (λ q. head_number (header_at c places q)) places p low in
       omega (arith, own, same, among, heads-le)
 
-  commit_below : (s : ℕ) (sector : Sector) (n : ℕ) → IsCommitSector c it.status it.head.generation s sector → Mentions sector n → n ≤ greatest_found c places
-  commit_below s sector n is mentions =
-      let kept : commit_at c (status_at c places) s ≡ Some sector = ap (λ (o : Option Winner). commit_at c o s) status_is ∙ commit_to c status s sector is in
-      let own = commit-le sector n is.kind mentions in
-      let same : commit_number (commit_at c (status_at c places) s) ≡ commit_number (Some sector) = ap commit_number kept in
-      let among : commit_number (commit_at c (status_at c places) s) ≤ commits_greatest =
-      each-le heads_greatest (λ t. commit_number (commit_at c (status_at c places) t)) sectors s (omega (arith, is.where_it_is, sectors_are)) in
-      omega (arith, own, same, among, commits-le)
+  -- a commit sector or a close mark is of a kind above the log sectors', and stands in its place
+  noted_kind : (s : ℕ) (sector : Sector) → IsNoted c status s sector → (6 ≤ sector.kind) × (s < 256)
+  noted_kind s sector (inl commit) = (omega (arith, commit.kind), commit.where_it_is.1)
+  noted_kind s sector (inr close) = (omega (arith, close.kind), close.where_it_is.1)
+
+  note_below : (s : ℕ) (sector : Sector) (n : ℕ) → IsNoted c status s sector → Mentions sector n → n ≤ greatest_found c places
+  note_below s sector n is mentions =
+      let (kind, low) = noted_kind s sector is in
+      let kept : noted_at c (status_at c places) s ≡ Some sector = ap (λ (o : Option Winner). noted_at c o s) status_is ∙ note_to c status s sector is in
+      let own = noted-le sector n kind mentions in
+      let same : noted_number (noted_at c (status_at c places) s) ≡ noted_number (Some sector) = ap noted_number kept in
+      let among : noted_number (noted_at c (status_at c places) s) ≤ notes_greatest =
+      each-le heads_greatest (λ t. noted_number (noted_at c (status_at c places) t)) sectors s (omega (arith, low, sectors_are)) in
+      omega (arith, own, same, among, notes-le)
 
   may_from : (p s : ℕ) → IsLogSpot c it p s → MayStand c places p s
   may_from p s (inl (u, low, same, high)) = inl (u, home u, home_is u low, same, high)
@@ -158,14 +174,14 @@ module _ (c : Chart) (places : ℕ) (it : Layout) (laid : Laid places c it) wher
       let own = log-le sector n kind mentions in
       let same : log_number (seen_at (header_at c places) (current_at c places) c k) ≡ log_number (Some sector) = ap log_number kept in
       let among : log_number (seen_at (header_at c places) (current_at c places) c k) ≤ greatest_found c places =
-      each-le commits_greatest (λ j. log_number (seen_at (header_at c places) (current_at c places) c j)) (places * 256) k (omega (arith, low, within)) in
+      each-le notes_greatest (λ j. log_number (seen_at (header_at c places) (current_at c places) c j)) (places * 256) k (omega (arith, low, within)) in
       omega (arith, own, same, among)
 
   pub found_below : (n : ℕ) → IsFoundNumber places c it n → n ≤ greatest_found c places
   found_below n (p, s, sector, read, mentions) = elim read [
     | inl header ↦ header_below p sector n header.1 header.2 header.3 mentions
     | inr other ↦ elim other [
-      | inl commit ↦ commit_below s sector n commit.1 mentions
+      | inl note ↦ note_below s sector n note.1 mentions
       | inr log ↦ log_below p s sector n log.0 log.1 log.2 log.3 log.4 mentions
     ]
   ]
@@ -190,27 +206,24 @@ module _ (c : Chart) (places : ℕ) (it : Layout) (laid : Laid places c it) wher
       let read : IsRead places c it p 0 there.sector = inl (refl, there.within, there.here, (leb-true 1 there.sector.kind kinds.0, leb-true there.sector.kind 3 kinds.1)) in
       inr (subst (λ (h : KeptHeader). IsFoundNumber places c it (max h.generation h.serial)) there.kept (own_found p 0 there.sector read))
 
-  commit_found : (s : ℕ) (o : Option Sector) → s < 256 → commit_at c (Some status) s ≡ o → IsNumber (commit_number o)
-  commit_found s None low is = inl refl
-  commit_found s (Some sector) low is =
-      let of_it = commit_from c status s sector low is in
+  -- a number of its payload is a commit sector's
+  told_found : (s : ℕ) (sector : Sector) (n : ℕ) → IsNoted c status s sector → Contains (numbers_noted sector) n → IsFoundNumber places c it n
+  told_found s sector n (inl commit) told =
+      let spelled = laid.commits.spelled s sector commit in
+      let has : Contains spelled.0 n = subst (λ (xs : List ℕ). Contains xs n) (noted_has sector spelled.0 commit.kind spelled.1) told in
+      (it.status, s, sector, inr (inl (refl, inl commit)), inr (inr (inl (commit.kind, spelled.0, spelled.1, has))))
+  told_found s sector n (inr close) told =
+      let none : Contains [] n = subst (λ (xs : List ℕ). Contains xs n) (close_has sector close.kind) told in
+      absurd (omega (arith, none.1))
+
+  note_found : (s : ℕ) (o : Option Sector) → s < 256 → noted_at c (Some status) s ≡ o → IsNumber (noted_number o)
+  note_found s None low is = inl refl
+  note_found s (Some sector) low is =
+      let of_it = note_from c status s sector low is in
       let read : IsRead places c it it.status s sector = inr (inl (refl, of_it)) in
-      elim (greatest_of_from (max sector.generation sector.serial) (numbers_told sector.payload)) [
+      elim (greatest_of_from (max sector.generation sector.serial) (numbers_noted sector)) [
         | inl own ↦ inr (subst (IsFoundNumber places c it) (sym own) (own_found it.status s sector read))
-        | inr told ↦
-            let spelled = laid.commits.spelled s sector of_it in
-            inr (
-              it.status,
-              s,
-              sector,
-              read,
-              inr (inr (inl (
-                of_it.kind,
-                spelled.0,
-                spelled.1,
-                subst (λ (xs : List ℕ). Contains xs (commit_number (Some sector))) (commit_has sector spelled.0 spelled.1) told,
-              ))),
-            )
+        | inr told ↦ inr (told_found s sector (noted_number (Some sector)) of_it told)
       ]
 
   spot_back : (p s : ℕ) → MayStand c places p s → IsLogSpot c it p s
@@ -242,12 +255,13 @@ module _ (c : Chart) (places : ℕ) (it : Layout) (laid : Laid places c it) wher
       ]
 
   pub number_found : IsByteChart places c → IsNumber (greatest_found c places)
-  number_found bytes = elim (greatest_from commits_greatest (λ j. log_number (seen_at (header_at c places) (current_at c places) c j)) (places * 256)) [
+  number_found bytes = elim (greatest_from notes_greatest (λ j. log_number (seen_at (header_at c places) (current_at c places) c j)) (places * 256)) [
     | inr log ↦ subst IsNumber (sym log.2) (log_found bytes log.0 (seen_at (header_at c places) (current_at c places) c log.0) refl)
-    | inl earlier ↦ elim (greatest_from heads_greatest (λ s. commit_number (commit_at c (status_at c places) s)) sectors) [
-      | inr commit ↦
-          let kept : commit_at c (Some status) commit.0 ≡ commit_at c (status_at c places) commit.0 = ap (λ (o : Option Winner). commit_at c o commit.0) (sym status_is) in
-          subst IsNumber (sym (earlier ∙ commit.2)) (commit_found commit.0 (commit_at c (status_at c places) commit.0) (omega (arith, commit.1, sectors_are)) kept)
+    | inl earlier ↦ elim (greatest_from heads_greatest (λ s. noted_number (noted_at c (status_at c places) s)) sectors) [
+      | inr note ↦
+          let kept : noted_at c (Some status) note.0 ≡ noted_at c (status_at c places) note.0 =
+          ap (λ (o : Option Winner). noted_at c o note.0) (sym status_is) in
+          subst IsNumber (sym (earlier ∙ note.2)) (note_found note.0 (noted_at c (status_at c places) note.0) (omega (arith, note.1, sectors_are)) kept)
       | inl before ↦ elim (greatest_from 0 (λ p. head_number (header_at c places p)) places) [
         | inr header ↦ subst IsNumber (sym (earlier ∙ (before ∙ header.2))) (head_found header.0 (header_at c places header.0) refl)
         | inl none ↦ inl (earlier ∙ (before ∙ none))

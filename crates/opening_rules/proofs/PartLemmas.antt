@@ -1,14 +1,15 @@
 -- No fault is no fault of each kind.
-use Rattle.std.proofs.Common.{ℕ, ◌≡◌, ◌+◌, ◌*◌, ◌^◌, ◌<◌, ◌≤◌, nat_lt, nat_le, Bool, true, false, cond, ◌&&◌, Option, Some, None, refl}
+use Rattle.std.proofs.Common.{ℕ, ◌≡◌, ◌+◌, ◌*◌, ◌^◌, ◌<◌, ◌≤◌, nat_lt, nat_le, Bool, true, false, cond, ◌&&◌, Option, Some, None, refl, sym, ◌∙◌, ap}
 use Rattle.std.specs.Option.{option_or}
 use Rattle.std.proofs.lemmas.Bool.{leb-true, ltb-true, le-leb, lt-ltb, le-ltb, and_parts, and_from, cond-true, cond-false}
 use Rattle.ipl_base.specs.declared.fault.ImageFault.{ImageFault}
 use Rattle.ipl_base.specs.declared.fault.ImageFault.TheVariants.{Geometry, Spent, NoSpare}
+use Rattle.ipl_format.specs.Sector.{Sector}
 use Rattle.ipl_meaning.specs.Chart.{Chart}
 use Rattle.ipl_base.specs.First.{first_below}
 use Rattle.opening_rules.specs.Chosen.{Winner, header_at, current_at, status_at, units_told, units_at}
 use Rattle.opening_rules.specs.Live.{sectors}
-use Rattle.opening_rules.specs.Faults.{size_fault, not_formatted, keeps_units, status_geometry, other_geometry, missing, bad_header, header_fault, commit_fault, first_commit_fault, log_fault, first_log_fault, greatest_found, spent, spent_for, overflows_found, no_spare, fault_for, first_fault, shape_fault}
+use Rattle.opening_rules.specs.Faults.{malformed, size_fault, not_formatted, keeps_units, status_geometry, other_geometry, missing, bad_header, header_fault, is_noted_payload, noted_test, noted_fault, first_noted_fault, log_fault, first_log_fault, greatest_found, spent, spent_for, overflows_found, no_spare, fault_for, first_fault, shape_fault}
 use Rattle.ipl_base.proofs.FirstLemmas.{or_none, first_none, none_before}
 use Rattle.ipl_base.specs.Places.{KeepsUnits}
 
@@ -32,6 +33,10 @@ six_none a b d f g h p q r s t u = rw (p, q, r, s, t, u) refl
 pub if_none : {A : Type 0} (b : Bool) (x : A) → cond b None (Some x) ≡ None → b ≡ true
 if_none true x e = refl
 if_none false x e = cc
+
+-- a commit sector or close mark that passed
+pub note_well : (units p s : ℕ) (o : Option Sector) (sector : Sector) → o ≡ Some sector → noted_test units p s o ≡ None → is_noted_payload units sector ≡ true
+note_well units p s o sector is e = if_none (is_noted_payload units sector) (malformed p s) (ap (noted_test units p s) (sym is) ∙ e)
 
 -- ---- how many units are kept
 
@@ -62,7 +67,7 @@ pub record IsFormed (c : Chart) (places : ℕ) : Type 0 where
   pub there : (u : ℕ) → u < units_at c places → missing u (current_at c places u) ≡ None
   pub headers : (u : ℕ) → u < units_at c places → bad_header (current_at c places u) ≡ None
   pub header : bad_header (status_at c places) ≡ None
-  pub commits : (s : ℕ) → s < sectors → commit_fault c (status_at c places) s ≡ None
+  pub notes : (s : ℕ) → s < sectors → noted_fault (units_at c places) c (status_at c places) s ≡ None
   pub logs : (k : ℕ) → k < places * 256 → log_fault (header_at c places) (current_at c places) c k ≡ None
   pub few_overflows : overflows_found c places ≤ 2
 
@@ -83,7 +88,7 @@ module _ (c : Chart) (places : ℕ) where
 
   pub formed_from : (draws : Bool) → fault_for draws c places ≡ None → IsFormed c places
   formed_from draws e =
-      let all = six_parts (size_fault places) (header_fault c places) (first_commit_fault c places) (first_log_fault c places)
+      let all = six_parts (size_fault places) (header_fault c places) (first_noted_fault c places) (first_log_fault c places)
       (spent_for draws (greatest_found c places)) (no_spare (overflows_found c places)) e in
       let heads = six_parts (not_formatted (status_at c places)) (status_geometry places (status_at c places)) geometries_fault missing_fault headers_fault
       (bad_header (status_at c places)) all.1 in
@@ -97,14 +102,14 @@ module _ (c : Chart) (places : ℕ) where
         there = none_before (λ u. missing u (current_at c places u)) (units_at c places) heads.3;
         headers = none_before (λ u. bad_header (current_at c places u)) (units_at c places) heads.4;
         header = heads.5;
-        commits = none_before (commit_fault c (status_at c places)) sectors all.2;
+        notes = none_before (noted_fault (units_at c places) c (status_at c places)) sectors all.2;
         logs = none_before (log_fault (header_at c places) (current_at c places) c) (places * 256) all.3;
         few_overflows = leb-true (overflows_found c places) 2 (if_none (nat_le (overflows_found c places) 2) (NoSpare (overflows_found c places)) all.5);
       }
 
   pub no_fault_parts : first_fault c places ≡ None → HasNoFault c places
   no_fault_parts e =
-      let all = six_parts (size_fault places) (header_fault c places) (first_commit_fault c places) (first_log_fault c places) (spent (greatest_found c places))
+      let all = six_parts (size_fault places) (header_fault c places) (first_noted_fault c places) (first_log_fault c places) (spent (greatest_found c places))
       (no_spare (overflows_found c places)) e in
       record {
         formed = formed_from true e;
@@ -124,33 +129,33 @@ module _ (c : Chart) (places : ℕ) where
         (first_none (λ u. bad_header (current_at c places u)) (units_at c places) it.headers)
         it.header
 
-    commits_pass : first_commit_fault c places ≡ None
-    commits_pass = first_none (commit_fault c (status_at c places)) sectors it.commits
+    notes_pass : first_noted_fault c places ≡ None
+    notes_pass = first_none (noted_fault (units_at c places) c (status_at c places)) sectors it.notes
 
     logs_pass : first_log_fault c places ≡ None
     logs_pass = first_none (log_fault (header_at c places) (current_at c places) c) (places * 256) it.logs
 
     -- numbers that are used up are then the one fault
     pub spent_from : 2 ^ 63 ≤ greatest_found c places → first_fault c places ≡ Some Spent
-    spent_from high = rw (size_passes, headers_pass, commits_pass, logs_pass, cond-false (nat_lt (greatest_found c places) (2 ^ 63)) None (Some Spent) (le-ltb (greatest_found c places) (2 ^ 63) high)) refl
+    spent_from high = rw (size_passes, headers_pass, notes_pass, logs_pass, cond-false (nat_lt (greatest_found c places) (2 ^ 63)) None (Some Spent) (le-ltb (greatest_found c places) (2 ^ 63) high)) refl
 
   -- whatever the numbers are
   pub shape_from : IsFormed c places → shape_fault c places ≡ None
-  shape_from it = six_none (size_fault places) (header_fault c places) (first_commit_fault c places) (first_log_fault c places) None
+  shape_from it = six_none (size_fault places) (header_fault c places) (first_noted_fault c places) (first_log_fault c places) None
       (no_spare (overflows_found c places))
       (size_passes it)
       (headers_pass it)
-      (commits_pass it)
+      (notes_pass it)
       (logs_pass it)
       refl
       (cond-true (nat_le (overflows_found c places) 2) None (Some (NoSpare (overflows_found c places))) (le-leb (overflows_found c places) 2 it.few_overflows))
 
   pub no_fault_from : HasNoFault c places → first_fault c places ≡ None
-  no_fault_from all = six_none (size_fault places) (header_fault c places) (first_commit_fault c places) (first_log_fault c places) (spent (greatest_found c places))
+  no_fault_from all = six_none (size_fault places) (header_fault c places) (first_noted_fault c places) (first_log_fault c places) (spent (greatest_found c places))
       (no_spare (overflows_found c places))
       (size_passes all.formed)
       (headers_pass all.formed)
-      (commits_pass all.formed)
+      (notes_pass all.formed)
       (logs_pass all.formed)
       (cond-true (nat_lt (greatest_found c places) (2 ^ 63)) None (Some Spent) (lt-ltb (greatest_found c places) (2 ^ 63) all.fresh))
       (cond-true (nat_le (overflows_found c places) 2) None (Some (NoSpare (overflows_found c places))) (le-leb (overflows_found c places) 2 all.formed.few_overflows))

@@ -7,10 +7,10 @@ use Rattle.ipl_base.specs.declared.fault.ImageFault.TheVariants.{Geometry, NotFo
 use Rattle.ipl_base.specs.Places.{KeepsUnits}
 use Rattle.ipl_format.specs.Sector.{Sector}
 use Rattle.ipl_meaning.specs.Chart.{Chart, IsChosen, IsDataHeader, IsStatusHeader}
-use Rattle.opening_rules.specs.Payloads.{said_in, is_commit_payload}
+use Rattle.opening_rules.specs.Payloads.{said_in}
 use Rattle.opening_rules.specs.Chosen.{Winner, is_head_payload, status_at, units_at}
-use Rattle.opening_rules.specs.Live.{sectors, commit_at}
-use Rattle.opening_rules.specs.Faults.{malformed, greatest_found, overflows_found, first_fault}
+use Rattle.opening_rules.specs.Live.{sectors, noted_at}
+use Rattle.opening_rules.specs.Faults.{malformed, is_noted_payload, greatest_found, overflows_found, first_fault}
 use Rattle.opening_rules.specs.FaultLaws.{IsLeastMissing, IsFirstBadLog}
 
 -- the header counts: it is the status header, or that of a unit
@@ -45,23 +45,23 @@ pub record HasBadHeader (c : Chart) (places p : ℕ) : Type 0 where
   pub counts : HeaderCounts c places p head
   pub bad : is_head_payload head.version places head.kind head.payload ≡ false
 
--- this commit sector is the first of the status place whose payload is not in its grammar
-pub record IsFirstBadCommit (c : Chart) (places p s : ℕ) : Type 0 where
+-- this commit sector or close mark is the first of the status place whose payload is not in its grammar
+pub record IsFirstBadNote (c : Chart) (places p s : ℕ) : Type 0 where
   pub status : Winner
   pub here : status_at c places ≡ Some status
   pub at : status.place ≡ p
   pub low : s < sectors
   pub sector : Sector
-  pub counts : commit_at c (Some status) s ≡ Some sector
-  pub bad : is_commit_payload sector.payload ≡ false
-  pub earlier : (t : ℕ) (other : Sector) → t < s → commit_at c (Some status) t ≡ Some other
-      → is_commit_payload other.payload ≡ true
+  pub counts : noted_at c (Some status) s ≡ Some sector
+  pub bad : is_noted_payload (units_at c places) sector ≡ false
+  pub earlier : (t : ℕ) (other : Sector) → t < s → noted_at c (Some status) t ≡ Some other
+      → is_noted_payload (units_at c places) other ≡ true
 
--- the sector is a header, a commit sector or a log sector at fault
+-- the sector is a header, a commit sector, a close mark or a log sector at fault
 abbrev pub IsBadSector : Chart → ℕ → ℕ → ℕ → Type 0
 IsBadSector c places p s =
     ((s ≡ 0) × HasBadHeader c places p)
-    ⊎ IsFirstBadCommit c places p s
+    ⊎ IsFirstBadNote c places p s
     ⊎ ((k : ℕ) × (p ≡ k / SECTORS) × (s ≡ k % SECTORS) × IsFirstBadLog c places k (malformed p s))
 
 -- the cause of each fault; those of failed calls have none here

@@ -8,10 +8,11 @@ use Rattle.ipl_base.specs.declared.fault.ImageFault.TheVariants.{Geometry, NotFo
 use Rattle.ipl_format.specs.Sector.{Sector}
 use Rattle.ipl_meaning.specs.Chart.{Chart}
 use Rattle.ipl_base.specs.First.{first_below}
+use Rattle.unit_layout.specs.Mark.{is_mark_payload}
 use Rattle.opening_rules.specs.First.{first_of, greatest_below, greatest_of, count_below}
 use Rattle.opening_rules.specs.Payloads.{is_commit_payload, is_log_payload, numbers_told, tids_told}
 use Rattle.opening_rules.specs.Chosen.{KeptHeader, Winner, header_at, current_at, status_at, units_told, units_at}
-use Rattle.opening_rules.specs.Live.{sectors, commit_at, seen_at, live_at, is_overflow_place, Mark, mark_of, marks, marks_in}
+use Rattle.opening_rules.specs.Live.{sectors, is_commit_sector, noted_at, seen_at, live_at, is_overflow_place, Mark, mark_of, marks, marks_in}
 
 -- the sector at fault
 abbrev pub malformed : ℕ → ℕ → ImageFault
@@ -76,21 +77,26 @@ header_tests places units status current =
 abbrev pub header_fault : Chart → ℕ → Option ImageFault
 header_fault c places = first_of (header_tests places (units_at c places) (status_at c places) (current_at c places))
 
--- ---- commit sectors
+-- ---- commit sectors and close marks
 
--- a commit sector is tested for its payload
-abbrev pub commit_test : ℕ → ℕ → Option Sector → Option ImageFault
-commit_test p s None = None
-commit_test p s (Some sector) = if is_commit_payload sector.payload then None else Some (malformed p s)
+-- the payload is in the grammar of its kind, where there are so many units
+abbrev pub is_noted_payload : ℕ → Sector → Bool
+is_noted_payload units sector =
+    if is_commit_sector sector then is_commit_payload sector.payload else is_mark_payload units sector.payload
 
--- the fault of the commit sector at this number of the status place
-abbrev pub commit_fault : Chart → Option Winner → ℕ → Option ImageFault
-commit_fault c None s = None
-commit_fault c (Some winner) s = commit_test winner.place s (commit_at c (Some winner) s)
+-- a commit sector or close mark is tested for its payload
+abbrev pub noted_test : ℕ → ℕ → ℕ → Option Sector → Option ImageFault
+noted_test units p s None = None
+noted_test units p s (Some sector) = if is_noted_payload units sector then None else Some (malformed p s)
 
--- the first commit sector at fault
-abbrev pub first_commit_fault : Chart → ℕ → Option ImageFault
-first_commit_fault c places = first_below (commit_fault c (status_at c places)) sectors
+-- the fault of the one at this number of the status place
+abbrev pub noted_fault : ℕ → Chart → Option Winner → ℕ → Option ImageFault
+noted_fault units c None s = None
+noted_fault units c (Some winner) s = noted_test units winner.place s (noted_at c (Some winner) s)
+
+-- the first one at fault, where there are as many units as the status header says
+abbrev pub first_noted_fault : Chart → ℕ → Option ImageFault
+first_noted_fault c places = first_below (noted_fault (units_at c places) c (status_at c places)) sectors
 
 -- ---- log sectors
 
@@ -134,10 +140,14 @@ abbrev pub head_number : Option KeptHeader → ℕ
 head_number None = 0
 head_number (Some head) = max head.generation head.serial
 
--- the greatest in a commit sector
-abbrev pub commit_number : Option Sector → ℕ
-commit_number None = 0
-commit_number (Some sector) = greatest_of (max sector.generation sector.serial) (numbers_told sector.payload)
+-- the numbers in a commit sector; a close mark has none
+abbrev pub numbers_noted : Sector → List ℕ
+numbers_noted sector = if is_commit_sector sector then numbers_told sector.payload else []
+
+-- the greatest in a commit sector or close mark
+abbrev pub noted_number : Option Sector → ℕ
+noted_number None = 0
+noted_number (Some sector) = greatest_of (max sector.generation sector.serial) (numbers_noted sector)
 
 -- in a log sector
 abbrev pub log_number : Option Sector → ℕ
@@ -148,9 +158,9 @@ log_number (Some sector) = greatest_of (max sector.generation sector.serial) (ti
 abbrev pub greatest_of_heads : (ℕ → Option KeptHeader) → ℕ → ℕ
 greatest_of_heads heads places = greatest_below 0 (λ p. head_number (heads p)) places
 
--- and in the commit sectors of the status place, below this number
-abbrev pub greatest_of_commits : ℕ → Chart → Option Winner → ℕ → ℕ
-greatest_of_commits least c status n = greatest_below least (λ s. commit_number (commit_at c status s)) n
+-- and in the commit sectors and close marks of the status place, below this number
+abbrev pub greatest_of_notes : ℕ → Chart → Option Winner → ℕ → ℕ
+greatest_of_notes least c status n = greatest_below least (λ s. noted_number (noted_at c status s)) n
 
 -- and in the log sectors below the number k
 abbrev pub greatest_of_logs : ℕ → (ℕ → Option KeptHeader) → (ℕ → Option Winner) → Chart → ℕ → ℕ
@@ -160,7 +170,7 @@ greatest_of_logs least heads current c k = greatest_below least (λ j. log_numbe
 abbrev pub greatest_found : Chart → ℕ → ℕ
 greatest_found c places =
     let heads = header_at c places in
-    greatest_of_logs (greatest_of_commits (greatest_of_heads heads places) c (status_at c places) sectors)
+    greatest_of_logs (greatest_of_notes (greatest_of_heads heads places) c (status_at c places) sectors)
     heads (current_at c places) c (places * SECTORS)
 
 -- numbers are used up
@@ -198,7 +208,7 @@ abbrev pub tests : Bool → Chart → ℕ → List (Option ImageFault)
 tests draws c places =
     size_fault places
     ∷ header_fault c places
-    ∷ first_commit_fault c places
+    ∷ first_noted_fault c places
     ∷ first_log_fault c places
     ∷ spent_for draws (greatest_found c places)
     ∷ no_spare (overflows_found c places)

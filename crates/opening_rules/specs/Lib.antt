@@ -11,3 +11,5 @@ pub mod LaidOut
 pub mod Laws
 pub mod FaultLaws
 pub mod CauseLaws
+pub mod Marked
+pub mod MarkedLaws

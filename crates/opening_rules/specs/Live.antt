@@ -19,14 +19,33 @@ kept test (Some sector) = if test sector then Some sector else None
 
 -- ---- commit sectors
 
--- it is a commit sector of this generation
+-- it is a commit sector
+abbrev pub is_commit_sector : Sector → Bool
+is_commit_sector sector = sector.kind == 6
+
+-- it is one of this generation
 abbrev pub is_commit_of : ℕ → Sector → Bool
-is_commit_of generation sector = (sector.kind == 6) && (sector.generation == generation)
+is_commit_of generation sector = is_commit_sector sector && (sector.generation == generation)
 
 -- the commit sector that counts at this number of the status place, where there is one
 abbrev pub commit_at : Chart → Option Winner → ℕ → Option Sector
 commit_at c None s = None
 commit_at c (Some winner) s = if nat_le 1 s then kept (is_commit_of winner.head.generation) (c winner.place s) else None
+
+-- ---- close marks
+
+-- it is a close mark: a clean close wrote it
+abbrev pub is_close_mark : Sector → Bool
+is_close_mark sector = sector.kind == 7
+
+-- it is a commit sector or a close mark, of this generation
+abbrev pub is_noted_of : ℕ → Sector → Bool
+is_noted_of generation sector = (is_commit_sector sector || is_close_mark sector) && (sector.generation == generation)
+
+-- the commit sector or close mark that counts at this number of the status place, where there is one
+abbrev pub noted_at : Chart → Option Winner → ℕ → Option Sector
+noted_at c None s = None
+noted_at c (Some winner) s = if nat_le 1 s then kept (is_noted_of winner.head.generation) (c winner.place s) else None
 
 -- ---- log sectors
 

@@ -1,11 +1,11 @@
 -- The sectors that are found to count are those that count.
-use Rattle.std.specs.Prelude.{ℕ, ◌≡◌, ◌<◌, ◌/◌, ◌%◌, Some}
+use Rattle.std.specs.Prelude.{ℕ, ◌≡◌, ◌⊎◌, ◌<◌, ◌/◌, ◌%◌, Option, Some}
 use Rattle.ipl_base.specs.declared.limits.TheConstants.{SECTORS}
 use Rattle.ipl_format.specs.Sector.{Sector}
 use Rattle.ipl_meaning.specs.Chart.{Chart, IsLive}
-use Rattle.ipl_meaning.specs.Layout.{IsCommitSector}
+use Rattle.ipl_meaning.specs.Layout.{IsCommitSector, IsMark}
 use Rattle.opening_rules.specs.Chosen.{Winner, current_at}
-use Rattle.opening_rules.specs.Live.{sectors, commit_at, live_in}
+use Rattle.opening_rules.specs.Live.{sectors, kept, is_commit_sector, commit_at, noted_at, live_in}
 
 -- a place has 256 sectors
 abbrev pub SectorsAre256 : Type 0
@@ -22,6 +22,26 @@ abbrev pub CommitsAreFound : Type 0
 CommitsAreFound =
     (c : Chart) (status : Winner) (s : ℕ) (sector : Sector)
     → IsCommitSector c status.place status.head.generation s sector → commit_at c (Some status) s ≡ Some sector
+
+-- it is a commit sector or a close mark of the status place, and of its header's generation
+abbrev pub IsNoted : Chart → Winner → ℕ → Sector → Type 0
+IsNoted c status s sector =
+    IsCommitSector c status.place status.head.generation s sector ⊎ IsMark c status.place status.head.generation s sector
+
+-- what is noted is one
+abbrev pub FoundNotesCount : Type 0
+FoundNotesCount =
+    (c : Chart) (status : Winner) (s : ℕ) (sector : Sector) → s < SECTORS → noted_at c (Some status) s ≡ Some sector
+    → IsNoted c status s sector
+
+-- each is noted
+abbrev pub NotesAreFound : Type 0
+NotesAreFound =
+    (c : Chart) (status : Winner) (s : ℕ) (sector : Sector) → IsNoted c status s sector → noted_at c (Some status) s ≡ Some sector
+
+-- of those that are noted, the commit sectors are those that count
+abbrev pub NotedCommitsCount : Type 0
+NotedCommitsCount = (c : Chart) (status : Option Winner) (s : ℕ) → kept is_commit_sector (noted_at c status s) ≡ commit_at c status s
 
 -- the log sector is live for its unit
 pub record IsLiveAt (c : Chart) (places p s : ℕ) (sector : Sector) : Type 0 where

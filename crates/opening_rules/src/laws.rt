@@ -1,7 +1,8 @@
 //! The laws of openings.
 ghost use Rattle.opening_rules.specs.FirstLaws.{FirstIsFirst, FirstIsFound, NoneIsFound, NoneIsThere};
 ghost use Rattle.opening_rules.specs.PayloadLaws.{DataPayloadsAreSpelled, SpelledDataPasses, StatusPayloadsAreSpelled, SpelledStatusPasses, CommitPayloadsAreSpelled, SpelledCommitsPass, LogPayloadsAreSpelled, SpelledLogsPass};
-ghost use Rattle.opening_rules.specs.LiveLaws.{SectorsAre256, FoundCommitsCount, CommitsAreFound, FoundLogsAreLive, LiveLogsAreFound};
+ghost use Rattle.opening_rules.specs.LiveLaws.{SectorsAre256, FoundCommitsCount, CommitsAreFound, FoundNotesCount, NotesAreFound, NotedCommitsCount, FoundLogsAreLive, LiveLogsAreFound};
+ghost use Rattle.opening_rules.specs.MarkedLaws.{MarkedUnitsAreTold, LastMarksAreTold};
 ghost use Rattle.opening_rules.specs.Laws.{WholeSectorsMakeByteCharts, NoFaultIsLaid, NoFaultIsFresh, LaidHasNoFault, LaidIsFineOrSpent, LaidSaysItsUnits, FormattedChipsHaveNoFault, NoShapeFaultIsLaid, LaidHasNoShapeFault, GreatestIsAbove, GreatestIsFound};
 ghost use Rattle.opening_rules.specs.CauseLaws.{FaultsAreCaused};
 ghost use Rattle.opening_rules.specs.FaultLaws.{NotFormattedIsExact, MissingIsLeast, BadLogsAreFirst};
@@ -37,11 +38,14 @@ pub fn choosing_laws()
     ensures no_status { NoneIsStatus }
 {}
 
-/// The commit sectors and live log sectors that are found are those that count.
+/// The commit sectors, close marks and live log sectors that are found are those that count.
 pub fn live_laws()
     ensures sectors { SectorsAre256 }
     ensures commits { FoundCommitsCount }
     ensures all_commits { CommitsAreFound }
+    ensures notes { FoundNotesCount }
+    ensures all_notes { NotesAreFound }
+    ensures noted_commits { NotedCommitsCount }
     ensures logs { FoundLogsAreLive }
     ensures all_logs { LiveLogsAreFound }
 {}
@@ -63,6 +67,12 @@ pub fn opening_laws()
 pub fn number_laws()
     ensures above { GreatestIsAbove }
     ensures found { GreatestIsFound }
+{}
+
+/// The close mark that counts, and the units that it says, are those that are found.
+pub fn marked_laws()
+    ensures last { LastMarksAreTold }
+    ensures units { MarkedUnitsAreTold }
 {}
 
 /// Each fault comes where its cause is; what is missing, and which log sector is named.

@@ -3,13 +3,15 @@
 //! they are compared with what `ipl_meaning` states in relations. There is no code here but the
 //! laws: bodies that do nothing, with a contract that is the law.
 //!
-//! Proved, by its seven laws: in which order an opening finds fault, as a function of a chart; no
+//! Proved, by its eight laws: in which order an opening finds fault, as a function of a chart; no
 //! fault is exactly a chart that is laid out rightly, with numbers not used up; used up numbers
-//! are the one fault that such a chart may have; each fault has its cause.
+//! are the one fault that such a chart may have; each fault has its cause; and which units a close
+//! mark says, where one counts.
 #![tactic(auto)]
 
 mod laws;
 
 pub use laws::{
-    choosing_laws, fault_laws, first_laws, live_laws, number_laws, opening_laws, payload_laws,
+    choosing_laws, fault_laws, first_laws, live_laws, marked_laws, number_laws, opening_laws,
+    payload_laws,
 };

@@ -47,8 +47,10 @@ module _ (places u : ℕ) (t after : Tables) (old new : Told) (none : NoneIsLost
   found_steps at made m it h steady rests agrees =
       let did = made m it h steady rests agrees in record {
         added = did.added;
+        places = did.places;
         history = did.history;
         each_moment = did.each_moment;
+        marks = did.marks;
         does = did.does;
         steady = did.steady;
         ends = λ done.

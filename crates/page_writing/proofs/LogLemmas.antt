@@ -3,7 +3,6 @@ use Rattle.std.proofs.Common.{◌≡◌, ◌<◌, ◌+◌, ℕ, List, length, sl
 use Rattle.std.specs.List.{Contains}
 use Rattle.std.proofs.lemmas.List.Elements.{All-contains}
 use Rattle.chip_trait.specs.Chart.{with_sector}
-use Rattle.chip_trait.specs.Lawful.{Clean, age}
 use Rattle.chip_trait.specs.Told.{History, Told}
 use Rattle.log_records.specs.View.{Versioned}
 use Rattle.ipl_base.specs.declared.fault.ChipFault.{ChipFault}
@@ -19,7 +18,7 @@ use Rattle.ipl_meaning.specs.Layout.{Entry, Layout, Laid}
 use Rattle.log_records.proofs.RecordsLemmas.{records_list}
 use Rattle.ipl_meaning.specs.Masks.{mask_of}
 use Rattle.ipl_meaning.specs.Mirrors.{Mirrors, NoneIsLost}
-use Rattle.ipl_meaning.specs.Rests.{now, EachStands, StoryRests}
+use Rattle.ipl_meaning.specs.Rests.{now, IsUntouched, EachStands, StoryRests}
 use Rattle.ipl_meaning.specs.Steps.{KeepsPages, MayLog, with_log, entry_at}
 use Rattle.ipl_meaning.specs.Tables.{Tables}
 use Rattle.ipl_meaning.specs.TableSteps.{IsFreshLog, CountedShrink}
@@ -149,7 +148,7 @@ module _ (places : ℕ) (c : Chart) (it : Layout) (t : Tables) (u : ℕ) (at : S
   pub shrinks : (after : Tables) → IsAfterLog t after u p s (mask_by payload) (t.next + 1)
       → CountedShrink t after p s
   shrinks after (inl (home, then_is)) = rw (then_is, home.place, home.sector)
-      ((counted_follow places c it t mirrors).0 u (mask_by payload) (t.next + 1) unit)
+      ((counted_follow places c it t mirrors).0 u (mask_by payload) (t.next + 1) unit home.left)
   shrinks after (inr (over, then_is)) = rw then_is
       ((counted_follow places c it t mirrors).1 u p s (mask_by payload) (t.next + 1) over.first)
 
@@ -182,7 +181,7 @@ abbrev pub JoinsLog : ℕ → ℕ → ℕ → Sector → Told → Result (Unit {
 JoinsLog places p s sector old result new =
     (m : Map) (it : Layout) (h : History) (u : ℕ) (records : List Record)
     → IsSteady h old → StoryRests places m h → Laid places (now h) it
-    → MayLog places (now h) it u p s sector records → age h.story p s ≡ Clean
+    → MayLog places (now h) it u p s sector records → IsUntouched h p s
     → KeepsMap places m (Programs p (IsSpot s)) (λ done. Gains p s sector) h old result new
 
 module _ (places u : ℕ) (at : Spot) (payload : Versioned) (t after : Tables) (sector : Sector)

@@ -1,5 +1,5 @@
 -- Spots for log sectors, and the tables once one is written there.
-use Rattle.std.proofs.Common.{◌≡◌, ◌<◌, ℕ, List, [], ◌∷◌, ◌++◌, length, inl, inr, refl, sym, ◌∙◌, ap, subst, arith}
+use Rattle.std.proofs.Common.{◌≡◌, ◌<◌, ℕ, List, [], ◌∷◌, ◌++◌, length, slice_index, inl, inr, refl, sym, ◌∙◌, ap, subst, arith}
 use Rattle.std.specs.List.{AllPairs, Contains}
 use Rattle.std.proofs.lemmas.List.{length-set, length-map}
 use Rattle.std.proofs.lemmas.List.Elements.{All-contains}
@@ -7,6 +7,7 @@ use Rattle.ipl_meaning.specs.Mirrors.{AreApart}
 use Rattle.ipl_meaning.specs.Tables.{Tables, IsCountedClean, overflow_places, spots_of, with_written, with_mask, first_log}
 use Rattle.ipl_meaning.specs.TableSteps.{after_overflow_log, with_next, with_next_spot}
 use Rattle.ipl_meaning.proofs.CountedLemmas.{same_places}
+use Rattle.ipl_meaning.proofs.KnownLogLemmas.{counted_few}
 use Rattle.unit_directory.specs.Directory.{IsSoundDirectory}
 use Rattle.overflow.specs.Lists.{IsPlaceOf, IsSoundOverflow, after_add}
 use Rattle.overflow.specs.Laws.{FirstSpotsAreAdded}
@@ -21,7 +22,8 @@ use Rattle.page_writing.specs.Writing.{IsAfterLog}
 pub spot_counted : (t : Tables) (u p s : ℕ) → u < length t.places.current → IsSpotFor t u p s
     → IsCountedClean t p s
 spot_counted t u p s low (inl home) =
-    (omega (arith, home.left, home.sector), inl (u, low, home.place, omega (arith, home.sector)))
+    let few = counted_few (slice_index t.places.written u) (omega (arith, home.left)) in
+    (omega (arith, home.left, home.sector), inl (u, low, home.place, omega (arith, home.sector, few)))
 spot_counted t u p s low (inr over) = (over.within.1, inr (inl (s, over.first, omega arith)))
 
 -- it is a sector of the chip

@@ -20,7 +20,7 @@ module _ (places : ℕ) (t after : Tables) (u p s mask next : ℕ) (known : Know
   log_shrinks : length t.places.written ≡ length t.places.current → IsAfterLog t after u p s mask next
       → CountedShrink t after p s
   log_shrinks logs (inl (home, is)) =
-      rw (is, home.place, home.sector) (home_shrinks places t known u mask next low logs)
+      rw (is, home.place, home.sector) (home_shrinks places t known u mask next low logs home.left)
   log_shrinks logs (inr (over, is)) =
       rw is (overflow_shrinks places t known u p s mask next over.first)
 

@@ -47,7 +47,7 @@ pub record RestsWithLogRoom (places : ℕ) (m : Map) (c : Chart) (it : Layout) (
     (after : Tables) (at : Spot) (k : History) : Type 0 where
   pub rests : StoryRests places m k
   pub room : HasLogRoom places c (now k) it t u after at
-  pub tidy : IsTidy k.story after
+  pub tidy : IsTidy k after
 
 -- At each moment a power cut leaves the map. Where no write failed the story rests on it; and done,
 -- there is room.

@@ -63,6 +63,7 @@ others_mirror places c it t next active was later below once waits = record {
     home = was.masks.home;
     elsewhere = was.masks.elsewhere;
   };
+  logs = record { unmarked = was.logs.unmarked; whole = was.logs.whole };
   counted_clean = was.counted_clean;
 }
 

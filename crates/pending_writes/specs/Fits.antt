@@ -77,7 +77,7 @@ pub record Fits (places : ℕ) (c : Chart) (it : Layout) (t : Tables) (frames : 
 pub record FitsStory (places : ℕ) (h : History) (it : Layout) (t : Tables) (frames : Frames) (slots : Slots)
     (state : State) : Type 0 where
   pub fits : Fits places (now h) it t frames slots state
-  pub tidy : IsTidy h.story t
+  pub tidy : IsTidy h t
   pub rests : StoryRests places state.map h
 
 -- where a chip tells its contents and no story: the pages show the map, and what is counted as clean is blank

@@ -14,7 +14,7 @@ use Rattle.ipl_base.specs.declared.fault.ChipFault.{ChipFault}
 use Rattle.ipl_rules.specs.State.{Map}
 use Rattle.ipl_meaning.specs.Layout.{Layout}
 use Rattle.ipl_meaning.specs.Rests.{EachStands}
-use Rattle.ipl_meaning.specs.Tables.{Places, IsFree, Tables, IsCountedClean}
+use Rattle.ipl_meaning.specs.Tables.{counted_written, Places, IsFree, Tables, IsCountedClean}
 use Rattle.unit_directory.specs.Laws.{AreAside}
 use Rattle.unit_directory.proofs.AsideLemmas.{next_places_are_aside}
 use Rattle.unit_io.specs.Costs.{AreAt, ProgramsAt, Spends, barriers, erases, is_erased}
@@ -282,7 +282,7 @@ CountsClean : List ℕ → List ℕ → Tables → ℕ → ℕ → Type 0
 CountsClean current written t p s =
     (s < SECTORS)
     × (((u : ℕ) × (u < length current) × (p ≡ slice_index current u)
-    × (FIRST_LOG_SECTOR + slice_index written u ≤ s))
+    × (FIRST_LOG_SECTOR + counted_written (slice_index written u) ≤ s))
     ⊎ ((first : ℕ) × Contains t.overflow.in_use (p, first) × (first ≤ s))
     ⊎ ((p ≡ t.status.place) × (t.status.first ≤ s)))
 

@@ -23,6 +23,7 @@ use Rattle.ipl_meaning.specs.Layout.{Layout, Laid}
 use Rattle.ipl_meaning.specs.Rests.{now, EachStands, StoryRests}
 use Rattle.ipl_meaning.specs.Steps.{IsIdle}
 use Rattle.ipl_meaning.specs.Tables.{Places, IsFree, with_use, with_erased, with_retired, Tables, IsCountedClean, overflow_places}
+use Rattle.ipl_meaning.proofs.CarriedLemmas.{stays_untouched}
 use Rattle.ipl_meaning.proofs.MirrorLemmas.{free_places_are_idle}
 use Rattle.ipl_meaning.proofs.IdleFollowLemmas.{counted_apart, tables_follow_idle_places, places_may_be_taken, places_may_be_retired}
 use Rattle.unit_directory.specs.Free.{IsNextFree, IsReadyToTake, spares_of, put_aside}
@@ -82,7 +83,8 @@ module _ (places : ℕ) (m : Map) (it : Layout) (h : History) (t : Tables) (p : 
         mirrors = places_may_be_taken places (now (adds_all a h)) it t p
             (tables_follow_idle_places places (now h) it t p (now (adds_all a h)) t.next
             here.agrees.mirrors idle no_overflow cleared.others (cleared.bare 0) (omega arith)) within;
-        tidy = λ q s counted. clears.others h.story q s (counted_elsewhere q s counted)
+        tidy = λ q s counted. stays_untouched h a q s
+            (λ base clean. clears.others base q s (counted_elsewhere q s counted) clean)
             (here.agrees.tidy q s counted);
       };
     };
@@ -97,7 +99,8 @@ module _ (places : ℕ) (m : Map) (it : Layout) (h : History) (t : Tables) (p : 
     rests = rests;
     agrees = record {
       mirrors = rw same (places_may_be_retired places (now h) it t p here.agrees.mirrors within);
-      tidy = λ q s counted. clears.others h.story q s (counted_elsewhere q s counted)
+      tidy = λ q s counted. stays_untouched h a q s
+          (λ base clean. clears.others base q s (counted_elsewhere q s counted) clean)
           (here.agrees.tidy q s counted);
     };
   }
@@ -109,7 +112,8 @@ module _ (places : ℕ) (m : Map) (it : Layout) (h : History) (t : Tables) (p : 
     rests = rests;
     agrees = record {
       mirrors = rw same here.agrees.mirrors;
-      tidy = λ q s counted. clears.others h.story q s (counted_elsewhere q s counted)
+      tidy = λ q s counted. stays_untouched h a q s
+          (λ base clean. clears.others base q s (counted_elsewhere q s counted) clean)
           (here.agrees.tidy q s counted);
     };
   }
@@ -208,12 +212,14 @@ module _ (d : Places) (p : ℕ) (next : IsNextFree d p) where
     erased_rests : TakesPlace d old (Ok p) then new
     erased_rests m it t h steady same here =
         let free : IsFree t.places p = subst (λ (e : Places). IsFree e p) (sym same) next.free in
-        let leads = begun_done old.places m it h p here.rests here.agrees.mirrors.laid within
-        (idle old.places m it h t p here free) old did.0 new steady did.1 did.2 in
+        let leads = begun_done old m it h p here.rests here.agrees.mirrors.laid within
+        (idle old.places m it h t p here free) did.0 new steady did.1 did.2 in
         record {
           added = leads.added;
+          places = leads.places;
           history = leads.history;
           each_moment = leads.each_moment;
+          marks = leads.marks;
           does = record {
             spares = clears_spare true leads.added leads.does;
             fresh = λ base s low. leads.does.fresh refl base s;
@@ -266,10 +272,9 @@ module _ (d : Places) (p : ℕ) (next : IsNextFree d p) where
             → Leads {T = Wear} {E = ChipFault} (EachStands old.places m) (λ ok. Clears p false)
             (RestsWith old.places m (Begun p) h) h old (Err e) new
         by_case (inl broke) =
-            begun_failed old.places m it h p rests laid within idle_there old new e steady broke
+            begun_failed old m it h p rests laid within idle_there new e steady broke
         by_case (inr (between, first, halted)) =
-            begun_halted old.places m it h p rests laid within idle_there old between new e steady first
-            halted
+            begun_halted old m it h p rests laid within idle_there between new e steady first halted
 
     broken_rests : TakesPlace d old (Err e) then new
     broken_rests m it t h steady same here =
@@ -278,8 +283,10 @@ module _ (d : Places) (p : ℕ) (next : IsNextFree d p) where
         (idle old.places m it h t p here free) in
         record {
           added = leads.added;
+          places = leads.places;
           history = leads.history;
           each_moment = leads.each_moment;
+          marks = leads.marks;
           does = record { spares = clears_spare false leads.added leads.does; fresh = tt };
           steady = λ unrisen. absurd (omega (arith, stopped.1, unrisen));
           ends = λ unrisen. absurd (omega (arith, stopped.1, unrisen));
@@ -312,9 +319,9 @@ module _ (d between : Places) (p : ℕ) (old mid : Told) (within : p < old.place
       → Leads {T = Wear} {E = ChipFault} (EachStands old.places m) (λ ok. Clears p false)
       (RestsWith old.places m (Begun p) h) h old (Ok IsWorn) mid
   worn_leads m it t h steady same here =
-      begin_worn old.places m it h p here.rests here.agrees.mirrors.laid within
+      begin_worn old m it h p here.rests here.agrees.mirrors.laid within
       (idle old.places m it h t p here
-      (subst (λ (e : Places). IsFree e p) (sym same) finds.next.free)) old mid steady finds.worn
+      (subst (λ (e : Places). IsFree e p) (sym same) finds.next.free)) mid steady finds.worn
 
   -- ---- and no other may be taken
 
@@ -352,8 +359,10 @@ module _ (d between : Places) (p : ℕ) (old mid : Told) (within : p < old.place
         let leads = worn_leads m it t h steady same here in
         record {
           added = leads.added;
+          places = leads.places;
           history = leads.history;
           each_moment = leads.each_moment;
+          marks = leads.marks;
           does = record { spares = clears_spare d p finds.next false leads.added leads.does; fresh = tt };
           steady = λ _. leads.ends.0;
           ends = λ _. subst (λ (b : Places).
@@ -519,8 +528,10 @@ module _ (d between : Places) (p : ℕ) (old mid : Told) (within : p < old.place
         let first : Outcome (EachStands old.places m) (Clears p false) (Unit {0})
         (λ j. RestsAgreeing old.places m it t_then j) h old mid = record {
           added = leads.added;
+          places = leads.places;
           history = leads.history;
           each_moment = leads.each_moment;
+          marks = leads.marks;
           does = leads.does;
           steady = λ _. leads.ends.0;
           ends = λ _. agree;

@@ -38,6 +38,10 @@ refuses_end slots s = first_of (not_open (state_of slots) s ∷ [])
 abbrev pub refuses_batch : Slots → List ℕ → Option Refusal
 refuses_batch slots ss = refusals.refuses_batch (record { sessions = SESSIONS; names = 0; units = 0 }) (state_of slots) ss
 
+-- why a clean close is refused, if it is; of the limits it looks at the number of sessions alone
+abbrev pub refuses_close : Slots → Option Refusal
+refuses_close slots = refusals.refuses_close (record { sessions = SESSIONS; names = 0; units = 0 }) (state_of slots)
+
 -- the least other session that keeps this one from writing a name, or from sharing it
 abbrev pub holder_of : Slots → ℕ → ℕ → Bool → Option ℕ
 holder_of slots s n for_write = if for_write then holder_for_write (state_of slots) s n else holder_for_share (state_of slots) s n

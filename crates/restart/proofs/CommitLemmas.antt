@@ -16,13 +16,14 @@ use Rattle.unit_io.specs.ReadsAt.{Anywhere, ReadsAt, IsCauseAt}
 use Rattle.ipl_base.specs.First.{first_below}
 use Rattle.opening_rules.specs.First.{greatest_below}
 use Rattle.opening_rules.specs.Chosen.{Winner, head_of, status_at}
-use Rattle.opening_rules.specs.Live.{sectors, commit_at}
-use Rattle.opening_rules.specs.Faults.{TellsImageFault, commit_fault, commit_number, greatest_of_commits}
+use Rattle.opening_rules.specs.Live.{sectors, noted_at}
+use Rattle.opening_rules.specs.Faults.{TellsImageFault, noted_fault, noted_number, greatest_of_notes}
 use Rattle.opening_rules.specs.LaidOut.{committed_numbers, layout_in}
 use Rattle.opening_rules.proofs.HeaderLemmas.{chosen_are_status}
 use Rattle.number_set.specs.Numbers.{with_numbers}
 use Rattle.number_set.proofs.NumberLemmas.{numbers_are_a_union}
 use Rattle.txn_status.specs.ReadingIn.{under, status_in}
+use Rattle.txn_status.specs.Marks.{MarksRead, marks_in}
 use Rattle.opened_tables.specs.Opened.{IsOpenedStatus}
 use Rattle.unit_io.proofs.ReadsAtLemmas.{at_wider}
 use Rattle.restart.specs.Looks.{OnlyReads, HasCauseFor, Looks}
@@ -67,16 +68,19 @@ greatest_from least f (suc n) =
 module _ (c : Chart) (winner : Winner) (p generation : ℕ) (at : p ≡ winner.place)
     (of_it : generation ≡ winner.head.generation) where
   -- the greatest number found, and at least another one
-  pub number_told : (least n greatest : ℕ) → greatest ≡ greatest_of_commits 0 c (under p generation) sectors
-      → n ≡ max least greatest → n ≡ greatest_of_commits least c (Some winner) sectors
+  pub number_told : (least n greatest : ℕ) → greatest ≡ greatest_of_notes 0 c (under p generation) sectors
+      → n ≡ max least greatest → n ≡ greatest_of_notes least c (Some winner) sectors
   number_told least n greatest is more =
       more ∙ ap (max least) (is ∙ rw (at, of_it) refl)
-      ∙ greatest_from least (λ s. commit_number (commit_at c (Some winner) s)) sectors
+      ∙ greatest_from least (λ s. noted_number (noted_at c (Some winner) s)) sectors
 
-  pub fault_told : {T : Type 0} (r : Result T ImageFault)
-      → TellsImageFault (first_below (commit_fault c (under p generation)) sectors) r
-      → TellsImageFault (first_below (commit_fault c (Some winner)) sectors) r
-  fault_told r tells = rw (← at, ← of_it) tells
+  pub fault_told : {T : Type 0} (units told : ℕ) (r : Result T ImageFault) → units ≡ told
+      → TellsImageFault (first_below (noted_fault units c (under p generation)) sectors) r
+      → TellsImageFault (first_below (noted_fault told c (Some winner)) sectors) r
+  fault_told units told r same tells = rw (← same, ← at, ← of_it) tells
+
+  pub marks_told : (mark : MarksRead) → mark ≡ marks_in c p generation → mark ≡ marks_in c winner.place winner.head.generation
+  marks_told mark is = rw (← at, ← of_it) is
 
   pub status_told : (status : Status) → status ≡ status_in c p generation
       → status ≡ status_in c winner.place winner.head.generation

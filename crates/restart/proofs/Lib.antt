@@ -16,6 +16,7 @@ pub mod LogLemmas
 pub mod MaskedLemmas
 pub mod FillLemmas
 pub mod CountLemmas
+pub mod CountedLogLemmas
 pub mod HeaderLemmas
 pub mod RetireLemmas
 pub mod OpenLemmas

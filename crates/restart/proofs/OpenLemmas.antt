@@ -1,5 +1,5 @@
 -- From the tables of an opening to the chart.
-use Rattle.std.proofs.Common.{◌≡◌, ◌≢◌, ◌⊎◌, inl, inr, ◌≤◌, ◌<◌, ◌+◌, ◌*◌, ℕ, zero, suc, Bool, true, false, ◌&&◌, ◌||◌, nat_lt, List, [], ◌++◌, take, length, get_or, All, Option, Some, None, IfSome, unwrap_or, Result, refl, sym, ◌∙◌, ap, subst, arith}
+use Rattle.std.proofs.Common.{◌≡◌, ◌≢◌, ◌⊎◌, inl, inr, ◌≤◌, ◌<◌, ◌+◌, ◌*◌, ℕ, zero, suc, Bool, true, false, ◌&&◌, ◌||◌, ◌==◌, nat_lt, List, [], ◌++◌, take, length, get_or, All, Option, Some, None, IfSome, unwrap_or, Result, refl, sym, ◌∙◌, ap, subst, arith}
 use Rattle.std.specs.Result.{IsErrAnd}
 use Rattle.std.specs.Option.{option_or}
 use Rattle.std.specs.List.{Contains}
@@ -21,7 +21,7 @@ use Rattle.ipl_meaning.specs.Tables.{Places, OverflowLists, IsFree}
 use Rattle.opening_rules.specs.First.{at, first_of, count_below}
 use Rattle.opening_rules.specs.Chosen.{KeptHeader, Winner, is_head_payload, head_of, is_header, is_data_of, is_status, chosen, header_in, header_at, units_told, units_in, units_at, current_in, current_at, status_in, status_at}
 use Rattle.opening_rules.specs.Live.{sectors, is_at, is_log_spot, is_overflow_place, Mark, marks, marks_in}
-use Rattle.opening_rules.specs.Faults.{TellsImageFault, size_fault, keeps_units, status_geometry, header_tests, header_fault, fault_for, greatest_of_heads, greatest_of_commits, greatest_of_logs, greatest_found, spent_for, no_spare, holds_live}
+use Rattle.opening_rules.specs.Faults.{TellsImageFault, size_fault, keeps_units, status_geometry, header_tests, header_fault, fault_for, greatest_of_heads, greatest_of_notes, greatest_of_logs, greatest_found, spent_for, no_spare, holds_live}
 use Rattle.opening_rules.specs.LaidOut.{no_sector, place_of, sector_of, retired_at, layout_in}
 use Rattle.unit_layout.specs.Retired.{retired_in, may_be_retired}
 use Rattle.opening_rules.specs.Payloads.{is_status_payload}
@@ -41,9 +41,10 @@ use Rattle.opened_tables.specs.Found.{generation_of}
 use Rattle.restart.specs.Filled.{is_home, is_used, erases_by, with_all_aside, AreUsed, AreCounted, AreAdopted}
 use Rattle.restart.specs.Kept.{counted_in, retired_of}
 use Rattle.restart.specs.Shown.{ShowsHeaders, AreChosen, HeadersCount, current_tests, is_held, number_by, fault_by}
-use Rattle.opened_tables.specs.Opened.{IsUnused, IsOpened}
+use Rattle.opened_tables.specs.Opened.{IsUnused, IsOpened, IsOpenedLog}
 use Rattle.opened_tables.proofs.ListLemmas.{count_alike}
 use Rattle.restart.specs.Opened.{HasFree}
+use Rattle.restart.specs.Counted.{AreHomes}
 use Rattle.restart.proofs.CountLemmas.{said_by_header}
 use Rattle.restart.proofs.RetireLemmas.{AreAside, all_aside}
 use Rattle.restart.proofs.LookLemmas.{missed_not_image}
@@ -158,6 +159,20 @@ current_low heads current status counts u winner is =
       | inr past ↦ absurd (let no : None ≡ Some winner = sym (cond-false (nat_lt u (units_in (at heads) n)) all None past) ∙ found in cc no)
     ]
 
+-- the header of each unit that counts stands at its place
+pub are_homes : (heads : List (Option KeptHeader)) (current : List (Option Winner)) (status : Winner) → AreChosen heads current status → AreHomes (at heads) (at current)
+are_homes heads current status counts u winner is =
+    let n = length heads in
+    let all : Option Winner = chosen (is_data_of u) (at heads) n in
+    let found : current_in (at heads) n u ≡ Some winner = ap (λ (cur : ℕ → Option Winner). cur u) (sym counts.current_are) ∙ is in
+    elim (cases_Bool (nat_lt u (units_in (at heads) n))) [
+      | inl low ↦
+          let best = chosen_is_best (is_data_of u) (at heads) n winner (sym (cond-true (nat_lt u (units_in (at heads) n)) all None low) ∙ found) in
+          let parts = and_parts (winner.head.kind == 1) (winner.head.unit == u) best.of_kind in
+          (best.here, eqb-true winner.head.kind 1 parts.0, eqb-true winner.head.unit u parts.1)
+      | inr past ↦ absurd (let no : None ≡ Some winner = sym (cond-false (nat_lt u (units_in (at heads) n)) all None past) ∙ found in cc no)
+    ]
+
 -- ---- the rest
 
 pub held_is : (heads : List (Option KeptHeader)) (notes : Notes) (lists : OverflowLists) (all : List Mark) → IsNoted notes lists all → (p : ℕ) → is_held heads notes p ≡ holds_live (at heads) all p
@@ -173,10 +188,10 @@ end_tells draws heads notes lists all greatest number places r is size it tells 
     (subst (λ (n : ℕ). TellsImageFault (option_or (spent_for draws n) (option_or (no_spare (count_below (is_held heads notes) (length heads))) None)) r) is tells)
 
 pub number_is : (c : Chart) (heads : ℕ → Option KeptHeader) (current : ℕ → Option Winner) (status : Option Winner) (size places first least greatest : ℕ) → size ≡ places → first ≡ greatest_of_heads heads size
-    → least ≡ greatest_of_commits first c status sectors → greatest ≡ greatest_of_logs least heads current c (places * 256) → greatest ≡ number_by c heads current status places
+    → least ≡ greatest_of_notes first c status sectors → greatest ≡ greatest_of_logs least heads current c (places * 256) → greatest ≡ number_by c heads current status places
 number_is c heads current status size places first least greatest same one two three =
     three ∙ ap (λ (n : ℕ). greatest_of_logs n heads current c (places * 256))
-    (two ∙ ap (λ (n : ℕ). greatest_of_commits n c status sectors) (one ∙ ap (greatest_of_heads heads) same))
+    (two ∙ ap (λ (n : ℕ). greatest_of_notes n c status sectors) (one ∙ ap (greatest_of_heads heads) same))
 
 -- ---- to the chart
 
@@ -274,8 +289,9 @@ module _ (c : Chart) (places : ℕ) (heads : List (Option KeptHeader)) (current 
       → AreUsed (is_used (at current) (length current) status.place (is_held heads notes)) places most filled.in_use → AreAdopted (at current) (length current) (length current) filled
       → AreCounted (at heads) places filled → filled.retired ≡ [] → ((p : ℕ) (s : Sector) → c p 0 ≡ Some s → 1 ≤ s.kind)
       → d ≡ with_all_aside filled listed → listed ≡ retired_of sector → sector ≡ c status.place 0 → All (IsWithin places) listed
-      → greatest ≡ number_by c (at heads) (at current) (Some status) places → counter ≡ greatest + 1 → IsOpened places c d counter
-  opened notes lists noted filled d listed sector most counter greatest used adopted counted none kinds is these here within_all number next =
+      → greatest ≡ number_by c (at heads) (at current) (Some status) places → counter ≡ greatest + 1 → ((u : ℕ) → u < units_at c places → IsOpenedLog places c u (get_or filled.written u 0))
+      → IsOpened places c d counter
+  opened notes lists noted filled d listed sector most counter greatest used adopted counted none kinds is these here within_all number next logs =
       let units : length current ≡ units_at c places = shows.units_are in
       let it = subst (AreAside filled listed) (sym is) (all_aside filled listed) in
       let same : listed ≡ retired_at c places = these ∙ (ap retired_of here ∙ retired_found c places status shows.status_is) in
@@ -289,7 +305,7 @@ module _ (c : Chart) (places : ℕ) (heads : List (Option KeptHeader)) (current 
         current = λ u less. ap (λ (xs : List ℕ). get_or xs u 0) it.keeps.current ∙ adopted.current_is u (omega (arith, less, units)) ∙ ap (λ (cur : ℕ → Option Winner). place_of (cur u)) shows.current_are;
         heads = ap length it.keeps.generations ∙ adopted.heads_are ∙ units;
         generation = λ u less. ap (λ (xs : List ℕ). get_or xs u 0) it.keeps.generations ∙ adopted.generation_is u (omega (arith, less, units)) ∙ ap (λ (cur : ℕ → Option Winner). generation_of (cur u)) shows.current_are;
-        written = λ u less. ap (λ (xs : List ℕ). get_or xs u 0) it.keeps.written ∙ adopted.written_is u (omega (arith, less, units));
+        written = λ u less. subst (IsOpenedLog places c u) (sym (ap (λ (xs : List ℕ). get_or xs u 0) it.keeps.written)) (logs u less);
         erases = λ p within. ap (λ (xs : List ℕ). get_or xs p 0) it.keeps.erases ∙ counted.erases_are p within ∙ ap (λ (h : ℕ → Option KeptHeader). erases_by (h p)) shows.heads_are ∙ said_by_header c places p within (kinds p);
         free = λ p within. (
           λ free. let (was, other) = it.free p free in (from p within was, λ has. other (subst (λ (xs : List ℕ). Contains xs p) (sym same) has)),

@@ -11,9 +11,8 @@ use Rattle.ipl_format.specs.Sector.{Sector}
 use Rattle.ipl_meaning.specs.Chart.{Chart, chart_of}
 use Rattle.opening_rules.specs.First.{first_of}
 use Rattle.opening_rules.specs.Chosen.{KeptHeader, Winner, units_told, current_at, status_at, units_at}
-use Rattle.opening_rules.specs.Live.{sectors, Mark, mark_of, marks, commit_at, live_at}
-use Rattle.opening_rules.specs.Payloads.{is_commit_payload}
-use Rattle.opening_rules.specs.Faults.{TellsImageFault, is_image, malformed, not_formatted, keeps_units, status_geometry, says_other, other_geometry, missing, bad_header, header_fault, commit_test, commit_fault, is_log_well, log_test, log_fault, fault_for}
+use Rattle.opening_rules.specs.Live.{sectors, Mark, mark_of, marks, noted_at, live_at}
+use Rattle.opening_rules.specs.Faults.{TellsImageFault, is_image, malformed, not_formatted, keeps_units, status_geometry, says_other, other_geometry, missing, bad_header, header_fault, is_noted_payload, noted_test, noted_fault, is_log_well, log_test, log_fault, fault_for}
 use Rattle.opening_rules.specs.Laws.{IsByteChart}
 use Rattle.opening_rules.proofs.TellsLemmas.{tells_past, tells_here}
 use Rattle.unit_io.specs.Reads.{OfContents}
@@ -72,16 +71,17 @@ header_unspent c places =
     (or_unspent _ _ (below_unspent _ (units_at c places) (λ u. bad_unspent (current_at c places u)))
     (or_unspent _ _ (bad_unspent (status_at c places)) none_unspent)))))
 
-commit_test_unspent : (p s : ℕ) (o : Option Sector) → commit_test p s o ≢ Some Spent
-commit_test_unspent p s None = λ is. absurd (cc is)
-commit_test_unspent p s (Some sector) = if_unspent (is_commit_payload sector.payload) (malformed p s) (λ is. absurd (cc is))
+noted_test_unspent : (units p s : ℕ) (o : Option Sector) → noted_test units p s o ≢ Some Spent
+noted_test_unspent units p s None = λ is. absurd (cc is)
+noted_test_unspent units p s (Some sector) =
+    if_unspent (is_noted_payload units sector) (malformed p s) (λ is. absurd (cc is))
 
-commit_unspent : (c : Chart) (status : Option Winner) (s : ℕ) → commit_fault c status s ≢ Some Spent
-commit_unspent c None s = λ is. absurd (cc is)
-commit_unspent c (Some winner) s = commit_test_unspent winner.place s (commit_at c (Some winner) s)
+noted_unspent : (units : ℕ) (c : Chart) (status : Option Winner) (s : ℕ) → noted_fault units c status s ≢ Some Spent
+noted_unspent units c None s = λ is. absurd (cc is)
+noted_unspent units c (Some winner) s = noted_test_unspent units winner.place s (noted_at c (Some winner) s)
 
-pub commits_unspent : (c : Chart) (status : Option Winner) → first_below (commit_fault c status) sectors ≢ Some Spent
-commits_unspent c status = below_unspent (commit_fault c status) sectors (commit_unspent c status)
+pub notes_unspent : (units : ℕ) (c : Chart) (status : Option Winner) → first_below (noted_fault units c status) sectors ≢ Some Spent
+notes_unspent units c status = below_unspent (noted_fault units c status) sectors (noted_unspent units c status)
 
 log_test_unspent : (heads : ℕ → Option KeptHeader) (earlier : List Mark) (k : ℕ) (o : Option Sector) → log_test heads earlier k o ≢ Some Spent
 log_test_unspent heads earlier k None = λ is. absurd (cc is)

@@ -1,6 +1,5 @@
 -- A directory as an opening fills it, by the headers that count and the places that hold live log sectors.
 use Rattle.std.specs.Prelude.{ℕ, zero, suc, ◌≡◌, ◌<◌, ◌≤◌, ◌+◌, ◌==◌, ◌||◌, Bool, true, false, if◌then◌else◌, List, [], ◌∷◌, length, slice_index, slice_index_or, Option, Some, None}
-use Rattle.ipl_base.specs.declared.limits.TheConstants.{LOG_SECTORS}
 use Rattle.ipl_meaning.specs.Tables.{Places}
 use Rattle.opening_rules.specs.Chosen.{KeptHeader, Winner}
 use Rattle.opening_rules.specs.Live.{is_at}
@@ -54,7 +53,7 @@ pub record SameUnits (old new : Places) : Type 0 where
   pub generations : new.generations ≡ old.generations
   pub masks : new.masks ≡ old.masks
 
--- the first n units have the places and the generations of their headers, and no log sector of a unit is known clean
+-- the first n units have the places and the generations of their headers
 pub record AreAdopted (current : ℕ → Option Winner) (n units : ℕ) (it : Places) : Type 0 where
   pub units_are : length it.current ≡ units
   pub logs_are : length it.written ≡ units
@@ -63,4 +62,3 @@ pub record AreAdopted (current : ℕ → Option Winner) (n units : ℕ) (it : Pl
   pub heads_are : length it.generations ≡ units
   pub generation_is : (u : ℕ) → u < n → slice_index it.generations u ≡ generation_of (current u)
   pub unheaded_are : (u : ℕ) → n ≤ u → slice_index it.generations u ≡ 0
-  pub written_is : (u : ℕ) → u < units → slice_index it.written u ≡ LOG_SECTORS

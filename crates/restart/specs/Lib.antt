@@ -8,6 +8,7 @@ pub mod Taken
 pub mod Notes
 pub mod Masked
 pub mod Collected
+pub mod Counted
 pub mod Scanned
 pub mod Filled
 pub mod Shown

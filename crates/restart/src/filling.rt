@@ -1,5 +1,5 @@
 //! The directory and the overflow lists are filled.
-ghost use Rattle.std.specs.Prelude.{◌≡◌, ◌<◌, ◌≤◌, ◌+◌, ◌&&◌, ◌||◌, Bool, ℕ, [], true, length, Option, Some};
+ghost use Rattle.std.specs.Prelude.{◌≡◌, ◌<◌, ◌≤◌, ◌+◌, ◌&&◌, ◌||◌, Bool, ℕ, [], true, length, if◌then◌else◌, Option, Some};
 ghost use Rattle.ipl_base.specs.declared.limits.TheConstants.{MOST_PLACES};
 ghost use Rattle.ipl_base.specs.Places.{KeepsUnits};
 ghost use Rattle.opening_rules.specs.First.{at, count_below, all_below, with_one};
@@ -13,6 +13,9 @@ ghost use Rattle.unit_directory.specs.Free.{spares_of};
 ghost use Rattle.restart.specs.Kept.{retired_of};
 ghost use Rattle.restart.specs.Filled.{is_home, is_used, erases_by, with_counts, with_aside, with_all_aside, AreUsed, AreCounted, SameUnits, AreAdopted};
 ghost use Rattle.restart.specs.Masked.{NoneNamed};
+ghost use Rattle.restart.specs.Counted.{NoneKnown, SameHomes, AreMarked};
+ghost use Rattle.txn_status.specs.Marks.{counting, none_read};
+ghost use Rattle.opening_rules.specs.Marked.{is_marked_by};
 
 use crate::head_sector::HeadSector;
 use crate::kept::{Header, Winner};
@@ -20,10 +23,11 @@ use crate::live::is_overflow_place;
 use crate::noted::Noted;
 use ipl_format::word_at;
 use overflow::Overflow;
+use txn_status::LastMark;
 use unit_directory::Directory;
 
-/// Gives each unit the place and the generation of its header, with no log sector known clean, nor one
-/// that names a page. Nothing else is in use then, and no place is retired.
+/// Gives each unit the place and the generation of its header, with nothing known of its log sectors,
+/// and none that names a page. Nothing else is in use then, and no place is retired.
 pub(crate) fn adopt_all(directory: &mut Directory, current: &[Option<Winner>])
     requires units { KeepsUnits (length directory.old.in_use) (length current.now) }
     requires places { length directory.old.in_use ≤ MOST_PLACES }
@@ -33,6 +37,7 @@ pub(crate) fn adopt_all(directory: &mut Directory, current: &[Option<Winner>])
     ensures used { AreUsed (is_home (at current.now) (length current.now)) (length directory.old.in_use)
         (length current.now) directory.new.in_use }
     ensures blank { NoneNamed (length current.now) directory.new }
+    ensures unknown { NoneKnown (length current.now) directory.new }
     ensures none { directory.new.retired ≡ [] }
 {
     directory.facts();
@@ -41,6 +46,40 @@ pub(crate) fn adopt_all(directory: &mut Directory, current: &[Option<Winner>])
         match current[unit] {
             Some(winner) => directory.adopt(unit as u32, winner.place(), winner.generation()),
             None => {}
+        }
+    }
+}
+
+/// The close mark, if marks count; else none.
+pub(crate) fn counted(mark: LastMark, marks: bool) -> LastMark
+    ensures { result ≡ (if marks then mark else none_read) }
+{
+    if marks { mark } else { LastMark::none() }
+}
+
+/// Whether the close mark has the unit, and came behind its header.
+fn is_marked(mark: &LastMark, unit: u32, home: Option<Winner>) -> bool
+    ensures { result ≡ is_marked_by (counting mark.now) unit home }
+{
+    match home {
+        Some(winner) => mark.has(unit, winner.header().serial()),
+        None => false,
+    }
+}
+
+/// Notes the units that the close mark has, with none of their log sectors found written yet. That
+/// nothing is known of any of these is a condition.
+pub(crate) fn mark_units(directory: &mut Directory, current: &[Option<Winner>], mark: &LastMark)
+    requires units { length directory.old.current ≡ length current.now }
+    requires unknown { NoneKnown (length current.now) directory.old }
+    ensures marked { AreMarked (counting mark.now) (at current.now) (length current.now) directory.new }
+    ensures homes { SameHomes directory.old directory.new }
+    ensures masks { directory.new.masks ≡ directory.old.masks }
+{
+    directory.facts();
+    for unit in 0..current.len() {
+        if is_marked(mark, unit as u32, current[unit]) {
+            directory.set_marked(unit as u32, 0);
         }
     }
 }

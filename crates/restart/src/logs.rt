@@ -1,14 +1,16 @@
 //! Log sectors are read where they may stand.
-ghost use Rattle.std.specs.Prelude.{◌≡◌, ◌<◌, ◌≤◌, ◌+◌, ◌*◌, ℕ, List, [], true, false, max, length, Some, IfOk, IfErr, IfSome, OnOk};
+ghost use Rattle.std.specs.Prelude.{◌≡◌, ◌<◌, ◌≤◌, ◌+◌, ◌*◌, ℕ, List, [], true, false, max, length, Option, Some, IfOk, IfErr, IfSome, OnOk};
 ghost use Rattle.std.specs.Option.{option_map};
 ghost use Rattle.ipl_base.specs.declared.limits.TheConstants.{OVERFLOW_SECTORS, PAYLOAD_LEN};
 ghost use Rattle.ipl_base.specs.Places.{KeepsUnits};
 ghost use Rattle.sector_format.specs.Decode.{sector_of};
+ghost use Rattle.ipl_format.specs.Sector.{Sector};
 ghost use Rattle.ipl_meaning.specs.Chart.{chart_of};
 ghost use Rattle.ipl_meaning.specs.Masks.{mask_of as pages_of};
 ghost use Rattle.log_records.specs.Reading.{records_of};
 ghost use Rattle.unit_io.specs.Reads.{OfContents};
 ghost use Rattle.unit_io.specs.Kinds.{sector_named};
+ghost use Rattle.unit_io.specs.Found.{checked};
 ghost use Rattle.kept_numbers.specs.Joins.{joined};
 ghost use Rattle.ipl_base.specs.First.{first_below};
 ghost use Rattle.opening_rules.specs.First.{at, with_one};
@@ -24,19 +26,20 @@ ghost use Rattle.restart.specs.Notes.{units_of, HasRoom, AreSized, overflow_coun
 ghost use Rattle.restart.specs.Masked.{SamePlaces, NoneNamed, masked, IsMasked};
 ghost use Rattle.restart.specs.Collected.{records_at, AreKept};
 ghost use Rattle.restart.specs.Scanned.{IsScanned};
+ghost use Rattle.restart.specs.Counted.{SameHomes, StaysUnknown, AreHomes, AreReadLogs, seen_log, does_check, is_erased};
 
 use crate::collecting::{Gathered, collect};
 use crate::kept::{Header, Winner};
 use crate::live::{is_live, is_log_payload, is_overflow_place, log_number, may_hold_log, pages_of};
 use crate::noted::Noted;
 use chip_trait::Chip;
-use ipl_base::{ChipFault, Geometry, ImageFault, OVERFLOW_SECTORS, Spot};
+use ipl_base::{ChipFault, FIRST_LOG_SECTOR, Geometry, ImageFault, OVERFLOW_SECTORS, Spot};
 use kept_numbers::KeptNumbers;
 use overflow::Overflow;
 use sector_format::{Head, payload_in};
 use txn_status::Status;
 use unit_directory::Directory;
-use unit_io::read_sector;
+use unit_io::{Found, read_found};
 
 /// Tests a live log sector for its payload, and against those that were noted and listed.
 #[tactic(auto, using(crate::proofs::ListedLemmas::count_noted))]
@@ -241,6 +244,61 @@ fn take_found(
     }
 }
 
+/// What was found, where it checks.
+fn checked(found: Found) -> Option<(Head, usize)>
+    ensures { result ≡ checked found }
+{
+    match found {
+        Found::Sector(head, used) => Some((head, used)),
+        _ => None,
+    }
+}
+
+/// Whether it checks.
+fn does_check(found: Found) -> bool
+    ensures { result ≡ does_check found }
+{
+    match found {
+        Found::Sector(_, _) => true,
+        _ => false,
+    }
+}
+
+/// Whether all its bytes are FF.
+fn is_erased(found: Found) -> bool
+    ensures { result ≡ is_erased found }
+{
+    match found {
+        Found::Erased => true,
+        _ => false,
+    }
+}
+
+/// Notes what was found where log sectors may stand, if that is at a unit's place.
+fn note_seen(
+    heads: &[Option<Header>],
+    current: &[Option<Winner>],
+    directory: &mut Directory,
+    spot: Spot,
+    found: Found,
+)
+    requires place { spot.place < length heads.now }
+    requires sector { spot.sector < 256 }
+    requires units { length directory.old.current ≡ length current.now }
+    requires spot { is_log_spot (at heads.now) (at current.now) spot.place spot.sector ≡ true }
+    ensures { directory.new ≡ seen_log (at heads.now spot.place) directory.old spot.sector
+        (does_check found) (is_erased found) }
+{
+    let header = heads[spot.place as usize];
+    match header {
+        Some(header) if header.is_data() => {
+            let number = spot.sector - FIRST_LOG_SECTOR;
+            directory.note_log(header.unit(), number, does_check(found), is_erased(found));
+        }
+        _ => {}
+    }
+}
+
 /// Reads a sector, if log sectors may stand there.
 fn scan_sector<C: Chip>(
     chip: &mut C,
@@ -278,7 +336,12 @@ fn scan_sector<C: Chip>(
     ensures roomy { OnOk result (IsRoomy (at current.now) (spot.place * 256 + spot.sector + 1)
         noted.new overflow.new) }
     ensures sized { AreSized (length current.now) (length heads.now) noted.new overflow.new }
-    ensures places { SamePlaces directory.old directory.new }
+    ensures logs { OnOk result (OfContents (C.told chip.old) (λ x. (mark : Option Sector)
+        → AreHomes (at heads.now) (at current.now)
+        → AreReadLogs x mark (at current.now) (length current.now) (spot.place * 256 + spot.sector) directory.old
+        → AreReadLogs x mark (at current.now) (length current.now) (spot.place * 256 + spot.sector + 1) directory.new)) }
+    ensures unknown { StaysUnknown directory.old directory.new }
+    ensures places { SameHomes directory.old directory.new }
     ensures looks { Looks (HasCauseFor false) result (C.told chip.old) (C.told chip.new) }
     ensures once { ReadsOnce (λ p s. IsAt spot.place spot.sector p s
         × MayHoldLog (at heads.now) (at current.now) p s) (C.told chip.old) (C.told chip.new) }
@@ -287,10 +350,12 @@ fn scan_sector<C: Chip>(
         return Ok(gathered);
     }
     let mut bytes = [0; 512];
-    let found = read_sector(chip, spot, &mut bytes)?;
+    let found = read_found(chip, spot, &mut bytes)?;
+    let sector = checked(found);
     let gathered = take_found(
-        heads, current, noted, directory, overflow, numbers, status, spot, found, &bytes, gathered,
+        heads, current, noted, directory, overflow, numbers, status, spot, sector, &bytes, gathered,
     )?;
+    note_seen(heads, current, directory, spot, found);
     Ok(gathered)
 }
 
@@ -326,7 +391,12 @@ fn scan_place<C: Chip>(
     ensures roomy { OnOk result (IsRoomy (at current.now) ((place + 1) * 256)
         noted.new overflow.new) }
     ensures sized { AreSized (length current.now) (length heads.now) noted.new overflow.new }
-    ensures places { SamePlaces directory.old directory.new }
+    ensures logs { OnOk result (OfContents (C.told chip.old) (λ x. (mark : Option Sector)
+        → AreHomes (at heads.now) (at current.now)
+        → AreReadLogs x mark (at current.now) (length current.now) (place * 256) directory.old
+        → AreReadLogs x mark (at current.now) (length current.now) ((place + 1) * 256) directory.new)) }
+    ensures unknown { StaysUnknown directory.old directory.new }
+    ensures places { SameHomes directory.old directory.new }
     ensures looks { Looks (HasCauseFor false) result (C.told chip.old) (C.told chip.new) }
     ensures once { ReadsOnce (λ p s. (p ≡ place) × MayHoldLog (at heads.now) (at current.now) p s)
         (C.told chip.old) (C.told chip.new) }
@@ -372,7 +442,12 @@ pub(crate) fn scan<C: Chip>(
         ≡ Some e)) }
     ensures none { OnOk result (overflow.new.in_use ≡ []) }
     ensures sized { AreSized (length current.now) geometry.places noted.new overflow.new }
-    ensures places { SamePlaces directory.old directory.new }
+    ensures logs { OnOk result (OfContents (C.told chip.old) (λ x. (mark : Option Sector)
+        → AreHomes (at heads.now) (at current.now)
+        → AreReadLogs x mark (at current.now) (length current.now) (0) directory.old
+        → AreReadLogs x mark (at current.now) (length current.now) (geometry.places * 256) directory.new)) }
+    ensures unknown { StaysUnknown directory.old directory.new }
+    ensures places { SameHomes directory.old directory.new }
     ensures looks { Looks (HasCauseFor false) result (C.told chip.old) (C.told chip.new) }
     ensures once { ReadsOnce (MayHoldLog (at heads.now) (at current.now))
         (C.told chip.old) (C.told chip.new) }

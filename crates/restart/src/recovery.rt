@@ -8,7 +8,8 @@ ghost use Rattle.ipl_meaning.specs.Layout.{Laid};
 ghost use Rattle.ipl_meaning.specs.Mirrors.{Mirrors};
 ghost use Rattle.unit_io.specs.Reads.{OfContents};
 ghost use Rattle.opening_rules.specs.First.{at, count_below};
-ghost use Rattle.opening_rules.specs.Live.{marks};
+ghost use Rattle.opening_rules.specs.Chosen.{units_told};
+ghost use Rattle.opening_rules.specs.Live.{marks as live_marks};
 ghost use Rattle.opening_rules.specs.Faults.{TellsImageFault, header_fault, fault_for, first_fault, shape_fault, greatest_found};
 ghost use Rattle.opening_rules.specs.Laws.{IsByteChart};
 ghost use Rattle.opening_rules.specs.LaidOut.{layout_in};
@@ -21,15 +22,17 @@ ghost use Rattle.merge_rules.specs.Known.{KnowsPlaces};
 ghost use Rattle.opened_tables.specs.Opened.{AreOpened, tables_of};
 ghost use Rattle.restart.specs.Notes.{HasRoom, AreSized, IsNoted};
 ghost use Rattle.restart.specs.Kept.{counted_in};
-ghost use Rattle.restart.specs.Masked.{SamePlaces, NoneNamed, mask_by, IsMasked};
+ghost use Rattle.restart.specs.Masked.{NoneNamed, mask_by, IsMasked};
+ghost use Rattle.restart.specs.Counted.{SameHomes, NoneKnown, AreHomes, AreReadLogs};
+ghost use Rattle.opening_rules.specs.Marked.{last_close_mark};
 ghost use Rattle.restart.specs.Shown.{ShowsHeaders, HeadersCount, is_held, number_by, fault_by};
-ghost use Rattle.restart.specs.Opened.{HasFree, NoneIsClean};
+ghost use Rattle.restart.specs.Opened.{HasFree, IsUnmarked, CountsMarked};
 ghost use Rattle.restart.specs.Collected.{numbers_below, AreKept, AreCollected};
 
 use crate::choosing::choose;
 use crate::collecting::Gathered;
 use crate::commits::read_commits;
-use crate::filling::{adopt_all, fill_places, list_places, retire_listed};
+use crate::filling::{adopt_all, counted, fill_places, list_places, mark_units, retire_listed};
 use crate::head_sector::HeadSector;
 use crate::headers::{check_headers, check_status};
 use crate::kept::{Header, Winner};
@@ -43,7 +46,7 @@ use kept_numbers::KeptNumbers;
 use overflow::Overflow;
 use std::alloc::Global;
 use std::marker::Model;
-use txn_status::Status;
+use txn_status::{LastMark, Status};
 use unit_directory::Directory;
 
 /// Reads the headers, tests those that count, and answers the status header, whose sector is kept. The headers of units stand
@@ -81,7 +84,8 @@ fn read_headers<C: Chip>(
 }
 
 /// Reads all that counts beyond the headers, by these headers and the one of the status place, and
-/// answers the greatest number found, and whether the committed numbers of live records fit.
+/// answers the greatest number found, and whether the committed numbers of live records fit. What a
+/// close mark says is noted where marks count.
 fn read_rest<C: Chip>(
     chip: &mut C,
     geometry: Geometry,
@@ -93,6 +97,7 @@ fn read_rest<C: Chip>(
     overflow: &mut Overflow,
     status: &mut Status,
     numbers: &mut KeptNumbers,
+    marks: bool,
     draws: bool,
 ) -> Result<Gathered, ImageFault>
     requires size { geometry.places ≡ (C.told chip.old).places }
@@ -102,7 +107,9 @@ fn read_rest<C: Chip>(
     requires overflow { overflow.old.places ≡ geometry.places }
     requires units { length directory.old.current ≡ length current.now }
     requires blank { NoneNamed (length current.now) directory.old }
+    requires unknown { NoneKnown (length current.now) directory.old }
     requires winner { winner.now.place < geometry.places }
+    requires told { length current.now ≡ units_told geometry.places (Some winner.now) }
     ensures fault { OfContents (C.told chip.old) (λ x. TellsImageFault
         (fault_by draws (chart_of x) (at heads.now) (at current.now) (Some winner.now)
         geometry.places) result) }
@@ -112,12 +119,16 @@ fn read_rest<C: Chip>(
         (numbers_below status.new.numbers (at heads.now) (at current.now) (chart_of x)
         (geometry.places * 256)) all.fits numbers.new)) }
     ensures noted { OnOk result (OfContents (C.told chip.old) (λ x. IsNoted noted.new overflow.new
-        (marks (at heads.now) (at current.now) (chart_of x) (geometry.places * 256)))) }
+        (live_marks (at heads.now) (at current.now) (chart_of x) (geometry.places * 256)))) }
     ensures masked { OnOk result (OfContents (C.told chip.old) (λ x.
         IsMasked (at heads.now) (at current.now)
         (mask_by (at heads.now) (at current.now) (chart_of x)) (geometry.places * 256)
         directory.new overflow.new)) }
-    ensures places { SamePlaces directory.old directory.new }
+    ensures logs { OnOk result (OfContents (C.told chip.old) (λ x. AreHomes (at heads.now) (at current.now)
+        → AreReadLogs x (last_close_mark (chart_of x) (Some winner.now)) (at current.now)
+        (length current.now) (geometry.places * 256) directory.new)) }
+    ensures unmarked { OnOk result (marks ≡ false → NoneKnown (length current.now) directory.new) }
+    ensures places { SameHomes directory.old directory.new }
     ensures status { OnOk result (OfContents (C.told chip.old) (λ x.
         status.new ≡ status_in (chart_of x) winner.now.place winner.now.head.generation)) }
     ensures placed { OnOk result (status.new.place ≡ winner.now.place) }
@@ -136,7 +147,10 @@ fn read_rest<C: Chip>(
         → ReadsOnce IsBehindHeader (C.told chip.old) (C.told chip.new) }
 {
     let least = greatest_in(heads);
-    let least = read_commits(chip, winner, status, least)?;
+    let mut mark = LastMark::none();
+    let least = read_commits(chip, geometry, winner, status, &mut mark, least)?;
+    let mark = counted(mark, marks);
+    mark_units(directory, current, &mark);
     let gathered = scan(
         chip, geometry, heads, current, noted, directory, overflow, numbers, status, least,
     )?;
@@ -156,6 +170,7 @@ fn read_chip<C: Chip>(
     overflow: &mut Overflow,
     status: &mut Status,
     numbers: &mut KeptNumbers,
+    marks: bool,
     draws: bool,
 ) -> Result<Gathered, ImageFault>
     requires size { geometry.places ≡ (C.told chip.old).places }
@@ -179,7 +194,10 @@ fn read_chip<C: Chip>(
     ensures bytes { ReadsBytesFor draws geometry.places (C.told chip.old) result }
     ensures known { IfOk result (λ all. KnowsPlaces geometry.places
         (tables_of directory.new overflow.new status.new (all.greatest + 1))) }
-    ensures unclean { IfOk result (λ all. NoneIsClean
+    ensures marked { IfOk result (λ all. OfContents (C.told chip.old) (λ x.
+        CountsMarked geometry.places x
+        (tables_of directory.new overflow.new status.new (all.greatest + 1)))) }
+    ensures unmarked { IfOk result (λ all. marks ≡ false → IsUnmarked
         (tables_of directory.new overflow.new status.new (all.greatest + 1))) }
     ensures free { OnOk result (HasFree directory.new) }
     ensures left { IfOk result (λ all. draws ≡ true → all.greatest < 2 ^ 63) }
@@ -194,7 +212,8 @@ fn read_chip<C: Chip>(
     let current = &table[..winner.units(geometry) as usize];
     adopt_all(directory, current);
     let gathered = read_rest(
-        chip, geometry, heads, current, &winner, noted, directory, overflow, status, numbers, draws,
+        chip, geometry, heads, current, &winner, noted, directory, overflow, status, numbers,
+        marks, draws,
     )?;
     fill_places(directory, heads, &winner, noted);
     retire_listed(directory, &kept);
@@ -216,6 +235,7 @@ fn open<C: Chip>(
     status: &mut Status,
     counter: &mut Counter,
     numbers: &mut KeptNumbers,
+    marks: bool,
 ) -> Result<bool, ImageFault>
     requires size { geometry.places ≡ (C.told chip.old).places }
     requires heads { length heads.old ≡ geometry.places }
@@ -236,7 +256,9 @@ fn open<C: Chip>(
     ensures bytes { ReadsBytes geometry.places (C.told chip.old) result }
     ensures known { OnOk result (KnowsPlaces geometry.places
         (tables_of directory.new overflow.new status.new counter.new)) }
-    ensures unclean { OnOk result (NoneIsClean
+    ensures marked { OnOk result (OfContents (C.told chip.old) (λ x. CountsMarked geometry.places x
+        (tables_of directory.new overflow.new status.new counter.new))) }
+    ensures unmarked { OnOk result (marks ≡ false → IsUnmarked
         (tables_of directory.new overflow.new status.new counter.new)) }
     ensures free { OnOk result (HasFree directory.new) }
     ensures left { OnOk result (counter.new ≤ 2 ^ 63) }
@@ -247,7 +269,7 @@ fn open<C: Chip>(
     ensures once { ReadsOnce Anywhere (C.told chip.old) (C.told chip.new) }
 {
     match read_chip(
-        chip, geometry, heads, table, noted, directory, overflow, status, numbers, true,
+        chip, geometry, heads, table, noted, directory, overflow, status, numbers, marks, true,
     ) {
         Ok(all) => {
             *counter = Counter::at(all.greatest + 1);
@@ -294,7 +316,7 @@ fn look_over<C: Chip>(
     ensures once { ReadsOnce Anywhere (C.told chip.old) (C.told chip.new) }
 {
     match read_chip(
-        chip, geometry, heads, table, noted, directory, overflow, status, numbers, false,
+        chip, geometry, heads, table, noted, directory, overflow, status, numbers, false, false,
     ) {
         Ok(_) => Ok(()),
         Err(fault) => Err(fault),
@@ -344,9 +366,9 @@ impl Scratch {
 /// it holds, or tells the first thing that is wrong. It writes nothing and takes no memory, and each
 /// sector is read at most once. The tables then are of as many units as the chip keeps.
 ///
-/// Of a chip without a fault the directory then has the place of each unit, with no log sector known
-/// clean; the status place and the overflow places that hold live log sectors are in use too. Of the
-/// other places those are retired that the status header lists, and the others are free. Each place
+/// Of a chip without a fault the directory then has the place of each unit, and where marks count, by
+/// the close mark which log sectors there are clean; the status place and the overflow places that hold
+/// live log sectors are in use too. Of the other places those are retired that the status header lists, and the others are free. Each place
 /// counts as erased as often as its header says, once where that doesn't say it. The overflow table
 /// lists each unit's live log sectors in overflow places, and these places; the status has the
 /// committed numbers; and no sector of these places is known clean. The counter is the number after
@@ -366,6 +388,7 @@ pub fn recover<C: Chip>(
     status: &mut Status,
     counter: &mut Counter,
     numbers: &mut KeptNumbers,
+    marks: bool,
 ) -> Result<bool, ImageFault>
     requires scratch { scratch.old ≡ (C.told chip.old).places }
     requires directory { length directory.old.in_use ≡ (C.told chip.old).places }
@@ -391,15 +414,19 @@ pub fn recover<C: Chip>(
     // What it read is bytes, also where it fails since the numbers are used up.
     ensures bytes { ReadsBytes (C.told chip.old).places (C.told chip.old) result }
 
-    // Whether the chip tells its contents or not, the tables know each of its places and count no
-    // sector as clean, a place may be taken, however many of the spare ones are worn, and numbers are
-    // left.
+    // Whether the chip tells its contents or not, the tables know each of its places, a place may be
+    // taken, however many of the spare ones are worn, and numbers are left.
     ensures known { OnOk result (KnowsPlaces (C.told chip.old).places
-        (tables_of directory.new overflow.new status.new counter.new)) }
-    ensures unclean { OnOk result (NoneIsClean
         (tables_of directory.new overflow.new status.new counter.new)) }
     ensures free { OnOk result (HasFree directory.new) }
     ensures left { OnOk result (counter.new ≤ 2 ^ 63) }
+
+    // What they count as clean is marked; and where marks don't count, that is nothing and nothing is
+    // known, whatever the chip tells.
+    ensures marked { OnOk result (OfContents (C.told chip.old) (λ x. CountsMarked (C.told chip.old).places x
+        (tables_of directory.new overflow.new status.new counter.new))) }
+    ensures unmarked { OnOk result (marks ≡ false → IsUnmarked
+        (tables_of directory.new overflow.new status.new counter.new)) }
 
     // It only reads, each sector at most once, and fails with no other cause than a fault of the contents
     // or a failed read.
@@ -420,6 +447,7 @@ pub fn recover<C: Chip>(
         status,
         counter,
         numbers,
+        marks,
     )
 }
 

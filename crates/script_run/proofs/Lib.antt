@@ -7,4 +7,5 @@ mod GoesLemmas
 pub mod CauseLemmas
 pub mod AlongLemmas
 pub mod CompleteLemmas
+pub mod BehindLemmas
 pub mod EndLemmas

@@ -125,9 +125,9 @@ pub fn run_script<S: Store, D: Desk>(store: &mut S, desk: &mut D) -> Result<(), 
         (D.told desk.new) }
     ensures further { Further (D.told desk.old) (D.told desk.new) }
     ensures cause { IfErr result (λ stop. StopCause (S.keeping places) (D.told desk.old) (D.told desk.new) stop) }
-    ensures exact { IsErrOf result Stop.TooLong
-        → Grew (D.told desk.old).beside.script_bytes 4294967295 (D.told desk.new).beside.script_bytes }
-    ensures long { IsErrOf result Stop.TooLong → HasRead 4294967295 (D.told desk.old) (D.told desk.new) }
+    ensures long { IsErrOf result Stop.TooLong → HasRead 4294967295 (D.told desk.old) (D.told desk.new)
+        × Grew (D.told desk.old).beside.script_bytes 4294967295 (D.told desk.new).beside.script_bytes }
+    ensures suited { OnOk result ((S.keeping places).suits store.new) }
     ensures all { OnOk result (ReadsAll (D.told desk.old) (D.told desk.new)) }
 {
     let mut line = LineBuffer::new();

@@ -62,31 +62,38 @@ draws_found places n IsSpent a b left never = record {
 
 -- ---- what is added
 
--- an answer of the store that is done where the call was
-pub tidy_so : {T U : Type 0} (places : ℕ) (a b : ScriptStore) (old new : Told)
-    (result : Result T StoreFault) (answer : Result U Fault) → is_ok result ≡ is_ok answer
+-- an answer that is done where the call was
+pub tidy_answered : {T U : Type 0} (E : Type 0) (places : ℕ) (a b : ScriptStore) (old new : Told)
+    (result : Result T E) (answer : Result U Fault) → is_ok result ≡ is_ok answer
     → Tidies (tables_in a.store.transactions.pages) result (tables_in b.store.transactions.pages) old new
     → LeavesTidy (script_keeping places) a b old new (is_ok answer)
-tidy_so places a b old new (Ok v) (Ok w) same did = record {
+tidy_answered E places a b old new (Ok v) (Ok w) same did = record {
   added = did.added;
   history = did.history;
   lawful = did.does.lawful;
   clean = λ done. record { clean = λ base is clean. did.does.clean tt base clean };
 }
-tidy_so places a b old new (Err e) (Err f) same did = record {
+tidy_answered E places a b old new (Err e) (Err f) same did = record {
   added = did.added;
   history = did.history;
   lawful = did.does.lawful;
   clean = λ done. absurd (false≢true done);
 }
-tidy_so places a b old new (Ok v) (Err f) same did = absurd (true≢false same)
-tidy_so places a b old new (Err e) (Ok w) same did = absurd (false≢true same)
+tidy_answered E places a b old new (Ok v) (Err f) same did = absurd (true≢false same)
+tidy_answered E places a b old new (Err e) (Ok w) same did = absurd (false≢true same)
+
+-- of a call of the store
+pub tidy_so : {T U : Type 0} (places : ℕ) (a b : ScriptStore) (old new : Told)
+    (result : Result T StoreFault) (answer : Result U Fault) → is_ok result ≡ is_ok answer
+    → Tidies (tables_in a.store.transactions.pages) result (tables_in b.store.transactions.pages) old new
+    → LeavesTidy (script_keeping places) a b old new (is_ok answer)
+tidy_so places a b old new result answer same did = tidy_answered StoreFault places a b old new result answer same did
 
 -- ---- work, and looking up
 
 module _ (places : ℕ) (a b : ScriptStore) (old new : Told) (up : a.store.down ≡ false)
     (units : b.store.units ≡ a.store.units) where
-  abbrev leaves_so : (P : Contents → Type 0) (h : History) (done : Bool)
+  abbrev pub leaves_so : (P : Contents → Type 0) (h : History) (done : Bool)
       → WorkLeaves (store_keeping places) P (view_of a.store) h (view_of b.store) old new done
       → WorkLeaves (script_keeping places) P a h b old new done
   leaves_so P h done leaves = record {

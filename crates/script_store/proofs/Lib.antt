@@ -6,3 +6,9 @@ pub mod PutLemmas
 pub mod SeeLemmas
 pub mod RestartLemmas
 pub mod DoneLemmas
+pub mod PartLemmas
+pub mod ClosedLemmas
+pub mod AbortLemmas
+pub mod MarkLemmas
+pub mod ShutLemmas
+pub mod CloseLemmas

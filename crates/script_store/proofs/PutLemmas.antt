@@ -2,7 +2,7 @@
 -- failed.
 use Rattle.std.proofs.Common.{ℕ, ◌≡◌, ◌≢◌, ◌≤◌, ◌+◌, arith, Bool, true, false, List, None, Result, Ok, Err, refl, ap, subst}
 use Rattle.chip_trait.specs.Told.{Told, Counts}
-use Rattle.ipl_base.specs.declared.fault.Refusal.TheVariants.{BadSession, BadName, TooLong, AlreadyOpen, NotOpen, Conflict, WritesFull, SharesFull, PendingFull, BadUnit, HoldsFull, NotHeld, PageFull, Twice}
+use Rattle.ipl_base.specs.declared.fault.Refusal.TheVariants.{BadSession, BadName, TooLong, AlreadyOpen, NotOpen, Conflict, WritesFull, SharesFull, PendingFull, BadUnit, HoldsFull, NotHeld, PageFull, Twice, SessionsOpen}
 use Rattle.ipl_base.specs.declared.fault.StoreFault.{StoreFault}
 use Rattle.ipl_base.specs.declared.fault.StoreFault.TheVariants as store
 use Rattle.ipl_model.specs.declared.command.Command.{Command}
@@ -53,6 +53,7 @@ replies_alike (Err (store.Refused HoldsFull)) = refl
 replies_alike (Err (store.Refused NotHeld)) = refl
 replies_alike (Err (store.Refused PageFull)) = refl
 replies_alike (Err (store.Refused (Twice s))) = refl
+replies_alike (Err (store.Refused (SessionsOpen s))) = refl
 
 -- ---- the work
 

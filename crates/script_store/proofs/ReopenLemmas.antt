@@ -1,5 +1,5 @@
 -- What openings of the chip leave of worn places, as a run knows of them.
-use Rattle.std.proofs.Common.{ℕ, ◌≡◌, inl, true, ◌||◌, [], ◌++◌, List, length, Option, Some, Result, Ok, Err, is_ok, refl, sym, ◌∙◌, ap, subst}
+use Rattle.std.proofs.Common.{ℕ, ◌≡◌, inl, Bool, false, true, ◌||◌, [], ◌++◌, List, length, Option, Some, Result, Ok, Err, is_ok, refl, sym, ◌∙◌, ap, subst}
 use Rattle.std.specs.FinMap.{empty}
 use Rattle.std.specs.List.{Contains}
 use Rattle.std.specs.Option.{unwrap_or}
@@ -7,7 +7,6 @@ use Rattle.std.proofs.lemmas.Option.{same_Some}
 use Rattle.chip_trait.specs.Story.{Story, Contents}
 use Rattle.chip_trait.specs.Told.{History, Told, adds_all}
 use Rattle.ipl_base.specs.declared.fault.ChipFault.{ChipFault}
-use Rattle.ipl_base.specs.declared.fault.ChipFault.TheVariants.{WornOut}
 use Rattle.ipl_base.specs.declared.fault.ImageFault.{ImageFault}
 use Rattle.ipl_base.specs.declared.fault.ImageFault.TheVariants as image
 use Rattle.ipl_rules.specs.State.{at_rest}
@@ -64,11 +63,11 @@ listed_is_retired t y (head, here, lists) p (other, there, has) =
 -- ---- what an opening finds
 
 -- It finds retired what the status header lists, and finds others worn.
-module _ (places : ℕ) (c : Chart) (earlier : Story) (old new : Told) (x : Contents)
+module _ {marks : Bool} (places : ℕ) (c : Chart) (earlier : Story) (old new : Told) (x : Contents)
     (told : old.contents ≡ Some x) (result : Result (Unit {0}) ImageFault) (t : Tables)
     (listed : (p : ℕ) → Contains (retired_at (chart_of x) old.places) p
     → IsKnownWorn places c earlier p)
-    (costs : ErasesOpening old.places result t.places old new)
+    (costs : ErasesOpening marks old.places result t.places old new)
     (ended : (is_ok result || ends_worn_out result) ≡ true) where
   found_known : (p : ℕ) → Contains costs.found.retired p → IsKnownWorn places c earlier p
   found_known p has = listed p ((costs.finds ended x told p).0 has).0
@@ -88,14 +87,14 @@ module _ (places : ℕ) (c : Chart) (earlier : Story) (old new : Told) (x : Cont
 -- ---- a chip that was opened
 
 -- so much is known then of what was known before
-module _ (places : ℕ) (first : Contents) (h : History) (earlier : Story)
+module _ {marks : Bool} (places : ℕ) (first : Contents) (h : History) (earlier : Story)
     (old new : Told) (x : Contents) (told : old.contents ≡ Some x)
     (history : old.history ≡ Some (adds_all earlier h)) (places_are : old.places ≡ places)
     (units : units_at (chart_of x) old.places ≡ units_at (chart_of first) places)
     (listed : (p : ℕ) → Contains (retired_at (chart_of x) old.places) p
     → IsKnownWorn places (chart_of first) earlier p) where
   opened_knows : (b : ScriptStore) → Opens old.places old b.store new
-      → Tries old.places old (Ok tt) (tables_in b.store.transactions.pages) new
+      → Tries marks old.places old (Ok tt) (tables_in b.store.transactions.pages) new
       → KnowsSince places first h b.store new
   opened_knows b opens tries =
       let t = tables_in b.store.transactions.pages in
@@ -118,7 +117,7 @@ module _ (places : ℕ) (first : Contents) (h : History) (earlier : Story)
       }
 
   -- or wasn't, since too many places are worn
-  opened_worn : (e : ImageFault) (t : Tables) → Tries old.places old (Err e) t new
+  opened_worn : (e : ImageFault) (t : Tables) → Tries marks old.places old (Err e) t new
       → ends_worn_out (Err e) ≡ true
       → (added : Story) × (new.history ≡ Some (adds_all added h))
       × TooManyAreWorn places (chart_of first) added
@@ -143,22 +142,22 @@ image_wears entry (image.NoSpare n) after worn = tt
 
 -- ---- the first opening of a run
 
-module _ (old new : Told) where
-  -- what the status header lists is known from the start
-  at_entry : (x : Contents) (p : ℕ) → Contains (retired_at (chart_of x) old.places) p
-      → IsKnownWorn old.places (chart_of x) [] p
-  at_entry x p has = inl has
+-- what the status header lists is known from the start
+at_entry : (places : ℕ) (x : Contents) (p : ℕ) → Contains (retired_at (chart_of x) places) p
+    → IsKnownWorn places (chart_of x) [] p
+at_entry places x p has = inl has
 
+module _ {marks : Bool} (old new : Told) where
   pub opening_knows : (b : ScriptStore) → Opens old.places old b.store new
-      → Tries old.places old (Ok tt) (tables_in b.store.transactions.pages) new
+      → Tries marks old.places old (Ok tt) (tables_in b.store.transactions.pages) new
       → KnowsWorn old b new
-  opening_knows b opens tries x h told history =
-      opened_knows old.places x h [] old new x told history refl refl (at_entry x) b opens tries
+  opening_knows b opens tries up x h told history =
+      opened_knows old.places x h [] old new x told history refl refl (at_entry old.places x) b opens tries
 
-  pub opening_wears : (e : ImageFault) (t : Tables) → Tries old.places old (Err e) t new
+  pub opening_wears : (e : ImageFault) (t : Tables) → Tries marks old.places old (Err e) t new
       → ImageWears old e new
   opening_wears e t tries = image_wears old e new (λ worn x h told history.
-      opened_worn old.places x h [] old new x told history refl refl (at_entry x) e t tries worn)
+      opened_worn old.places x h [] old new x told history refl refl (at_entry old.places x) e t tries worn)
 
 -- ---- a restart
 
@@ -167,7 +166,7 @@ module _ (a b : ScriptStore) (before after : Told) (runs : IsRunning before.plac
   module _ (x : Contents) (h : History) (told : entry.contents ≡ Some x)
       (history : entry.history ≡ Some h) where
     since : KnowsSince entry.places x h a.store before
-    since = knows x h told history
+    since = knows runs.up x h told history
 
     abbrev first : Tables
     first = tables_in a.store.transactions.pages
@@ -186,12 +185,12 @@ module _ (a b : ScriptStore) (before after : Told) (runs : IsRunning before.plac
         (subst (λ (n : ℕ). Contains (retired_at (chart_of since.contents) n) p) since.places_are has))
 
     restart_knows : Opens before.places before b.store after
-        → Tries before.places before (Ok tt) (tables_in b.store.transactions.pages) after
+        → Tries false before.places before (Ok tt) (tables_in b.store.transactions.pages) after
         → KnowsSince entry.places x h b.store after
     restart_knows = opened_knows entry.places x h since.added before after since.contents since.told
         since.history since.places_are as_many listed b
 
-    restart_worn : (e : ImageFault) (t : Tables) → Tries before.places before (Err e) t after
+    restart_worn : (e : ImageFault) (t : Tables) → Tries false before.places before (Err e) t after
         → ends_worn_out (Err e) ≡ true
         → (added : Story) × (after.history ≡ Some (adds_all added h))
         × TooManyAreWorn entry.places (chart_of x) added
@@ -199,11 +198,11 @@ module _ (a b : ScriptStore) (before after : Told) (runs : IsRunning before.plac
         since.history since.places_are as_many listed
 
   pub restart_learns_done : Opens before.places before b.store after
-      → Tries before.places before (Ok tt) (tables_in b.store.transactions.pages) after
+      → Tries false before.places before (Ok tt) (tables_in b.store.transactions.pages) after
       → KnowsWorn entry b after
-  restart_learns_done opens tries x h told history = restart_knows x h told history opens tries
+  restart_learns_done opens tries up x h told history = restart_knows x h told history opens tries
 
   pub restart_learns_failed : (e : ImageFault) (t : Tables)
-      → Tries before.places before (Err e) t after → FaultWears entry (Image e) after
+      → Tries false before.places before (Err e) t after → FaultWears entry (Image e) after
   restart_learns_failed e t tries = image_wears entry e after
       (λ worn x h told history. restart_worn x h told history e t tries worn)

@@ -1,6 +1,7 @@
 -- A chip that is opened again is the work of a restart.
 use Rattle.std.proofs.Common.{ℕ, ◌≡◌, ◌⊎◌, inl, inr, ◌≤◌, ◌<◌, ◌+◌, ◌^◌, arith, Bool, true, false, [], None, Some, Result, Ok, Err, OnOk, length, if◌then◌else◌, refl, sym, ◌∙◌, ap, subst}
-use Rattle.chip_trait.specs.Story.{Contents, held}
+use Rattle.chip_trait.specs.Lawful.{AreClean}
+use Rattle.chip_trait.specs.Story.{Story, Contents, held}
 use Rattle.chip_trait.specs.Told.{History, Told}
 use Rattle.ipl_base.specs.declared.fault.ChipFault.TheVariants.{ReadFault, Stopped, Damaged, Malformed, WornOut}
 use Rattle.ipl_base.specs.Places.{KeepsUnits, spares_on}
@@ -243,7 +244,7 @@ module _ (a b : ScriptStore) (before after : Told) (runs : IsRunning before.plac
       shown.fits.mirrors.laid ∙ shown.count
 
   opened_does : Opens before.places before b.store after
-      → Tries before.places before (Ok tt) t after
+      → Tries false before.places before (Ok tt) t after
       → Restarts (memory_of_store a.store) before (memory_of_store b.store) after
       → Does command.Restart a before (Ok reply.Ok) b after
   opened_does opens tries leads = record {
@@ -257,15 +258,13 @@ module _ (a b : ScriptStore) (before after : Told) (runs : IsRunning before.plac
         first.memory last.memory (Ok tt) (Ok reply.Ok) before after refl leads)
         (λ h state keeps. refl) few tt) limits state h keeps;
     tidy = record {
-      added = tries.tidy.added;
-      history = tries.tidy.history;
+      added = tries.tidy.tidies.added;
+      history = tries.tidy.tidies.history;
       lawful = record {
-        lawful = λ base is clean.
-            tries.tidy.does.lawful.lawful base is (λ p s nowhere. absurd nowhere);
+        lawful = λ base is clean. tries.tidy.tidies.does.lawful.lawful base is (took_none base);
       };
       clean = λ done. record {
-        clean = λ base is clean.
-            tries.tidy.does.clean refl base (λ p s nowhere. absurd nowhere);
+        clean = λ base is clean. tries.tidy.tidies.does.clean refl base (took_none base);
       };
     };
     draws = draws_found before.places WORK_DRAWS _ a b found (λ spent. absurd (cc spent));
@@ -276,6 +275,9 @@ module _ (a b : ScriptStore) (before after : Told) (runs : IsRunning before.plac
     cause = tt;
   }
     where
+      took_none : (base : Story) → AreClean (IsCountedClean tries.tidy.first) base
+      took_none base p s counted = absurd (tries.tidy.takes.none refl p s counted)
+
       found : next_number b ≤ FOUND_NUMBER
       found = let left = opens.left in let most = counted_few b in omega (arith, left, most)
 
@@ -289,7 +291,7 @@ module _ (a b : ScriptStore) (before after : Told) (runs : IsRunning before.plac
           let number = opens.number x told in omega (arith, below, number)
 
   failed_does : (e : ImageFault) → b.store.down ≡ true → b.store.units ≡ a.store.units
-      → Tries before.places before (Err e) t after → Does command.Restart a before (Err (Image e)) b after
+      → Tries false before.places before (Err e) t after → Does command.Restart a before (Err (Image e)) b after
   failed_does e down units tries = record {
     works = works_down a b before after runs.up units down (Image e)
         (faults_that_leave_down command.Restart first
@@ -298,11 +300,11 @@ module _ (a b : ScriptStore) (before after : Told) (runs : IsRunning before.plac
         (λ h it state steady story. preserved state.map h steady story.rests)
         (omega arith) excused);
     tidy = record {
-      added = tries.tidy.added;
-      history = tries.tidy.history;
+      added = tries.tidy.tidies.added;
+      history = tries.tidy.tidies.history;
       lawful = record {
-        lawful = λ base is clean.
-            tries.tidy.does.lawful.lawful base is (λ p s nowhere. absurd nowhere);
+        lawful = λ base is clean. tries.tidy.tidies.does.lawful.lawful base is
+            (λ p s counted. absurd (tries.tidy.takes.none refl p s counted));
       };
       clean = λ done. absurd (cc done);
     };
@@ -323,15 +325,17 @@ module _ (a b : ScriptStore) (before after : Told) (runs : IsRunning before.plac
           → Preserves {T = Reply} before.places m first.memory.tables
           (none_clean (counter_of a.store)) h (Err (Image e)) before after
       preserved m h steady rests =
-          let did = tries.steps m h steady rests in record {
+          let (took, takes, did) = tries.steps m h steady rests in record {
             added = did.added;
+            places = did.places;
             history = did.history;
             each_moment = did.each_moment;
+            marks = did.marks;
             does = record {
               silent = did.does.silent;
               lawful = record {
-                lawful = λ base is clean.
-                    did.does.lawful.lawful base is (λ p s nowhere. absurd nowhere);
+                lawful = λ base is clean. did.does.lawful.lawful base is
+                    (λ p s counted. absurd (takes.none refl p s counted));
               };
               clean = λ done base clean p s counted.
                   absurd (none_counted (counter_of a.store) p s counted);
@@ -382,7 +386,7 @@ module _ (a b : ScriptStore) (before after : Told) (runs : IsRunning before.plac
   -- a restart
   pub restart_does : (result : Result (Unit {0}) ImageFault)
       → Reopens before.places a.store before result b.store after
-      → Tries before.places before result t after
+      → Tries false before.places before result t after
       → OnOk result (Restarts (memory_of_store a.store) before (memory_of_store b.store) after)
       → Does command.Restart a before (restarted result) b after
   restart_does (Ok v) opens tries leads = opened_does opens tries leads

@@ -170,7 +170,7 @@ both_are x state replies state_is is =
 -- ---- the store as it was
 
 module _ (c : Command) (a : ScriptStore) (told : Told) (runs : IsRunning told.places a) where
-  spent_does : LAST_NUMBER < counter_of a.store → Does c a told (Err Spent) a told
+  pub spent_does : LAST_NUMBER < counter_of a.store → Does c a told (Err Spent) a told
   spent_does late = record {
     works = works_so told.places a a told told runs.up refl c (Err Spent)
         (idle_faults_are_work c (view_of a.store) told late);
@@ -422,7 +422,7 @@ module _ {T : Type 0} (say : T → Reply) (c : Command) (refusal : Option Refusa
     (replies : IfOk result (λ found. (state : State)
     → OfContents before (λ x. ShowsState before.places (view_of a.store) state x
     → (accepted state c).1 ≡ say found ∷ []))) where
-  by_call : (entry : Option StoreFault) → IsEntry a entry
+  pub by_call : (entry : Option StoreFault) → IsEntry a entry
       → Calls (early_fault entry refusal) next most a.store before result b.store after
       → Does c a before (answer_of say result) b after
   by_call entry is calls =

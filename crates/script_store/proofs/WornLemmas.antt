@@ -1,5 +1,5 @@
 -- What calls of the store leave of worn places, as a run knows of them.
-use Rattle.std.proofs.Common.{ℕ, ◌≡◌, ◌⊎◌, inl, inr, ◌<◌, ◌+◌, arith, Bool, true, false, List, ◌∷◌, ◌++◌, length, get_or, Option, None, Some, Result, Ok, Err, MatchResult, is_ok, refl, sym, ◌∙◌, ap, subst}
+use Rattle.std.proofs.Common.{ℕ, ◌≡◌, inl, inr, arith, Bool, true, false, List, ◌∷◌, ◌++◌, length, get_or, Option, None, Some, Result, Ok, Err, MatchResult, is_ok, refl, sym, ◌∙◌, ap, subst}
 use Rattle.std.specs.List.{Contains}
 use Rattle.std.proofs.lemmas.List.Elements.{All-cons, All-contains_itself}
 use Rattle.std.proofs.lemmas.Option.{same_Some}
@@ -16,11 +16,10 @@ use Rattle.ipl_meaning.specs.Chart.{Chart, chart_of}
 use Rattle.ipl_meaning.specs.Tables.{Places, Tables}
 use Rattle.opening_rules.specs.Chosen.{units_at}
 use Rattle.unit_directory.specs.Free.{spares_of}
-use Rattle.place_taking.specs.Spending.{RetiresWorn, tells_worn}
+use Rattle.place_taking.specs.Spending.{RetiresWorn}
 use Rattle.place_taking.specs.Wear.{IsListed, Wears}
 use Rattle.place_taking.proofs.SpendingLemmas.{found_later}
 use Rattle.page_frames.specs.Pages.{tables_in}
-use Rattle.store_trait.specs.declared.fault.Fault.{Fault}
 use Rattle.store_trait.specs.Keeping.{Learns}
 use Rattle.ipl_store.specs.declared.store.Store.{Store}
 use Rattle.ipl_store.specs.Calls.{IsSound, Serves, Calls, ends_worn_out}
@@ -156,7 +155,7 @@ module _ (a b : ScriptStore) (before after entry : Told) (runs : IsRunning befor
     chip_learns e is counted = chip_wears entry e after (λ n worn x h told history.
         let fault : result ≡ Err (store.Chip (WornOut n)) =
         is ∙ ap (λ (f : ChipFault). chip_err f) worn in
-        fails_worn a b before after entry x h units (knows x h told history)
+        fails_worn a b before after entry x h units (knows runs.up x h told history)
         (subst (λ (r : Result T StoreFault). Wears (tables_in a.store.transactions.pages)
         (tables_in b.store.transactions.pages) (is_ok r) (ends_worn_out r) before after) fault wears)
         sound counted)
@@ -171,8 +170,8 @@ module _ (a b : ScriptStore) (before after entry : Told) (runs : IsRunning befor
       where
         by_result : (r : Result T StoreFault) → result ≡ r
             → Serves next most a.store before r b.store after → CallLearns entry r b after
-        by_result (Ok v) is did = λ x h told history.
-            done_knows a b before after entry x h units (knows x h told history) v next most did
+        by_result (Ok v) is did = λ up x h told history.
+            done_knows a b before after entry x h units (knows runs.up x h told history) v next most did
             (subst (λ (r : Result T StoreFault). Wears (tables_in a.store.transactions.pages)
             (tables_in b.store.transactions.pages) (is_ok r) (ends_worn_out r) before after) is wears)
             counts

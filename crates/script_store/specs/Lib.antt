@@ -1,3 +1,4 @@
 pub mod Worn
 pub mod Keeps
 pub mod Done
+pub mod Closes

@@ -1,5 +1,5 @@
 -- Which places are known to be worn since an entry, by what the chip told then and tells now.
-use Rattle.std.specs.Prelude.{ℕ, ◌≡◌, ◌⊎◌, ◌<◌, true, List, ◌++◌, length, Some, All, AllPairs, Contains}
+use Rattle.std.specs.Prelude.{ℕ, ◌≡◌, ◌⊎◌, ◌<◌, true, false, List, ◌++◌, length, Some, All, AllPairs, Contains}
 use Rattle.std.specs.Option.{option_map}
 use Rattle.std.proofs.Common.{inl, inr, ◌∙◌, ap}
 use Rattle.chip_trait.specs.Story.{Story, Contents}
@@ -65,9 +65,9 @@ pub record KnowsSince (places : ℕ) (x : Contents) (h : History) (store : Store
   pub listed : (p : ℕ) → IsListed (tables_in store.transactions.pages) (chart_of contents) p
       → IsKnownWorn places (chart_of x) added p
 
--- where the chip told contents and a history at the entry
+-- Where the chip told contents and a history at the entry, and the store isn't down: one that is takes no place any more.
 abbrev pub KnowsWorn : Told → ScriptStore → Told → Type 0
-KnowsWorn entry s t = (x : Contents) (h : History) → entry.contents ≡ Some x → entry.history ≡ Some h
+KnowsWorn entry s t = s.store.down ≡ false → (x : Contents) (h : History) → entry.contents ≡ Some x → entry.history ≡ Some h
     → KnowsSince entry.places x h s.store t
 
 -- ---- what is said and what is read of a script
@@ -88,8 +88,8 @@ known_longer places c later added p (inr found) = inr (found_earlier later added
 -- also over what is said and what is read
 pub worn_still : (entry : Told) (s : ScriptStore) (old new : Told) → Still old new
     → KnowsWorn entry s old → KnowsWorn entry s new
-worn_still entry s old new still knows x h holds history =
-    let since = knows x h holds history in
+worn_still entry s old new still knows up x h holds history =
+    let since = knows up x h holds history in
     let more = sayings still.pieces in record {
       added = more ++ since.added;
       history = history_longer more since.added h old new since.history still.history;

@@ -92,7 +92,7 @@ impl ScriptStore {
         // Done, the place that the status has was erased.
         ensures done { OnOk result (HasNewStatus self.new (C.told chip.old) (C.told chip.new)) }
     {
-        match self.store.open_chip(chip) {
+        match self.store.open_chip(chip, false) {
             Ok(()) => Ok(Reply::Ok),
             Err(fault) => Err(Fault::Image(fault)),
         }

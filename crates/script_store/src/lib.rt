@@ -8,10 +8,13 @@
 //! script uses it are the work of their commands, as the store's trait has it: wherever the power
 //! is cut, the chip stands for the records before the command or after it; done, the store keeps
 //! the model's next state, and the reply is the model's; few numbers are drawn, and a fault has its
-//! excuse and its cause. So is looking a committed record up.
+//! excuse and its cause. So is looking a committed record up. A clean close aborts all sessions, and is
+//! work behind the script that says nothing: the chip stands for the same records, and done, its last two
+//! events are the program of a mark and a barrier.
 #![tactic(auto)]
 
 mod changing;
+mod closing;
 mod replies;
 mod seeing;
 mod store;

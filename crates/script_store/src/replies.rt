@@ -1,9 +1,11 @@
 //! The answer of a call of the store as a reply.
 ghost use Rattle.std.specs.Prelude.{◌≡◌, ◌≢◌, ◌≤◌, Err, IfSome, length, option_map};
 ghost use Rattle.ipl_base.specs.declared.limits.TheConstants.{VALUE_LEN};
-ghost use Rattle.ipl_base.specs.declared.fault.StoreFault.TheVariants.{Down};
+ghost use Rattle.ipl_base.specs.declared.fault.Refusal.{Refusal};
+ghost use Rattle.ipl_base.specs.declared.fault.StoreFault.TheVariants.{Down, Refused};
 ghost use Rattle.ipl_model.specs.Step.{found_reply};
 ghost use Rattle.script_store.specs.Keeps.{ended, answer_of, reply_of, looked_up};
+ghost use Rattle.script_store.specs.Closes.{closed};
 
 use ipl_base::{StoreFault, Value};
 use ipl_model::Reply;
@@ -73,6 +75,21 @@ pub(crate) fn looked_up(found: Result<Option<Value>, StoreFault>) -> Result<Opti
     match found {
         Ok(found) => Ok(found),
         Err(StoreFault::Refused(_)) => Ok(None),
+        Err(StoreFault::Chip(fault)) => Err(Fault::Chip(fault)),
+        Err(StoreFault::Spent) => Err(Fault::Spent),
+        Err(StoreFault::Down) => unreachable!("the store isn't down"),
+    }
+}
+
+/// The answer of a close, where no session was open.
+pub(crate) fn closed(done: Result<(), StoreFault>) -> Result<(), Fault>
+    requires up { done ≢ Err Down }
+    requires free { (refusal : Refusal) → done ≢ Err (Refused refusal) }
+    ensures { result ≡ closed done }
+{
+    match done {
+        Ok(()) => Ok(()),
+        Err(StoreFault::Refused(_)) => unreachable!("no session is open"),
         Err(StoreFault::Chip(fault)) => Err(Fault::Chip(fault)),
         Err(StoreFault::Spent) => Err(Fault::Spent),
         Err(StoreFault::Down) => unreachable!("the store isn't down"),

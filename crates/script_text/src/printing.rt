@@ -38,6 +38,10 @@ fn push_refusal(refusal: Refusal, out: &mut TextLine)
             out.push(b"15 twice ");
             out.push_number(s);
         }
+        Refusal::SessionsOpen(s) => {
+            out.push(b"16 sessionsopen ");
+            out.push_number(s);
+        }
     }
 }
 

@@ -89,7 +89,7 @@ pub(crate) fn is_formed(bytes: &[u8; 512]) -> bool
     let used = used_length(bytes);
     is_marked(bytes)
         && bytes[4] >= 1
-        && bytes[4] <= 6
+        && bytes[4] <= 7
         && (bytes[5] >= 1 && bytes[5] <= VERSION)
         && used <= PAYLOAD_LEN
         && is_zero_from(bytes, 32 + used)

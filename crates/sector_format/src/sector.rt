@@ -7,7 +7,7 @@ use ipl_base::VERSION;
 /// The numbers of a sector's head. The table is in docs/FORMAT.md, "The sector".
 #[derive(Clone, Copy, Debug, PartialEq, Eq)]
 pub struct Head {
-    /// One of the six kinds that are named below.
+    /// One of the seven kinds that are named below.
     pub kind: u8,
     /// The version of the format by which its payload is read, from 1 to `VERSION`.
     pub version: u8,
@@ -38,10 +38,13 @@ impl Head {
 
     /// Numbers of committed transactions.
     pub const COMMIT: u8 = 6;
+
+    /// The units of which a clean close knew the unused log sectors.
+    pub const MARK: u8 = 7;
 }
 
 impl Head {
-    /// The head of a sector that is written now, of one of the six kinds.
+    /// The head of a sector that is written now, of one of the seven kinds.
     pub fn written(kind: u8, unit: u32, generation: u64, serial: u64) -> Head
         ensures { result ≡ written_head kind unit generation serial }
     {

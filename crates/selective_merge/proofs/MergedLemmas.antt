@@ -21,8 +21,10 @@ use Rattle.ipl_meaning.specs.Rests.{now}
 use Rattle.ipl_meaning.specs.Steps.{KeepsPages}
 use Rattle.ipl_meaning.specs.Tables.{Places, IsFree, with_use, with_erased, OverflowLists, Status, Tables, IsCountedClean}
 use Rattle.ipl_meaning.specs.TableSteps.{IsMoved, taken, with_next}
+use Rattle.ipl_meaning.proofs.CarriedLemmas.{tidy_is_carried}
 use Rattle.ipl_meaning.proofs.IdleFollowLemmas.{counts_are_free, tables_follow_idle_places}
 use Rattle.ipl_meaning.proofs.IdleLemmas.{idle_places_do_not_count}
+use Rattle.ipl_meaning.proofs.KnownLogLemmas.{counted_few}
 use Rattle.ipl_meaning.proofs.MirrorLemmas.{free_places_are_idle}
 use Rattle.unit_directory.specs.Free.{AreNext, aside}
 use Rattle.unit_directory.proofs.AsideLemmas.{next_places_are_aside}
@@ -59,7 +61,7 @@ module _ (t after : Tables) (u p used g : ℕ)
         ap (λ (l : List ℕ). slice_index l v) moved.written
         ∙ (ap (λ (k : ℕ). slice_index (slice_set t.places.written u used) k) same
         ∙ get_or-set_same t.places.written u used 0 logs) in
-        inr (at, omega (arith, first, count))
+        inr (at, rw (count, counted_few used moved.few) at first)
     | inr other ↦
         let home : q ≡ slice_index t.places.current v =
         is ∙ (ap (λ (l : List ℕ). slice_index l v) moved.current
@@ -78,7 +80,7 @@ module _ (t after : Tables) (u p used g : ℕ)
               length-set t.places.current u p,
             ),
             home,
-            omega (arith, first, count),
+            rw count at first,
           ),
         )
   ]
@@ -259,8 +261,10 @@ module _ (places : ℕ) (m : Map) (it : Layout) (t : Tables) (worn : List ℕ) (
       → StepsMerging {T = Unit {0}} places m it t u after h (Ok tt) old new
   merged_steps after low used moved tells more did = record {
     added = did.added;
+    places = did.places;
     history = did.history;
     each_moment = did.each_moment;
+    marks = did.marks;
     does = record {
       silent = did.does.spares.silent;
       lawful = record { lawful = λ base is clean. did.does.spares.lawful base is };
@@ -272,7 +276,7 @@ module _ (places : ℕ) (m : Map) (it : Layout) (t : Tables) (worn : List ℕ) (
       unit = merged_before places it t worn u after (now h) (now (adds_all did.added h)) in_turn
           (merged_there places it between u p g serial n after (now h) (now (adds_all did.added h))
           used moved tells more (did.ends tt).1);
-      tidy = clean h.story here.agrees.tidy;
+      tidy = tidy_is_carried places h it t after did.added here.agrees clean;
     };
   }
     where
@@ -296,8 +300,10 @@ module _ (places : ℕ) (m : Map) (it : Layout) (t : Tables) (worn : List ℕ) (
       → StepsMerging {T = Unit {0}} places m it t u after h (Err f) old new
   merge_failed after erases next e f is sized more did = record {
     added = did.added;
+    places = did.places;
     history = did.history;
     each_moment = did.each_moment;
+    marks = did.marks;
     does = record {
       silent = did.does.spares.silent;
       lawful = record { lawful = λ base is clean. did.does.spares.lawful base is };
@@ -310,7 +316,7 @@ module _ (places : ℕ) (m : Map) (it : Layout) (t : Tables) (worn : List ℕ) (
           agrees = record {
             mirrors = (stays_mirrored places (now h) (now (adds_all did.added h)) it between after erases
                 p next free is sized more ends.1 mirrors).0;
-            tidy = clean h.story here.agrees.tidy;
+            tidy = tidy_is_carried places h it t after did.added here.agrees clean;
           };
         };
   }

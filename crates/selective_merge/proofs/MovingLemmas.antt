@@ -153,12 +153,13 @@ module _ (drops : DropsMove) (t after : Tables) (u p generation used : ℕ) (one
       (subst (λ (l : List ℕ). Contains l q) is.left_is has) in (there.0, rw is.dropped there.1)
 
   -- the tables once the unit moved
-  pub is_moved : AllPairs AreApart (overflow_places t) → IsMoved t after u p used
-  is_moved apart =
+  pub is_moved : used ≤ 15 → AllPairs AreApart (overflow_places t) → IsMoved t after u p used
+  is_moved few apart =
       let moves = drops t.overflow u in record {
         current = current_is;
         written = is.second.written ∙ is.first.written
             ∙ ap (λ (x : Places). x.written) is.home;
+        few = few;
         all = is.second.all ∙ is.first.all ∙ ap (λ (x : Places). length x.in_use) is.home
             ∙ length-set t.places.in_use (slice_index t.places.current u) false;
         erases = is.second.erases ∙ is.first.erases ∙ ap (λ (x : Places). x.erases) is.home;
@@ -269,6 +270,7 @@ pub moved_from : (t after : Tables) (u p used low high : ℕ) → low ≤ high
 moved_from t after u p used low high less moved = record {
   current = moved.current;
   written = moved.written;
+  few = moved.few;
   all = moved.all;
   erases = moved.erases;
   retired = moved.retired;

@@ -17,14 +17,17 @@ use Rattle.ipl_rules.specs.State.{Map}
 use Rattle.ipl_meaning.specs.Chart.{Chart, chart_of}
 use Rattle.ipl_meaning.specs.Found.{MentionsBelow}
 use Rattle.ipl_meaning.specs.Layout.{Layout, Laid}
+use Rattle.ipl_meaning.specs.Marks.{MarksNoMore}
 use Rattle.ipl_meaning.specs.Mirrors.{Mirrors}
 use Rattle.ipl_meaning.specs.Rests.{now, EachStands, EachStandsEither, WornAreIdle, StoryRests}
 use Rattle.ipl_meaning.specs.Stands.{StandsBeside}
 use Rattle.ipl_meaning.specs.Steps.{KeepsPages}
 use Rattle.ipl_meaning.specs.Tables.{Places, OverflowLists, IsFree, Tables, IsCountedClean}
 use Rattle.ipl_meaning.specs.TableSteps.{taken, with_overflow}
+use Rattle.ipl_meaning.proofs.CarriedLemmas.{tidy_is_carried}
 use Rattle.ipl_meaning.proofs.IdleFollowLemmas.{tables_follow_idle_places, places_may_be_taken}
 use Rattle.ipl_meaning.proofs.IdleLemmas.{idle_places_do_not_count}
+use Rattle.ipl_meaning.proofs.MarkLemmas.{overflows_mark_no_more}
 use Rattle.ipl_meaning.proofs.MirrorLemmas.{free_places_are_idle, overflow_headers_may_go}
 use Rattle.ipl_meaning.proofs.OverflowFollowLemmas.{tables_follow_overflows}
 use Rattle.ipl_meaning.proofs.StandsLemmas.{stands_after_overflows}
@@ -119,6 +122,7 @@ HeaderSays places p head old result new = (m n : Map) (h : History) → IsSteady
     → StoryRests places m h → age h.story p 0 ≡ Clean
     → StandsBeside places (now h) (with_sector (now h) p 0 head) n
     → WornAreIdle places h.story (with_sector (now h) p 0 head)
+    → MarksNoMore places (now h) (with_sector (now h) p 0 head) p
     → SwitchesMap places m n (Programs p (IsSpot 0)) (λ done. Gains p 0 head) h old result new
 
 pub place_opened : (places p units erases g : ℕ) (head : Sector) (old new : Told)
@@ -137,7 +141,8 @@ place_opened places p units erases g head old new result is seal m it h steady r
     (λ k either. either_is_kept places m k either) (λ done a does. does)
     (λ done k both. (both.0, opened_by p units erases g (now h) (now k) head is both.1))
     (seal m m h steady rests (clean 0)
-    (stands_after_overflows places (now h) it m p head laid says may) worn)
+    (stands_after_overflows places (now h) it m p head laid says may) worn
+    (overflows_mark_no_more places (now h) it p head laid may))
 
 -- the place was cleared, and then opened
 pub record WasOpened (p units erases g : ℕ) (c z : Chart) : Type 0 where
@@ -265,8 +270,10 @@ opened_steps p units erases g m it t then worn after h old mid new in_turn free 
       | inr (at, above) ↦ rw at (did.does.fresh refl base s above)
     ] in record {
       added = did.added;
+      places = did.places;
       history = did.history;
       each_moment = did.each_moment;
+      marks = did.marks;
       does = record {
         silent = did.does.spares.silent;
         lawful = record { lawful = λ base lawful clean. did.does.spares.lawful base lawful };
@@ -275,7 +282,10 @@ opened_steps p units erases g m it t then worn after h old mid new in_turn free 
       steady = λ done. did.steady tt;
       ends = λ done. record {
         rests = (did.ends tt).0;
-        agrees = record { mirrors = rw is there.0; tidy = clean h.story here.agrees.tidy };
+        agrees = record {
+          mirrors = rw is there.0;
+          tidy = tidy_is_carried old.places h it t then did.added here.agrees clean;
+        };
         keeps = there.1;
         says = opened_says p units erases g (now h) (now (adds_all did.added h)) (set_aside t worn) then
             (g + 1) has is (did.ends tt).1;
@@ -296,8 +306,10 @@ open_failed p units erases g m it t then after h old mid new free steady here ta
     let did = opened_all p units erases g m it t after h old mid new free steady here takes counts (Err e)
     opens stopped in record {
       added = did.added;
+      places = did.places;
       history = did.history;
       each_moment = did.each_moment;
+      marks = did.marks;
       does = record {
         silent = did.does.spares.silent;
         lawful = record { lawful = λ base lawful clean. did.does.spares.lawful base lawful };

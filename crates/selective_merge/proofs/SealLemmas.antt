@@ -13,6 +13,7 @@ use Rattle.ipl_format.proofs.HeaderOnceLemmas.{data_headers_say_erases}
 use Rattle.ipl_format.specs.Sector.{Sector}
 use Rattle.ipl_meaning.specs.Chart.{Chart}
 use Rattle.ipl_meaning.specs.Layout.{Layout, Laid, Shape, records_of}
+use Rattle.ipl_meaning.specs.Marks.{MarksNoMore}
 use Rattle.ipl_meaning.specs.Rests.{now, EachStands, EachStandsEither, WornAreIdle, StoryRests}
 use Rattle.ipl_meaning.specs.Stands.{Shows, Says, Stands, StandsBeside, page_in}
 use Rattle.ipl_meaning.specs.Steps.{with_unit}
@@ -21,6 +22,7 @@ use Rattle.ipl_meaning.specs.TableSteps.{taken, with_next}
 use Rattle.txn_status.specs.Switching.{HasCounts}
 use Rattle.unit_layout.specs.declared.header.DataHeader.{DataHeader}
 use Rattle.unit_layout.specs.Header.{SpellsHeader}
+use Rattle.ipl_meaning.proofs.MarkLemmas.{headers_mark_no_more}
 use Rattle.ipl_meaning.proofs.MirrorLemmas.{headers_may_go}
 use Rattle.ipl_meaning.proofs.OnceLemmas.{laid_once}
 use Rattle.ipl_meaning.proofs.StoryLemmas.{held_stands, either_is_kept}
@@ -66,6 +68,7 @@ pub sealed_keeps : (places p units erases u g : ℕ) (pieces : List ℕ) (carrie
     → ((m n : Map) (h : History) → IsSteady h old → StoryRests places m h
     → age h.story p 0 ≡ Clean → StandsBeside places (now h) (with_sector (now h) p 0 head) n
     → WornAreIdle places h.story (with_sector (now h) p 0 head)
+    → MarksNoMore places (now h) (with_sector (now h) p 0 head) p
     → SwitchesMap places m n (Programs p (IsSpot 0)) (λ done. Gains p 0 head) h old result new)
     → SealsUnit places p units erases u g pieces carried old result new
 sealed_keeps places p units erases u g pieces carried head old result new is says m h steady rests clean
@@ -76,7 +79,7 @@ sealed_keeps places p units erases u g pieces carried head old result new is say
     (λ done k. StoryRests places m k × IsSealed p units erases u g pieces carried (now h) (now k))
     h old result new (λ k each. either_is_kept places m k each) (λ done a same. same)
     (λ done k held. (held.0, (head, is, held.1)))
-    (says m m h steady rests clean (stands head is).0 (stands head is).1)
+    (says m m h steady rests clean (stands head is).0 (stands head is).1 (stands head is).2)
 
 pub sealed_tells : (p units erases u g : ℕ) (pieces : List ℕ) (carried : ℕ) (head : Sector) (old : Told)
     (result : Result (Unit {0}) ChipFault) (new : Told) → IsUnitHead units u g pieces carried erases head
@@ -128,6 +131,16 @@ worn_after_filling places c it t u p head pieces serial m k may rests clean =
     (headers_switch places (now k) it u p fresh mirrors.laid seal).0
     (λ q worn. idle_after_headers places (now k) it u p fresh q seal
     (worn_apart k.story p q 0 clean worn) (rests.worn it mirrors.laid q worn))
+
+-- and no more is marked
+marks_after_filling : (places : ℕ) (c y : Chart) (it : Layout) (t : Tables) (u p : ℕ) (head : Sector)
+    (pieces : List ℕ) (serial : ℕ) → MayMerge places c y it t u p head pieces serial
+    → MarksNoMore places y (with_sector y p 0 head) p
+marks_after_filling places c y it t u p head pieces serial may =
+    headers_mark_no_more places y it (with_next (taken t p) head.generation) u p
+    (merged_shape t (it.units u) u p head pieces serial)
+    (mirrors_filled places c y it t u p head pieces serial may) may.low
+    (filled_places_are_ready places c y it t u p head pieces serial may).0
 
 -- ---- a unit written
 
@@ -221,6 +234,7 @@ module _ (places units erases p g serial carried : ℕ) (from : Source) (payload
         stands_after_filling places (now h) (now k) it t u p head pieces serial m may says,
         worn_after_filling places (now h) it t u p head pieces serial m k may (first.ends tt).0
             ready,
+        marks_after_filling places (now h) (now k) it t u p head pieces serial may,
       ))) stopped)
       (λ a b one two. programs_unit p (length payloads) (is_ok result) b a one two)
       (each result) (λ c d e is none. absurd none)

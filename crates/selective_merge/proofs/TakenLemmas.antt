@@ -81,6 +81,7 @@ next_drawn places c it t next mirrors more = record {
     home = was.home;
     elsewhere = was.elsewhere;
   };
+  logs = let was = mirrors.logs in record { unmarked = was.unmarked; whole = was.whole };
   counted_clean = mirrors.counted_clean;
 }
 

@@ -14,6 +14,7 @@ use Rattle.ipl_meaning.specs.Rests.{now, EachStands, StoryRests}
 use Rattle.unit_io.specs.Charts.{Gains}
 use Rattle.unit_io.specs.Leads.{IsSteady}
 use Rattle.unit_io.specs.Spots.{Programs, IsSpot}
+use Rattle.unit_io.proofs.SectorLemmas.{untouched}
 use Rattle.unit_io.proofs.LeadsLemmas.{leads_none, leads_then, leads_failed}
 use Rattle.unit_io.proofs.SpotLemmas.{programs_none, programs_then, programs_wider}
 use Rattle.merge_rules.specs.Packs.{log_sector, IsLogSpotBelow, HasLogs, payload_of}
@@ -90,8 +91,8 @@ module _ (places p u g serial : ℕ) (payloads : List Versioned) (m : Map) (h : 
       (one m k so.ends.0 so.ends.1.0
       ((logs_aside p u g serial payloads i (now h) (now k) so.ends.1.1).header ∙ bare)
       (λ zero. omega (arith, zero))
-      (so.does.others h.story p (241 + i) (λ same spot. omega (arith, spot.1))
-      (clean (241 + i) (omega arith, omega (arith, few)))))
+      (untouched k p (241 + i) (so.does.others h.story p (241 + i) (λ same spot. omega (arith, spot.1))
+      (clean (241 + i) (omega arith, omega (arith, few))))))
       (λ a b first later. programs_then p (IsLogSpotBelow i) (IsSpot (241 + i))
       (IsLogSpotBelow (i + 1)) true (is_ok result) b a (λ s is at. omega (arith, is.1, at))
       (λ s is. (is.0, omega (arith, is.1))) (λ s at. (omega (arith, at), omega (arith, at)))

@@ -69,7 +69,7 @@ pub record RestsMerged (places : ℕ) (m : Map) (c : Chart) (it : Layout) (t : T
     (after : Tables) (k : History) : Type 0 where
   pub rests : StoryRests places m k
   pub unit : IsMergedUnit places c (now k) it t u after
-  pub tidy : IsTidy k.story after
+  pub tidy : IsTidy k after
 
 -- At each moment a power cut leaves the map. Where no write failed the story rests on it: done, the
 -- unit was merged; and not done, the tables agree on the same layout.

@@ -111,7 +111,7 @@ pub record RestsWithRoom
     (spot : Spot) (k : History) : Type 0 where
   pub rests : StoryRests places m k
   pub room : Is places c (now k) it t u after spot.place spot.sector
-  pub tidy : IsTidy k.story after
+  pub tidy : IsTidy k after
 
 -- At each moment a power cut leaves the map. Where no write failed the story rests on it: done, with
 -- such room; and not done, the tables agree on the same layout.

@@ -10,11 +10,11 @@ use Rattle.selective_merge.specs.declared.spots.OverflowChoice.TheVariants.{Clea
 
 -- ---- spots
 
--- a log sector at the unit's home is known clean
+-- a log sector at the unit's home is known clean and may be written
 abbrev pub HasHomeSpot : Tables → ℕ → Type 0
 HasHomeSpot t u = slice_index t.places.written u < LOG_SECTORS
 
--- the first clean log sector at the unit's home
+-- the first such log sector at the unit's home
 pub record IsHomeSpot (t : Tables) (u p s : ℕ) : Type 0 where
   pub left : HasHomeSpot t u
   pub place : p ≡ slice_index t.places.current u

@@ -10,7 +10,8 @@ use Rattle.ipl_format.specs.Sector.{Sector}
 use Rattle.ipl_rules.specs.State.{Map}
 use Rattle.ipl_meaning.specs.Chart.{Chart}
 use Rattle.ipl_meaning.specs.Layout.{Layout}
-use Rattle.ipl_meaning.specs.Rests.{now, WornAreIdle, StoryRests}
+use Rattle.ipl_meaning.specs.Marks.{MarksNoMore}
+use Rattle.ipl_meaning.specs.Rests.{now, IsUntouched, WornAreIdle, StoryRests}
 use Rattle.ipl_meaning.specs.Stands.{StandsBeside}
 use Rattle.ipl_meaning.specs.Tables.{Tables}
 use Rattle.ipl_meaning.specs.TableSteps.{taken}
@@ -47,8 +48,7 @@ MovesPages places from p generation old result new = (m : Map) (h : History)
 -- a log sector, in a place without a header
 abbrev pub WritesLog : ℕ → ℕ → ℕ → Sector → Told → Result (Unit {0}) ChipFault → Told → Type 0
 WritesLog places p s sector old result new = (m : Map) (h : History)
-    → IsSteady h old → StoryRests places m h → now h p 0 ≡ None → s ≢ 0
-    → age h.story p s ≡ Clean
+    → IsSteady h old → StoryRests places m h → now h p 0 ≡ None → s ≢ 0 → IsUntouched h p s
     → KeepsMap places m (Programs p (IsSpot s)) (λ done. Gains p s sector) h old result new
 
 -- the first n log sectors with these payloads
@@ -100,14 +100,16 @@ abbrev pub IsSealed : ℕ → ℕ → ℕ → ℕ → ℕ → List ℕ → ℕ �
 IsSealed p units erases u generation pieces carried c y =
     (head : Sector) × IsUnitHead units u generation pieces carried erases head × Gains p 0 head c y
 
--- the header of a unit, where with it the map stands still, and nothing counts at worn places
+-- the header of a unit, where with it the map stands still, nothing counts at worn places, and no more is
+-- marked
 abbrev pub SealsUnit : ℕ → ℕ → ℕ → ℕ → ℕ → ℕ → List ℕ → ℕ
     → Told → Result (Unit {0}) ChipFault → Told → Type 0
 SealsUnit places p units erases u generation pieces carried old result new = (m : Map) (h : History)
     → IsSteady h old → StoryRests places m h → age h.story p 0 ≡ Clean
     → ((head : Sector) → IsUnitHead units u generation pieces carried erases head
     → StandsBeside places (now h) (with_sector (now h) p 0 head) m
-    × WornAreIdle places h.story (with_sector (now h) p 0 head))
+    × WornAreIdle places h.story (with_sector (now h) p 0 head)
+    × MarksNoMore places (now h) (with_sector (now h) p 0 head) p)
     → KeepsMap places m (Programs p (IsSpot 0))
     (λ done. IsSealed p units erases u generation pieces carried) h old result new
 

@@ -22,12 +22,12 @@ use ipl_base::{ChipFault, OVERFLOW_SECTORS, Spot};
 use overflow::Overflow;
 use unit_directory::Directory;
 
-/// The first clean log sector at the unit's home, if there is one.
+/// The first log sector at the unit's home that is known clean and may be written, if there is one.
 pub fn home_spot(parts: &Parts, unit: u32) -> Option<Spot>
     requires { unit < length parts.now.directory.current }
     ensures some { IfSome result (λ spot.
         IsHomeSpot (tables_of parts.now) unit spot.place spot.sector) }
-    ensures none { IfNone result (slice_index parts.now.directory.written unit ≡ 15) }
+    ensures none { IfNone result (15 ≤ slice_index parts.now.directory.written unit) }
 {
     let sector = parts.directory.next_log(unit)?;
     let place = parts.directory.current(unit);

@@ -21,6 +21,7 @@ use Rattle.opening_rules.specs.Faults.{first_fault, is_image}
 use Rattle.restart.specs.Looks.{HasCause}
 use Rattle.selective_merge.specs.Merging.{CompletesMerge}
 use Rattle.place_taking.specs.Takes.{IsNotTaken}
+use Rattle.unit_io.specs.Leads.{IsStopped}
 use Rattle.status_renewal.specs.Passes.{HasPassed, AreMergeable}
 use Rattle.status_renewal.specs.Recovers.{FailsByCallAlone}
 
@@ -80,6 +81,11 @@ all_mergeable places c it m t says none u low =
 
 pub call_failed : (fault : ChipFault) → IsFailedCall fault → FailsByCallAlone (Chip fault)
 call_failed fault failed = (fault, refl, failed)
+
+pub stopped_failed : (fault : ChipFault) (old new : Told) → IsStopped fault old new
+    → FailsByCallAlone (Chip fault)
+stopped_failed fault old new stopped =
+    call_failed fault (subst IsFailedCall (sym stopped.0) tt)
 
 pub reading_failed : (places : ℕ) (c : Chart) (e : ImageFault) (old new : Told)
     → (is_image e ≡ true → first_fault c places ≡ Some e) → HasCause e old new

@@ -5,15 +5,16 @@ use Rattle.std.proofs.lemmas.Bool.{false≢true}
 use Rattle.chip_trait.specs.Story.{Story}
 use Rattle.chip_trait.specs.Told.{Told}
 use Rattle.ipl_base.specs.declared.fault.ChipFault.{ChipFault}
-use Rattle.ipl_meaning.specs.Tables.{Places}
+use Rattle.ipl_meaning.specs.Tables.{Places, with_marks_ended}
 use Rattle.place_taking.specs.Spending.{ErasesFree, ErasesFor, tells_worn}
 use Rattle.place_taking.specs.Takes.{ErasesNext}
 use Rattle.place_taking.proofs.JoinLemmas.{costs_of_untaken}
 use Rattle.place_taking.proofs.SpendingLemmas.{none_found, retires_none, retires_then, retiring_at_most, retiring_of, retiring_then}
 use Rattle.unit_io.specs.Costs.{Costs, Spends}
 use Rattle.unit_io.specs.ReadsAt.{ReadsAt}
-use Rattle.unit_io.proofs.CostLemmas.{costs_none, erased_joined, spends_none, spends_reads, spends_then, spends_weaker}
+use Rattle.unit_io.proofs.CostLemmas.{costs_none, costs_then, erased_joined, spends_none, spends_reads, spends_then, spends_weaker}
 use Rattle.status_renewal.specs.Passes.{ErasesAtMost, HasErased}
+use Rattle.status_renewal.specs.Recovers.{ErasesWaiting}
 
 -- no erase was tried
 none_erased : (d : Places) (worn_out : Bool) (added : Story) → worn_out ≡ false
@@ -70,6 +71,72 @@ reads_then_erase At before after k worn_out old mid new reads did =
     (erases_then before before after 0 k worn_out old mid new
     (reads_erase At before 0 false old mid refl reads) did)
 
+-- barriers alone, at most so many
+pub waiting_alone : (before after : Places) (n waits : ℕ) (worn_out : Bool) (old new : Told)
+    → after.retired ≡ before.retired → worn_out ≡ false → Spends (Costs 0 0 waits []) old new
+    → Spends (ErasesWaiting before after n waits worn_out) old new
+waiting_alone before after n waits worn_out old new same still =
+    spends_weaker (Costs 0 0 waits []) (ErasesWaiting before after n waits worn_out) old new
+    (λ added is. record {
+      costs = retiring_at_most before after 0 n 0 0 waits (waits + 3 * n) [] [] added (omega arith)
+          (omega arith) (omega arith) (λ kind has. has)
+          (retiring_of before after 0 0 waits [] added same is);
+      retires = retires_none before after worn_out added same still
+          (λ p. none_found p added is.erased);
+    })
+
+-- and then another call
+pub waiting_then : (before after : Places) (n waits : ℕ) (worn_out : Bool) (old mid new : Told)
+    → Spends (Costs 0 0 waits []) old mid → Spends (ErasesAtMost before after n worn_out) mid new
+    → Spends (ErasesWaiting before after n waits worn_out) old new
+waiting_then before after n waits worn_out old mid new =
+    spends_then (Costs 0 0 waits []) (ErasesAtMost before after n worn_out)
+    (ErasesWaiting before after n waits worn_out) old mid new
+    (λ later earlier one two. record {
+      costs = retiring_at_most before after (0 + n) n (0 + 0) 0 (waits + 3 * n) (waits + 3 * n) [] []
+          (later ++ earlier) (omega arith) (omega arith) (omega arith) (λ kind has. has)
+          (retiring_then before before after 0 n 0 0 waits (3 * n) [] later earlier
+          (retiring_of before before 0 0 waits [] earlier refl one) two.costs);
+      retires = retires_then before before after worn_out later earlier
+          (retires_none before before false earlier refl refl
+          (λ p. none_found p earlier one.erased)) two.retires;
+    })
+
+-- and then no mark counts any more
+pub waiting_ended : (before after : Places) (n waits : ℕ) (old new : Told)
+    → Spends (ErasesWaiting before after n waits false) old new
+    → Spends (ErasesWaiting before (with_marks_ended after) n waits false) old new
+waiting_ended before after n waits old new =
+    spends_weaker (ErasesWaiting before after n waits false)
+    (ErasesWaiting before (with_marks_ended after) n waits false) old new
+    (λ added is. record {
+      costs = record {
+        erased = is.costs.erased;
+        programmed = is.costs.programmed;
+        barred = is.costs.barred;
+        only = is.costs.only;
+      };
+      retires = record {
+        keeps = is.retires.keeps;
+        each = is.retires.each;
+        found = is.retires.found;
+        one_more = λ no. absurd (false≢true no);
+      };
+    })
+
+-- reads before them
+pub reads_then_wait : (At : ℕ → ℕ → Type 0) (waits : ℕ) (old mid new : Told) → ReadsAt At old mid
+    → Spends (Costs 0 0 waits []) mid new → Spends (Costs 0 0 waits []) old new
+reads_then_wait At waits old mid new reads =
+    spends_then (Costs 0 0 0 []) (Costs 0 0 waits []) (Costs 0 0 waits []) old mid new
+    (λ later earlier one two.
+    let both = costs_then 0 0 0 0 0 waits [] later earlier one two in record {
+      erased = omega (arith, both.erased);
+      programmed = omega (arith, both.programmed);
+      barred = omega (arith, both.barred);
+      only = both.only;
+    }) (spends_reads At [] old mid reads)
+
 -- a merge, or a new status place
 pub place_erases : (before after : Places) (place : ℕ) (done worn_out : Bool) (old new : Told)
     → Spends (ErasesFor before after 3 place done worn_out) old new
@@ -114,9 +181,9 @@ renewed_then P place d after worn_out old mid new (Ok v) first second =
     first second
 renewed_then P place d after worn_out old mid new (Err e) first second = tt
 
-pub reads_then_renewed : (At : ℕ → ℕ → Type 0) (place : ℕ) (old mid new : Told) → ReadsAt At old mid
-    → Spends (HasErased place) mid new → Spends (HasErased place) old new
-reads_then_renewed At place old mid new reads did =
-    spends_then (Costs 0 0 0 []) (HasErased place) (HasErased place) old mid new
+pub waiting_then_renewed : (waits place : ℕ) (old mid new : Told)
+    → Spends (Costs 0 0 waits []) old mid → Spends (HasErased place) mid new
+    → Spends (HasErased place) old new
+waiting_then_renewed waits place old mid new =
+    spends_then (Costs 0 0 waits []) (HasErased place) (HasErased place) old mid new
     (λ later earlier before is. erased_joined later earlier place ∙ rw is refl)
-    (spends_reads At [] old mid reads) did

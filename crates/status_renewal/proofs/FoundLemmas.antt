@@ -177,6 +177,12 @@ pub unread_both : (found : Bool) (old mid new : Told) → OnTrue found (Spends R
 unread_both true old mid new first second = unread_then old mid new first second
 unread_both false old mid new first second = tt
 
+-- a call that reads nothing, and then one that reads nothing where they were found
+pub unread_first : (found : Bool) (old mid new : Told) → Spends ReadsNothing old mid
+    → OnTrue found (Spends ReadsNothing mid new) → OnTrue found (Spends ReadsNothing old new)
+unread_first true old mid new first second = unread_then old mid new first second
+unread_first false old mid new first second = tt
+
 pub once_where_fit : (places : ℕ) (fits : Bool) (numbers : List ℕ) (old mid new : Told)
     → ReadsOnce Anywhere old mid → OnTrue fits (Spends ReadsNothing mid new)
     → ((x : Contents) → old.contents ≡ Some x → AreCollected places (chart_of x) fits numbers)

@@ -204,6 +204,7 @@ module _ (takes : UsesTake) (gives_back : DisusesGiveBack) (places p : ℕ) (d :
           head = done.head;
           is_head = done.is_head;
           mirrors = done.mirrors;
+          unmarked = done.unmarked;
           pages = λ keeps u page values low few shows. done.pages keeps u page values low few
               (still_shown it t has may c y mirrors cleared u page values low few shows);
         })

@@ -133,8 +133,10 @@ module _ (takes : UsesTake) (gives_back : DisusesGiveBack) (p : ℕ) (first betw
       new drawn is (with_places t d) (set_has m it t h steady has rests agrees may)) (Ok tt) says in
       record {
         added = did.added;
+        places = did.places;
         history = did.history;
         each_moment = did.each_moment;
+        marks = did.marks;
         does = did.does;
         steady = did.steady;
         ends = λ _. subst (λ (q : ℕ). RestsSwitched old.places m it then_is q next kept
@@ -155,8 +157,10 @@ module _ (takes : UsesTake) (gives_back : DisusesGiveBack) (p : ℕ) (first betw
       then_is last (record { places_is = refl; status_is = refl; drawn_is = refl }) (with_places t d)
       (set_has m it t h steady has rests agrees may)) (Err e) says in record {
         added = did.added;
+        places = did.places;
         history = did.history;
         each_moment = did.each_moment;
+        marks = did.marks;
         does = record {
           silent = did.does.silent;
           lawful = did.does.lawful;

@@ -4,6 +4,7 @@ use Rattle.chip_trait.specs.Story.{Contents, held}
 use Rattle.chip_trait.specs.Told.{History, Told, Counts, adds_all}
 use Rattle.ipl_base.specs.declared.fault.ChipFault.{ChipFault}
 use Rattle.ipl_rules.specs.State.{Map}
+use Rattle.ipl_meaning.proofs.CarriedLemmas.{tidy_is_carried}
 use Rattle.ipl_meaning.specs.Agrees.{IsTidy, Agrees}
 use Rattle.ipl_meaning.specs.Chart.{chart_of}
 use Rattle.ipl_meaning.specs.Layout.{Layout}
@@ -28,7 +29,7 @@ same_told x y e = cc
 -- tables that mirror what is told agree with the story
 pub agrees_of : (places : ℕ) (h : History) (told : Told) (x : Contents) (it : Layout) (t : Tables)
     → IsSteady h told → told.contents ≡ Some x
-    → Mirrors places (chart_of x) it t → IsTidy h.story t → Agrees places h it t
+    → Mirrors places (chart_of x) it t → IsTidy h t → Agrees places h it t
 agrees_of places h told x it t steady is mirrors tidy =
     let same : x ≡ held h.start h.story =
     same_told x (held h.start h.story) (sym is ∙ steady.holds) in
@@ -87,19 +88,20 @@ steps_preserve places m h t after Then Else result old new done other did =
 -- ---- one after the other
 
 -- one call that was done, and then another
-pub preserves_then : (places : ℕ) (m : Map) (h : History) (t between after : Tables)
+pub preserves_then : (places : ℕ) (m : Map) (h : History) (it : Layout) (t between after : Tables)
     (old mid new : Told) (result : Result (Unit {0}) ChipFault) → Counts old mid
-    → IsTidy h.story t → Preserves {T = Unit {0}} {E = ChipFault} places m t between h (Ok tt) old mid
-    → ((k : History) → IsSteady k mid → StoryRests places m k → IsTidy k.story between
+    → Agrees places h it t → Preserves {T = Unit {0}} {E = ChipFault} places m t between h (Ok tt) old mid
+    → ((k : History) → IsSteady k mid → StoryRests places m k → IsTidy k between
     → Preserves places m between after k result mid new)
     → Preserves places m t after h result old new
-preserves_then places m h t between after old mid new result counts tidy first next =
+preserves_then places m h it t between after old mid new result counts agrees first next =
     calls_keep places m t between after h result old mid new counts first
     (next (adds_all first.added h)
     (outcome_steady (EachStands places m)
     (TidyWork (IsCountedClean t) (IsCountedClean between) (Unit {0})) (Unit {0})
     (StoryRests places m) h old mid first tt)
-    (first.ends tt) (first.does.clean tt h.story tidy))
+    (first.ends tt)
+    (tidy_is_carried places h it t between first.added agrees (first.does.clean tt)))
 
 -- reads, and then another call
 pub read_then : (At : ℕ → ℕ → Type 0) (places : ℕ) (m : Map) (h : History) (it : Layout)
@@ -110,7 +112,7 @@ pub read_then : (At : ℕ → ℕ → Type 0) (places : ℕ) (m : Map) (h : Hist
     → Preserves places m t after k result mid new)
     → Preserves places m t after h result old new
 read_then At places m h it t after old mid new result steady rests agrees reads next =
-    preserves_then places m h t t after old mid new result reads.counts agrees.tidy
+    preserves_then places m h it t t after old mid new result reads.counts agrees
     (reads_preserve At places m h t (Ok tt) old mid steady rests reads)
     (λ k there resting tidy. next k there resting
     (agrees_of places k mid (held h.start h.story) it t there
@@ -130,6 +132,6 @@ pub passed_then : (places : ℕ) (m : Map) (h : History) (it : Layout) (t betwee
 passed_then places m h it t between after old mid new result n kept counts steady agrees passes
     first next =
     let was = passes (held h.start h.story) steady.holds agrees.mirrors in
-    preserves_then places m h t between after old mid new result counts agrees.tidy first
+    preserves_then places m h it t between after old mid new result counts agrees first
     (λ k there resting tidy. next k was there resting
     (agrees_of places k mid was.contents was.now between there was.told was.mirrors tidy))

@@ -50,7 +50,7 @@ committed_below places c it t mirrors tid is =
       it.status,
       told.number,
       told.sector,
-      inr (inl (refl, told.is)),
+      inr (inl (refl, inl told.is)),
       inr (inr (inl (told.is.kind, told.numbers, told.spelled, told.has))),
     )
 

@@ -65,6 +65,7 @@ module _ (places : ℕ) (c : Chart) (it : Layout) (t : Tables) (kept : List ℕ)
                   λ is. both.1
                       (subst (λ (f : ℕ → Bool). IsTrue (f tid)) (sym was.committed) is.0, is.1),
                 );
+            unmarked = switched.unmarked;
             says = ap erases_said switched.mirrors.laid.chosen.here ∙ switched.is_head.says;
             lists = (
               switched.head,

@@ -8,6 +8,7 @@ use Rattle.chip_trait.specs.Told.{History, Told, Unrisen, adds_all}
 use Rattle.ipl_base.specs.declared.fault.ChipFault.{ChipFault}
 use Rattle.ipl_base.specs.declared.fault.ChipFault.TheVariants.{Stopped}
 use Rattle.ipl_format.specs.Record.{Record}
+use Rattle.ipl_meaning.proofs.CarriedLemmas.{tidy_is_carried}
 use Rattle.ipl_meaning.specs.Chart.{Chart, chart_of}
 use Rattle.ipl_meaning.specs.Layout.{Shape, records_of}
 use Rattle.ipl_meaning.specs.Rests.{now}
@@ -69,15 +70,17 @@ renewals_rest places m it h t after old new (Ok v) steady rests agrees tells kee
     let (y, told, renews) = tells (held h.start h.story) steady.holds in
     record {
       added = did.added;
+      places = did.places;
       history = did.history;
       each_moment = did.each_moment;
+      marks = did.marks;
       does = did.does;
       steady = did.steady;
       ends = λ _. record {
         rests = did.ends tt;
         renewed = of_held (HasRenewed places (now h) it t after) k new (did.steady tt)
             (y, told, renews it agrees.mirrors);
-        tidy = did.does.clean tt h.story agrees.tidy;
+        tidy = tidy_is_carried places h it t after did.added agrees (did.does.clean tt);
       };
     }
 renewals_rest places m it h t after old new (Err e) steady rests agrees tells keeps accounts =
@@ -85,8 +88,10 @@ renewals_rest places m it h t after old new (Err e) steady rests agrees tells ke
     let k = adds_all did.added h in
     record {
       added = did.added;
+      places = did.places;
       history = did.history;
       each_moment = did.each_moment;
+      marks = did.marks;
       does = did.does;
       steady = did.steady;
       ends = λ unrisen.
@@ -95,6 +100,6 @@ renewals_rest places m it h t after old new (Err e) steady rests agrees tells ke
             rests = did.ends unrisen;
             stopped = of_held (HasStopped places (now h) it t after) k new (did.steady unrisen)
                 (y, told, stops it agrees.mirrors);
-            tidy = did.does.clean unrisen h.story agrees.tidy;
+            tidy = tidy_is_carried places h it t after did.added agrees (did.does.clean unrisen);
           };
     }

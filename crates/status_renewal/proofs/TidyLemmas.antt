@@ -1,15 +1,16 @@
 -- What a renewal adds by the tables alone.
-use Rattle.std.proofs.Common.{◌≡◌, ◌<◌, ◌+◌, ◌∙◌, ℕ, Bool, true, false, List, length, Result, Ok, Err, inl, inr, refl, sym, ap, subst}
+use Rattle.std.proofs.Common.{◌≡◌, ◌<◌, ◌+◌, ◌∙◌, ℕ, Bool, true, false, List, [], length, Result, Ok, Err, is_ok, inl, inr, refl, sym, ap, subst, arith}
 use Rattle.std.proofs.lemmas.Bool.{false≢true}
 use Rattle.chip_trait.specs.Told.{Told, Counts}
 use Rattle.ipl_base.specs.declared.fault.ChipFault.{ChipFault}
+use Rattle.ipl_base.specs.declared.fault.ImageFault.{ImageFault}
 use Rattle.ipl_meaning.specs.Tables.{IsFree, Places, Status, Tables, IsCountedClean}
 use Rattle.merge_rules.specs.Known.{KnowsPlaces}
 use Rattle.merge_rules.proofs.KnownCleanLemmas.{counted_in_use, renewed_clean}
 use Rattle.restart.specs.Opened.{NoneIsClean}
 use Rattle.steps.specs.Steps.{Settled, TidyWork, Tidies}
 use Rattle.steps.proofs.TablesLemmas.{tables_none, tables_read, tables_then}
-use Rattle.steps.proofs.TidyLemmas.{tidy_reads, tidy_then}
+use Rattle.steps.proofs.TidyLemmas.{tidy_reads, tidy_weaker}
 use Rattle.place_taking.specs.Spending.{WritesFree}
 use Rattle.place_taking.specs.Takes.{IsTakenFrom, with_places}
 use Rattle.place_taking.proofs.JoinLemmas.{aside_facts, counted_alike, tidy_writes}
@@ -19,8 +20,8 @@ use Rattle.unit_directory.specs.Laws.{UsesTake, DisusesGiveBack}
 use Rattle.unit_directory.proofs.AsideLemmas.{next_places_are_aside}
 use Rattle.unit_io.specs.Costs.{Spends}
 use Rattle.unit_io.specs.ReadsAt.{ReadsAt}
-use Rattle.unit_io.proofs.CostLemmas.{spends_then, spends_weaker}
-use Rattle.status_renewal.specs.Recovers.{IsNowhere}
+use Rattle.unit_io.proofs.CostLemmas.{spends_weaker}
+use Rattle.status_renewal.specs.Recovers.{TakesMarks, TidiesOpening}
 use Rattle.status_renewal.specs.Renewed.{HasTables, with_tables, IsGivenBack}
 use Rattle.status_renewal.proofs.PlaceLemmas.{IsMovedTo, has_between, known_between, switched}
 
@@ -133,41 +134,70 @@ module _ (places : ℕ) (first : Places) (status : Status) (next : ℕ) (after :
 
 -- ---- an opening
 
+-- tables that count no sector as clean
+abbrev pub nothing : Tables
+nothing = record {
+  places = record {
+    current = [];
+    in_use = [];
+    erases = [];
+    retired = [];
+    written = [];
+    generations = [];
+    masks = [];
+  };
+  overflow = record { places = 0; spots = []; masks = []; in_use = [] };
+  status = record { place = 0; generation = 0; numbers = []; first = 256 };
+  next = 0;
+  active = [];
+}
+
+nothing_is_clean : NoneIsClean nothing
+nothing_is_clean p s (small, inl (u, less, is, first)) = omega (arith, less)
+nothing_is_clean p s (small, inr (inl (first, has, above_it))) = omega (arith, has.1)
+nothing_is_clean p s (small, inr (inr (is, above_it))) = omega (arith, small, above_it)
+
+pub takes_nothing : (marks : Bool) (places : ℕ) (old : Told) → TakesMarks marks places old nothing
+takes_nothing marks places old = record {
+  none = λ off. nothing_is_clean;
+  marked = λ x told p s counted. absurd (nothing_is_clean p s counted);
+}
+
 -- reads, however they end
-pub tidy_only_reads : (At : ℕ → ℕ → Type 0) (after : Tables) (old new : Told) → ReadsAt At old new
-    → Spends (TidyWork IsNowhere (IsCountedClean after) (false ≡ true)) old new
-tidy_only_reads At after old new reads =
-    let did = tidy_reads At IsNowhere (Unit {0}) old new reads in record {
-      added = reads.added;
-      does = record {
-        silent = did.silent;
-        lawful = did.lawful;
-        clean = λ no. absurd (false≢true no);
+pub tidies_nothing : (At : ℕ → ℕ → Type 0) (marks : Bool) (places : ℕ) (e : ImageFault)
+    (after : Tables) (old new : Told) → ReadsAt At old new
+    → TidiesOpening marks places old (Err e) after new
+tidies_nothing At marks places e after old new reads =
+    let did = tidy_reads At (IsCountedClean nothing) (Unit {0}) old new reads in record {
+      first = nothing;
+      takes = takes_nothing marks places old;
+      tidies = record {
+        added = reads.added;
+        does = record {
+          silent = did.silent;
+          lawful = did.lawful;
+          clean = λ no. absurd (false≢true no);
+        };
+        history = reads.history;
       };
-      history = reads.history;
     }
 
--- reads that left no sector counted as clean, and then a renewal
-pub tidy_opened : (At : ℕ → ℕ → Type 0) (t after : Tables) (result : Result (Unit {0}) ChipFault)
-    (done : Bool) (old mid new : Told) → NoneIsClean t → (done ≡ true → Settled result mid new)
-    → ReadsAt At old mid → Tidies t result after mid new
-    → Spends (TidyWork IsNowhere (IsCountedClean after) (done ≡ true)) old new
-tidy_opened At t after result done old mid new none settles reads =
-    spends_then (TidyWork IsNowhere IsNowhere (Unit {0}))
-    (TidyWork (IsCountedClean t) (IsCountedClean after) (Settled result mid new))
-    (TidyWork IsNowhere (IsCountedClean after) (done ≡ true)) old mid new
-    (λ later earlier first second. tidy_then IsNowhere IsNowhere (IsCountedClean after) (Unit {0})
-    (done ≡ true) earlier later first tt (record {
-      silent = second.silent;
-      lawful = record {
-        lawful = λ base is clean.
-            second.lawful.lawful base is (λ p s counted. absurd (none p s counted));
-      };
-      clean = λ is base clean.
-          second.clean (settles is) base (λ p s counted. absurd (none p s counted));
-    }))
-    (record {
-      added = reads.added;
-      does = tidy_reads At IsNowhere (Unit {0}) old mid reads;
-      history = reads.history;
-    })
+-- calls that leave the tables so, however they end
+pub tidies_opened : (marks : Bool) (places : ℕ) (t after : Tables)
+    (result : Result (Unit {0}) ChipFault) (answer : Result (Unit {0}) ImageFault) (old new : Told)
+    → TakesMarks marks places old t → is_ok answer ≡ is_ok result → Tidies t result after old new
+    → TidiesOpening marks places old answer after new
+tidies_opened marks places t after result answer old new takes same did = record {
+  first = t;
+  takes = takes;
+  tidies = spends_weaker
+      (TidyWork (IsCountedClean t) (IsCountedClean after) (Settled result old new))
+      (TidyWork (IsCountedClean t) (IsCountedClean after) (is_ok answer ≡ true)) old new
+      (λ added. tidy_weaker (IsCountedClean t) (IsCountedClean after) (Settled result old new)
+      (is_ok answer ≡ true) added (λ is. settled_done result old new (sym same ∙ is))) did;
+}
+  where
+    settled_done : (result : Result (Unit {0}) ChipFault) (old new : Told) → is_ok result ≡ true
+        → Settled result old new
+    settled_done (Ok v) old new is = tt
+    settled_done (Err e) old new is = absurd (false≢true is)

@@ -5,3 +5,4 @@ pub mod Passes
 pub mod Renewals
 pub mod Recovers
 pub mod InPlace
+pub mod Settling

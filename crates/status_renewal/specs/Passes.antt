@@ -9,7 +9,7 @@ use Rattle.ipl_base.specs.declared.fault.ChipFault.TheVariants.{ReadFault, Stopp
 use Rattle.ipl_rules.specs.State.{Map}
 use Rattle.ipl_meaning.specs.Agrees.{Agrees}
 use Rattle.ipl_meaning.specs.Chart.{Chart, chart_of}
-use Rattle.ipl_meaning.specs.Layout.{Entry, Shape, Layout, records_of}
+use Rattle.ipl_meaning.specs.Layout.{Entry, Shape, Layout, HasNoMark, records_of}
 use Rattle.ipl_meaning.specs.Mirrors.{Mirrors}
 use Rattle.ipl_meaning.specs.Rests.{StoryRests}
 use Rattle.ipl_meaning.specs.Steps.{KeepsPages}
@@ -123,9 +123,9 @@ abbrev pub ListsRetired : Tables → Chart → Type 0
 ListsRetired t c = ListsAt t.status.place t.places.retired c
 
 -- All units were passed, and the status has a new place with the numbers that are kept, whose header
--- says how often the tables have it erased, and lists exactly the places that are retired in them. All
--- pages show what they showed. Of the numbers that were committed exactly those are so still that a
--- live record has.
+-- says how often the tables have it erased, and lists exactly the places that are retired in them; no
+-- mark stands there. All pages show what they showed. Of the numbers that were committed exactly those
+-- are so still that a live record has.
 pub record HasRenewed (places : ℕ) (c : Chart) (it : Layout) (t after : Tables)
     (y : Chart) : Type 0 where
   pub now : Layout
@@ -135,6 +135,7 @@ pub record HasRenewed (places : ℕ) (c : Chart) (it : Layout) (t after : Tables
   pub committed : now.committed ≡ among (kept_below t.status.numbers it it.count)
   pub exact : (tid : ℕ) → IsTrue (now.committed tid)
       ↔ (IsTrue (it.committed tid) × IsLoggedBelow now.count now tid)
+  pub unmarked : HasNoMark y now.status now.head.generation
   pub says : SaysErases after after.status.place y
   pub lists : ListsRetired after y
 

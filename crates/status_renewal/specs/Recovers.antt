@@ -1,7 +1,7 @@
 -- What an opening leaves that ends with a new status place.
-use Rattle.std.specs.Prelude.{ℕ, ◌≡◌, ◌≢◌, ◌⊎◌, ◌↔◌, ◌<◌, ◌≤◌, ◌+◌, ◌||◌, [], Bool, true, false, IsTrue, is_ok, List, length, Contains, Some, None, Result, Ok, Err, MatchResult, IfErr}
+use Rattle.std.specs.Prelude.{ℕ, ◌≡◌, ◌≢◌, ◌⊎◌, ◌↔◌, ◌<◌, ◌≤◌, ◌+◌, ◌*◌, ◌||◌, [], Bool, true, false, IsTrue, is_ok, List, length, Contains, Some, None, Result, Ok, Err, MatchResult, IfErr}
 use Rattle.ipl_base.specs.declared.limits.TheConstants.{KEPT_NUMBERS}
-use Rattle.chip_trait.specs.Story.{Contents}
+use Rattle.chip_trait.specs.Story.{Story, Contents}
 use Rattle.chip_trait.specs.Told.{History, Told, Rose}
 use Rattle.ipl_base.specs.declared.fault.ChipFault.{ChipFault}
 use Rattle.ipl_base.specs.Calls.{IsFailedCall}
@@ -9,8 +9,9 @@ use Rattle.ipl_base.specs.declared.fault.ChipFault.TheVariants.{ReadFault, Stopp
 use Rattle.ipl_base.specs.declared.fault.ImageFault.{ImageFault}
 use Rattle.ipl_base.specs.declared.fault.ImageFault.TheVariants.{Geometry, NotFormatted, Missing, Chip, Spent, NoSpare}
 use Rattle.ipl_rules.specs.State.{Map}
+use Rattle.ipl_meaning.specs.Agrees.{IsTidy}
 use Rattle.ipl_meaning.specs.Chart.{Chart, chart_of}
-use Rattle.ipl_meaning.specs.Layout.{Layout, Laid}
+use Rattle.ipl_meaning.specs.Layout.{Layout, Laid, HasNoMark}
 use Rattle.ipl_meaning.specs.Mirrors.{Mirrors}
 use Rattle.ipl_meaning.specs.Rests.{EachStands, StoryRests}
 use Rattle.ipl_meaning.specs.Stands.{Says}
@@ -22,8 +23,9 @@ use Rattle.opening_rules.specs.Chosen.{units_at}
 use Rattle.opening_rules.specs.Faults.{first_fault}
 use Rattle.opened_tables.specs.Opened.{IsUnused}
 use Rattle.opening_rules.specs.LaidOut.{layout_in, retired_at}
-use Rattle.place_taking.specs.Spending.{tells_worn}
+use Rattle.place_taking.specs.Spending.{RetiringCosts, RetiresWorn, tells_worn}
 use Rattle.restart.specs.Looks.{OnlyReads}
+use Rattle.restart.specs.Opened.{NoneIsClean, CountsMarked}
 use Rattle.selective_merge.specs.Homes.{WearCause}
 use Rattle.selective_merge.specs.Placing.{SaysErases}
 use Rattle.steps.specs.Steps.{Settled, EndsWith, Outcome, TidyWork}
@@ -33,14 +35,15 @@ use Rattle.unit_io.specs.Leads.{IsSteady}
 use Rattle.unit_io.specs.Reads.{OfContents}
 use Rattle.unit_io.specs.Unread.{ReadsEachOnce}
 use Rattle.kept_numbers.specs.Keeps.{IsLoggedBelow}
-use Rattle.status_renewal.specs.Passes.{TellsChart, ListsRetired, ErasesAtMost}
+use Rattle.status_renewal.specs.Passes.{TellsChart, ListsRetired}
+use Rattle.status_renewal.specs.Settling.{knows_logs, waits_for, NoneMarked}
 
 -- ---- what the chip holds
 
 -- The chart had no fault, and was laid out so. There are as many units, all pages show what they
 -- showed, and of the numbers that were committed exactly those are so still that a live record has;
--- the tables mirror the new chart, and the header of the status place says how often they have it
--- erased, and lists exactly the places that are retired in them.
+-- the tables mirror the new chart, in whose status place no mark stands, and whose header says how often
+-- they have it erased, and lists exactly the places that are retired in them.
 pub record HasOpened (places : ℕ) (c : Chart) (after : Tables) (y : Chart) : Type 0 where
   pub none : first_fault c places ≡ None
   pub laid : Laid places c (layout_in c places)
@@ -50,6 +53,7 @@ pub record HasOpened (places : ℕ) (c : Chart) (after : Tables) (y : Chart) : T
   pub pages : KeepsPages places c (layout_in c places) y now
   pub exact : (tid : ℕ) → IsTrue (now.committed tid)
       ↔ (IsTrue ((layout_in c places).committed tid) × IsLoggedBelow now.count now tid)
+  pub unmarked : HasNoMark y now.status now.head.generation
   pub says : SaysErases after after.status.place y
   pub lists : ListsRetired after y
 
@@ -126,44 +130,74 @@ abbrev pub FindsRetired : ℕ → Chart → Places → Type 0
 FindsRetired places c found = (p : ℕ) → Contains found.retired p
     ↔ (Contains (retired_at c places) p × IsUnused places c p)
 
+-- At most so many erases are tried, and one more for each place that is retired; there are at most
+-- three barriers for each of so many, and so many more that were waited for before; only what was
+-- erased before is programmed; and what is found worn is retired.
+pub record ErasesWaiting (before after : Places) (n waits : ℕ) (worn_out : Bool) (added : Story)
+    : Type 0 where
+  pub costs : RetiringCosts before after n 0 (waits + 3 * n) [] added
+  pub retires : RetiresWorn before after worn_out added
+
 -- From the directory that it found at most one erase is tried for each unit and one for the status
--- place, and one more for each place that is retired, and what is found worn is retired. Done, or where
--- too many places are worn, the chip holds what that directory was found by, and it has as many units as
--- that says.
-pub record ErasesOpening (places : ℕ) (result : Result (Unit {0}) ImageFault) (after : Places)
-    (old new : Told) : Type 0 where
+-- place, and one more for each place that is retired, and what is found worn is retired; and one barrier
+-- more is asked where something is known by a mark. Done, or where too many places are worn, the chip
+-- holds what that directory was found by, and it has as many units as that says.
+pub record ErasesOpening (marks : Bool) (places : ℕ) (result : Result (Unit {0}) ImageFault)
+    (after : Places) (old new : Told) : Type 0 where
   pub found : Places
-  pub erases : Spends (ErasesAtMost found after (length after.current + 1) (ends_worn_out result))
-      old new
+  pub erases : Spends (ErasesWaiting found after (length after.current + 1) (waits_for found)
+      (ends_worn_out result)) old new
+  pub unmarked : marks ≡ false → knows_logs found ≡ false
   pub finds : (is_ok result || ends_worn_out result) ≡ true
       → OfContents old (λ x. FindsRetired places (chart_of x) found)
   pub units : (is_ok result || ends_worn_out result) ≡ true
       → OfContents old (λ x. length after.current ≡ units_at (chart_of x) places)
 
+-- ---- what it takes from marks
+
+-- The tables, as they were read, count as clean what is marked; and nothing, where marks don't count.
+pub record TakesMarks (marks : Bool) (places : ℕ) (old : Told) (first : Tables) : Type 0 where
+  pub none : marks ≡ false → NoneIsClean first
+  pub marked : OfContents old (λ x. CountsMarked places x first)
+
+-- Whatever the chip holds, the events are lawful after any lawful ones that leave clean what was counted
+-- so by marks at first; and done, what the tables count as clean is clean.
+pub record TidiesOpening (marks : Bool) (places : ℕ) (old : Told)
+    (result : Result (Unit {0}) ImageFault) (after : Tables) (new : Told) : Type 0 where
+  pub first : Tables
+  pub takes : TakesMarks marks places old first
+  pub tidies : Spends (TidyWork (IsCountedClean first) (IsCountedClean after)
+      (is_ok result ≡ true)) old new
+
 -- ---- what a power cut leaves
 
--- no sector
-abbrev pub IsNowhere : ℕ → ℕ → Type 0
-IsNowhere p s = ⊥
+-- the story rests on the map, and what the tables count as clean is blank and untouched
+pub record RestsTidily (places : ℕ) (m : Map) (after : Tables) (k : History) : Type 0 where
+  pub rests : StoryRests places m k
+  pub tidy : IsTidy k after
 
 -- Over a story that rests on a map: at each moment a power cut leaves the map, and where no write
--- failed the story rests on it. The events are lawful after any lawful ones; and done, what the
--- tables count as clean is clean.
-abbrev pub RecoversInSteps : ℕ → Told → Result (Unit {0}) ImageFault → Tables → Told → Type 0
-RecoversInSteps places old result after new = (m : Map) (h : History)
+-- failed the story rests on it. The events are lawful after any lawful ones that leave clean what was
+-- counted so by marks at first; and done, what the tables count as clean is clean after such events,
+-- and in any case blank and untouched.
+abbrev pub RecoversInSteps : Bool → ℕ → Told → Result (Unit {0}) ImageFault → Tables → Told → Type 0
+RecoversInSteps marks places old result after new = (m : Map) (h : History)
     → IsSteady h old → StoryRests places m h
-    → Outcome (EachStands places m)
-    (TidyWork IsNowhere (IsCountedClean after) (is_ok result ≡ true)) (Settled result old new)
-    (EndsWith result (λ v k. StoryRests places m k) (λ k. StoryRests places m k)) h old new
+    → (first : Tables) × TakesMarks marks places old first
+    × Outcome (EachStands places m)
+    (TidyWork (IsCountedClean first) (IsCountedClean after) (is_ok result ≡ true))
+    (Settled result old new)
+    (EndsWith result (λ v k. RestsTidily places m after k) (λ k. StoryRests places m k)) h old new
 
 -- ---- whatever the chip tells
 
--- no session is open, the tables know each place, and at least 191 sectors of the status place are
--- known clean
+-- no session is open, the tables know each place, at least 191 sectors of the status place are known
+-- clean, and nothing is known by a mark any more
 pub record HoldsOpened (places : ℕ) (after : Tables) : Type 0 where
   pub active : after.active ≡ []
   pub known : KnowsPlaces places after
   pub room : 191 ≤ room_of after.status
+  pub ended : NoneMarked after.places
 
 -- why it fails: a read or a write failed, or too many places are worn, by the directory then, and that
 -- count rose; or the chip has a fault, and where a sector is damaged its sums differ

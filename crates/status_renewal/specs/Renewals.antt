@@ -23,14 +23,14 @@ pub record RestsRenewed (places : ℕ) (m : Map) (c : Chart) (it : Layout) (t af
     (k : History) : Type 0 where
   pub rests : StoryRests places m k
   pub renewed : HasRenewed places c it t after (now k)
-  pub tidy : IsTidy k.story after
+  pub tidy : IsTidy k after
 
 -- it rests on the map, some units were merged, and the tables agree
 pub record RestsStopped (places : ℕ) (m : Map) (c : Chart) (it : Layout) (t after : Tables)
     (k : History) : Type 0 where
   pub rests : StoryRests places m k
   pub stopped : HasStopped places c it t after (now k)
-  pub tidy : IsTidy k.story after
+  pub tidy : IsTidy k after
 
 -- ---- laws
 

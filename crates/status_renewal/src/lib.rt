@@ -23,7 +23,8 @@
 //! the places that aren't used those are retired that the status header lists, and those that were
 //! found worn (`costs`). Where the numbers that are kept are at most 3,840, each sector is read at most
 //! once (`once`). At each moment of it a power cut leaves the same map, and it is lawful after any
-//! lawful events.
+//! lawful events that leave clean what is marked (`tidy`): of that nothing is written before the header
+//! of the new status place, which ends the marks.
 #![tactic(auto)]
 
 mod laws;
@@ -31,6 +32,7 @@ mod passing;
 mod place;
 mod recovering;
 mod renewing;
+mod settling;
 
 pub use kept_numbers::{KeptNumbers, keeping_laws};
 pub use laws::{chaining_laws, ready_laws, renewal_laws};

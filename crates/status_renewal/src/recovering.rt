@@ -1,18 +1,17 @@
 //! The opening of a chip.
-ghost use Rattle.std.specs.Prelude.{◌≡◌, ◌≤◌, ◌<◌, ◌+◌, ◌^◌, [], length, OnOk, is_ok, true};
+ghost use Rattle.std.specs.Prelude.{◌≡◌, ◌≤◌, ◌<◌, ◌+◌, ◌^◌, [], length, OnOk};
 ghost use Rattle.ipl_meaning.specs.Chart.{chart_of};
-ghost use Rattle.ipl_meaning.specs.Tables.{IsCountedClean};
 ghost use Rattle.opening_rules.specs.Faults.{greatest_found};
 ghost use Rattle.restart.specs.Bytes.{ReadsBytes};
 ghost use Rattle.selective_merge.specs.Moving.{tables_of};
-ghost use Rattle.steps.specs.Steps.{TidyWork};
 ghost use Rattle.unit_io.specs.Accounts.{Accounts};
 ghost use Rattle.unit_io.specs.Costs.{Spends};
 ghost use Rattle.unit_io.specs.Reads.{OfContents};
 ghost use Rattle.status_renewal.specs.Passes.{HasErased};
-ghost use Rattle.status_renewal.specs.Recovers.{CompletesOpening, ErasesOpening, RecoversTold, LooksAtFaults, ReadsOnceWhereFit, IsNowhere, RecoversInSteps, HoldsOpened, OpeningCause};
+ghost use Rattle.status_renewal.specs.Recovers.{CompletesOpening, ErasesOpening, RecoversTold, LooksAtFaults, ReadsOnceWhereFit, RecoversInSteps, TidiesOpening, HoldsOpened, OpeningCause};
 
 use crate::renewing::renew_with;
+use crate::settling::settle_marks;
 use chip_trait::Chip;
 use ipl_base::ImageFault;
 use kept_numbers::KeptNumbers;
@@ -24,6 +23,10 @@ use selective_merge::Parts;
 /// records still have. No session is open. The tables then are of as many units as the chip keeps; of
 /// the places that aren't used those are retired that the status header lists, and those that were
 /// found worn.
+///
+/// Where marks count, the log sectors that a close mark says to be clean are known clean then. Before
+/// anything is written one barrier is asked for them, and nothing is written to them before the new
+/// status place, in which no mark stands.
 ///
 /// The numbers are found while the log sectors are read. Only where they are more than 3,840, the
 /// logs are read again, unit by unit, since a unit whose numbers don't fit is merged.
@@ -37,6 +40,7 @@ pub fn recover<C: Chip>(
     scratch: &mut Scratch,
     parts: &mut Parts,
     kept: &mut KeptNumbers,
+    marks: bool,
 ) -> Result<(), ImageFault>
     requires scratch { scratch.old ≡ (C.told chip.old).places }
     requires directory { length parts.old.directory.in_use ≡ (C.told chip.old).places }
@@ -50,7 +54,7 @@ pub fn recover<C: Chip>(
         (C.told chip.new) }
     ensures number { OnOk result (OfContents (C.told chip.old) (λ x. parts.new.counter
         ≤ greatest_found (chart_of x) (C.told chip.old).places + 1 + 2 ^ 14)) }
-    ensures steps { RecoversInSteps (C.told chip.old).places (C.told chip.old) result
+    ensures steps { RecoversInSteps marks (C.told chip.old).places (C.told chip.old) result
         (tables_of parts.new) (C.told chip.new) }
 
     // Why it fails over what the chip holds: where that has no fault and its pages say a map, only
@@ -67,9 +71,10 @@ pub fn recover<C: Chip>(
         × (length parts.new.directory.in_use ≡ (C.told chip.old).places)
         × (parts.new.overflow.places ≡ (C.told chip.old).places) }
     // At most one erase a unit, and one for the status place, and one more for each place that was found
-    // worn and is retired; the others that are retired are those that the status header lists and that
-    // weren't used; and the tables have as many units as that says.
-    ensures costs { ErasesOpening (C.told chip.old).places result parts.new.directory
+    // worn and is retired; at most three barriers for each of these, and one for marks; the others that
+    // are retired are those that the status header lists and that weren't used; and the tables have as
+    // many units as that says.
+    ensures costs { ErasesOpening marks (C.told chip.old).places result parts.new.directory
         (C.told chip.old) (C.told chip.new) }
     // Where the committed numbers that live records have are at most 3,840, it reads each sector at
     // most once, from the first header to the seal of the status place.
@@ -77,11 +82,11 @@ pub fn recover<C: Chip>(
     // Done, the status place is a new one, which was erased.
     ensures renewed { OnOk result (Spends (HasErased parts.new.status.place)
         (C.told chip.old) (C.told chip.new)) }
-    // Whatever the chip holds, what it adds is lawful after any lawful events; and done, what the
-    // tables count as clean is clean.
-    ensures tidy { Spends
-        (TidyWork IsNowhere (IsCountedClean (tables_of parts.new)) (is_ok result ≡ true))
-        (C.told chip.old) (C.told chip.new) }
+    // Whatever the chip holds, what it adds is lawful after any lawful events that leave clean what is
+    // marked; and done, what the tables count as clean is clean. Where marks don't count, nothing has to
+    // be clean before.
+    ensures tidy { TidiesOpening marks (C.told chip.old).places (C.told chip.old) result
+        (tables_of parts.new) (C.told chip.new) }
     ensures accounts { Accounts (OpeningCause parts.new.directory) result
         (C.told chip.old) (C.told chip.new) }
 {
@@ -93,7 +98,11 @@ pub fn recover<C: Chip>(
         &mut parts.status,
         &mut parts.counter,
         kept,
+        marks,
     )?;
+    settle_marks(chip, &parts.directory)?;
     renew_with(chip, parts, kept, found)?;
+    // No mark stands in the new status place.
+    parts.directory.end_marks();
     Ok(())
 }

@@ -9,10 +9,10 @@ use Rattle.ipl_meaning.specs.Layout.{Layout}
 use Rattle.ipl_meaning.specs.Rests.{EachStands, StoryRests}
 use Rattle.ipl_meaning.specs.Tables.{Tables, IsCountedClean}
 use Rattle.ipl_meaning.specs.Agrees.{Agrees}
-use Rattle.unit_io.specs.Leads.{IsSteady, Leads, IsStopped}
+use Rattle.unit_io.specs.Leads.{IsSteady, LeadsWhere, Leads, IsStopped}
 use Rattle.unit_io.specs.ReadsAt.{ReadsAt}
 use Rattle.unit_io.specs.Spots.{Programs}
-use Rattle.steps.specs.Steps.{Settled, NoOtherEnd, EndsWith, Outcome, TidyWork, Steps, KeepsTables}
+use Rattle.steps.specs.Steps.{Settled, NoOtherEnd, EndsWith, OutcomeWhere, Outcome, TidyWork, Steps, KeepsTables}
 
 -- ---- what was left
 
@@ -22,23 +22,23 @@ NothingIsDone = (Each : History → Type 0) (Does : Story → Type 0) (Settles :
     → IsSteady h t → Each h → Does [] → Then h → Outcome Each Does Settles Then h t t
 
 -- one part of it, which settled, and then another
-abbrev pub PartsAreJoined : Type 1
-PartsAreJoined = (Each : History → Type 0) (D1 D2 D3 : Story → Type 0) (A B : Type 0) (T1 T2 : History → Type 0) (h : History) (old mid new : Told)
-    → (first : Outcome Each D1 A T1 h old mid) → A → Outcome Each D2 B T2 (adds_all first.added h) mid new
-    → ((a b : Story) → D1 a → D2 b → D3 (b ++ a)) → Outcome Each D3 B T2 h old new
+abbrev pub PartsAreJoined : Type 0 → Type 1
+PartsAreJoined Sound = (Each : History → Type 0) (D1 D2 D3 : Story → Type 0) (A B : Type 0) (T1 T2 : History → Type 0) (h : History) (old mid new : Told)
+    → (first : OutcomeWhere Sound Each D1 A T1 h old mid) → A → OutcomeWhere Sound Each D2 B T2 (adds_all first.added h) mid new
+    → ((a b : Story) → D1 a → D2 b → D3 (b ++ a)) → OutcomeWhere Sound Each D3 B T2 h old new
 
 -- the same, said less of
-abbrev pub LessIsSaid : Type 1
-LessIsSaid = (P Q : History → Type 0) (D1 D2 : Story → Type 0) (A B : Type 0) (T1 T2 : History → Type 0) (h : History) (old new : Told)
+abbrev pub LessIsSaid : Type 0 → Type 1
+LessIsSaid Sound = (P Q : History → Type 0) (D1 D2 : Story → Type 0) (A B : Type 0) (T1 T2 : History → Type 0) (h : History) (old new : Told)
     → ((k : History) → P k → Q k) → ((a : Story) → D1 a → D2 a) → (B → A) → (B → (k : History) → T1 k → T2 k)
-    → Outcome P D1 A T1 h old new → Outcome Q D2 B T2 h old new
+    → OutcomeWhere Sound P D1 A T1 h old new → OutcomeWhere Sound Q D2 B T2 h old new
 
 -- a call that writes fails only where a write failed: so whatever is said of other ends
-abbrev pub WritesAreOutcomes : Type 1
-WritesAreOutcomes = (T : Type 0) (Each : History → Type 0) (Does : Bool → Story → Type 0) (Then : T → History → Type 0) (Else : History → Type 0)
+abbrev pub WritesAreOutcomes : Type 0 → Type 1
+WritesAreOutcomes Sound = (T : Type 0) (Each : History → Type 0) (Does : Bool → Story → Type 0) (Then : T → History → Type 0) (Else : History → Type 0)
     (h : History) (old new : Told) (result : Result T ChipFault)
-    → Leads Each Does Then h old result new → IfErr result (λ fault. IsStopped fault old new)
-    → Outcome Each (Does (is_ok result)) (Settled result old new) (EndsWith result Then Else) h old new
+    → LeadsWhere Sound Each Does Then h old result new → IfErr result (λ fault. IsStopped fault old new)
+    → OutcomeWhere Sound Each (Does (is_ok result)) (Settled result old new) (EndsWith result Then Else) h old new
 
 -- A call that writes and fails only where a write failed. Its events are lawful, and what was done
 -- and holds then says which sectors are clean, and what holds besides.

@@ -10,6 +10,7 @@ use Rattle.ipl_meaning.specs.Layout.{Layout}
 use Rattle.ipl_meaning.specs.Rests.{EachStands, StoryRests}
 use Rattle.ipl_meaning.specs.Tables.{Tables, IsCountedClean}
 use Rattle.ipl_meaning.specs.Agrees.{Agrees}
+use Rattle.ipl_meaning.specs.Marks.{KeepsMarks}
 use Rattle.unit_io.specs.Leads.{IsSteady}
 use Rattle.unit_io.specs.Costs.{Spends}
 
@@ -29,15 +30,23 @@ EndsWith result Then Else k = MatchResult result (λ v. Then v k) (λ _. Else k)
 
 -- ---- what it left
 
--- What was left since a history. What the chip tells grew by the added events. At each moment of them Each holds of the
--- history then, and Does holds of them. Where it settled, the chip holds what the history then leaves, and Then holds of that.
-pub record Outcome (Each : History → Type 0) (Does : Story → Type 0) (Settles : Type 0) (Then : History → Type 0) (h : History) (old new : Told) : Type 0 where
+-- What was left since a history. What the chip tells grew by the added events, and its places are as many as before. At each
+-- moment of them Each holds of the history then, and where the first condition holds, marks are kept: where no marked sector was
+-- used before, none is then. Does holds of the events. Where it settled, the chip holds what the history then leaves, and Then
+-- holds of that.
+pub record OutcomeWhere (Sound : Type 0) (Each : History → Type 0) (Does : Story → Type 0) (Settles : Type 0) (Then : History → Type 0) (h : History) (old new : Told) : Type 0 where
   pub added : Story
+  pub places : new.places ≡ old.places
   pub history : new.history ≡ option_map (adds_all added) old.history
   pub each_moment : AtEachMoment (λ e. Each (adds_all e h)) added
+  pub marks : Sound → AtEachMoment (λ e. KeepsMarks old.places h (adds_all e h)) added
   pub does : Does added
   pub steady : Settles → IsSteady (adds_all added h) new
   pub ends : Settles → Then (adds_all added h)
+
+-- the same, where marks are kept in any case
+abbrev pub Outcome : (History → Type 0) → (Story → Type 0) → Type 0 → (History → Type 0) → History → Told → Told → Type 0
+Outcome Each Does Settles Then h old new = OutcomeWhere (Unit {0}) Each Does Settles Then h old new
 
 -- The events say nothing. They are lawful after any lawful events that leave the one set of sectors clean; and where all settled,
 -- after any events that leave it clean, the other set is clean too.

@@ -3,6 +3,7 @@ use Rattle.std.proofs.Common.{◌≡◌, ℕ, ◌≤◌, ◌*◌, Result, Ok, Er
 use Rattle.chip_trait.specs.Story.{Contents, held}
 use Rattle.chip_trait.specs.Told.{History, Told, Counts, adds_all}
 use Rattle.ipl_rules.specs.State.{Map, State}
+use Rattle.ipl_meaning.proofs.CarriedLemmas.{tidy_is_carried}
 use Rattle.ipl_meaning.specs.Chart.{Chart, chart_of}
 use Rattle.ipl_meaning.specs.Layout.{Layout}
 use Rattle.ipl_meaning.specs.Rests.{now, EachStands, EachStandsEither, StoryRests}
@@ -146,7 +147,8 @@ calls_advance {T = T} {U = U} {E = E} {F = F} First Second Each next before betw
           let then_story : MemoryFitsStory places k fitted.layout between state = record {
             fits = subst (λ (z : Contents). MemoryFits places (chart_of z) fitted.layout between state)
                 is fitted.fits;
-            tidy = did.does.clean tt h.story story.tidy;
+            tidy = tidy_is_carried places h it before.tables between.tables did.added
+                (record { mirrors = story.fits.mirrors; tidy = story.tidy }) (did.does.clean tt);
             rests = did.ends tt;
           } in
           steps_then T U E F (First places state) (Second places state)

@@ -13,6 +13,7 @@ use Rattle.ipl_model.specs.declared.reply.Reply.{Reply}
 use Rattle.ipl_model.specs.Step.{Stepped, step}
 use Rattle.ipl_format.specs.Sector.{sector_in}
 use Rattle.record_locks.specs.Held.{Slots}
+use Rattle.ipl_meaning.proofs.CarriedLemmas.{tidy_is_carried}
 use Rattle.ipl_meaning.specs.Chart.{Chart, chart_of}
 use Rattle.ipl_meaning.specs.Layout.{Layout, Laid}
 use Rattle.ipl_meaning.specs.Stands.{Says, StandsIn}
@@ -143,7 +144,8 @@ module _ {T E : Type 0} (Each : ℕ → State → History → Type 0) (next : St
           sessions = at_end.fits.sessions;
           shows = subst (ShowsState places after then)
               (same_held y (held k.start k.story) new told_then steady.holds) showing;
-          tidy = did.does.clean settled h.story at.story.tidy;
+          tidy = tidy_is_carried places h at.shown.layout before.memory.tables after.memory.tables did.added
+              (record { mirrors = at.shown.fits.mirrors; tidy = at.story.tidy }) (did.does.clean settled);
         };
       }
 

@@ -27,8 +27,10 @@ module _ (T U E F : Type 0) (First Second Each : History → Type 0) (t between 
       let wide : Outcome Each (TidyWork (IsCountedClean t) (IsCountedClean between) (Unit {0}))
       (Unit {0}) (AtFirst v) h old mid = record {
         added = first.added;
+        places = first.places;
         history = first.history;
         each_moment = λ later e split. one _ (first.each_moment later e split);
+        marks = first.marks;
         does = first.does;
         steady = first.steady;
         ends = first.ends;

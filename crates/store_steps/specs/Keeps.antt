@@ -64,7 +64,7 @@ pub record ShowsState (places : ℕ) (store : View) (state : State) (x : Content
 pub record IsUp (places : ℕ) (store : View) (h : History) (state : State) : Type 0 where
   pub sessions : AreSessionsOf store.memory.slots state
   pub shows : ShowsState places store state (held h.start h.story)
-  pub tidy : IsTidy h.story store.memory.tables
+  pub tidy : IsTidy h store.memory.tables
 
 -- The chip holds what the history leaves, and no write has failed; the story rests on the state's
 -- map, in as many units as the store has; and a store that isn't down keeps the rest.
@@ -181,8 +181,8 @@ said_rests places m (piece ∷ pieces) h rests =
     says_keep places m (adds_all (sayings pieces) h) piece (said_rests places m pieces h rests)
 
 -- and what was clean is clean
-said_tidy : (t : Tables) (pieces : List (List ℕ)) (h : History) → IsTidy h.story t
-    → IsTidy (sayings pieces ++ h.story) t
+said_tidy : (t : Tables) (pieces : List (List ℕ)) (h : History) → IsTidy h t
+    → IsTidy (adds_all (sayings pieces) h) t
 said_tidy t [] h tidy = tidy
 said_tidy t (piece ∷ pieces) h tidy = said_tidy t pieces h tidy
 
@@ -261,7 +261,7 @@ OpenedStoresKeep = (places units : ℕ) (t : Tables) (slots : Slots) (told : Tol
     → AreSessionsOf slots (at_rest m)
     → OfContents told (λ x. (it : Layout) × (it.count ≡ units) × Mirrors places (chart_of x) it t
     × Says places (chart_of x) it m)
-    → IsSteady h told → StoryRests places m h → IsTidy h.story t
+    → IsSteady h told → StoryRests places m h → IsTidy h t
     → KeepsStore places (limits_of units) (opened_with units t slots) told h (at_rest m)
 
 -- A fault of a call has its excuse, where the store keeps a state, and says no other number of worn

@@ -78,6 +78,7 @@ impl Transactions {
         ensures turns { TurnsInMemory (λ state. after_abort state s) self.old self.new }
         ensures framed { KeepsFramed self.old.pages self.new.pages }
         ensures drawn { self.new.pages.parts.counter ≡ self.old.pages.parts.counter }
+        ensures ended { self.new.sessions ≡ after_end self.old.sessions s }
     {
         let Some(number) = self.sessions.number(s) else {
             unreachable!("the session is open");

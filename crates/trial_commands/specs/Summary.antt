@@ -69,6 +69,7 @@ is_conflict_refusal refusal.HoldsFull = false
 is_conflict_refusal refusal.NotHeld = false
 is_conflict_refusal refusal.PageFull = false
 is_conflict_refusal (refusal.Twice s) = false
+is_conflict_refusal (refusal.SessionsOpen s) = false
 
 -- the reply `err 7`
 abbrev pub is_conflict : Reply → Bool

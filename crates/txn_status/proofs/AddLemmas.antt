@@ -15,6 +15,7 @@ use Rattle.ipl_meaning.specs.Chart.{Chart}
 use Rattle.ipl_meaning.specs.Layout.{Layout}
 use Rattle.ipl_meaning.specs.Stands.{Says, StandsBeside}
 use Rattle.ipl_meaning.specs.Rests.{now, EachStandsEither, WornAreIdle, StoryRests}
+use Rattle.ipl_meaning.proofs.CarriedLemmas.{tidy_is_carried}
 use Rattle.ipl_meaning.proofs.PartLemmas.{idle_still}
 use Rattle.ipl_meaning.proofs.WornLemmas.{worn_by_layout}
 use Rattle.std.proofs.lemmas.Bool.{ne_eqb}
@@ -23,11 +24,13 @@ use Rattle.ipl_meaning.specs.Found.{MentionsBelow}
 use Rattle.ipl_meaning.specs.Tables.{Status, Tables, IsCountedClean}
 use Rattle.ipl_meaning.specs.TableSteps.{after_commit, CountedShrink}
 use Rattle.ipl_meaning.specs.Mirrors.{Mirrors}
+use Rattle.ipl_meaning.specs.Marks.{MarksNoMore}
 use Rattle.ipl_meaning.proofs.MirrorLemmas.{commit_sectors_may_go}
 use Rattle.ipl_meaning.proofs.CommitLemmas.{commit_sectors_add}
 use Rattle.ipl_meaning.proofs.CommitFollowLemmas.{tables_follow_commits}
 use Rattle.ipl_meaning.proofs.StandsLemmas.{stands_after_commits}
 use Rattle.ipl_meaning.proofs.CountedLemmas.{counted_follow}
+use Rattle.ipl_meaning.proofs.MarkLemmas.{commits_mark_no_more}
 use Rattle.unit_io.specs.Leads.{IsStopped}
 use Rattle.unit_io.specs.Spots.{Programs, IsSpot}
 use Rattle.unit_io.specs.Charts.{Charts, Gains}
@@ -136,6 +139,10 @@ module _ (places : ℕ) (c : Chart) (it : Layout) (t : Tables) (numbers active :
   stands_added n says = stands_after_commits places c it n t.status.first sector numbers committed
       mirrors.laid may_commit says
 
+  pub marked_added : MarksNoMore places c y it.status
+  marked_added = commits_mark_no_more places c it t.status.first sector numbers committed mirrors.laid
+      may_commit
+
   pub counted_added : CountedShrink t
       (with_added t numbers (1 + t.next) active) it.status t.status.first
   counted_added q s counted_clean = (counted_follow places c it t mirrors).2 numbers active
@@ -213,6 +220,11 @@ added_in_steps places status next numbers result old new are least room leads st
     let worn : WornAreIdle places h.story y = worn_by_layout places h.story y (layout_added it numbers) then.mirrors.laid (λ q on.
     let idle = ready.rests.worn it mirrors.laid q on in
     idle_still places (now h) y it (layout_added it numbers) q (λ s. rw (ne_eqb status.place q (λ is. idle.not_status (sym at ∙ is))) refl) refl refl (λ u low. (refl, refl)) idle) in
+    let no_more : MarksNoMore places (now h) y status.place =
+    subst (λ (p : ℕ). MarksNoMore places (now h) y p) (sym at)
+    (subst (λ (z : Chart). MarksNoMore places (now h) z it.status)
+    (same_chart places status next numbers (now h) it t mirrors has)
+    (marked_added places (now h) it t numbers active mirrors ready.may are fits_least fits_room)) in
     let apart : (base : Story) → AreClean (IsCountedClean t) base → (a : Story)
     → Programs status.place (IsSpot status.first) true a
     → AreClean (IsCountedClean (with_added t numbers (1 + next) active)) (a ++ base) =
@@ -229,7 +241,7 @@ added_in_steps places status next numbers result old new are least room leads st
     t (with_added t numbers (1 + next) active) h old new result
     (leads m n h steady ready.rests ready.closed
     (ready.agrees.tidy status.place status.first counted)
-    stands worn) stopped
+    stands worn no_more) stopped
     (λ done a programs. (
       programs.silent,
       record {
@@ -244,7 +256,8 @@ added_in_steps places status next numbers result old new are least room leads st
       agrees = record {
         mirrors = (adds_chart places status next numbers (now h) (now (adds_all a h)) are least room
             is.1 it t active mirrors has ready.may).mirrors;
-        tidy = apart h.story ready.agrees.tidy a programs;
+        tidy = tidy_is_carried places h it t (with_added t numbers (1 + next) active) a ready.agrees
+            (λ base clean. apart base clean a programs);
       };
     })
 

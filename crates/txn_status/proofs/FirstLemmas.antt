@@ -1,5 +1,5 @@
 -- A commit sector leaves the header of its place as it is.
-use Rattle.std.proofs.Common.{◌≡◌, ◌≤◌, ◌==◌, ◌&&◌, ℕ, inl, inr, refl, ap, ◌∙◌, arith}
+use Rattle.std.proofs.Common.{◌≤◌, ◌==◌, ◌&&◌, ℕ, inl, inr, refl, ap, ◌∙◌, arith}
 use Rattle.std.proofs.lemmas.Bool.{cases_Bool, and_parts, eqb-true}
 use Rattle.chip_trait.specs.Told.{Told}
 use Rattle.ipl_format.specs.Sector.{Sector}

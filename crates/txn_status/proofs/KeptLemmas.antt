@@ -18,6 +18,7 @@ use Rattle.ipl_meaning.proofs.StoryLemmas.{either_is_kept}
 use Rattle.unit_io.specs.Leads.{IsSteady, KeepsMap, SwitchesMap}
 use Rattle.unit_io.specs.Spots.{Programs, IsSpot}
 use Rattle.unit_io.specs.Charts.{Charts, Gains}
+use Rattle.unit_io.proofs.SectorLemmas.{untouched}
 use Rattle.unit_io.proofs.LeadsLemmas.{leads_none, leads_then, leads_failed, leads_weaker}
 use Rattle.unit_layout.specs.declared.status.StatusHeader.{StatusHeader}
 use Rattle.unit_layout.specs.Header.{SpellsStatus}
@@ -137,8 +138,8 @@ keeps_more places p generation serial numbers m h total i few bare clean old mid
     (one m k so.ends.0 so.ends.1.0
     (so.ends.1.1.others p 0 (λ _ least most. omega (arith, least)) ∙ bare)
     (λ zero_one. omega (arith, zero_one))
-    (so.does.others h.story p (1 + i) (λ _ spot. omega (arith, spot.1))
-    (clean (1 + i) (omega arith, omega (arith, few)))))
+    (untouched k p (1 + i) (so.does.others h.story p (1 + i) (λ _ spot. omega (arith, spot.1))
+    (clean (1 + i) (omega arith, omega (arith, few))))))
     (λ a b first then. programs_then p (IsPartSpot i) (IsSpot (1 + i)) (IsPartSpot (i + 1)) true
     (is_ok result) b a (λ s in_i at. omega (arith, in_i.1, at))
     (λ s in_i. (in_i.0, omega (arith, in_i.1))) (λ s at. (omega (arith, at), omega (arith, at)))

@@ -8,3 +8,4 @@ pub mod ReadLemmas
 pub mod TidyLemmas
 pub mod ListedLemmas
 pub mod FirstLemmas
+pub mod MarkingLemmas

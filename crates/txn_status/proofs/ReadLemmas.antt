@@ -1,7 +1,7 @@
 -- Commit sectors, one after another.
-use Rattle.std.proofs.Common.{◌≡◌, take, ◌&&◌, inl, inr, ◌≤◌, ◌<◌, ◌+◌, ◌*◌, ℕ, zero, suc, max, List, [], ◌∷◌, ◌++◌, Option, Some, None, drop, refl, sym, ◌∙◌, ap, subst, arith, add-one, length, ◌/◌, ◌%◌, ◌==◌, true, nat_le}
+use Rattle.std.proofs.Common.{◌≡◌, take, ◌&&◌, inl, inr, ◌≤◌, ◌<◌, ◌+◌, ◌*◌, ℕ, zero, suc, max, List, [], ◌∷◌, ◌++◌, Option, Some, None, drop, refl, sym, ◌∙◌, ap, subst, arith, add-one, nat_le}
 use Rattle.std.proofs.lemmas.List.{drop-drop}
-use Rattle.std.proofs.lemmas.Bool.{le-leb, leb-true, cases_eq, and_parts, cases_Bool, eqb-true}
+use Rattle.std.proofs.lemmas.Bool.{cases_eq, cases_Bool}
 use Rattle.ipl_format.specs.Numbers.{long_at}
 use Rattle.ipl_format.specs.Sector.{Sector}
 use Rattle.chip_trait.specs.Story.{Contents}
@@ -9,21 +9,24 @@ use Rattle.chip_trait.specs.Told.{Told}
 use Rattle.ipl_base.specs.declared.fault.ChipFault.{ChipFault}
 use Rattle.ipl_base.specs.declared.fault.ChipFault.TheVariants.{ReadFault, Stopped, Damaged, Malformed, WornOut}
 use Rattle.ipl_meaning.specs.Chart.{Chart}
-use Rattle.unit_io.specs.Kinds.{of_kinds, commit_only, header_only, sector_named}
+use Rattle.unit_io.specs.Kinds.{of_kinds, header_only, sector_named}
 use Rattle.sector_format.specs.declared.sector.Head.{Head}
 use Rattle.sector_format.specs.Decode.{sector_of}
 use Rattle.unit_io.specs.ReadsAt.{IsCauseAt, ReadsOnce}
 use Rattle.unit_io.proofs.OnceLemmas.{once_then, once_wider}
 use Rattle.opening_rules.specs.First.{greatest_of, joined_below}
-use Rattle.opening_rules.specs.Payloads.{numbers_within, is_commit_payload}
-use Rattle.opening_rules.specs.Live.{kept, is_commit_of, commit_at}
+use Rattle.opening_rules.specs.Payloads.{numbers_within}
+use Rattle.opening_rules.specs.Live.{commit_at, noted_at}
 use Rattle.opening_rules.specs.LaidOut.{numbers_of}
-use Rattle.opening_rules.specs.Faults.{commit_number, greatest_of_commits}
+use Rattle.opening_rules.specs.Faults.{noted_number, greatest_of_notes}
+use Rattle.opening_rules.specs.Marked.{serial_of}
 use Rattle.ipl_format.specs.Whole.{IsWhole}
 use Rattle.opening_rules.proofs.FirstLemmas.{greatest_step, joined_step}
 use Rattle.opening_rules.proofs.BelowLemmas.{greatest_of-push}
+use Rattle.opening_rules.proofs.LiveLemmas.{noted_commits}
 use Rattle.number_set.specs.Numbers.{Numbers, with_list, with_number, with_numbers}
 use Rattle.txn_status.specs.ReadingIn.{under, IsCommitSpot, IsAt, IsStatusAt}
+use Rattle.txn_status.specs.Marks.{MarksRead, with_noted, marks_below}
 
 -- ---- the numbers of a payload
 
@@ -64,34 +67,7 @@ payload_more n next bytes first old new so_far is more =
       is,
     ) refl
 
--- a commit sector's payload has at most 60 numbers
-pub few_numbers : (payload : List ℕ) → is_commit_payload payload ≡ true → length payload / 8 ≤ 60
-few_numbers payload is = leb-true (length payload / 8) 60
-    (and_parts (nat_le 1 (length payload / 8)) (nat_le (length payload / 8) 60)
-    (and_parts (length payload % 8 == 0) _ is).1).1
-
 -- ---- one sector
-
--- what counts is a commit sector
-pub kept_commit : (generation : ℕ) (o : Option Sector)
-    → kept (is_commit_of generation) (commit_only o) ≡ kept (is_commit_of generation) o
-kept_commit generation None = refl
-kept_commit generation (Some s) = elim (cases_Bool (s.kind == 6)) [
-  | inl is ↦ let six : s.kind ≡ 6 = eqb-true s.kind 6 is in rw six refl
-  | inr other ↦ elim (cases_Bool (nat_le 6 s.kind)) [
-    | inl least ↦ elim (cases_Bool (nat_le s.kind 6)) [
-      | inl most ↦ rw (least, most) refl
-      | inr more ↦ rw (least, more, other) refl
-    ]
-    | inr less ↦ rw (less, other) refl
-  ]
-]
-
-pub commit_here : (c : Chart) (p s generation : ℕ) (o : Option Sector) → 1 ≤ s
-    → o ≡ commit_only (c p s) → kept (is_commit_of generation) o ≡ commit_at c
-    (under p generation) s
-commit_here c p s generation o some is =
-    rw (le-leb 1 s some) (ap (kept (is_commit_of generation)) is ∙ kept_commit generation (c p s))
 
 -- why a spot isn't read, told of more spots
 pub cause_wider : (At More : ℕ → ℕ → Type 0) (e : ChipFault) (old mid new : Told)
@@ -130,12 +106,26 @@ once_in_place place n old new =
 -- ---- the sectors of a place
 
 pub number_more : (c : Chart) (p generation s greatest next : ℕ)
-    → greatest ≡ greatest_of_commits 0 c (under p generation) s
-    → next ≡ max greatest (commit_number (commit_at c (under p generation) s))
-    → next ≡ greatest_of_commits 0 c (under p generation) (s + 1)
+    → greatest ≡ greatest_of_notes 0 c (under p generation) s
+    → next ≡ max greatest (noted_number (noted_at c (under p generation) s))
+    → next ≡ greatest_of_notes 0 c (under p generation) (s + 1)
 number_more c p generation s greatest next so_far number =
-    number ∙ ap (λ (n : ℕ). max n (commit_number (commit_at c (under p generation) s))) so_far
-    ∙ sym (greatest_step 0 (λ j. commit_number (commit_at c (under p generation) j)) s)
+    number ∙ ap (λ (n : ℕ). max n (noted_number (noted_at c (under p generation) s))) so_far
+    ∙ sym (greatest_step 0 (λ j. noted_number (noted_at c (under p generation) j)) s)
+
+-- the marks with one sector more
+pub marks_more : (c : Chart) (p generation s : ℕ) (before after : MarksRead)
+    → before ≡ marks_below c p generation s
+    → after ≡ with_noted (noted_at c (under p generation) s) before
+    → after ≡ marks_below c p generation (s + 1)
+marks_more c p generation s before after so_far more =
+    rw (
+      more,
+      so_far,
+      noted_commits c (under p generation) s,
+      greatest_step 0 (λ j. serial_of (commit_at c (under p generation) j)) s,
+      add-one s,
+    ) refl
 
 pub numbers_more : (c : Chart) (p generation s : ℕ) (before after : List ℕ)
     → before ≡ with_numbers (joined_below

@@ -51,5 +51,6 @@ mirrors_looks_at_the_set places c it t numbers same mirrors = record {
     home = was.home;
     elsewhere = was.elsewhere;
   };
+  logs = let was = mirrors.logs in record { unmarked = was.unmarked; whole = was.whole };
   counted_clean = mirrors.counted_clean;
 }

@@ -1,7 +1,7 @@
 -- What a new status place makes of a chart, of the tables, and of what a power cut leaves.
-use Rattle.std.proofs.Common.{◌≡◌, ◌↔◌, ℕ, zero, suc, ◌<◌, ◌≤◌, ◌+◌, ◌-◌, ◌*◌, ◌/◌, ◌%◌, false, min, List, length, drop, get_or, slice_index, Some, None, IsTrue, inl, inr, refl, sym, ◌∙◌, ap, subst, arith}
+use Rattle.std.proofs.Common.{◌≡◌, ◌≢◌, ◌↔◌, ℕ, zero, suc, ◌<◌, ◌≤◌, ◌+◌, ◌-◌, ◌*◌, ◌/◌, ◌%◌, false, min, List, length, drop, get_or, slice_index, Some, None, IsTrue, inl, inr, refl, sym, ◌∙◌, ap, subst, arith}
 use Rattle.std.specs.List.{All, Contains}
-use Rattle.std.proofs.lemmas.Bool.{cases_lt, cases_Bool, false≢true}
+use Rattle.std.proofs.lemmas.Bool.{cases_lt, cases_eq, cases_Bool, eq-eqb, ne_eqb, false≢true}
 use Rattle.std.proofs.lemmas.List.{length-take, length-drop, get_or-take, get_or-drop}
 use Rattle.std.proofs.lemmas.List.Elements.{All-contains, All-take, All-drop, All-weaker}
 use Rattle.chip_trait.specs.Chart.{with_sector}
@@ -12,7 +12,7 @@ use Rattle.ipl_format.specs.Commit.{SpellsCommit, IsLong}
 use Rattle.ipl_format.proofs.PayloadLemmas.{commits_spell_once}
 use Rattle.ipl_rules.specs.State.{Map}
 use Rattle.ipl_meaning.specs.Chart.{Chart}
-use Rattle.ipl_meaning.specs.Layout.{Layout, Laid, IsStatus}
+use Rattle.ipl_meaning.specs.Layout.{Layout, Laid, IsStatus, HasNoMark}
 use Rattle.ipl_meaning.specs.Rests.{WornAreIdle}
 use Rattle.ipl_meaning.specs.Stands.{Says, StandsBeside}
 use Rattle.ipl_meaning.specs.Steps.{SameBut, KeepsPages, KeepsNumbers, with_status, ComesToNothing, MaySwitch}
@@ -20,6 +20,7 @@ use Rattle.ipl_meaning.specs.Found.{MentionsBelow, IsPlaceBelow}
 use Rattle.ipl_meaning.specs.Tables.{Status, Tables}
 use Rattle.ipl_meaning.specs.TableSteps.{IsRenewed}
 use Rattle.ipl_meaning.specs.Mirrors.{Mirrors}
+use Rattle.ipl_meaning.specs.Marks.{MarksNoMore}
 use Rattle.ipl_meaning.proofs.MirrorLemmas.{status_headers_may_go}
 use Rattle.ipl_meaning.proofs.IdleLemmas.{idle_places_do_not_count}
 use Rattle.ipl_meaning.proofs.IdleFollowLemmas.{tables_follow_idle_places}
@@ -27,6 +28,7 @@ use Rattle.ipl_meaning.proofs.RenewalFollowLemmas.{tables_follow_renewals}
 use Rattle.ipl_meaning.proofs.SwitchLemmas.{status_headers_switch, kept_numbers_keep_pages}
 use Rattle.ipl_meaning.proofs.StandsLemmas.{kept_pages_keep_the_map, stands_after_renewals}
 use Rattle.ipl_meaning.proofs.WornLemmas.{worn_by_layout, idle_after_renewals}
+use Rattle.ipl_meaning.proofs.MarkLemmas.{renewals_mark_no_more}
 use Rattle.number_set.specs.Numbers.{among}
 use Rattle.number_set.proofs.AmongLemmas.{among_is_contains}
 use Rattle.txn_status.specs.Commits.{commit_sector, part_of}
@@ -219,10 +221,28 @@ module _ (places : ℕ) (c y : Chart) (it : Layout) (t : Tables) (p : ℕ) (kept
       few : (i : ℕ) → i < parts_of kept → 1 + i < 256
       few i low = omega (arith, is.most, low)
 
+  no_mark : HasNoMark y p head.generation
+  no_mark s mark is_mark =
+      let six = only_commits s mark is_mark.here in omega (arith, six, is_mark.kind)
+
+  no_mark_then : HasNoMark (with_sector y p 0 head) p head.generation
+  no_mark_then s mark is_mark = elim (cases_eq s 0) [
+    | inl first ↦ absurd (omega (arith, first, is_mark.where_it_is.0))
+    | inr other ↦ no_mark s mark (record {
+      here = sym (other_sector s other) ∙ is_mark.here;
+      kind = is_mark.kind;
+      of_generation = is_mark.of_generation;
+      where_it_is = is_mark.where_it_is;
+    })
+  ]
+    where
+      other_sector : (s : ℕ) → s ≢ 0 → with_sector y p 0 head p s ≡ y p s
+      other_sector s other = rw (eq-eqb p p refl, ne_eqb 0 s (λ e. other (sym e))) refl
+
   may_switch : MaySwitch places it.count y p head (among kept)
   may_switch = status_headers_may_go places y it t p head
       (among kept) mirrors_written is.within no_header is.is_head.kind is.is_head.counts
-      (omega (arith, is.is_head.serial)) status_there
+      (omega (arith, is.is_head.serial)) status_there no_mark
 
   waits : All (λ k. among kept k ≡ false) t.active
   waits = All-weaker (λ k. ¬ Contains kept k) (λ k. among kept k ≡ false)
@@ -278,6 +298,7 @@ module _ (places : ℕ) (c y : Chart) (it : Layout) (t : Tables) (p : ℕ) (kept
       is_head = head_then places t after it.count p (1 + n) head
           is.mirrors.directory.units switched.renewed is.is_head;
       mirrors = mirrors_then;
+      unmarked = no_mark_then;
       pages = λ keeps u page now low in_unit shows.
           (status_headers_switch places y it p head (among kept) kept_still.0 may_switch).1 u page
           now low in_unit
@@ -289,6 +310,10 @@ module _ (places : ℕ) (c y : Chart) (it : Layout) (t : Tables) (p : ℕ) (kept
       → StandsBeside places y (with_sector y p 0 head) m
   stands_then m says keeps = stands_after_renewals places y it m p head (among kept) kept_still.0
       (kept_pages_keep_the_map places c y it it m kept_still.1 refl says) may_switch keeps
+
+  -- no more is marked with the header, since only commit sectors stand at its place
+  pub marked_then : MarksNoMore places y (with_sector y p 0 head) p
+  marked_then = renewals_mark_no_more places y it p head (among kept) kept_still.0 may_switch
 
   -- worn places are idle with the header too, since this one isn't worn
   pub worn_then : (story : Story) → WornAreIdle places story y → is_worn story p ≡ false

@@ -14,13 +14,16 @@ use Rattle.ipl_meaning.specs.Chart.{Chart, chart_of}
 use Rattle.ipl_meaning.specs.Layout.{Layout}
 use Rattle.ipl_meaning.specs.Steps.{with_status}
 use Rattle.ipl_meaning.specs.Rests.{now, EachStands, StoryRests}
-use Rattle.ipl_meaning.specs.Tables.{OverflowLists, Tables, Status, IsCountedClean}
+use Rattle.ipl_meaning.specs.Tables.{OverflowLists, Tables, Status, counted_written, IsCountedClean}
 use Rattle.ipl_meaning.specs.TableSteps.{IsRenewed}
 use Rattle.ipl_meaning.specs.Mirrors.{Mirrors}
+use Rattle.ipl_meaning.specs.Agrees.{IsTidy}
+use Rattle.ipl_meaning.proofs.CarriedLemmas.{stays_untouched}
 use Rattle.ipl_meaning.proofs.MirrorLemmas.{map_contains}
 use Rattle.unit_io.specs.Leads.{IsSteady, IsStopped, Leads}
 use Rattle.unit_io.specs.Spots.{Programs, IsSpot}
 use Rattle.unit_io.specs.Charts.{Charts, Gains}
+use Rattle.unit_io.proofs.SectorLemmas.{untouched}
 use Rattle.unit_io.proofs.LeadsLemmas.{leads_and, leads_failed, leads_then}
 use Rattle.unit_io.proofs.SpotLemmas.{programs_then, programs_wider}
 use Rattle.steps.specs.Steps.{NoOtherEnd}
@@ -30,7 +33,7 @@ use Rattle.txn_status.specs.Status.{parts_of}
 use Rattle.txn_status.specs.Adding.{HasStatus}
 use Rattle.txn_status.specs.Switching.{HasParts, IsPartSpot, IsStatusSpot, IsStatusHead, IsTaken, FitsHeader, IsSwitched, IsReadyToSwitch, Switched, RestsSwitched, Switches, StepsSwitching}
 use Rattle.txn_status.specs.Writing.{KeepsParts, LeadsParts, LeadsHeader, IsHeaded}
-use Rattle.txn_status.proofs.SwitchLemmas.{AreLong, head_then, IsPrepared, mirrors_then, switched_then, stands_then, worn_then}
+use Rattle.txn_status.proofs.SwitchLemmas.{AreLong, head_then, IsPrepared, mirrors_then, switched_then, stands_then, marked_then, worn_then}
 
 -- ---- what is counted as clean
 
@@ -54,7 +57,7 @@ counted_then t after p own from q s renewed (small, inl (u, low, at, high)) = in
     u,
     subst (λ (l : List ℕ). u < length l) renewed.current low,
     at ∙ ap (λ (l : List ℕ). slice_index l u) renewed.current,
-    subst (λ (l : List ℕ). 241 + slice_index l u ≤ s) renewed.written high,
+    subst (λ (l : List ℕ). 241 + counted_written (slice_index l u) ≤ s) renewed.written high,
   ),
 )
 counted_then t after p own from q s renewed (small, inr (inl (first, there, high))) = inl (
@@ -181,11 +184,12 @@ module _ (places units erases : ℕ) (retired : List ℕ) (status : Status) (nex
         (λ done then. StoryRests places m then × IsHeaded places p units erases retired next (now k) (now then))
         (λ done then. IsSealed then) h tt old mid new result first
         (seals m k first.ends.0 first.ends.1.0 clean (λ head is_head.
-        let so = prepared k head there is_head in (
-          stands_then places (now h) (now k) it t p kept head so m ready.says ready.keeps,
-          worn_then places (now h) (now k) it t p kept head so k.story first.ends.1.0.worn
-              (clean_lasting k.story p 0 clean),
-        )))
+        let so = prepared k head there is_head in record {
+          stands = stands_then places (now h) (now k) it t p kept head so m ready.says ready.keeps;
+          worn = worn_then places (now h) (now k) it t p kept head so k.story first.ends.1.0.worn
+              (clean_lasting k.story p 0 clean);
+          no_more = marked_then places (now h) (now k) it t p kept head so;
+        }))
         (λ a b did then. programs_then p (IsPartSpot (parts_of kept)) (IsSpot 0)
         (IsStatusSpot (parts_of kept)) true (is_ok result) b a
         (λ s spot at. omega (arith, at, spot.0)) (λ s spot. spot.1) (λ s at. omega (arith, at)) did
@@ -203,15 +207,17 @@ module _ (places units erases : ℕ) (retired : List ℕ) (status : Status) (nex
     renewed : IsSwitched t after p t.next kept
     renewed = subst (λ (g : ℕ). IsSwitched t after p g kept) (sym has.next_is) switched
 
-    clean_then : (a : Story) → Programs p (IsStatusSpot (parts_of kept)) true a
-        → AreClean (IsCountedClean after) (a ++ h.story)
-    clean_then a programs q s counted =
+    tidy_then : (a : Story) → Programs p (IsStatusSpot (parts_of kept)) true a
+        → IsTidy (adds_all a h) after
+    tidy_then a programs q s counted =
         elim (counted_apart places (now h) it t after p next (1 + parts_of kept)
         ready.agrees.mirrors ready.taken switched.renewed q s counted) [
-          | inl was ↦ programs.others h.story q s (λ same. absurd (was.1 same))
+          | inl was ↦ stays_untouched h a q s
+              (λ base clean. programs.others base q s (λ same. absurd (was.1 same)) clean)
               (ready.agrees.tidy q s was.0)
-          | inr here ↦ programs.others h.story q s (λ same spot. omega (arith, spot, here.1))
-              (subst (λ (z : ℕ). age h.story z s ≡ Clean) (sym here.0) (ready.clean s))
+          | inr here ↦ untouched (adds_all a h) q s
+              (programs.others h.story q s (λ same spot. omega (arith, spot, here.1))
+              (subst (λ (z : ℕ). age h.story z s ≡ Clean) (sym here.0) (ready.clean s)))
         ]
 
     rests_switched : (a : Story) → Programs p (IsStatusSpot (parts_of kept)) true a
@@ -231,7 +237,7 @@ module _ (places units erases : ℕ) (retired : List ℕ) (status : Status) (nex
               (sym is.gains)
               (mirrors_then places (now h) (now is.before) it t p kept is.head
               (prepared is.before is.head is.kept_there is.is_head) after renewed);
-          tidy = clean_then a programs;
+          tidy = tidy_then a programs;
         };
       };
     }

@@ -5,3 +5,5 @@ pub mod Switching
 pub mod Writing
 pub mod Laws
 pub mod ReadingIn
+pub mod Marks
+pub mod Marking

@@ -1,4 +1,4 @@
--- What the commit sectors of a place make of the status.
+-- What the commit sectors and close marks of a place make of the status.
 use Rattle.std.specs.Prelude.{ℕ, ◌≡◌, ◌≤◌, ◌<◌, ◌+◌, true, length, [], Option, Some, None, Result, MatchResult, Ok, Err, IfOk, OnOk}
 use Rattle.ipl_base.specs.declared.limits.TheConstants.{SECTORS}
 use Rattle.ipl_base.specs.declared.fault.ChipFault.{ChipFault}
@@ -12,7 +12,7 @@ use Rattle.ipl_base.specs.First.{first_below}
 use Rattle.opening_rules.specs.Chosen.{Winner}
 use Rattle.opening_rules.specs.Live.{sectors}
 use Rattle.opening_rules.specs.LaidOut.{committed_numbers}
-use Rattle.opening_rules.specs.Faults.{TellsImageFault, commit_fault, greatest_of_commits}
+use Rattle.opening_rules.specs.Faults.{TellsImageFault, noted_fault, greatest_of_notes}
 use Rattle.number_set.specs.Numbers.{Numbers, with_numbers}
 
 -- ---- which sectors
@@ -21,7 +21,7 @@ use Rattle.number_set.specs.Numbers.{Numbers, with_numbers}
 abbrev pub IsAt : ℕ → ℕ → ℕ → ℕ → Type 0
 IsAt place sector p s = (p ≡ place) × (s ≡ sector)
 
--- where commit sectors may stand in a place
+-- where commit sectors and close marks may stand in a place
 abbrev pub IsCommitSpot : ℕ → ℕ → ℕ → Type 0
 IsCommitSpot place p s = (p ≡ place) × (1 ≤ s) × (s < SECTORS)
 
@@ -29,8 +29,8 @@ IsCommitSpot place p s = (p ≡ place) × (1 ≤ s) × (s < SECTORS)
 abbrev pub IsOfPlace : ℕ → ℕ → ℕ → Type 0
 IsOfPlace place p s = (p ≡ place) × (s < SECTORS)
 
--- The commit sectors that count are those of this place with this generation. Of a header the rules
--- of commit sectors look at no more.
+-- The commit sectors and close marks that count are those of this place with this generation. Of a
+-- header their rules look at no more.
 abbrev pub under : ℕ → ℕ → Option Winner
 under place generation = Some (record {
   place = place;
@@ -76,11 +76,12 @@ abbrev pub of_image : {T : Type 0} → Result T ChipFault → Result T ImageFaul
 of_image (Ok v) = Ok v
 of_image (Err e) = Err (Chip e)
 
--- The sectors were read in: the answer tells the first that is malformed, unless a read failed; and
--- where none is, it is the greatest number found, and the status has their numbers.
-pub record IsReadIn (c : Chart) (place generation : ℕ) (result : Result ℕ ChipFault)
+-- The sectors were read in, where there are so many units: the answer tells the first that is
+-- malformed, unless a read failed; and where none is, it is the greatest number found, and the
+-- status has their numbers.
+pub record IsReadIn (units : ℕ) (c : Chart) (place generation : ℕ) (result : Result ℕ ChipFault)
     (status : Status) : Type 0 where
-  pub fault : TellsImageFault (first_below (commit_fault c (under place generation)) sectors)
+  pub fault : TellsImageFault (first_below (noted_fault units c (under place generation)) sectors)
       (of_image result)
-  pub greatest : IfOk result (λ n. n ≡ greatest_of_commits 0 c (under place generation) sectors)
+  pub greatest : IfOk result (λ n. n ≡ greatest_of_notes 0 c (under place generation) sectors)
   pub status_is : OnOk result (status ≡ status_in c place generation)

@@ -17,6 +17,10 @@ abbrev pub after_add : Status → List ℕ → Status
 after_add it numbers =
     record it { numbers = with_numbers numbers it.numbers; first = it.first + 1 }
 
+-- a mark was written
+abbrev pub after_mark : Status → Status
+after_mark it = record it { first = it.first + 1 }
+
 -- how many commit sectors these numbers fill
 abbrev pub parts_of : List ℕ → ℕ
 parts_of numbers = (length numbers + (COMMIT_NUMBERS - 1)) / COMMIT_NUMBERS

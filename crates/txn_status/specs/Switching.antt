@@ -7,7 +7,7 @@ use Rattle.ipl_format.specs.Header.{SpellsStatusHeader, erases_said}
 use Rattle.ipl_format.specs.Sector.{Sector}
 use Rattle.ipl_rules.specs.State.{Map}
 use Rattle.ipl_meaning.specs.Chart.{Chart}
-use Rattle.ipl_meaning.specs.Layout.{Layout}
+use Rattle.ipl_meaning.specs.Layout.{Layout, HasNoMark}
 use Rattle.ipl_meaning.specs.Stands.{Says}
 use Rattle.ipl_meaning.specs.Rests.{now, EachStands, StoryRests}
 use Rattle.ipl_meaning.specs.Steps.{KeepsPages, KeepsNumbers, with_status, IsIdle}
@@ -90,14 +90,16 @@ pub record IsSwitched (t after : Tables) (p generation : ℕ) (kept : List ℕ) 
 -- ---- what the chip holds
 
 -- The header says how often the tables have it that its place was erased, and lists exactly the places
--- that are retired in them. The tables with the new status mirror the new chart; and where of the
--- numbers in live log sectors exactly the committed ones are kept, it has the pages of the old one.
+-- that are retired in them. The tables with the new status mirror the new chart, and no mark stands in
+-- the new status place; and where of the numbers in live log sectors exactly the committed ones are
+-- kept, the new chart has the pages of the old one.
 pub record Switched (places : ℕ) (c y : Chart) (it : Layout) (after : Tables)
     (p generation : ℕ) (kept : List ℕ) : Type 0 where
   pub head : Sector
   pub is_head : IsStatusHead places it.count (slice_index after.places.erases p) after.places.retired
       generation head
   pub mirrors : Mirrors places y (with_status it p head (among kept)) after
+  pub unmarked : HasNoMark y p head.generation
   pub pages : KeepsNumbers it (among kept)
       → KeepsPages places c it y (with_status it p head (among kept))
 

@@ -1,36 +1,53 @@
 -- What the calls leave that write one sector of a status place, or several.
-use Rattle.std.specs.Prelude.{ℕ, ◌≡◌, ◌≢◌, List, None, Result}
+use Rattle.std.specs.Prelude.{ℕ, ◌≡◌, ◌≢◌, List, Some, None, Result}
+use Rattle.chip_trait.specs.declared.event.Event.TheVariants.{Program}
 use Rattle.chip_trait.specs.Image.{IsClosed}
 use Rattle.chip_trait.specs.Lawful.{Clean, age}
 use Rattle.chip_trait.specs.Chart.{with_sector}
-use Rattle.chip_trait.specs.Told.{History, Told}
+use Rattle.chip_trait.specs.Told.{History, Told, adds}
 use Rattle.ipl_base.specs.declared.fault.ChipFault.{ChipFault}
-use Rattle.ipl_format.specs.Sector.{Sector}
+use Rattle.ipl_format.specs.Sector.{Sector, sector_in}
 use Rattle.ipl_rules.specs.State.{Map}
 use Rattle.ipl_meaning.specs.Chart.{Chart}
 use Rattle.ipl_meaning.specs.Stands.{StandsBeside}
-use Rattle.ipl_meaning.specs.Rests.{now, WornAreIdle, StoryRests}
-use Rattle.unit_io.specs.Leads.{IsSteady, KeepsMap, SwitchesMap}
+use Rattle.ipl_meaning.specs.Rests.{now, IsUntouched, EachStands, WornAreIdle, StoryRests}
+use Rattle.ipl_meaning.specs.Tables.{Tables, IsCountedClean}
+use Rattle.ipl_meaning.specs.Marks.{AreUnused, KeepsMarks, MarksNoMore}
+use Rattle.unit_io.specs.Leads.{IsSteady, LeadsWhere, RestsAdded, KeepsMap, SwitchesMap}
 use Rattle.unit_io.specs.Spots.{Programs, IsSpot}
 use Rattle.unit_io.specs.Charts.{Gains}
 use Rattle.txn_status.specs.Status.{parts_of}
 use Rattle.txn_status.specs.Switching.{HasParts, IsPartSpot, IsStatusHead}
 
--- a commit sector, added where nothing is open: it switches the map to what stands with it
+-- a commit sector, added where nothing is open and after which no more is marked: it switches the
+-- map to what stands with it
 abbrev pub LeadsCommit : ℕ → ℕ → ℕ → Sector
     → Told → Result (Unit {0}) ChipFault → Told → Type 0
 LeadsCommit places p s sector old result new = (m n : Map) (h : History)
-    → IsSteady h old → StoryRests places m h → IsClosed h.story → age h.story p s ≡ Clean
+    → IsSteady h old → StoryRests places m h → IsClosed h.story → IsUntouched h p s
     → StandsBeside places (now h) (with_sector (now h) p s sector) n
     → WornAreIdle places h.story (with_sector (now h) p s sector)
+    → MarksNoMore places (now h) (with_sector (now h) p s sector) p
     → SwitchesMap places m n (Programs p (IsSpot s)) (λ done. Gains p s sector) h old result new
+
+-- a close mark, added where nothing is open: where the map stands with it, it keeps the map, and marks,
+-- where they are kept if what some tables count as clean is unused, on that condition
+abbrev pub LeadsMark : ℕ → ℕ → ℕ → Sector
+    → Told → Result (Unit {0}) ChipFault → Told → Type 0
+LeadsMark places p s mark old result new = (t : Tables) (m : Map) (h : History)
+    → IsSteady h old → StoryRests places m h → IsClosed h.story → IsUntouched h p s
+    → StandsBeside places (now h) (with_sector (now h) p s mark) m
+    → WornAreIdle places h.story (with_sector (now h) p s mark)
+    → (AreUnused (IsCountedClean t) h.story → (bytes : List ℕ) → sector_in bytes ≡ Some mark
+    → KeepsMarks places h (adds (Program p s bytes) h))
+    → LeadsWhere (AreUnused (IsCountedClean t) h.story) (EachStands places m) (Programs p (IsSpot s))
+    (λ done k. RestsAdded places m p s mark h k) h old result new
 
 -- a commit sector in a place without a header: it keeps the map
 abbrev pub LeadsPart : ℕ → ℕ → ℕ → Sector
     → Told → Result (Unit {0}) ChipFault → Told → Type 0
 LeadsPart places p s sector old result new = (m : Map) (h : History)
-    → IsSteady h old → StoryRests places m h → now h p 0 ≡ None → s ≢ 0
-    → age h.story p s ≡ Clean
+    → IsSteady h old → StoryRests places m h → now h p 0 ≡ None → s ≢ 0 → IsUntouched h p s
     → KeepsMap places m (Programs p (IsSpot s)) (λ done. Gains p s sector) h old result new
 
 -- the first n parts of the numbers, in such a place
@@ -53,12 +70,18 @@ abbrev pub IsHeaded : ℕ → ℕ → ℕ → ℕ → List ℕ → ℕ → Chart
 IsHeaded places p units erases retired generation c y =
     (head : Sector) × IsStatusHead places units erases retired generation head × Gains p 0 head c y
 
--- a status header, where with it the map stands still
+-- with a status header the map stands still, worn places are idle, and no more is marked
+pub record StandsHeaded (places p : ℕ) (m : Map) (h : History) (head : Sector) : Type 0 where
+  pub stands : StandsBeside places (now h) (with_sector (now h) p 0 head) m
+  pub worn : WornAreIdle places h.story (with_sector (now h) p 0 head)
+  pub no_more : MarksNoMore places (now h) (with_sector (now h) p 0 head) p
+
+-- a status header, where that is so
 abbrev pub LeadsHeader : ℕ → ℕ → ℕ → ℕ → List ℕ → ℕ
     → Told → Result (Unit {0}) ChipFault → Told → Type 0
 LeadsHeader places p units erases retired generation old result new = (m : Map) (h : History)
     → IsSteady h old → StoryRests places m h → age h.story p 0 ≡ Clean
     → ((head : Sector) → IsStatusHead places units erases retired generation head
-    → StandsBeside places (now h) (with_sector (now h) p 0 head) m × WornAreIdle places h.story (with_sector (now h) p 0 head))
+    → StandsHeaded places p m h head)
     → KeepsMap places m (Programs p (IsSpot 0))
     (λ done. IsHeaded places p units erases retired generation) h old result new

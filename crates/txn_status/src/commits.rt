@@ -1,4 +1,4 @@
-//! Commit sectors, encoded and programmed.
+//! Commit sectors and close marks, encoded and programmed.
 ghost use Rattle.std.specs.Prelude.{◌≡◌, ◌≤◌, ◌<◌, ◌+◌, ◌++◌, length, OnOk, is_ok};
 ghost use Rattle.ipl_base.specs.declared.limits.TheConstants.{PAYLOAD_LEN};
 ghost use Rattle.ipl_format.specs.Numbers.{long};
@@ -6,17 +6,18 @@ ghost use Rattle.unit_io.specs.Accounts.{Accounts};
 ghost use Rattle.unit_io.specs.Leads.{IsStopped};
 ghost use Rattle.unit_io.specs.Costs.{ProgramsAt, Spends};
 ghost use Rattle.unit_io.specs.Charts.{Charts, Gains};
-ghost use Rattle.unit_io.specs.Spots.{Programs, IsSpot};
+ghost use Rattle.unit_io.specs.Spots.{AddsSector, Programs, IsSpot};
 ghost use Rattle.unit_io.specs.Unread.{ReadsNothing};
 ghost use Rattle.txn_status.specs.Commits.{commit_bytes, commit_sector};
-ghost use Rattle.txn_status.specs.Writing.{LeadsCommit, LeadsPart};
+ghost use Rattle.txn_status.specs.Marking.{mark_sector};
+ghost use Rattle.txn_status.specs.Writing.{LeadsCommit, LeadsMark, LeadsPart};
 ghost use Rattle.sector_format.specs.Written.{written_head};
 
 use arrayvec::ArrayVec;
 use chip_trait::Chip;
 use ipl_base::{ChipFault, PAYLOAD_LEN, Spot};
 use sector_format::Head;
-use unit_io::{add_commit, prepare_commit};
+use unit_io::{add_commit, add_mark, prepare_commit};
 
 /// Puts the eight bytes of a number behind others.
 #[tactic(auto, unfolding(ipl_format::specs::Numbers::long))]
@@ -77,6 +78,33 @@ pub fn write_commit<C: Chip>(
         &commit_head(generation, serial),
         payload.as_slice(),
     )
+}
+
+/// Programs a close mark of this payload where nothing is open, and makes sure of it.
+pub fn write_mark<C: Chip>(
+    chip: &mut C,
+    spot: Spot,
+    generation: u64,
+    serial: u64,
+    payload: &[u8],
+) -> Result<(), ChipFault>
+    requires place { spot.place < (C.told chip.old).places }
+    requires sector { spot.sector < 256 }
+    requires fits { length payload.now ≤ PAYLOAD_LEN }
+    ensures leads { LeadsMark (C.told chip.old).places spot.place spot.sector
+        (mark_sector generation serial payload.now) (C.told chip.old) result (C.told chip.new) }
+    ensures adds { OnOk result (Spends (AddsSector spot.place spot.sector
+        (mark_sector generation serial payload.now)) (C.told chip.old) (C.told chip.new)) }
+    ensures tells { OnOk result (Charts
+        (Gains spot.place spot.sector (mark_sector generation serial payload.now))
+        (C.told chip.old) (C.told chip.new)) }
+    ensures costs { Spends (ProgramsAt spot.place 1 1 7) (C.told chip.old) (C.told chip.new) }
+    ensures tidy { Spends (Programs spot.place (IsSpot spot.sector) (is_ok result))
+        (C.told chip.old) (C.told chip.new) }
+    ensures accounts { Accounts IsStopped result (C.told chip.old) (C.told chip.new) }
+{
+    let head = Head::written(Head::MARK, 0, generation, serial);
+    add_mark(chip, spot, &head, payload)
 }
 
 /// Programs a commit sector of these numbers, at most 60, into a place without a header.

@@ -1,26 +1,29 @@
 //! The status of transactions.
 ghost use Rattle.std.specs.Prelude.{◌≡◌, ◌≤◌, ◌<◌, ◌+◌, ◌^◌, ◌↔◌, ℕ, length, Contains, IfOk, IfErr, IsTrue, OnOk, OnErr, is_ok};
-ghost use Rattle.ipl_base.specs.declared.limits.TheConstants.{KEPT_NUMBERS, STATUS_NUMBERS, VERSION};
+ghost use Rattle.ipl_base.specs.declared.limits.TheConstants.{KEPT_NUMBERS, MOST_UNITS, STATUS_NUMBERS, VERSION};
 ghost use Rattle.ipl_format.specs.Header.{AreRetired};
 ghost use Rattle.ipl_format.specs.Sector.{Sector};
 ghost use Rattle.ipl_meaning.specs.Chart.{chart_of};
 ghost use Rattle.unit_io.specs.Accounts.{Accounts};
 ghost use Rattle.unit_io.specs.Leads.{IsStopped};
 ghost use Rattle.unit_io.specs.Costs.{ProgramsAt, Spends};
-ghost use Rattle.unit_io.specs.Charts.{Charts};
-ghost use Rattle.unit_io.specs.Spots.{Programs, IsSpot};
+ghost use Rattle.unit_io.specs.Charts.{Charts, Gains};
+ghost use Rattle.unit_io.specs.Spots.{AddsSector, Programs, IsSpot};
 ghost use Rattle.unit_io.specs.Unread.{ReadsNothing};
 ghost use Rattle.unit_io.specs.Reads.{OfContents};
 ghost use Rattle.unit_io.specs.ReadsAt.{ReadsAt, ReadsOnce, IsCauseAt};
 ghost use Rattle.ipl_format.specs.Whole.{IsWhole};
 ghost use Rattle.number_set.specs.Numbers.{AreRising};
 ghost use Rattle.txn_status.specs.ReadingIn.{IsReadIn, IsCommitSpot, IsOfPlace, IsStatusAt};
-ghost use Rattle.txn_status.specs.Status.{empty_status, room_of, after_add, parts_of, switched_to, IsSoundStatus};
+ghost use Rattle.txn_status.specs.Marks.{marks_in};
+ghost use Rattle.txn_status.specs.Marking.{mark_sector, MarksInSteps};
+ghost use Rattle.txn_status.specs.Status.{after_mark, empty_status, room_of, after_add, parts_of, switched_to, IsSoundStatus};
 ghost use Rattle.txn_status.specs.Adding.{Adds, AddsInSteps, KeepsFirstAt};
 ghost use Rattle.place_taking.specs.Fills.{FillsAt};
 ghost use Rattle.txn_status.specs.Switching.{IsStatusSpot, ListsAt, Switches, SwitchesInSteps};
 
-use crate::commits::write_commit;
+use crate::commits::{write_commit, write_mark};
+use crate::last_mark::LastMark;
 use crate::parts::{part_count, seal_status, write_parts};
 use crate::reading::{read_commits, read_generation};
 use chip_trait::Chip;
@@ -121,9 +124,10 @@ impl Status {
     }
 
     /// Takes in the numbers of the commit sectors of this generation at a place (below the number
-    /// of places), which is the status place then; none of its sectors is known clean. Answers the
-    /// greatest number found in them, generation and serial among these, and 0 for none. After a
-    /// fault it has any numbers.
+    /// of places), which is the status place then; none of its sectors is known clean. The close
+    /// mark that counts there, where there are so many units (at most 1,024), is this mark then.
+    /// Answers the greatest number found in commit sectors and close marks, generation and serial
+    /// among these, and 0 for none. After a fault it has any numbers, and the mark is any.
     ///
     /// Fails with the first of them that is malformed, or where a read failed.
     pub fn read_under<C: Chip>(
@@ -131,10 +135,15 @@ impl Status {
         chip: &mut C,
         place: u32,
         generation: u64,
+        units: u32,
+        mark: &mut LastMark,
     ) -> Result<u64, ChipFault>
         requires place { place < (C.told chip.old).places }
+        requires units { units ≤ MOST_UNITS }
         ensures exact { OfContents (C.told chip.old) (λ x.
-            IsReadIn (chart_of x) place generation result self.new) }
+            IsReadIn units (chart_of x) place generation result self.new) }
+        ensures marks { OnOk result (OfContents (C.told chip.old) (λ x.
+            mark.new ≡ marks_in (chart_of x) place generation)) }
         ensures whole { OnOk result (OfContents (C.told chip.old) (λ x.
             (s : ℕ) → 1 ≤ s → s < 256 → IsWhole (x place s))) }
         ensures placed { OnOk result ((self.new.place ≡ place)
@@ -148,7 +157,7 @@ impl Status {
     {
         // With any numbers there is room only where no sector is known clean.
         self.first = SECTORS;
-        let answer = read_commits(chip, place, generation, &mut self.numbers);
+        let answer = read_commits(chip, place, generation, units, &mut self.numbers, mark);
         self.numbers.rises();
         let greatest = answer?;
         self.place = place;
@@ -157,13 +166,23 @@ impl Status {
     }
 
     /// Reads the status header of a place (below the number of places), and takes in the numbers of
-    /// its generation as `read_under` does. Where no status header stands there, sector 0 is
-    /// malformed.
-    pub fn read_in<C: Chip>(&mut self, chip: &mut C, place: u32) -> Result<u64, ChipFault>
+    /// its generation, and the mark, as `read_under` does. Where no status header stands there,
+    /// sector 0 is malformed.
+    pub fn read_in<C: Chip>(
+        &mut self,
+        chip: &mut C,
+        place: u32,
+        units: u32,
+        mark: &mut LastMark,
+    ) -> Result<u64, ChipFault>
         requires place { place < (C.told chip.old).places }
+        requires units { units ≤ MOST_UNITS }
         ensures exact { OfContents (C.told chip.old) (λ x. (head : Sector)
             → IsStatusAt (chart_of x) place head
-            → IsReadIn (chart_of x) place head.generation result self.new) }
+            → IsReadIn units (chart_of x) place head.generation result self.new) }
+        ensures marks { OnOk result (OfContents (C.told chip.old) (λ x. (head : Sector)
+            → IsStatusAt (chart_of x) place head
+            → mark.new ≡ marks_in (chart_of x) place head.generation)) }
         ensures there { OnOk result (OfContents (C.told chip.old) (λ x.
             (head : Sector) × IsStatusAt (chart_of x) place head)) }
         ensures placed { OnOk result ((self.new.place ≡ place) × (self.new.first ≡ 256)) }
@@ -174,7 +193,7 @@ impl Status {
             IsCauseAt (IsOfPlace place) e (C.told chip.old) (C.told chip.new)) }
     {
         let generation = read_generation(chip, place)?;
-        self.read_under(chip, place, generation)
+        self.read_under(chip, place, generation, units, mark)
     }
 
     /// Commits 1 to 60 numbers: one commit sector, with a serial that is drawn for it, and then a
@@ -223,6 +242,55 @@ impl Status {
         write_commit(chip, spot, self.generation, serial, tids)?;
         // Only now: where the write failed nobody knows which numbers are committed.
         self.numbers.add_all(tids);
+        self.first += 1;
+        Ok(())
+    }
+
+    /// Marks the log sectors of units as clean: one close mark, with this payload and a serial that
+    /// is drawn for it, and then a barrier. That there is room, and a number left to draw, are
+    /// conditions.
+    ///
+    /// Where nothing was open, and the payload has exactly the units of which something is known,
+    /// whatever a power cut leaves stands for the map on which the story rested, and marks no
+    /// sector that was used. It fails only where a write failed, and the status is as it was then.
+    pub fn mark<C: Chip>(
+        &mut self,
+        chip: &mut C,
+        counter: &mut Counter,
+        payload: &[u8],
+    ) -> Result<(), ChipFault>
+        requires place { self.old.place < (C.told chip.old).places }
+        requires room { 0 < room_of self.old }
+        requires fits { length payload.now ≤ 132 }
+        requires left { counter.old + 1 < 2 ^ 64 }
+        ensures marked { OnOk result (self.new ≡ after_mark self.old) }
+        ensures same { OnErr result (self.new ≡ self.old) }
+        ensures drawn { counter.new ≡ counter.old + 1 }
+
+        // What the chip holds then, and what a power cut leaves.
+        // Done, that mark was programmed, and then a barrier waited for.
+        ensures adds { OnOk result (Spends (AddsSector self.old.place self.old.first
+            (mark_sector self.old.generation counter.old payload.now))
+            (C.told chip.old) (C.told chip.new)) }
+        ensures tells { OnOk result (Charts (Gains self.old.place self.old.first
+            (mark_sector self.old.generation counter.old payload.now))
+            (C.told chip.old) (C.told chip.new)) }
+        ensures steps { MarksInSteps (C.told chip.old).places self.old counter.old payload.now
+            result (C.told chip.old) (C.told chip.new) }
+        // One program and a barrier.
+        ensures costs { Spends (ProgramsAt self.old.place 1 1 7)
+            (C.told chip.old) (C.told chip.new) }
+        // Whatever the chip holds, only the first sector that is known clean is programmed.
+        ensures tidy { Spends (Programs self.old.place (IsSpot self.old.first) (is_ok result))
+            (C.told chip.old) (C.told chip.new) }
+        ensures accounts { Accounts IsStopped result (C.told chip.old) (C.told chip.new) }
+    {
+        let serial = counter.draw();
+        let spot = Spot {
+            place: self.place,
+            sector: self.first,
+        };
+        write_mark(chip, spot, self.generation, serial, payload)?;
         self.first += 1;
         Ok(())
     }

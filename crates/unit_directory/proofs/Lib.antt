@@ -1,3 +1,4 @@
 pub mod FreeLemmas
 pub mod RetiredLemmas
 pub mod AsideLemmas
+pub mod MarkedLemmas

@@ -2,11 +2,12 @@
 ghost use Rattle.std.specs.Prelude.{◌≡◌, ◌≢◌, ◌+◌, ◌-◌, ◌<◌, ◌≤◌, ℕ, nat_lt, length, slice_index, IfOk, IfSome, IfNone, true, false};
 ghost use Rattle.ipl_base.specs.declared.limits.TheConstants.{MOST_SPARES};
 ghost use Rattle.ipl_base.specs.Places.{KeepsUnits};
-ghost use Rattle.ipl_meaning.specs.Tables.{IsFree, with_use, with_erased, with_retired, with_written, with_mask, with_masks, masks_in};
+ghost use Rattle.ipl_meaning.specs.Tables.{IsFree, with_use, with_erased, with_retired, with_written, with_mask, with_masks, with_marks_ended, masks_in};
 ghost use Rattle.unit_directory.specs.Free.{IsNextFree, free_count, spares_of};
-ghost use Rattle.unit_directory.specs.Directory.{empty_places, with_erases_of, after_adopt, after_replace, next_log, IsSoundDirectory};
+ghost use Rattle.unit_directory.specs.Directory.{empty_places, with_erases_of, after_adopt, after_replace, with_marked, with_noted_log, is_known, next_log, IsSoundDirectory};
 
 use crate::lists::{RetiredList, filled, insert_place, refill};
+use crate::marked::{MARKED_LOGS, UNKNOWN_LOGS, end_all_marks, noted};
 use arrayvec::ArrayVec;
 use ipl_base::{FIRST_LOG_SECTOR, Geometry, LOG_SECTORS, OutOfMemory, RESERVED_PLACES};
 use std::alloc::Global;
@@ -14,7 +15,8 @@ use std::marker::Model;
 
 /// Which place is current for each unit, which places are in use, how often each was erased and which
 /// are retired, and how many of the 15 log sectors of each unit's place, from the first on, count as
-/// written: the others are known clean. The generation that the header there has; and for each of these
+/// written: the others are known clean, by what was done or by a mark that counts still; or that nothing
+/// is known of them. The generation that the header there has; and for each of these
 /// 15, which pages its records name, as a mask. A contract sees them as lists, by unit, by place, and by
 /// unit and sector. There are 5 to 1028 places, always as many, and as many units as may be kept on them.
 /// Memory is taken by `new` alone, for as many units as are kept where no place is spare.
@@ -26,6 +28,7 @@ pub struct Directory {
     erases: Vec<u32>,
     /// In rising order.
     retired: RetiredList,
+    /// 0 to 15; 16 more by a mark that counts; 32, where nothing is known.
     written: Vec<u32>,
     generations: Vec<u64>,
     masks: Vec<[u16; 15]>,
@@ -69,7 +72,7 @@ impl Model for Directory {
 
 impl Directory {
     /// No place is in use or retired, and each counts as erased once. Until a unit adopts a place it has
-    /// place 0, with no log sector known clean.
+    /// place 0, with nothing known of its log sectors.
     pub fn new(alloc: Global, geometry: Geometry) -> Result<Directory, OutOfMemory>
         ensures { IfOk result (λ directory. directory ≡ empty_places geometry.places geometry.units) }
     {
@@ -81,7 +84,7 @@ impl Directory {
             in_use: vec![in alloc; false; places]?,
             erases: vec![in alloc; 1; places]?,
             retired: ArrayVec::new(),
-            written: filled(alloc, most, units, LOG_SECTORS)?,
+            written: filled(alloc, most, units, UNKNOWN_LOGS)?,
             generations: filled(alloc, most, units, 0)?,
             masks: filled(alloc, most, units, NO_MASKS)?,
         })
@@ -97,13 +100,13 @@ impl Directory {
         self.in_use.fill(false);
         self.erases.fill(1);
         self.retired.clear();
-        refill(&mut self.written, units, LOG_SECTORS);
+        refill(&mut self.written, units, UNKNOWN_LOGS);
         refill(&mut self.generations, units, 0);
         refill(&mut self.masks, units, NO_MASKS);
     }
 
     /// What always holds: the chip has 5 to 1028 places, as many units as may be kept on them, each has a
-    /// place of the chip, and at most 15 log sectors count as written. Of the places no more are retired
+    /// place of the chip, and what stands of its log sectors is at most 32. Of the places no more are retired
     /// than are spare, in rising order.
     pub fn facts(&self)
         ensures { IsSoundDirectory self.now }
@@ -238,7 +241,7 @@ impl Directory {
     }
 
     /// Makes a place the unit's, as one that was found on a chip with a header of this generation: it is
-    /// in use, and none of its log sectors is known clean. The unit's old place stays as it is.
+    /// in use, and nothing is known of its log sectors. The unit's old place stays as it is.
     pub fn adopt(&mut self, unit: u32, place: u32, generation: u64)
         requires unit { unit < length self.old.current }
         requires place { place < length self.old.in_use }
@@ -246,7 +249,7 @@ impl Directory {
     {
         self.current[unit as usize] = place;
         self.in_use[place as usize] = true;
-        self.written[unit as usize] = LOG_SECTORS;
+        self.written[unit as usize] = UNKNOWN_LOGS;
         self.generations[unit as usize] = generation;
         self.masks[unit as usize] = NO_MASKS;
     }
@@ -268,7 +271,8 @@ impl Directory {
         self.masks[unit as usize] = NO_MASKS;
     }
 
-    /// The first log sector of the unit's place that is known clean, 241 to 255, if there is one.
+    /// The first log sector of the unit's place that is known clean and may be written, 241 to 255, if
+    /// there is one.
     pub fn next_log(&self, unit: u32) -> Option<u32>
         requires { unit < length self.now.current }
         ensures next { result ≡ next_log self.now unit }
@@ -276,10 +280,10 @@ impl Directory {
         // What that comes to.
         ensures some { IfSome result (λ s. s ≡ 241 + slice_index self.now.written unit) }
         ensures in_range { IfSome result (λ s. (241 ≤ s) × (s ≤ 255)) }
-        ensures none { IfNone result (slice_index self.now.written unit ≡ 15) }
+        ensures none { IfNone result (15 ≤ slice_index self.now.written unit) }
     {
         let written = self.written[unit as usize];
-        if written == LOG_SECTORS {
+        if written >= LOG_SECTORS {
             return None;
         }
         Some(FIRST_LOG_SECTOR + written)
@@ -292,6 +296,45 @@ impl Directory {
         ensures { self.new ≡ with_written self.old unit }
     {
         self.written[unit as usize] += 1;
+    }
+
+    /// Whether something is known of the unit's log sectors.
+    pub fn is_known(&self, unit: u32) -> bool
+        requires { unit < length self.now.current }
+        ensures { result ≡ is_known self.now unit }
+    {
+        self.written[unit as usize] < UNKNOWN_LOGS
+    }
+
+    /// Notes that by a mark so many of the unit's log sectors (0 to 15), from the first on, were written,
+    /// and the others are clean. None is to be written until `end_marks`.
+    pub fn set_marked(&mut self, unit: u32, written: u32)
+        requires unit { unit < length self.old.current }
+        requires few { written ≤ 15 }
+        ensures { self.new ≡ with_marked self.old unit written }
+    {
+        self.written[unit as usize] = MARKED_LOGS + written;
+    }
+
+    /// Notes that one more of the unit's log sectors was seen (0 to 14, in rising order), and whether it
+    /// checks, or is blank, or neither. Where a mark told of the unit it counts as one more that was
+    /// written, if it checks and all before it did; if it is blank, what was known is known still;
+    /// else nothing is. Where no mark told of the unit, nothing changes.
+    pub fn note_log(&mut self, unit: u32, number: u32, checks: bool, blank: bool)
+        requires unit { unit < length self.old.current }
+        requires number { number < 15 }
+        ensures { self.new ≡ with_noted_log self.old unit number checks blank }
+    {
+        let known = self.written[unit as usize];
+        self.written[unit as usize] = noted(known, number, checks, blank);
+    }
+
+    /// Notes that no mark counts any more: what a mark said of log sectors is known, and they may be
+    /// written.
+    pub fn end_marks(&mut self)
+        ensures { self.new ≡ with_marks_ended self.old }
+    {
+        end_all_marks(&mut self.written);
     }
 
     /// Which pages the records of a log sector at the unit's place (241 to 255) name: bit p is page

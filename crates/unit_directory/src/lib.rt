@@ -1,6 +1,6 @@
 //! The directory of a store's units: which place is current for each, with which generation, which
-//! places are in use, how often each was erased and which are retired, how many log sectors of each
-//! unit's place count as written, and which pages each of these names. It asks nothing of a chip. A
+//! places are in use, how often each was erased and which are retired, what is known of the log sectors of each
+//! unit's place, and which pages each of these names. It asks nothing of a chip. A
 //! contract sees it as lists, `Places` of `ipl_meaning`, and each call as one equation on them.
 //!
 //! Proved, by `Directory`, `directory_laws`, `aside_laws`: which place each unit has and with which generation,
@@ -12,6 +12,7 @@
 mod directory;
 mod laws;
 mod lists;
+mod marked;
 
 pub use directory::Directory;
 pub use laws::{aside_laws, directory_laws};

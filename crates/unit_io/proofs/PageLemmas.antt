@@ -128,8 +128,10 @@ module _ (places p u g page : ℕ) (text : List ℕ) (m : Map) (h : History) (fi
       → KeepsMap {T = ℕ} {E = ChipFault} places m (Programs p (IsPieceSpot page 16)) (λ n. HasPieces p u g page text n) h first (Ok n) t
   piled_all n few t did = record {
     added = did.added;
+    places = did.places;
     history = did.history;
     each_moment = did.each_moment;
+    marks = did.marks;
     does = programs_wider p (IsPieceSpot page n) (IsPieceSpot page 16) true true did.added (λ s is. (is.0, omega (arith, is.1, few))) did.does;
     ends = did.ends;
   }
@@ -155,9 +157,19 @@ pub page_leads : (places p u g page : ℕ) (text : List ℕ) (slots : Slots) →
     → KeepsMap places m (Programs p (IsPieceSpot page 16)) (λ n. HasPage p u g page slots n) h old result new
 page_leads places p u g page text slots is m h old new (Ok n) cut did = record {
   added = did.added;
+  places = did.places;
   history = did.history;
   each_moment = did.each_moment;
+  marks = did.marks;
   does = did.does;
   ends = (did.ends.0, (did.ends.1.0, record { cut = rw (← is) cut; pieces = rw (← is) did.ends.1.1 }));
 }
-page_leads places p u g page text slots is m h old new (Err e) cut did = record { added = did.added; history = did.history; each_moment = did.each_moment; does = did.does; ends = tt }
+page_leads places p u g page text slots is m h old new (Err e) cut did = record {
+  added = did.added;
+  places = did.places;
+  history = did.history;
+  each_moment = did.each_moment;
+  marks = did.marks;
+  does = did.does;
+  ends = tt;
+}

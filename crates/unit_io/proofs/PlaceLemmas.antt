@@ -18,10 +18,11 @@ use Rattle.ipl_meaning.specs.Layout.{Layout, Laid}
 use Rattle.ipl_meaning.specs.Rests.{now, EachStands, StoryRests}
 use Rattle.ipl_meaning.specs.Steps.{IsIdle}
 use Rattle.ipl_meaning.proofs.StoryLemmas.{held_stands, barriers_rest, worns_keep, erases_keep}
+use Rattle.ipl_meaning.proofs.MarkStoryLemmas.{erases_keep_marks, worns_keep_marks}
 use Rattle.unit_io.specs.Leads.{IsSteady, Leads, RestsWith, KeepsMap, Did, Waited}
 use Rattle.unit_io.specs.Spots.{Clears}
 use Rattle.unit_io.specs.Charts.{Charts, Begun, IsCleared}
-use Rattle.unit_io.proofs.LeadsLemmas.{leads_did, leads_waited, leads_then, leads_failed, steady_then, steady_after}
+use Rattle.unit_io.proofs.LeadsLemmas.{marks_one, leads_did, leads_waited, leads_then, leads_failed, steady_then, steady_after}
 use Rattle.unit_io.proofs.SpotLemmas.{clears_none, clears_erase, clears_worn, clears_all}
 
 -- what an erase makes of a chart
@@ -31,54 +32,58 @@ erased_chart p x = record {
   others = λ q s apart. rw (ne_eqb p q (λ same. apart (sym same))) refl;
 }
 
-module _ (places : ℕ) (m : Map) (it : Layout) (h : History) (p : ℕ) (rests : StoryRests places m h) (laid : Laid places (now h) it) (within : p < places) (idle : IsIdle places (now h) it p) where
+module _ (old : Told) (m : Map) (it : Layout) (h : History) (p : ℕ) (rests : StoryRests old.places m h) (laid : Laid old.places (now h) it) (within : p < old.places)
+    (idle : IsIdle old.places (now h) it p) where
   -- the erase: what it added, where it was done
   Erased : Bool → Story → Type 0
   Erased done added = Clears p false added × (done ≡ true → added ≡ Erase p ∷ [])
 
-  erase_leads : (old new : Told) (result : Result (Unit {0}) ChipFault) → IsSteady h old → Did (Erase p) result old new
-      → Leads (EachStands places m) Erased (λ done then. then ≡ adds (Erase p) h) h old result new
+  erase_leads : (new : Told) (result : Result (Unit {0}) ChipFault) → IsSteady h old → Did (Erase p) result old new
+      → Leads (EachStands old.places m) Erased (λ done then. then ≡ adds (Erase p) h) h old result new
   unfolding Erased
-  erase_leads old new result steady did =
-      leads_did (EachStands places m) Erased h old new steady (λ done then. then ≡ adds (Erase p) h) (Erase p) result did
-      rests.each (erases_keep places m h it p rests laid within idle).0 (λ done. (clears_erase p, λ is. refl)) (clears_none p, λ is. absurd (false≢true is)) refl
+  erase_leads new result steady did =
+      leads_did (EachStands old.places m) Erased h old new steady (λ done then. then ≡ adds (Erase p) h) (Erase p) result did
+      rests.each (erases_keep old.places m h it p rests laid within idle).0 (λ _. erases_keep_marks old.places m h it p rests laid within idle)
+      (λ done. (clears_erase p, λ is. refl)) (clears_none p, λ is. absurd (false≢true is)) refl
 
   -- both
-  pub begin_leads : (old mid new : Told) (result : Result (Unit {0}) ChipFault) → IsSteady h old → Did (Erase p) (Ok tt) old mid → Waited result mid new
-      → KeepsMap places m (Clears p) (λ done. IsCleared p) h old result new
+  pub begin_leads : (mid new : Told) (result : Result (Unit {0}) ChipFault) → IsSteady h old → Did (Erase p) (Ok tt) old mid → Waited result mid new
+      → KeepsMap old.places m (Clears p) (λ done. IsCleared p) h old result new
   unfolding Erased
-  begin_leads old mid new result steady erase wait =
-      let first = erase_leads old mid (Ok tt) steady erase in
-      let (after, worn) = erases_keep places m h it p rests laid within idle in
+  begin_leads mid new result steady erase wait =
+      let first = erase_leads mid (Ok tt) steady erase in
+      let (after, worn) = erases_keep old.places m h it p rests laid within idle in
       let at : adds_all first.added h ≡ adds (Erase p) h = first.ends.1 in
-      let here : IsSteady (adds (Erase p) h) mid = subst (λ (k : History). IsSteady k mid) at (steady_after (EachStands places m) Erased (λ done then. then ≡ adds (Erase p) h) h tt old mid first) in
-      let second : Leads (EachStands places m) (λ done b. Clears p done (b ++ Erase p ∷ [])) (λ done then. then ≡ adds Barrier (adds (Erase p) h)) (adds (Erase p) h) mid result new =
-      leads_waited (EachStands places m) (λ done b. Clears p done (b ++ Erase p ∷ [])) (adds (Erase p) h) mid new here (λ done then. then ≡ adds Barrier (adds (Erase p) h)) result wait
-      after (barriers_rest places m (adds (Erase p) h) (held_stands places m (adds (Erase p) h) after) worn).each (clears_all p) (clears_erase p) refl in
-      leads_then (EachStands places m) Erased (λ done b. Clears p done (b ++ Erase p ∷ [])) (Clears p) (λ done then. then ≡ adds (Erase p) h)
-      (λ done then. then ≡ adds Barrier (adds (Erase p) h)) (RestsWith places m (λ done. IsCleared p) h) h tt old mid new result first
-      (subst (λ (k : History). Leads (EachStands places m) (λ done b. Clears p done (b ++ Erase p ∷ [])) (λ done then. then ≡ adds Barrier (adds (Erase p) h)) k mid result new) (sym at) second)
+      let here : IsSteady (adds (Erase p) h) mid = subst (λ (k : History). IsSteady k mid) at (steady_after (EachStands old.places m) Erased (λ done then. then ≡ adds (Erase p) h) h tt old mid first) in
+      let second : Leads (EachStands old.places m) (λ done b. Clears p done (b ++ Erase p ∷ [])) (λ done then. then ≡ adds Barrier (adds (Erase p) h)) (adds (Erase p) h) mid result new =
+      leads_waited (EachStands old.places m) (λ done b. Clears p done (b ++ Erase p ∷ [])) (adds (Erase p) h) mid new here (λ done then. then ≡ adds Barrier (adds (Erase p) h)) result wait
+      after (barriers_rest old.places m (adds (Erase p) h) (held_stands old.places m (adds (Erase p) h) after) worn).each (clears_all p) (clears_erase p) refl in
+      leads_then (EachStands old.places m) Erased (λ done b. Clears p done (b ++ Erase p ∷ [])) (Clears p) (λ done then. then ≡ adds (Erase p) h)
+      (λ done then. then ≡ adds Barrier (adds (Erase p) h)) (RestsWith old.places m (λ done. IsCleared p) h) h tt old mid new result first
+      (subst (λ (k : History). Leads (EachStands old.places m) (λ done b. Clears p done (b ++ Erase p ∷ [])) (λ done then. then ≡ adds Barrier (adds (Erase p) h)) k mid result new) (sym at) second)
       (λ a b one two. subst (λ (l : Story). Clears p (is_ok result) (b ++ l)) (sym (one.1 refl)) two)
-      (λ w k is. subst (λ (j : History). StoryRests places m j × IsCleared p (now h) (now j)) (sym is)
-      (barriers_rest places m (adds (Erase p) h) (held_stands places m (adds (Erase p) h) after) worn, erased_chart p (held h.start h.story)))
+      (λ w k is. subst (λ (j : History). StoryRests old.places m j × IsCleared p (now h) (now j)) (sym is)
+      (barriers_rest old.places m (adds (Erase p) h) (held_stands old.places m (adds (Erase p) h) after) worn, erased_chart p (held h.start h.story)))
 
   -- the erase failed
-  pub begin_fails : {F : Type 0} (old new : Told) (f : F) → IsSteady h old → Breaks (Erase p) old new
-      → KeepsMap {T = Unit {0}} {E = F} places m (Clears p) (λ done. IsCleared p) h old (Err f) new
+  pub begin_fails : {F : Type 0} (new : Told) (f : F) → IsSteady h old → Breaks (Erase p) old new
+      → KeepsMap {T = Unit {0}} {E = F} old.places m (Clears p) (λ done. IsCleared p) h old (Err f) new
   unfolding Erased
-  begin_fails old new f steady erase =
-      leads_failed (EachStands places m) Erased (Clears p) (λ done then. then ≡ adds (Erase p) h) (RestsWith places m (λ done. IsCleared p) h)
-      h Stopped f old new (erase_leads old new (Err Stopped) steady erase) (λ a one. one.0)
+  begin_fails new f steady erase =
+      leads_failed (EachStands old.places m) Erased (Clears p) (λ done then. then ≡ adds (Erase p) h) (RestsWith old.places m (λ done. IsCleared p) h)
+      h Stopped f old new (erase_leads new (Err Stopped) steady erase) (λ a one. one.0)
 
   -- the place is worn
-  pub begin_worn : (old new : Told) → IsSteady h old → Appends (Worn p) old new
-      → Leads {T = Wear} {E = ChipFault} (EachStands places m) (λ ok. Clears p false) (RestsWith places m (Begun p) h) h old (Ok IsWorn) new
-  begin_worn old new steady did =
-      let after = worns_keep places m h it p rests laid idle in
+  pub begin_worn : (new : Told) → IsSteady h old → Appends (Worn p) old new
+      → Leads {T = Wear} {E = ChipFault} (EachStands old.places m) (λ ok. Clears p false) (RestsWith old.places m (Begun p) h) h old (Ok IsWorn) new
+  begin_worn new steady did =
+      let after = worns_keep old.places m h it p rests laid idle in
       record {
         added = Worn p ∷ [];
+        places = did.places;
         history = did.history;
-        each_moment = at_next (λ f. EachStands places m (adds_all f h)) (Worn p) [] (at_start (λ f. EachStands places m (adds_all f h)) rests.each) after.each;
+        each_moment = at_next (λ f. EachStands old.places m (adds_all f h)) (Worn p) [] (at_start (λ f. EachStands old.places m (adds_all f h)) rests.each) after.each;
+        marks = λ _. marks_one old.places h (Worn p) (worns_keep_marks old.places m h it p rests laid idle);
         does = clears_worn p;
         ends = (steady_then (Worn p) h old new steady did, (after, refl));
       }
@@ -94,8 +99,10 @@ pub leads_answers : {T U E : Type 0} (Each : History → Type 0) (D1 D2 : Bool �
     → ((a : Story) → D1 true a → D2 true a) → ((k : History) → T1 v k → T2 w k) → Leads {T = T} {E = E} Each D1 T1 h old (Ok v) new → Leads {T = U} {E = E} Each D2 T2 h old (Ok w) new
 leads_answers Each D1 D2 T1 T2 h v w old new does then did = record {
   added = did.added;
+  places = did.places;
   history = did.history;
   each_moment = did.each_moment;
+  marks = did.marks;
   does = does did.added did.does;
   ends = (did.ends.0, then _ did.ends.1);
 }
@@ -111,21 +118,22 @@ pub wears_done : (p : ℕ) (wear : Wear) (old new : Told) → wear ≡ Done → 
 wears_done p wear old new is did = subst (λ (w : Wear). Appends (erase_event w p) old new) is did.appends
 
 -- the erase failed, or the barrier behind it, or both were done
-module _ (places : ℕ) (m : Map) (it : Layout) (h : History) (p : ℕ) (rests : StoryRests places m h) (laid : Laid places (now h) it) (within : p < places) (idle : IsIdle places (now h) it p) where
-  pub begun_failed : (old new : Told) (f : ChipFault) → IsSteady h old → Breaks (Erase p) old new
-      → Leads {T = Wear} {E = ChipFault} (EachStands places m) (λ ok. Clears p false) (RestsWith places m (Begun p) h) h old (Err f) new
-  begun_failed old new f steady broke =
-      let did = begin_fails places m it h p rests laid within idle old new f steady broke in
-      leads_failed (EachStands places m) (Clears p) (λ ok. Clears p false) (RestsWith places m (λ done. IsCleared p) h) (RestsWith places m (Begun p) h) h f f old new did (λ a is. is)
+module _ (old : Told) (m : Map) (it : Layout) (h : History) (p : ℕ) (rests : StoryRests old.places m h) (laid : Laid old.places (now h) it) (within : p < old.places)
+    (idle : IsIdle old.places (now h) it p) where
+  pub begun_failed : (new : Told) (f : ChipFault) → IsSteady h old → Breaks (Erase p) old new
+      → Leads {T = Wear} {E = ChipFault} (EachStands old.places m) (λ ok. Clears p false) (RestsWith old.places m (Begun p) h) h old (Err f) new
+  begun_failed new f steady broke =
+      let did = begin_fails old m it h p rests laid within idle new f steady broke in
+      leads_failed (EachStands old.places m) (Clears p) (λ ok. Clears p false) (RestsWith old.places m (λ done. IsCleared p) h) (RestsWith old.places m (Begun p) h) h f f old new did (λ a is. is)
 
-  pub begun_halted : (old mid new : Told) (f : ChipFault) → IsSteady h old → Appends (Erase p) old mid → Halts mid new
-      → Leads {T = Wear} {E = ChipFault} (EachStands places m) (λ ok. Clears p false) (RestsWith places m (Begun p) h) h old (Err f) new
-  begun_halted old mid new f steady did halted =
-      leads_failed (EachStands places m) (Clears p) (λ ok. Clears p false) (RestsWith places m (λ done. IsCleared p) h) (RestsWith places m (Begun p) h) h f f old new
-      (begin_leads places m it h p rests laid within idle old mid new (Err f) steady did halted) (λ a is. is)
+  pub begun_halted : (mid new : Told) (f : ChipFault) → IsSteady h old → Appends (Erase p) old mid → Halts mid new
+      → Leads {T = Wear} {E = ChipFault} (EachStands old.places m) (λ ok. Clears p false) (RestsWith old.places m (Begun p) h) h old (Err f) new
+  begun_halted mid new f steady did halted =
+      leads_failed (EachStands old.places m) (Clears p) (λ ok. Clears p false) (RestsWith old.places m (λ done. IsCleared p) h) (RestsWith old.places m (Begun p) h) h f f old new
+      (begin_leads old m it h p rests laid within idle mid new (Err f) steady did halted) (λ a is. is)
 
-  pub begun_done : (old mid new : Told) → IsSteady h old → Appends (Erase p) old mid → Appends Barrier mid new
-      → Leads {T = Wear} {E = ChipFault} (EachStands places m) (λ ok. Clears p true) (RestsWith places m (Begun p) h) h old (Ok Done) new
-  begun_done old mid new steady did waited =
-      leads_answers (EachStands places m) (Clears p) (λ ok. Clears p true) (RestsWith places m (λ done. IsCleared p) h) (RestsWith places m (Begun p) h) h tt Done old new
-      (λ a is. is) (λ k is. is) (begin_leads places m it h p rests laid within idle old mid new (Ok tt) steady did waited)
+  pub begun_done : (mid new : Told) → IsSteady h old → Appends (Erase p) old mid → Appends Barrier mid new
+      → Leads {T = Wear} {E = ChipFault} (EachStands old.places m) (λ ok. Clears p true) (RestsWith old.places m (Begun p) h) h old (Ok Done) new
+  begun_done mid new steady did waited =
+      leads_answers (EachStands old.places m) (Clears p) (λ ok. Clears p true) (RestsWith old.places m (λ done. IsCleared p) h) (RestsWith old.places m (Begun p) h) h tt Done old new
+      (λ a is. is) (λ k is. is) (begin_leads old m it h p rests laid within idle mid new (Ok tt) steady did waited)

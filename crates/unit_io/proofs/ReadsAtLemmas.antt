@@ -14,8 +14,10 @@ use Rattle.ipl_meaning.specs.Layout.{Layout}
 use Rattle.ipl_meaning.specs.Rests.{now, StoryRests}
 use Rattle.ipl_meaning.specs.Tables.{Tables}
 use Rattle.ipl_meaning.specs.Agrees.{Agrees}
+use Rattle.ipl_meaning.specs.Marks.{KeepsMarks}
 use Rattle.ipl_meaning.proofs.StoryLemmas.{reads_keep}
 use Rattle.ipl_meaning.proofs.AgreeLemmas.{reads_agree}
+use Rattle.ipl_meaning.proofs.MarkStoryLemmas.{idle_events_keep_marks}
 use Rattle.chip_trait.proofs.CountsLemmas.{counts_none, counts_then}
 use Rattle.unit_io.specs.Leads.{IsSteady}
 use Rattle.unit_io.specs.Reads.{Asked}
@@ -144,6 +146,18 @@ at_agrees At places h it t (e ∷ added) each agrees = go e (All-head (IsReadAt 
     go Barrier is before = absurd is
     go (Worn q) is before = absurd is
     go (Said piece) is before = absurd is
+
+pub at_marks : (At : ℕ → ℕ → Type 0) (places : ℕ) (h : History) (added : Story) → All (IsReadAt At) added → KeepsMarks places h (adds_all added h)
+at_marks At places h [] each = λ unused. unused
+at_marks At places h (e ∷ added) each = λ unused. go e (All-head (IsReadAt At) e added each) (at_marks At places h added (All-tail (IsReadAt At) e added each) unused)
+  where
+    go : (e : Event) → IsReadAt At e → KeepsMarks places (adds_all added h) (adds e (adds_all added h))
+    go (Read p s) is = (idle_events_keep_marks places (adds_all added h)).0 p s
+    go (Program p s bytes) is = absurd is
+    go (Erase p) is = absurd is
+    go Barrier is = absurd is
+    go (Worn q) is = absurd is
+    go (Said piece) is = absurd is
 
 pub at_now : (At : ℕ → ℕ → Type 0) (h : History) (added : Story) → All (IsReadAt At) added → now (adds_all added h) ≡ now h
 at_now At h [] each = refl

@@ -15,8 +15,10 @@ use Rattle.ipl_meaning.specs.Chart.{chart_of}
 use Rattle.ipl_meaning.specs.Layout.{Layout, Laid}
 use Rattle.ipl_meaning.specs.Rests.{now, EachStands, StoryRests}
 use Rattle.ipl_meaning.specs.Steps.{MayLog}
-use Rattle.ipl_meaning.specs.StoryLaws.{IsUntouched}
+use Rattle.ipl_meaning.specs.Rests.{IsUntouched}
+use Rattle.ipl_meaning.specs.Marks.{KeepsMarks}
 use Rattle.ipl_meaning.proofs.StoryLemmas.{asides_keep, log_sectors_keep}
+use Rattle.ipl_meaning.proofs.MarkProgramLemmas.{asides_keep_marks, log_sectors_keep_marks}
 use Rattle.unit_io.specs.Leads.{IsSteady, RestsWith, KeepsMap, Did}
 use Rattle.unit_io.specs.Spots.{Programs, IsSpot}
 use Rattle.unit_io.specs.Charts.{Charts, Gains}
@@ -31,24 +33,26 @@ untouched h p s clean = (clean_blank h.start h.story p s clean, clean_closed h.s
 pub programmed_chart : (p s : ℕ) (bytes : List ℕ) (sector : Sector) (x : Contents) → sector_in bytes ≡ Some sector → Gains p s sector (chart_of x) (chart_of (after (Program p s bytes) x))
 programmed_chart p s bytes sector x says = held_program sector_in x [] p s bytes sector says
 
-module _ (places p s : ℕ) (bytes : List ℕ) (sector : Sector) (says : sector_in bytes ≡ Some sector) (m : Map) (h : History) (old new : Told) (result : Result (Unit {0}) ChipFault)
-    (steady : IsSteady h old) (did : Did (Program p s bytes) result old new) (rests : StoryRests places m h) (clean : age h.story p s ≡ Clean) where
-  -- where the story rests on the map after it too
-  kept : StoryRests places m (adds (Program p s bytes) h)
-      → KeepsMap places m (Programs p (IsSpot s)) (λ done. Gains p s sector) h old result new
-  kept after_it = leads_did (EachStands places m) (Programs p (IsSpot s)) h old new steady (RestsWith places m (λ done. Gains p s sector) h)
-      (Program p s bytes) result did rests.each after_it.each (programs_one p s bytes) (programs_none p (IsSpot s) false)
+module _ (p s : ℕ) (bytes : List ℕ) (sector : Sector) (says : sector_in bytes ≡ Some sector) (m : Map) (h : History) (old new : Told) (result : Result (Unit {0}) ChipFault)
+    (steady : IsSteady h old) (did : Did (Program p s bytes) result old new) (rests : StoryRests old.places m h) (fresh : IsUntouched h p s) where
+  -- where the story rests on the map after it too, and marks are kept
+  kept : StoryRests old.places m (adds (Program p s bytes) h) → KeepsMarks old.places h (adds (Program p s bytes) h)
+      → KeepsMap old.places m (Programs p (IsSpot s)) (λ done. Gains p s sector) h old result new
+  kept after_it marks = leads_did (EachStands old.places m) (Programs p (IsSpot s)) h old new steady (RestsWith old.places m (λ done. Gains p s sector) h)
+      (Program p s bytes) result did rests.each after_it.each (λ _. marks) (programs_one p s bytes) (programs_none p (IsSpot s) false)
       (after_it, held_program sector_in h.start h.story p s bytes sector says)
 
   -- in a place without a header
   pub aside_leads : now h p 0 ≡ None → s ≢ 0
-      → KeepsMap places m (Programs p (IsSpot s)) (λ done. Gains p s sector) h old result new
-  aside_leads bare other = kept (asides_keep places m h p s bytes sector rests (untouched h p s clean) says bare other)
+      → KeepsMap old.places m (Programs p (IsSpot s)) (λ done. Gains p s sector) h old result new
+  aside_leads bare other = kept (asides_keep old.places m h p s bytes sector rests fresh says bare other)
+      (asides_keep_marks old.places m h p s bytes sector rests fresh says bare other)
 
   -- among the live sectors of its unit
-  pub log_leads : (it : Layout) (u : ℕ) (records : List Record) → Laid places (now h) it → MayLog places (now h) it u p s sector records
-      → KeepsMap places m (Programs p (IsSpot s)) (λ done. Gains p s sector) h old result new
-  log_leads it u records laid may = kept (log_sectors_keep places m h it u p s bytes sector records rests (untouched h p s clean) says laid may)
+  pub log_leads : (it : Layout) (u : ℕ) (records : List Record) → Laid old.places (now h) it → MayLog old.places (now h) it u p s sector records
+      → KeepsMap old.places m (Programs p (IsSpot s)) (λ done. Gains p s sector) h old result new
+  log_leads it u records laid may = kept (log_sectors_keep old.places m h it u p s bytes sector records rests fresh says laid may)
+      (log_sectors_keep_marks old.places m h it u p s bytes sector records rests fresh says laid may)
 
 -- what is told of the contents
 pub program_tells : (p s : ℕ) (bytes : List ℕ) (sector : Sector) (old new : Told) (result : Result (Unit {0}) ChipFault) → sector_in bytes ≡ Some sector → Did (Program p s bytes) result old new

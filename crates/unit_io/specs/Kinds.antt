@@ -21,6 +21,10 @@ log_only o = of_kinds 5 5 o
 abbrev pub commit_only : Option Sector → Option Sector
 commit_only o = of_kinds 6 6 o
 
+-- a commit sector or a mark
+abbrev pub status_only : Option Sector → Option Sector
+status_only o = of_kinds 6 7 o
+
 -- the sector that a head and a used length name: its payload begins at byte 32
 abbrev pub sector_named : List ℕ → Option (Head × ℕ) → Option Sector
 sector_named bytes None = None

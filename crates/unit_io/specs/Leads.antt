@@ -1,19 +1,21 @@
 -- What a call leaves that writes to a chip.
-use Rattle.std.specs.Prelude.{ℕ, ◌≡◌, ◌⊎◌, Bool, true, false, Result, Ok, Err, MatchResult, IfOk, is_ok, Some}
+use Rattle.std.specs.Prelude.{ℕ, ◌≡◌, ◌⊎◌, Bool, true, false, List, Result, Ok, Err, MatchResult, IfOk, is_ok, Some}
 use Rattle.std.specs.Option.{option_map}
 use Rattle.chip_trait.specs.declared.event.Event.{Event}
-use Rattle.chip_trait.specs.declared.event.Event.TheVariants.{Erase, Worn, Barrier}
+use Rattle.chip_trait.specs.declared.event.Event.TheVariants.{Program, Erase, Worn, Barrier}
 use Rattle.chip_trait.specs.declared.wear.Wear.{Wear}
 use Rattle.chip_trait.specs.declared.wear.Wear.TheVariants.{Done, Worn as IsWorn}
 use Rattle.chip_trait.specs.Wears.{Wears}
 use Rattle.chip_trait.specs.Story.{Story, held}
 use Rattle.chip_trait.specs.Moment.{AtEachMoment}
-use Rattle.chip_trait.specs.Told.{History, Told, Appends, Breaks, Halts, Rose, adds_all}
+use Rattle.chip_trait.specs.Told.{History, Told, Appends, Breaks, Halts, Rose, adds, adds_all}
 use Rattle.ipl_base.specs.declared.fault.ChipFault.{ChipFault}
 use Rattle.ipl_base.specs.declared.fault.ChipFault.TheVariants.{Stopped}
 use Rattle.ipl_rules.specs.State.{Map}
+use Rattle.ipl_format.specs.Sector.{Sector, sector_in}
 use Rattle.ipl_meaning.specs.Chart.{Chart}
 use Rattle.ipl_meaning.specs.Rests.{now, EachStands, EachStandsEither, StoryRests}
+use Rattle.ipl_meaning.specs.Marks.{KeepsMarks}
 
 -- The chip holds what this history leaves, and no write has failed. The chip need not tell this history: of one that tells
 -- only what it holds, that may be taken as the start.
@@ -21,15 +23,22 @@ pub record IsSteady (h : History) (t : Told) : Type 0 where
   pub holds : t.contents ≡ Some (held h.start h.story)
   pub settled : t.settled ≡ true
 
--- What a call leaves that began at a history. What the chip tells grew by the added events. At each moment of them Each holds
--- of the history then. Does holds of them, whether the call was done or not. Done, the chip holds what the history then
--- leaves, and Then holds of the answer and that history.
-pub record Leads {T E : Type 0} (Each : History → Type 0) (Does : Bool → Story → Type 0) (Then : T → History → Type 0) (h : History) (old : Told) (result : Result T E) (new : Told) : Type 0 where
+-- What a call leaves that began at a history. What the chip tells grew by the added events, and its places are as many as
+-- before. At each moment of them Each holds of the history then, and where the first condition holds, marks are kept: where no
+-- marked sector was used before, none is then. Does holds of the events, whether the call was done or not. Done, the chip holds
+-- what the history then leaves, and Then holds of the answer and that history.
+pub record LeadsWhere {T E : Type 0} (Sound : Type 0) (Each : History → Type 0) (Does : Bool → Story → Type 0) (Then : T → History → Type 0) (h : History) (old : Told) (result : Result T E) (new : Told) : Type 0 where
   pub added : Story
+  pub places : new.places ≡ old.places
   pub history : new.history ≡ option_map (adds_all added) old.history
   pub each_moment : AtEachMoment (λ e. Each (adds_all e h)) added
+  pub marks : Sound → AtEachMoment (λ e. KeepsMarks old.places h (adds_all e h)) added
   pub does : Does (is_ok result) added
   pub ends : IfOk result (λ v. IsSteady (adds_all added h) new × Then v (adds_all added h))
+
+-- the same, where marks are kept in any case
+abbrev pub Leads : {T E : Type 0} → (History → Type 0) → (Bool → Story → Type 0) → (T → History → Type 0) → History → Told → Result T E → Told → Type 0
+Leads Each Does Then h old result new = LeadsWhere (Unit {0}) Each Does Then h old result new
 
 -- The story rests on the map, and F holds of the answer, of the chart at the history before and of the chart then.
 abbrev pub RestsWith : {T : Type 0} → ℕ → Map → (T → Chart → Chart → Type 0) → History → T → History → Type 0
@@ -47,6 +56,22 @@ abbrev pub SwitchesMap : {T E : Type 0} → ℕ → Map → Map → (Bool → St
     → History → Told → Result T E → Told → Type 0
 SwitchesMap places m n Does F h old result new =
     Leads (EachStandsEither places m n) Does (RestsWith places n F h) h old result new
+
+abbrev pub SwitchesMapWhere : {T E : Type 0} → Type 0 → ℕ → Map → Map → (Bool → Story → Type 0) → (T → Chart → Chart → Type 0)
+    → History → Told → Result T E → Told → Type 0
+SwitchesMapWhere Sound places m n Does F h old result new =
+    LeadsWhere Sound (EachStandsEither places m n) Does (RestsWith places n F h) h old result new
+
+-- the history is that of before with the program of this sector, at this spot, and a barrier
+pub record IsAdded (p s : ℕ) (sector : Sector) (h k : History) : Type 0 where
+  pub bytes : List ℕ
+  pub spelled : sector_in bytes ≡ Some sector
+  pub is : k ≡ adds Barrier (adds (Program p s bytes) h)
+
+-- the story rests on the map, with that sector added
+pub record RestsAdded (places : ℕ) (m : Map) (p s : ℕ) (sector : Sector) (h k : History) : Type 0 where
+  pub rests : StoryRests places m k
+  pub added : IsAdded p s sector h k
 
 -- a program or an erase was done, or it broke
 abbrev pub Did : Event → Result (Unit {0}) ChipFault → Told → Told → Type 0

@@ -4,6 +4,7 @@ pub mod Spots
 pub mod Charts
 pub mod Reads
 pub mod Kinds
+pub mod Found
 pub mod Faults
 pub mod Laws
 pub mod Plain

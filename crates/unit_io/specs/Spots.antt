@@ -1,8 +1,10 @@
 -- Which sectors a call programs or erases, and in what order.
-use Rattle.std.specs.Prelude.{Bool, true, ℕ, ◌≡◌, ◌≢◌, ◌<◌, ◌≤◌, ◌+◌, ◌*◌, [], ◌++◌}
+use Rattle.std.specs.Prelude.{Bool, true, ℕ, ◌≡◌, ◌≢◌, ◌<◌, ◌≤◌, ◌+◌, ◌*◌, List, [], ◌∷◌, ◌++◌, Some}
 use Rattle.ipl_base.specs.declared.limits.TheConstants.{PAGE_SECTORS}
 use Rattle.chip_trait.specs.Story.{Story, pieces}
+use Rattle.chip_trait.specs.declared.event.Event.TheVariants.{Program, Barrier}
 use Rattle.chip_trait.specs.Lawful.{Clean, age, IsLawful}
+use Rattle.ipl_format.specs.Sector.{Sector, sector_in}
 
 -- The events program sectors of this place that stand at these spots, each once, and say nothing. They are lawful after any
 -- lawful events that leave these spots clean; and what was clean elsewhere is so after them.
@@ -10,6 +12,12 @@ pub record Programs (p : ℕ) (Spot : ℕ → Type 0) (done : Bool) (added : Sto
   pub silent : pieces added ≡ []
   pub lawful : (base : Story) → IsLawful base → ((s : ℕ) → Spot s → age base p s ≡ Clean) → IsLawful (added ++ base)
   pub others : (base : Story) (q s : ℕ) → (q ≡ p → Spot s → ⊥) → age base q s ≡ Clean → age (added ++ base) q s ≡ Clean
+
+-- the events are the program of this sector, at this spot, and a barrier
+pub record AddsSector (p s : ℕ) (sector : Sector) (added : Story) : Type 0 where
+  pub bytes : List ℕ
+  pub spelled : sector_in bytes ≡ Some sector
+  pub events : added ≡ Barrier ∷ Program p s bytes ∷ []
 
 -- The events erase this place and say nothing. They are lawful after any lawful events, and what was clean elsewhere is so
 -- after them; and where all is done, each sector of the place is clean.

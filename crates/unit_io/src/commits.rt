@@ -1,18 +1,21 @@
-//! Commit sectors, programmed.
-ghost use Rattle.std.specs.Prelude.{◌≡◌, ◌≢◌, ◌<◌, ◌≤◌, ℕ, length, OnOk, is_ok, None};
+//! Commit sectors and marks, programmed.
+ghost use Rattle.std.specs.Prelude.{◌≡◌, ◌≢◌, ◌<◌, ◌≤◌, ℕ, List, length, OnOk, is_ok, Some, None};
 ghost use Rattle.ipl_base.specs.declared.limits.TheConstants.{PAYLOAD_LEN, VERSION};
+ghost use Rattle.chip_trait.specs.declared.event.Event.TheVariants.{Program};
 ghost use Rattle.chip_trait.specs.Image.{IsClosed};
-ghost use Rattle.chip_trait.specs.Lawful.{Clean, age};
 ghost use Rattle.chip_trait.specs.Chart.{with_sector};
-ghost use Rattle.chip_trait.specs.Told.{Told, History};
+ghost use Rattle.chip_trait.specs.Told.{Told, History, adds};
 ghost use Rattle.ipl_rules.specs.State.{Map};
+ghost use Rattle.ipl_format.specs.Sector.{IsKind, sector_in};
 ghost use Rattle.sector_format.specs.Decode.{sector_of};
 ghost use Rattle.ipl_meaning.specs.Stands.{StandsBeside};
-ghost use Rattle.ipl_meaning.specs.Rests.{now, WornAreIdle, StoryRests};
+ghost use Rattle.ipl_meaning.specs.Rests.{now, IsUntouched, EachStands, EachStandsEither, WornAreIdle, StoryRests};
+ghost use Rattle.ipl_meaning.specs.Tables.{Tables, IsCountedClean};
+ghost use Rattle.ipl_meaning.specs.Marks.{AreUnused, KeepsMarks, MarksNoMore};
 ghost use Rattle.unit_io.specs.Accounts.{Accounts};
-ghost use Rattle.unit_io.specs.Leads.{IsSteady, KeepsMap, SwitchesMap, IsStopped};
+ghost use Rattle.unit_io.specs.Leads.{IsSteady, LeadsWhere, RestsAdded, KeepsMap, SwitchesMap, IsStopped};
 ghost use Rattle.unit_io.specs.Unread.{ReadsNothing};
-ghost use Rattle.unit_io.specs.Spots.{Programs, IsSpot};
+ghost use Rattle.unit_io.specs.Spots.{AddsSector, Programs, IsSpot};
 ghost use Rattle.unit_io.specs.Costs.{ProgramsAt, Spends};
 ghost use Rattle.unit_io.specs.Charts.{Charts, Gains};
 
@@ -36,7 +39,7 @@ pub fn prepare_commit<C: Chip>(
     requires version { head.now.version ≡ VERSION }
     requires fits { length payload.now ≤ PAYLOAD_LEN }
     ensures aside { (m : Map) (h : History) → IsSteady h (C.told chip.old) → StoryRests (C.told chip.old).places m h
-        → now h spot.place 0 ≡ None → spot.sector ≢ 0 → age h.story spot.place spot.sector ≡ Clean
+        → now h spot.place 0 ≡ None → spot.sector ≢ 0 → IsUntouched h spot.place spot.sector
         → KeepsMap (C.told chip.old).places m (Programs spot.place (IsSpot spot.sector))
         (λ done. Gains spot.place spot.sector (sector_of head.now payload.now)) h (C.told chip.old) result (C.told chip.new) }
     ensures tells { OnOk result (Charts (Gains spot.place spot.sector (sector_of head.now payload.now)) (C.told chip.old) (C.told chip.new)) }
@@ -48,6 +51,41 @@ pub fn prepare_commit<C: Chip>(
     let mut bytes = [0; 512];
     encode(head, payload, &mut bytes);
     program_aside(chip, spot.place, spot.sector, &bytes)
+}
+
+/// Programs a sector (1 to 255 of its place) where nothing is open, and makes sure of it.
+fn add_sector<C: Chip>(
+    chip: &mut C,
+    spot: Spot,
+    head: &Head,
+    payload: &[u8],
+) -> Result<(), ChipFault>
+    requires place { spot.place < (C.told chip.old).places }
+    requires sector { spot.sector < 256 }
+    requires known { IsKind head.now.kind }
+    requires version { head.now.version ≡ VERSION }
+    requires fits { length payload.now ≤ PAYLOAD_LEN }
+    ensures leads { (t : Tables) (m n : Map) (h : History) → IsSteady h (C.told chip.old)
+        → StoryRests (C.told chip.old).places m h → IsClosed h.story → IsUntouched h spot.place spot.sector
+        → StandsBeside (C.told chip.old).places (now h) (with_sector (now h) spot.place spot.sector (sector_of head.now payload.now)) n
+        → WornAreIdle (C.told chip.old).places h.story (with_sector (now h) spot.place spot.sector (sector_of head.now payload.now))
+        → (AreUnused (IsCountedClean t) h.story → (bytes : List ℕ) → sector_in bytes ≡ Some (sector_of head.now payload.now)
+        → KeepsMarks (C.told chip.old).places h (adds (Program spot.place spot.sector bytes) h))
+        → LeadsWhere (AreUnused (IsCountedClean t) h.story) (EachStandsEither (C.told chip.old).places m n)
+        (Programs spot.place (IsSpot spot.sector))
+        (λ done k. RestsAdded (C.told chip.old).places n spot.place spot.sector (sector_of head.now payload.now) h k)
+        h (C.told chip.old) result (C.told chip.new) }
+    ensures adds { OnOk result (Spends (AddsSector spot.place spot.sector (sector_of head.now payload.now)) (C.told chip.old) (C.told chip.new)) }
+    ensures tells { OnOk result (Charts (Gains spot.place spot.sector (sector_of head.now payload.now)) (C.told chip.old) (C.told chip.new)) }
+    ensures costs { Spends (ProgramsAt spot.place 1 1 head.now.kind) (C.told chip.old) (C.told chip.new) }
+    ensures tidy { Spends (Programs spot.place (IsSpot spot.sector) (is_ok result)) (C.told chip.old) (C.told chip.new) }
+    ensures accounts { Accounts IsStopped result (C.told chip.old) (C.told chip.new) }
+{
+    let mut bytes = [0; 512];
+    encode(head, payload, &mut bytes);
+    program(chip, spot.place, spot.sector, &bytes)?;
+    // What it says has to last before anybody is told of it.
+    barrier(chip)
 }
 
 /// Programs a commit sector (1 to 255 of its place) where nothing is open, and makes sure of it.
@@ -65,9 +103,10 @@ pub fn add_commit<C: Chip>(
     requires version { head.now.version ≡ VERSION }
     requires fits { length payload.now ≤ PAYLOAD_LEN }
     ensures leads { (m n : Map) (h : History) → IsSteady h (C.told chip.old)
-        → StoryRests (C.told chip.old).places m h → IsClosed h.story → age h.story spot.place spot.sector ≡ Clean
+        → StoryRests (C.told chip.old).places m h → IsClosed h.story → IsUntouched h spot.place spot.sector
         → StandsBeside (C.told chip.old).places (now h) (with_sector (now h) spot.place spot.sector (sector_of head.now payload.now)) n
         → WornAreIdle (C.told chip.old).places h.story (with_sector (now h) spot.place spot.sector (sector_of head.now payload.now))
+        → MarksNoMore (C.told chip.old).places (now h) (with_sector (now h) spot.place spot.sector (sector_of head.now payload.now)) spot.place
         → SwitchesMap (C.told chip.old).places m n (Programs spot.place (IsSpot spot.sector))
         (λ done. Gains spot.place spot.sector (sector_of head.now payload.now)) h (C.told chip.old) result (C.told chip.new) }
     ensures tells { OnOk result (Charts (Gains spot.place spot.sector (sector_of head.now payload.now)) (C.told chip.old) (C.told chip.new)) }
@@ -75,9 +114,40 @@ pub fn add_commit<C: Chip>(
     ensures tidy { Spends (Programs spot.place (IsSpot spot.sector) (is_ok result)) (C.told chip.old) (C.told chip.new) }
     ensures accounts { Accounts IsStopped result (C.told chip.old) (C.told chip.new) }
 {
-    let mut bytes = [0; 512];
-    encode(head, payload, &mut bytes);
-    program(chip, spot.place, spot.sector, &bytes)?;
-    // The numbers have to last before anybody is told of them.
-    barrier(chip)
+    add_sector(chip, spot, head, payload)
+}
+
+/// Programs a mark (1 to 255 of its place) where nothing is open, and makes sure of it.
+///
+/// Where the mark changes nothing of what stands, whatever a power cut leaves stands for the map on which the story rested, and
+/// done, it rests on that map. That no used sector is marked then is for the caller to know (`ClosesKeepMarks`), by what tables
+/// count as clean, where that is unused.
+pub fn add_mark<C: Chip>(
+    chip: &mut C,
+    spot: Spot,
+    head: &Head,
+    payload: &[u8],
+) -> Result<(), ChipFault>
+    requires place { spot.place < (C.told chip.old).places }
+    requires sector { spot.sector < 256 }
+    requires kind { head.now.kind ≡ 7 }
+    requires version { head.now.version ≡ VERSION }
+    requires fits { length payload.now ≤ PAYLOAD_LEN }
+    ensures keeps { (t : Tables) (m : Map) (h : History) → IsSteady h (C.told chip.old)
+        → StoryRests (C.told chip.old).places m h → IsClosed h.story → IsUntouched h spot.place spot.sector
+        → StandsBeside (C.told chip.old).places (now h) (with_sector (now h) spot.place spot.sector (sector_of head.now payload.now)) m
+        → WornAreIdle (C.told chip.old).places h.story (with_sector (now h) spot.place spot.sector (sector_of head.now payload.now))
+        → (AreUnused (IsCountedClean t) h.story → (bytes : List ℕ) → sector_in bytes ≡ Some (sector_of head.now payload.now)
+        → KeepsMarks (C.told chip.old).places h (adds (Program spot.place spot.sector bytes) h))
+        → LeadsWhere (AreUnused (IsCountedClean t) h.story) (EachStands (C.told chip.old).places m)
+        (Programs spot.place (IsSpot spot.sector))
+        (λ done k. RestsAdded (C.told chip.old).places m spot.place spot.sector (sector_of head.now payload.now) h k)
+        h (C.told chip.old) result (C.told chip.new) }
+    ensures adds { OnOk result (Spends (AddsSector spot.place spot.sector (sector_of head.now payload.now)) (C.told chip.old) (C.told chip.new)) }
+    ensures tells { OnOk result (Charts (Gains spot.place spot.sector (sector_of head.now payload.now)) (C.told chip.old) (C.told chip.new)) }
+    ensures costs { Spends (ProgramsAt spot.place 1 1 7) (C.told chip.old) (C.told chip.new) }
+    ensures tidy { Spends (Programs spot.place (IsSpot spot.sector) (is_ok result)) (C.told chip.old) (C.told chip.new) }
+    ensures accounts { Accounts IsStopped result (C.told chip.old) (C.told chip.new) }
+{
+    add_sector(chip, spot, head, payload)
 }

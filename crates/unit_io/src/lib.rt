@@ -6,14 +6,16 @@
 //!
 //! Proved, by `begin_unit`, `program_page`, `program_log`, `seal`: a place taken, filled and
 //! sealed: at each moment of a call a cut leaves the records before it, in a seal those before or
-//! those with the header; what the chart holds then; lawful events, and which sectors they
-//! program, whatever the chip tells (`tidy`); pages and headers are no log sectors and no commit
-//! sectors; and all other places have the bytes that they had (`Spares`).
+//! those with the header, and no used sector that is marked as clean; what the chart holds then;
+//! lawful events, and which sectors they program, whatever the chip tells (`tidy`); pages and
+//! headers are no log sectors and no commit sectors; and all other places have the bytes that they
+//! had (`Spares`). By `add_mark`: so is a mark added, of a clean close.
 //!
-//! Proved, by `read_head`, `read_log`, `read_commit`, `read_page`, `page_laws`: headers, log
-//! sectors, commit sectors and pages are read exactly as the chip holds them; the first fault of a
-//! page in order; which reads were asked; and what the pieces of a page bring into sums, with which
-//! it is programmed at another place (`AreTails`).
+//! Proved, by `read_head`, `read_log`, `read_commit`, `read_noted`, `read_page`, `page_laws`:
+//! headers, log sectors, commit sectors, marks and pages are read exactly as the chip holds them;
+//! the first fault of a page in order; which reads were asked; and what the pieces of a page bring
+//! into sums, with which it is programmed at another place (`AreTails`). By `read_found`: which
+//! sectors are erased.
 #![tactic(auto)]
 
 mod calls;
@@ -26,10 +28,10 @@ mod reading;
 mod sectors;
 
 pub use calls::barrier;
-pub use commits::{add_commit, prepare_commit};
+pub use commits::{add_commit, add_mark, prepare_commit};
 pub use laws::page_laws;
 pub use page_reading::read_page;
 pub use pages::program_page;
 pub use places::{begin_unit, seal};
-pub use reading::{read_commit, read_head, read_log, read_sector};
+pub use reading::{Found, read_commit, read_found, read_head, read_log, read_noted, read_sector};
 pub use sectors::program_log;

@@ -12,6 +12,7 @@ ghost use Rattle.ipl_meaning.specs.Stands.{StandsBeside};
 ghost use Rattle.ipl_meaning.specs.Layout.{Layout, Laid};
 ghost use Rattle.ipl_meaning.specs.Rests.{now, EachStands, WornAreIdle, StoryRests};
 ghost use Rattle.ipl_meaning.specs.Steps.{IsIdle};
+ghost use Rattle.ipl_meaning.specs.Marks.{MarksNoMore};
 ghost use Rattle.unit_io.specs.Accounts.{Accounts};
 ghost use Rattle.unit_io.specs.Leads.{IsSteady, Leads, RestsWith, SwitchesMap, IsStopped, is_done, Erases};
 ghost use Rattle.unit_io.specs.Unread.{ReadsNothing};
@@ -61,6 +62,7 @@ fn add_header<C: Chip>(chip: &mut C, place: u32, bytes: &[u8; 512]) -> Result<()
         → StoryRests (C.told chip.old).places m h → IsClosed h.story → age h.story place 0 ≡ Clean
         → StandsBeside (C.told chip.old).places (now h) (with_sector (now h) place 0 said) n
         → WornAreIdle (C.told chip.old).places h.story (with_sector (now h) place 0 said)
+        → MarksNoMore (C.told chip.old).places (now h) (with_sector (now h) place 0 said) place
         → SwitchesMap (C.told chip.old).places m n (Programs place (IsSpot 0))
         (λ done. Gains place 0 said) h (C.told chip.old) result (C.told chip.new) }
     ensures tells { (said : Sector) → sector_in bytes.now ≡ Some said → OnOk result (Charts (Gains place 0 said) (C.told chip.old) (C.told chip.new)) }
@@ -90,6 +92,7 @@ pub fn seal<C: Chip>(chip: &mut C, place: u32, head: &Head, payload: &[u8]) -> R
         → StoryRests (C.told chip.old).places m h → age h.story place 0 ≡ Clean
         → StandsBeside (C.told chip.old).places (now h) (with_sector (now h) place 0 (sector_of head.now payload.now)) n
         → WornAreIdle (C.told chip.old).places h.story (with_sector (now h) place 0 (sector_of head.now payload.now))
+        → MarksNoMore (C.told chip.old).places (now h) (with_sector (now h) place 0 (sector_of head.now payload.now)) place
         → SwitchesMap (C.told chip.old).places m n (Programs place (IsSpot 0))
         (λ done. Gains place 0 (sector_of head.now payload.now)) h (C.told chip.old) result (C.told chip.new) }
     ensures tells { OnOk result (Charts (Gains place 0 (sector_of head.now payload.now)) (C.told chip.old) (C.told chip.new)) }

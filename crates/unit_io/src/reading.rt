@@ -1,7 +1,8 @@
 //! One sector read, and taken where it is of the kind wanted.
-ghost use Rattle.std.specs.Prelude.{◌≡◌, ◌<◌, ◌≤◌, ℕ, List, IfOk, IfSome, OnOk};
+ghost use Rattle.std.specs.Prelude.{◌≡◌, ◌↔◌, ◌<◌, ◌≤◌, ℕ, List, IfOk, IfSome, OnOk};
 ghost use Rattle.ipl_base.specs.declared.limits.TheConstants.{PAYLOAD_LEN};
 ghost use Rattle.chip_trait.specs.declared.event.Event.TheVariants.{Read};
+ghost use Rattle.chip_trait.specs.Story.{blank};
 ghost use Rattle.chip_trait.specs.Told.{Told};
 ghost use Rattle.ipl_format.specs.Sector.{sector_in};
 ghost use Rattle.ipl_format.specs.Whole.{IsWhole};
@@ -9,23 +10,71 @@ ghost use Rattle.sector_format.specs.Decode.{IsDecoded, sector_read};
 ghost use Rattle.ipl_meaning.specs.Chart.{chart_of};
 ghost use Rattle.unit_io.specs.Accounts.{Accounts};
 ghost use Rattle.unit_io.specs.Reads.{Asked, OfContents, IsReadFault};
-ghost use Rattle.unit_io.specs.Kinds.{of_kinds, header_only, log_only, commit_only, sector_named};
+ghost use Rattle.unit_io.specs.Kinds.{of_kinds, header_only, log_only, commit_only, status_only, sector_named};
+ghost use Rattle.unit_io.specs.Found.{checked};
+ghost use Rattle.unit_io.specs.declared.reading.Found.TheVariants.{Erased};
 
 use crate::calls::read;
 use chip_trait::Chip;
 use ipl_base::{ChipFault, Spot};
 use sector_format::{Decoded, Head, decode};
 
-/// The head and the used length of a sector, where it checks.
-fn named(bytes: &[u8; 512]) -> Option<(Head, usize)>
-    ensures exact { sector_named bytes.now result ≡ sector_in bytes.now }
-    ensures fits { IfSome result (λ found. found.1 ≤ PAYLOAD_LEN) }
+/// What a sector was found to be.
+#[derive(Clone, Copy, Debug, PartialEq, Eq)]
+pub enum Found {
+    /// All bytes are FF.
+    Erased,
+    /// It doesn't check, and isn't erased.
+    Bad,
+    /// It checks: its head, and how many bytes of payload it uses, from byte 32 on.
+    Sector(Head, usize),
+}
+
+/// What the bytes of a sector are.
+fn found_in(bytes: &[u8; 512]) -> Found
+    ensures exact { sector_named bytes.now (checked result) ≡ sector_in bytes.now }
+    ensures erased { (result ≡ Erased) ↔ (bytes.now ≡ blank) }
+    ensures fits { IfSome (checked result) (λ found. found.1 ≤ PAYLOAD_LEN) }
     ensures whole { IsWhole bytes.now }
 {
     match decode(bytes) {
-        Decoded::Sector(head, used) => Some((head, used)),
+        Decoded::Erased => Found::Erased,
+        Decoded::Sector(head, used) => Found::Sector(head, used),
+        Decoded::Bad { .. } | Decoded::Strange => Found::Bad,
+    }
+}
+
+/// Its head and its used length, where it checks.
+fn checked(found: Found) -> Option<(Head, usize)>
+    ensures { result ≡ checked found }
+{
+    match found {
+        Found::Sector(head, used) => Some((head, used)),
         _ => None,
     }
+}
+
+/// Reads a sector (0 to 255 of its place), and answers whether it is erased, and where it checks its head and how many bytes
+/// of payload it uses, from byte 32 of the buffer on. After a fault the buffer holds anything.
+pub fn read_found<C: Chip>(
+    chip: &mut C,
+    spot: Spot,
+    into: &mut [u8; 512],
+) -> Result<Found, ChipFault>
+    requires place { spot.place < (C.told chip.old).places }
+    requires sector { spot.sector < 256 }
+    ensures exact { IfOk result (λ found. OfContents (C.told chip.old) (λ x.
+        sector_named into.new (checked found) ≡ chart_of x spot.place spot.sector)) }
+    ensures erased { IfOk result (λ found. OfContents (C.told chip.old) (λ x.
+        (found ≡ Erased) ↔ (x spot.place spot.sector ≡ blank))) }
+    ensures bytes { OnOk result (OfContents (C.told chip.old) (λ x. into.new ≡ x spot.place spot.sector)) }
+    ensures fits { IfOk result (λ found. IfSome (checked found) (λ it. it.1 ≤ PAYLOAD_LEN)) }
+    ensures whole { OnOk result (OfContents (C.told chip.old) (λ x. IsWhole (x spot.place spot.sector))) }
+    ensures asks { Asked (Read spot.place spot.sector) result (C.told chip.old) (C.told chip.new) }
+    ensures accounts { Accounts IsReadFault result (C.told chip.old) (C.told chip.new) }
+{
+    read(chip, spot.place, spot.sector, into)?;
+    Ok(found_in(into))
 }
 
 /// Reads a sector (0 to 255 of its place), and answers its head and how many bytes of payload it uses, from byte 32 of the
@@ -45,8 +94,8 @@ pub fn read_sector<C: Chip>(
     ensures asks { Asked (Read spot.place spot.sector) result (C.told chip.old) (C.told chip.new) }
     ensures accounts { Accounts IsReadFault result (C.told chip.old) (C.told chip.new) }
 {
-    read(chip, spot.place, spot.sector, into)?;
-    Ok(named(into))
+    let found = read_found(chip, spot, into)?;
+    Ok(checked(found))
 }
 
 /// What was found, if its kind is one of these.
@@ -144,4 +193,24 @@ pub fn read_commit<C: Chip>(
     ensures accounts { Accounts IsReadFault result (C.told chip.old) (C.told chip.new) }
 {
     read_of_kinds(chip, spot, Head::COMMIT, Head::COMMIT, into)
+}
+
+/// Reads a commit sector or a mark (0 to 255 of its place): its head and how many bytes of payload it uses, from byte 32 of
+/// the buffer on; `None` exactly where the sector checks as neither. After a fault the buffer holds anything.
+pub fn read_noted<C: Chip>(
+    chip: &mut C,
+    spot: Spot,
+    into: &mut [u8; 512],
+) -> Result<Option<(Head, usize)>, ChipFault>
+    requires place { spot.place < (C.told chip.old).places }
+    requires sector { spot.sector < 256 }
+    ensures exact { IfOk result (λ o. OfContents (C.told chip.old) (λ x.
+        sector_named into.new o ≡ status_only (chart_of x spot.place spot.sector))) }
+    ensures bytes { OnOk result (OfContents (C.told chip.old) (λ x. into.new ≡ x spot.place spot.sector)) }
+    ensures kind { IfOk result (λ o. IfSome o (λ found. (6 ≤ found.0.kind) × (found.0.kind ≤ 7))) }
+    ensures fits { IfOk result (λ o. IfSome o (λ found. found.1 ≤ PAYLOAD_LEN)) }
+    ensures asks { Asked (Read spot.place spot.sector) result (C.told chip.old) (C.told chip.new) }
+    ensures accounts { Accounts IsReadFault result (C.told chip.old) (C.told chip.new) }
+{
+    read_of_kinds(chip, spot, Head::COMMIT, Head::MARK, into)
 }

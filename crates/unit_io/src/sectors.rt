@@ -1,14 +1,13 @@
 //! One sector of a place, programmed.
 ghost use Rattle.std.specs.Prelude.{◌≡◌, ◌≢◌, ◌<◌, ℕ, List, Some, None, OnOk, is_ok};
 ghost use Rattle.ipl_base.specs.declared.limits.TheConstants.{VERSION};
-ghost use Rattle.chip_trait.specs.Lawful.{Clean, age};
 ghost use Rattle.chip_trait.specs.Told.{Told, History};
 ghost use Rattle.ipl_rules.specs.State.{Map};
 ghost use Rattle.ipl_format.specs.Sector.{Sector, sector_in};
 ghost use Rattle.ipl_format.specs.Record.{Record};
 ghost use Rattle.sector_format.specs.Decode.{sector_of};
 ghost use Rattle.ipl_meaning.specs.Layout.{Layout, Laid};
-ghost use Rattle.ipl_meaning.specs.Rests.{now, StoryRests};
+ghost use Rattle.ipl_meaning.specs.Rests.{now, IsUntouched, StoryRests};
 ghost use Rattle.ipl_meaning.specs.Steps.{MayLog};
 ghost use Rattle.unit_io.specs.Accounts.{Accounts};
 ghost use Rattle.unit_io.specs.Leads.{IsSteady, KeepsMap, IsStopped};
@@ -34,7 +33,7 @@ pub(crate) fn program_aside<C: Chip>(
     requires place { place < (C.told chip.old).places }
     requires sector { sector < 256 }
     ensures aside { (m : Map) (h : History) (said : Sector) → sector_in bytes.now ≡ Some said → IsSteady h (C.told chip.old)
-        → StoryRests (C.told chip.old).places m h → now h place 0 ≡ None → sector ≢ 0 → age h.story place sector ≡ Clean
+        → StoryRests (C.told chip.old).places m h → now h place 0 ≡ None → sector ≢ 0 → IsUntouched h place sector
         → KeepsMap (C.told chip.old).places m (Programs place (IsSpot sector))
         (λ done. Gains place sector said) h (C.told chip.old) result (C.told chip.new) }
     ensures tells { (said : Sector) → sector_in bytes.now ≡ Some said → OnOk result (Charts (Gains place sector said) (C.told chip.old) (C.told chip.new)) }
@@ -67,11 +66,11 @@ pub fn program_log<C: Chip>(
     ensures keeps { (m : Map) (it : Layout) (h : History) (u : ℕ) (records : List Record) → IsSteady h (C.told chip.old)
         → StoryRests (C.told chip.old).places m h → Laid (C.told chip.old).places (now h) it
         → MayLog (C.told chip.old).places (now h) it u spot.place spot.sector (sector_of head.now payload.now.bytes) records
-        → age h.story spot.place spot.sector ≡ Clean
+        → IsUntouched h spot.place spot.sector
         → KeepsMap (C.told chip.old).places m (Programs spot.place (IsSpot spot.sector))
         (λ done. Gains spot.place spot.sector (sector_of head.now payload.now.bytes)) h (C.told chip.old) result (C.told chip.new) }
     ensures aside { (m : Map) (h : History) → IsSteady h (C.told chip.old) → StoryRests (C.told chip.old).places m h
-        → now h spot.place 0 ≡ None → spot.sector ≢ 0 → age h.story spot.place spot.sector ≡ Clean
+        → now h spot.place 0 ≡ None → spot.sector ≢ 0 → IsUntouched h spot.place spot.sector
         → KeepsMap (C.told chip.old).places m (Programs spot.place (IsSpot spot.sector))
         (λ done. Gains spot.place spot.sector (sector_of head.now payload.now.bytes)) h (C.told chip.old) result (C.told chip.new) }
     ensures tells { OnOk result (Charts (Gains spot.place spot.sector (sector_of head.now payload.now.bytes)) (C.told chip.old) (C.told chip.new)) }

@@ -1,3 +1,4 @@
 pub mod WordLemmas
 pub mod HeaderLemmas
 pub mod StatusLemmas
+pub mod MarkLemmas

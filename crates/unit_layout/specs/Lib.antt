@@ -1,3 +1,4 @@
 pub mod Header
+pub mod Mark
 pub mod Laws
 pub mod Retired

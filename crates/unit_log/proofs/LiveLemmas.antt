@@ -8,7 +8,7 @@ use Rattle.ipl_format.specs.Record.{IsLogPayload}
 use Rattle.ipl_format.specs.Sector.{Sector}
 use Rattle.ipl_meaning.specs.Chart.{Chart, IsLive as IsLiveSector, IsOverflow}
 use Rattle.ipl_meaning.specs.Layout.{Entry, Layout, IsEntry, IsUnit, IsBelow}
-use Rattle.ipl_meaning.specs.Tables.{Tables, first_log, spots_of}
+use Rattle.ipl_meaning.specs.Tables.{Tables, clean_from, spots_of}
 use Rattle.ipl_meaning.specs.Mirrors.{Mirrors}
 use Rattle.unit_log.specs.declared.scratch.LogSector.{LogSector}
 use Rattle.unit_log.specs.Kept.{held_in, kept_of, kept_at, with_found, gathered, has_serial, IsUnfit, HasUnfit, AreRising}
@@ -57,8 +57,8 @@ one_entry log e f rise (i, in_i, is) (j, in_j, also) same = elim (cases_eq i j) 
         rw (at_j, at_i) at (rise j i f less within) in omega (arith, below, same)
 
 module _ (places : ℕ) (c : Chart) (it : Layout) (t : Tables) (u end : ℕ)
-    (mirrors : Mirrors places c it t) (low : u < it.count) (end_is : end ≡ first_log t u)
-    (most : end ≤ 256) where
+    (mirrors : Mirrors places c it t) (low : u < it.count)
+    (clean_then : (s : ℕ) → end ≤ s → s < 256 → clean_from t u ≤ s) (most : end ≤ 256) where
   abbrev g : ℕ
   g = (it.units u).head.generation
 
@@ -95,7 +95,7 @@ module _ (places : ℕ) (c : Chart) (it : Layout) (t : Tables) (u end : ℕ)
               u,
               omega (arith, low, mirrors.directory.units),
               at ∙ sym home_is,
-              omega (arith, clean, end_is),
+              clean_then s clean live.within.1,
             ),
           ) in
           let e : Some sector ≡ None = sym live.here ∙ none in cc)

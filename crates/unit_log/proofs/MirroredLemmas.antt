@@ -1,8 +1,9 @@
 -- What is read of a unit's log, where tables mirror the chip.
-use Rattle.std.proofs.Common.{◌≡◌, ◌<◌, ◌≤◌, ◌+◌, ℕ, List, [], length, map, slice_index, Option, Some, None, IfSome, IfNone, unwrap_or, sym, ◌∙◌, ap, ap₂, subst, arith}
+use Rattle.std.proofs.Common.{◌≡◌, ◌<◌, ◌≤◌, ◌+◌, ℕ, List, [], length, map, slice_index, Option, Some, None, IfSome, unwrap_or, sym, ◌∙◌, ap, ap₂, subst, arith}
 use Rattle.ipl_meaning.specs.Chart.{Chart}
 use Rattle.ipl_meaning.specs.Layout.{Layout}
-use Rattle.ipl_meaning.specs.Tables.{Places, OverflowLists, Tables, first_log, spots_of}
+use Rattle.ipl_meaning.specs.Tables.{Places, OverflowLists, Tables, clean_from, written_of, spots_of}
+use Rattle.ipl_meaning.proofs.KnownLogLemmas.{counted_few}
 use Rattle.overflow.specs.Lists.{spots_in}
 use Rattle.unit_log.specs.declared.scratch.LogSector.{LogSector}
 use Rattle.unit_log.specs.Kept.{kept_of, gathered, HasUnfit, AreRising}
@@ -45,17 +46,24 @@ module _ (places place u : ℕ) (c : Chart) (it : Layout) (t : Tables) (director
   module _ (next : Option ℕ) (end : ℕ) (listed : List (ℕ × ℕ)) (generation : ℕ)
       (same : generation ≡ (it.units u).head.generation)
       (some : IfSome next (λ s. s ≡ 241 + slice_index directory.written u))
-      (none : IfNone next (slice_index directory.written u ≡ 15))
       (range : IfSome next (λ s. (241 ≤ s) × (s ≤ 255)))
       (end_at : end ≡ unwrap_or next 256) (listed_is : listed ≡ spots_in overflow u) where
-    -- the sectors that are read at home end where the known clean ones begin
-    end_from : (o : Option ℕ) → IfSome o (λ s. s ≡ 241 + slice_index directory.written u)
-        → IfNone o (slice_index directory.written u ≡ 15) → end ≡ unwrap_or o 256
-        → end ≡ first_log t u
-    end_from (Some s) some none is =
-        is ∙ some ∙ ap (λ (d : Places). 241 + slice_index d.written u) (sym are.directory_is)
-    end_from None some none is =
-        omega (arith, is, none, ap (λ (d : Places). slice_index d.written u) are.directory_is)
+    -- behind those that are read at home all are known clean
+    clean_then : (o : Option ℕ) → IfSome o (λ s. s ≡ 241 + slice_index directory.written u)
+        → IfSome o (λ s. (241 ≤ s) × (s ≤ 255)) → end ≡ unwrap_or o 256
+        → (s : ℕ) → end ≤ s → s < 256 → clean_from t u ≤ s
+    clean_then (Some first) some range is s high less =
+        let known : slice_index directory.written u ≡ written_of t u =
+        ap (λ (d : Places). slice_index d.written u) (sym are.directory_is) in
+        omega (
+          arith,
+          counted_few (written_of t u) (omega (arith, some, range.1, known)),
+          some,
+          known,
+          is,
+          high,
+        )
+    clean_then None some range is s high less = absurd (omega (arith, is, high, less))
 
     end_most : (o : Option ℕ) → IfSome o (λ s. (241 ≤ s) × (s ≤ 255)) → end ≡ unwrap_or o 256
         → end ≤ 256
@@ -72,7 +80,7 @@ module _ (places place u : ℕ) (c : Chart) (it : Layout) (t : Tables) (director
     -- none of them is unfit
     pub no_unfit : HasUnfit c u generation (log_spots place end listed) [] → ⊥
     no_unfit unfit =
-        none_unfit places c it t u end are.mirrors within (end_from next some none end_at)
+        none_unfit places c it t u end are.mirrors within (clean_then next some range end_at)
         (end_most next range end_at)
         (subst (λ (l : List (ℕ × ℕ)). HasUnfit c u (it.units u).head.generation l []) spots_are
         (subst (λ (g : ℕ). HasUnfit c u g (log_spots place end listed) []) same unfit))
@@ -85,7 +93,7 @@ module _ (places place u : ℕ) (c : Chart) (it : Layout) (t : Tables) (director
         let all = is ∙ ap (λ (g : ℕ). gathered c u g (log_spots place end listed) []) same
         ∙ ap (λ (l : List (ℕ × ℕ)). gathered c u (it.units u).head.generation l []) spots_are in
         all
-        ∙ log_gathered places c it t u end are.mirrors within (end_from next some none end_at)
+        ∙ log_gathered places c it t u end are.mirrors within (clean_then next some range end_at)
         (end_most next range end_at) (subst AreRising all rise)
 
   -- ---- the log sectors of a page

@@ -78,7 +78,7 @@ fn encoded(alloc: Global, head: &Head, payload: &[u8]) -> Result<String>
     requires { IsVersion head.now.version }
 {
     ensure!(
-        1 <= head.kind && head.kind <= 6 && payload.len() <= 480,
+        1 <= head.kind && head.kind <= 7 && payload.len() <= 480,
         "no sector"
     );
     let mut out = [0xaa; 512];

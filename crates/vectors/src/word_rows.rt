@@ -27,9 +27,16 @@ fn asked_text(alloc: Global, asked: Option<Request>) -> Result<String> {
         Some(Request::Format { spares }) => Ok(format!(in alloc; "format spares {spares}")?),
         Some(Request::Serial) => text_of(alloc, "serial"),
         Some(Request::Check) => text_of(alloc, "check"),
-        Some(Request::Run { frames, format }) => {
+        Some(
+            Request::Run {
+                frames,
+                format,
+                close,
+            },
+        ) => {
             let how = if format { " format" } else { "" };
-            Ok(format!(in alloc; "run frames {frames}{how}")?)
+            let then = if close { " close" } else { "" };
+            Ok(format!(in alloc; "run frames {frames}{how}{then}")?)
         }
         Some(
             Request::Trial {

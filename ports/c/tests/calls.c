@@ -106,6 +106,7 @@ static void call_records(struct ipl *s) {
     must(asked.page == 13, "which page is released");
     was(ipl_reopen(s), 13, 0, 0, "reopen");
     must(ipl_unit_count(s) == 0 && asked.op == 14, "the count of units");
+    was(ipl_shutdown(s), 15, 0, 0, "shutdown");
 }
 
 static void call_keys(struct ipl_keys *k) {
@@ -120,6 +121,7 @@ static void call_keys(struct ipl_keys *k) {
     was(ipl_keys_del(k, 3, NULL, IPL_KEY + 1), 6, 3, 0, "del by a long key, which isn't read");
     was(ipl_keys_commit(k, 3), 7, 3, 0, "commit of keys");
     was(ipl_keys_abort(k, 3), 9, 3, 0, "abort of keys");
+    was(ipl_keys_shutdown(k), 15, 0, 0, "shutdown of keys");
 }
 
 /* What is found goes to the caller where it is there, and has room. */

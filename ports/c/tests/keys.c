@@ -14,7 +14,7 @@ struct session { int is_open, count; uint32_t keys[MOST]; struct value now[MOST]
 static struct value kept[KEYS];
 static struct session sessions[OPEN];
 static struct ipl_keys memory, *keys = &memory;
-static uint64_t seed, commits, cuts, wholes, full;
+static uint64_t seed, commits, cuts, wholes, full, shutdowns;
 
 static void die(const char *what, int answer) {
     const uint32_t *d = ipl_keys_detail(keys);
@@ -149,6 +149,22 @@ static void end_one(uint32_t s, int commits_it) {
     memset(&sessions[s], 0, sizeof sessions[s]);
 }
 
+/* Refused where a session is open; else the store is down, and opens again. */
+static void shut_down(void) {
+    uint32_t least = 0;
+    while (least < OPEN && !sessions[least].is_open) least++;
+    int answer = ipl_keys_shutdown(keys);
+    if (!goes_on(answer, 0, 0)) return;
+    if (least < OPEN) {
+        must(answer == IPL_SESSIONS_OPEN && ipl_keys_detail(keys)[0] == least, "a session is open", answer);
+        return;
+    }
+    must(answer == IPL_OK && ipl_keys_begin(keys, 0) == IPL_DOWN, "a shutdown", answer);
+    open_again();
+    must(has(kept), "the values behind a shutdown", 0);
+    shutdowns++;
+}
+
 /* Calls that are refused whatever there is. */
 static void ask_badly(void) {
     static const uint8_t bytes[IPL_VALUE];
@@ -175,6 +191,8 @@ int main(int argc, char **argv) {
         if (any_below(30) == 0) part_cut_after(0, 1 + any_below(any_below(3) ? 8 : 200));
         if (any_below(100) == 0) {
             ask_badly();
+        } else if (any_below(100) == 0) {
+            shut_down();
         } else if (!sessions[s].is_open) {
             int answer = ipl_keys_begin(keys, s);
             if (!goes_on(answer, 0, s)) continue;
@@ -194,8 +212,9 @@ int main(int argc, char **argv) {
     must(ipl_keys_open(keys, 0, PLACES, 8) == IPL_OK && has(kept), "the last opening", 0);
     ipl_keys_close(keys);
     printf("keys: %llu commits, %llu power cuts, %llu commits whole by a cut, %llu writes refused for room "
-           "or another session's bucket\n", (unsigned long long)commits, (unsigned long long)cuts,
-           (unsigned long long)wholes, (unsigned long long)full);
+           "or another session's bucket, %llu shutdowns\n", (unsigned long long)commits,
+           (unsigned long long)cuts, (unsigned long long)wholes, (unsigned long long)full,
+           (unsigned long long)shutdowns);
     part_free(0);
     return 0;
 }

@@ -14,7 +14,7 @@ static uint64_t answers[64], calls;
 
 /* Counts an answer, which the table of ipl.h must have. */
 static int known(int answer) {
-    int is_known = (answer >= IPL_OK && answer <= IPL_BAD_BUCKET)
+    int is_known = (answer >= IPL_OK && answer <= IPL_SESSIONS_OPEN)
                    || (answer >= IPL_GEOMETRY && answer <= IPL_WORN);
     if (!is_known) {
         fprintf(stderr, "lies: answer %d\n", answer);
@@ -84,6 +84,7 @@ static void ask_records(void) {
         break;
     default: known(ipl_begin(&records, s));
     }
+    if (any_below(40) == 0) known(ipl_shutdown(&records));
     if (any_below(20) == 0 && known(ipl_reopen(&records)) != IPL_OK && any_below(4) == 0)
         ipl_close(&records);
 }
@@ -101,6 +102,7 @@ static void ask_keys(void) {
     case 5: known(ipl_keys_abort(&keys, s)); break;
     default: known(ipl_keys_begin(&keys, s));
     }
+    if (any_below(400) == 0) known(ipl_keys_shutdown(&keys));
 }
 
 /* Opens one of both; after some failures the part is formatted, if it can be. */

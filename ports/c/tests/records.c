@@ -16,12 +16,12 @@ static struct session sessions[OPEN];
 static struct ipl memory, *store = &memory;
 static uint32_t frames;
 
-enum call { BEGIN, GET, SHARE, COMMITTED, PUT, DEL, COMMIT, BATCH, ABORT, MERGE, HOLD, OPENING, CALLS };
+enum call { BEGIN, GET, SHARE, COMMITTED, PUT, DEL, COMMIT, BATCH, ABORT, MERGE, HOLD, SHUTDOWN, OPENING, CALLS };
 static const char *const call_names[CALLS] = {
     "begin", "get", "share", "committed", "put", "del", "commit", "batch", "abort", "merge", "hold",
-    "opening"
+    "shutdown", "opening"
 };
-static uint64_t cuts[CALLS], commits, wholes, nones, refused, reads_held;
+static uint64_t cuts[CALLS], commits, wholes, nones, refused, reads_held, shutdowns;
 static uint64_t seed;
 
 static void die(const char *what, int answer) {
@@ -230,6 +230,39 @@ static void hold_one(void) {
     must(ipl_release(store, unit, page) == IPL_NOT_HELD, "a release more", 0);
 }
 
+/* Refused where a session is open; else the store is down, and opens again. */
+static void shut_down(void) {
+    uint32_t least = 0;
+    while (least < OPEN && !sessions[least].is_open) least++;
+    int answer = ipl_shutdown(store);
+    if (!goes_on(SHUTDOWN, answer, NULL, 0)) return;
+    if (least < OPEN) {
+        must(answer == IPL_SESSIONS_OPEN && ipl_detail(store)[0] == least, "a session is open", answer);
+        return;
+    }
+    must(answer == IPL_OK, "a shutdown", answer);
+    must(ipl_begin(store, 0) == IPL_DOWN && ipl_shutdown(store) == IPL_DOWN, "a store that is down", 0);
+    open_again();
+    must(has(kept), "the records behind a shutdown", 0);
+    shutdowns++;
+}
+
+/* A delete of name 0 that is committed: how many places it erases. */
+static uint64_t erases_of_commit(void) {
+    uint64_t before = part_counts(0).calls[ERASE];
+    must(ipl_begin(store, 0) == IPL_OK && ipl_del(store, 0, 0) == IPL_OK, "a delete", 0);
+    must(ipl_commit(store, 0) == IPL_OK, "a commit", 0);
+    kept[0].there = 0;
+    return part_counts(0).calls[ERASE] - before;
+}
+
+/* The first commit behind an opening merges the unit, and behind a shutdown too it doesn't. */
+static void try_shutdown(void) {
+    must(erases_of_commit() == 1, "a commit behind an opening merges", 0);
+    must(ipl_shutdown(store) == IPL_OK && ipl_reopen(store) == IPL_OK, "a shutdown at the end", 0);
+    must(erases_of_commit() == 0, "a commit behind a shutdown merges nothing", 0);
+}
+
 /* Calls that are refused whatever there is; nothing changes by them. */
 static void ask_badly(void) {
     static const uint8_t bytes[IPL_VALUE + 1];
@@ -262,6 +295,7 @@ static void step(void) {
         break;
     case 3: case 4: case 5: case 6: case 7: case 8: commit_several(); break;
     case 9: case 10: end_one(s, 0); break;
+    case 11: shut_down(); break;
     default:
         if (!sessions[s].is_open) {
             answer = ipl_begin(store, s);
@@ -299,6 +333,7 @@ int main(int argc, char **argv) {
     for (uint32_t s = 0; s < OPEN; s++) forget(s);
     part_cut_after(0, 0);
     must(ipl_reopen(store) == IPL_OK && has(kept), "the last opening", 0);
+    try_shutdown();
     ipl_close(store);
     must(ipl_begin(store, 0) == IPL_BAD_CALL && ipl_unit_count(store) == 0, "a closed store", 0);
     for (uint32_t name = 0; name < NAMES; name++) records += kept[name].there;
@@ -312,10 +347,11 @@ int main(int argc, char **argv) {
     for (int i = 0; i < CALLS; i++)
         if (cuts[i]) printf("%s %llu, ", call_names[i], (unsigned long long)cuts[i]);
     printf("at programs %llu, erases %llu, barriers %llu); %llu commits whole by a cut, %llu writes refused "
-           "for room, %llu holds, %u records at the end\n",
+           "for room, %llu holds, %llu shutdowns, %u records at the end\n",
            (unsigned long long)counts.cuts[PROGRAM], (unsigned long long)counts.cuts[ERASE],
            (unsigned long long)counts.cuts[BARRIER], (unsigned long long)wholes,
-           (unsigned long long)refused, (unsigned long long)reads_held, records);
+           (unsigned long long)refused, (unsigned long long)reads_held, (unsigned long long)shutdowns,
+           records);
     part_free(0);
     return 0;
 }

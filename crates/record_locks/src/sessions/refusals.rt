@@ -1,13 +1,13 @@
 //! When the calls on sessions are refused.
 ghost use Rattle.std.specs.Prelude.{◌≡◌, ◌<◌, ◌+◌, length, nat_le, not};
-ghost use Rattle.std.specs.List.{list_any};
+ghost use Rattle.std.specs.List.{find, list_any, range_with_len};
 ghost use Rattle.ipl_base.specs.declared.limits.TheConstants.{SESSIONS};
 ghost use Rattle.ipl_rules.specs.Marks.{overloads};
 ghost use Rattle.record_locks.specs.Held.{marks_in};
 ghost use Rattle.ipl_rules.specs.State.{is_open, writes_of, shared_of, written_names};
 ghost use Rattle.ipl_rules.specs.Refusals.{is_new_write, is_new_share};
 ghost use Rattle.record_locks.specs.Standing.{state_of};
-ghost use Rattle.record_locks.specs.Locks.{refuses_share, refuses_write, refuses_batch};
+ghost use Rattle.record_locks.specs.Locks.{refuses_share, refuses_write, refuses_batch, refuses_close};
 
 use super::Sessions;
 use crate::session::is_listed;
@@ -136,5 +136,25 @@ impl Sessions {
             return Some(Refusal::NotOpen);
         }
         None
+    }
+
+    /// The least session that is open, if one is.
+    fn least_open(&self) -> Option<u32>
+        ensures { result ≡ find (is_open (state_of self.now)) (range_with_len 0 SESSIONS) }
+    {
+        for s in 0..SESSIONS {
+            if self.is_open(s) {
+                return Some(s);
+            }
+        }
+        None
+    }
+
+    /// Why a clean close is refused, if it is.
+    pub fn refuses_close(&self) -> Option<Refusal>
+        ensures { result ≡ refuses_close self.now }
+    {
+        let s = self.least_open()?;
+        Some(Refusal::SessionsOpen(s))
     }
 }

@@ -6,7 +6,7 @@ use Rattle.ipl_cli.proofs.top.open_over.Goals as goal
 
 pub returns-in-Ok : goal.returns-in-Ok
 returns-in-Ok g c = record {
-  opens = starts_over (g.D.Chip.told c.args.desk.now) (g.D.Chip.told c.open_chip.new.chip)
+  opens = starts_over c.args.marks (g.D.Chip.told c.args.desk.now) (g.D.Chip.told c.open_chip.new.chip)
       c.open_chip.new.self c.over.result c.over.ensures c.open_chip.ensures.sound
       c.in-Ok.ensures.opens c.in-Ok.ensures.tries;
   frames = ap (λ (s : Store). s.frames) c.over.ensures ∙ c.open_chip.ensures.frames;

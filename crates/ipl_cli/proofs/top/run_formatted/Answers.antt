@@ -3,7 +3,7 @@ use Rattle.std.proofs.lemmas.Result.{err_from_is_err_and}
 use Rattle.store_trait.proofs.OnwardLemmas.{onward_counts, further_onward, further_then}
 use Rattle.ipl_cli.proofs.StartLemmas.{not_started_left, not_started_cause, formatted_left, formatted_cause, formatted_running, formatted_number}
 use Rattle.std.specs.Prelude.{is_ok}
-use Rattle.ipl_cli.proofs.LawfulLemmas.{formatted_adds, unstarted_adds}
+use Rattle.ipl_cli.proofs.LawfulLemmas.{formatted_adds, unstarted_adds, formatted_closed}
 use Rattle.ipl_cli.proofs.top.run_formatted.Goals as goal
 
 pub run_over-requires-clause-running : goal.run_over-requires-clause-running
@@ -25,7 +25,7 @@ pub returns-in_err-store-clause-cause : goal.returns-in_err-store-clause-cause
 returns-in_err-store-clause-cause g c =
     let e = err_from_is_err_and c.from_residual.result c.from_residual.ensures.1 in
     rw (e.1, e.2) (not_started_cause (g.D.Chip.told c.args.desk.now)
-    (g.D.Chip.told c.start_formatted.new.desk) c.args.frames c.in_err-store.field-0.0
+    (g.D.Chip.told c.start_formatted.new.desk) c.args.frames c.args.closes c.in_err-store.field-0.0
     c.in_err-store.ensures.stops)
 
 pub returns-in_err-run_over-clause-leaves : goal.returns-in_err-run_over-clause-leaves
@@ -44,7 +44,7 @@ returns-in_err-run_over-clause-cause g c =
     rw (e.1, e.2) (formatted_cause (g.D.Chip.told c.args.desk.now)
     (g.D.Chip.told c.start_formatted.new.desk) c.in_ok-store.store c.in_ok-store.ensures.starts
     c.run_over.new.store (g.D.Chip.told c.run_over.new.desk)
-    c.args.frames (Err c.in_err-run_over.field-0.0) c.in_err-run_over.ensures.runs)
+    c.args.frames c.args.closes (Err c.in_err-run_over.field-0.0) c.in_err-run_over.ensures.runs)
 
 pub returns-clause-leaves : goal.returns-clause-leaves
 returns-clause-leaves g c =
@@ -105,3 +105,8 @@ returns-clause-framed g c = record {
   does = c.in_ok-run_over.ensures.runs;
   noted = refl;
 }
+
+pub returns-clause-closed : goal.returns-clause-closed
+returns-clause-closed g c = λ is.
+    formatted_closed (g.D.Chip.told c.args.desk.now) (g.D.Chip.told c.start_formatted.new.desk)
+    (g.D.Chip.told c.run_over.new.desk) c.in_ok-store.store c.in_ok-store.ensures.starts (c.in_ok-run_over.ensures.closed is)

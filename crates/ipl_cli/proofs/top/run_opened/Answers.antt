@@ -3,6 +3,7 @@ use Rattle.std.proofs.lemmas.Result.{err_from_is_err_and}
 use Rattle.store_trait.proofs.OnwardLemmas.{onward_counts, further_onward, further_then}
 use Rattle.ipl_cli.proofs.StartLemmas.{opened_left, opened_cause, opened_running, opened_number}
 use Rattle.std.specs.Prelude.{is_ok}
+use Rattle.ipl_cli.proofs.CloseLemmas.{closed_since}
 use Rattle.ipl_cli.proofs.LawfulLemmas.{opened_adds}
 use Rattle.ipl_cli.proofs.top.run_opened.Goals as goal
 
@@ -30,7 +31,7 @@ returns-in_err-run_over-clause-cause g c =
     rw (e.1, e.2) (opened_cause (g.D.Chip.told c.args.desk.now)
     (g.D.Chip.told c.start_opened.new.desk) c.in_ok-store.store c.in_ok-store.ensures.starts
     c.run_over.new.store (g.D.Chip.told c.run_over.new.desk)
-    c.args.frames (Err c.in_err-run_over.field-0.0)
+    c.args.frames c.args.closes (Err c.in_err-run_over.field-0.0)
     c.in_err-run_over.ensures.runs)
 
 pub returns-clause-leaves : goal.returns-clause-leaves
@@ -87,3 +88,9 @@ returns-clause-framed g c = record {
   does = c.in_ok-run_over.ensures.runs;
   noted = refl;
 }
+
+pub returns-clause-closed : goal.returns-clause-closed
+returns-clause-closed g c = λ is.
+    let tidies = c.in_ok-store.ensures.starts.tries.tidy.tidies in
+    closed_since tidies.added (g.D.Chip.told c.args.desk.now) (g.D.Chip.told c.start_opened.new.desk)
+    (g.D.Chip.told c.run_over.new.desk) tidies.history (c.in_ok-run_over.ensures.closed is)

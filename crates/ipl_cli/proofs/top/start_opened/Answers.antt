@@ -3,7 +3,7 @@ use Rattle.std.proofs.lemmas.Result.{err_from_is_err_and}
 use Rattle.ipl_cli.specs.Runs.{ClosesFor}
 use Rattle.ipl_cli.proofs.StartLemmas.{closed_left, closed_cause, unopened_left, unopened_ends}
 use Rattle.std.proofs.Common.{refl, ◌∙◌}
-use Rattle.ipl_cli.proofs.LawfulLemmas.{adds_nothing, unopened_adds}
+use Rattle.ipl_cli.proofs.LawfulLemmas.{adds_nothing, by_no_mark, unopened_adds}
 use Rattle.ipl_cli.proofs.top.start_opened.Goals as goal
 
 pub open_over-requires : goal.open_over-requires
@@ -20,7 +20,7 @@ returns-in_err-store-clause-leaves g c =
 pub returns-in_err-store-clause-cause : goal.returns-in_err-store-clause-cause
 returns-in_err-store-clause-cause g c =
     let e = err_from_is_err_and c.from_residual.result c.from_residual.ensures.1 in
-    rw (e.1, e.2) (closed_cause (g.D.Chip.told c.args.desk.now) c.args.frames
+    rw (e.1, e.2) (λ closes. closed_cause (g.D.Chip.told c.args.desk.now) c.args.frames closes
     c.in_err-store.field-0.0 (subst (λ (n : ℕ). ClosesFor n (Err c.in_err-store.field-0.0))
     c.units.ensures c.in_err-store.ensures.closes))
 
@@ -36,9 +36,9 @@ pub returns-in_err-started-clause-cause : goal.returns-in_err-started-clause-cau
 returns-in_err-started-clause-cause g c =
     let e = err_from_is_err_and c.from_residual-in_err-started.result
     c.from_residual-in_err-started.ensures.1 in
-    rw (e.1, e.2) (unopened_ends (g.D.Chip.told c.args.desk.now)
+    rw (e.1, e.2) (λ closes. unopened_ends (g.D.Chip.told c.args.desk.now)
     (g.D.Chip.told c.open_over.new.desk) c.in_err-started.field-0.0
-    c.in_err-started.ensures.opens c.args.frames)
+    c.in_err-started.ensures.opens c.args.frames closes)
 
 pub returns-in_err-started-clause-counts : goal.returns-in_err-started-clause-counts
 returns-in_err-started-clause-counts g c = c.in_err-started.ensures.opens.tries.accounts.counts
@@ -52,7 +52,7 @@ returns-clause-counts g c = c.in_ok-started.ensures.opens.tries.accounts.counts
 pub returns-in_err-store-clause-lawful : goal.returns-in_err-store-clause-lawful
 returns-in_err-store-clause-lawful g c =
     let e = err_from_is_err_and c.from_residual.result c.from_residual.ensures.1 in
-    rw e.1 (adds_nothing (g.D.Chip.told c.args.desk.now) (g.D.Chip.told c.args.desk.now) refl)
+    let old = g.D.Chip.told c.args.desk.now in rw e.1 (by_no_mark old old (adds_nothing old old refl))
 
 pub returns-in_err-started-clause-lawful : goal.returns-in_err-started-clause-lawful
 returns-in_err-started-clause-lawful g c =

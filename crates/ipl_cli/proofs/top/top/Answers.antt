@@ -7,8 +7,8 @@ use Rattle.ipl_cli.specs.Ending.{AtStatus}
 use Rattle.ipl_cli.specs.Top.{RunsOpened}
 use Rattle.ipl_cli.proofs.RecordLemmas.{opened_records, formatted_records}
 use Rattle.ipl_cli.proofs.SurviveLemmas.{opened_survives, formatted_survives}
-use Rattle.ipl_cli.proofs.FrameLemmas.{done_as_asked}
-use Rattle.ipl_cli.proofs.LawfulLemmas.{adds_noted}
+use Rattle.ipl_cli.proofs.FrameLemmas.{done_as_asked, closed_as_asked}
+use Rattle.ipl_cli.proofs.LawfulLemmas.{noted_as_asked}
 use Rattle.ipl_cli.proofs.top.top.Goals as goal
 
 pub returns-clause-ends : goal.returns-clause-ends
@@ -183,11 +183,18 @@ returns-clause-completes g c = end_completes (requested (map string_bytes c.args
 
 pub returns-clause-lawful : goal.returns-clause-lawful
 returns-clause-lawful g c =
-    adds_noted (g.D.Chip.told c.args.desk.now) (g.D.Chip.told c.run-ending.new.desk)
+    noted_as_asked (requested (map string_bytes c.args.words.now))
+    (g.D.Chip.told c.args.desk.now) (g.D.Chip.told c.run-ending.new.desk)
     (g.D.Chip.told c.finish.new.desk) c.run-ending.ensures.lawful c.finish.ensures.only
 
 pub returns-clause-framed : goal.returns-clause-framed
 returns-clause-framed g c = done_as_asked (requested (map string_bytes c.args.words.now))
     c.run-ending.result (g.D.Chip.told c.args.desk.now) (g.D.Chip.told c.run-ending.new.desk)
     (g.D.Chip.told c.finish.new.desk) c.finish.result c.run-ending.ensures.framed
+    c.finish.ensures.status c.finish.ensures.only
+
+pub returns-clause-closed : goal.returns-clause-closed
+returns-clause-closed g c = closed_as_asked (requested (map string_bytes c.args.words.now))
+    c.run-ending.result (g.D.Chip.told c.args.desk.now) (g.D.Chip.told c.run-ending.new.desk)
+    (g.D.Chip.told c.finish.new.desk) c.finish.result c.run-ending.ensures.closed
     c.finish.ensures.status c.finish.ensures.only

@@ -2,6 +2,7 @@ use Rattle.ipl_meaning.proofs.IdleFollowLemmas.{tables_follow_idle_places, place
 use Rattle.ipl_meaning.proofs.MergeFollowLemmas.{tables_follow_merges, counted_follow_merges}
 use Rattle.ipl_meaning.proofs.RenewalFollowLemmas.{tables_follow_renewals, counted_follow_renewals}
 use Rattle.ipl_meaning.proofs.OverflowFollowLemmas.{tables_follow_overflows, counted_follow_overflows}
+use Rattle.ipl_meaning.proofs.MarkLemmas.{tables_follow_ends_of_marks, counted_follow_ends_of_marks}
 use Rattle.ipl_meaning.proofs.laws.moving_laws.Goals as goal
 
 pub returns : goal.returns
@@ -14,7 +15,9 @@ returns c = record {
   merges = tables_follow_merges;
   renewals = tables_follow_renewals;
   overflows = tables_follow_overflows;
+  ends_of_marks = tables_follow_ends_of_marks;
   merge_counted = counted_follow_merges;
   renewal_counted = counted_follow_renewals;
   overflow_counted = counted_follow_overflows;
+  end_counted = counted_follow_ends_of_marks;
 }

@@ -17,15 +17,15 @@ returns-clause-looks g c =
 
 pub returns-clause-number : goal.returns-clause-number
 returns-clause-number g c = λ x told.
-    let generation = c.generation.ensures ∙ ap (λ (h : KeptHeader). h.generation) c.header.ensures in
-    number_told (chart_of x) c.args.winner.now c.place.result c.generation.result c.place.ensures generation
+    let generation = c.generation-generation.ensures ∙ ap (λ (h : KeptHeader). h.generation) c.header.ensures in
+    number_told (chart_of x) c.args.winner.now c.place.result c.generation-generation.result c.place.ensures generation
     c.args.least c.max.result c.in_ok-greatest.greatest (c.in_ok-greatest.ensures.exact x told).greatest c.max.ensures
 
 pub returns-clause-fault : goal.returns-clause-fault
 returns-clause-fault g c = λ x told.
-    let generation = c.generation.ensures ∙ ap (λ (h : KeptHeader). h.generation) c.header.ensures in
-    fault_told (chart_of x) c.args.winner.now c.place.result c.generation.result c.place.ensures generation
-    (Ok c.max.result) (c.in_ok-greatest.ensures.exact x told).fault
+    let generation = c.generation-generation.ensures ∙ ap (λ (h : KeptHeader). h.generation) c.header.ensures in
+    fault_told (chart_of x) c.args.winner.now c.place.result c.generation-generation.result c.place.ensures generation
+    c.units-units.result _ (Ok c.max.result) c.units-units.ensures (c.in_ok-greatest.ensures.exact x told).fault
 
 pub returns-in_err-greatest-clause-once : goal.returns-in_err-greatest-clause-once
 returns-in_err-greatest-clause-once g c = rw c.place.ensures at c.read_under.ensures.once

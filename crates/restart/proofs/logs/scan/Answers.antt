@@ -8,7 +8,8 @@ use Rattle.opening_rules.specs.Faults.{log_fault}
 use Rattle.restart.specs.Notes.{AreSized}
 use Rattle.restart.specs.Masked.{mask_by}
 use Rattle.restart.proofs.LookLemmas.{reads_none, reads_then, looks_then}
-use Rattle.restart.proofs.FillLemmas.{places_then}
+use Rattle.restart.specs.Counted.{AreReadLogs}
+use Rattle.restart.proofs.CountedLogLemmas.{homes_then, unknown_then}
 use Rattle.restart.proofs.LogLemmas.{at_low, respelled}
 use Rattle.restart.proofs.CollectedLemmas.{kept_first}
 use Rattle.restart.proofs.MaskedLemmas.{masked_first}
@@ -35,8 +36,10 @@ loop-place-init g c =
         fine = refl;
         whole = λ p s small low spot. absurd (omega (arith, low));
       };
+      logs = λ x told mark homes start. start;
       roomy = grind (arith, common_steps);
       sized = grind (arith, common_steps);
+      unknown = λ u unknown. unknown;
       places = search rules;
     }
 
@@ -47,9 +50,12 @@ loop-place-preserved g c =
       once = one_place_more (at c.args.heads.now) (at c.args.current.now) c.loop-place.place (g.C.Chip.told c.args.chip.now) (g.C.Chip.told c.loop-place.chip) (g.C.Chip.told c.scan_place.new.chip)
           c.loop-place.invariant.once c.scan_place.ensures.once;
       scanned = λ x told. c.in_ok-gathered.ensures.scanned x (same.contents ∙ told) c.args.least (c.loop-place.invariant.scanned x told);
+      logs = λ x told mark homes start.
+          c.in_ok-gathered.ensures.logs x (same.contents ∙ told) mark homes (c.loop-place.invariant.logs x told mark homes start);
       roomy = c.in_ok-gathered.ensures.roomy;
       sized = subst (λ (n : ℕ). AreSized (length c.args.current.now) n c.scan_place.new.noted c.scan_place.new.overflow) c.requires.heads c.scan_place.ensures.sized;
-      places = places_then c.loop-place.invariant.places c.scan_place.ensures.places;
+      unknown = unknown_then c.args.directory.now c.loop-place.directory c.scan_place.new.directory c.loop-place.invariant.unknown c.scan_place.ensures.unknown;
+      places = homes_then c.loop-place.invariant.places c.scan_place.ensures.places;
     }
 
 pub returns-in_err-gathered-clause-fault : goal.returns-in_err-gathered-clause-fault
@@ -77,3 +83,9 @@ pub returns-clause-once : goal.returns-clause-once
 returns-clause-once g c =
     logs_once (at c.args.heads.now) (at c.args.current.now) c.loop-place.place
     (g.C.Chip.told c.args.chip.now) (g.C.Chip.told c.loop-place.chip) c.loop-place.invariant.once
+
+pub returns-clause-logs : goal.returns-clause-logs
+returns-clause-logs g c = λ x told mark homes start.
+    let all : c.loop-place.place * 256 ≡ c.args.geometry.places * 256 = omega arith in
+    subst (λ (k : ℕ). AreReadLogs x mark (at c.args.current.now) (length c.args.current.now) k c.loop-place.directory) all
+    (c.loop-place.invariant.logs x told mark homes start)

@@ -1,9 +1,10 @@
-use Rattle.std.proofs.Common.{◌*◌, length}
+use Rattle.std.proofs.Common.{◌*◌, length, Option}
 use Rattle.unit_io.specs.Reads.{OfContents}
 use Rattle.opening_rules.specs.First.{at}
 use Rattle.restart.specs.Looks.{OnlyReads}
 use Rattle.restart.specs.Notes.{AreSized, IsRoomy}
-use Rattle.restart.specs.Masked.{SamePlaces}
+use Rattle.restart.specs.Counted.{SameHomes, StaysUnknown, AreHomes, AreReadLogs}
+use Rattle.ipl_format.specs.Sector.{Sector}
 use Rattle.restart.specs.Scanned.{IsScanned}
 use Rattle.unit_io.specs.ReadsAt.{ReadsOnce}
 use Rattle.restart.proofs.OnceLemmas.{InPlacesBelow}
@@ -15,7 +16,11 @@ invariant-loop-place g l =
       reads : OnlyReads (told l.fn.chip) (told l.chip);
       once : ReadsOnce (InPlacesBelow (at l.heads) (at l.current) l.place) (told l.fn.chip) (told l.chip);
       scanned : OfContents (told l.fn.chip) (λ x. IsScanned x (at l.heads) (at l.current) l.status.numbers l.least (l.place * 256) l.noted l.directory l.overflow l.numbers l.gathered.fits l.gathered.greatest);
+      logs : OfContents (told l.fn.chip) (λ x. (mark : Option Sector) → AreHomes (at l.heads) (at l.current)
+          → AreReadLogs x mark (at l.current) (length l.current) 0 l.fn.directory
+          → AreReadLogs x mark (at l.current) (length l.current) (l.place * 256) l.directory);
       roomy : IsRoomy (at l.current) (l.place * 256) l.noted l.overflow;
       sized : AreSized (length l.current) l.fn.geometry.places l.noted l.overflow;
-      places : SamePlaces l.fn.directory l.directory;
+      unknown : StaysUnknown l.fn.directory l.directory;
+      places : SameHomes l.fn.directory l.directory;
     }

@@ -1,8 +1,9 @@
-use Rattle.std.proofs.Common.{◌≡◌, ◌∙◌, ◌+◌, ◌*◌, ℕ, subst, arith}
+use Rattle.std.proofs.Common.{◌≡◌, ◌∙◌, ◌+◌, ◌*◌, ℕ, subst, arith, length}
 use Rattle.opening_rules.specs.First.{at}
 use Rattle.restart.specs.Notes.{IsRoomy}
 use Rattle.restart.proofs.LookLemmas.{reads_then, looks_then}
-use Rattle.restart.proofs.FillLemmas.{places_then}
+use Rattle.restart.specs.Counted.{AreReadLogs}
+use Rattle.restart.proofs.CountedLogLemmas.{homes_then, unknown_then}
 use Rattle.restart.proofs.LogLemmas.{respelled}
 use Rattle.restart.proofs.OnceLemmas.{one_sector_more, place_once}
 use Rattle.restart.proofs.logs.scan_place.Goals as goal
@@ -17,10 +18,15 @@ loop-sector-preserved g c =
       once = one_sector_more (at c.args.heads.now) (at c.args.current.now) c.args.place c.loop-sector.sector (g.C.Chip.told c.args.chip.now) (g.C.Chip.told c.loop-sector.chip)
           (g.C.Chip.told c.scan_sector.new.chip) c.loop-sector.invariant.once c.scan_sector.ensures.once;
       scanned = λ x told base start. respelled (c.in_ok-gathered.ensures.scanned x (same.contents ∙ told) base (c.loop-sector.invariant.scanned x told base start)) (omega arith);
+      logs = λ x told mark homes start.
+          let one : c.args.place * 256 + c.loop-sector.sector + 1 ≡ c.args.place * 256 + (c.loop-sector.sector + 1) = omega arith in
+          subst (λ (k : ℕ). AreReadLogs x mark (at c.args.current.now) (length c.args.current.now) k c.scan_sector.new.directory) one
+          (c.in_ok-gathered.ensures.logs x (same.contents ∙ told) mark homes (c.loop-sector.invariant.logs x told mark homes start));
       roomy = let one : c.args.place * 256 + c.loop-sector.sector + 1 ≡ c.args.place * 256 + (c.loop-sector.sector + 1) = omega arith in
           subst (λ (k : ℕ). IsRoomy (at c.args.current.now) k c.scan_sector.new.noted c.scan_sector.new.overflow) one c.in_ok-gathered.ensures.roomy;
       sized = c.scan_sector.ensures.sized;
-      places = places_then c.loop-sector.invariant.places c.scan_sector.ensures.places;
+      unknown = unknown_then c.args.directory.now c.loop-sector.directory c.scan_sector.new.directory c.loop-sector.invariant.unknown c.scan_sector.ensures.unknown;
+      places = homes_then c.loop-sector.invariant.places c.scan_sector.ensures.places;
     }
 
 pub returns-in_err-gathered-clause-once : goal.returns-in_err-gathered-clause-once
@@ -37,3 +43,9 @@ pub returns-clause-once : goal.returns-clause-once
 returns-clause-once g c =
     place_once (at c.args.heads.now) (at c.args.current.now) c.args.place c.loop-sector.sector
     (g.C.Chip.told c.args.chip.now) (g.C.Chip.told c.loop-sector.chip) c.loop-sector.invariant.once
+
+pub returns-clause-logs : goal.returns-clause-logs
+returns-clause-logs g c = λ x told mark homes start.
+    let all : c.args.place * 256 + c.loop-sector.sector ≡ (c.args.place + 1) * 256 = omega arith in
+    subst (λ (k : ℕ). AreReadLogs x mark (at c.args.current.now) (length c.args.current.now) k c.loop-sector.directory) all
+    (c.loop-sector.invariant.logs x told mark homes start)

@@ -1,4 +1,5 @@
-use Rattle.std.proofs.Common.{◌≡◌, ◌∙◌, ◌+◌, ℕ, take, refl, ap, arith, Ok, length, true, sym, subst}
+use Rattle.std.proofs.Common.{◌≡◌, ◌∙◌, ◌+◌, ◌*◌, ℕ, List, Some, take, get_or, refl, ap, arith, Ok, length, true, sym, subst}
+use Rattle.std.proofs.lemmas.List.{length-take-le}
 use Rattle.ipl_meaning.specs.Chart.{chart_of}
 use Rattle.opening_rules.specs.First.{at, count_below}
 use Rattle.opening_rules.proofs.TellsLemmas.{tells_again}
@@ -8,16 +9,20 @@ use Rattle.restart.specs.Kept.{retired_of}
 use Rattle.restart.specs.Shown.{is_held}
 use Rattle.restart.proofs.LookLemmas.{reads_then, told_for, looks_again, looks_done, looks_for, looks_then}
 use Rattle.restart.proofs.CommitLemmas.{opened_status}
-use Rattle.restart.proofs.OpenLemmas.{are_found, shows_found, status_low, current_low, all_tells, used_of, opened, has_free, read_bytes, laid}
+use Rattle.restart.proofs.OpenLemmas.{are_found, shows_found, status_low, current_low, are_homes, all_tells, used_of, opened, has_free, read_bytes, laid}
 use Rattle.restart.proofs.CountLemmas.{counted_of, header_kinds}
 use Rattle.restart.proofs.SpentLemmas.{header_unspent, tells_unspent, headers_tell_first, failed_bytes}
 use Rattle.restart.proofs.OverflowLemmas.{opened_overflow}
 use Rattle.restart.proofs.KnownLemmas.{knows_places}
-use Rattle.restart.proofs.FillLemmas.{used_still, adopted_still, adopted_then}
+use Rattle.restart.proofs.FillLemmas.{used_still, adopted_then}
 use Rattle.restart.proofs.RetireLemmas.{AreAside, all_aside, listed_within}
 use Rattle.restart.proofs.OpenedMaskLemmas.{opened_masks}
 use Rattle.restart.proofs.OpenedNumbersLemmas.{all_collected}
-use Rattle.restart.proofs.CleanLemmas.{none_is_clean}
+use Rattle.restart.proofs.CleanLemmas.{unmarked, counts_marked}
+use Rattle.restart.specs.Counted.{IsReadLog}
+use Rattle.restart.proofs.CountedLogLemmas.{read_opened}
+use Rattle.opening_rules.specs.Marked.{last_close_mark}
+use Rattle.opened_tables.specs.Opened.{IsOpenedLog}
 use Rattle.restart.proofs.OnceLemmas.{headers_alone, all_once, status_unlogged}
 use Rattle.restart.proofs.recovery.read_chip.Goals as goal
 
@@ -38,6 +43,12 @@ read_rest-requires-clause-winner g c =
     let found = are_found c.args.geometry.places c.units.result heads table c.in_ok-winner.winner c.read_headers.new.kept c.units.ensures (c.read_headers.ensures.size ∙ c.requires.table) c.in_ok-winner.ensures.counts in
     let low = status_low heads (take c.units.result table) c.in_ok-winner.winner found.chosen in
     omega (arith, low)
+
+pub read_rest-requires-clause-told : goal.read_rest-requires-clause-told
+read_rest-requires-clause-told g c =
+    let counts = c.in_ok-winner.ensures.counts in
+    let all = c.read_headers.ensures.size ∙ c.requires.table in
+    length-take-le c.units.result c.read_headers.new.table (omega (arith, c.units.ensures, all, counts.keeps.1)) ∙ c.units.ensures
 
 pub fill_places-requires-clause-status : goal.fill_places-requires-clause-status
 fill_places-requires-clause-status g c =
@@ -139,7 +150,11 @@ all_opened g c = λ x told.
       directory = opened (chart_of x) places heads current winner shows c.read_rest.new.noted c.read_rest.new.overflow noted filled now (retired_of kept) kept
           (length current + 1 + count_below (is_held heads c.read_rest.new.noted) (length heads)) (c.in_ok-gathered.gathered.greatest + 1) c.in_ok-gathered.gathered.greatest
           used adopted (counted_of (omega arith) c.fill_places.ensures.counted) none (header_kinds x) c.retire_listed.ensures refl (c.in_ok-winner.ensures.sector x told)
-          (listed_within places (length current) (retired_of kept) found.listed) (c.in_ok-gathered.ensures.number x told_then) refl;
+          (listed_within places (length current) (retired_of kept) found.listed) (c.in_ok-gathered.ensures.number x told_then) refl
+          (λ u low. subst (λ (ws : List ℕ). IsOpenedLog places (chart_of x) u (get_or ws u 0)) (sym c.fill_places.ensures.same.written)
+          (read_opened x places (at current) (Some winner) u _ shows.current_are shows.status_is
+          (λ w is. let under = current_low heads current winner found.chosen u w is in omega (arith, under))
+          (c.in_ok-gathered.ensures.logs x told_then (are_homes heads current winner found.chosen) u (omega (arith, low, shows.units_are)))));
       overflow = overflow;
       masks = opened_masks (chart_of x) places heads current winner shows found.chosen found.there (omega arith)
           c.read_rest.new.directory now c.read_rest.new.overflow lists c.facts.ensures c.facts-2.ensures
@@ -190,18 +205,43 @@ returns-clause-known g c =
     now (retired_of kept) none (subst (AreAside filled (retired_of kept)) (sym c.retire_listed.ensures) (all_aside filled (retired_of kept)))
     (c.list_places.ensures.places ∙ sized.listed_places)
 
-pub returns-clause-unclean : goal.returns-clause-unclean
-returns-clause-unclean g c =
+pub returns-clause-unmarked : goal.returns-clause-unmarked
+returns-clause-unmarked g c = λ off.
     let heads = c.read_headers.new.heads in
     let current = take c.units.result c.read_headers.new.table in
     let filled = c.fill_places.new.directory in
-    let listed = retired_of c.read_headers.new.kept in
+    let kept = c.read_headers.new.kept in
     let adopted = adopted_then (at current) (length current) (length current) c.read_rest.ensures.places c.fill_places.ensures.same c.adopt_all.ensures.adopted in
-    let keeps = (subst (AreAside filled listed) (sym c.retire_listed.ensures) (all_aside filled listed)).keeps in
-    none_is_clean (at current) (length current) c.retire_listed.new.directory c.list_places.new.overflow c.read_rest.new.status (c.in_ok-gathered.gathered.greatest + 1)
+    let keeps = (subst (AreAside filled (retired_of kept)) (sym c.retire_listed.ensures) (all_aside filled (retired_of kept))).keeps in
+    unmarked c.retire_listed.new.directory c.list_places.new.overflow c.read_rest.new.status (c.in_ok-gathered.gathered.greatest + 1)
     (is_held heads c.read_rest.new.noted) (length heads)
-    (adopted_still (at current) (length current) (length current) filled c.retire_listed.new.directory keeps.current keeps.written keeps.generations adopted)
+    (λ u low. ap (λ (ws : List ℕ). get_or ws u 0) (keeps.written ∙ c.fill_places.ensures.same.written)
+    ∙ c.in_ok-gathered.ensures.unmarked off u (omega (arith, low, ap length keeps.current, adopted.units_are)))
     c.list_places.ensures.in_use c.in_ok-gathered.ensures.unclean
+
+pub returns-clause-marked : goal.returns-clause-marked
+returns-clause-marked g c = λ x told.
+    let told_then = c.read_headers.ensures.looks.reads.contents ∙ told in
+    let places = c.args.geometry.places in
+    let heads = c.read_headers.new.heads in
+    let table = c.read_headers.new.table in
+    let kept = c.read_headers.new.kept in
+    let current = take c.units.result table in
+    let winner = c.in_ok-winner.winner in
+    let filled = c.fill_places.new.directory in
+    let now = c.retire_listed.new.directory in
+    let shows = shows_found (chart_of x) places c.units.result heads table winner c.units.ensures (c.in_ok-winner.ensures.shown x told) in
+    let found = are_found places c.units.result heads table winner kept c.units.ensures (c.read_headers.ensures.size ∙ c.requires.table) c.in_ok-winner.ensures.counts in
+    let adopted = adopted_then (at current) (length current) (length current) c.read_rest.ensures.places c.fill_places.ensures.same c.adopt_all.ensures.adopted in
+    let keeps = (subst (AreAside filled (retired_of kept)) (sym c.retire_listed.ensures) (all_aside filled (retired_of kept))).keeps in
+    let read = c.in_ok-gathered.ensures.logs x told_then (are_homes heads current winner found.chosen) in
+    counts_marked x places heads current winner now c.list_places.new.overflow c.read_rest.new.status (c.in_ok-gathered.gathered.greatest + 1) shows (laid_out g c x told)
+    (λ u low. subst (λ (ws : List ℕ). IsReadLog x (last_close_mark (chart_of x) (Some winner)) u (at current u) (places * 256) (get_or ws u 0))
+    (sym (keeps.written ∙ c.fill_places.ensures.same.written)) (read u low))
+    (λ u low. ap (λ (xs : List ℕ). get_or xs u 0) keeps.current ∙ adopted.current_is u low)
+    (ap length keeps.current ∙ adopted.units_are)
+    (λ u w is. let low = current_low heads current winner found.chosen u w is in omega (arith, low))
+    (is_held heads c.read_rest.new.noted) (length heads) c.list_places.ensures.in_use c.in_ok-gathered.ensures.unclean
 
 pub returns-clause-free : goal.returns-clause-free
 returns-clause-free g c =

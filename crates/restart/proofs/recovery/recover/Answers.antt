@@ -8,6 +8,7 @@ use Rattle.merge_rules.specs.Known.{KnowsPlaces}
 use Rattle.opened_tables.specs.Opened.{AreOpened, tables_of}
 use Rattle.restart.specs.Bytes.{ReadsBytes}
 use Rattle.restart.specs.Collected.{AreCollected}
+use Rattle.restart.specs.Opened.{CountsMarked}
 use Rattle.restart.proofs.recovery.recover.Goals as goal
 
 pub returns-clause-fault : goal.returns-clause-fault
@@ -19,6 +20,12 @@ returns-clause-opened g c =
     let made = tables_of c.open.new.directory c.open.new.overflow c.open.new.status c.open.new.counter in
     subst (λ (n : ℕ). OnOk c.open.result (OfContents (g.C.Chip.told c.args.chip.now) (λ x. AreOpened n (chart_of x) made)))
     (c.scratch.view_is ∙ c.requires.scratch) c.open.ensures.opened
+
+pub returns-clause-marked : goal.returns-clause-marked
+returns-clause-marked g c =
+    let made = tables_of c.open.new.directory c.open.new.overflow c.open.new.status c.open.new.counter in
+    subst (λ (n : ℕ). OnOk c.open.result (OfContents (g.C.Chip.told c.args.chip.now) (λ x. CountsMarked n x made)))
+    (c.scratch.view_is ∙ c.requires.scratch) c.open.ensures.marked
 
 pub returns-clause-known : goal.returns-clause-known
 returns-clause-known g c =

@@ -1,9 +1,10 @@
 use Rattle.std.proofs.Common.{◌≡◌, ℕ, List, true, false, is_ok, refl, sym, subst, arith}
 use Rattle.std.proofs.lemmas.List.{length-take}
-use Rattle.std.proofs.lemmas.Result.{err_from_is_err_and}
+use Rattle.std.proofs.lemmas.Result.{err_from_is_err_and, on_ok_weaker}
 use Rattle.ipl_model.specs.Grammar.{line_of, commands_in}
 use Rattle.store_trait.specs.Keeping.{Stays}
 use Rattle.script_run.specs.declared.fault.Stop.{Stop}
+use Rattle.chip_trait.specs.Told.{Grew}
 use Rattle.script_run.specs.Goes.{Answers, HasRead, StopCause}
 use Rattle.store_trait.proofs.TidyLemmas.{tidy_same, tidy_part, tidy_then}
 use Rattle.store_trait.proofs.OnwardLemmas.{further_none, further_then}
@@ -87,8 +88,16 @@ returns-then-count-eq0-clause-run g c = λ limits state h holds source left.
 
 pub returns-clause-long : goal.returns-clause-long
 returns-clause-long g c = λ x.
-    let total : c.loop-total.total ≡ 4294967295 = omega (arith, c.loop-total.invariant.few, c.loop-total-test.false) in
-    subst (λ (n : ℕ). HasRead n (g.D.Chip.told c.args.desk.now) (g.D.Chip.told c.loop-total.desk)) total c.loop-total.invariant.read
+    let old = g.D.Chip.told c.args.desk.now in
+    let new = g.D.Chip.told c.loop-total.desk in
+    let total : c.loop-total.total ≡ 4294967295 = omega (arith, c.loop-total.invariant.few, c.loop-total-test.false) in (
+      subst (λ (n : ℕ). HasRead n old new) total c.loop-total.invariant.read,
+      subst (λ (n : ℕ). Grew old.beside.script_bytes n new.beside.script_bytes) total c.loop-total.invariant.bytes,
+    )
+
+pub returns-then-count-eq0-clause-suited : goal.returns-then-count-eq0-clause-suited
+returns-then-count-eq0-clause-suited g c = on_ok_weaker c.answer_line.result
+    (λ suited. suited (c.in_ok-count.ensures.along.suited (c.loop-total.invariant.suited c.requires.1.1.1))) c.answer_line.ensures.along.suited
 
 pub returns-then-count-eq0-clause-all : goal.returns-then-count-eq0-clause-all
 returns-then-count-eq0-clause-all g c =

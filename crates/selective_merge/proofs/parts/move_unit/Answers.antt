@@ -41,7 +41,7 @@ returns-clause-moved c =
       next = refl;
       active = refl;
       few = c.facts-3.ensures.two;
-    })
+    }) (omega (arith, c.requires.few))
 
 pub returns-clause-lost : goal.returns-clause-lost
 returns-clause-lost c = λ none q less used.

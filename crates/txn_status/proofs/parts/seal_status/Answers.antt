@@ -9,7 +9,7 @@ returns-clause-keeps g c = λ m h steady rests clean stands.
     (c.write_status_header-used.ensures.spells places c.requires.listed) in
     let then = stands _ is in
     header_keeps places m h c.args.place header.units header.erases c.args.retired.now c.args.generation _ is _ c.seal.result _
-    (c.seal.ensures.leads m m h steady rests clean then.0 then.1)
+    (c.seal.ensures.leads m m h steady rests clean then.stands then.worn then.no_more)
 
 pub returns-clause-tells : goal.returns-clause-tells
 returns-clause-tells g c =

@@ -6,12 +6,13 @@ use Rattle.ipl_base.specs.First.{first_below}
 use Rattle.opening_rules.specs.First.{joined_below}
 use Rattle.opening_rules.specs.LaidOut.{numbers_of}
 use Rattle.opening_rules.specs.Live.{sectors, commit_at}
-use Rattle.opening_rules.specs.Faults.{commit_fault, greatest_of_commits}
+use Rattle.opening_rules.specs.Faults.{noted_fault, greatest_of_notes}
 use Rattle.ipl_base.proofs.FirstLemmas.{first_more, first_found}
 use Rattle.opening_rules.proofs.LiveLemmas.{sectors_are}
 use Rattle.number_set.specs.Numbers.{with_numbers}
 use Rattle.txn_status.specs.ReadingIn.{under, IsAt, IsCommitSpot}
-use Rattle.txn_status.proofs.ReadLemmas.{number_more, numbers_more, whole_more, cause_wider, in_place, once_more, once_in_place}
+use Rattle.txn_status.specs.Marks.{marks_below}
+use Rattle.txn_status.proofs.ReadLemmas.{number_more, numbers_more, marks_more, whole_more, cause_wider, in_place, once_more, once_in_place}
 use Rattle.txn_status.proofs.reading.read_commits.Goals as goal
 
 pub loop-sector-preserved : goal.loop-sector-preserved
@@ -31,10 +32,12 @@ loop-sector-preserved g c =
           (g.C.Chip.told c.read_spot.new.chip) least most so.once r.once;
       number = λ x told. number_more (chart_of x) place generation s c.loop-sector.greatest
           c.in_ok-greatest.greatest (so.number x told) (r.number x (so.reads.contents ∙ told));
-      fine = λ x told. first_more (commit_fault (chart_of x) (under place generation)) s
+      fine = λ x told. first_more (noted_fault c.args.units (chart_of x) (under place generation)) s
           (so.fine x told) (r.fault x (so.reads.contents ∙ told));
       has = λ x told. numbers_more (chart_of x) place generation s c.loop-sector.numbers.list
           c.read_spot.new.numbers.list (so.has x told) (r.numbers x (so.reads.contents ∙ told));
+      marks = λ x told. marks_more (chart_of x) place generation s c.loop-sector.mark
+          c.read_spot.new.mark (so.marks x told) (r.marks x (so.reads.contents ∙ told));
       few = omega (arith, r.grows.few, so.few);
       most = r.grows.most ∙ so.most;
       whole = λ x told. whole_more x place s (so.whole x told)
@@ -70,7 +73,7 @@ returns-in_err-greatest-clause-fault g c = λ x told.
     let s = c.loop-sector.sector in
     let e = err_from_is_err_and c.from_residual.result c.from_residual.ensures.1 in
     rw (e.1, e.2) (λ image. first_found
-    (commit_fault (chart_of x) (under c.args.place c.args.generation)) s sectors _
+    (noted_fault c.args.units (chart_of x) (under c.args.place c.args.generation)) s sectors _
     (omega (arith, sectors_are, c.loop-sector-test.true)) (so.fine x told)
     (c.in_err-greatest.ensures.fault x (so.reads.contents ∙ told) image))
 
@@ -78,12 +81,12 @@ pub returns-clause-number : goal.returns-clause-number
 returns-clause-number g c = λ x told.
     let all : c.loop-sector.sector ≡ sectors = omega (arith, sectors_are) in
     c.loop-sector.invariant.number x told
-    ∙ ap (greatest_of_commits 0 (chart_of x) (under c.args.place c.args.generation)) all
+    ∙ ap (greatest_of_notes 0 (chart_of x) (under c.args.place c.args.generation)) all
 
 pub returns-clause-fault : goal.returns-clause-fault
 returns-clause-fault g c = λ x told.
     let all : c.loop-sector.sector ≡ sectors = omega (arith, sectors_are) in
-    subst (λ (n : ℕ). first_below (commit_fault (chart_of x) (under c.args.place c.args.generation))
+    subst (λ (n : ℕ). first_below (noted_fault c.args.units (chart_of x) (under c.args.place c.args.generation))
     n ≡ None) all (c.loop-sector.invariant.fine x told)
 
 pub returns-clause-numbers : goal.returns-clause-numbers
@@ -92,6 +95,12 @@ returns-clause-numbers g c = λ x told.
     c.loop-sector.invariant.has x told ∙ ap (λ (n : ℕ).
     with_numbers (joined_below (λ s. numbers_of
     (commit_at (chart_of x) (under c.args.place c.args.generation) s)) n) []) all
+
+pub returns-clause-marks : goal.returns-clause-marks
+returns-clause-marks g c = λ x told.
+    let all : c.loop-sector.sector ≡ sectors = omega (arith, sectors_are) in
+    c.loop-sector.invariant.marks x told
+    ∙ ap (marks_below (chart_of x) c.args.place c.args.generation) all
 
 pub returns-in_err-greatest-clause-once : goal.returns-in_err-greatest-clause-once
 returns-in_err-greatest-clause-once g c =

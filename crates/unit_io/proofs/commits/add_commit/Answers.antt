@@ -1,39 +1,25 @@
-use Rattle.std.proofs.lemmas.Result.{err_from_is_err_and}
-use Rattle.unit_io.proofs.SealLemmas.{added_leads, added_fails}
-use Rattle.std.proofs.Common.{Ok, Err, arith}
-use Rattle.unit_io.proofs.CostLemmas.{spends_at_most, spends_at_then, spends_of_kind, spends_programmed, spends_barred}
-use Rattle.unit_io.proofs.TidyLemmas.{tidy_programmed, tidy_then_waits}
-use Rattle.std.proofs.Common.{true, false}
-use Rattle.std.specs.Prelude.{is_ok}
-use Rattle.unit_io.specs.Spots.{IsSpot}
+use Rattle.ipl_meaning.specs.Rests.{EachStandsEither}
+use Rattle.ipl_meaning.proofs.MarkProgramLemmas.{programs_keep_marks}
+use Rattle.unit_io.specs.Leads.{RestsWith, RestsAdded}
+use Rattle.unit_io.specs.Spots.{Programs, IsSpot}
+use Rattle.unit_io.specs.Charts.{Gains}
+use Rattle.unit_io.proofs.LeadsLemmas.{leads_sound, leads_weaker, count_nothing, nothing_is_unused}
+use Rattle.unit_io.proofs.SealLemmas.{added_gains}
+use Rattle.unit_io.proofs.CostLemmas.{spends_of_kind}
 use Rattle.unit_io.proofs.commits.add_commit.Goals as goal
 
-pub returns-in_err-program-clause-leads : goal.returns-in_err-program-clause-leads
-returns-in_err-program-clause-leads g c = λ m n h steady rests closed clean stands worn.
-    let e = err_from_is_err_and c.from_residual.result c.from_residual.ensures.1 in
-    rw e.1 (added_fails _ m n h c.args.spot.place c.args.spot.sector _ _ c.encode.ensures.said rests clean stands worn closed _ _ e.0 steady c.in_err-program.ensures.did)
-
 pub returns-clause-leads : goal.returns-clause-leads
-returns-clause-leads g c = λ m n h steady rests closed clean stands worn.
-    added_leads _ m n h c.args.spot.place c.args.spot.sector _ _ c.encode.ensures.said rests clean stands worn closed _ _ _ _ steady c.in_ok-program.ensures.did c.barrier.ensures.did
-
-pub returns-in_err-program-clause-costs : goal.returns-in_err-program-clause-costs
-returns-in_err-program-clause-costs g c =
-    spends_at_most c.args.spot.place 1 1 0 1 6 _ _ (omega arith) (omega arith)
-    (spends_of_kind c.args.spot.place 1 0 _ 6 _ _ c.requires.kind (spends_programmed c.args.spot.place c.args.spot.sector _ _ _ _ (Err c.in_err-program.field-0.0) c.encode.ensures.said c.in_err-program.ensures.did))
+returns-clause-leads g c = λ m n h steady rests closed fresh stands worn no_more.
+    let p = c.args.spot.place in
+    let s = c.args.spot.sector in
+    let old = g.C.Chip.told c.args.chip.now in
+    let Spots = Programs p (IsSpot s) in
+    leads_weaker (EachStandsEither old.places m n) (EachStandsEither old.places m n) Spots Spots
+    (λ done k. RestsAdded old.places n p s _ h k) (RestsWith old.places n (λ done. Gains p s _) h) h old _ _
+    (λ k is. is) (λ done a is. is) (λ v k is. (is.rests, added_gains p s _ h k is.added))
+    (leads_sound (EachStandsEither old.places m n) Spots (λ done k. RestsAdded old.places n p s _ h k) h old _ _ (nothing_is_unused h)
+    (c.add_sector.ensures.leads count_nothing m n h steady rests closed fresh stands worn
+    (λ _ bytes says. programs_keep_marks _ m h p s bytes _ rests closed fresh says worn no_more)))
 
 pub returns-clause-costs : goal.returns-clause-costs
-returns-clause-costs g c =
-    spends_at_then c.args.spot.place 1 0 0 1 6 _ (g.C.Chip.told c.program.new.chip) _
-    (spends_of_kind c.args.spot.place 1 0 _ 6 _ _ c.requires.kind (spends_programmed c.args.spot.place c.args.spot.sector _ _ _ _ (Ok tt) c.encode.ensures.said c.in_ok-program.ensures.did))
-    (spends_barred c.args.spot.place 6 _ _ _ c.barrier.ensures.did)
-
-pub returns-in_err-program-clause-tidy : goal.returns-in_err-program-clause-tidy
-returns-in_err-program-clause-tidy g c =
-    let e = err_from_is_err_and c.from_residual.result c.from_residual.ensures.1 in
-    rw e.1 (tidy_programmed c.args.spot.place c.args.spot.sector _ false _ _ (Err c.in_err-program.field-0.0) c.in_err-program.ensures.did)
-
-pub returns-clause-tidy : goal.returns-clause-tidy
-returns-clause-tidy g c =
-    tidy_then_waits c.args.spot.place (IsSpot c.args.spot.sector) true (is_ok c.barrier.result) _ (g.C.Chip.told c.program.new.chip) _ c.barrier.result
-    (tidy_programmed c.args.spot.place c.args.spot.sector _ true _ _ (Ok tt) c.in_ok-program.ensures.did) c.barrier.ensures.did
+returns-clause-costs g c = spends_of_kind c.args.spot.place 1 1 _ 6 _ _ c.requires.kind c.add_sector.ensures.costs

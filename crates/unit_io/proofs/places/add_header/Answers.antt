@@ -1,4 +1,6 @@
 use Rattle.std.proofs.lemmas.Result.{err_from_is_err_and}
+use Rattle.ipl_meaning.proofs.MarkProgramLemmas.{programs_keep_marks}
+use Rattle.unit_io.proofs.SectorLemmas.{untouched}
 use Rattle.unit_io.proofs.SealLemmas.{added_leads, added_fails}
 use Rattle.unit_io.proofs.PlainLemmas.{plain_then, plain_did, plain_waited}
 use Rattle.std.proofs.Common.{Ok, Err, arith}
@@ -12,13 +14,17 @@ use Rattle.unit_io.proofs.UnreadLemmas.{unread_programmed, unread_waited, unread
 use Rattle.unit_io.proofs.places.add_header.Goals as goal
 
 pub returns-in_err-program-clause-leads : goal.returns-in_err-program-clause-leads
-returns-in_err-program-clause-leads g c = λ m n h said says steady rests closed clean stands worn.
+returns-in_err-program-clause-leads g c = λ m n h said says steady rests closed clean stands worn no_more.
     let e = err_from_is_err_and c.from_residual.result c.from_residual.ensures.1 in
-    rw e.1 (added_fails _ m n h c.args.place 0 c.args.bytes.now said says rests clean stands worn closed _ _ e.0 steady c.in_err-program.ensures.did)
+    rw e.1 (added_fails (Unit {0}) _ m n h c.args.place 0 c.args.bytes.now said says rests (untouched h c.args.place 0 clean) stands worn
+    (λ _. programs_keep_marks _ m h c.args.place 0 c.args.bytes.now said rests closed (untouched h c.args.place 0 clean) says worn no_more)
+    closed _ e.0 steady c.in_err-program.ensures.did)
 
 pub returns-clause-leads : goal.returns-clause-leads
-returns-clause-leads g c = λ m n h said says steady rests closed clean stands worn.
-    added_leads _ m n h c.args.place 0 c.args.bytes.now said says rests clean stands worn closed _ _ _ _ steady c.in_ok-program.ensures.did c.barrier.ensures.did
+returns-clause-leads g c = λ m n h said says steady rests closed clean stands worn no_more.
+    added_leads (Unit {0}) _ m n h c.args.place 0 c.args.bytes.now said says rests (untouched h c.args.place 0 clean) stands worn
+    (λ _. programs_keep_marks _ m h c.args.place 0 c.args.bytes.now said rests closed (untouched h c.args.place 0 clean) says worn no_more)
+    closed _ _ _ steady c.in_ok-program.ensures.did c.barrier.ensures.did
 
 pub returns-in_err-program-clause-plain : goal.returns-in_err-program-clause-plain
 returns-in_err-program-clause-plain g c = λ plain. plain_did _ (g.C.Chip.told c.args.chip.now) (g.C.Chip.told c.program.new.chip) plain c.program.result c.program.ensures.did

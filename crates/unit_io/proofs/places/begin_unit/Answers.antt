@@ -17,7 +17,7 @@ use Rattle.unit_io.proofs.places.begin_unit.Goals as goal
 pub returns-in_err-erase-clause-keeps : goal.returns-in_err-erase-clause-keeps
 returns-in_err-erase-clause-keeps g c = λ m it h steady rests laid idle.
     let e = err_from_is_err_and c.from_residual.result c.from_residual.ensures.1 in
-    rw e.1 (begun_failed _ m it h c.args.place rests laid c.requires idle _ _ e.0 steady c.in_err-erase.ensures.did)
+    rw e.1 (begun_failed _ m it h c.args.place rests laid c.requires idle _ e.0 steady c.in_err-erase.ensures.did)
 
 pub returns-in_err-erase-clause-plain : goal.returns-in_err-erase-clause-plain
 returns-in_err-erase-clause-plain g c = plain_did (Erase c.args.place) (g.C.Chip.told c.args.chip.now) (g.C.Chip.told c.erase.new.chip) tt (Err Stopped) c.in_err-erase.ensures.did
@@ -36,7 +36,7 @@ returns-in_err-erase-clause-tidy g c =
 
 pub returns-in-Worn-clause-keeps : goal.returns-in-Worn-clause-keeps
 returns-in-Worn-clause-keeps g c = λ m it h steady rests laid idle.
-    begin_worn _ m it h c.args.place rests laid c.requires idle _ _ steady (wears_worn c.args.place _ _ _ c.in-Worn.is c.in_ok-erase.ensures.did)
+    begin_worn _ m it h c.args.place rests laid c.requires idle _ steady (wears_worn c.args.place _ _ _ c.in-Worn.is c.in_ok-erase.ensures.did)
 
 pub returns-in-Worn-clause-tells : goal.returns-in-Worn-clause-tells
 returns-in-Worn-clause-tells g c = worn_tells c.args.place _ _ (wears_worn c.args.place _ _ _ c.in-Worn.is c.in_ok-erase.ensures.did)
@@ -66,7 +66,7 @@ returns-in-Worn-clause-tidy g c = record {
 pub returns-in_err-barrier-in-Done-clause-keeps : goal.returns-in_err-barrier-in-Done-clause-keeps
 returns-in_err-barrier-in-Done-clause-keeps g c = λ m it h steady rests laid idle.
     let e = err_from_is_err_and c.from_residual-in_err-barrier-in-Done.result c.from_residual-in_err-barrier-in-Done.ensures.1 in
-    rw e.1 (begun_halted _ m it h c.args.place rests laid c.requires idle _ _ _ e.0 steady (wears_done c.args.place _ _ _ c.in-Done.is c.in_ok-erase.ensures.did) c.in_err-barrier-in-Done.ensures.did)
+    rw e.1 (begun_halted _ m it h c.args.place rests laid c.requires idle _ _ e.0 steady (wears_done c.args.place _ _ _ c.in-Done.is c.in_ok-erase.ensures.did) c.in_err-barrier-in-Done.ensures.did)
 
 pub returns-in_err-barrier-in-Done-clause-plain : goal.returns-in_err-barrier-in-Done-clause-plain
 returns-in_err-barrier-in-Done-clause-plain g c =
@@ -90,7 +90,7 @@ returns-in_err-barrier-in-Done-clause-tidy g c =
 
 pub returns-in_ok-barrier-in-Done-clause-keeps : goal.returns-in_ok-barrier-in-Done-clause-keeps
 returns-in_ok-barrier-in-Done-clause-keeps g c = λ m it h steady rests laid idle.
-    begun_done _ m it h c.args.place rests laid c.requires idle _ _ _ steady (wears_done c.args.place _ _ _ c.in-Done.is c.in_ok-erase.ensures.did) c.in_ok-barrier-in-Done.ensures.did
+    begun_done _ m it h c.args.place rests laid c.requires idle _ _ steady (wears_done c.args.place _ _ _ c.in-Done.is c.in_ok-erase.ensures.did) c.in_ok-barrier-in-Done.ensures.did
 
 pub returns-in_ok-barrier-in-Done-clause-tells : goal.returns-in_ok-barrier-in-Done-clause-tells
 returns-in_ok-barrier-in-Done-clause-tells g c = begin_tells c.args.place _ _ _ (Ok tt) (wears_done c.args.place _ _ _ c.in-Done.is c.in_ok-erase.ensures.did) c.in_ok-barrier-in-Done.ensures.did

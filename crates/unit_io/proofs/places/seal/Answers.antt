@@ -13,16 +13,16 @@ use Rattle.unit_io.proofs.UnreadLemmas.{unread_waited, unread_then}
 use Rattle.unit_io.proofs.places.seal.Goals as goal
 
 pub returns-in_err-barrier-clause-leads : goal.returns-in_err-barrier-clause-leads
-returns-in_err-barrier-clause-leads g c = λ m n h steady rests clean stands worn.
+returns-in_err-barrier-clause-leads g c = λ m n h steady rests clean stands worn no_more.
     let e = err_from_is_err_and c.from_residual.result c.from_residual.ensures.1 in
     rw e.1 (seal_fails _ m n h c.args.place _ rests _ _ steady e.0 c.in_err-barrier.ensures.did)
 
 pub returns-clause-leads : goal.returns-clause-leads
-returns-clause-leads g c = λ m n h steady rests clean stands worn.
+returns-clause-leads g c = λ m n h steady rests clean stands worn no_more.
     let wait = c.in_ok-barrier.ensures.did in
     seal_leads _ m n h c.args.place _ rests _ _ steady _ _ wait
     (rw (wait.places) at (c.add_header.ensures.leads m n _ _ c.encode.ensures.said (steady_settled h _ _ steady wait)
-    (rw wait.places (settled_rests _ m h rests)) (λ p s. refl) (ap settled clean) (rw wait.places stands) (rw wait.places (worn_settled _ h.story _ worn))))
+    (rw wait.places (settled_rests _ m h rests)) (λ p s. refl) (ap settled clean) (rw wait.places stands) (rw wait.places (worn_settled _ h.story _ worn)) (rw wait.places no_more)))
 
 pub returns-in_err-barrier-clause-plain : goal.returns-in_err-barrier-clause-plain
 returns-in_err-barrier-clause-plain g c = λ plain. plain_waited (g.C.Chip.told c.args.chip.now) (g.C.Chip.told c.barrier.new.chip) c.barrier.result c.barrier.ensures.did

@@ -6,12 +6,12 @@ use Rattle.std.specs.Prelude.{is_ok}
 use Rattle.unit_io.proofs.sectors.program_log.Goals as goal
 
 pub returns-clause-keeps : goal.returns-clause-keeps
-returns-clause-keeps g c = λ m it h u records steady rests laid may clean.
-    log_leads _ c.args.spot.place c.args.spot.sector _ _ (rw c.bytes.ensures.value at c.encode.ensures.said) m h _ _ _ steady c.program.ensures.did rests clean it u records laid may
+returns-clause-keeps g c = λ m it h u records steady rests laid may fresh.
+    log_leads c.args.spot.place c.args.spot.sector _ _ (rw c.bytes.ensures.value at c.encode.ensures.said) m h _ _ _ steady c.program.ensures.did rests fresh it u records laid may
 
 pub returns-clause-aside : goal.returns-clause-aside
-returns-clause-aside g c = λ m h steady rests bare other clean.
-    aside_leads _ c.args.spot.place c.args.spot.sector _ _ (rw c.bytes.ensures.value at c.encode.ensures.said) m h _ _ _ steady c.program.ensures.did rests clean bare other
+returns-clause-aside g c = λ m h steady rests bare other fresh.
+    aside_leads c.args.spot.place c.args.spot.sector _ _ (rw c.bytes.ensures.value at c.encode.ensures.said) m h _ _ _ steady c.program.ensures.did rests fresh bare other
 
 pub returns-clause-costs : goal.returns-clause-costs
 returns-clause-costs g c =

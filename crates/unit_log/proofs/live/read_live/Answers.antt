@@ -100,7 +100,7 @@ returns-in_err-read_sectors-clause-exact g c = λ x told it t are.
           c.current-place.ensures.place
           c.next_log.result c.unwrap_or-end.result
           (map pair_of c.as_slice.result.now) c.in_ok-head.head.generation head.0
-          c.next_log.ensures.some c.next_log.ensures.none c.next_log.ensures.in_range
+          c.next_log.ensures.some c.next_log.ensures.in_range
           c.unwrap_or-end.ensures (ap (map pair_of) c.as_slice.ensures.value ∙ c.list-spots.ensures.spots)
           (subst (HasUnfit (chart_of x) c.args.unit c.in_ok-head.head.generation
           (log_spots c.current-place.result c.unwrap_or-end.result
@@ -129,7 +129,7 @@ returns-clause-exact g c = λ x told it t are.
           c.current-place.ensures.place
           c.next_log.result c.unwrap_or-end.result
           (map pair_of c.as_slice.result.now) c.in_ok-head.head.generation head.0
-          c.next_log.ensures.some c.next_log.ensures.none c.next_log.ensures.in_range
+          c.next_log.ensures.some c.next_log.ensures.in_range
           c.unwrap_or-end.ensures (ap (map pair_of) c.as_slice.ensures.value ∙ c.list-spots.ensures.spots)
           c.read_sectors.new.scratch all c.facts-2.ensures.rising;
     }

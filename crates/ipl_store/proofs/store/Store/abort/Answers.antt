@@ -40,3 +40,18 @@ returns-in_err-admit_end-clause-calls g c =
     rw (e.1 ∙ ap Err e.2) (calls_refused early (λ state. after_abort state c.args.s) 0 store
     (g.C.Chip.told c.args._chip.now) (Err fault) fault is (ended_unworn store refusal fault is) refl
     c.requires.sound)
+
+pub returns-in_err-admit_end-clause-early : goal.returns-in_err-admit_end-clause-early
+returns-in_err-admit_end-clause-early g c =
+    let store = c.args.self.now in
+    let refusal = refuses_end (limits_of store.units) (state_of store.transactions.sessions) c.args.s in
+    let e = err_from_is_err_and c.from_residual.result c.from_residual.ensures.1 in
+    rw (e.1 ∙ ap Err e.2)
+    (ap (early_fault (down_fault store)) (sym c.refuses_end.ensures) ∙ sym c.in_err-admit_end.ensures)
+
+pub returns-in_err-admit_end-clause-ended : goal.returns-in_err-admit_end-clause-ended
+returns-in_err-admit_end-clause-ended g c =
+    let e = err_from_is_err_and c.from_residual.result c.from_residual.ensures.1 in rw e.1 tt
+
+pub returns-clause-ended : goal.returns-clause-ended
+returns-clause-ended g c = c.abort.ensures.ended

@@ -19,15 +19,15 @@ returns-in_err-recovered-clause-sound g c =
           c.recover-recovered.new.kept c.recover-recovered.new.scratch closed.units closed.down made
           c.recover-recovered.ensures.sized made.units;
       order = λ up.
-          let no : true ≡ false = sym c.forget.ensures.down ∙ up in absurd (cc no);
+          let no : true ≡ false = sym c.forget.ensures.down.0 ∙ up in absurd (cc no);
       count = λ up.
-          let no : true ≡ false = sym c.forget.ensures.down ∙ up in absurd (cc no);
+          let no : true ≡ false = sym c.forget.ensures.down.0 ∙ up in absurd (cc no);
     }
 
 pub returns-in_err-recovered-clause-opens : goal.returns-in_err-recovered-clause-opens
 returns-in_err-recovered-clause-opens g c =
     let e = err_from_is_err_and c.from_residual.result c.from_residual.ensures.1 in
-    rw e.1 (c.forget.ensures.down, c.forget.ensures.units)
+    rw e.1 (c.forget.ensures.down.0, c.forget.ensures.units)
 
 pub returns-in_err-recovered-clause-tries : goal.returns-in_err-recovered-clause-tries
 returns-in_err-recovered-clause-tries g c =
@@ -74,7 +74,7 @@ made g c =
     (counted g c)
 
 fresh : (g : Over) (c : goal.After-self-2-1 g) → IsFresh (opened g c)
-fresh g c = record { up = refl; idle = c.forget.ensures.idle; empty = c.forget.ensures.empty }
+fresh g c = record { up = refl; unclosed = c.forget.ensures.down.1; idle = c.forget.ensures.idle; empty = c.forget.ensures.empty }
 
 pub returns-clause-sound : goal.returns-clause-sound
 returns-clause-sound g c =
@@ -85,7 +85,8 @@ pub returns-clause-opens : goal.returns-clause-opens
 returns-clause-opens g c =
     let old = g.C.Chip.told c.args.chip.now in
     let says = c.in_ok-recovered.ensures in
-    fresh_opens old.places (opened g c) (made g c) (fresh g c) says.holds (sym c.units-self.ensures) old
+    fresh_opens old.places (opened g c) (made g c) (fresh g c) says.holds (sym c.units-self.ensures)
+    c.args.marks old
     (g.C.Chip.told c.recover-recovered.new.chip) says.tells says.steps says.number says.left
 
 pub returns-clause-tries : goal.returns-clause-tries
@@ -107,9 +108,9 @@ returns-clause-tries g c =
     }
 
 pub returns-clause-leads : goal.returns-clause-leads
-returns-clause-leads g c =
+returns-clause-leads g c = λ unmarked.
     let old = g.C.Chip.told c.args.chip.now in
     fresh_restarts old.places (opened g c) (made g c) (fresh g c) c.in_ok-recovered.ensures.holds
-    (sym c.units-self.ensures) (memory_of_store c.args.self.now) old
+    (sym c.units-self.ensures) c.args.marks unmarked (memory_of_store c.args.self.now) old
     (g.C.Chip.told c.recover-recovered.new.chip) refl c.in_ok-recovered.ensures.tells
     c.in_ok-recovered.ensures.steps

@@ -1,4 +1,4 @@
-use Rattle.std.proofs.Common.{Result, OnOk, subst}
+use Rattle.std.proofs.Common.{Result, OnOk, refl, subst}
 use Rattle.ipl_base.specs.declared.fault.ImageFault.{ImageFault}
 use Rattle.ipl_model.specs.declared.command.Command.TheVariants as command
 use Rattle.script_store.specs.declared.store.ScriptStore.{ScriptStore}
@@ -17,7 +17,7 @@ returns-in-Ok-clause-does g c =
     (restart_does c.args.self.now b before after
     c.requires.runs c.open_chip.ensures.sound
     c.open_chip.result c.open_chip.ensures.opens c.open_chip.ensures.tries
-    c.open_chip.ensures.leads)
+    (c.open_chip.ensures.leads refl))
 
 pub returns-in-Err-clause-does : goal.returns-in-Err-clause-does
 returns-in-Err-clause-does g c =
@@ -29,7 +29,7 @@ returns-in-Err-clause-does g c =
     (restart_does c.args.self.now b before after
     c.requires.runs c.open_chip.ensures.sound
     c.open_chip.result c.open_chip.ensures.opens c.open_chip.ensures.tries
-    c.open_chip.ensures.leads)
+    (c.open_chip.ensures.leads refl))
 
 pub returns-in-Ok-clause-done : goal.returns-in-Ok-clause-done
 returns-in-Ok-clause-done g c =

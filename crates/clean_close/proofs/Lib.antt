@@ -1,0 +1,5 @@
+mod PayloadLemmas
+mod LayoutLemmas
+mod CleanLemmas
+mod MarkLemmas
+mod BarrierLemmas

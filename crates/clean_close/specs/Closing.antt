@@ -1,0 +1,59 @@
+-- What a clean close leaves.
+use Rattle.std.specs.Prelude.{ℕ, ◌≡◌, ◌↔◌, ◌<◌, List, ◌∷◌, length, slice_index, Some, Result}
+use Rattle.chip_trait.specs.declared.event.Event.TheVariants.{Program, Barrier}
+use Rattle.chip_trait.specs.Image.{IsClosed}
+use Rattle.chip_trait.specs.Story.{Story, Contents, held}
+use Rattle.chip_trait.specs.Told.{History, Told}
+use Rattle.ipl_base.specs.declared.fault.ChipFault.{ChipFault}
+use Rattle.ipl_format.specs.Sector.{Sector, sector_in}
+use Rattle.ipl_rules.specs.State.{Map}
+use Rattle.ipl_meaning.specs.Agrees.{Agrees}
+use Rattle.ipl_meaning.specs.Layout.{Layout}
+use Rattle.ipl_meaning.specs.Marks.{IsMarked, AreUnused}
+use Rattle.ipl_meaning.specs.Rests.{EachStands, StoryRests}
+use Rattle.ipl_meaning.specs.Tables.{Tables, IsCountedClean}
+use Rattle.unit_io.specs.Leads.{IsSteady}
+use Rattle.steps.specs.Steps.{Settled, NoOtherEnd, EndsWith, OutcomeWhere, TidyWork}
+
+-- at the units' places exactly those sectors are marked that the tables count as clean
+abbrev pub MarksWhatCounts : ℕ → Tables → Contents → Type 0
+MarksWhatCounts places t x = (u n : ℕ) → u < length t.places.current
+    → IsMarked places x (slice_index t.places.current u) n ↔ IsCountedClean t (slice_index t.places.current u) n
+
+-- the story rests on the map, and exactly that is marked
+pub record RestsMarked (places : ℕ) (m : Map) (t : Tables) (k : History) : Type 0 where
+  pub rests : StoryRests places m k
+  pub marks : MarksWhatCounts places t (held k.start k.story)
+
+-- what the tables count as clean is unused
+abbrev pub CountsUnused : Tables → History → Type 0
+CountsUnused t h = AreUnused (IsCountedClean t) h.story
+
+-- At each moment a power cut leaves the map; and marks are kept, where what the tables count as clean is unused. Done, the story
+-- rests on the map, and exactly that is marked. It fails only where a write failed.
+abbrev pub Closes : ℕ → Map → Tables → Tables → Result (Unit {0}) ChipFault → History → Told → Told → Type 0
+Closes places m t after result h old new =
+    OutcomeWhere (CountsUnused t h) (EachStands places m)
+    (TidyWork (IsCountedClean t) (IsCountedClean after) (Settled result old new)) (Settled result old new)
+    (EndsWith result (λ v k. RestsMarked places m after k) NoOtherEnd) h old new
+
+-- over a story that rests on a map and with which the tables agree
+abbrev pub ClosesInSteps : ℕ → Tables → Tables → Told → Result (Unit {0}) ChipFault → Told → Type 0
+ClosesInSteps places t after old result new = (m : Map) (it : Layout) (h : History)
+    → IsSteady h old → StoryRests places m h → Agrees places h it t → Closes places m t after result h old new
+
+-- and in which nothing is open
+abbrev pub ClosesClosed : ℕ → Tables → Tables → Told → Result (Unit {0}) ChipFault → Told → Type 0
+ClosesClosed places t after old result new = (m : Map) (it : Layout) (h : History)
+    → IsSteady h old → StoryRests places m h → IsClosed h.story → Agrees places h it t → Closes places m t after result h old new
+
+-- the last two events are the program of a mark and a barrier
+pub record EndsWithMark (added : Story) : Type 0 where
+  pub place : ℕ
+  pub number : ℕ
+  pub bytes : List ℕ
+  pub mark : Sector
+  pub spelled : sector_in bytes ≡ Some mark
+  pub kind : mark.kind ≡ 7
+  pub before : Story
+  pub events : added ≡ Barrier ∷ Program place number bytes ∷ before

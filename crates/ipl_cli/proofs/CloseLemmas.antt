@@ -1,0 +1,142 @@
+-- A run behind which the chip is closed.
+use Rattle.std.proofs.Common.{◌≡◌, ◌≤◌, ◌+◌, ◌++◌, ℕ, Bool, true, Result, Ok, Err, OnOk, IfErr, is_ok, refl, ◌∙◌, ap, subst, arith}
+use Rattle.std.specs.Prelude.{IsErrOf, max}
+use Rattle.std.specs.Option.{option_map}
+use Rattle.chip_trait.specs.Story.{Story}
+use Rattle.chip_trait.specs.Told.{Told, Beside, Grew, adds_all}
+use Rattle.chip_trait.proofs.HistoryLemmas.{history_then}
+use Rattle.store_trait.specs.declared.fault.Fault.{Fault}
+use Rattle.store_trait.specs.declared.fault.Fault.TheVariants as fault
+use Rattle.store_trait.specs.Behind.{WorksBehind}
+use Rattle.store_trait.specs.Keeping.{SCRIPT_DRAWS, FOUND_NUMBER, Draws, LeavesTidy}
+use Rattle.store_trait.specs.Onward.{Further}
+use Rattle.store_trait.proofs.DrawLemmas.{numbers_last}
+use Rattle.script_run.specs.declared.fault.Stop.{Stop}
+use Rattle.script_run.specs.declared.fault.Stop.TheVariants as stop
+use Rattle.script_run.specs.Behind.{stop_of}
+use Rattle.script_run.specs.Goes.{StopCause, LearnsAlong, CompletesOver, HasRead, ReadsAll, RunsScript}
+use Rattle.script_run.proofs.BehindLemmas.{runs_behind, tidy_behind, cause_behind, learns_behind, completes_behind, further_both}
+use Rattle.script_run.proofs.CompleteLemmas.{completes_more}
+use Rattle.script_store.specs.declared.store.ScriptStore.{ScriptStore}
+use Rattle.script_store.specs.Closes.{Closes}
+use Rattle.script_store.specs.Keeps.{script_keeping, next_number}
+use Rattle.ipl_cli.specs.Top.{IsTooLong}
+use Rattle.ipl_cli.specs.Runs.{EndsClosed, RunsClosing, RunsOver, ending_of}
+
+-- ---- the last two events
+
+-- they are the last of more, too
+pub closed_since : (first : Story) (old mid new : Told) → mid.history ≡ option_map (adds_all first) old.history
+    → EndsClosed mid new → EndsClosed old new
+closed_since first old mid new before closed = record {
+  added = closed.added ++ first;
+  does = record {
+    place = closed.does.place;
+    number = closed.does.number;
+    bytes = closed.does.bytes;
+    mark = closed.does.mark;
+    spelled = closed.does.spelled;
+    kind = closed.does.kind;
+    before = closed.does.before ++ first;
+    events = ap (λ (events : Story). events ++ first) closed.does.events;
+  };
+  history = closed.history ∙ ap (option_map (adds_all closed.added)) before
+      ∙ history_then closed.added first old.history;
+}
+
+-- ---- a script
+
+-- a script that is told has as many bytes as were read of it
+pub too_long : (old new : Told) → HasRead 4294967295 old new
+    × Grew old.beside.script_bytes 4294967295 new.beside.script_bytes → IsTooLong old new
+too_long old new (read, grew) = record { grew = grew; told = λ source left. (read source left).1 }
+
+module _ (before then : ScriptStore) (old new : Told) (closes : Bool) where
+  -- it was run, and nothing else done
+  pub ran_alone : (result : Result (Unit {0}) Stop) → next_number before ≤ FOUND_NUMBER
+      → RunsScript (script_keeping old.places) before old result then new
+      → LeavesTidy (script_keeping old.places) before then old new (is_ok result)
+      → Draws (script_keeping old.places) SCRIPT_DRAWS before (IsErrOf result (stop.Store fault.Spent)) then
+      → CompletesOver (script_keeping old.places) SCRIPT_DRAWS before old result then new
+      → IfErr result (λ s. StopCause (script_keeping old.places) old new s)
+      → LearnsAlong (script_keeping old.places) before old result then new
+      → Further old new
+      → (IsErrOf result stop.TooLong → HasRead 4294967295 old new
+      × Grew old.beside.script_bytes 4294967295 new.beside.script_bytes)
+      → OnOk result (ReadsAll old new) → OnOk result (closes ≡ true → EndsClosed old new)
+      → RunsClosing closes result before old then new
+  ran_alone result low runs tidy draws completes cause learns further long read closed = record {
+    runs = runs;
+    tidy = tidy;
+    completes = λ limits keeps. completes_more (completes limits keeps) (omega arith);
+    cause = cause;
+    learns = learns;
+    unspent = numbers_last draws low;
+    long = λ is. too_long old new (long is);
+    further = further;
+    read = read;
+    closed = closed;
+  }
+
+-- so it ends
+pub runs_over : (closes : Bool) (result : Result (Unit {0}) Stop) (before then : ScriptStore) (old new : Told)
+    → RunsClosing closes result before old then new → RunsOver (ending_of result) before old then new
+runs_over closes result before then old new r = record {
+  result = result;
+  ending_is = refl;
+  runs = r.runs;
+  tidy = r.tidy;
+  completes = r.completes;
+  cause = r.cause;
+  learns = r.learns;
+  unspent = r.unspent;
+  long = r.long;
+  further = r.further;
+  read = r.read;
+}
+
+-- ---- and the chip closed behind it
+
+never_long : (closed : Result (Unit {0}) Fault) → IsErrOf (stop_of closed) stop.TooLong → ⊥
+never_long (Ok v) is = cc
+never_long (Err fault) is = cc
+
+spent_so : (closed : Result (Unit {0}) Fault) → IsErrOf (stop_of closed) (stop.Store fault.Spent) → IsErrOf closed fault.Spent
+spent_so (Ok v) is = absurd cc
+spent_so (Err e) is = cc
+
+-- what is so where it is closed, is so where it doesn't stop
+on_closed : {A B : Type 0} (closed : Result (Unit {0}) Fault) → (A → B) → OnOk closed A → OnOk (stop_of closed) B
+on_closed (Ok v) f a = f a
+on_closed (Err fault) f a = tt
+
+module _ (before mid then : ScriptStore) (old between new : Told) (closes : Bool) (closed : Result (Unit {0}) Fault)
+    (further : Further old between) (did : Closes mid between closed then new) where
+  works : WorksBehind (script_keeping old.places) mid between closed then new
+  works = subst (λ (n : ℕ). WorksBehind (script_keeping n) mid between closed then new) further.places did.works
+
+  -- numbers last for both
+  both_last : next_number before ≤ FOUND_NUMBER → next_number mid ≤ max (next_number before) FOUND_NUMBER + SCRIPT_DRAWS
+      → IsErrOf closed fault.Spent → ⊥
+  both_last low drawn is = let past = works.draws.spent is in omega (arith, past, low, drawn)
+
+  pub ran_closing : next_number before ≤ FOUND_NUMBER
+      → RunsScript (script_keeping old.places) before old (Ok tt) mid between
+      → LeavesTidy (script_keeping old.places) before mid old between true
+      → Draws (script_keeping old.places) SCRIPT_DRAWS before (IsErrOf {T = Unit {0}} (Ok tt) (stop.Store fault.Spent)) mid
+      → CompletesOver (script_keeping old.places) {T = Unit {0}} SCRIPT_DRAWS before old (Ok tt) mid between
+      → LearnsAlong (script_keeping old.places) {T = Unit {0}} before old (Ok tt) mid between
+      → ReadsAll old between → RunsClosing closes (stop_of closed) before old then new
+  ran_closing low runs tidy draws completes learns read =
+      let k = script_keeping old.places in record {
+        runs = runs_behind k before mid then old between new closed further works runs;
+        tidy = tidy_behind k before mid then old between new closed further works tidy;
+        completes = completes_behind k before mid then old between new closed further works SCRIPT_DRAWS completes;
+        cause = cause_behind k before mid then old between new closed further works;
+        learns = learns_behind k before mid then old between new closed further works learns;
+        unspent = λ is. both_last low draws.most (spent_so closed is);
+        long = λ is. absurd (never_long closed is);
+        further = further_both k before mid then old between new closed further works;
+        read = on_closed closed (λ last source left. ap (λ (b : Beside). b.left) works.counts.beside ∙ read source left) did.last;
+        closed = on_closed closed (λ last is. closed_since tidy.added old between new tidy.history last) did.last;
+      }

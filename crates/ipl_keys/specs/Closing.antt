@@ -1,0 +1,28 @@
+-- What a clean close leaves of a store of keys.
+use Rattle.std.specs.Prelude.{Result}
+use Rattle.chip_trait.specs.Told.{History, Told}
+use Rattle.ipl_meaning.specs.Tables.{IsCountedClean}
+use Rattle.steps.specs.Steps.{Settled, OutcomeWhere, TidyWork}
+use Rattle.clean_close.specs.Closing.{CountsUnused}
+use Rattle.page_frames.specs.Pages.{tables_in}
+use Rattle.ipl_store.specs.declared.store.Store.{Store}
+use Rattle.ipl_keys.specs.declared.fault.KeyFault.{KeyFault}
+use Rattle.ipl_keys.specs.KeyState.{KeyState}
+use Rattle.ipl_keys.specs.Keeps.{LeavesKeys, KeepsKeys}
+
+-- What it leaves of a store that keeps a key state. At each moment a power cut leaves the keys; and marks
+-- are kept, where what the store counts as clean is unused. Unless a write failed, the store keeps the key
+-- state then, done or not: one that is down keeps the keys alone.
+abbrev pub ClosesFor : Store → Told → Result (Unit {0}) KeyFault → Store → Told → History → KeyState
+    → Type 0
+ClosesFor old before result new after h k =
+    OutcomeWhere (CountsUnused (tables_in old.transactions.pages) h)
+    (LeavesKeys before.places old.units k.map k.map)
+    (TidyWork (IsCountedClean (tables_in old.transactions.pages))
+    (IsCountedClean (tables_in new.transactions.pages)) (Settled result before after))
+    (Settled result before after) (λ later. KeepsKeys before.places new after later k) h before after
+
+-- each that it keeps
+abbrev pub ClosesKeys : Store → Told → Result (Unit {0}) KeyFault → Store → Told → Type 0
+ClosesKeys old before result new after = (h : History) (k : KeyState)
+    → KeepsKeys before.places old before h k → ClosesFor old before result new after h k

@@ -1,0 +1,85 @@
+-- A mark is written behind a store that keeps a state.
+use Rattle.std.proofs.Common.{ℕ, ◌≡◌, true, false, Result, Ok, Err, is_ok, sym, ◌∙◌, ap, subst}
+use Rattle.chip_trait.specs.Chart.{says}
+use Rattle.chip_trait.specs.Moment.{AtEachMoment}
+use Rattle.chip_trait.specs.Story.{held}
+use Rattle.chip_trait.specs.Told.{History, Told, adds_all}
+use Rattle.chip_trait.proofs.ImageLemmas.{held_is_image}
+use Rattle.chip_trait.proofs.MomentLemmas.{at_end}
+use Rattle.ipl_base.specs.declared.fault.ChipFault.{ChipFault}
+use Rattle.ipl_rules.specs.State.{Map, State, Limits}
+use Rattle.ipl_format.specs.Sector.{sector_in}
+use Rattle.ipl_meaning.specs.Chart.{chart_of}
+use Rattle.ipl_meaning.specs.Rests.{EachStandsIn, StoryRests}
+use Rattle.ipl_meaning.specs.Stands.{StandsIn}
+use Rattle.ipl_meaning.specs.Tables.{Tables}
+use Rattle.ipl_meaning.proofs.StoryLemmas.{moments_of_one, rests_in_units}
+use Rattle.steps.specs.Steps.{Settled, NoOtherEnd, EndsWith}
+use Rattle.clean_close.specs.Closing.{Closes, ClosesInSteps, RestsMarked}
+use Rattle.store_trait.specs.Keeping.{WorkLeaves}
+use Rattle.store_steps.specs.Keeps.{View, limits_of, KeepsStore, IsUp, store_keeping}
+use Rattle.store_steps.proofs.KeepLemmas.{all_done, at_limits, done_settles}
+
+-- a mark was written, and the story rests; it is not written only where a write failed
+rests_marked : (places : ℕ) (m : Map) (t : Tables) (written : Result (Unit {0}) ChipFault) (k : History)
+    → EndsWith written (λ v k. RestsMarked places m t k) NoOtherEnd k → StoryRests places m k
+rests_marked places m t (Ok v) k marked = marked.rests
+rests_marked places m t (Err e) k none = absurd none
+
+module _ (places : ℕ) (before after : View) (old new : Told) (written : Result (Unit {0}) ChipFault)
+    (units : after.units ≡ before.units) (up : before.down ≡ false) (down : after.down ≡ true)
+    (steps : ClosesInSteps places before.memory.tables after.memory.tables old written new) where
+  -- what is left of a store that is down then
+  pub record Marks (limits : Limits) (state : State) (h : History) : Type 0 where
+    pub leaves : WorkLeaves (store_keeping places) (λ x. StandsIn places limits.units (chart_of x) state.map)
+        before h after old new (is_ok written)
+    pub keeps : Settled written old new → KeepsStore places limits after new (adds_all leaves.added h) state
+
+  module _ (state : State) (h : History) (keeps : KeepsStore places (limits_of before.units) before old h state) where
+    runs : IsUp places before h state
+    runs = keeps.up up
+
+    way : Closes places state.map before.memory.tables after.memory.tables written h old new
+    way = steps state.map runs.shows.layout h keeps.steady keeps.rests
+        (record { mirrors = runs.shows.fits.mirrors; tidy = runs.tidy })
+
+    moments : AtEachMoment (λ e. EachStandsIn places before.units state.map (adds_all e h)) way.added
+    moments = subst (λ (n : ℕ). AtEachMoment (λ e. EachStandsIn places n state.map (adds_all e h)) way.added)
+        runs.shows.count
+        (moments_of_one places state.map h runs.shows.layout way.added runs.shows.fits.mirrors.laid way.each_moment)
+
+    many_marked : (rests : StoryRests places state.map (adds_all way.added h)) → rests.each.0 ≡ after.units
+    many_marked rests =
+        let k = adds_all way.added h in
+        let is = at_end (λ e. EachStandsIn places before.units state.map (adds_all e h)) way.added moments
+        (held k.start k.story) (held_is_image (says sector_in) k.start k.story) in
+        rests_in_units places state.map k is.stands.layout rests is.stands.laid ∙ is.count ∙ sym units
+
+    marks_here : Marks (limits_of before.units) state h
+    marks_here = record {
+      leaves = record {
+        added = way.added;
+        history = way.history;
+        each_moment = λ later e split x image. moments later e split x image;
+        silent = way.does.silent;
+        only = all_done way.added;
+        lawful = way.does.lawful;
+        clean = λ done. record {
+          clean = λ base is clean. way.does.clean (done_settles written old new done) base clean;
+        };
+      };
+      keeps = λ settled.
+          let rests = rests_marked places state.map after.memory.tables written (adds_all way.added h)
+          (way.ends settled) in record {
+            limits_are = ap limits_of (sym units);
+            steady = way.steady settled;
+            rests = rests;
+            many = many_marked rests;
+            up = λ runs. absurd (let clash : true ≡ false = sym down ∙ runs in cc clash);
+          };
+    }
+
+  pub marks : (limits : Limits) (state : State) (h : History) → KeepsStore places limits before old h state
+      → Marks limits state h
+  marks limits state h keeps = subst (λ (l : Limits). Marks l state h) (sym keeps.limits_are)
+      (marks_here state h (at_limits places limits before old h state keeps))

@@ -1,0 +1,12 @@
+use Rattle.std.proofs.Common.{◌≡◌}
+use Rattle.script_store.specs.Closes.{Aborts}
+use Rattle.script_store.proofs.ClosedLemmas.{AreClosedBelow}
+use Rattle.script_store.proofs.store.ScriptStore.abort_all.Given as goal
+
+-- the sessions so far were aborted, and are closed
+abbrev pub invariant-loop-s : goal.invariant-loop-s
+invariant-loop-s g l = record {
+  idle : g.C.Chip.told l.chip ≡ g.C.Chip.told l.fn.chip;
+  aborts : Aborts l.fn.self (g.C.Chip.told l.fn.chip) l.self;
+  closed : AreClosedBelow l.s l.self.store.transactions.sessions;
+}

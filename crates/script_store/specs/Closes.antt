@@ -1,0 +1,57 @@
+-- What a clean close behind a script leaves.
+use Rattle.std.specs.Prelude.{◌≡◌, ◌≤◌, true, Result, Ok, Err, OnOk}
+use Rattle.chip_trait.specs.Told.{History, Told, adds_all}
+use Rattle.ipl_base.specs.declared.fault.StoreFault.{StoreFault}
+use Rattle.ipl_base.specs.declared.fault.StoreFault.TheVariants as store
+use Rattle.ipl_rules.specs.State.{State, Limits}
+use Rattle.ipl_meaning.specs.Chart.{chart_of}
+use Rattle.ipl_meaning.specs.Stands.{StandsIn}
+use Rattle.unit_io.specs.Costs.{Spends}
+use Rattle.clean_close.specs.Closing.{EndsWithMark}
+use Rattle.store_trait.specs.declared.fault.Fault.{Fault}
+use Rattle.store_trait.specs.declared.fault.Fault.TheVariants.{Chip, Spent}
+use Rattle.store_trait.specs.Keeping.{LeavesTidy, WorkLeaves}
+use Rattle.store_trait.specs.Behind.{WorksBehind}
+use Rattle.ipl_store.specs.Calls.{counter_of}
+use Rattle.script_store.specs.declared.store.ScriptStore.{ScriptStore}
+use Rattle.script_store.specs.Keeps.{IsRunning, KeepsScript, script_keeping}
+use Rattle.script_store.specs.Worn.{KnowsWorn}
+
+-- ---- no session is open
+
+-- Wherever the power was cut on the way, the chip stood for the records of the state; and the store keeps a state
+-- with the same records then.
+pub record KeepsRecords (limits : Limits) (state : State) (before : ScriptStore) (h : History) (then : ScriptStore)
+    (told : Told) : Type 0 where
+  pub leaves : WorkLeaves (script_keeping told.places)
+      (λ x. StandsIn told.places limits.units (chart_of x) state.map) before h then told told true
+  pub now : State
+  pub records : now.map ≡ state.map
+  pub keeps : KeepsScript told.places limits then told (adds_all leaves.added h) now
+
+-- Sessions were aborted, over a chip that tells this and wasn't asked: of each state that the store kept it keeps the
+-- records.
+pub record Aborts (old : ScriptStore) (told : Told) (new : ScriptStore) : Type 0 where
+  pub running : IsRunning told.places new
+  pub keeps : (limits : Limits) (state : State) (h : History) → KeepsScript told.places limits old told h state
+      → KeepsRecords limits state old h new told
+  pub tidy : LeavesTidy (script_keeping told.places) old new told told true
+  pub drawn : counter_of new.store ≤ counter_of old.store
+  pub knows : (entry : Told) → KnowsWorn entry old told → KnowsWorn entry new told
+
+-- ---- a close
+
+-- the answer of a close; the store isn't down before it, and no session is open, which would have it refused
+abbrev pub closed : Result (Unit {0}) StoreFault → Result (Unit {0}) Fault
+closed (Ok v) = Ok v
+closed (Err store.Down) = Err Spent
+closed (Err store.Spent) = Err Spent
+closed (Err (store.Refused refusal)) = Err Spent
+closed (Err (store.Chip fault)) = Err (Chip fault)
+
+-- Whatever the chip tells, it works behind the script as what says nothing does; and done, the last two events are the
+-- program of a mark and a barrier.
+pub record Closes (old : ScriptStore) (before : Told) (result : Result (Unit {0}) Fault) (new : ScriptStore)
+    (after : Told) : Type 0 where
+  pub works : WorksBehind (script_keeping before.places) old before result new after
+  pub last : OnOk result (Spends EndsWithMark before after)

@@ -1,0 +1,8 @@
+use Rattle.std.proofs.Common.{◌≡◌, false}
+use Rattle.status_renewal.specs.Settling.{is_known_below}
+use Rattle.status_renewal.proofs.settling.knows_logs.Given as goal
+
+abbrev pub invariant-loop-unit : goal.invariant-loop-unit
+invariant-loop-unit l = record {
+  none : is_known_below l.directory l.unit ≡ false;
+}

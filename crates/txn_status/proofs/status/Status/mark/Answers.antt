@@ -1,0 +1,120 @@
+use Rattle.std.proofs.Common.{◌<◌, ℕ, true, false, Ok, Err, subst, ap, arith}
+use Rattle.std.proofs.lemmas.Result.{err_from_is_err_and}
+use Rattle.ipl_meaning.specs.Tables.{Status}
+use Rattle.unit_io.specs.Charts.{Charts, Gains}
+use Rattle.unit_io.specs.Costs.{ProgramsAt, Spends}
+use Rattle.unit_io.specs.Spots.{AddsSector, Programs, IsSpot}
+use Rattle.txn_status.specs.Marking.{mark_sector, MarksInSteps}
+use Rattle.txn_status.specs.Writing.{LeadsMark}
+use Rattle.txn_status.proofs.MarkingLemmas.{marked_in_steps}
+use Rattle.txn_status.proofs.status.Status.mark.Goals as goal
+
+pub returns-in_err-write_mark-clause-steps : goal.returns-in_err-write_mark-clause-steps
+returns-in_err-write_mark-clause-steps g c =
+    let inside = c.self.inside in
+    let st : Status = record {
+      place = inside.place;
+      generation = inside.generation;
+      numbers = inside.numbers.list;
+      first = inside.first;
+    } in
+    let payload = c.args.payload.now in
+    let room : inside.first < 256 =
+    omega (arith, c.requires.room, ap (λ (s : Status). s.first) c.self.view_is) in
+    let fault = c.in_err-write_mark.field-0.0 in
+    let old = g.C.Chip.told c.args.chip.now in
+    let new = g.C.Chip.told c.write_mark.new.chip in
+    let e = err_from_is_err_and c.from_residual.result c.from_residual.ensures.1 in
+    rw e.1
+    (subst (λ (s : Status). MarksInSteps old.places s c.args.counter.now payload (Err fault) old new)
+    c.self.view_is
+    (marked_in_steps old.places st c.args.counter.now payload (Err fault) old new
+    c.self.invariant.0.least room
+    (subst (λ (k : ℕ). LeadsMark old.places inside.place inside.first
+    (mark_sector inside.generation k payload) old (Err fault) new) c.draw-serial.ensures.drawn
+    c.in_err-write_mark.ensures.leads) c.in_err-write_mark.ensures.accounts.cause))
+
+pub invariant_of-self : goal.invariant_of-self
+invariant_of-self g c =
+    let was = c.self.invariant.0 in
+    let room : c.self.inside.first < 256 =
+    omega (arith, c.requires.room, ap (λ (s : Status). s.first) c.self.view_is) in (
+      record {
+        rising = was.rising;
+        least = omega (arith, was.least);
+        most = omega (arith, room);
+        few = omega (arith, was.few);
+      },
+      c.self.invariant.1,
+    )
+
+pub returns-clause-tells : goal.returns-clause-tells
+returns-clause-tells g c =
+    let inside = c.self.inside in
+    let payload = c.args.payload.now in
+    let old = g.C.Chip.told c.args.chip.now in
+    let new = g.C.Chip.told c.write_mark.new.chip in
+    subst (λ (s : Status). Charts (Gains s.place s.first
+    (mark_sector s.generation c.args.counter.now payload)) old new) c.self.view_is
+    (subst (λ (k : ℕ). Charts (Gains inside.place inside.first
+    (mark_sector inside.generation k payload)) old new) c.draw-serial.ensures.drawn
+    c.in_ok-write_mark.ensures.tells)
+
+pub returns-clause-steps : goal.returns-clause-steps
+returns-clause-steps g c =
+    let inside = c.self.inside in
+    let st : Status = record {
+      place = inside.place;
+      generation = inside.generation;
+      numbers = inside.numbers.list;
+      first = inside.first;
+    } in
+    let payload = c.args.payload.now in
+    let room : inside.first < 256 =
+    omega (arith, c.requires.room, ap (λ (s : Status). s.first) c.self.view_is) in
+    let old = g.C.Chip.told c.args.chip.now in
+    let new = g.C.Chip.told c.write_mark.new.chip in
+    subst (λ (s : Status). MarksInSteps old.places s c.args.counter.now payload (Ok tt) old new)
+    c.self.view_is
+    (marked_in_steps old.places st c.args.counter.now payload (Ok tt) old new
+    c.self.invariant.0.least room
+    (subst (λ (k : ℕ). LeadsMark old.places inside.place inside.first
+    (mark_sector inside.generation k payload) old (Ok tt) new) c.draw-serial.ensures.drawn
+    c.in_ok-write_mark.ensures.leads) tt)
+
+pub returns-in_err-write_mark-clause-costs : goal.returns-in_err-write_mark-clause-costs
+returns-in_err-write_mark-clause-costs g c =
+    subst (λ (s : Status). Spends (ProgramsAt s.place 1 1 7)
+    (g.C.Chip.told c.args.chip.now) (g.C.Chip.told c.write_mark.new.chip)) c.self.view_is
+    c.in_err-write_mark.ensures.costs
+
+pub returns-clause-costs : goal.returns-clause-costs
+returns-clause-costs g c =
+    subst (λ (s : Status). Spends (ProgramsAt s.place 1 1 7)
+    (g.C.Chip.told c.args.chip.now) (g.C.Chip.told c.write_mark.new.chip)) c.self.view_is
+    c.in_ok-write_mark.ensures.costs
+
+pub returns-in_err-write_mark-clause-tidy : goal.returns-in_err-write_mark-clause-tidy
+returns-in_err-write_mark-clause-tidy g c =
+    let e = err_from_is_err_and c.from_residual.result c.from_residual.ensures.1 in
+    rw e.1 (subst (λ (s : Status). Spends (Programs s.place (IsSpot s.first) false)
+    (g.C.Chip.told c.args.chip.now) (g.C.Chip.told c.write_mark.new.chip)) c.self.view_is
+    c.in_err-write_mark.ensures.tidy)
+
+pub returns-clause-tidy : goal.returns-clause-tidy
+returns-clause-tidy g c =
+    subst (λ (s : Status). Spends (Programs s.place (IsSpot s.first) true)
+    (g.C.Chip.told c.args.chip.now) (g.C.Chip.told c.write_mark.new.chip)) c.self.view_is
+    c.in_ok-write_mark.ensures.tidy
+
+pub returns-clause-adds : goal.returns-clause-adds
+returns-clause-adds g c =
+    let inside = c.self.inside in
+    let payload = c.args.payload.now in
+    let old = g.C.Chip.told c.args.chip.now in
+    let new = g.C.Chip.told c.write_mark.new.chip in
+    subst (λ (s : Status). Spends (AddsSector s.place s.first
+    (mark_sector s.generation c.args.counter.now payload)) old new) c.self.view_is
+    (subst (λ (k : ℕ). Spends (AddsSector inside.place inside.first
+    (mark_sector inside.generation k payload)) old new) c.draw-serial.ensures.drawn
+    c.in_ok-write_mark.ensures.adds)

@@ -1,0 +1,145 @@
+//! What is noted at a sector of a status place: a commit sector, a close mark or nothing.
+ghost use Rattle.std.specs.Prelude.{◌≡◌, ◌≤◌, ◌+◌, max, true, length, Some, IfOk, IfErr, IfSome, OnOk};
+ghost use Rattle.ipl_base.specs.declared.limits.TheConstants.{MOST_UNITS, PAYLOAD_LEN};
+ghost use Rattle.ipl_base.specs.declared.fault.ChipFault.TheVariants.{Malformed};
+ghost use Rattle.ipl_format.specs.Whole.{IsWhole};
+ghost use Rattle.sector_format.specs.Decode.{sector_of};
+ghost use Rattle.unit_io.specs.Kinds.{sector_named};
+ghost use Rattle.opening_rules.specs.Live.{kept, is_commit_sector, is_noted_of};
+ghost use Rattle.opening_rules.specs.Faults.{TellsImageFault, is_noted_payload, noted_test, noted_number};
+ghost use Rattle.opening_rules.specs.LaidOut.{numbers_of};
+ghost use Rattle.number_set.specs.Numbers.{with_numbers};
+ghost use Rattle.txn_status.specs.ReadingIn.{of_image, GrowsBy};
+ghost use Rattle.txn_status.specs.Marks.{with_noted};
+
+use crate::last_mark::LastMark;
+use crate::payloads::{add_numbers, greatest_number, is_commit};
+use ipl_base::{ChipFault, Spot};
+use number_set::NumberSet;
+use sector_format::Head;
+use unit_layout::is_mark;
+
+/// Whether the payload of a commit sector or close mark is in its grammar, where there are so many
+/// units.
+fn is_noted(head: &Head, payload: &[u8], units: u32) -> bool
+    ensures { result ≡ is_noted_payload units (sector_of head.now payload.now) }
+{
+    if head.kind == Head::COMMIT {
+        is_commit(payload)
+    } else {
+        is_mark(payload, units)
+    }
+}
+
+/// Takes in a commit sector or close mark, and answers the greatest number in it.
+fn take_noted(
+    head: &Head,
+    payload: &[u8],
+    units: u32,
+    numbers: &mut NumberSet,
+    mark: &mut LastMark,
+) -> u64
+    requires kind { (6 ≤ head.now.kind) × (head.now.kind ≤ 7) }
+    requires units { units ≤ MOST_UNITS }
+    requires well { is_noted_payload units (sector_of head.now payload.now) ≡ true }
+    requires room { length numbers.old.list + 60 ≤ numbers.old.most }
+    ensures numbers { numbers.new.list ≡ with_numbers (numbers_of
+        (kept is_commit_sector (Some (sector_of head.now payload.now)))) numbers.old.list }
+    ensures grows { GrowsBy 60 numbers.old numbers.new }
+    ensures marks { mark.new ≡ with_noted (Some (sector_of head.now payload.now)) mark.old }
+    ensures number { result ≡ noted_number (Some (sector_of head.now payload.now)) }
+{
+    let own = head.generation.max(head.serial);
+    if head.kind == Head::COMMIT {
+        add_numbers(payload, numbers);
+        mark.take_commit(head.serial);
+        greatest_number(payload, own)
+    } else {
+        mark.take_mark(head, payload);
+        own
+    }
+}
+
+/// Takes in the commit sector or close mark at a spot where it has this generation: the greatest
+/// number found, of those before and its own.
+fn take_sector(
+    spot: Spot,
+    generation: u64,
+    units: u32,
+    head: &Head,
+    payload: &[u8],
+    numbers: &mut NumberSet,
+    mark: &mut LastMark,
+    greatest: u64,
+) -> Result<u64, ChipFault>
+    requires kind { (6 ≤ head.now.kind) × (head.now.kind ≤ 7) }
+    requires units { units ≤ MOST_UNITS }
+    requires room { length numbers.old.list + 60 ≤ numbers.old.most }
+    ensures numbers { OnOk result (numbers.new.list ≡ with_numbers (numbers_of
+        (kept is_commit_sector
+        (kept (is_noted_of generation) (Some (sector_of head.now payload.now)))))
+        numbers.old.list) }
+    ensures grows { GrowsBy 60 numbers.old numbers.new }
+    ensures marks { OnOk result (mark.new ≡ with_noted
+        (kept (is_noted_of generation) (Some (sector_of head.now payload.now))) mark.old) }
+    ensures fault { TellsImageFault (noted_test units spot.place spot.sector
+        (kept (is_noted_of generation) (Some (sector_of head.now payload.now))))
+        (of_image result) }
+    ensures number { IfOk result (λ n. n ≡ max greatest (noted_number
+        (kept (is_noted_of generation) (Some (sector_of head.now payload.now))))) }
+    ensures cause { IfErr result (λ e. e ≡ Malformed spot.place spot.sector) }
+{
+    if head.generation != generation {
+        return Ok(greatest);
+    }
+    if !is_noted(head, payload, units) {
+        return Err(ChipFault::Malformed {
+            place: spot.place,
+            sector: spot.sector,
+        });
+    }
+    Ok(greatest.max(take_noted(head, payload, units, numbers, mark)))
+}
+
+/// Takes in what was found at a spot, a commit sector, a close mark or nothing.
+pub fn take_found(
+    spot: Spot,
+    generation: u64,
+    units: u32,
+    found: Option<(Head, usize)>,
+    bytes: &[u8; 512],
+    numbers: &mut NumberSet,
+    mark: &mut LastMark,
+    greatest: u64,
+) -> Result<u64, ChipFault>
+    requires kind { IfSome found (λ it. (6 ≤ it.0.kind) × (it.0.kind ≤ 7)) }
+    requires fits { IfSome found (λ it. it.1 ≤ PAYLOAD_LEN) }
+    requires units { units ≤ MOST_UNITS }
+    requires room { length numbers.old.list + 60 ≤ numbers.old.most }
+    ensures numbers { OnOk result (numbers.new.list ≡ with_numbers (numbers_of
+        (kept is_commit_sector (kept (is_noted_of generation) (sector_named bytes.now found))))
+        numbers.old.list) }
+    ensures grows { GrowsBy 60 numbers.old numbers.new }
+    ensures marks { OnOk result (mark.new ≡ with_noted
+        (kept (is_noted_of generation) (sector_named bytes.now found)) mark.old) }
+    ensures fault { TellsImageFault (noted_test units spot.place spot.sector
+        (kept (is_noted_of generation) (sector_named bytes.now found))) (of_image result) }
+    ensures number { IfOk result (λ n. n ≡ max greatest (noted_number
+        (kept (is_noted_of generation) (sector_named bytes.now found)))) }
+    ensures cause { IfErr result (λ e. e ≡ Malformed spot.place spot.sector) }
+    ensures whole { IsWhole bytes.now }
+{
+    match found {
+        None => Ok(greatest),
+        Some((head, used)) => take_sector(
+            spot,
+            generation,
+            units,
+            &head,
+            &bytes[32..32 + used],
+            numbers,
+            mark,
+            greatest,
+        ),
+    }
+}

@@ -1,0 +1,46 @@
+//! What is known of log sectors, as a number.
+ghost use Rattle.std.specs.Prelude.{◌≡◌, ◌≤◌, ◌<◌, map, vec_capacity};
+ghost use Rattle.ipl_meaning.specs.Tables.{unmarked_written};
+ghost use Rattle.unit_directory.specs.Directory.{noted_log};
+
+/// What stands where a mark says how many log sectors were written: so many more than this.
+pub const MARKED_LOGS: u32 = 16;
+
+/// What stands where nothing is known of the log sectors.
+pub const UNKNOWN_LOGS: u32 = 32;
+
+/// What is known once no mark counts any more.
+fn unmarked(written: u32) -> u32
+    ensures { result ≡ unmarked_written written }
+{
+    if written < MARKED_LOGS || UNKNOWN_LOGS <= written {
+        return written;
+    }
+    written - MARKED_LOGS
+}
+
+/// What is known of all units once no mark counts any more. It takes no memory.
+pub fn end_all_marks(all: &mut Vec<u32>)
+    ensures items { all.new.items ≡ map unmarked_written all.old.items }
+    ensures room { vec_capacity all.new ≡ vec_capacity all.old }
+{
+    for i in 0..all.len() {
+        all[i] = unmarked(all[i]);
+    }
+}
+
+/// What is known once one more log sector is seen (0 to 14), which checks, or is blank, or neither.
+pub fn noted(known: u32, number: u32, checks: bool, blank: bool) -> u32
+    requires few { known ≤ 32 }
+    requires number { number < 15 }
+    ensures noted { result ≡ noted_log known number checks blank }
+    ensures few { result ≤ 32 }
+{
+    if known < MARKED_LOGS || known >= UNKNOWN_LOGS || blank {
+        return known;
+    }
+    if checks && known == MARKED_LOGS + number {
+        return known + 1;
+    }
+    UNKNOWN_LOGS
+}
