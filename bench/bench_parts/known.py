@@ -70,16 +70,17 @@ def written(folder: str, lines: List[str]) -> str:
     return path
 
 
-def replies_of(program: str, words: List[str], folder: str, lines: List[str]) -> List[Reply]:
-    """What a run asked at its opening, and for each line of its script."""
+def replies_of(program: str, words: List[str], folder: str, lines: List[str],
+               closes: bool = False) -> List[Reply]:
+    """What a run asked at its opening, for each line of its script, and for its close if any."""
     # A line that is refused asks nothing: what is asked before its reply, the opening asks.
     script = written(folder, ["commit 31", *lines])
-    replies = traced_run(program, words, script)
+    replies = traced_run(program, [*words, "--close"] if closes else words, script)
     found = list(merged_lists(replies, ["open", *lines]))
-    for rest in replies:
-        if rest.line or rest.asked.reads or rest.asked.writes:
-            raise Failed("the run asked for more than its lines do")
-    return found
+    *more, end = replies
+    if more or (end.asked != Asked() and not closes):
+        raise Failed("the run asked for more than its lines do")
+    return [*found, end] if closes else found
 
 
 def agrees(program: str, folder: str, name: str, known: List[Known], places: int) -> bool:

@@ -3,7 +3,7 @@ from __future__ import annotations
 
 import os
 import random
-from typing import List
+from typing import Iterator, List, NamedTuple
 
 from .known import compare, replies_of
 from .program import make_file, run_untraced
@@ -13,8 +13,14 @@ from .trace import Asked, Reply
 LINES = 800
 
 
+class Run(NamedTuple):
+    """Lines of a script that are run by themselves, and whether the chip is closed behind them."""
+    lines: List[str]
+    closes: bool
+
+
 def random_script(draw: random.Random, units: int) -> List[str]:
-    """Commands of six sessions over some names, of which the sessions from 2 on may stay open long."""
+    """Commands of six sessions over some names. The sessions from 2 on may stay open long."""
     names = 960 * units
     often = draw.sample(range(names), 40) + draw.sample(range(300), 40)
     if draw.random() < 0.4:
@@ -42,9 +48,17 @@ def random_script(draw: random.Random, units: int) -> List[str]:
     return lines
 
 
+def in_runs(draw: random.Random, lines: List[str]) -> Iterator[Run]:
+    """The lines in one run or in several; sessions may be open where one ends."""
+    size = len(lines) // draw.choice([1, 2, 4, 8])
+    closes = draw.choice([0, 0.5, 1])
+    for first in range(0, len(lines), size):
+        yield Run(lines[first:first + size], draw.random() < closes)
+
+
 def asked_of(rules: Rules, line: str, reply: Reply) -> Asked:
-    """What a line asks by the rules: nothing, where it was refused, but that a put whose page is full
-    brings the page."""
+    """What a line asks by the rules: nothing, where it was refused, but that a put whose page is
+    full brings the page."""
     if line != "open" and reply.line.startswith("err 14"):
         return rules.asked_by(" ".join(["get", *line.split(" ")[1:3]]))
     if line != "open" and reply.line.startswith("err"):
@@ -57,6 +71,14 @@ def agrees_with_rules(rules: Rules, line: str, reply: Reply) -> bool:
     return compare(line, reply.asked, asked_of(rules, line, reply))
 
 
+def run_agrees(program: str, folder: str, chip: str, rules: Rules, run: Run) -> bool:
+    """Compares what a run asks, line by line up to the first that differs, with the rules."""
+    words = ["run", chip, "--frames", str(rules.frames)]
+    replies = replies_of(program, words, folder, run.lines, run.closes)
+    asking = ["open", *run.lines, *(["close"] if run.closes else [])]
+    return all(agrees_with_rules(rules, line, reply) for line, reply in zip(asking, replies))
+
+
 def try_script(program: str, folder: str, seed: int) -> bool:
     """Compares what a script asks, line by line up to the first that differs, with the rules."""
     draw = random.Random(seed)
@@ -67,13 +89,12 @@ def try_script(program: str, folder: str, seed: int) -> bool:
     chip = f"file:{places}:{path}"
     make_file(path, places)
     run_untraced(program, ["format", chip, "--spares", str(spares)], os.devnull)
-    replies = replies_of(program, ["run", chip, "--frames", str(frames)], folder, lines)
-    rules = Rules(places, frames, spares)
-    agrees = all(agrees_with_rules(rules, line, reply)
-                 for line, reply in zip(["open", *lines], replies))
-    erases = sum(reply.asked.erases for reply in replies)
-    print(f"seed {seed}: {places} places, {spares} spare, {frames} frames, {len(lines)} lines; "
-          f"{erases} erases, {rules.elsewhere} log sectors in overflow places: "
+    runs, rules = list(in_runs(draw, lines)), Rules(places, frames, spares)
+    agrees = all(run_agrees(program, folder, chip, rules, run) for run in runs)
+    closed = sum(run.closes for run in runs)
+    print(f"seed {seed}: {places} places, {spares} spare, {frames} frames, {len(lines)} lines in "
+          f"{len(runs)} runs, {closed} closed; {sum(rules.erases) - places} erases, "
+          f"{rules.elsewhere} log sectors in overflow places: "
           + ("as the rules say" if agrees else "not as the rules say"), flush=True)
     return agrees
 

@@ -1,19 +1,19 @@
 """What commands ask of a chip, by the rules of docs/DESIGN.md, docs/RECOVERY.md and docs/COSTS.md.
 
-A store with no bytes and no values but their lengths: which place, which sector, in which order. It
-shares no code with the program, and is written from the documents alone. Its places may wear out."""
+A store with no bytes and no values but their lengths: which place, which sector, in which order.
+It shares no code with the program, and is written from the documents alone. Its places may wear
+out."""
 from __future__ import annotations
 
-from typing import Dict, List, NamedTuple, Optional, Sequence, Set, Tuple
+from typing import Dict, List, Optional, Sequence, Set
 
 from .program import Failed
 from .trace import Asked
+from .units import (LOG_SECTORS, PAGES, SECTOR_PAYLOAD, SLOTS, Page, Record, Session, Spot, Unit,
+                    page_of, size_of)
 
 SECTORS = 256
-LOG_SECTORS = 15
 FIRST_LOG_SECTOR = 241
-PAGES, SLOTS, UNIT_NAMES = 15, 64, 960
-SECTOR_PAYLOAD = 480
 MOST_CARRIED = 7
 MOST_SPOTS, MOST_OVERFLOW_PLACES = 16, 2
 NUMBERS_IN_SECTOR = 60
@@ -21,94 +21,14 @@ MOST_KEPT = 3840
 # Places that are no unit's, and not spare.
 RESERVED_PLACES = 4
 
-Page = Tuple[int, int]
-Spot = Tuple[int, int]
-
 
 class WornOut(Exception):
     """One place more is worn than are spare."""
 
 
-class Record(NamedTuple):
-    """A put of so many bytes, or a delete."""
-    page: int
-    slot: int
-    number: int
-    length: Optional[int]
-
-    @property
-    def size(self) -> int:
-        return 12 + (self.length or 0)
-
-
-class Session:
-    def __init__(self, number: int) -> None:
-        self.number = number
-        self.pages: Set[Page] = set()
-
-
-class Unit:
-    """A unit: its place, its pages with the lengths of their values, and its log."""
-
-    def __init__(self, place: int) -> None:
-        self.place = place
-        self.slots: List[Dict[int, int]] = [{} for _ in range(PAGES)]
-        self.pieces = [0] * PAGES
-        self.log: List[List[Record]] = []
-        # So many of the 15 aren't known to be clean.
-        self.used = LOG_SECTORS
-        self.spots: List[Spot] = []
-
-    @property
-    def records(self) -> List[Record]:
-        return [record for sector in self.log for record in sector]
-
-    @property
-    def log_reads(self) -> int:
-        """The header and the log."""
-        return 1 + self.used + len(self.spots)
-
-    def page_reads(self, page: int) -> int:
-        """The header, the log sectors that name the page, and its base sectors."""
-        naming = [sector for sector in self.log if any(record.page == page for record in sector)]
-        return 1 + len(naming) + self.pieces[page]
-
-    def apply(self, committed: Set[int]) -> None:
-        """The records of committed numbers become values."""
-        for record in self.records:
-            if record.number in committed and record.length is None:
-                self.slots[record.page].pop(record.slot, None)
-            elif record.number in committed:
-                self.slots[record.page][record.slot] = record.length or 0
-        for page in {record.page for record in self.records}:
-            text = sum(3 + length for length in self.slots[page].values())
-            self.pieces[page] = -(-text // SECTOR_PAYLOAD)
-
-    def carried(self, active: Set[int]) -> List[List[Record]]:
-        """The last record of each name of an open session, packed in order."""
-        last = {(record.page, record.slot): record for record in self.records
-                if record.number in active}
-        packs: List[List[Record]] = []
-        for record in self.records:
-            if last.get((record.page, record.slot)) is not record:
-                continue
-            if not packs or size_of(packs[-1]) + record.size > SECTOR_PAYLOAD:
-                packs.append([])
-            packs[-1].append(record)
-        return packs
-
-
-def size_of(records: List[Record]) -> int:
-    return sum(record.size for record in records)
-
-
-def page_of(name: int) -> Page:
-    return name // UNIT_NAMES, name // SLOTS % PAGES
-
-
 class Rules:
-    """A store over a chip just formatted, not opened yet. `lasts` has how often each place is erased
-    before it is worn, where any wears out."""
+    """A store over a chip just formatted, not opened yet. `lasts` has how often each place is
+    erased before it is worn, where any wears out."""
 
     def __init__(self, places: int, frames: int, spares: int = 0,
                  lasts: Optional[Sequence[int]] = None) -> None:
@@ -130,6 +50,8 @@ class Rules:
         # The pages in frames, the one used longest ago first, with their records in memory.
         self.pages: Dict[Page, List[Record]] = {}
         self.drawn = 0
+        # Whether a mark stands that counts at the next opening.
+        self.is_marked = False
         # So many log sectors went to overflow places.
         self.elsewhere = 0
         self.asked = Asked()
@@ -186,6 +108,7 @@ class Rules:
         self.seal(place)
         self.free.add(unit.place)
         unit.place, unit.log, unit.used, unit.spots = place, packs, len(packs), []
+        unit.is_known = True
         self.give_overflow_back()
 
     def give_overflow_back(self) -> None:
@@ -278,25 +201,49 @@ class Rules:
         self.status, self.next_commit, self.committed = place, 1 + parts, kept
         self.listed = set(self.retired)
 
+    def ready_status(self) -> None:
+        """The status place gets a clean sector, if it has none."""
+        if self.next_commit == SECTORS:
+            self.renew_status()
+
+    def end_mark(self) -> None:
+        """Without a mark nothing of before is known to be clean. With one the units that it has are
+        known as before, and if it has any a barrier comes first; a new status place ends it."""
+        if not self.is_marked:
+            for unit in self.units:
+                unit.forget()
+        elif any(unit.is_known for unit in self.units):
+            self.barrier()
+        self.is_marked = False
+
     def open(self) -> None:
-        """An opening, or a restart: nothing of before is known to be clean. How often each place was
-        erased is found again, since each that was taken got a header. A place that was retired and
-        isn't listed is free."""
+        """An opening, or a restart, for which no mark stands. How often each place was erased is
+        found again, since each that was taken got a header. A place that was retired and isn't
+        listed is free."""
         self.sessions, self.pages = {}, {}
         self.free |= self.retired - self.listed
         self.retired = set(self.listed)
-        for unit in self.units:
-            unit.used = LOG_SECTORS
         self.overflow = dict.fromkeys(self.overflow, SECTORS)
         whole = 1 + len(self.overflow_headers)
         self.asked.reads += self.places + 255 * whole + LOG_SECTORS * len(self.units)
+        self.end_mark()
         self.switch_status()
+
+    def close(self) -> None:
+        """A clean close: open sessions are aborted, and a mark says which units are known."""
+        for number in list(self.sessions):
+            self.abort(number)
+        self.ready_status()
+        self.barrier()
+        self.write(self.status, self.next_commit)
+        self.barrier()
+        self.next_commit += 1
+        self.is_marked = True
 
     def commit(self, number: int) -> None:
         session = self.sessions[number]
         if session.pages:
-            if self.next_commit == SECTORS:
-                self.renew_status()
+            self.ready_status()
             for page in sorted(session.pages & set(self.pages)):
                 self.write_out(page)
             self.barrier()
@@ -339,10 +286,12 @@ class Rules:
              "restart": self.open}[word](*numbers)
 
     def asked_by(self, line: str) -> Asked:
-        """What a line asks that isn't refused; `open` is the opening."""
+        """What a line asks that isn't refused; `open` is the opening, and `close` the close."""
         self.asked = Asked()
         if line == "open":
             self.open()
+        elif line == "close":
+            self.close()
         else:
             self.work(line)
         return self.asked

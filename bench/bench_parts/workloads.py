@@ -50,12 +50,17 @@ def one_put(places: int, count: int) -> Iterator[Transaction]:
         yield [Put(turn % names_of(places), value_of(turn, SHORT_VALUE))]
 
 
-def four_random_puts(places: int, count: int) -> Iterator[Transaction]:
-    """Four puts of 40 bytes, each at any name."""
+def four_of(places: int, count: int, length: int) -> Iterator[Transaction]:
+    """Four puts of so many bytes, each at any name."""
     drawn = numbers(1)
     for turn in range(count):
         names = [next(drawn) % names_of(places) for _ in range(4)]
-        yield [Put(name, value_of(4 * turn + i, SHORT_VALUE)) for i, name in enumerate(names)]
+        yield [Put(name, value_of(4 * turn + i, length)) for i, name in enumerate(names)]
+
+
+def four_random_puts(places: int, count: int) -> Iterator[Transaction]:
+    """Four puts of 40 bytes, each at any name."""
+    return four_of(places, count, SHORT_VALUE)
 
 
 def one_random_put(places: int, count: int) -> Iterator[Transaction]:
@@ -89,6 +94,11 @@ def full_chip(places: int, count: int) -> Iterator[Transaction]:
         yield [Put(turn % names_of(places), value_of(turn, LONG_VALUE))]
 
 
+def four_on_full_chip(places: int, count: int) -> Iterator[Transaction]:
+    """Four puts of 108 bytes, each at any name, where each name has a value of 108 bytes."""
+    return four_of(places, count, LONG_VALUE)
+
+
 def sixteen_a_page(places: int, turn: int) -> int:
     """The first sixteen names of each page in turn."""
     names = turn % (names_of(places) // SLOTS * MOST_VALUES)
@@ -115,6 +125,12 @@ WORKLOADS: Dict[str, Workload] = {
     "one put, nine in ten to a tenth of the names": mostly_to_a_tenth,
     "a full chip of 108 bytes a name, one put in turn": full_chip,
     "one put of 200 or of 464 bytes, over sixteen names of each page": long_puts,
+}
+
+# Those of which it is told what a close before saves.
+ON_FULL_CHIPS: Dict[str, Workload] = {
+    "one put, over the names in turn": full_chip,
+    "four puts at random": four_on_full_chip,
 }
 
 # Those by which a chip is worn: evenly, and with units that aren't written for long or at all.
@@ -198,7 +214,7 @@ def write_name_puts(out: TextIO, names: List[int], count: int) -> None:
 
 
 def write_key_sql(out: TextIO, keys: int, count: int) -> None:
-    """The puts of keys as SQL, into a table of its own, with a log that is synced at each commit."""
+    """The puts of keys as SQL, into a table of its own, with a log synced at each commit."""
     out.write("pragma journal_mode=wal;\npragma synchronous=full;\n")
     out.write("create table record (key text primary key, value text) without rowid;\n")
     for turn in range(count):
