@@ -1,11 +1,11 @@
 -- A new chip.
-use Rattle.std.proofs.Common.{◌≡◌, ℕ, true, List, [], replicate, reverse, Result, Ok, Err, OnOk, ◌∙◌, ap}
+use Rattle.std.proofs.Common.{◌≡◌, ℕ, Bool, true, false, List, [], replicate, reverse, Result, Ok, Err, OnOk, ◌∙◌, ap}
 use Rattle.chip_trait.specs.declared.event.Event.{Event}
 use Rattle.chip_trait.specs.Story.{Contents}
-use Rattle.chip_mem.specs.Sectors.{contents_of, erased}
+use Rattle.chip_mem.specs.Sectors.{contents_of, written_contents, erased}
 use Rattle.chip_mem.specs.Tells.{telling_all, telling_contents, starting}
 use Rattle.chip_mem.specs.declared.sectors.TheConstants.{BLANK}
-use Rattle.chip_mem.proofs.SectorLemmas.{contents_of-replicate}
+use Rattle.chip_mem.proofs.SectorLemmas.{contents_of-replicate, written_none}
 
 pub erased_contents : (xs : List (List ℕ)) (n : ℕ) → xs ≡ replicate n BLANK → contents_of xs ≡ erased
 erased_contents xs n is = ap contents_of is ∙ contents_of-replicate n
@@ -18,8 +18,10 @@ starts places start sectors events x begins holds none =
     ∙ ap (λ (y : Contents). telling_all places true (record { start = x; story = reverse events }) y 0 0 0) holds
     ∙ ap (λ (es : List Event). telling_all places true (record { start = x; story = reverse es }) x 0 0 0) none
 
-pub plain_starts_erased : (places n : ℕ) (sectors : List (List ℕ)) → sectors ≡ replicate n BLANK → telling_contents places (contents_of sectors) ≡ telling_contents places erased
-plain_starts_erased places n sectors is = ap (λ (x : Contents). telling_contents places x) (erased_contents sectors n is)
+pub plain_starts_erased : (places n : ℕ) (written : List Bool) (sectors : List (List ℕ)) → written ≡ replicate n false
+    → telling_contents places (written_contents written sectors) ≡ telling_contents places erased
+plain_starts_erased places n written sectors none = ap (λ (x : Contents). telling_contents places x)
+    (ap (λ (ws : List Bool). written_contents ws sectors) none ∙ written_none n sectors)
 
 -- what holds anyway holds of a success
 pub on_ok : {T E : Type 0} (P : Type 0) (r : Result T E) → P → OnOk r P

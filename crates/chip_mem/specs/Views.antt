@@ -3,7 +3,7 @@ use Rattle.std.specs.Prelude.{length, reverse}
 use Rattle.chip_trait.specs.Told.{History, Told}
 use Rattle.chip_mem.specs.declared.mem_chip.MemChip.{MemChip}
 use Rattle.chip_mem.specs.declared.plain_chip.PlainChip.{PlainChip}
-use Rattle.chip_mem.specs.Sectors.{contents_of}
+use Rattle.chip_mem.specs.Sectors.{contents_of, written_contents}
 use Rattle.chip_mem.specs.Plan.{Plan}
 use Rattle.chip_mem.specs.Tells.{telling_all, telling_contents}
 
@@ -29,4 +29,4 @@ told_of chip = telling_all chip.places chip.settled (history_of chip) (contents_
 
 -- all that a chip without one tells
 abbrev pub plain_told_of : PlainChip → Told
-plain_told_of chip = telling_contents chip.places (contents_of chip.sectors.items)
+plain_told_of chip = telling_contents chip.places (written_contents chip.written.items chip.sectors.items)

@@ -1,17 +1,20 @@
 //! A chip in memory that keeps no story.
 ghost use Rattle.std.specs.Prelude.{◌≡◌, ◌*◌, length, IfOk};
 
-use crate::sectors::{erase_place, erased_sectors, program_sector, read_sector};
+use crate::sectors::{erased_sectors, forget_place, none_written, read_written, write_sector};
 use chip_trait::{Chip, Failed, Wear};
 use ipl_base::{OutOfMemory, SECTORS};
 use std::alloc::Global;
 
-/// A chip in memory that never fails. It tells what it holds, and no story.
+/// A chip in memory that never fails. It tells what it holds, and no story. An erase sets no byte of a sector: it
+/// is noted which were written since.
 #[derive(Drop)]
 pub struct PlainChip {
     places: u32,
     sectors: Vec<[u8; 512]>,
+    written: Vec<bool>,
     ghost sized: { length sectors.items ≡ places * 256 },
+    ghost noted: { length written.items ≡ places * 256 },
 }
 
 impl PlainChip {
@@ -23,9 +26,11 @@ impl PlainChip {
     pub fn new(alloc: Global, places: u32) -> Result<PlainChip, OutOfMemory>
         ensures { IfOk result (λ chip. plain_told_of chip ≡ telling_contents places erased) }
     {
+        let count = places as usize * SECTORS as usize;
         Ok(PlainChip {
             places,
-            sectors: erased_sectors(alloc, places as usize * SECTORS as usize)?,
+            sectors: erased_sectors(alloc, count)?,
+            written: none_written(alloc, count)?,
         })
     }
 }
@@ -37,12 +42,12 @@ impl Chip for PlainChip {
     ghost use Rattle.chip_trait.specs.declared.event.Event.TheVariants.{Read, Program, Erase, Barrier};
     ghost use Rattle.chip_trait.specs.Told.{Appends, Counts};
     ghost use Rattle.chip_mem.specs.Tells.{appended, contents_consistently};
-    ghost use Rattle.chip_mem.specs.Sectors.{contents_of};
+    ghost use Rattle.chip_mem.specs.Sectors.{written_contents};
     ghost use Rattle.chip_mem.specs.Views.{plain_told_of};
 
     ghost told = { plain_told_of };
 
-    ghost consistent = { λ chip. contents_consistently chip.places (contents_of chip.sectors.items) };
+    ghost consistent = { λ chip. contents_consistently chip.places (written_contents chip.written.items chip.sectors.items) };
 
     fn units(&self) -> u32 {
         self.places
@@ -57,7 +62,7 @@ impl Chip for PlainChip {
         ensures counts { Counts (plain_told_of self.old) (plain_told_of self.new) }
         ensures never { IsOk result }
     {
-        read_sector(&self.sectors, p as usize, s as usize, into);
+        read_written(&self.written, &self.sectors, p as usize, s as usize, into);
         Ok(())
     }
 
@@ -69,7 +74,13 @@ impl Chip for PlainChip {
         ensures counts { Counts (plain_told_of self.old) (plain_told_of self.new) }
         ensures never { IsOk result }
     {
-        program_sector(&mut self.sectors, p as usize, s as usize, from);
+        write_sector(
+            &mut self.written,
+            &mut self.sectors,
+            p as usize,
+            s as usize,
+            from,
+        );
         Ok(())
     }
 
@@ -80,7 +91,7 @@ impl Chip for PlainChip {
         ensures done { result ≡ Ok Done }
         ensures counts { Counts (plain_told_of self.old) (plain_told_of self.new) }
     {
-        erase_place(&mut self.sectors, p as usize);
+        forget_place(&mut self.written, p as usize);
         Ok(Wear::Done)
     }
 
