@@ -1,21 +1,29 @@
 -- What the mark of a clean close leaves.
-use Rattle.std.proofs.Common.{◌≡◌, ◌<◌, ◌≤◌, ◌+◌, ◌↔◌, ℕ, List, [], length, Result, Ok, Err, OnOk, IfErr, is_ok, refl, sym, ◌∙◌, subst, arith}
-use Rattle.std.proofs.lemmas.Bool.{lt-ltb, ltb-true}
+use Rattle.std.proofs.Common.{◌≡◌, ◌<◌, ◌≤◌, ◌+◌, ◌↔◌, ℕ, List, [], ◌∷◌, length, None, Some, Result, Ok, Err, OnOk, IfErr, is_ok, refl, sym, ◌∙◌, ap, subst, arith}
+use Rattle.std.proofs.lemmas.Bool.{lt-ltb, ltb-true, ne_eqb}
+use Rattle.chip_trait.specs.declared.event.Event.TheVariants.{Program}
 use Rattle.chip_trait.specs.Story.{held}
+use Rattle.chip_trait.specs.Chart.{with_sector}
 use Rattle.chip_trait.specs.Told.{History, Told}
+use Rattle.chip_trait.proofs.ClosedLemmas.{held_program}
 use Rattle.ipl_base.specs.declared.fault.ChipFault.{ChipFault}
-use Rattle.ipl_format.specs.Sector.{Sector}
+use Rattle.ipl_format.specs.Sector.{Sector, sector_in}
 use Rattle.ipl_format.specs.Mark.{SpellsMark, has_unit}
+use Rattle.ipl_format.proofs.SectorLemmas.{blank_says_nothing}
 use Rattle.ipl_rules.specs.State.{Map}
 use Rattle.ipl_meaning.specs.Agrees.{Agrees}
-use Rattle.ipl_meaning.specs.Layout.{Layout}
+use Rattle.ipl_meaning.specs.Chart.{chart_of}
+use Rattle.ipl_meaning.specs.Layout.{Shape, Layout, Laid}
 use Rattle.ipl_meaning.specs.Marks.{IsMarked}
 use Rattle.ipl_meaning.specs.MarkLaws.{MarksWhatIsKnown}
 use Rattle.ipl_meaning.specs.Rests.{now, EachStands}
 use Rattle.ipl_meaning.specs.Steps.{MayMark}
 use Rattle.ipl_meaning.specs.Tables.{Status, Tables, IsCountedClean}
-use Rattle.ipl_meaning.proofs.CloseLemmas.{closes_mark_what_is_clean}
+use Rattle.ipl_meaning.proofs.ApartLemmas.{home_not_status}
+use Rattle.ipl_meaning.proofs.CloseLemmas.{bare_is_counted, closes_mark_what_is_clean}
+use Rattle.ipl_meaning.proofs.MarkLemmas.{marks_wait}
 use Rattle.ipl_meaning.proofs.MirrorLemmas.{marks_may_go}
+use Rattle.ipl_meaning.proofs.OnceLemmas.{laid_once}
 use Rattle.unit_directory.specs.Directory.{is_known}
 use Rattle.unit_io.specs.Costs.{Spends}
 use Rattle.unit_io.specs.Leads.{IsStopped, IsAdded, RestsAdded}
@@ -27,7 +35,7 @@ use Rattle.steps.proofs.TidyLemmas.{tidy_programs}
 use Rattle.txn_status.specs.Marking.{mark_sector, IsReadyToMark, MarksInSteps}
 use Rattle.txn_status.specs.Status.{after_mark}
 use Rattle.merge_rules.specs.Known.{KnowsPlaces}
-use Rattle.clean_close.specs.Closing.{MarksWhatCounts, RestsMarked, EndsWithMark, ClosesClosed}
+use Rattle.clean_close.specs.Closing.{MarksWhatCounts, MarksUnits, RestsMarked, EndsWithMark, ClosesClosed}
 use Rattle.clean_close.proofs.LayoutLemmas.{layout_says}
 use Rattle.clean_close.proofs.CleanLemmas.{with_status, mark_shrinks, spot_counted, counted_at_home}
 
@@ -69,6 +77,40 @@ module _ (places : ℕ) (m : Map) (h : History) (it : Layout) (t : Tables) (payl
       (subst (λ (j : History). IsMarked places (held j.start j.story) home n ↔ IsCountedClean after home n) (sym there.is)
       (λ is. same.0 (marks.0 is), λ counted. marks.1 (same.1 counted)))
 
+  -- and where something is known of a unit, what holds FF is
+  blanks_marked : (status : Status) (next : ℕ) (bytes : List ℕ) → sector_in bytes ≡ Some (mark_of t payload)
+      → MarksUnits places (with_status t status next) (held h.start (Program it.status t.status.first bytes ∷ h.story))
+  blanks_marked status next bytes spells other laid u low =
+      let s = t.status.first in
+      let mark = mark_of t payload in
+      let x = held h.start (Program it.status s bytes ∷ h.story) in
+      let same : chart_of x ≡ with_sector (now h) it.status s mark =
+      held_program sector_in h.start h.story it.status s bytes mark spells in
+      let laid_x : Laid places (chart_of x) it = rw same (marks_wait places (now h) it s mark agrees.mirrors.laid may_mark).0 in
+      let one = laid_once places (chart_of x) other it laid laid_x in
+      let within : u < it.count = omega (arith, low, one.count) in
+      let home = (it.units u).home in
+      let is : (other.units u).home ≡ home = ap (λ (shape : Shape). shape.home) (one.units u low) in
+      let there : (n : ℕ) → x home n ≡ held h.start h.story home n = λ n.
+      rw (ne_eqb it.status home (λ at. home_not_status places (now h) it agrees.mirrors.laid u within (sym at))) refl in record {
+        low = omega (arith, within, agrees.mirrors.directory.units);
+        current = agrees.mirrors.directory.current u within ∙ sym is;
+        blanks = λ known n least most blank_there.
+            let none : now h home n ≡ None =
+            ap sector_in (sym (there n) ∙ ap (λ (p : ℕ). x p n) (sym is) ∙ blank_there) ∙ blank_says_nothing in
+            subst (λ (p : ℕ). IsMarked places x p n) (sym is)
+            ((closes_mark_what_is_clean places h it t s bytes mark agrees may_mark (omega arith)
+            (known_is_marked t payload has) spells u n within).1
+            (bare_is_counted places (now h) it t agrees.mirrors u n within known least most none));
+      }
+
+  added_units : (k : History) (status : Status) (next : ℕ) → IsAdded t.status.place t.status.first (mark_of t payload) h k
+      → MarksUnits places (with_status t status next) (held k.start k.story)
+  added_units k status next added =
+      let there = subst (λ (p : ℕ). IsAdded p t.status.first (mark_of t payload) h k) agrees.mirrors.status.place added in
+      subst (λ (j : History). MarksUnits places (with_status t status next) (held j.start j.story)) (sym there.is)
+      (blanks_marked status next there.bytes there.spelled)
+
   -- the story rests on the map, and exactly that is marked
   rests_marked : (status : Status) (next : ℕ) (r : Result (Unit {0}) ChipFault) → OnOk r (status ≡ after_mark t.status)
       → (k : History)
@@ -78,6 +120,7 @@ module _ (places : ℕ) (m : Map) (h : History) (it : Layout) (t : Tables) (payl
     rests = end.rests;
     marks = subst (λ (w : Status). MarksWhatCounts places (with_status t w next) (held k.start k.story)) (sym is)
         (added_marks k next end.added);
+    units = added_units k status next end.added;
   }
   rests_marked status next (Err e) is k end = end
 

@@ -1,17 +1,19 @@
 -- What a clean close leaves.
-use Rattle.std.specs.Prelude.{ℕ, ◌≡◌, ◌↔◌, ◌<◌, List, ◌∷◌, length, slice_index, Some, Result}
+use Rattle.std.specs.Prelude.{ℕ, ◌≡◌, ◌↔◌, ◌<◌, ◌≤◌, List, ◌∷◌, length, slice_index, Some, Result}
 use Rattle.chip_trait.specs.declared.event.Event.TheVariants.{Program, Barrier}
 use Rattle.chip_trait.specs.Image.{IsClosed}
-use Rattle.chip_trait.specs.Story.{Story, Contents, held}
+use Rattle.chip_trait.specs.Story.{Story, Contents, blank, held}
 use Rattle.chip_trait.specs.Told.{History, Told}
+use Rattle.ipl_base.specs.declared.limits.TheConstants.{SECTORS, FIRST_LOG_SECTOR}
 use Rattle.ipl_base.specs.declared.fault.ChipFault.{ChipFault}
 use Rattle.ipl_format.specs.Sector.{Sector, sector_in}
 use Rattle.ipl_rules.specs.State.{Map}
 use Rattle.ipl_meaning.specs.Agrees.{Agrees}
-use Rattle.ipl_meaning.specs.Layout.{Layout}
+use Rattle.ipl_meaning.specs.Chart.{chart_of}
+use Rattle.ipl_meaning.specs.Layout.{Layout, Laid}
 use Rattle.ipl_meaning.specs.Marks.{IsMarked, AreUnused}
 use Rattle.ipl_meaning.specs.Rests.{EachStands, StoryRests}
-use Rattle.ipl_meaning.specs.Tables.{Tables, IsCountedClean}
+use Rattle.ipl_meaning.specs.Tables.{Tables, written_of, UNKNOWN_LOGS, IsCountedClean}
 use Rattle.unit_io.specs.Leads.{IsSteady}
 use Rattle.steps.specs.Steps.{Settled, NoOtherEnd, EndsWith, OutcomeWhere, TidyWork}
 
@@ -20,10 +22,23 @@ abbrev pub MarksWhatCounts : ℕ → Tables → Contents → Type 0
 MarksWhatCounts places t x = (u n : ℕ) → u < length t.places.current
     → IsMarked places x (slice_index t.places.current u) n ↔ IsCountedClean t (slice_index t.places.current u) n
 
+-- Of a unit at this place: the tables have that; and where something is known of the unit, each log sector there that holds
+-- 512 bytes FF is marked.
+pub record MarksUnit (places : ℕ) (t : Tables) (x : Contents) (u p : ℕ) : Type 0 where
+  pub low : u < length t.places.current
+  pub current : slice_index t.places.current u ≡ p
+  pub blanks : written_of t u < UNKNOWN_LOGS → (n : ℕ) → FIRST_LOG_SECTOR ≤ n → n < SECTORS → x p n ≡ blank → IsMarked places x p n
+
+-- so it is of each unit, as the contents are laid out
+abbrev pub MarksUnits : ℕ → Tables → Contents → Type 0
+MarksUnits places t x = (it : Layout) → Laid places (chart_of x) it → (u : ℕ) → u < it.count
+    → MarksUnit places t x u (it.units u).home
+
 -- the story rests on the map, and exactly that is marked
 pub record RestsMarked (places : ℕ) (m : Map) (t : Tables) (k : History) : Type 0 where
   pub rests : StoryRests places m k
   pub marks : MarksWhatCounts places t (held k.start k.story)
+  pub units : MarksUnits places t (held k.start k.story)
 
 -- what the tables count as clean is unused
 abbrev pub CountsUnused : Tables → History → Type 0

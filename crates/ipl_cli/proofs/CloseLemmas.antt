@@ -1,10 +1,12 @@
 -- A run behind which the chip is closed.
-use Rattle.std.proofs.Common.{◌≡◌, ◌≤◌, ◌+◌, ◌++◌, ℕ, Bool, true, Result, Ok, Err, OnOk, IfErr, is_ok, refl, ◌∙◌, ap, subst, arith}
+use Rattle.std.proofs.Common.{◌≡◌, ◌≤◌, ◌+◌, ◌++◌, ℕ, Bool, true, Result, Ok, Err, OnOk, IfErr, is_ok, refl, sym, ◌∙◌, ap, subst, arith}
 use Rattle.std.specs.Prelude.{IsErrOf, max}
 use Rattle.std.specs.Option.{option_map}
 use Rattle.chip_trait.specs.Story.{Story}
 use Rattle.chip_trait.specs.Told.{Told, Beside, Grew, adds_all}
 use Rattle.chip_trait.proofs.HistoryLemmas.{history_then}
+use Rattle.ipl_model.specs.Grammar.{commands_of}
+use Rattle.ipl_model.specs.Run.{after_all}
 use Rattle.store_trait.specs.declared.fault.Fault.{Fault}
 use Rattle.store_trait.specs.declared.fault.Fault.TheVariants as fault
 use Rattle.store_trait.specs.Behind.{WorksBehind}
@@ -18,10 +20,10 @@ use Rattle.script_run.specs.Goes.{StopCause, LearnsAlong, CompletesOver, HasRead
 use Rattle.script_run.proofs.BehindLemmas.{runs_behind, tidy_behind, cause_behind, learns_behind, completes_behind, further_both}
 use Rattle.script_run.proofs.CompleteLemmas.{completes_more}
 use Rattle.script_store.specs.declared.store.ScriptStore.{ScriptStore}
-use Rattle.script_store.specs.Closes.{Closes}
-use Rattle.script_store.specs.Keeps.{script_keeping, next_number}
+use Rattle.script_store.specs.Closes.{MarksRecalled, MarksSince, Closes}
+use Rattle.script_store.specs.Keeps.{KeepsScript, script_keeping, next_number}
 use Rattle.ipl_cli.specs.Top.{IsTooLong}
-use Rattle.ipl_cli.specs.Runs.{EndsClosed, RunsClosing, RunsOver, ending_of}
+use Rattle.ipl_cli.specs.Runs.{EndsClosed, MarksBehind, ClosesScript, RunsClosing, RunsOver, ending_of}
 
 -- ---- the last two events
 
@@ -63,7 +65,7 @@ module _ (before then : ScriptStore) (old new : Told) (closes : Bool) where
       → Further old new
       → (IsErrOf result stop.TooLong → HasRead 4294967295 old new
       × Grew old.beside.script_bytes 4294967295 new.beside.script_bytes)
-      → OnOk result (ReadsAll old new) → OnOk result (closes ≡ true → EndsClosed old new)
+      → OnOk result (ReadsAll old new) → OnOk result (closes ≡ true → ClosesScript before old new)
       → RunsClosing closes result before old then new
   ran_alone result low runs tidy draws completes cause learns further long read closed = record {
     runs = runs;
@@ -120,6 +122,31 @@ module _ (before mid then : ScriptStore) (old between new : Told) (closes : Bool
       → IsErrOf closed fault.Spent → ⊥
   both_last low drawn is = let past = works.draws.spent is in omega (arith, past, low, drawn)
 
+  -- what was erased before the script is marked too
+  marks_behind : RunsScript (script_keeping old.places) before old (Ok tt) mid between
+      → MarksRecalled mid between new → MarksBehind before old new
+  marks_behind runs marks script left calm entry h at recalls limits state k is keeps =
+      let ended = runs limits state k keeps script left in
+      let last = after_all limits state (commands_of script) in
+      let l = adds_all ended.leaves.added k in
+      subst (λ (n : ℕ). MarksSince n h new) further.places
+      (marks entry h at (ended.leaves.recalls refl calm entry recalls) limits last l
+      (ended.leaves.history ∙ ap (option_map (adds_all ended.leaves.added)) is)
+      (subst (λ (n : ℕ). KeepsScript n limits mid between l last) (sym further.places) ended.holds))
+
+  closes_script : (first : Story) → between.history ≡ option_map (adds_all first) old.history
+      → RunsScript (script_keeping old.places) before old (Ok tt) mid between
+      → OnOk (stop_of closed) (closes ≡ true → ClosesScript before old new)
+  closes_script first history runs = by_end closed did.last did.marked
+    where
+      by_end : (r : Result (Unit {0}) Fault) → OnOk r (EndsClosed between new) → OnOk r (MarksRecalled mid between new)
+          → OnOk (stop_of r) (closes ≡ true → ClosesScript before old new)
+      by_end (Ok v) last marks = λ is. record {
+        ends = closed_since first old between new history last;
+        marked = marks_behind runs marks;
+      }
+      by_end (Err e) last marks = tt
+
   pub ran_closing : next_number before ≤ FOUND_NUMBER
       → RunsScript (script_keeping old.places) before old (Ok tt) mid between
       → LeavesTidy (script_keeping old.places) before mid old between true
@@ -138,5 +165,5 @@ module _ (before mid then : ScriptStore) (old between new : Told) (closes : Bool
         long = λ is. absurd (never_long closed is);
         further = further_both k before mid then old between new closed further works;
         read = on_closed closed (λ last source left. ap (λ (b : Beside). b.left) works.counts.beside ∙ read source left) did.last;
-        closed = on_closed closed (λ last is. closed_since tidy.added old between new tidy.history last) did.last;
+        closed = closes_script tidy.added tidy.history runs;
       }

@@ -1,10 +1,10 @@
 -- What a format and a run leave, where they end.
-use Rattle.std.proofs.Common.{◌≡◌, ◌⊎◌, ◌≤◌, ℕ, Bool, true, false, [], ◌∷◌, List, ◌++◌, Some, Result, Ok, Err, is_ok, inl, inr, refl, sym, ◌∙◌, ap, subst, arith, append_assoc}
+use Rattle.std.proofs.Common.{◌≡◌, ◌⊎◌, ◌≤◌, ℕ, Bool, true, false, [], ◌∷◌, List, ◌++◌, Some, Result, Ok, Err, is_ok, inl, inr, refl, sym, ◌∙◌, ap, subst, arith, append_assoc, ◌<◌}
 use Rattle.std.proofs.lemmas.List.{append-nil}
 use Rattle.std.specs.Option.{option_map}
 use Rattle.std.specs.FinMap.{empty}
 use Rattle.chip_trait.specs.declared.event.Event.TheVariants.{Said}
-use Rattle.chip_trait.specs.Story.{Story, held, pieces, said, joined}
+use Rattle.chip_trait.specs.Story.{Contents, Story, held, pieces, said, joined}
 use Rattle.chip_trait.specs.Chart.{says}
 use Rattle.chip_trait.specs.Image.{IsNoChanceImage}
 use Rattle.chip_trait.specs.Moment.{AtEachMoment, Leaves}
@@ -26,7 +26,12 @@ use Rattle.ipl_meaning.specs.Chart.{chart_of}
 use Rattle.ipl_meaning.specs.Stands.{StandsIn}
 use Rattle.ipl_meaning.specs.Rests.{now, EachStands, EachStandsIn, StoryRests}
 use Rattle.ipl_meaning.specs.FirstTables.{first_layout}
+use Rattle.ipl_meaning.specs.Marks.{IsMarked, MarksAreUnused}
 use Rattle.ipl_meaning.specs.Tables.{Tables, IsCountedClean}
+use Rattle.ipl_meaning.proofs.CarriedLemmas.{unused_carried}
+use Rattle.store_trait.proofs.UnusedLemmas.{twice}
+use Rattle.page_frames.specs.Pages.{tables_in}
+use Rattle.chip_trait.proofs.ImageLemmas.{held_is_image}
 use Rattle.opening_rules.specs.Chosen.{units_at}
 use Rattle.opening_rules.proofs.LaidLemmas.{laid_says_its_units}
 use Rattle.opening_rules.proofs.MomentLemmas.{moments_as_said}
@@ -47,12 +52,15 @@ use Rattle.script_run.specs.Goes.{Ended, Stopped, RunsScript}
 use Rattle.script_run.proofs.EndLemmas.{between_none, ends_weaker}
 use Rattle.script_run.proofs.RunLemmas.{says_none, says_prefix}
 use Rattle.script_store.specs.declared.store.ScriptStore.{ScriptStore}
+use Rattle.script_store.specs.Closes.{MarksSince}
 use Rattle.script_store.specs.Keeps.{KeepsScript, script_keeping}
+use Rattle.script_store.proofs.RecallLemmas.{opening_recalls}
 use Rattle.program_end.specs.declared.end.End.{End}
 use Rattle.program_end.specs.declared.end.End.TheVariants.{Words, Chip, OutOfMemory, Script, Output, TooLong}
 use Rattle.ipl_cli.specs.Ending.{Ending, IsStopped, StopRose, IsUntouched, format_end, units_beside}
 use Rattle.ipl_cli.specs.Top.{AreMarked, Runs, RunsFrom, RunsOpened, RunsFormatted, IsLaidOut, LaysOut, IsAbout, StandsAbout, IsBetween, EndsBy, answers, ok_line}
-use Rattle.ipl_cli.specs.Runs.{StartsOpened, IsNotOpened, WasFormatted, ending_of}
+use Rattle.ipl_cli.specs.Runs.{StartsOpened, IsNotOpened, WasFormatted, MarksBehind, ending_of}
+use Rattle.ipl_cli.specs.Frames.{MarksWhatWasErased}
 
 -- what stands beside the chip is left as it was
 pub left_counts : (old new : Told) → Counts old new → new.beside.left ≡ old.beside.left
@@ -238,7 +246,8 @@ all_done (Err s) is = absurd cc
 module _ (marks : Bool) (places units : ℕ) (m : Map) (script : List ℕ) (h : History) (first : Story)
     (silent : pieces first ≡ [])
     (each : AtEachMoment (λ e. EachStandsIn places units m (adds_all e h)) first)
-    (lawful : (base : Story) → IsLawful base → AreClean (AreMarked marks places h) base → IsLawful (first ++ base)) where
+    (lawful : (base : Story) → IsLawful base → AreClean (AreMarked marks places h) base → IsLawful (first ++ base))
+    (unused : MarksAreUnused places h → AtEachMoment (λ e. MarksAreUnused places (adds_all e h)) first) where
   abbrev limits : Limits
   limits = limits_of units
 
@@ -278,6 +287,7 @@ module _ (marks : Bool) (places units : ℕ) (m : Map) (script : List ℕ) (h : 
       is_prefix = subst (λ (bytes : List ℕ). IsPrefix bytes (joined_text (answers units m script)))
           (sym (ap joined silent)) (joined_text (answers units m script), refl);
       lawful = lawful;
+      unused = unused;
       steady = steady;
       rests = λ unrisen. subst (IsAbout (λ s. StoryRests places s.map (adds_all first h)) units m
           script) (sym (ap joined silent))
@@ -303,7 +313,8 @@ module _ (marks : Bool) (places units : ℕ) (m : Map) (script : List ℕ) (h : 
       (later : old.write_faults ≤ mid.write_faults)
       (told : mid.history ≡ option_map (adds_all first) old.history)
       (clean : (base : Story) → AreClean (AreMarked marks places h) base
-      → AreClean ((script_keeping places).clean before) (first ++ base)) where
+      → AreClean ((script_keeping places).clean before) (first ++ base))
+      (unused_then : MarksAreUnused places h → (script_keeping places).unused before (adds_all first h)) where
     module _ (R : History → State → Type 0) (result : Result (Unit {0}) Stop)
         (stays : (k : History) (s : State) → R k s → Stays (script_keeping places) limits then mid new k s)
         (leaves : RunLeaves (script_keeping places) limits (at_rest m) (commands_of script) before
@@ -369,6 +380,9 @@ module _ (marks : Bool) (places units : ℕ) (m : Map) (script : List ℕ) (h : 
             (says_prefix (answers units m script) (pieces leaves.added) leaves.replies);
         lawful = λ base good marked. subst IsLawful (sym (append_assoc leaves.added first base))
             (leaves.lawful.lawful (first ++ base) (lawful base good marked) (clean base marked));
+        unused = λ were. at_both (λ e. MarksAreUnused places (adds_all e h)) leaves.added first (unused were)
+            (λ later e split. subst (MarksAreUnused places) (twice e first h)
+            (leaves.unused.marks (unused_then were) later e split));
         steady = λ unrisen. subst (λ (k : History). IsSteady k new) all_history
             (steady_near leaves.rests unrisen);
         rests = λ unrisen. subst (λ (k : History). IsAbout (λ s. StoryRests places s.map k) units m
@@ -412,6 +426,12 @@ took_marked true old first h steady takes base marked p s counted =
     marked p s (takes.marked _ steady.holds p s counted)
 took_marked false old first h steady takes base marked p s counted = absurd (takes.none refl p s counted)
 
+-- what is marked stands at a place of the chip
+marked_within : (places : ℕ) (x : Contents) (p n : ℕ) → IsMarked places x p n → p < places
+marked_within places x p n is =
+    let inside = (is.laid.each is.unit is.within).chosen.within in
+    let at = is.home in omega (arith, at, inside)
+
 module _ {marks : Bool} (old mid : Told) (store : ScriptStore) (s : StartsOpened marks old store mid) where
   -- the store has as many units as the chip says
   pub units_told : (h : History) → IsSteady h old
@@ -442,6 +462,34 @@ module _ {marks : Bool} (old mid : Told) (store : ScriptStore) (s : StartsOpened
       subst (λ (n : ℕ). AtEachMoment (λ e. EachStandsIn old.places n m (adds_all e h)) did.added)
       (sym (units_told h steady)) (moments_as_said old.places m h did.added rests did.each_moment)
 
+  -- where nothing that was marked was used, nothing that is marked then was, nor what the store counts as clean
+  opened_unused : (h : History) (steady : IsSteady h old) (m : Map) (rests : StoryRests old.places m h)
+      → MarksAreUnused old.places h
+      → (script_keeping old.places).unused store (adds_all (s.tries.steps m h steady rests).2.added h)
+  opened_unused h steady m rests were =
+      let (took, takes, did) = s.tries.steps m h steady rests in (
+        did.marks tt [] did.added refl were,
+        unused_carried (IsCountedClean took) (IsCountedClean (tables_in store.store.transactions.pages)) old.places
+            did.added
+            (λ p s counted. marked_within old.places (held h.start h.story) p s (takes.marked _ steady.holds p s counted))
+            (did.does.clean refl) h.story
+            (λ p s counted. were (held h.start h.story) (held_is_image (says sector_in) h.start h.story) p s
+            (takes.marked _ steady.holds p s counted)),
+      )
+
+  -- what was erased since the chip was opened is marked behind a close
+  pub opened_marks : (new : Told) → MarksBehind store mid new → MarksWhatWasErased old new
+  opened_marks new behind h script steady left at m rests calm =
+      let same = s.tries.accounts.counts.places in
+      let did = (s.tries.steps m h steady rests).2 in
+      let k = adds_all did.added h in
+      subst (λ (n : ℕ). MarksSince n h new) same
+      (behind script (left_counts old mid s.tries.accounts.counts ∙ left) calm old h at
+      (opening_recalls old mid store s.tries) (limits_of store.store.units) (at_rest m) k
+      (did.history ∙ ap (option_map (adds_all did.added)) at)
+      (subst (λ (n : ℕ). KeepsScript n (limits_of store.store.units) store mid k (at_rest m)) (sym same)
+      (opened_keeps m h steady rests)))
+
   module _ (then : ScriptStore) (new : Told) where
     opened_so : (result : Result (Unit {0}) Stop)
         → RunsScript (script_keeping old.places) store mid result then new
@@ -454,8 +502,10 @@ module _ {marks : Bool} (old mid : Told) (store : ScriptStore) (s : StartsOpened
         runs_ended marks old.places store.store.units m script h did.added did.does.silent
         (opened_each m h steady rests)
         (λ base good marked. did.does.lawful.lawful base good (taken base marked))
+        (λ were later e split. did.marks tt later e split were)
         old mid new store then s.tries.accounts.counts.writes did.history
         (λ base marked. did.does.clean refl base (taken base marked))
+        (opened_unused h steady m rests)
         (run (limits_of store.store.units) (at_rest m) (adds_all did.added h) (opened_keeps m h
         steady rests) script (left_counts old mid s.tries.accounts.counts ∙ left))
     opened_so (Err e) run h script steady left m rests =
@@ -464,8 +514,10 @@ module _ {marks : Bool} (old mid : Told) (store : ScriptStore) (s : StartsOpened
         runs_stopped marks old.places store.store.units m script h did.added did.does.silent
         (opened_each m h steady rests)
         (λ base good marked. did.does.lawful.lawful base good (taken base marked))
+        (λ were later e split. did.marks tt later e split were)
         old mid new store then s.tries.accounts.counts.writes did.history
-        (λ base marked. did.does.clean refl base (taken base marked)) e
+        (λ base marked. did.does.clean refl base (taken base marked))
+        (opened_unused h steady m rests) e
         (run (limits_of store.store.units) (at_rest m) (adds_all did.added h) (opened_keeps m h
         steady rests) script (left_counts old mid s.tries.accounts.counts ∙ left))
 
@@ -486,6 +538,7 @@ unopened_runs {marks} old new end n = λ h script steady left m rests.
     none_failed marks old.places (units_at (now h) old.places) m script h did.added did.does.silent
     (moments_as_said old.places m h did.added rests did.each_moment)
     (λ base good marked. did.does.lawful.lawful base good (took_marked marks old took h steady takes base marked))
+    (λ were later e split. did.marks tt later e split were)
     old new did.history (left_counts old new n.tries.accounts.counts ∙ left) did.steady did.ends
     n.fault
 
@@ -513,6 +566,7 @@ module _ (old new : Told) (is : IsUntouched old new) where
       none_wanting true old.places (units_at (now h) old.places) m script h [] refl
       (still_each old.places m h rests)
       (λ base good marked. good)
+      (at_start (λ e. MarksAreUnused old.places (adds_all e h)))
       old new told_still (left_still script left) (λ unrisen. steady_still h steady)
       (λ unrisen. rests)
 
@@ -521,6 +575,7 @@ module _ (old new : Told) (is : IsUntouched old new) where
       none_failed true old.places (units_at (now h) old.places) m script h [] refl
       (still_each old.places m h rests)
       (λ base good marked. good)
+      (at_start (λ e. MarksAreUnused old.places (adds_all e h)))
       old new told_still (left_still script left) (λ unrisen. steady_still h steady)
       (λ unrisen. rests) e
 
@@ -576,6 +631,7 @@ module _ (old mid new : Told) (f : WasFormatted old mid) where
         is_prefix = r.is_prefix;
         lawful = λ base good marked. r.lawful (first ++ base) (lawful_format h base good)
             (λ p s none. absurd none);
+        unused = r.unused;
         steady = λ unrisen. r.steady (earlier unrisen);
         rests = λ unrisen. r.rests (earlier unrisen);
         ends = ends_state (λ s. Unrisen mid new → StoryRests old.places s.map last) (λ s. Unrisen old

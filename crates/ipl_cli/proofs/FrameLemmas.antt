@@ -4,7 +4,8 @@ use Rattle.chip_trait.specs.Told.{Told}
 use Rattle.command_line.specs.declared.asked.Request.TheVariants.{Format, Run, Serial, Check, Trial}
 use Rattle.script_store.specs.declared.store.ScriptStore.{ScriptStore}
 use Rattle.ipl_cli.specs.Ending.{AskedFor, Ending, but_noted, status_at}
-use Rattle.ipl_cli.specs.Frames.{DoesWith, DoesAsAsked, ClosesAsAsked}
+use Rattle.ipl_cli.specs.Frames.{DoesWith, DoesAsAsked, MarksWhatWasErased, ClosesAsAsked}
+use Rattle.ipl_cli.specs.Runs.{EndsClosed}
 use Rattle.ipl_cli.proofs.StatusLemmas.{done_at_zero}
 
 module _ (old mid new : Told) (only : new ≡ but_noted mid new.beside.noted) where
@@ -31,15 +32,27 @@ module _ (old mid new : Told) (only : new ≡ but_noted mid new.beside.noted) wh
   asked_noted (Some Check) d = tt
   asked_noted (Some (Trial seed count frames)) d = with_noted _ _ frames d
 
+  ends_noted : EndsClosed old mid → EndsClosed old new
+  ends_noted ends = record {
+    added = ends.added;
+    does = ends.does;
+    history = ap (λ (t : Told). t.history) only ∙ ends.history;
+  }
+
+  marks_noted : MarksWhatWasErased old mid → MarksWhatWasErased old new
+  marks_noted marks h script steady left at m rests calm =
+      let since = marks h script steady left at m rests calm in record {
+        added = since.added;
+        history = ap (λ (t : Told). t.history) only ∙ since.history;
+        marked = since.marked;
+      }
+
   closed_noted : (asked : AskedFor) → ClosesAsAsked asked old mid → ClosesAsAsked asked old new
   closed_noted None d = tt
   closed_noted (Some (Format spares)) d = tt
-  closed_noted (Some (Run frames formats closes)) d = λ is.
-      let ends = d is in record {
-        added = ends.added;
-        does = ends.does;
-        history = ap (λ (t : Told). t.history) only ∙ ends.history;
-      }
+  closed_noted (Some (Run frames true closes)) d = λ is. ends_noted (d is)
+  closed_noted (Some (Run frames false closes)) d = λ is.
+      let closes = d is in record { ends = ends_noted closes.ends; marked = marks_noted closes.marked }
   closed_noted (Some Serial) d = tt
   closed_noted (Some Check) d = tt
   closed_noted (Some (Trial seed count frames)) d = tt

@@ -104,6 +104,7 @@ module _ (old mid : Told) (noted : Option (List ℕ)) where
     replies = r.replies;
     is_prefix = r.is_prefix;
     lawful = r.lawful;
+    unused = r.unused;
     steady = λ unrisen. steady_noted (r.steady unrisen);
     rests = r.rests;
     ends = r.ends;

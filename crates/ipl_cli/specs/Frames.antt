@@ -2,9 +2,15 @@
 use Rattle.std.specs.Prelude.{ℕ, ◌≡◌, true, false, None, Some, Ok}
 use Rattle.chip_trait.specs.Told.{Told}
 use Rattle.command_line.specs.declared.asked.Request.TheVariants.{Format, Run, Serial, Check, Trial}
+use Rattle.ipl_model.specs.Grammar.{commands_of}
+use Rattle.ipl_rules.specs.State.{Map}
+use Rattle.ipl_meaning.specs.Rests.{StoryRests}
 use Rattle.script_store.specs.declared.store.ScriptStore.{ScriptStore}
+use Rattle.script_store.specs.Closes.{MarksSince}
+use Rattle.store_trait.specs.Keeping.{restarts}
 use Rattle.ipl_cli.specs.Ending.{AskedFor, but_noted}
 use Rattle.ipl_cli.specs.Runs.{StartsOpened, StartsFormatted, RunsOver, TriesOver, EndsClosed}
+use Rattle.ipl_cli.specs.Top.{OverTold}
 
 -- A store of so many frames was started so over the chip, and then it did this to its end.
 pub record DoesWith (Starts : Told → ScriptStore → Told → Type 0)
@@ -32,11 +38,24 @@ DoesAsAsked (Some Check) old new = Unit {0}
 DoesAsAsked (Some (Trial seed count frames)) old new =
     DoesWith StartsFormatted (TriesOver seed count (Ok tt)) frames old new
 
+-- By the story that the chip tells, where that rests on records and no command opens the chip again: each log sector at a
+-- unit's place that was erased since, and not programmed, is marked.
+abbrev pub MarksWhatWasErased : Told → Told → Type 0
+MarksWhatWasErased old new = OverTold
+    (λ places script h. old.history ≡ Some h → (m : Map) → StoryRests places m h
+    → restarts (commands_of script) ≡ false → MarksSince places h new) old
+
+-- what a close leaves of a chip that was opened
+pub record ClosesOpened (old new : Told) : Type 0 where
+  pub ends : EndsClosed old new
+  pub marked : MarksWhatWasErased old new
+
 -- a run that is to close the chip did so last of all
 abbrev pub ClosesAsAsked : AskedFor → Told → Told → Type 0
 ClosesAsAsked None old new = Unit {0}
 ClosesAsAsked (Some (Format spares)) old new = Unit {0}
-ClosesAsAsked (Some (Run frames formats closes)) old new = closes ≡ true → EndsClosed old new
+ClosesAsAsked (Some (Run frames true closes)) old new = closes ≡ true → EndsClosed old new
+ClosesAsAsked (Some (Run frames false closes)) old new = closes ≡ true → ClosesOpened old new
 ClosesAsAsked (Some Serial) old new = Unit {0}
 ClosesAsAsked (Some Check) old new = Unit {0}
 ClosesAsAsked (Some (Trial seed count frames)) old new = Unit {0}

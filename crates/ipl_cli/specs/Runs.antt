@@ -1,5 +1,5 @@
 -- How the program starts and runs.
-use Rattle.std.specs.Prelude.{ℕ, ◌≡◌, ◌⊎◌, ◌+◌, Bool, true, false, Some, Result, Ok, Err, OnOk, IfErr, IsErrOf, is_ok}
+use Rattle.std.specs.Prelude.{ℕ, ◌≡◌, ◌⊎◌, ◌+◌, Bool, true, false, List, Some, Result, Ok, Err, OnOk, IfErr, IsErrOf, is_ok}
 use Rattle.chip_trait.specs.Story.{Contents}
 use Rattle.chip_trait.specs.Told.{History, Told, Counts}
 use Rattle.ipl_base.specs.Places.{IsGeometry, units_on}
@@ -8,9 +8,10 @@ use Rattle.ipl_base.specs.declared.fault.FormatFault.TheVariants as format
 use Rattle.ipl_base.specs.declared.fault.ImageFault.{ImageFault}
 use Rattle.ipl_base.specs.declared.fault.ImageFault.TheVariants as image
 use Rattle.ipl_meaning.specs.Tables.{Tables}
+use Rattle.ipl_model.specs.Grammar.{commands_of}
 use Rattle.restart.specs.Fresh.{Formats, TellsFresh}
 use Rattle.store_trait.specs.Onward.{Onward, Further}
-use Rattle.store_trait.specs.Keeping.{SCRIPT_DRAWS, WORK_DRAWS, LeavesTidy}
+use Rattle.store_trait.specs.Keeping.{SCRIPT_DRAWS, WORK_DRAWS, LeavesTidy, restarts}
 use Rattle.store_trait.specs.declared.fault.Fault.{Fault}
 use Rattle.store_trait.specs.declared.fault.Fault.TheVariants as fault
 use Rattle.script_run.specs.declared.fault.Stop.{Stop}
@@ -23,7 +24,7 @@ use Rattle.ipl_store.specs.Calls.{IsSound}
 use Rattle.ipl_store.specs.Openings.{Opens, Tries}
 use Rattle.script_store.specs.declared.store.ScriptStore.{ScriptStore}
 use Rattle.script_store.specs.Keeps.{IsRunning, script_keeping}
-use Rattle.script_store.specs.Closes.{Closes}
+use Rattle.script_store.specs.Closes.{MarksRecalled, Closes}
 use Rattle.clean_close.specs.Closing.{EndsWithMark}
 use Rattle.unit_io.specs.Costs.{Spends}
 use Rattle.trial_commands.specs.Words.{trial_commands}
@@ -146,6 +147,16 @@ pub record ClosesBehind (result : Result (Unit {0}) Stop) (before : ScriptStore)
 abbrev pub EndsClosed : Told → Told → Type 0
 EndsClosed = Spends EndsWithMark
 
+-- What was erased since an entry and not programmed is marked, where no command of the script opens the chip again.
+abbrev pub MarksBehind : ScriptStore → Told → Told → Type 0
+MarksBehind before old new = (script : List ℕ) → old.beside.left ≡ Some script
+    → restarts (commands_of script) ≡ false → MarksRecalled before old new
+
+-- what a close leaves behind a script
+pub record ClosesScript (before : ScriptStore) (old new : Told) : Type 0 where
+  pub ends : EndsClosed old new
+  pub marked : MarksBehind before old new
+
 -- The script was run to its end and the chip closed behind it, where that is asked; or it stopped.
 pub record RunsClosing (closes : Bool) (result : Result (Unit {0}) Stop) (before : ScriptStore) (old : Told)
     (then : ScriptStore) (new : Told) : Type 0 where
@@ -158,7 +169,7 @@ pub record RunsClosing (closes : Bool) (result : Result (Unit {0}) Stop) (before
   pub long : IsErrOf result stop.TooLong → IsTooLong old new
   pub further : Further old new
   pub read : OnOk result (ReadsAll old new)
-  pub closed : OnOk result (closes ≡ true → EndsClosed old new)
+  pub closed : OnOk result (closes ≡ true → ClosesScript before old new)
 
 -- ---- the trial
 

@@ -17,7 +17,7 @@ use Rattle.ipl_model.specs.Grammar.{commands_of}
 use Rattle.ipl_model.specs.Run.{joined, lines, after_all, IsNear}
 use Rattle.ipl_format.specs.Sector.{sector_in}
 use Rattle.ipl_meaning.specs.Chart.{chart_of}
-use Rattle.ipl_meaning.specs.Marks.{IsMarked}
+use Rattle.ipl_meaning.specs.Marks.{IsMarked, MarksAreUnused}
 use Rattle.ipl_meaning.specs.Stands.{Stands, StandsIn}
 use Rattle.ipl_meaning.specs.Rests.{now, StoryRests}
 use Rattle.unit_io.specs.Leads.{IsSteady}
@@ -286,7 +286,8 @@ AreMarked true places h p s = IsMarked places (held h.start h.story) p s
 -- events. Whatever moment the power is cut at, within a chip operation too, the chip stands for the
 -- records after the commands whose replies were said, or after one more. What is said is a beginning of
 -- the model's text, line by line. No sector is programmed twice between erases of its place,
--- after events that leave clean what is marked so. Where no write failed, the chip holds at the end what
+-- after events that leave clean what is marked so; and where nothing that is marked was used before, nothing is
+-- at any of these moments. Where no write failed, the chip holds at the end what
 -- the history then leaves; that rests on such records, and by how the run ended exactly on those of the
 -- commands that are done: the next run may begin there. Where all is done, the whole text is said, and the
 -- script was read to its end.
@@ -303,6 +304,8 @@ pub record Runs (marks : Bool) (places units : ℕ) (m : Map) (script : List ℕ
   pub is_prefix : IsPrefix (said added) (joined (answers units m script))
   pub lawful : (base : Story) → IsLawful base → AreClean (AreMarked marks places h) base
       → IsLawful (added ++ (first ++ base))
+  pub unused : MarksAreUnused places (adds_all first h)
+      → AtEachMoment (λ e. MarksAreUnused places (adds_all e (adds_all first h))) added
   pub steady : Unrisen old new → IsSteady (adds_all added (adds_all first h)) new
   pub rests : Unrisen old new
       → IsAbout (λ s. StoryRests places s.map (adds_all added (adds_all first h))) units m script

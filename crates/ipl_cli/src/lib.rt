@@ -38,6 +38,10 @@
 //! status is 0, or 5. At 0 a run or a trial was done by a store of as many frames as were asked
 //! (`framed`).
 //!
+//! Proved, by `top`: `closed`: where the words ask to close the chip, at 0 a mark was programmed last of all. Over
+//! a chip that was opened and tells its history, each log sector at a unit's place that was erased since and not
+//! programmed is marked then, if no command opened the chip again.
+//!
 //! Proved, by `top`: `views`, `untouched`: the serial view of a script, run from no records: over
 //! every desk that tells its script, what is said is a beginning of its lines, one by one, and at 0
 //! all of them, with nothing of the script left; over every desk that tells its history no sector is

@@ -22,8 +22,8 @@ ghost use Rattle.ipl_cli.specs.Top.{RunsOpened, RunsFormatted, UntouchedOrRuns, 
 ghost use Rattle.ipl_cli.specs.Top.{EndsWithRecords, FromItsRecords, FromNoRecords};
 ghost use Rattle.ipl_cli.specs.Top.{IsStray, StrayCause, SpentCause, AnewCause, LacksUnits, EndsUnfit, IsCalm, Suffices, EndsInTime, Ends, WearsAsAsked};
 ghost use Rattle.ipl_cli.specs.Survives.{Survives, SurvivesAnew};
-ghost use Rattle.ipl_cli.specs.Frames.{DoesWith, DoesAsAsked, ClosesAsAsked};
-ghost use Rattle.ipl_cli.specs.Runs.{StartsFormatted, StartsOpened, ClosesFor, FormatsFirst, OpensOver, IsNotStarted, ClosesBehind, EndsClosed, RunsClosing, RunsOver, TriesOver, end_of};
+ghost use Rattle.ipl_cli.specs.Frames.{DoesWith, DoesAsAsked, ClosesOpened, ClosesAsAsked};
+ghost use Rattle.ipl_cli.specs.Runs.{StartsFormatted, StartsOpened, ClosesFor, FormatsFirst, OpensOver, IsNotStarted, ClosesBehind, EndsClosed, ClosesScript, RunsClosing, RunsOver, TriesOver, end_of};
 
 use crate::checking::check_chip;
 use chip_trait::Desk;
@@ -186,7 +186,7 @@ fn run_over<D: Desk>(store: &mut ScriptStore, desk: &mut D, closes: bool) -> Res
     requires running { IsRunning (D.told desk.old).places store.old }
     requires left { next_number store.old ≤ FOUND_NUMBER }
     ensures runs { RunsOver result store.old (D.told desk.old) store.new (D.told desk.new) }
-    ensures closed { OnOk result (closes ≡ true → EndsClosed (D.told desk.old) (D.told desk.new)) }
+    ensures closed { OnOk result (closes ≡ true → ClosesScript store.old (D.told desk.old) (D.told desk.new)) }
 {
     match run_closing(store, desk, closes) {
         Ok(()) => Ok(()),
@@ -218,7 +218,7 @@ fn run_opened<D: Desk>(alloc: Global, frames: u32, closes: bool, desk: &mut D) -
     ensures leaves { OpenedLeaves result (D.told desk.old) (D.told desk.new) }
     ensures framed { OnOk result (DoesWith (StartsOpened true) (RunsOver (Ok tt)) frames
         (D.told desk.old) (D.told desk.new)) }
-    ensures closed { OnOk result (closes ≡ true → EndsClosed (D.told desk.old) (D.told desk.new)) }
+    ensures closed { OnOk result (closes ≡ true → ClosesOpened (D.told desk.old) (D.told desk.new)) }
     ensures cause { EndCause (Some (Run frames false closes)) result (D.told desk.old) (D.told desk.new) }
     ensures further { Further (D.told desk.old) (D.told desk.new) }
     ensures lawful { AddsLawfulByMark (D.told desk.old) (D.told desk.new) }
@@ -396,7 +396,8 @@ pub fn top<D: Desk>(alloc: Global, words: &[String], desk: &mut D) -> u8
     ensures framed { result ≡ 0
         → DoesAsAsked (requested (map string_bytes words.now)) (D.told desk.old) (D.told desk.new) }
 
-    // And where they ask to close the chip, the last two events are the program of a mark and a barrier.
+    // And where they ask to close the chip, the last two events are the program of a mark and a barrier. What was
+    // opened has each log sector marked then that was erased since and not programmed, if no command opened it again.
     ensures closed { result ≡ 0
         → ClosesAsAsked (requested (map string_bytes words.now)) (D.told desk.old) (D.told desk.new) }
 

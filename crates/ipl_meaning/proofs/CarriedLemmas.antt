@@ -181,7 +181,7 @@ module _ (A B : ℕ → ℕ → Type 0) (places : ℕ) (added : Story) (within :
         )
   ]
 
-  unused_carried : (story : Story) → AreUnused A story → AreUnused B (added ++ story)
+  pub unused_carried : (story : Story) → AreUnused A story → AreUnused B (added ++ story)
   unused_carried story unused p s is = elim (decided_or_passed added p s) [
     | inl decided ↦ λ used.
         let then : Used ≡ Clean = sym used ∙ decided.same story (cleared places) ∙ clean (cleared places) all_clean p s is in cc then

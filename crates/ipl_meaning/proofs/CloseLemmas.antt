@@ -74,7 +74,7 @@ module _ (c : Chart) (it : Layout) (s : ℕ) (mark : Sector) (may : MayMark c it
 
 module _ (places : ℕ) (c : Chart) (it : Layout) (t : Tables) (mirrors : Mirrors places c it t) (u n : ℕ) (low : u < it.count) where
   -- where something is known, each log sector that doesn't check is counted as clean
-  bare_is_counted : written_of t u < 32 → 241 ≤ n → n < 256 → c (it.units u).home n ≡ None → IsCountedClean t (it.units u).home n
+  pub bare_is_counted : written_of t u < 32 → 241 ≤ n → n < 256 → c (it.units u).home n ≡ None → IsCountedClean t (it.units u).home n
   bare_is_counted known least most none = elim (cases_lt n (clean_from t u)) [
     | inl less ↦ absurd (mirrors.logs.whole u n low known least less none)
     | inr from ↦ (most, inl (u, omega (arith, low, mirrors.directory.units), sym (mirrors.directory.current u low), from))

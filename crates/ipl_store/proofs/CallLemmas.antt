@@ -22,7 +22,7 @@ use Rattle.unit_io.specs.Costs.{Spends}
 use Rattle.unit_io.specs.Reads.{OfContents}
 use Rattle.place_taking.specs.Spending.{is_worn_out}
 use Rattle.place_taking.specs.Wear.{Wears}
-use Rattle.place_taking.proofs.WearLemmas.{nothing_wears, wears_are_joined}
+use Rattle.place_taking.proofs.WearLemmas.{alike_tables, nothing_wears, wears_are_joined}
 use Rattle.merge_rules.specs.Faults.{FailsByChipAlone}
 use Rattle.selective_merge.specs.Throughout.{ChartsThroughout}
 use Rattle.steps.specs.Steps.{Tidies}
@@ -54,7 +54,7 @@ idle_wears : {T : Type 0} (store : Store) (told : Told) (result : Result T Store
 idle_wears store told result calm =
     let t = tables_in store.transactions.pages in
     subst (λ (worn_out : Bool). Wears t t (is_ok result) worn_out told told) (sym calm)
-    (nothing_wears t t (is_ok result) told (record { retired = refl; status = refl }))
+    (nothing_wears t t (is_ok result) told (alike_tables t t refl refl))
 
 pub calls_refused : {T : Type 0} (early : Option StoreFault) (next : State → State) (most : ℕ)
     (store : Store) (told : Told) (result : Result T StoreFault) (fault : StoreFault)
@@ -177,10 +177,8 @@ memory_moves next most old new told did order least drawn = record {
   leads = did.leads told;
   tidy = tables_fewer {T = Unit {0}} {E = ChipFault} (tables_in old.pages) (tables_in old.pages) (tables_in new.pages) (Ok tt) told
       told did.fewer (tables_none {T = Unit {0}} {E = ChipFault} (tables_in old.pages) (Ok tt) told);
-  wears = nothing_wears (tables_in old.pages) (tables_in new.pages) true told (record {
-    retired = ap (λ (d : Places). d.retired) did.directory;
-    status = did.status;
-  });
+  wears = nothing_wears (tables_in old.pages) (tables_in new.pages) true told
+      (alike_tables (tables_in old.pages) (tables_in new.pages) did.directory did.status);
   order = did.order told.places order;
   units = ap (λ (d : Places). length d.current) did.directory;
   limit = did.pins.limit;
@@ -459,7 +457,8 @@ idle_calls most store told early sound up none =
           (memory_in store.transactions).frames told);
       tidy = tables_none {T = Unit {0}} {E = ChipFault} (tables_in store.transactions.pages) (Ok tt) told;
       wears = nothing_wears (tables_in store.transactions.pages) (tables_in store.transactions.pages)
-          true told (record { retired = refl; status = refl });
+          true told (alike_tables (tables_in store.transactions.pages)
+          (tables_in store.transactions.pages) refl refl);
       order = sound.order up;
       units = refl;
       limit = refl;

@@ -185,7 +185,7 @@ KeepsHolds old new = KeepsPins old.transactions.pages.pool new.transactions.page
 
 -- A call of a store: it ends early with this fault, and nothing was done; or it does what it is
 -- for. The store is sound either way, with as many units, and whatever the chip tells, its events are
--- lawful by the tables, and what is retired besides was found worn.
+-- lawful by the tables, what is retired besides was found worn, and a unit whose place was erased is known.
 pub record Calls {T : Type 0} (early : Option StoreFault) (next : State → State) (most : ℕ)
     (old : Store) (before : Told) (result : Result T StoreFault) (new : Store) (after : Told)
     : Type 0 where

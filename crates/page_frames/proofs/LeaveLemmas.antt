@@ -12,7 +12,7 @@ use Rattle.pending_writes.proofs.MemoryLemmas.{cases_page}
 use Rattle.pending_writes.proofs.SameLemmas.{frame_here, frame_other}
 use Rattle.steps.specs.Steps.{Tidies}
 use Rattle.steps.proofs.TablesLemmas.{tables_none}
-use Rattle.place_taking.proofs.WearLemmas.{nothing_wears}
+use Rattle.place_taking.proofs.WearLemmas.{alike_tables, nothing_wears}
 use Rattle.store_steps.specs.Advances.{KeepsState}
 use Rattle.merge_rules.specs.Known.{KnowsPlaces}
 use Rattle.selective_merge.specs.Moving.{tables_of}
@@ -53,10 +53,8 @@ gone_upholds u page f old new t ready same there empty is pins = record {
       (evictions_keep_states (tables_in old) (frames_in old) u page f t there empty));
   tidy = subst (λ parts. Tidies {T = Unit {0}} {E = ChipFault} (tables_in old) (Ok tt) (tables_of parts) t t)
       (sym same) (tables_none {T = Unit {0}} {E = ChipFault} (tables_in old) (Ok tt) t);
-  wears = nothing_wears (tables_in old) (tables_in new) true t (record {
-    retired = ap (λ parts. parts.directory.retired) same;
-    status = ap (λ parts. parts.status.place) same;
-  });
+  wears = nothing_wears (tables_in old) (tables_in new) true t (alike_tables (tables_in old)
+      (tables_in new) (ap (λ parts. parts.directory) same) (ap (λ parts. parts.status.place) same));
   ready = record {
     known = subst (λ parts. KnowsPlaces t.places (tables_of parts)) (sym same) ready.known;
     within = λ v q g found.

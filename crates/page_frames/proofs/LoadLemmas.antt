@@ -18,7 +18,7 @@ use Rattle.page_rebuild.specs.Loaded.{IsLoaded, IsLoadCause}
 use Rattle.pending_writes.specs.Frames.{Frame, Frames, logs_of, with_frame_at, IsFrameOf, pending_of}
 use Rattle.place_taking.specs.Spending.{is_worn_out, tells_worn}
 use Rattle.place_taking.specs.Wear.{Wears}
-use Rattle.place_taking.proofs.WearLemmas.{reads_wear_at}
+use Rattle.place_taking.proofs.WearLemmas.{alike_tables, reads_wear_at}
 use Rattle.status_renewal.specs.Passes.{RenewCause}
 use Rattle.steps.specs.Steps.{Tidies}
 use Rattle.steps.proofs.TablesLemmas.{tables_read}
@@ -127,10 +127,8 @@ frames_uphold old new later result before after ready tables is within keeps rea
           (tables_read Anywhere (tables_in old) result before after reads);
       wears = subst (λ (b : Bool). Wears (tables_in old) (tables_in new) (is_ok result) b before after)
           (sym unworn) (reads_wear_at Anywhere (tables_in old) (tables_in new) (is_ok result) before after
-          (record {
-            retired = ap (λ (t : Tables). t.places.retired) tables;
-            status = ap (λ (t : Tables). t.status.place) tables;
-          }) reads);
+          (alike_tables (tables_in old) (tables_in new) (ap (λ (t : Tables). t.places) tables)
+          (ap (λ (t : Tables). t.status.place) tables)) reads);
       ready = record {
         known = subst (KnowsPlaces before.places) (sym tables) ready.known;
         within = λ v q g there. subst (λ (t : Tables). v < length t.places.current) (sym tables)

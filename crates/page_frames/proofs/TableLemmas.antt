@@ -12,13 +12,16 @@ use Rattle.unit_io.specs.Accounts.{Accounts}
 use Rattle.unit_io.specs.Charts.{Charts}
 use Rattle.unit_io.specs.Costs.{Spends}
 use Rattle.unit_io.proofs.CostLemmas.{spends_weaker}
-use Rattle.place_taking.specs.Spending.{ErasesFor, RetiresWorn, SparesUsed, is_worn_out}
+use Rattle.place_taking.specs.Homes.{LeavesPlaces}
+use Rattle.place_taking.specs.Spending.{ErasesFor, SparesUsed, is_worn_out}
 use Rattle.place_taking.specs.Wear.{Wears}
+use Rattle.place_taking.proofs.HomeLemmas.{erases_leave}
 use Rattle.place_taking.proofs.WearLemmas.{spared_places_wear}
 use Rattle.steps.specs.Steps.{Settled, RestsAgreeing, Tidies}
 use Rattle.selective_merge.specs.Homes.{MergeCause}
 use Rattle.selective_merge.specs.Merging.{Merges, StaysMirrored, MergesInSteps, RestsMerged}
 use Rattle.selective_merge.specs.Moving.{Holds}
+use Rattle.selective_merge.proofs.HeldLemmas.{homes_used}
 use Rattle.selective_merge.specs.Throughout.{ChartsThroughout}
 use Rattle.pending_writes.specs.Frames.{Frames}
 use Rattle.store_steps.specs.Advances.{TurnsTables, KeepsState}
@@ -97,8 +100,9 @@ merge_wears places place t after result old new known holds spares costs =
     spared_places_wear t after (is_ok result) (is_worn_out result) old new
     (known.used t.status.place (inr (inl refl))) (ap (λ (it : Status). it.place) holds.status)
     (spends_weaker (ErasesFor t.places after.places 3 place (is_ok result) (is_worn_out result))
-    (RetiresWorn t.places after.places (is_worn_out result)) old new
-    (λ added does. does.erases.retires) costs) (where_done result spares)
+    (LeavesPlaces t.places after.places (is_worn_out result)) old new
+    (λ added does. erases_leave t.places after.places 3 (is_worn_out result) added
+    (homes_used places t known) holds.homes does.erases) costs) (where_done result spares)
   where
     where_done : (r : Result (Unit {0}) ChipFault) → OnOk r (SparesUsed t.places old new)
         → is_ok r ≡ true → SparesUsed t.places old new

@@ -6,7 +6,7 @@ use Rattle.chip_trait.proofs.CountsLemmas.{counts_none}
 use Rattle.ipl_base.specs.declared.fault.ChipFault.{ChipFault}
 use Rattle.buffer_pool.proofs.HoldingLemmas.{nothing_keeps, both_keep}
 use Rattle.place_taking.specs.Spending.{is_worn_out}
-use Rattle.place_taking.proofs.WearLemmas.{nothing_wears, wears_are_joined}
+use Rattle.place_taking.proofs.WearLemmas.{alike_tables, nothing_wears, wears_are_joined}
 use Rattle.status_renewal.proofs.CauseLemmas.{accounts_then}
 use Rattle.steps.proofs.TablesLemmas.{tables_none, tables_then}
 use Rattle.store_steps.proofs.KeeperLemmas.{nothing_keeps_states, keepers_are_joined}
@@ -19,7 +19,7 @@ upholds_none most pages t ready = record {
   keeps = nothing_keeps_states (tables_in pages) (frames_in pages) t;
   tidy = tables_none {T = Unit {0}} {E = ChipFault} (tables_in pages) (Ok tt) t;
   wears = nothing_wears (tables_in pages) (tables_in pages) true t
-      (record { retired = refl; status = refl });
+      (alike_tables (tables_in pages) (tables_in pages) refl refl);
   ready = ready;
   units = refl;
   active = refl;

@@ -13,7 +13,7 @@ use Rattle.pending_writes.specs.Frames.{Frames, with_frame_at}
 use Rattle.pending_writes.proofs.MemoryLemmas.{cases_page}
 use Rattle.pending_writes.proofs.SameLemmas.{frame_other}
 use Rattle.steps.proofs.TablesLemmas.{tables_none}
-use Rattle.place_taking.proofs.WearLemmas.{nothing_wears}
+use Rattle.place_taking.proofs.WearLemmas.{alike_tables, nothing_wears}
 use Rattle.store_steps.specs.Advances.{KeepsState}
 use Rattle.store_steps.proofs.KeeperLemmas.{nothing_keeps_states}
 use Rattle.frame_changes.specs.Views.{frames_of}
@@ -32,7 +32,7 @@ used_upholds most old p t ready same pins = record {
       (nothing_keeps_states (tables_in old) (frames_in old) t);
   tidy = tables_none {T = Unit {0}} {E = ChipFault} (tables_in old) (Ok tt) t;
   wears = nothing_wears (tables_in old) (tables_in old) true t
-      (record { retired = refl; status = refl });
+      (alike_tables (tables_in old) (tables_in old) refl refl);
   ready = record {
     known = ready.known;
     within = λ v q f found. ready.within v q f (ap (λ (F : Frames). F v q) (sym same) ∙ found);

@@ -90,9 +90,9 @@ PageCause = RenewCause
 -- ---- what each call keeps
 
 -- A call that keeps each state for which tables and frames stand, however it ends. Whatever the chip
--- tells: its events are lawful by the tables, what is retired besides was found worn, there are as many
--- units, the same sessions are open, the same pages are held, at most so many numbers were drawn, and a
--- fault has its cause.
+-- tells: its events are lawful by the tables, what is retired besides was found worn, a unit whose place
+-- was erased is known, there are as many units, the same sessions are open, the same pages are held, at
+-- most so many numbers were drawn, and a fault has its cause.
 pub record Upholds {T : Type 0} (most : ℕ) (old : Pages) (before : Told) (result : Result T ChipFault)
     (new : Pages) (after : Told) : Type 0 where
   pub keeps : KeepsState (tables_in old) (frames_in old) before result

@@ -1,18 +1,21 @@
 -- Spots for log sectors, and the tables once one is written there.
-use Rattle.std.proofs.Common.{◌≡◌, ◌<◌, ℕ, List, [], ◌∷◌, ◌++◌, length, slice_index, inl, inr, refl, sym, ◌∙◌, ap, subst, arith}
+use Rattle.std.proofs.Common.{◌≡◌, ◌<◌, ◌+◌, ℕ, List, [], ◌∷◌, ◌++◌, length, slice_index, inl, inr, refl, sym, ◌∙◌, ap, subst, arith}
 use Rattle.std.specs.List.{AllPairs, Contains}
-use Rattle.std.proofs.lemmas.List.{length-set, length-map}
+use Rattle.std.proofs.lemmas.List.{length-set, length-map, set-get_or}
 use Rattle.std.proofs.lemmas.List.Elements.{All-contains}
 use Rattle.ipl_meaning.specs.Mirrors.{AreApart}
-use Rattle.ipl_meaning.specs.Tables.{Tables, IsCountedClean, overflow_places, spots_of, with_written, with_mask, first_log}
+use Rattle.ipl_meaning.specs.Tables.{Tables, IsCountedClean, overflow_places, spots_of, with_written, with_mask, first_log, written_of}
 use Rattle.ipl_meaning.specs.TableSteps.{after_overflow_log, with_next, with_next_spot}
 use Rattle.ipl_meaning.proofs.CountedLemmas.{same_places}
 use Rattle.ipl_meaning.proofs.KnownLogLemmas.{counted_few}
 use Rattle.unit_directory.specs.Directory.{IsSoundDirectory}
 use Rattle.overflow.specs.Lists.{IsPlaceOf, IsSoundOverflow, after_add}
 use Rattle.overflow.specs.Laws.{FirstSpotsAreAdded}
+use Rattle.place_taking.specs.Homes.{KeepsHomes}
+use Rattle.place_taking.proofs.HomeLemmas.{homes_same, homes_then}
 use Rattle.merge_rules.specs.Known.{Suits, IsNamed, KnowsPlaces}
 use Rattle.selective_merge.specs.Moving.{Holds}
+use Rattle.selective_merge.proofs.HeldLemmas.{homes_moved}
 use Rattle.selective_merge.specs.Spotting.{IsHomeSpot, IsSpotFor}
 use Rattle.page_writing.specs.Writing.{IsAfterLog}
 
@@ -139,16 +142,34 @@ known_drawn places t n known = record {
 pub holds_drawn : (places : ℕ) (t : Tables) (n : ℕ) → KnowsPlaces places t
     → Holds places t (with_next t n)
 holds_drawn places t n known =
-    record { units = refl; active = refl; status = refl; known = known_drawn places t n known }
+    record {
+      units = refl;
+      homes = homes_same t.places t.places refl refl;
+      active = refl;
+      status = refl;
+      known = known_drawn places t n known;
+    }
 
 pub holds_then : (places : ℕ) (t between after : Tables) → Holds places t between
     → Holds places between after → Holds places t after
 holds_then places t between after first second = record {
   units = second.units ∙ first.units;
+  homes = homes_then t.places between.places after.places first.homes second.homes;
   active = second.active ∙ first.active;
   status = second.status ∙ first.status;
   known = second.known;
 }
+
+-- a unit with one log sector more was known, and each other one stays as it was
+pub log_homes : (t after : Tables) (u p s mask next : ℕ) → IsAfterLog t after u p s mask next
+    → KeepsHomes t.places after.places
+log_homes t after u p s mask next (inl (home, is)) =
+    homes_moved t.places after.places u (slice_index t.places.current u) (written_of t u + 1)
+    (ap (λ (x : Tables). x.places.current) is ∙ sym (set-get_or t.places.current u 0))
+    (ap (λ (x : Tables). x.places.written) is) (omega (arith, home.left))
+log_homes t after u p s mask next (inr (over, is)) =
+    homes_same t.places after.places (ap (λ (x : Tables). x.places.current) is)
+    (ap (λ (x : Tables). x.places.written) is)
 
 -- the same places are a unit's, the status place or an overflow place
 module _ (places : ℕ) (t : Tables) (u p s mask next : ℕ) (known : KnowsPlaces places t) where
@@ -234,6 +255,7 @@ module _ (places : ℕ) (t : Tables) (u p s mask next : ℕ) (known : KnowsPlace
   pub log_holds : (after : Tables) → IsAfterLog t after u p s mask next → Holds places t after
   log_holds after is = record {
     units = log_units t after u p s mask next is;
+    homes = log_homes t after u p s mask next is;
     active = log_active t after u p s mask next is;
     status = log_status t after u p s mask next is;
     known = log_known after is;

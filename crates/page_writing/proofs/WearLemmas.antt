@@ -1,22 +1,25 @@
 -- What writing a page's records out leaves of worn places.
-use Rattle.std.proofs.Common.{◌≡◌, ◌≢◌, ◌==◌, ◌&&◌, ℕ, true, false, inl, inr, refl, ◌∙◌, ap, arith}
+use Rattle.std.proofs.Common.{◌≡◌, ◌≢◌, ◌==◌, ◌&&◌, ℕ, Bool, true, false, inl, inr, refl, ◌∙◌, ap, arith}
 use Rattle.std.proofs.lemmas.Bool.{cases_Bool, and_parts, eqb-true}
 use Rattle.chip_trait.specs.Told.{Told}
 use Rattle.ipl_format.specs.Sector.{Sector}
 use Rattle.ipl_meaning.specs.Chart.{Chart, chart_of}
-use Rattle.ipl_meaning.specs.Tables.{Status, Tables}
+use Rattle.ipl_meaning.specs.Tables.{Places, Status, Tables}
 use Rattle.unit_io.specs.Charts.{Charts, Gains}
 use Rattle.unit_io.specs.Costs.{ProgramsAt, Spends}
 use Rattle.unit_io.proofs.CostLemmas.{spends_weaker}
 use Rattle.place_taking.specs.Laws.{IsAlikeInWear, KeepsFirst}
-use Rattle.place_taking.specs.Spending.{ErasesFree, RetiresWorn, SparesUsed}
+use Rattle.place_taking.specs.Homes.{LeavesPlaces}
+use Rattle.place_taking.specs.Spending.{ErasesFree, SparesUsed}
 use Rattle.place_taking.specs.Wear.{Wears}
-use Rattle.place_taking.proofs.WearLemmas.{failures_wear, programs_retire_none, programs_wear_nothing, spared_places_wear}
+use Rattle.place_taking.proofs.HomeLemmas.{erases_leave, homes_equal}
+use Rattle.place_taking.proofs.WearLemmas.{failures_wear, programs_leave_places, programs_wear_nothing, spared_places_wear}
 use Rattle.merge_rules.specs.Known.{KnowsPlaces}
 use Rattle.selective_merge.specs.Moving.{Holds}
+use Rattle.selective_merge.proofs.HeldLemmas.{homes_used}
 use Rattle.selective_merge.specs.Spotting.{IsSpotFor}
 use Rattle.page_writing.specs.Writing.{IsAfterLog}
-use Rattle.page_writing.proofs.SpotLemmas.{log_status, spot_of_log}
+use Rattle.page_writing.proofs.SpotLemmas.{log_homes, log_status, spot_of_log}
 
 -- ---- one sector
 
@@ -34,18 +37,19 @@ pub sectors_wear_nothing : (t after : Tables) (p s kind : ℕ) (sector : Sector)
     → Charts (Gains p s sector) old new → Wears t after true false old new
 sectors_wear_nothing t after p s kind sector old new behind alike programs gains =
     programs_wear_nothing t after true false old new alike
-    (programs_retire_none t.places after.places p 1 0 kind old new alike.retired programs)
+    (programs_leave_places t.places after.places p 1 0 kind old new alike.retired alike.homes programs)
     (λ done x told.
     let (y, there, gained) = gains x told in
     (y, there, firsts_stay t p s sector (chart_of x) (chart_of y) behind gained))
 
 -- or it wasn't
 pub unwritten_wears : (t after : Tables) (p kind : ℕ) (old new : Told)
-    → after.places.retired ≡ t.places.retired → Spends (ProgramsAt p 1 0 kind) old new
+    → after.places ≡ t.places → Spends (ProgramsAt p 1 0 kind) old new
     → Wears t after false false old new
 unwritten_wears t after p kind old new same programs =
     failures_wear t after false old new
-    (programs_retire_none t.places after.places p 1 0 kind old new same programs)
+    (programs_leave_places t.places after.places p 1 0 kind old new
+    (ap (λ (d : Places). d.retired) same) (homes_equal t.places after.places same) programs)
 
 -- ---- a log sector
 
@@ -67,6 +71,7 @@ logs_wear_nothing t after u p s mask next sector old new is =
     sectors_wear_nothing t after p s 5 sector old new
     (spot_behind t u p s (spot_of_log t after u p s mask next is)) (record {
       retired = log_retired t after u p s mask next is;
+      homes = log_homes t after u p s mask next is;
       status = ap (λ (it : Status). it.place) (log_status t after u p s mask next is);
     })
 
@@ -80,5 +85,17 @@ room_wears places t after old new known holds costs spares =
     spared_places_wear t after true false old new (known.used t.status.place (inr (inl refl)))
     (ap (λ (it : Status). it.place) holds.status)
     (spends_weaker (ErasesFree t.places after.places 3 false)
-    (RetiresWorn t.places after.places false) old new (λ added does. does.retires) costs)
-    (λ done. spares)
+    (LeavesPlaces t.places after.places false) old new
+    (λ added. erases_leave t.places after.places 3 false added (homes_used places t known) holds.homes)
+    costs) (λ done. spares)
+
+-- none was found
+pub no_room_wears : (places : ℕ) (t after : Tables) (worn_out : Bool) (old new : Told) → KnowsPlaces places t
+    → Holds places t after → Spends (ErasesFree t.places after.places 3 worn_out) old new
+    → Wears t after false worn_out old new
+no_room_wears places t after worn_out old new known holds costs =
+    failures_wear t after worn_out old new
+    (spends_weaker (ErasesFree t.places after.places 3 worn_out)
+    (LeavesPlaces t.places after.places worn_out) old new
+    (λ added. erases_leave t.places after.places 3 worn_out added (homes_used places t known) holds.homes)
+    costs)

@@ -11,47 +11,44 @@ use Rattle.ipl_meaning.specs.Tables.{Places, Tables, IsFree}
 use Rattle.unit_io.specs.Charts.{Charts}
 use Rattle.unit_io.specs.Costs.{ProgramsAt, Spends, erases}
 use Rattle.unit_io.specs.ReadsAt.{ReadsAt}
-use Rattle.unit_io.proofs.CostLemmas.{costs_reads, programs_at_cost, spends_none, spends_then, spends_weaker}
+use Rattle.unit_io.proofs.CostLemmas.{costs_reads, programs_at_cost, spends_none, spends_weaker}
 use Rattle.place_taking.specs.Laws.{IsAlikeInWear, KeepsFirst, NothingWears, ProgramsWearNothing, SparedPlacesWear, WearsAreJoined, FailuresWear}
-use Rattle.place_taking.specs.Spending.{RetiresWorn, SparesUsed}
+use Rattle.place_taking.specs.Homes.{KeepsHomes, LeavesPlaces}
+use Rattle.place_taking.specs.Spending.{SparesUsed}
 use Rattle.place_taking.specs.Wear.{ListsNoOther, Wears}
-use Rattle.place_taking.proofs.SpendingLemmas.{none_found, retires_none, retires_then}
+use Rattle.place_taking.proofs.HomeLemmas.{homes_equal, known_untried, places_then}
+use Rattle.place_taking.proofs.SpendingLemmas.{none_found, retires_none}
 
--- ---- what is retired
+-- ---- what is retired, and what is known
 
 -- events that try no erase retire nothing
-pub retires_untried : (before after : Places) (added : Story) → after.retired ≡ before.retired
-    → erases added ≤ 0 → RetiresWorn before after false added
-retires_untried before after added same none =
-    retires_none before after false added same refl (λ p. none_found p added none)
+pub leaves_untried : (before after : Places) (worn_out : Bool) (added : Story)
+    → after.retired ≡ before.retired → worn_out ≡ false → KeepsHomes before after
+    → erases added ≤ 0 → LeavesPlaces before after worn_out added
+leaves_untried before after worn_out added same still homes none = record {
+  retires = retires_none before after worn_out added same still (λ p. none_found p added none);
+  homes = known_untried before after added homes none;
+}
 
 -- so do reads
-pub reads_retire_none : (At : ℕ → ℕ → Type 0) (before after : Places) (old new : Told)
-    → after.retired ≡ before.retired → ReadsAt At old new
-    → Spends (RetiresWorn before after false) old new
-reads_retire_none At before after old new same did = record {
+pub reads_leave_places : (At : ℕ → ℕ → Type 0) (before after : Places) (old new : Told)
+    → after.retired ≡ before.retired → KeepsHomes before after → ReadsAt At old new
+    → Spends (LeavesPlaces before after false) old new
+reads_leave_places At before after old new same homes did = record {
   added = did.added;
-  does = retires_untried before after did.added same (costs_reads At [] did.added did.each).erased;
+  does = leaves_untried before after false did.added same refl homes
+      (costs_reads At [] did.added did.each).erased;
   history = did.history;
 }
 
 -- and programs
-pub programs_retire_none : (before after : Places) (place n b kind : ℕ) (old new : Told)
-    → after.retired ≡ before.retired → Spends (ProgramsAt place n b kind) old new
-    → Spends (RetiresWorn before after false) old new
-programs_retire_none before after place n b kind old new same =
-    spends_weaker (ProgramsAt place n b kind) (RetiresWorn before after false) old new
-    (λ added are. retires_untried before after added same
+pub programs_leave_places : (before after : Places) (place n b kind : ℕ) (old new : Told)
+    → after.retired ≡ before.retired → KeepsHomes before after
+    → Spends (ProgramsAt place n b kind) old new → Spends (LeavesPlaces before after false) old new
+programs_leave_places before after place n b kind old new same homes =
+    spends_weaker (ProgramsAt place n b kind) (LeavesPlaces before after false) old new
+    (λ added are. leaves_untried before after false added same refl homes
     (programs_at_cost place n b kind added are).erased)
-
-pub retired_then : (before mid after : Places) (worn_out : Bool) (old middle new : Told)
-    → Spends (RetiresWorn before mid false) old middle
-    → Spends (RetiresWorn mid after worn_out) middle new
-    → Spends (RetiresWorn before after worn_out) old new
-retired_then before mid after worn_out old middle new =
-    spends_then (RetiresWorn before mid false) (RetiresWorn mid after worn_out)
-    (RetiresWorn before after worn_out) old middle new
-    (λ later earlier one two. retires_then before mid after worn_out later earlier one two)
 
 -- ---- what the header of the status place lists
 
@@ -111,10 +108,19 @@ charts_then t between after old mid new keeps first second x tells =
 
 -- ---- both
 
+-- the same directory, and the status at the same place
+pub alike_tables : (t after : Tables) → after.places ≡ t.places
+    → after.status.place ≡ t.status.place → IsAlikeInWear t after
+alike_tables t after places status = record {
+  retired = ap (λ (d : Places). d.retired) places;
+  homes = homes_equal t.places after.places places;
+  status = status;
+}
+
 pub nothing_wears : NothingWears
 nothing_wears t after done old alike = record {
-  retires = spends_none (RetiresWorn t.places after.places false) old
-      (retires_untried t.places after.places [] alike.retired (omega arith));
+  places = spends_none (LeavesPlaces t.places after.places false) old
+      (leaves_untried t.places after.places false [] alike.retired refl alike.homes (omega arith));
   lists = λ _. charts_same t after old old alike.status refl;
 }
 
@@ -122,32 +128,32 @@ nothing_wears t after done old alike = record {
 pub reads_wear_at : (At : ℕ → ℕ → Type 0) (t after : Tables) (done : Bool) (old new : Told)
     → IsAlikeInWear t after → ReadsAt At old new → Wears t after done false old new
 reads_wear_at At t after done old new alike did = record {
-  retires = reads_retire_none At t.places after.places old new alike.retired did;
+  places = reads_leave_places At t.places after.places old new alike.retired alike.homes did;
   lists = λ _. charts_same t after old new alike.status did.contents;
 }
 
 pub programs_wear_nothing : ProgramsWearNothing
-programs_wear_nothing t after done worn_out old new alike retires keeps = record {
-  retires = retires;
+programs_wear_nothing t after done worn_out old new alike places keeps = record {
+  places = places;
   lists = λ is. charts_alike t after old new alike.status (keeps is);
 }
 
 pub spared_places_wear : SparedPlacesWear
-spared_places_wear t after done worn_out old new used there retires spared = record {
-  retires = retires;
+spared_places_wear t after done worn_out old new used there places spared = record {
+  places = places;
   lists = λ is. charts_spared t after old new used there (spared is);
 }
 
 pub wears_are_joined : WearsAreJoined
 wears_are_joined t between after done worn_out old mid new first second = record {
-  retires = retired_then t.places between.places after.places worn_out old mid new first.retires
-      second.retires;
-  lists = λ is. charts_then t between after old mid new second.retires.does.keeps (first.lists refl)
+  places = places_then t.places between.places after.places worn_out old mid new first.places
+      second.places;
+  lists = λ is. charts_then t between after old mid new second.places.does.retires.keeps (first.lists refl)
       (second.lists is);
 }
 
 pub failures_wear : FailuresWear
-failures_wear t after worn_out old new retires = record {
-  retires = retires;
+failures_wear t after worn_out old new places = record {
+  places = places;
   lists = λ is. absurd (false≢true is);
 }

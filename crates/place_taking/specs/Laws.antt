@@ -6,12 +6,15 @@ use Rattle.ipl_meaning.specs.Tables.{Tables, IsFree}
 use Rattle.unit_io.specs.Charts.{Charts}
 use Rattle.unit_io.specs.Costs.{Spends}
 use Rattle.unit_io.specs.ReadsAt.{Anywhere, ReadsAt}
-use Rattle.place_taking.specs.Spending.{RetiresWorn, SparesUsed}
+use Rattle.place_taking.specs.Homes.{KeepsHomes, LeavesPlaces}
+use Rattle.place_taking.specs.Spending.{SparesUsed}
 use Rattle.place_taking.specs.Wear.{Wears}
 
--- the same places are retired, and the status has the same place
+-- the same places are retired, each unit of which nothing is known stayed so, and the status has the same
+-- place
 pub record IsAlikeInWear (t after : Tables) : Type 0 where
   pub retired : after.places.retired ≡ t.places.retired
+  pub homes : KeepsHomes t.places after.places
   pub status : after.status.place ≡ t.status.place
 
 -- nothing was done
@@ -31,14 +34,14 @@ KeepsFirst t c y = y t.status.place 0 ≡ c t.status.place 0
 -- what keeps the first sector of the status place, and finds nothing worn
 abbrev pub ProgramsWearNothing : Type 0
 ProgramsWearNothing = (t after : Tables) (done worn_out : Bool) (old new : Told)
-    → IsAlikeInWear t after → Spends (RetiresWorn t.places after.places worn_out) old new
+    → IsAlikeInWear t after → Spends (LeavesPlaces t.places after.places worn_out) old new
     → (done ≡ true → Charts (KeepsFirst t) old new) → Wears t after done worn_out old new
 
 -- what writes free places alone leaves the status place as it was
 abbrev pub SparedPlacesWear : Type 0
 SparedPlacesWear = (t after : Tables) (done worn_out : Bool) (old new : Told)
     → ¬ IsFree t.places t.status.place → after.status.place ≡ t.status.place
-    → Spends (RetiresWorn t.places after.places worn_out) old new
+    → Spends (LeavesPlaces t.places after.places worn_out) old new
     → (done ≡ true → SparesUsed t.places old new) → Wears t after done worn_out old new
 
 -- one call that was done, and then another
@@ -50,5 +53,5 @@ WearsAreJoined = (t between after : Tables) (done worn_out : Bool) (old mid new 
 -- a call that failed, and nothing else then
 abbrev pub FailuresWear : Type 0
 FailuresWear = (t after : Tables) (worn_out : Bool) (old new : Told)
-    → Spends (RetiresWorn t.places after.places worn_out) old new
+    → Spends (LeavesPlaces t.places after.places worn_out) old new
     → Wears t after false worn_out old new

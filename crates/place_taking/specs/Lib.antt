@@ -1,4 +1,5 @@
 pub mod Spending
+pub mod Homes
 pub mod Takes
 pub mod Fills
 pub mod Turns

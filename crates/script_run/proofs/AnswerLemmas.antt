@@ -1,6 +1,6 @@
 -- One command answered: its work, and then what is said.
 use Rattle.std.proofs.Common.{◌≡◌, ◌⊎◌, inl, inr, ℕ, zero, suc, ◌+◌, ◌-◌, ◌≤◌, ◌<◌, Bool, true, false, cond, ◌||◌, nat_le, List, [], ◌∷◌, ◌++◌, map, Option, Some, None, Result, Ok, Err, is_ok, refl, sym, ◌∙◌, ap, subst, arith, append_assoc}
-use Rattle.std.proofs.lemmas.Bool.{or_left, or_right}
+use Rattle.std.proofs.lemmas.Bool.{false≢true, or_left, or_right}
 use Rattle.std.proofs.lemmas.Bool.Decides.{nat_tests}
 use Rattle.std.proofs.lemmas.List.{append-nil, map-append}
 use Rattle.std.specs.FinMap.{get}
@@ -21,8 +21,9 @@ use Rattle.chip_trait.specs.Told.{History, Told, Appends, FailsToSay, adds_all}
 use Rattle.chip_trait.proofs.HistoryLemmas.{same_history}
 use Rattle.chip_trait.proofs.LawfulLemmas.{lawful_none, clean_none}
 use Rattle.chip_trait.proofs.MomentLemmas.{at_start}
+use Rattle.store_trait.proofs.UnusedLemmas.{unused_none}
 use Rattle.store_trait.specs.declared.fault.Fault.{Fault}
-use Rattle.store_trait.specs.Keeping.{Keeping, Stays, WorkLeaves, WorksFor, LooksUpFor}
+use Rattle.store_trait.specs.Keeping.{Keeping, Stays, WorkLeaves, WorksFor, LooksUpFor, StillRecalls, is_restart}
 use Rattle.script_run.specs.declared.fault.Stop.{Stop}
 use Rattle.script_run.specs.declared.fault.Stop.TheVariants as stop
 use Rattle.script_run.specs.Run.{SaysLines, IsUnsaid, EndsAt, RunLeaves, SayingLeaves}
@@ -67,24 +68,24 @@ module _ {S : Type 0} (k : Keeping S) (limits : Limits) (state : State) where
   one_line : (c : Command) (r : Reply) → (step limits state c).1 ≡ r ∷ [] → reply_text r ∷ [] ≡ reply_lines limits state c
   one_line c r is = sym (ap (map reply_text) is)
 
-  pub answered : (c : Command) (before then : S) (h : History) (old mid new : Told) (r : Reply) → WorksFor k limits state c before h (Ok r) then old mid → Appends (Said (reply_text r)) mid new
+  pub answered : (c : Command) (before then : S) (h : History) (old mid new : Told) (r : Reply) → WorksFor k limits state c before h (Ok r) then old mid → (is_restart c ≡ false → StillRecalls k before old then mid) → Appends (Said (reply_text r)) mid new
       → (leaves : RunLeaves k limits state (c ∷ []) before h (k.holds limits then new) then old new (Ok tt)) × k.holds limits then new (adds_all leaves.added h) (Next c)
-  answered c before then h old mid new r w did =
+  answered c before then h old mid new r w recalls did =
       let said = saying_said k limits (Next c) then (adds_all w.leaves.added h) mid new (reply_text r) w.ends.0 did in
       let line = one_line c r w.ends.1 in
-      let leaves = run_command k limits state c before then then h (k.holds limits then new) old mid new (reply_text r ∷ []) (Ok tt) w.leaves said.0
+      let leaves = run_command k limits state c before then then h (k.holds limits then new) old mid new (reply_text r ∷ []) (Ok tt) w.leaves recalls said.0
       (subst (λ (l : List (List ℕ)). SaysLines l (reply_text r ∷ [])) line (says_all (reply_text r ∷ []))) (λ e. line) said.1 said.1 in
       (leaves, leaves.ends)
 
   -- the reply couldn't be said
-  pub unsaid : (c : Command) (before then : S) (h : History) (old mid new : Told) (r : Reply) → WorksFor k limits state c before h (Ok r) then old mid → FailsToSay (reply_text r) mid new
+  pub unsaid : (c : Command) (before then : S) (h : History) (old mid new : Told) (r : Reply) → WorksFor k limits state c before h (Ok r) then old mid → (is_restart c ≡ false → StillRecalls k before old then mid) → FailsToSay (reply_text r) mid new
       → RunLeaves k limits state (c ∷ []) before h (Stays k limits then old new) then old new (Err stop.Output)
-  unsaid c before then h old mid new r w did =
+  unsaid c before then h old mid new r w recalls did =
       let cut = saying_cut k limits (Next c) then (adds_all w.leaves.added h) mid new (reply_text r) [] w.ends.0 did in
       let line = one_line c r w.ends.1 in
       let g = adds_all cut.2.added (adds_all w.leaves.added h) in
       let stays : Stays k limits then old new g (Next c) = λ quiet. cut.3 in
-      run_command k limits state c before then then h (Stays k limits then old new) old mid new cut.0 (Err stop.Output) w.leaves cut.2
+      run_command k limits state c before then then h (Stays k limits then old new) old mid new cut.0 (Err stop.Output) w.leaves recalls cut.2
       (subst (λ (l : List (List ℕ)). SaysLines l cut.0) line (says_cut (reply_text r) [] cut.0 cut.1)) (λ e. cc) stays
       (unsaid_of limits state c cut.0 (Stays k limits then old new g) (subst (λ (l : List (List ℕ)). IsUnsaid l cut.0) line (unsaid_line (reply_text r) [] cut.0 cut.1)) stays)
 
@@ -99,24 +100,24 @@ module _ {S : Type 0} (k : Keeping S) (limits : Limits) (state : State) where
   abbrev Saying : List (List ℕ) → S → History → S → Told → Told → Type 0
   Saying lines before h then old new = (leaves : SayingLeaves k limits state.map lines before h then old new true) × k.holds limits then new (adds_all leaves.added h) state
 
-  pub row_said : (n : ℕ) (before then : S) (h : History) (old mid new : Told) (value : List ℕ) → LooksUpFor k limits state n before h (Ok (Some value)) then old mid → Appends (Said (reply_text (reply.Row n value))) mid new
+  pub row_said : (n : ℕ) (before then : S) (h : History) (old mid new : Told) (value : List ℕ) → LooksUpFor k limits state n before h (Ok (Some value)) then old mid → StillRecalls k before old then mid → Appends (Said (reply_text (reply.Row n value))) mid new
       → Saying (row_lines n (get state.map n)) before h then old new
-  row_said n before then h old mid new value w did =
+  row_said n before then h old mid new value w recalls did =
       let line = reply_text (reply.Row n value) in
       let said = saying_said k limits state then (adds_all w.leaves.added h) mid new line w.ends.0 did in
       subst (λ (found : Option (List ℕ)). Saying (row_lines n found) before h then old new) w.ends.1
-      (saying_then k limits state.map [] (line ∷ []) before then then h (λ g. k.holds limits then new g state) old mid new true (saying_work k limits state.map before then h old mid true w.leaves) said.0 said.1)
+      (saying_then k limits state.map [] (line ∷ []) before then then h (λ g. k.holds limits then new g state) old mid new true (saying_work k limits state.map before then h old mid true w.leaves (λ e. recalls)) said.0 said.1)
 
-  pub row_absent : (n : ℕ) (before then : S) (h : History) (old new : Told) → LooksUpFor k limits state n before h (Ok None) then old new
+  pub row_absent : (n : ℕ) (before then : S) (h : History) (old new : Told) → LooksUpFor k limits state n before h (Ok None) then old new → StillRecalls k before old then new
       → Saying (row_lines n (get state.map n)) before h then old new
-  row_absent n before then h old new w = subst (λ (found : Option (List ℕ)). Saying (row_lines n found) before h then old new) w.ends.1 (saying_work k limits state.map before then h old new true w.leaves, w.ends.0)
+  row_absent n before then h old new w recalls = subst (λ (found : Option (List ℕ)). Saying (row_lines n found) before h then old new) w.ends.1 (saying_work k limits state.map before then h old new true w.leaves (λ e. recalls), w.ends.0)
 
-  pub row_unsaid : (n : ℕ) (before then : S) (h : History) (old mid new : Told) (value : List ℕ) → LooksUpFor k limits state n before h (Ok (Some value)) then old mid → FailsToSay (reply_text (reply.Row n value)) mid new
+  pub row_unsaid : (n : ℕ) (before then : S) (h : History) (old mid new : Told) (value : List ℕ) → LooksUpFor k limits state n before h (Ok (Some value)) then old mid → StillRecalls k before old then mid → FailsToSay (reply_text (reply.Row n value)) mid new
       → SaysSome k limits state (row_lines n (get state.map n)) before h then old new stop.Output
-  row_unsaid n before then h old mid new value w did =
+  row_unsaid n before then h old mid new value w recalls did =
       let line = reply_text (reply.Row n value) in
       let cut = saying_cut k limits state then (adds_all w.leaves.added h) mid new line [] w.ends.0 did in
-      let all = saying_then k limits state.map [] cut.0 before then then h (λ g. k.holds limits then new g state) old mid new false (saying_work k limits state.map before then h old mid true w.leaves) cut.2 cut.3 in record {
+      let all = saying_then k limits state.map [] cut.0 before then then h (λ g. k.holds limits then new g state) old mid new false (saying_work k limits state.map before then h old mid true w.leaves (λ e. recalls)) cut.2 cut.3 in record {
         said = cut.0;
         part = subst (λ (found : Option (List ℕ)). SaysLines (row_lines n found) cut.0) w.ends.1 (says_cut line [] cut.0 cut.1);
         ends = subst (λ (found : Option (List ℕ)). IsUnsaid (row_lines n found) cut.0) w.ends.1 (unsaid_line line [] cut.0 cut.1);
@@ -126,7 +127,7 @@ module _ {S : Type 0} (k : Keeping S) (limits : Limits) (state : State) where
 
   pub row_failed : (n : ℕ) (before then : S) (h : History) (old new : Told) (fault : Fault) → LooksUpFor k limits state n before h (Err fault) then old new → SaysSome k limits state (row_lines n (get state.map n)) before h then old new (stop.Store fault)
   row_failed n before then h old new fault w =
-      record { said = []; part = says_none (row_lines n (get state.map n)); ends = (row_lines n (get state.map n), refl); leaves = saying_work k limits state.map before then h old new false w.leaves; stays = w.ends }
+      record { said = []; part = says_none (row_lines n (get state.map n)); ends = (row_lines n (get state.map n), refl); leaves = saying_work k limits state.map before then h old new false w.leaves (λ e. absurd (false≢true e)); stays = w.ends }
 
   -- ---- rows, one after another
 
@@ -183,6 +184,7 @@ module _ {S : Type 0} (k : Keeping S) (limits : Limits) (state : State) where
     only = tt;
     lawful = lawful_none (k.clean store);
     clean = λ e. clean_none (k.clean store);
+    unused = unused_none k store h true;
   }
 
   -- what is said of a command that changes nothing
@@ -199,8 +201,10 @@ module _ {S : Type 0} (k : Keeping S) (limits : Limits) (state : State) where
         only = more.only;
         lawful = more.lawful;
         clean = more.clean;
+        unused = more.unused;
+        recalls = more.recalls;
       } in
-      run_command k limits state c before before then h R old old new part result (work_none c before h old holds) moved front all (subst (R (adds_all more.added h)) (sym same) r) ends
+      run_command k limits state c before before then h R old old new part result (work_none c before h old holds) (λ calm entry recalled. recalled) moved front all (subst (R (adds_all more.added h)) (sym same) r) ends
 
   -- no row yet
   pub rows_none : (first : ℕ) (store : S) (h : History) (t : Told) → k.holds limits store t h state → Saying (rows_lines state.map first (first - first)) store h store t t

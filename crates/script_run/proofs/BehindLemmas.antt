@@ -1,5 +1,6 @@
 -- A run of a script, and then work that says nothing.
 use Rattle.std.proofs.Common.{◌≡◌, ◌≤◌, ◌+◌, inl, ℕ, true, false, List, [], ◌++◌, Some, Result, Ok, Err, IfErr, MatchResult, is_ok, sym, ◌∙◌, ap, subst}
+use Rattle.std.proofs.lemmas.Bool.{false≢true}
 use Rattle.std.proofs.lemmas.List.{append-nil}
 use Rattle.chip_trait.specs.Story.{Story, pieces, joined, said}
 use Rattle.chip_trait.specs.Told.{History, Told, adds_all}
@@ -10,7 +11,7 @@ use Rattle.ipl_model.specs.Run.{after_all, IsNear}
 use Rattle.ipl_rules.specs.State.{State, Limits}
 use Rattle.store_trait.specs.declared.fault.Fault.{Fault}
 use Rattle.store_trait.specs.Behind.{KeepsBehind, WorksBehind}
-use Rattle.store_trait.specs.Keeping.{Keeping, WORK_DRAWS, WorkLeaves, LeavesTidy, Stays}
+use Rattle.store_trait.specs.Keeping.{Keeping, WORK_DRAWS, WorkLeaves, LeavesTidy, StillRecalls, DoneRecalls, Stays}
 use Rattle.store_trait.specs.Onward.{Further}
 use Rattle.store_trait.proofs.OnwardLemmas.{onward_counts, further_onward, further_then}
 use Rattle.store_trait.proofs.TidyLemmas.{tidy_then}
@@ -35,9 +36,10 @@ module _ {S : Type 0} (k : Keeping S) (limits : Limits) where
   run_silent : (state : State) (before then : S) (h : History) (R : History → State → Type 0) (old new : Told)
       (result : Result (Unit {0}) Stop)
       → (did : WorkLeaves k (λ x. k.stands limits x state.map) before h then old new (is_ok result))
+      → (is_ok result ≡ true → StillRecalls k before old then new)
       → R (adds_all did.added h) state → EndsAt result limits state [] [] (R (adds_all did.added h))
       → RunLeaves k limits state [] before h R then old new result
-  run_silent state before then h R old new result did r ends = record {
+  run_silent state before then h R old new result did recalls r ends = record {
     added = did.added;
     history = did.history;
     each_moment = λ later e split x is.
@@ -48,6 +50,8 @@ module _ {S : Type 0} (k : Keeping S) (limits : Limits) where
     only = all_or_said k.does did.added did.only;
     lawful = did.lawful;
     clean = did.clean;
+    unused = did.unused;
+    recalls = λ e calm. recalls e;
     rests = subst (λ (bytes : List ℕ). IsNear (R (adds_all did.added h)) limits state [] bytes) (sym (ap joined did.silent)) (inl r);
     ends = rw did.silent ends;
   }
@@ -57,13 +61,14 @@ module _ {S : Type 0} (k : Keeping S) (limits : Limits) where
       (old between new : Told) (result : Result (Unit {0}) Stop)
       → (first : RunLeaves k limits state cs before h Q mid old between (Ok tt))
       → (did : WorkLeaves k (λ x. k.stands limits x (after_all limits state cs).map) mid (adds_all first.added h) then between new (is_ok result))
+      → (is_ok result ≡ true → StillRecalls k mid between then new)
       → R (adds_all did.added (adds_all first.added h)) (after_all limits state cs)
       → EndsAt result limits (after_all limits state cs) [] [] (R (adds_all did.added (adds_all first.added h)))
       → RunLeaves k limits state cs before h R then old new result
-  run_then state cs before mid then h Q R old between new result first did r ends =
+  run_then state cs before mid then h Q R old between new result first did recalls r ends =
       subst (λ (l : List Command). RunLeaves k limits state l before h R then old new result) (append-nil cs)
       (run_more k limits state cs [] before mid then h Q R old between new result first
-      (run_silent (after_all limits state cs) mid then (adds_all first.added h) R between new result did r ends))
+      (run_silent (after_all limits state cs) mid then (adds_all first.added h) R between new result did recalls r ends))
 
   -- ---- a script
 
@@ -75,10 +80,10 @@ module _ {S : Type 0} (k : Keeping S) (limits : Limits) where
   ended_then : (state : State) (source : List ℕ) (before mid then : S) (h : History) (old between new : Told)
       → new.beside ≡ between.beside → (ended : Ended k limits state source before h mid old between)
       → KeepsBehind k limits (after_all limits state (commands_of source)) mid (adds_all ended.leaves.added h) (Ok tt) then between new
-      → Ended k limits state source before h then old new
-  ended_then state source before mid then h old between new same ended did =
+      → StillRecalls k mid between then new → Ended k limits state source before h then old new
+  ended_then state source before mid then h old between new same ended did recalls =
       let leaves = run_then state (commands_of source) before mid then h (k.holds limits mid between) (k.holds limits then new) old between new (Ok tt)
-      ended.leaves did.leaves did.ends did.ends in
+      ended.leaves did.leaves (λ e. recalls) did.ends did.ends in
       record { left_is = left_stays between new [] same ended.left_is; leaves = leaves; holds = leaves.ends }
 
   -- or it failed
@@ -97,7 +102,7 @@ module _ {S : Type 0} (k : Keeping S) (limits : Limits) where
         rest = [];
         left_is = left_stays between new [] same ended.left_is;
         source_is = sym (append-nil source);
-        leaves = run_then state cs before mid then h (k.holds limits mid between) R old between new (Err (stop.Store fault)) ended.leaves did.leaves stays
+        leaves = run_then state cs before mid then h (k.holds limits mid between) R old between new (Err (stop.Store fault)) ended.leaves did.leaves (λ e. absurd (false≢true e)) stays
             (between_none limits (after_all limits state cs) [] (R (adds_all did.leaves.added (adds_all ended.leaves.added h))) stays);
       }
 
@@ -111,16 +116,17 @@ module _ {S : Type 0} (k : Keeping S) (before mid then : S) (old between new : T
   runs_behind runs limits state h holds source told =
       let ended = runs limits state h holds source told in
       let works = did.keeps limits (after_all limits state (commands_of source)) (adds_all ended.leaves.added h) ended.holds in
-      by_end closed limits state h source ended works
+      by_end closed limits state h source ended works did.recalls
     where
       by_end : (result : Result (Unit {0}) Fault) (limits : Limits) (state : State) (h : History) (source : List ℕ)
           → (ended : Ended k limits state source before h mid old between)
           → KeepsBehind k limits (after_all limits state (commands_of source)) mid (adds_all ended.leaves.added h) result then between new
+          → DoneRecalls k mid between result then new
           → MatchResult (stop_of result)
           (λ _. Ended k limits state source before h then old new)
           (λ s. Stopped k limits state (commands_of source) source before h (Stays k limits then old new) then old new s)
-      by_end (Ok v) limits state h source ended works = ended_then k limits state source before mid then h old between new did.counts.beside ended works
-      by_end (Err fault) limits state h source ended works = ended_failed k limits state source before mid then h old between new fault further.writes did.counts.beside ended works
+      by_end (Ok v) limits state h source ended works recalls = ended_then k limits state source before mid then h old between new did.counts.beside ended works recalls
+      by_end (Err fault) limits state h source ended works recalls = ended_failed k limits state source before mid then h old between new fault further.writes did.counts.beside ended works
 
   pub tidy_behind : LeavesTidy k before mid old between true → LeavesTidy k before then old new (is_ok (stop_of closed))
   tidy_behind first = by_end closed did.tidy

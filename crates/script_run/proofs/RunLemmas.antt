@@ -1,6 +1,7 @@
 -- What a run leaves, in one part after another.
-use Rattle.std.proofs.Common.{◌≡◌, ◌⊎◌, inl, inr, ⊎_elim, ℕ, Bool, true, false, List, [], ◌∷◌, ◌++◌, Result, Ok, Err, is_ok, refl, sym, ◌∙◌, ap, subst, append_assoc}
+use Rattle.std.proofs.Common.{◌≡◌, ◌⊎◌, inl, inr, ⊎_elim, ◌||◌, ℕ, Bool, true, false, List, [], ◌∷◌, ◌++◌, Result, Ok, Err, is_ok, refl, sym, ◌∙◌, ap, subst, append_assoc}
 use Rattle.std.specs.Option.{option_map}
+use Rattle.std.proofs.lemmas.Bool.{false≢true, or_parts}
 use Rattle.std.proofs.lemmas.List.{append-nil}
 use Rattle.ipl_rules.specs.State.{Map, State, Limits}
 use Rattle.ipl_model.specs.declared.command.Command.{Command}
@@ -17,8 +18,10 @@ use Rattle.chip_trait.proofs.HistoryLemmas.{same_history, same_contents, history
 use Rattle.chip_trait.proofs.LawfulLemmas.{lawful_none, clean_none, lawful_then, clean_then}
 use Rattle.chip_trait.proofs.MomentLemmas.{at_start, at_next, at_both}
 use Rattle.chip_trait.proofs.SaidLemmas.{joined-append, pieces-append, said-append, silent-part}
-use Rattle.store_trait.specs.Keeping.{Keeping, AllOf, WorkLeaves}
+use Rattle.store_trait.proofs.UnusedLemmas.{unused_none, unused_piece, unused_then}
+use Rattle.store_trait.specs.Keeping.{Keeping, AllOf, WorkLeaves, StillRecalls, is_restart, restarts}
 use Rattle.store_trait.specs.Onward.{Still}
+use Rattle.store_trait.proofs.OnwardLemmas.{still_beside}
 use Rattle.script_run.specs.declared.fault.Stop.{Stop}
 use Rattle.script_run.specs.declared.fault.Stop.TheVariants.{Store}
 use Rattle.store_trait.specs.declared.fault.Fault.{Fault}
@@ -114,6 +117,13 @@ said_image checks start piece story x is = record { image = is.image; chance = i
 pub regrouped : (checks : List ℕ → Bool) (h : History) (later earlier : Story) (x : Contents) → IsNoChanceImage checks h.start ((later ++ earlier) ++ h.story) x → IsNoChanceImage checks h.start (later ++ (earlier ++ h.story)) x
 regrouped checks h later earlier x is = subst (λ (story : Story). IsNoChanceImage checks h.start story x) (append_assoc later earlier h.story) is
 
+-- neither of two parts of commands has a restart
+restarts_parts : (cs ds : List Command) → restarts (cs ++ ds) ≡ false → (restarts cs ≡ false) × (restarts ds ≡ false)
+restarts_parts [] ds calm = (refl, calm)
+restarts_parts (c ∷ cs) ds calm =
+    let parts = or_parts (is_restart c) (restarts (cs ++ ds)) calm in
+    let rest = restarts_parts cs ds parts.1 in (ap (λ (b : Bool). b || restarts cs) parts.0 ∙ rest.0, rest.1)
+
 -- ---- over stores of one kind
 
 module _ {S : Type 0} (k : Keeping S) where
@@ -128,11 +138,13 @@ module _ {S : Type 0} (k : Keeping S) where
     only = tt;
     lawful = lawful_none (k.clean store);
     clean = λ e. clean_none (k.clean store);
+    unused = unused_none k store h done;
+    recalls = λ e entry recalled. recalled;
   }
 
   -- work that says nothing
-  abbrev pub saying_work : (limits : Limits) (m : Map) (before then : S) (h : History) (old new : Told) (done : Bool) → WorkLeaves k (λ x. k.stands limits x m) before h then old new done → SayingLeaves k limits m [] before h then old new done
-  saying_work limits m before then h old new done did = record {
+  abbrev pub saying_work : (limits : Limits) (m : Map) (before then : S) (h : History) (old new : Told) (done : Bool) → WorkLeaves k (λ x. k.stands limits x m) before h then old new done → (done ≡ true → StillRecalls k before old then new) → SayingLeaves k limits m [] before h then old new done
+  saying_work limits m before then h old new done did recalls = record {
     added = did.added;
     history = did.history;
     each_moment = did.each_moment;
@@ -140,12 +152,14 @@ module _ {S : Type 0} (k : Keeping S) where
     only = all_or_said k.does did.added did.only;
     lawful = did.lawful;
     clean = did.clean;
+    unused = did.unused;
+    recalls = recalls;
   }
 
   -- one piece, and the store keeps its state
-  one_piece : (limits : Limits) (state : State) (store : S) (h : History) (mid new : Told) (piece : List ℕ) (done : Bool) → k.holds limits store mid h state → new.history ≡ option_map (adds (Said piece)) mid.history
+  one_piece : (limits : Limits) (state : State) (store : S) (h : History) (mid new : Told) (piece : List ℕ) (done : Bool) → Still mid new → k.holds limits store mid h state → new.history ≡ option_map (adds (Said piece)) mid.history
       → k.holds limits store new (adds (Said piece) h) state → (leaves : SayingLeaves k limits state.map (piece ∷ []) store h store mid new done) × k.holds limits store new (adds_all leaves.added h) state
-  one_piece limits state store h mid new piece done holds grown after =
+  one_piece limits state store h mid new piece done still holds grown after =
       let P = λ (x : Contents). k.stands limits x state.map in
       let here = k.each limits store mid h state holds in (
         record {
@@ -156,6 +170,8 @@ module _ {S : Type 0} (k : Keeping S) where
           only = (tt, tt);
           lawful = record { lawful = λ base lawful clean. lawful };
           clean = λ e. record { clean = λ base lawful clean. clean };
+          unused = unused_piece k store h piece done;
+          recalls = λ e entry. k.recalled_still entry store mid new still;
         },
         after,
       )
@@ -164,7 +180,7 @@ module _ {S : Type 0} (k : Keeping S) where
       → (leaves : SayingLeaves k limits state.map (piece ∷ []) store h store mid new true) × k.holds limits store new (adds_all leaves.added h) state
   saying_said limits state store h mid new piece holds did =
       let still : Still mid new = record { places = did.places; settled = did.settled; contents = did.contents ∙ sym (same_contents mid.contents); pieces = piece ∷ []; history = did.history } in
-      one_piece limits state store h mid new piece true holds did.history (k.still limits store mid new h state still holds)
+      one_piece limits state store h mid new piece true still holds did.history (k.still limits store mid new h state still holds)
 
   -- a piece cut short
   pub saying_cut : (limits : Limits) (state : State) (store : S) (h : History) (mid new : Told) (piece : List ℕ) (more : List (List ℕ)) → k.holds limits store mid h state → FailsToSay piece mid new
@@ -172,14 +188,14 @@ module _ {S : Type 0} (k : Keeping S) where
   saying_cut limits state store h mid new piece more holds did = elim did.history [
     | inl some ↦
         let still : Still mid new = record { places = did.places; settled = did.settled; contents = did.contents; pieces = some.0 ∷ []; history = some.2 } in
-        let one = one_piece limits state store h mid new some.0 false holds some.2 (k.still limits store mid new h state still holds) in
+        let one = one_piece limits state store h mid new some.0 false still holds some.2 (k.still limits store mid new h state still holds) in
         (some.0 ∷ [], some.1, one.0, one.1)
     | inr none ↦
         let here = saying_none limits state store h mid false holds in
         let still : Still mid new = record { places = did.places; settled = did.settled; contents = did.contents; pieces = []; history = none ∙ same_history mid.history } in (
           [],
           tt,
-          record { added = []; history = none ∙ same_history mid.history; each_moment = here.each_moment; says = refl; only = tt; lawful = here.lawful; clean = here.clean },
+          record { added = []; history = none ∙ same_history mid.history; each_moment = here.each_moment; says = refl; only = tt; lawful = here.lawful; clean = here.clean; unused = here.unused; recalls = λ e. absurd (false≢true e) },
           k.still limits store mid new h state still holds,
         )
   ]
@@ -197,6 +213,8 @@ module _ {S : Type 0} (k : Keeping S) where
       only = all_both (IsSaidOr k.does) two.added first.added two.only first.only;
       lawful = lawful_then (k.clean before) (k.clean mid) two.added first.added first.lawful (first.clean refl) two.lawful;
       clean = λ e. clean_then (k.clean before) (k.clean mid) (k.clean then) two.added first.added first.lawful (first.clean refl) (two.clean e);
+      unused = unused_then k before mid then h done two.added first.added first.unused two.unused;
+      recalls = λ e entry recalled. two.recalls e entry (first.recalls refl entry recalled);
     },
     subst R (twice_added two.added first.added h) r,
   )
@@ -217,6 +235,8 @@ module _ {S : Type 0} (k : Keeping S) where
     only = tt;
     lawful = lawful_none (k.clean store);
     clean = λ e. clean_none (k.clean store);
+    unused = unused_none k store h (is_ok result);
+    recalls = λ e calm entry recalled. recalled;
     rests = inl r;
     ends = ends;
   }
@@ -224,10 +244,11 @@ module _ {S : Type 0} (k : Keeping S) where
   -- the work of one command, and what is said after it
   pub run_command : (limits : Limits) (state : State) (c : Command) (before mid then : S) (h : History) (R : History → State → Type 0) (old between new : Told) (part : List (List ℕ)) (result : Result (Unit {0}) Stop)
       → (did : WorkLeaves k (λ x. k.stands limits x state.map ⊎ k.stands limits x (step limits state c).0.map) before h mid old between true)
+      → (is_restart c ≡ false → StillRecalls k before old mid between)
       → (more : SayingLeaves k limits (step limits state c).0.map part mid (adds_all did.added h) then between new (is_ok result))
       → SaysLines (reply_lines limits state c) part → (is_ok result ≡ true → part ≡ reply_lines limits state c) → R (adds_all more.added (adds_all did.added h)) (step limits state c).0
       → EndsAt result limits state (c ∷ []) part (R (adds_all more.added (adds_all did.added h))) → RunLeaves k limits state (c ∷ []) before h R then old new result
-  run_command limits state c before mid then h R old between new part result did more front all r ends = record {
+  run_command limits state c before mid then h R old between new part result did recalls more front all r ends = record {
     added = more.added ++ did.added;
     history = more.history ∙ ap (option_map (adds_all more.added)) did.history ∙ history_then more.added did.added old.history;
     each_moment = at_both (Moment limits state (c ∷ []) h) more.added did.added
@@ -238,6 +259,8 @@ module _ {S : Type 0} (k : Keeping S) where
     only = all_both (IsSaidOr k.does) more.added did.added more.only (all_or_said k.does did.added did.only);
     lawful = lawful_then (k.clean before) (k.clean mid) more.added did.added did.lawful (did.clean refl) more.lawful;
     clean = λ e. clean_then (k.clean before) (k.clean mid) (k.clean then) more.added did.added did.lawful (did.clean refl) (more.clean e);
+    unused = unused_then k before mid then h (is_ok result) more.added did.added did.unused more.unused;
+    recalls = λ e calm entry recalled. more.recalls e entry (recalls (or_parts (is_restart c) false calm).0 entry recalled);
     rests = found_said limits state c (said (more.added ++ did.added)) (R (adds_all (more.added ++ did.added) h)) (subst (λ (g : History). R g (step limits state c).0) (twice_added more.added did.added h) r);
     ends = subst (λ (l : List (List ℕ)). EndsAt result limits state (c ∷ []) l (R (adds_all (more.added ++ did.added) h))) (sym all_said)
         (subst (λ (g : History). EndsAt result limits state (c ∷ []) part (R g)) (twice_added more.added did.added h) ends);
@@ -258,6 +281,8 @@ module _ {S : Type 0} (k : Keeping S) where
     only = all_or_said k.does did.added did.only;
     lawful = did.lawful;
     clean = λ e. cc;
+    unused = did.unused;
+    recalls = λ e. absurd (false≢true e);
     rests = found_silent limits state c (said did.added) (R (adds_all did.added h)) (ap joined did.silent) (inl r);
     ends = subst (λ (l : List (List ℕ)). EndsAt (Err (Store fault)) limits state (c ∷ []) l (R (adds_all did.added h))) (sym did.silent) (between_none limits state (c ∷ []) (R (adds_all did.added h)) r);
   }
@@ -285,6 +310,9 @@ module _ {S : Type 0} (k : Keeping S) where
     only = all_both (IsSaidOr k.does) two.added first.added two.only first.only;
     lawful = lawful_then (k.clean before) (k.clean mid) two.added first.added first.lawful (first.clean refl) two.lawful;
     clean = λ e. clean_then (k.clean before) (k.clean mid) (k.clean then) two.added first.added first.lawful (first.clean refl) (two.clean e);
+    unused = unused_then k before mid then h (is_ok result) two.added first.added first.unused two.unused;
+    recalls = λ e calm entry recalled.
+        let parts = restarts_parts cs ds calm in two.recalls e parts.1 entry (first.recalls refl parts.0 entry recalled);
     rests = subst (λ (bytes : List ℕ). IsNear (R (adds_all (two.added ++ first.added) h)) limits state (cs ++ ds) bytes) (sym (both_said two.added))
         (found_after limits state cs ds (said two.added) (R (adds_all (two.added ++ first.added) h))
         (subst (λ (g : History). IsNear (R g) limits (after_all limits state cs) ds (said two.added)) (twice_added two.added first.added h) two.rests));
@@ -311,6 +339,8 @@ module _ {S : Type 0} (k : Keeping S) where
     only = first.only;
     lawful = first.lawful;
     clean = λ e. cc;
+    unused = first.unused;
+    recalls = λ e. absurd (false≢true e);
     rests = found_longer limits state cs ds (said first.added) (R (adds_all first.added h)) (says_prefix (lines limits state cs) (pieces first.added) first.replies) first.rests;
     ends = ends_longer limits state s cs ds (pieces first.added) (R (adds_all first.added h)) first.ends;
   }
@@ -327,6 +357,8 @@ module _ {S : Type 0} (k : Keeping S) where
     only = r.only;
     lawful = r.lawful;
     clean = r.clean;
+    unused = r.unused;
+    recalls = r.recalls;
     rests = ⊎_elim (λ q. inl (f _ _ q)) (λ q. inr (f _ _ q)) r.rests;
     ends = ends_weaker limits state result cs (pieces r.added) (Q (adds_all r.added h)) (R (adds_all r.added h)) (f (adds_all r.added h)) r.ends;
   }
@@ -343,6 +375,8 @@ module _ {S : Type 0} (k : Keeping S) where
     only = r.only;
     lawful = r.lawful;
     clean = r.clean;
+    unused = r.unused;
+    recalls = λ e calm entry recalled. r.recalls e calm entry (k.recalled_still entry before old mid (still_beside old mid chip) recalled);
     rests = r.rests;
     ends = r.ends;
   }

@@ -1,5 +1,5 @@
 -- What a run of commands leaves, wherever it stops.
-use Rattle.std.specs.Prelude.{◌≡◌, ℕ, Bool, true, List, [], ◌∷◌, ◌++◌, Result, Ok, Err, is_ok}
+use Rattle.std.specs.Prelude.{◌≡◌, ℕ, Bool, true, List, [], ◌∷◌, ◌++◌, Result, Ok, Err, is_ok, false}
 use Rattle.std.specs.Option.{option_map}
 use Rattle.ipl_rules.specs.State.{Map, State, Limits}
 use Rattle.ipl_model.specs.declared.command.Command.{Command}
@@ -11,7 +11,7 @@ use Rattle.chip_trait.specs.Story.{Story, Contents, pieces, said}
 use Rattle.chip_trait.specs.Moment.{AtEachMoment, Leaves}
 use Rattle.chip_trait.specs.Lawful.{IsLawfulAfter, LeavesClean}
 use Rattle.chip_trait.specs.Told.{History, Told, adds_all, IsPrefix}
-use Rattle.store_trait.specs.Keeping.{Keeping, AllOf}
+use Rattle.store_trait.specs.Keeping.{Keeping, AllOf, UsesNothingMarked, StillRecalls, restarts}
 use Rattle.script_run.specs.declared.fault.Stop.{Stop}
 use Rattle.script_run.specs.declared.fault.Stop.TheVariants as stop
 
@@ -103,8 +103,9 @@ module _ {S : Type 0} (k : Keeping S) where
 
   -- What the chip tells grew by the added events. Whatever moment of them the power is cut at, the chip stands for the records
   -- after the commands that were answered, or after one more. What was said is a beginning of the replies, line by line, and
-  -- all of them where the commands are done. No sector is programmed twice. R says of the history at the end, and of a state,
-  -- how the store keeps it then: by what was said, for the commands that were answered or one more; and by the stop, exactly.
+  -- all of them where the commands are done. No sector is programmed twice. Where the commands are done and none is a restart,
+  -- the store still knows of all that was erased since an entry. R says of the history at the end, and of a state, how the
+  -- store keeps it then: by what was said, for the commands that were answered or one more; and by the stop, exactly.
   pub record RunLeaves (limits : Limits) (state : State) (commands : List Command) (before : S) (h : History)
       (R : History → State → Type 0) (then : S) (old new : Told) (result : Result (Unit {0}) Stop) : Type 0 where
     pub added : Story
@@ -115,6 +116,8 @@ module _ {S : Type 0} (k : Keeping S) where
     pub only : AllOf (IsSaidOr k.does) added
     pub lawful : IsLawfulAfter (k.clean before) added
     pub clean : is_ok result ≡ true → LeavesClean (k.clean before) (k.clean then) added
+    pub unused : UsesNothingMarked k before h then (is_ok result) added
+    pub recalls : is_ok result ≡ true → restarts commands ≡ false → StillRecalls k before old then new
     pub rests : IsNear (R (adds_all added h)) limits state commands (said added)
     pub ends : EndsAt result limits state commands (pieces added) (R (adds_all added h))
 
@@ -128,3 +131,5 @@ module _ {S : Type 0} (k : Keeping S) where
     pub only : AllOf (IsSaidOr k.does) added
     pub lawful : IsLawfulAfter (k.clean before) added
     pub clean : done ≡ true → LeavesClean (k.clean before) (k.clean then) added
+    pub unused : UsesNothingMarked k before h then done added
+    pub recalls : done ≡ true → StillRecalls k before old then new

@@ -23,6 +23,7 @@ use Rattle.ipl_meaning.specs.Stands.{StandsIn}
 use Rattle.ipl_meaning.specs.Tables.{IsCountedClean}
 use Rattle.record_locks.specs.Held.{Slots, after_end}
 use Rattle.record_locks.specs.Standing.{state_of}
+use Rattle.store_trait.proofs.UnusedLemmas.{unused_none}
 use Rattle.store_trait.specs.Keeping.{WorkLeaves}
 use Rattle.store_trait.proofs.TidyLemmas.{tidy_same, tidy_then}
 use Rattle.store_steps.specs.Keeps.{limits_of, keeps_each}
@@ -62,6 +63,7 @@ module _ (a : ScriptStore) (told : Told) where
     only = tt;
     lawful = lawful_none (IsCountedClean (view_of a.store).memory.tables);
     clean = λ _. clean_none (IsCountedClean (view_of a.store).memory.tables);
+    unused = unused_none (script_keeping told.places) a h true;
   }
 
   pub aborts_none : IsRunning told.places a → Aborts a told a
@@ -76,6 +78,7 @@ module _ (a : ScriptStore) (told : Told) where
     tidy = tidy_same (script_keeping told.places) a told told true refl;
     drawn = omega arith;
     knows = λ entry knows. knows;
+    recalls = λ entry recalled. recalled;
   }
 
 -- ---- one more was aborted
@@ -116,6 +119,7 @@ module _ (a m b : ScriptStore) (told : Told) (s : ℕ) (so_far : Aborts a told m
     tidy = tidy_then (script_keeping told.places) a m b told told told true so_far.tidy does.tidy;
     drawn = let before = so_far.drawn in omega (arith, before, few);
     knows = λ entry knows. does.learns entry (so_far.knows entry knows);
+    recalls = λ entry recalled. does.recalls refl entry (so_far.recalls entry recalled);
   }
 
 -- ---- a call

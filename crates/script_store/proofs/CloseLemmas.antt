@@ -1,6 +1,7 @@
 -- What a close of the store leaves behind a script.
 use Rattle.std.proofs.Common.{ℕ, ◌≡◌, ◌≢◌, ◌⊎◌, ◌++◌, inl, inr, ◌<◌, ◌^◌, arith, false, true, Option, None, Some, Result, Ok, Err, MatchResult, IfErr, IsErrOf, OnOk, is_ok, refl, sym, ◌∙◌, ap, subst}
-use Rattle.chip_trait.specs.Story.{Story, Contents}
+use Rattle.std.specs.Option.{option_map}
+use Rattle.chip_trait.specs.Story.{Story, Contents, held}
 use Rattle.chip_trait.specs.Told.{History, Told, Counts, Rose, adds_all}
 use Rattle.chip_trait.proofs.CountsLemmas.{counts_then}
 use Rattle.ipl_base.specs.Calls.{IsFailedCall}
@@ -15,30 +16,35 @@ use Rattle.ipl_model.specs.declared.command.Command.TheVariants as command
 use Rattle.ipl_model.specs.declared.reply.Reply.TheVariants as reply
 use Rattle.ipl_meaning.specs.Chart.{chart_of}
 use Rattle.ipl_meaning.specs.Stands.{StandsIn}
+use Rattle.ipl_meaning.specs.Tables.{Places}
 use Rattle.unit_io.specs.Accounts.{Accounts}
 use Rattle.unit_io.specs.Costs.{Spends}
 use Rattle.unit_io.specs.Leads.{IsStopped}
 use Rattle.unit_io.proofs.CostLemmas.{spends_then}
 use Rattle.steps.specs.Steps.{Settled, Tidies}
 use Rattle.place_taking.specs.Wear.{Wears}
-use Rattle.clean_close.specs.Closing.{ClosesInSteps, EndsWithMark}
+use Rattle.place_taking.proofs.HomeLemmas.{homes_equal}
+use Rattle.place_taking.proofs.WearLemmas.{programs_leave_places}
+use Rattle.clean_close.specs.Closing.{ClosesInSteps, EndsWithMark, MarksUnits}
 use Rattle.record_locks.specs.Locks.{refuses_close}
 use Rattle.page_frames.specs.Pages.{tables_in}
 use Rattle.store_trait.specs.declared.fault.Fault.{Fault}
 use Rattle.store_trait.specs.declared.fault.Fault.TheVariants.{Chip, Spent}
 use Rattle.store_trait.specs.Behind.{KeepsBehind, WorksBehind}
-use Rattle.store_trait.specs.Keeping.{LAST_NUMBER, Works, WorkLeaves}
+use Rattle.store_trait.specs.Keeping.{LAST_NUMBER, Works, WorkLeaves, StillRecalls, DoneRecalls}
 use Rattle.store_trait.proofs.TidyLemmas.{tidy_then}
 use Rattle.store_steps.specs.Keeps.{ChipCause, ChipTells, StoreCause}
 use Rattle.ipl_store.specs.declared.store.Store.{Store}
 use Rattle.ipl_store.specs.Calls.{view_of, counter_of, IsSound, entry_fault, early_fault, ends_worn_out, Serves, Calls}
 use Rattle.ipl_store.specs.Closing.{ClosesStore, EndsMarking, MarksStore, ServesClose}
 use Rattle.script_store.specs.declared.store.ScriptStore.{ScriptStore}
-use Rattle.script_store.specs.Closes.{Aborts, Closes, closed}
+use Rattle.script_store.specs.Closes.{Aborts, MarksRecalled, Closes, closed}
 use Rattle.script_store.specs.Keeps.{IsRunning, KeepsScript, script_keeping, ended, Does}
 use Rattle.script_store.specs.Worn.{KnowsWorn, ChipWears, FaultWears}
 use Rattle.script_store.proofs.KeepLemmas.{works_so, tidy_answered, tidy_so, leaves_so}
 use Rattle.script_store.proofs.MarkLemmas.{Marks, marks}
+use Rattle.script_store.proofs.ErasedLemmas.{marks_erased}
+use Rattle.script_store.proofs.RecallLemmas.{leaves_recall}
 use Rattle.script_store.proofs.PartLemmas.{added_then, leaves_then, leaves_weaker}
 use Rattle.script_store.proofs.ShutLemmas.{shut, failed_behind, aborted_behind}
 use Rattle.script_store.proofs.WorkLemmas.{IsEntry, up_entry, accepted_work, by_call, spent_does}
@@ -106,14 +112,15 @@ module _ (m : ScriptStore) (between : Store) (before told : Told) (runs : IsRunn
       (steps : ClosesInSteps told.places (tables_in between.transactions.pages) (tables_in c.transactions.pages)
       told written after)
       (second : Tidies (tables_in between.transactions.pages) written (tables_in c.transactions.pages) told after)
-      (accounts : Accounts IsStopped written told after) (same : c.units ≡ between.units) where
+      (accounts : Accounts IsStopped written told after) (same : c.units ≡ between.units)
+      (recalled : StillRecalls (script_keeping before.places) m before (shut c) after) where
     marked_leaves : (limits : Limits) (state : State) (h : History)
         → KeepsScript before.places limits (over between) told h state
-        → Marks before.places (view_of between) (view_of (shut c).store) told after written same served.ends refl
+        → Marks before.places (view_of between) (view_of (shut c).store) told after written same served.ends refl counts.places
         (subst (λ (n : ℕ). ClosesInSteps n (tables_in between.transactions.pages) (tables_in c.transactions.pages)
         told written after) counts.places steps) limits state h
     marked_leaves limits state h keeps =
-        marks before.places (view_of between) (view_of (shut c).store) told after written same served.ends refl
+        marks before.places (view_of between) (view_of (shut c).store) told after written same served.ends refl counts.places
         (subst (λ (n : ℕ). ClosesInSteps n (tables_in between.transactions.pages) (tables_in c.transactions.pages)
         told written after) counts.places steps) limits state h keeps.kept
 
@@ -175,6 +182,7 @@ module _ (m : ScriptStore) (between : Store) (before told : Told) (runs : IsRunn
           (by_ok written) second);
       draws = record { most = omega arith; spent = λ is. absurd (unspent written is) };
       learns = λ entry knows. learnt entry written accounts.cause;
+      recalls = on_ok (marked written);
       counts = counts_then before told after counts accounts.counts;
       cause = caused written accounts.cause;
     }
@@ -182,6 +190,11 @@ module _ (m : ScriptStore) (between : Store) (before told : Told) (runs : IsRunn
         by_ok : (w : Result (Unit {0}) ChipFault) → is_ok w ≡ is_ok (marked w)
         by_ok (Ok v) = refl
         by_ok (Err e) = refl
+
+        on_ok : (r : Result (Unit {0}) Fault)
+            → DoneRecalls (script_keeping before.places) m before r (shut c) after
+        on_ok (Ok v) = recalled
+        on_ok (Err e) = tt
 
         unspent : (w : Result (Unit {0}) ChipFault) → IsErrOf (marked w) Spent → ⊥
         unspent (Ok v) is = cc is
@@ -198,6 +211,45 @@ module _ (m : ScriptStore) (between : Store) (before told : Told) (runs : IsRunn
         caused (Err e) cause =
             let (stops, rose) = stopped e cause in
             subst (λ (f : ChipFault). ChipCause before.places f before after) (sym stops) rose
+
+    -- what the chip holds then has marks, by what is known of each unit
+    units_after : (limits : Limits) (state : State) (k : History) → before.history ≡ Some k
+        → KeepsScript before.places limits m before k state
+        → (l : History) × (after.history ≡ Some l)
+        × OnOk written (MarksUnits before.places (tables_in c.transactions.pages) (held l.start l.story))
+    units_after limits state k is keeps =
+        let ready = ready_works v served limits state k keeps in
+        let j = adds_all ready.leaves.added k in
+        let more = marked_leaves limits state j ready.ends.0 in (
+          adds_all more.leaves.added j,
+          more.leaves.history ∙ ap (option_map (adds_all more.leaves.added))
+              (ready.leaves.history ∙ ap (option_map (adds_all ready.leaves.added)) is),
+          more.marked,
+        )
+
+    -- done, what was erased since an entry and not programmed is marked
+    erased_marked : OnOk (marked written) (MarksRecalled m before after)
+    erased_marked = by_written written units_after
+      where
+        Units : History → Type 0
+        Units l = MarksUnits before.places (tables_in c.transactions.pages) (held l.start l.story)
+
+        by_written : (w : Result (Unit {0}) ChipFault)
+            → ((limits : Limits) (state : State) (k : History) → before.history ≡ Some k
+            → KeepsScript before.places limits m before k state
+            → (l : History) × (after.history ≡ Some l) × OnOk w (Units l))
+            → OnOk (marked w) (MarksRecalled m before after)
+        by_written (Ok v) known = λ entry h at recalls limits state k is keeps.
+            let (l, ends, units) = known limits state k is keeps in
+            let since = recalled entry recalls h at in
+            let both : Some l ≡ Some (adds_all since.added h) = sym ends ∙ since.history in
+            let same : l ≡ adds_all since.added h = cc both in record {
+              added = since.added;
+              history = since.history;
+              marked = marks_erased before.places (tables_in c.transactions.pages) h since.added
+                  (subst Units same units) since.untried;
+            }
+        by_written (Err e) known = tt
 
     -- done, the mark is the last that was written
     marked_last : OnOk written (Spends EndsWithMark told after) → OnOk (marked written) (Spends EndsWithMark before after)
@@ -262,6 +314,7 @@ module _ (a m : ScriptStore) (c : Store) (before after : Told) (result : Result 
           (failed_behind m m before before Spent aborted.running.up
           (spent_does command.Syntax m before aborted.running late))));
       last = tt;
+      marked = tt;
     };
   })
 
@@ -279,21 +332,38 @@ module _ (a m : ScriptStore) (c : Store) (before after : Told) (result : Result 
           (subst (λ (s : Store). WorksBehind (script_keeping before.places) a before (closed (Err fault)) (shut s) told)
           (sym same) (aborted_behind a m between before told (closed (Err fault)) runs.up aborted behind));
       last = subst (λ (f : StoreFault). OnOk (closed (Err f)) (Spends EndsWithMark before after)) (sym served.ends.1) tt;
+      marked = subst (λ (f : StoreFault). OnOk (closed (Err f)) (MarksRecalled a before after)) (sym served.ends.1) tt;
     };
   })
 
+  -- what was erased before sessions were aborted is marked too
+  aborted_marked : MarksRecalled m before after → MarksRecalled a before after
+  aborted_marked marks entry h at recalls limits state k is keeps =
+      let first = aborted.keeps limits state k keeps in
+      marks entry h at (aborted.recalls entry recalls) limits first.now (adds_all first.leaves.added k)
+      (first.leaves.history ∙ ap (option_map (adds_all first.leaves.added)) is) first.keeps
+
   marked_ends : (written : Result (Unit {0}) ChipFault) → EndsMarking written result
       → WorksBehind (script_keeping before.places) m before (marked written) (shut c) after
-      → OnOk (marked written) (Spends EndsWithMark before after) → Ended result
-  marked_ends (Ok v) is behind last = subst Ended (sym is) (record {
+      → OnOk (marked written) (Spends EndsWithMark before after)
+      → OnOk (marked written) (MarksRecalled m before after) → Ended result
+  marked_ends (Ok v) is behind last marks = subst Ended (sym is) (record {
     up = λ down. cc down;
     free = λ refusal refused. cc refused;
-    closes = record { works = aborted_behind a m c before after (Ok v) runs.up aborted behind; last = last };
+    closes = record {
+      works = aborted_behind a m c before after (Ok v) runs.up aborted behind;
+      last = last;
+      marked = aborted_marked marks;
+    };
   })
-  marked_ends (Err e) is behind last = subst Ended (sym is) (record {
+  marked_ends (Err e) is behind last marks = subst Ended (sym is) (record {
     up = λ down. cc down;
     free = λ refusal refused. cc refused;
-    closes = record { works = aborted_behind a m c before after (Err (Chip e)) runs.up aborted behind; last = last };
+    closes = record {
+      works = aborted_behind a m c before after (Err (Chip e)) runs.up aborted behind;
+      last = last;
+      marked = tt;
+    };
   })
 
   served_ends : IsSound before.places c → ServesClose m.store before result c after → Ended result
@@ -305,6 +375,20 @@ module _ (a m : ScriptStore) (c : Store) (before after : Told) (result : Result 
       told : Told
       told = served.told
 
+      -- what was erased is known still: the status place was made ready, and then programmed
+      marked_recalls : Wears (tables_in m.store.transactions.pages) (tables_in between.transactions.pages)
+          true false before told → MarksStore between told result c after
+          → StillRecalls (script_keeping before.places) m before (shut c) after
+      marked_recalls wears marked entry recalled =
+          let same = marked.directory in
+          leaves_recall (over between) (shut c) told after false
+          (programs_leave_places between.transactions.pages.parts.directory
+          c.transactions.pages.parts.directory _ 1 2 7 told after
+          (ap (λ (d : Places). d.retired) same)
+          (homes_equal between.transactions.pages.parts.directory c.transactions.pages.parts.directory same)
+          marked.costs) entry
+          (leaves_recall m (over between) before told false wears.places entry recalled)
+
       by_ready : (r : Result (Unit {0}) StoreFault)
           → Serves (λ state. state) (2 ^ 14) m.store before r between told
           → Tidies (tables_in m.store.transactions.pages) r (tables_in between.transactions.pages) before told
@@ -315,9 +399,12 @@ module _ (a m : ScriptStore) (c : Store) (before after : Told) (result : Result 
       by_ready (Ok v) ready tidy wears marked =
           marked_ends marked.written marked.ends
           (marked_behind m between before told aborted.running served.units c after marked.written v ready tidy
-          served.counts marked.steps marked.tidy marked.accounts marked.units)
+          served.counts marked.steps marked.tidy marked.accounts marked.units (marked_recalls wears marked))
           (marked_last m between before told aborted.running served.units c after marked.written v ready tidy
-          served.counts marked.steps marked.tidy marked.accounts marked.units marked.last)
+          served.counts marked.steps marked.tidy marked.accounts marked.units (marked_recalls wears marked)
+          marked.last)
+          (erased_marked m between before told aborted.running served.units c after marked.written v ready tidy
+          served.counts marked.steps marked.tidy marked.accounts marked.units (marked_recalls wears marked))
       by_ready (Err fault) ready tidy wears (is, same, still) =
           ready_ends between told fault ready
           (ready_failed m between before told aborted.running served.units fault ready

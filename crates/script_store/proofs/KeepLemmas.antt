@@ -104,6 +104,7 @@ module _ (places : ℕ) (a b : ScriptStore) (old new : Told) (up : a.store.down 
     only = leaves.only;
     lawful = leaves.lawful;
     clean = leaves.clean;
+    unused = record { marks = leaves.unused.marks; counts = leaves.unused.counts };
   }
 
   few_still : a.store.units ≤ 1024 → b.store.units ≤ 1024

@@ -1,5 +1,7 @@
 pub mod KeepLemmas
 pub mod WornLemmas
+pub mod RecallLemmas
+pub mod ErasedLemmas
 pub mod ReopenLemmas
 pub mod WorkLemmas
 pub mod PutLemmas

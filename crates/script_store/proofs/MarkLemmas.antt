@@ -1,5 +1,5 @@
 -- A mark is written behind a store that keeps a state.
-use Rattle.std.proofs.Common.{ℕ, ◌≡◌, true, false, Result, Ok, Err, is_ok, sym, ◌∙◌, ap, subst}
+use Rattle.std.proofs.Common.{ℕ, ◌≡◌, ◌++◌, true, false, [], Result, Ok, Err, OnOk, is_ok, refl, sym, ◌∙◌, ap, subst}
 use Rattle.chip_trait.specs.Chart.{says}
 use Rattle.chip_trait.specs.Moment.{AtEachMoment}
 use Rattle.chip_trait.specs.Story.{held}
@@ -12,12 +12,14 @@ use Rattle.ipl_format.specs.Sector.{sector_in}
 use Rattle.ipl_meaning.specs.Chart.{chart_of}
 use Rattle.ipl_meaning.specs.Rests.{EachStandsIn, StoryRests}
 use Rattle.ipl_meaning.specs.Stands.{StandsIn}
+use Rattle.ipl_meaning.specs.Marks.{KeepsMarks, MarksAreUnused}
 use Rattle.ipl_meaning.specs.Tables.{Tables}
+use Rattle.ipl_meaning.proofs.CarriedLemmas.{unused_is_carried}
 use Rattle.ipl_meaning.proofs.StoryLemmas.{moments_of_one, rests_in_units}
 use Rattle.steps.specs.Steps.{Settled, NoOtherEnd, EndsWith}
-use Rattle.clean_close.specs.Closing.{Closes, ClosesInSteps, RestsMarked}
+use Rattle.clean_close.specs.Closing.{Closes, ClosesInSteps, MarksUnits, RestsMarked}
 use Rattle.store_trait.specs.Keeping.{WorkLeaves}
-use Rattle.store_steps.specs.Keeps.{View, limits_of, KeepsStore, IsUp, store_keeping}
+use Rattle.store_steps.specs.Keeps.{View, limits_of, KeepsStore, IsUp, UsedNothing, store_keeping}
 use Rattle.store_steps.proofs.KeepLemmas.{all_done, at_limits, done_settles}
 
 -- a mark was written, and the story rests; it is not written only where a write failed
@@ -26,14 +28,23 @@ rests_marked : (places : ℕ) (m : Map) (t : Tables) (written : Result (Unit {0}
 rests_marked places m t (Ok v) k marked = marked.rests
 rests_marked places m t (Err e) k none = absurd none
 
+-- and then what holds 512 bytes FF is marked of each unit of which something is known
+units_marked : (places : ℕ) (m : Map) (t : Tables) (old new : Told) (written : Result (Unit {0}) ChipFault) (k : History)
+    → (Settled written old new → EndsWith written (λ v k. RestsMarked places m t k) NoOtherEnd k)
+    → OnOk written (MarksUnits places t (held k.start k.story))
+units_marked places m t old new (Ok v) k ends = (ends tt).units
+units_marked places m t old new (Err e) k ends = tt
+
 module _ (places : ℕ) (before after : View) (old new : Told) (written : Result (Unit {0}) ChipFault)
     (units : after.units ≡ before.units) (up : before.down ≡ false) (down : after.down ≡ true)
+    (same : old.places ≡ places)
     (steps : ClosesInSteps places before.memory.tables after.memory.tables old written new) where
   -- what is left of a store that is down then
   pub record Marks (limits : Limits) (state : State) (h : History) : Type 0 where
     pub leaves : WorkLeaves (store_keeping places) (λ x. StandsIn places limits.units (chart_of x) state.map)
         before h after old new (is_ok written)
     pub keeps : Settled written old new → KeepsStore places limits after new (adds_all leaves.added h) state
+    pub marked : OnOk written (MarksUnits places after.memory.tables (held h.start (leaves.added ++ h.story)))
 
   module _ (state : State) (h : History) (keeps : KeepsStore places (limits_of before.units) before old h state) where
     runs : IsUp places before h state
@@ -55,6 +66,11 @@ module _ (places : ℕ) (before after : View) (old new : Told) (written : Result
         (held k.start k.story) (held_is_image (says sector_in) k.start k.story) in
         rests_in_units places state.map k is.stands.layout rests is.stands.laid ∙ is.count ∙ sym units
 
+    -- nothing that is marked was used
+    kept_marks : UsedNothing places before h → AtEachMoment (λ e. MarksAreUnused places (adds_all e h)) way.added
+    kept_marks unused later e split = subst (λ (n : ℕ). KeepsMarks n h (adds_all e h)) same
+        (way.marks unused.1 later e split) unused.0
+
     marks_here : Marks (limits_of before.units) state h
     marks_here = record {
       leaves = record {
@@ -67,6 +83,15 @@ module _ (places : ℕ) (before after : View) (old new : Told) (written : Result
         clean = λ done. record {
           clean = λ base is clean. way.does.clean (done_settles written old new done) base clean;
         };
+        unused = record {
+          marks = λ unused later e split. kept_marks unused later e split;
+          counts = λ done unused. (
+            kept_marks unused [] way.added refl,
+            unused_is_carried places h runs.shows.layout before.memory.tables after.memory.tables way.added
+                (record { mirrors = runs.shows.fits.mirrors; tidy = runs.tidy })
+                (way.does.clean (done_settles written old new done)) unused.1,
+          );
+        };
       };
       keeps = λ settled.
           let rests = rests_marked places state.map after.memory.tables written (adds_all way.added h)
@@ -77,6 +102,7 @@ module _ (places : ℕ) (before after : View) (old new : Told) (written : Result
             many = many_marked rests;
             up = λ runs. absurd (let clash : true ≡ false = sym down ∙ runs in cc clash);
           };
+      marked = units_marked places state.map after.memory.tables old new written (adds_all way.added h) way.ends;
     }
 
   pub marks : (limits : Limits) (state : State) (h : History) → KeepsStore places limits before old h state

@@ -12,6 +12,7 @@ use Rattle.chip_trait.proofs.LawfulLemmas.{lawful_then, clean_then}
 use Rattle.chip_trait.proofs.MomentLemmas.{at_both}
 use Rattle.chip_trait.proofs.SaidLemmas.{pieces-append}
 use Rattle.store_trait.specs.Keeping.{Keeping, AllOf, WorkLeaves}
+use Rattle.store_trait.proofs.UnusedLemmas.{unused_then, unused_part}
 
 pub all_then : (P : Event → Type 0) (later earlier : Story) → AllOf P later → AllOf P earlier → AllOf P (later ++ earlier)
 all_then P [] earlier more all = all
@@ -43,6 +44,7 @@ module _ {S : Type 0} (k : Keeping S) where
         second.lawful;
     clean = λ is. clean_then (k.clean before) (k.clean mid) (k.clean then) second.added first.added first.lawful
         (first.clean refl) (second.clean is);
+    unused = unused_then k before mid then h done second.added first.added first.unused second.unused;
   }
 
   -- the same, said less of
@@ -57,6 +59,7 @@ module _ {S : Type 0} (k : Keeping S) where
     only = did.only;
     lawful = did.lawful;
     clean = did.clean;
+    unused = did.unused;
   }
 
   -- of a part that isn't done nothing is said of the store then
@@ -70,4 +73,5 @@ module _ {S : Type 0} (k : Keeping S) where
     only = did.only;
     lawful = did.lawful;
     clean = λ is. absurd (false≢true is);
+    unused = unused_part k before mid then h false did.added did.unused;
   }

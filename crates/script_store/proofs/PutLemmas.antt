@@ -13,7 +13,7 @@ use Rattle.page_frames.specs.Pages.{tables_in}
 use Rattle.steps.specs.Steps.{Tidies}
 use Rattle.store_trait.specs.declared.fault.Fault.{Fault}
 use Rattle.store_trait.specs.declared.fault.Fault.TheVariants.{Spent}
-use Rattle.store_trait.specs.Keeping.{WORK_DRAWS, Works, Learns}
+use Rattle.store_trait.specs.Keeping.{WORK_DRAWS, Works, Learns, StillRecalls}
 use Rattle.store_steps.specs.Keeps.{limits_of, store_keeping}
 use Rattle.store_steps.specs.Refusals.{sessions_refuse_put}
 use Rattle.store_steps.proofs.PutLemmas.{full_puts_are_work, written_puts_are_work, failed_puts_leave_the_map}
@@ -22,6 +22,7 @@ use Rattle.ipl_store.specs.Puts.{put_fault, found_room, put_next, PutsBy}
 use Rattle.script_store.specs.declared.store.ScriptStore.{ScriptStore}
 use Rattle.script_store.specs.Keeps.{IsRunning, script_keeping, answer_of, reply_of, Does}
 use Rattle.script_store.proofs.KeepLemmas.{tidy_so}
+use Rattle.script_store.proofs.RecallLemmas.{calls_recall}
 use Rattle.script_store.proofs.WornLemmas.{calls_learn}
 use Rattle.script_store.proofs.WorkLemmas.{done_does, served_does, few_drawn, by_entry, never_down, up_entry}
 
@@ -89,19 +90,21 @@ module _ (s n : ℕ) (bytes : List ℕ) (a b : ScriptStore) (before after : Told
         → Tidies (tables_in a.store.transactions.pages) found (tables_in b.store.transactions.pages)
         before after
         → Learns (script_keeping before.places) a before (answer_of put_reply found) b after
+        → StillRecalls (script_keeping before.places) a before b after
         → Counts before after → Does c a before (answer_of put_reply found) b after
-    put_served (Ok room) did by sound tidy learns counts =
+    put_served (Ok room) did by sound tidy learns recalls counts =
         let next = put_next s n bytes (Ok room) in
         done_does put_reply c next 14 a b before after runs (omega arith) units room did
         (put_work room by
         (few_drawn put_reply c next 14 a b before after runs (omega arith) units did.drawn))
         (record { sound = sound; up = did.ends })
-        (tidy_so before.places a b before after (Ok room) (Ok (put_reply room)) refl tidy) learns counts
-    put_served (Err fault) did by sound tidy learns counts =
+        (tidy_so before.places a b before after (Ok room) (Ok (put_reply room)) refl tidy) learns
+        recalls counts
+    put_served (Err fault) did by sound tidy learns recalls counts =
         served_does put_reply c (put_next s n bytes (Err fault)) 14 a b before after runs (omega arith)
         units (λ state sessions.
         failed_puts_leave_the_map (limits_of a.store.units) state s n bytes Spent)
-        (Err fault) did tt sound tidy learns counts
+        (Err fault) did tt sound tidy learns recalls counts
 
   -- ---- the call
 
@@ -118,6 +121,8 @@ module _ (s n : ℕ) (bytes : List ℕ) (a b : ScriptStore) (before after : Told
         (λ none free units. put_served units free (found_room result) (calls.serves none) (by none)
         calls.sound calls.tidy (calls_learn a b before after put_reply (found_room result) runs
         (put_fault a.store s n bytes) (put_next s n bytes (found_room result)) 14 calls)
+        (calls_recall a b before after (found_room result) (put_fault a.store s n bytes)
+        (put_next s n bytes (found_room result)) 14 calls)
         calls.counts) (up_entry a runs.up))
 
     -- of a store that isn't down it doesn't say that it is

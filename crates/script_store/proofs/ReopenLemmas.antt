@@ -75,13 +75,13 @@ module _ {marks : Bool} (places : ℕ) (c : Chart) (earlier : Story) (old new : 
   pub opened_retired : (p : ℕ) → Contains t.places.retired p
       → IsKnownWorn places c (costs.erases.added ++ earlier) p
   opened_retired = retired_known places c costs.found t.places earlier costs.erases.added
-      (ends_worn_out result) found_known costs.erases.does.retires
+      (ends_worn_out result) found_known costs.erases.does.places.retires
 
   module _ (units : units_at (chart_of x) old.places ≡ units_at c places) where
     pub opened_too_many : length t.places.in_use ≡ places → ends_worn_out result ≡ true
         → TooManyAreWorn places c (costs.erases.added ++ earlier)
     opened_too_many all worn = too_many places c costs.found t.places earlier costs.erases.added
-        (ends_worn_out result) found_known costs.erases.does.retires all
+        (ends_worn_out result) found_known costs.erases.does.places.retires all
         (costs.units ended x told ∙ units) worn
 
 -- ---- a chip that was opened

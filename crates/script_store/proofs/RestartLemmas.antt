@@ -1,5 +1,6 @@
 -- A chip that is opened again is the work of a restart.
 use Rattle.std.proofs.Common.{ℕ, ◌≡◌, ◌⊎◌, inl, inr, ◌≤◌, ◌<◌, ◌+◌, ◌^◌, arith, Bool, true, false, [], None, Some, Result, Ok, Err, OnOk, length, if◌then◌else◌, refl, sym, ◌∙◌, ap, subst}
+use Rattle.std.proofs.lemmas.Bool.{true≢false}
 use Rattle.chip_trait.specs.Lawful.{AreClean}
 use Rattle.chip_trait.specs.Story.{Story, Contents, held}
 use Rattle.chip_trait.specs.Told.{History, Told}
@@ -101,6 +102,7 @@ module _ (a b : ScriptStore) (old new : Told) (up : a.store.down ≡ false)
           only = did.leaves.only;
           lawful = did.leaves.lawful;
           clean = λ done. absurd (cc done);
+          unused = record { marks = did.leaves.unused.marks; counts = λ done. absurd (cc done) };
         };
         ends = λ unrisen.
             let stays = did.ends unrisen in
@@ -271,6 +273,7 @@ module _ (a b : ScriptStore) (before after : Told) (runs : IsRunning before.plac
     running = record { sound = sound; up = opens.fresh.up };
     learns = λ entry knows.
         restart_learns_done a b before after runs entry knows opens tries;
+    recalls = λ calm. absurd (true≢false calm);
     counts = tries.accounts.counts;
     cause = tt;
   }
@@ -313,6 +316,7 @@ module _ (a b : ScriptStore) (before after : Told) (runs : IsRunning before.plac
     running = tt;
     learns = λ entry knows.
         restart_learns_failed a b before after runs entry knows e t tries;
+    recalls = λ calm. tt;
     counts = tries.accounts.counts;
     cause = image_cause before.places t.places e before after tries.all tries.units
         tries.accounts.cause;

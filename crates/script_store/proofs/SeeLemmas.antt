@@ -18,7 +18,7 @@ use Rattle.unit_io.specs.Reads.{OfContents}
 use Rattle.steps.specs.Steps.{Tidies}
 use Rattle.page_frames.specs.Pages.{tables_in, PageCause}
 use Rattle.store_trait.specs.declared.fault.Fault.TheVariants.{Chip, Spent}
-use Rattle.store_trait.specs.Keeping.{LAST_NUMBER, LOOK_UP_DRAWS, WorkLeaves, Works, LooksUp, LeavesTidy, Learns}
+use Rattle.store_trait.specs.Keeping.{LAST_NUMBER, LOOK_UP_DRAWS, WorkLeaves, Works, LooksUp, LeavesTidy, Learns, StillRecalls}
 use Rattle.store_trait.proofs.TidyLemmas.{tidy_same}
 use Rattle.store_steps.specs.Advances.{TurnsMapOf}
 use Rattle.store_steps.specs.Keeps.{View, limits_of, ShowsState, store_keeping}
@@ -32,6 +32,7 @@ use Rattle.ipl_store.proofs.ShownLemmas.{name_shown}
 use Rattle.script_store.specs.declared.store.ScriptStore.{ScriptStore}
 use Rattle.script_store.specs.Keeps.{IsRunning, script_keeping, not_found, looked_up, Finds}
 use Rattle.script_store.proofs.KeepLemmas.{looks_up_so, draws_few, tidy_so}
+use Rattle.script_store.proofs.RecallLemmas.{calls_recall}
 use Rattle.script_store.proofs.WornLemmas.{look_up_learns}
 use Rattle.script_store.proofs.WorkLemmas.{AreCounted, chip_rose, chip_cause, chip_tells, IsEntry, up_entry}
 
@@ -142,6 +143,7 @@ leaves_same places P first last h old new done leaves = record {
   only = leaves.only;
   lawful = leaves.lawful;
   clean = leaves.clean;
+  unused = leaves.unused;
 }
 
 -- a name below the limit isn't refused
@@ -169,6 +171,7 @@ module _ (n : ℕ) (a b : ScriptStore) (before after : Told) (runs : IsRunning b
     draws = draws_few before.places LOOK_UP_DRAWS _ a a runs.up (omega arith) (λ is. late);
     running = tt;
     learns = λ entry knows. tt;
+    recalls = tt;
     counts = counts_none before;
     cause = tt;
   }
@@ -184,6 +187,7 @@ module _ (n : ℕ) (a b : ScriptStore) (before after : Told) (runs : IsRunning b
         (λ spent. absurd (cc spent));
     running = runs;
     learns = λ entry knows. knows;
+    recalls = λ entry recalled. recalled;
     counts = counts_none before;
     cause = tt;
   }
@@ -194,13 +198,15 @@ module _ (n : ℕ) (a b : ScriptStore) (before after : Told) (runs : IsRunning b
         → IsCommitted n a.store before found → IsRunning before.places b
         → LeavesTidy (script_keeping before.places) a b before after true
         → Learns (script_keeping before.places) a before (Ok found) b after
+        → StillRecalls (script_keeping before.places) a before b after
         → (counts : Counts before after) → Finds n a before (Ok found) b after
-    done_finds found did committed running tidy learns counts = record {
+    done_finds found did committed running tidy learns recalls counts = record {
       looks_up = looks_up_so before.places a b before after runs.up units n (Ok found) looks;
       tidy = tidy;
       draws = draws_few before.places LOOK_UP_DRAWS _ a b runs.up few (λ spent. absurd (cc spent));
       running = running;
       learns = learns;
+      recalls = recalls;
       counts = counts;
       cause = tt;
     }
@@ -247,6 +253,7 @@ module _ (n : ℕ) (a b : ScriptStore) (before after : Told) (runs : IsRunning b
       draws = draws_few before.places LOOK_UP_DRAWS _ a b runs.up few (λ spent. absurd (cc spent));
       running = tt;
       learns = learns;
+      recalls = tt;
       counts = counts;
       cause = chip_cause before.places a.store.units d e before after are cause;
     }
@@ -297,12 +304,13 @@ module _ (n : ℕ) (a b : ScriptStore) (before after : Told) (runs : IsRunning b
         → IsSound before.places b.store
         → Tidies (tables_in a.store.transactions.pages) result (tables_in b.store.transactions.pages)
         before after → Learns (script_keeping before.places) a before (looked_up result) b after
+        → StillRecalls (script_keeping before.places) a before b after
         → Counts before after → Finds n a before (looked_up result) b after
-    served_finds (Ok found) did committed sound tidy learns counts =
+    served_finds (Ok found) did committed sound tidy learns recalls counts =
         done_finds found did committed (record { sound = sound; up = did.ends })
         (tidy_so {U = Option (List ℕ)} before.places a b before after (Ok found) (Ok found) refl
-        tidy) learns counts
-    served_finds (Err fault) did committed sound tidy learns counts =
+        tidy) learns recalls counts
+    served_finds (Err fault) did committed sound tidy learns recalls counts =
         let (e, is_chip, cause, down) = did.ends in
         subst (λ (f : StoreFault). Serves {T = Option (List ℕ)} (λ state. state) 14 a.store before
         (Err f) b.store after → Learns (script_keeping before.places) a before (not_found f) b after
@@ -335,6 +343,7 @@ module _ (n : ℕ) (a b : ScriptStore) (before after : Told) (runs : IsRunning b
         served_finds calls.units result
         (calls.serves refl) committed calls.sound calls.tidy
         (look_up_learns a b before after result runs (early_fault None None) (λ state. state) 14 calls)
+        (calls_recall a b before after result (early_fault None None) (λ state. state) 14 calls)
         calls.counts
 
     by_entry : (entry : Option StoreFault) → IsEntry a entry

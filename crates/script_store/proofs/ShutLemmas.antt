@@ -1,7 +1,7 @@
 -- A store that is put down keeps the records.
 use Rattle.std.proofs.Common.{ℕ, ◌≡◌, ◌≤◌, ◌<◌, ◌+◌, ◌++◌, max, ◌⊎◌, inl, inr, arith, true, false, Result, Ok, Err, MatchResult, IsErrOf, is_ok, refl, sym, subst}
 use Rattle.std.proofs.lemmas.Bool.{false≢true}
-use Rattle.std.proofs.lemmas.Result.{IfErr-weaker}
+use Rattle.std.proofs.lemmas.Result.{IfErr-weaker, on_ok_weaker}
 use Rattle.chip_trait.specs.Story.{Contents}
 use Rattle.chip_trait.specs.Told.{History, Told, adds_all}
 use Rattle.ipl_rules.specs.State.{Map, State, Limits}
@@ -100,6 +100,7 @@ module _ (m mid : ScriptStore) (before after : Told) (fault : Fault) (up : m.sto
     draws = draws_none before.places WORK_DRAWS m mid m mid.store (IsErrOf {T = Reply} (Err fault) Spent)
         (IsErrOf {T = Unit {0}} (Err fault) Spent) also_spent does.draws (omega arith) up;
     learns = λ entry knows. does.learns entry knows;
+    recalls = tt;
     counts = does.counts;
     cause = does.cause;
   }
@@ -160,6 +161,8 @@ module _ (a m : ScriptStore) (c : Store) (before after : Told) (result : Result 
     tidy = tidy_then (script_keeping before.places) a m (shut c) before before after (is_ok result) aborted.tidy did.tidy;
     draws = draws_none before.places WORK_DRAWS a (shut c) m c _ _ (λ is. is) did.draws aborted.drawn up;
     learns = λ entry knows. did.learns entry (aborted.knows entry knows);
+    recalls = on_ok_weaker result (λ still entry recalled. still entry (aborted.recalls entry recalled))
+        did.recalls;
     counts = did.counts;
     cause = did.cause;
   }

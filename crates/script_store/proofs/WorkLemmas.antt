@@ -24,7 +24,7 @@ use Rattle.pending_writes.specs.Fits.{AreSessionsOf}
 use Rattle.steps.specs.Steps.{Tidies}
 use Rattle.page_frames.specs.Pages.{tables_in, PageCause}
 use Rattle.store_trait.specs.declared.fault.Fault.TheVariants.{Chip, Spent}
-use Rattle.store_trait.specs.Keeping.{LAST_NUMBER, WORK_DRAWS, ChipRose, Works, LeavesTidy, Learns}
+use Rattle.store_trait.specs.Keeping.{LAST_NUMBER, WORK_DRAWS, ChipRose, Works, LeavesTidy, Learns, StillRecalls}
 use Rattle.store_trait.proofs.TidyLemmas.{tidy_same}
 use Rattle.store_steps.specs.Advances.{TurnsMapOf}
 use Rattle.store_steps.specs.Keeps.{View, limits_of, ChipTells, ShowsState, StoreCause, store_keeping}
@@ -39,6 +39,7 @@ use Rattle.ipl_store.specs.Calls.{view_of, counter_of, IsSound, entry_fault, dow
 use Rattle.script_store.specs.declared.store.ScriptStore.{ScriptStore}
 use Rattle.script_store.specs.Keeps.{IsRunning, script_keeping, ended, answer_of, Does}
 use Rattle.script_store.proofs.KeepLemmas.{works_so, draws_few, tidy_so}
+use Rattle.script_store.proofs.RecallLemmas.{calls_recall}
 use Rattle.script_store.proofs.WornLemmas.{spares_at, calls_learn}
 
 -- ---- faults of the chip
@@ -178,6 +179,7 @@ module _ (c : Command) (a : ScriptStore) (told : Told) (runs : IsRunning told.pl
     draws = draws_few told.places WORK_DRAWS _ a a runs.up (omega arith) (λ is. late);
     running = tt;
     learns = λ entry knows. tt;
+    recalls = λ calm. tt;
     counts = counts_none told;
     cause = tt;
   }
@@ -199,6 +201,7 @@ module _ (c : Command) (a : ScriptStore) (told : Told) (runs : IsRunning told.pl
         (λ spent. absurd (cc spent));
     running = runs;
     learns = λ entry knows. knows;
+    recalls = λ calm entry recalled. recalled;
     counts = counts_none told;
     cause = tt;
   }
@@ -224,6 +227,7 @@ module _ (a : ScriptStore) (told : Told) (runs : IsRunning told.places a) where
         (λ spent. absurd (cc spent));
     running = runs;
     learns = λ entry knows. knows;
+    recalls = λ calm entry recalled. recalled;
     counts = counts_none told;
     cause = tt;
   }
@@ -257,14 +261,16 @@ module _ {T : Type 0} (say : T → Reply) (c : Command) (next : State → State)
       → IsWork found → IsRunning before.places b
       → LeavesTidy (script_keeping before.places) a b before after true
       → Learns (script_keeping before.places) a before (Ok (say found)) b after
+      → StillRecalls (script_keeping before.places) a before b after
       → (counts : Counts before after) → Does c a before (Ok (say found)) b after
-  done_does found did works running tidy learns counts = record {
+  done_does found did works running tidy learns recalls counts = record {
     works = works_so before.places a b before after runs.up units c (Ok (say found)) works;
     tidy = tidy;
     draws = draws_few before.places WORK_DRAWS _ a b runs.up (few_drawn did.drawn)
         (λ spent. absurd (cc spent));
     running = running;
     learns = learns;
+    recalls = λ calm. recalls;
     counts = counts;
     cause = tt;
   }
@@ -293,6 +299,7 @@ module _ {T : Type 0} (say : T → Reply) (c : Command) (next : State → State)
         (λ spent. absurd (cc spent));
     running = tt;
     learns = learns;
+    recalls = λ calm. tt;
     counts = counts;
     cause = chip_cause before.places a.store.units d e before after are cause;
   }
@@ -312,11 +319,13 @@ module _ {T : Type 0} (say : T → Reply) (c : Command) (next : State → State)
       → IsSound before.places b.store
       → Tidies (tables_in a.store.transactions.pages) result (tables_in b.store.transactions.pages)
       before after → Learns (script_keeping before.places) a before (answer_of say result) b after
+      → StillRecalls (script_keeping before.places) a before b after
       → Counts before after → Does c a before (answer_of say result) b after
-  served_does steps (Ok found) did works sound tidy learns counts =
+  served_does steps (Ok found) did works sound tidy learns recalls counts =
       done_does found did works (record { sound = sound; up = did.ends })
-      (tidy_so before.places a b before after (Ok found) (Ok (say found)) refl tidy) learns counts
-  served_does steps (Err fault) did works sound tidy learns counts =
+      (tidy_so before.places a b before after (Ok found) (Ok (say found)) refl tidy) learns recalls
+      counts
+  served_does steps (Err fault) did works sound tidy learns recalls counts =
       let (e, is_chip, cause, down) = did.ends in
       subst (λ (f : StoreFault). Serves {T = T} next most a.store before (Err f) b.store after
       → Learns (script_keeping before.places) a before (ended f) b after
@@ -435,6 +444,7 @@ module _ {T : Type 0} (say : T → Reply) (c : Command) (refusal : Option Refusa
       (calls.serves none) replies)
       calls.sound calls.tidy
       (calls_learn a b before after say result runs (early_fault entry refusal) next most calls)
+      (calls_recall a b before after result (early_fault entry refusal) next most calls)
       calls.counts) is
 
   -- that the store refuses once its numbers are used up

@@ -87,15 +87,15 @@ module _ (a b : ScriptStore) (before after entry : Told) (x : Contents) (h : His
       → Wears t then true false before after → Counts before after
       → KnowsSince entry.places x h b.store after
   done_knows v next most did wears counts =
-      let more = wears.retires.added in
+      let more = wears.places.added in
       let left = did.leads.fits entry.places since.places_are tt since.contents since.told in
       let on = left.2 since.layout since.state since.fits in
       let lists = wears.lists refl since.contents since.told in
       let one : left.0 ≡ lists.0 = same_Some left.0 lists.0 (sym left.1 ∙ lists.1) in
       let known = retired_known entry.places (chart_of x) t.places then.places since.added more false
-      since.retired wears.retires.does in record {
+      since.retired wears.places.does.retires in record {
         added = more ++ since.added;
-        history = history_longer more since.added h before after since.history wears.retires.history;
+        history = history_longer more since.added h before after since.history wears.places.history;
         contents = left.0;
         told = left.1;
         places_are = counts.places ∙ since.places_are;
@@ -117,11 +117,11 @@ module _ (a b : ScriptStore) (before after entry : Told) (x : Contents) (h : His
       → (added : Story) × (after.history ≡ Some (adds_all added h))
       × TooManyAreWorn entry.places (chart_of x) added
   fails_worn wears sound counted =
-      let more = wears.retires.added in (
+      let more = wears.places.added in (
         more ++ since.added,
-        history_longer more since.added h before after since.history wears.retires.history,
+        history_longer more since.added h before after since.history wears.places.history,
         too_many entry.places (chart_of x) t.places then.places since.added more true
-            since.retired wears.retires.does (sound.made.directory ∙ since.places_are)
+            since.retired wears.places.does.retires (sound.made.directory ∙ since.places_are)
             (counted ∙ units ∙ since.units) refl,
       )
 

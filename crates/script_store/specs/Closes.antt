@@ -1,20 +1,27 @@
 -- What a clean close behind a script leaves.
-use Rattle.std.specs.Prelude.{◌≡◌, ◌≤◌, true, Result, Ok, Err, OnOk}
+use Rattle.std.specs.Prelude.{ℕ, ◌≡◌, ◌<◌, ◌≤◌, true, Some, Result, Ok, Err, OnOk}
+use Rattle.chip_trait.specs.Lawful.{Clean, age}
+use Rattle.chip_trait.specs.Story.{Story, held}
 use Rattle.chip_trait.specs.Told.{History, Told, adds_all}
+use Rattle.ipl_base.specs.declared.limits.TheConstants.{SECTORS, FIRST_LOG_SECTOR}
 use Rattle.ipl_base.specs.declared.fault.StoreFault.{StoreFault}
 use Rattle.ipl_base.specs.declared.fault.StoreFault.TheVariants as store
 use Rattle.ipl_rules.specs.State.{State, Limits}
 use Rattle.ipl_meaning.specs.Chart.{chart_of}
+use Rattle.ipl_meaning.specs.Layout.{Layout, Laid}
+use Rattle.ipl_meaning.specs.Marks.{IsMarked}
+use Rattle.ipl_meaning.specs.Rests.{now}
 use Rattle.ipl_meaning.specs.Stands.{StandsIn}
 use Rattle.unit_io.specs.Costs.{Spends}
 use Rattle.clean_close.specs.Closing.{EndsWithMark}
 use Rattle.store_trait.specs.declared.fault.Fault.{Fault}
 use Rattle.store_trait.specs.declared.fault.Fault.TheVariants.{Chip, Spent}
-use Rattle.store_trait.specs.Keeping.{LeavesTidy, WorkLeaves}
+use Rattle.store_trait.specs.Keeping.{LeavesTidy, WorkLeaves, StillRecalls}
 use Rattle.store_trait.specs.Behind.{WorksBehind}
 use Rattle.ipl_store.specs.Calls.{counter_of}
 use Rattle.script_store.specs.declared.store.ScriptStore.{ScriptStore}
 use Rattle.script_store.specs.Keeps.{IsRunning, KeepsScript, script_keeping}
+use Rattle.script_store.specs.Recalls.{RecallsErased}
 use Rattle.script_store.specs.Worn.{KnowsWorn}
 
 -- ---- no session is open
@@ -38,6 +45,27 @@ pub record Aborts (old : ScriptStore) (told : Told) (new : ScriptStore) : Type 0
   pub tidy : LeavesTidy (script_keeping told.places) old new told told true
   pub drawn : counter_of new.store ≤ counter_of old.store
   pub knows : (entry : Told) → KnowsWorn entry old told → KnowsWorn entry new told
+  pub recalls : StillRecalls (script_keeping told.places) old told new told
+
+-- ---- what is marked
+
+-- Each log sector at a unit's place that these events erased, and didn't program since, is marked then.
+abbrev pub MarksErased : ℕ → History → Story → Type 0
+MarksErased places k added = (it : Layout) → Laid places (now k) it → (u n : ℕ) → u < it.count
+    → FIRST_LOG_SECTOR ≤ n → n < SECTORS → age added (it.units u).home n ≡ Clean
+    → IsMarked places (held k.start k.story) (it.units u).home n
+
+-- so it is behind this history, which the chip tells since
+pub record MarksSince (places : ℕ) (h : History) (t : Told) : Type 0 where
+  pub added : Story
+  pub history : t.history ≡ Some (adds_all added h)
+  pub marked : MarksErased places (adds_all added h) added
+
+-- Of a store that knew what was erased since an entry, and kept a state.
+abbrev pub MarksRecalled : ScriptStore → Told → Told → Type 0
+MarksRecalled old before after = (entry : Told) (h : History) → entry.history ≡ Some h → RecallsErased entry old before
+    → (limits : Limits) (state : State) (k : History) → before.history ≡ Some k
+    → KeepsScript before.places limits old before k state → MarksSince before.places h after
 
 -- ---- a close
 
@@ -50,8 +78,9 @@ closed (Err (store.Refused refusal)) = Err Spent
 closed (Err (store.Chip fault)) = Err (Chip fault)
 
 -- Whatever the chip tells, it works behind the script as what says nothing does; and done, the last two events are the
--- program of a mark and a barrier.
+-- program of a mark and a barrier, and what was erased since an entry and not programmed is marked.
 pub record Closes (old : ScriptStore) (before : Told) (result : Result (Unit {0}) Fault) (new : ScriptStore)
     (after : Told) : Type 0 where
   pub works : WorksBehind (script_keeping before.places) old before result new after
   pub last : OnOk result (Spends EndsWithMark before after)
+  pub marked : OnOk result (MarksRecalled old before after)

@@ -13,14 +13,16 @@ use Rattle.ipl_model.specs.declared.reply.Reply.TheVariants as reply
 use Rattle.ipl_format.specs.Sector.{sector_in}
 use Rattle.ipl_meaning.specs.Chart.{chart_of}
 use Rattle.ipl_meaning.specs.Stands.{StandsIn}
+use Rattle.ipl_meaning.specs.Marks.{MarksAreUnused}
 use Rattle.ipl_meaning.specs.Tables.{IsCountedClean}
 use Rattle.store_trait.specs.declared.fault.Fault.{Fault}
 use Rattle.store_trait.specs.declared.fault.Fault.TheVariants.{Chip, Spent}
 use Rattle.store_trait.specs.Onward.{Still, sayings}
-use Rattle.store_trait.specs.Keeping.{Keeping, WORK_DRAWS, LOOK_UP_DRAWS, Draws, Works, LooksUp, LeavesTidy, Learns}
-use Rattle.store_steps.specs.Keeps.{KeepsStore, StoreCause, FaultTells, keeps_each, keeps_still, cause_longer}
+use Rattle.store_trait.specs.Keeping.{Keeping, WORK_DRAWS, LOOK_UP_DRAWS, Draws, Works, LooksUp, LeavesTidy, Learns, DoneRecalls, is_restart}
+use Rattle.store_steps.specs.Keeps.{KeepsStore, StoreCause, FaultTells, UsedNothing, keeps_each, keeps_still, said_unused, cause_longer}
 use Rattle.ipl_store.specs.Calls.{view_of, counter_of, IsSound}
 use Rattle.script_store.specs.declared.store.ScriptStore.{ScriptStore}
+use Rattle.script_store.specs.Recalls.{RecallsErased, erased_still}
 use Rattle.script_store.specs.Worn.{KnowsWorn, FaultWears, worn_still}
 
 -- ---- what it keeps
@@ -57,16 +59,22 @@ script_keeping places = record {
   holds = KeepsScript places;
   suits = IsRunning places;
   clean = λ s p sector. IsCountedClean (view_of s.store).memory.tables p sector;
+  marked = MarksAreUnused places;
+  unused = λ s. UsedNothing places (view_of s.store);
   counter = next_number;
   does = λ e. Unit {0};
   cause = StoreCause places;
   knows = KnowsWorn;
   wears = FaultWears;
+  recalls = RecallsErased;
   tells = λ limits fault. FaultTells (spares_on places limits.units) fault;
   each = λ limits s t h state keeps.
       keeps_each places limits (view_of s.store) t h state keeps.kept;
   still = script_still places;
   known_still = worn_still;
+  unused_marked = λ s h unused. unused.0;
+  unused_said = λ s. said_unused places (view_of s.store);
+  recalled_still = erased_still;
   caused = cause_longer places;
 }
 
@@ -109,6 +117,7 @@ pub record Does (c : Command) (old : ScriptStore) (before : Told) (result : Resu
   pub draws : Draws (script_keeping before.places) WORK_DRAWS old (IsErrOf result Spent) new
   pub running : OnOk result (IsRunning before.places new)
   pub learns : Learns (script_keeping before.places) old before result new after
+  pub recalls : is_restart c ≡ false → DoneRecalls (script_keeping before.places) old before result new after
   pub counts : Counts before after
   pub cause : IfErr result (λ fault. StoreCause before.places fault before after)
 
@@ -120,5 +129,6 @@ pub record Finds (n : ℕ) (old : ScriptStore) (before : Told)
   pub draws : Draws (script_keeping before.places) LOOK_UP_DRAWS old (IsErrOf result Spent) new
   pub running : OnOk result (IsRunning before.places new)
   pub learns : Learns (script_keeping before.places) old before result new after
+  pub recalls : DoneRecalls (script_keeping before.places) old before result new after
   pub counts : Counts before after
   pub cause : IfErr result (λ fault. StoreCause before.places fault before after)

@@ -1,4 +1,5 @@
 pub mod Worn
+pub mod Recalls
 pub mod Keeps
 pub mod Done
 pub mod Closes

@@ -10,7 +10,8 @@
 //! the model's next state, and the reply is the model's; few numbers are drawn, and a fault has its
 //! excuse and its cause. So is looking a committed record up. A clean close aborts all sessions, and is
 //! work behind the script that says nothing: the chip stands for the same records, and done, its last two
-//! events are the program of a mark and a barrier.
+//! events are the program of a mark and a barrier. Each log sector at a unit's place that was erased since the
+//! chip was opened, and not programmed, is marked then.
 #![tactic(auto)]
 
 mod changing;

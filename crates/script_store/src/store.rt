@@ -1,9 +1,9 @@
 //! The store that a run of a script works with.
-ghost use Rattle.std.specs.Prelude.{◌≡◌, ◌≤◌, ℕ, IfOk, IfErr, OnOk, IsErrOf, is_ok};
+ghost use Rattle.std.specs.Prelude.{◌≡◌, ◌≤◌, ℕ, false, IfOk, IfErr, OnOk, IsErrOf, is_ok};
 ghost use Rattle.chip_trait.specs.Told.{History, Told, Counts};
 ghost use Rattle.ipl_rules.specs.State.{State, Limits};
 ghost use Rattle.store_trait.specs.declared.fault.Fault.TheVariants.{Spent};
-ghost use Rattle.store_trait.specs.Keeping.{IsSingle, Works, LooksUp, LeavesTidy, Learns, Draws, WORK_DRAWS, LOOK_UP_DRAWS};
+ghost use Rattle.store_trait.specs.Keeping.{IsSingle, Works, LooksUp, LeavesTidy, Learns, DoneRecalls, is_restart, Draws, WORK_DRAWS, LOOK_UP_DRAWS};
 ghost use Rattle.store_steps.specs.Keeps.{StoreCause};
 ghost use Rattle.script_store.specs.Keeps.{IsRunning, KeepsScript, Does, script_keeping};
 ghost use Rattle.script_store.specs.Done.{HasDone, HasFound};
@@ -93,6 +93,9 @@ impl store_trait::Store for ScriptStore {
         ensures suited { OnOk result (IsRunning (C.told chip.old).places self.new) }
         ensures learns { Learns (script_keeping (C.told chip.old).places) self.old (C.told chip.old)
             result self.new (C.told chip.new) }
+        ensures recalls { is_restart command.now ≡ false
+            → DoneRecalls (script_keeping (C.told chip.old).places) self.old (C.told chip.old)
+            result self.new (C.told chip.new) }
         ensures counts { Counts (C.told chip.old) (C.told chip.new) }
         ensures cause { IfErr result (λ fault. StoreCause (C.told chip.old).places fault
             (C.told chip.old) (C.told chip.new)) }
@@ -113,6 +116,8 @@ impl store_trait::Store for ScriptStore {
             (C.told chip.old) (C.told chip.new) (is_ok result) }
         ensures suited { OnOk result (IsRunning (C.told chip.old).places self.new) }
         ensures learns { Learns (script_keeping (C.told chip.old).places) self.old (C.told chip.old)
+            result self.new (C.told chip.new) }
+        ensures recalls { DoneRecalls (script_keeping (C.told chip.old).places) self.old (C.told chip.old)
             result self.new (C.told chip.new) }
         ensures counts { Counts (C.told chip.old) (C.told chip.new) }
         ensures cause { IfErr result (λ fault. StoreCause (C.told chip.old).places fault

@@ -11,7 +11,7 @@ mod WriteLemmas
 mod FillLemmas
 mod SealLemmas
 mod MovingLemmas
-mod HeldLemmas
+pub mod HeldLemmas
 pub mod TakenLemmas
 mod MergedLemmas
 mod WholeLemmas

@@ -3,6 +3,7 @@ use Rattle.std.specs.Prelude.{ℕ, ◌≡◌, ◌≢◌, ◌⊎◌, ◌<◌, ◌
 use Rattle.ipl_meaning.specs.Tables.{Places, IsFree, Tables, overflow_places}
 use Rattle.unit_directory.specs.Directory.{after_replace}
 use Rattle.unit_directory.specs.Free.{free_count, aside}
+use Rattle.place_taking.specs.Homes.{KeepsHomes}
 use Rattle.place_taking.specs.Takes.{with_places}
 use Rattle.merge_rules.specs.Known.{KnowsPlaces}
 use Rattle.selective_merge.specs.declared.parts.Parts.{Parts}
@@ -51,10 +52,11 @@ NoneIsLostBut p places t = (q : ℕ) → q < places → q ≢ p → ¬ IsFree t.
     → Contains t.places.current q ⊎ (q ≡ t.status.place) ⊎ Contains (overflow_places t) q
     ⊎ Contains t.places.retired q
 
--- there are as many units, the same sessions are open, the status is the same, and the tables know
--- each place
+-- There are as many units, and of which nothing is known, those stayed so at their places; the same
+-- sessions are open, the status is the same, and the tables know each place.
 pub record Holds (places : ℕ) (before after : Tables) : Type 0 where
   pub units : length after.places.current ≡ length before.places.current
+  pub homes : KeepsHomes before.places after.places
   pub active : after.active ≡ before.active
   pub status : after.status ≡ before.status
   pub known : KnowsPlaces places after

@@ -1,15 +1,19 @@
 -- What calls cost that erase places for what they write.
-use Rattle.std.proofs.Common.{◌≡◌, ◌≤◌, ◌+◌, ◌*◌, ◌∙◌, ℕ, Bool, true, false, Result, Ok, Err, OnOk, [], ◌++◌, refl, arith}
+use Rattle.std.proofs.Common.{◌≡◌, ◌≤◌, ◌+◌, ◌*◌, ◌-◌, ◌∙◌, ℕ, Bool, true, false, Result, Ok, Err, OnOk, [], ◌++◌, length, map, slice_index, inl, inr, refl, subst, arith}
 use Rattle.std.specs.Prelude.{is_ok}
-use Rattle.std.proofs.lemmas.Bool.{false≢true}
+use Rattle.std.proofs.lemmas.Bool.{cases_lt, lt-ltb, le-ltb, false≢true}
+use Rattle.std.proofs.lemmas.List.{length-map, get_or-map, get_or_past}
 use Rattle.chip_trait.specs.Story.{Story}
 use Rattle.chip_trait.specs.Told.{Told}
 use Rattle.ipl_base.specs.declared.fault.ChipFault.{ChipFault}
-use Rattle.ipl_meaning.specs.Tables.{Places, with_marks_ended}
+use Rattle.ipl_meaning.specs.Tables.{Places, unmarked_written, with_marks_ended}
+use Rattle.place_taking.specs.Homes.{HomesAreUsed, KeepsHomes}
 use Rattle.place_taking.specs.Spending.{ErasesFree, ErasesFor, tells_worn}
 use Rattle.place_taking.specs.Takes.{ErasesNext}
 use Rattle.place_taking.proofs.JoinLemmas.{costs_of_untaken}
-use Rattle.place_taking.proofs.SpendingLemmas.{none_found, retires_none, retires_then, retiring_at_most, retiring_of, retiring_then}
+use Rattle.place_taking.proofs.HomeLemmas.{erases_leave, homes_same, known_with, leaves_then}
+use Rattle.place_taking.proofs.SpendingLemmas.{retiring_at_most, retiring_of, retiring_then}
+use Rattle.place_taking.proofs.WearLemmas.{leaves_untried}
 use Rattle.unit_io.specs.Costs.{Costs, Spends}
 use Rattle.unit_io.specs.ReadsAt.{ReadsAt}
 use Rattle.unit_io.proofs.CostLemmas.{costs_none, costs_then, erased_joined, spends_none, spends_reads, spends_then, spends_weaker}
@@ -21,7 +25,7 @@ none_erased : (d : Places) (worn_out : Bool) (added : Story) → worn_out ≡ fa
     → Costs 0 0 0 [] added → ErasesAtMost d d 0 worn_out added
 none_erased d worn_out added still costs = record {
   costs = retiring_of d d 0 0 0 [] added refl costs;
-  retires = retires_none d d worn_out added refl still (λ p. none_found p added costs.erased);
+  places = leaves_untried d d worn_out added refl still (homes_same d d refl refl) costs.erased;
 }
 
 pub erases_none : (d : Places) (told : Told) → Spends (ErasesAtMost d d 0 false) told told
@@ -36,7 +40,7 @@ erases_more before after n k worn_out old new more =
     (λ added is. record {
       costs = retiring_at_most before after n k 0 0 (3 * n) (3 * k) [] [] added more (omega arith)
           (omega (arith, more)) (λ kind has. has) is.costs;
-      retires = is.retires;
+      places = is.places;
     })
 
 pub reads_erase : (At : ℕ → ℕ → Type 0) (d : Places) (k : ℕ) (worn_out : Bool) (old new : Told)
@@ -58,7 +62,7 @@ erases_then first between last n k worn_out old mid new =
       costs = retiring_at_most first last (n + k) (n + k) (0 + 0) 0 (3 * n + 3 * k) (3 * (n + k)) [] []
           (later ++ earlier) (omega arith) (omega arith) (omega arith) (λ kind has. has)
           (retiring_then first between last n k 0 0 (3 * n) (3 * k) [] later earlier one.costs two.costs);
-      retires = retires_then first between last worn_out later earlier one.retires two.retires;
+      places = leaves_then first between last worn_out later earlier one.places two.places;
     })
 
 -- reads, and then another call
@@ -73,16 +77,16 @@ reads_then_erase At before after k worn_out old mid new reads did =
 
 -- barriers alone, at most so many
 pub waiting_alone : (before after : Places) (n waits : ℕ) (worn_out : Bool) (old new : Told)
-    → after.retired ≡ before.retired → worn_out ≡ false → Spends (Costs 0 0 waits []) old new
+    → after.retired ≡ before.retired → worn_out ≡ false → KeepsHomes before after
+    → Spends (Costs 0 0 waits []) old new
     → Spends (ErasesWaiting before after n waits worn_out) old new
-waiting_alone before after n waits worn_out old new same still =
+waiting_alone before after n waits worn_out old new same still homes =
     spends_weaker (Costs 0 0 waits []) (ErasesWaiting before after n waits worn_out) old new
     (λ added is. record {
       costs = retiring_at_most before after 0 n 0 0 waits (waits + 3 * n) [] [] added (omega arith)
           (omega arith) (omega arith) (λ kind has. has)
           (retiring_of before after 0 0 waits [] added same is);
-      retires = retires_none before after worn_out added same still
-          (λ p. none_found p added is.erased);
+      places = leaves_untried before after worn_out added same still homes is.erased;
     })
 
 -- and then another call
@@ -97,10 +101,37 @@ waiting_then before after n waits worn_out old mid new =
           (later ++ earlier) (omega arith) (omega arith) (omega arith) (λ kind has. has)
           (retiring_then before before after 0 n 0 0 waits (3 * n) [] later earlier
           (retiring_of before before 0 0 waits [] earlier refl one) two.costs);
-      retires = retires_then before before after worn_out later earlier
-          (retires_none before before false earlier refl refl
-          (λ p. none_found p earlier one.erased)) two.retires;
+      places = leaves_then before before after worn_out later earlier
+          (leaves_untried before before false earlier refl refl (homes_same before before refl refl)
+          one.erased) two.places;
     })
+
+-- a unit of which nothing is known once no mark counts any more was unknown before
+homes_unmarked : (it : Places) → KeepsHomes it (with_marks_ended it)
+homes_unmarked it u low unknown = record {
+  low = low;
+  unknown = elim (cases_lt u (length it.written)) [
+    | inl there ↦ still_unknown (slice_index it.written u)
+        (subst (λ (n : ℕ). 32 ≤ n) (get_or-map unmarked_written it.written u 0 0 there) unknown)
+    | inr past ↦
+        let none = get_or_past (map unmarked_written it.written) u 0
+        (omega (arith, past, length-map it.written unmarked_written)) in
+        absurd (omega (arith, none, unknown))
+  ];
+  place = refl;
+}
+  where
+    still_unknown : (n : ℕ) → 32 ≤ unmarked_written n → 32 ≤ n
+    still_unknown n more = elim (cases_lt n 16) [
+      | inl few ↦
+          let is : unmarked_written n ≡ n = rw (lt-ltb n 16 few) refl in omega (arith, is, more)
+      | inr many ↦ elim (cases_lt n 32) [
+        | inl marked ↦
+            let is : unmarked_written n ≡ n - 16 = rw (le-ltb n 16 many, lt-ltb n 32 marked) refl in
+            absurd (omega (arith, is, more, marked))
+        | inr past ↦ past
+      ]
+    ]
 
 -- and then no mark counts any more
 pub waiting_ended : (before after : Places) (n waits : ℕ) (old new : Told)
@@ -116,11 +147,15 @@ waiting_ended before after n waits old new =
         barred = is.costs.barred;
         only = is.costs.only;
       };
-      retires = record {
-        keeps = is.retires.keeps;
-        each = is.retires.each;
-        found = is.retires.found;
-        one_more = λ no. absurd (false≢true no);
+      places = record {
+        retires = record {
+          keeps = is.places.retires.keeps;
+          each = is.places.retires.each;
+          found = is.places.retires.found;
+          one_more = λ no. absurd (false≢true no);
+        };
+        homes = known_with before after (with_marks_ended after) added is.places.homes
+            (homes_unmarked after);
       };
     })
 
@@ -139,11 +174,15 @@ reads_then_wait At waits old mid new reads =
 
 -- a merge, or a new status place
 pub place_erases : (before after : Places) (place : ℕ) (done worn_out : Bool) (old new : Told)
+    → HomesAreUsed before → KeepsHomes before after
     → Spends (ErasesFor before after 3 place done worn_out) old new
     → Spends (ErasesAtMost before after 1 worn_out) old new
-place_erases before after place done worn_out old new =
+place_erases before after place done worn_out old new used homes =
     spends_weaker (ErasesFor before after 3 place done worn_out) (ErasesAtMost before after 1 worn_out)
-    old new (λ added is. record { costs = is.erases.costs; retires = is.erases.retires })
+    old new (λ added is. record {
+      costs = is.erases.costs;
+      places = erases_leave before after 3 worn_out added used homes is.erases;
+    })
 
 -- a place that was given back, and none that was taken
 free_erases : (before after : Places) (at : ℕ) (worn_out : Bool) (old new : Told)

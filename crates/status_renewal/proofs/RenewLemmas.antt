@@ -9,7 +9,9 @@ use Rattle.ipl_meaning.specs.Steps.{with_status}
 use Rattle.ipl_meaning.specs.Tables.{Places, Status, Tables}
 use Rattle.number_set.specs.Numbers.{among}
 use Rattle.opening_rules.proofs.PayloadLemmas.{spelled_status_passes}
+use Rattle.place_taking.specs.Homes.{KeepsHomes}
 use Rattle.place_taking.specs.Takes.{IsAsideFrom}
+use Rattle.place_taking.proofs.HomeLemmas.{homes_same}
 use Rattle.unit_directory.proofs.AsideLemmas.{next_places_are_aside}
 use Rattle.txn_status.specs.Status.{room_of}
 use Rattle.unit_io.specs.Charts.{Charts}
@@ -122,6 +124,22 @@ status_ends (Ok v) before after old between new room same was = room
 status_ends (Err e) before after old between new room same was = same.1 ∙ was
 
 -- and the directory: as many units as before
+-- each unit of which nothing is known stays so
+pub homes_still : (result : Result (Unit {0}) ChipFault) (before after : Places) (old new : Status)
+    (next : ℕ) (kept : List ℕ) → OnOk result (MovesStatus before old next kept after new)
+    → IfErr result (λ fault. IsGivenBack before fault after × (new ≡ old))
+    → KeepsHomes before after
+homes_still (Ok v) before after old new next kept moved same =
+    let others = next_places_are_aside before moved.taken.worn moved.taken.in_turn in
+    homes_same before after
+    (ap (λ (e : Places). e.current) moved.places_is
+    ∙ ap (λ (e : Places). e.current) moved.taken.places_is ∙ others.current)
+    (ap (λ (e : Places). e.written) moved.places_is
+    ∙ ap (λ (e : Places). e.written) moved.taken.places_is ∙ others.written)
+homes_still (Err e) before after old new next kept moved same =
+    let still = back_is_same before after e same.0 in
+    homes_same before after still.0 still.1
+
 pub units_still : (result : Result (Unit {0}) ChipFault) (before after : Places) (old new : Status)
     (next : ℕ) (kept : List ℕ) → OnOk result (MovesStatus before old next kept after new)
     → IfErr result (λ fault. IsGivenBack before fault after × (new ≡ old))

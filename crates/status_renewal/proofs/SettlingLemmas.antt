@@ -1,8 +1,8 @@
 -- What an opening does for marks: before it writes anything, and once the status place is a new one.
-use Rattle.std.proofs.Common.{◌≡◌, ◌⊎◌, ◌<◌, ◌≤◌, ◌*◌, ℕ, zero, suc, inl, inr, Bool, true, false, nat_lt, [], ◌∷◌, map, length, get_or, Result, Ok, IfErr, refl, sym, ◌∙◌, ap, subst, arith}
+use Rattle.std.proofs.Common.{◌≡◌, ◌⊎◌, ◌<◌, ◌≤◌, ◌*◌, ℕ, zero, suc, inl, inr, Bool, true, false, nat_lt, cond, [], ◌∷◌, map, length, get_or, replicate, Result, Ok, IfErr, refl, sym, ◌∙◌, ap, subst, arith}
 use Rattle.std.proofs.lemmas.Bool.{cases_Bool, cases_eq, cases_lt, lt-ltb, le-ltb, or_left, or_right, true≢false}
 use Rattle.std.proofs.lemmas.Iterator.Adapters.{option_map_id}
-use Rattle.std.proofs.lemmas.List.{length-map, get_or-map, get_or_past}
+use Rattle.std.proofs.lemmas.List.{length-map, get_or-map, get_or-replicate, get_or_past}
 use Rattle.chip_trait.specs.declared.event.Event.TheVariants.{Barrier}
 use Rattle.chip_trait.specs.Image.{is_worn}
 use Rattle.chip_trait.specs.Story.{Story, held}
@@ -15,6 +15,7 @@ use Rattle.ipl_meaning.specs.Rests.{EachStands, StoryRests}
 use Rattle.ipl_meaning.specs.Tables.{Places, Tables, counted_written, unmarked_written, with_marks_ended, IsCountedClean}
 use Rattle.ipl_meaning.specs.TableSteps.{without_marks}
 use Rattle.ipl_meaning.proofs.StoryLemmas.{held_stands, barriers_rest}
+use Rattle.place_taking.specs.Homes.{KeepsHomes}
 use Rattle.merge_rules.specs.Known.{KnowsPlaces}
 use Rattle.opened_tables.specs.Opened.{AreOpened}
 use Rattle.opened_tables.proofs.SpotLemmas.{in_use_from}
@@ -57,6 +58,25 @@ unknown_below it (suc n) none =
 -- where nothing is known of any unit
 pub unknown_logs : (it : Places) → NoneKnown (length it.current) it → knows_logs it ≡ false
 unknown_logs it none = unknown_below it (length it.current) none
+
+-- the directory with nothing known of any unit
+abbrev pub forgotten : Places → Places
+forgotten it = record it { written = replicate (length it.current) 32 }
+
+pub none_known : (it : Places) → NoneKnown (length it.current) (forgotten it)
+none_known it u low = get_or-replicate (length it.current) u 32 0 low
+
+-- so there is no barrier to wait for
+pub no_waits : (it : Places) → waits_for (forgotten it) ≡ 0
+no_waits it = ap (λ (known : Bool). cond known 1 0) (unknown_logs (forgotten it) (none_known it))
+
+-- and each unit of which nothing is known in the other is unknown in it, at its place
+pub homes_forgotten : (it : Places) → KeepsHomes (forgotten it) it
+homes_forgotten it u low unknown = record {
+  low = low;
+  unknown = omega (arith, none_known it u low);
+  place = refl;
+}
 
 -- so many count as written where nothing is known
 unknown_written : (written : ℕ) → nat_lt written 32 ≡ false → counted_written written ≡ 15

@@ -7,9 +7,11 @@ use Rattle.ipl_base.specs.declared.fault.ChipFault.{ChipFault}
 use Rattle.ipl_format.specs.Sector.{Sector}
 use Rattle.ipl_meaning.specs.Chart.{Chart, chart_of}
 use Rattle.ipl_meaning.specs.Tables.{Places, Tables}
-use Rattle.place_taking.specs.Spending.{ErasesFor, RetiresWorn, is_worn_out, tells_worn}
+use Rattle.place_taking.specs.Homes.{LeavesPlaces}
+use Rattle.place_taking.specs.Spending.{is_worn_out, tells_worn}
 use Rattle.place_taking.specs.Wear.{ListsNoOther, Wears}
-use Rattle.place_taking.proofs.WearLemmas.{failures_wear, retired_then}
+use Rattle.place_taking.proofs.HomeLemmas.{places_then}
+use Rattle.place_taking.proofs.WearLemmas.{failures_wear}
 use Rattle.txn_status.specs.Switching.{ListsAt}
 use Rattle.unit_io.specs.Charts.{Charts}
 use Rattle.unit_io.specs.Costs.{Spends}
@@ -32,21 +34,14 @@ listed_then F p place listed retired old mid new there same first second x told 
           (subst (λ (l : List ℕ). ListsAt p l (chart_of ends.0)) same ends.2),
     )
 
--- ---- what is retired
+-- ---- what is retired, and what is known
 
-pub erases_retire : (before after : Places) (n : ℕ) (worn_out : Bool) (old new : Told)
+erases_leave_places : (before after : Places) (n : ℕ) (worn_out : Bool) (old new : Told)
     → Spends (ErasesAtMost before after n worn_out) old new
-    → Spends (RetiresWorn before after worn_out) old new
-erases_retire before after n worn_out old new =
-    spends_weaker (ErasesAtMost before after n worn_out) (RetiresWorn before after worn_out) old new
-    (λ added is. is.retires)
-
-place_retires : (before after : Places) (b place : ℕ) (done worn_out : Bool) (old new : Told)
-    → Spends (ErasesFor before after b place done worn_out) old new
-    → Spends (RetiresWorn before after worn_out) old new
-place_retires before after b place done worn_out old new =
-    spends_weaker (ErasesFor before after b place done worn_out) (RetiresWorn before after worn_out)
-    old new (λ added is. is.erases.retires)
+    → Spends (LeavesPlaces before after worn_out) old new
+erases_leave_places before after n worn_out old new =
+    spends_weaker (ErasesAtMost before after n worn_out) (LeavesPlaces before after worn_out) old new
+    (λ added is. is.places)
 
 -- ---- the renewal
 
@@ -63,20 +58,19 @@ pub wears_unpassed : (t after : Tables) (n : ℕ) (e : ChipFault) (old new : Tol
     → Wears t after false (tells_worn e) old new
 wears_unpassed t after n e old new did =
     failures_wear t after (tells_worn e) old new
-    (erases_retire t.places after.places n (tells_worn e) old new did)
+    (erases_leave_places t.places after.places n (tells_worn e) old new did)
 
 -- all units were passed, and then the status was renewed or wasn't
-pub wears_renewed : (t between after : Tables) (n b place : ℕ) (result : Result (Unit {0}) ChipFault)
+pub wears_renewed : (t between after : Tables) (n k : ℕ) (result : Result (Unit {0}) ChipFault)
     (old mid new : Told) → Spends (ErasesAtMost t.places between.places n false) old mid
-    → Spends (ErasesFor between.places after.places b place (is_ok result) (is_worn_out result)) mid new
+    → Spends (ErasesAtMost between.places after.places k (is_worn_out result)) mid new
     → GoesOnTelling (Ok tt) old mid
     → OnOk result (Charts (λ c y. ListsRetired after y) mid new)
     → Wears t after (is_ok result) (is_worn_out result) old new
-wears_renewed t between after n b place result old mid new passed renewed goes_on listed = record {
-  retires = retired_then t.places between.places after.places (is_worn_out result) old mid new
-      (erases_retire t.places between.places n false old mid passed)
-      (place_retires between.places after.places b place (is_ok result) (is_worn_out result) mid new
-      renewed);
+wears_renewed t between after n k result old mid new passed renewed goes_on listed = record {
+  places = places_then t.places between.places after.places (is_worn_out result) old mid new
+      (erases_leave_places t.places between.places n false old mid passed)
+      (erases_leave_places between.places after.places k (is_worn_out result) mid new renewed);
   lists = done_lists result listed;
 }
   where

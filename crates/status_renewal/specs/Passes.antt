@@ -18,7 +18,8 @@ use Rattle.merge_rules.specs.Faults.{merge_fault, IsMergeable, FailsByChipAlone}
 use Rattle.merge_rules.specs.Known.{KnowsPlaces}
 use Rattle.merge_rules.specs.Pages.{IsBaseSpotBelow}
 use Rattle.merge_rules.specs.Packs.{among, packs_of, entries_from}
-use Rattle.place_taking.specs.Spending.{RetiringCosts, RetiresWorn}
+use Rattle.place_taking.specs.Homes.{LeavesPlaces}
+use Rattle.place_taking.specs.Spending.{RetiringCosts}
 use Rattle.selective_merge.specs.Homes.{WearCause}
 use Rattle.selective_merge.specs.Placing.{SaysErases}
 use Rattle.selective_merge.specs.Throughout.{ChartsThroughout}
@@ -211,12 +212,12 @@ CompletesRenewal places t result told = OfContents told (λ x. (it : Layout)
 -- ---- costs
 
 -- At most so many erases are tried, and one more for each place that is retired; there are at most
--- three barriers for each of so many; only what was erased before is programmed; and what is found worn
--- is retired.
+-- three barriers for each of so many; only what was erased before is programmed; what is found worn is
+-- retired; and a unit whose place was erased is known.
 pub record ErasesAtMost (before after : Places) (n : ℕ) (worn_out : Bool) (added : Story)
     : Type 0 where
   pub costs : RetiringCosts before after n 0 (3 * n) [] added
-  pub retires : RetiresWorn before after worn_out added
+  pub places : LeavesPlaces before after worn_out added
 
 -- the place was erased among these events
 abbrev pub HasErased : ℕ → Story → Type 0

@@ -23,7 +23,8 @@ use Rattle.opening_rules.specs.Chosen.{units_at}
 use Rattle.opening_rules.specs.Faults.{first_fault}
 use Rattle.opened_tables.specs.Opened.{IsUnused}
 use Rattle.opening_rules.specs.LaidOut.{layout_in, retired_at}
-use Rattle.place_taking.specs.Spending.{RetiringCosts, RetiresWorn, tells_worn}
+use Rattle.place_taking.specs.Homes.{LeavesPlaces}
+use Rattle.place_taking.specs.Spending.{RetiringCosts, tells_worn}
 use Rattle.restart.specs.Looks.{OnlyReads}
 use Rattle.restart.specs.Opened.{NoneIsClean, CountsMarked}
 use Rattle.selective_merge.specs.Homes.{WearCause}
@@ -132,15 +133,15 @@ FindsRetired places c found = (p : ℕ) → Contains found.retired p
 
 -- At most so many erases are tried, and one more for each place that is retired; there are at most
 -- three barriers for each of so many, and so many more that were waited for before; only what was
--- erased before is programmed; and what is found worn is retired.
+-- erased before is programmed; what is found worn is retired; and a unit whose place was erased is known.
 pub record ErasesWaiting (before after : Places) (n waits : ℕ) (worn_out : Bool) (added : Story)
     : Type 0 where
   pub costs : RetiringCosts before after n 0 (waits + 3 * n) [] added
-  pub retires : RetiresWorn before after worn_out added
+  pub places : LeavesPlaces before after worn_out added
 
 -- From the directory that it found at most one erase is tried for each unit and one for the status
--- place, and one more for each place that is retired, and what is found worn is retired; and one barrier
--- more is asked where something is known by a mark. Done, or where too many places are worn, the chip
+-- place, and one more for each place that is retired; what is found worn is retired, and a unit whose
+-- place was erased is known; and one barrier more is asked where something is known by a mark. Done, or where too many places are worn, the chip
 -- holds what that directory was found by, and it has as many units as that says.
 pub record ErasesOpening (marks : Bool) (places : ℕ) (result : Result (Unit {0}) ImageFault)
     (after : Places) (old new : Told) : Type 0 where

@@ -17,6 +17,7 @@ use Rattle.steps.specs.Laws.{Preserves}
 use Rattle.pending_writes.proofs.MemoryFitLemmas.{openings_fit}
 use Rattle.store_trait.specs.declared.fault.Fault.{Fault}
 use Rattle.store_trait.specs.Keeping.{WorkLeaves, WorksFor}
+use Rattle.store_trait.proofs.UnusedLemmas.{unused_none}
 use Rattle.store_steps.specs.Advances.{KeepsMapOf}
 use Rattle.store_steps.specs.Keeps.{View, limits_of, KeepsStore, store_keeping, keeps_each, OpenedStoresKeep, IdleFaultsAreWork, IdleFaultsLookUp, FaultsThatLeaveDown}
 use Rattle.store_steps.proofs.KeepLemmas.{IsAt, is_at, work_leaves, at_limits}
@@ -56,6 +57,7 @@ nothing_leaves P store h told each = record {
   only = tt;
   lawful = record { lawful = λ base lawful clean. lawful };
   clean = λ done. absurd (cc done);
+  unused = unused_none (store_keeping told.places) store h false;
 }
 
 pub idle_faults_are_work : IdleFaultsAreWork
@@ -84,7 +86,7 @@ faults_that_leave_down c before after fault old new units up down preserves draw
     (sym keeps.limits_are) (record {
       leaves = work_leaves {T = Reply} {E = Fault} (KeepsMapOf old.places state)
           (λ v k. StoryRests old.places state.map k)
-          (λ k. StoryRests old.places state.map k) before after h (Err fault) old new _ way
+          (λ k. StoryRests old.places state.map k) before after h state (Err fault) old new _ here way
           (λ later e split x image. inl (moments later e split x image));
       ends = λ unrisen. record {
         limits_are = ap limits_of (sym units);

@@ -13,7 +13,7 @@ use Rattle.ipl_model.specs.declared.reply.Reply.{Reply}
 use Rattle.ipl_model.specs.Step.{Stepped, step}
 use Rattle.ipl_format.specs.Sector.{sector_in}
 use Rattle.record_locks.specs.Held.{Slots}
-use Rattle.ipl_meaning.proofs.CarriedLemmas.{tidy_is_carried}
+use Rattle.ipl_meaning.proofs.CarriedLemmas.{tidy_is_carried, unused_is_carried}
 use Rattle.ipl_meaning.specs.Chart.{Chart, chart_of}
 use Rattle.ipl_meaning.specs.Layout.{Layout, Laid}
 use Rattle.ipl_meaning.specs.Stands.{Says, StandsIn}
@@ -83,12 +83,12 @@ is_at store old h state up keeps = let runs = keeps.up up in record {
 
 -- what work leaves on the way
 abbrev pub work_leaves : {T E : Type 0} (Each : History → Type 0) (Then : T → History → Type 0)
-    (Else : History → Type 0) (before after : View) (h : History) (result : Result T E)
-    (old new : Told) (P : Contents → Type 0)
+    (Else : History → Type 0) (before after : View) (h : History) (state : State) (result : Result T E)
+    (old new : Told) (P : Contents → Type 0) → IsAt before old state h
     → (did : Steps Each before.memory.tables after.memory.tables Then Else h result old new)
     → AtEachMoment (Leaves (says sector_in) P h) did.added
     → WorkLeaves (store_keeping old.places) P before h after old new (is_ok result)
-work_leaves Each Then Else before after h result old new P did moments = record {
+work_leaves Each Then Else before after h state result old new P at did moments = record {
   added = did.added;
   history = did.history;
   each_moment = moments;
@@ -97,6 +97,15 @@ work_leaves Each Then Else before after h result old new P did moments = record 
   lawful = did.does.lawful;
   clean = λ done. record {
     clean = λ base is clean. did.does.clean (done_settles result old new done) base clean;
+  };
+  unused = record {
+    marks = λ unused later e split. did.marks tt later e split unused.0;
+    counts = λ done unused. (
+      did.marks tt [] did.added refl unused.0,
+      unused_is_carried old.places h at.shown.layout before.memory.tables after.memory.tables did.added
+          (record { mirrors = at.shown.fits.mirrors; tidy = at.story.tidy })
+          (did.does.clean (done_settles result old new done)) unused.1,
+    );
   };
 }
 
@@ -171,7 +180,7 @@ leads_are_work c next before after result old new units up leads steps drawn exc
     (sym keeps.limits_are) (record {
       leaves = work_leaves (TurnsMapOf next old.places state)
           (λ v k. StoryRests old.places (next state).map k)
-          (λ k. StoryRests old.places state.map k) before after h result old new _ way
+          (λ k. StoryRests old.places state.map k) before after h state result old new _ here way
           (subst (λ (m : Map). AtEachMoment (Leaves (says sector_in) (λ x.
           StandsIn old.places before.units (chart_of x) state.map
           ⊎ StandsIn old.places before.units (chart_of x) m)
@@ -230,7 +239,7 @@ keepers_look_up n before after result old new units up slots keeper finds drawn 
     (sym keeps.limits_are) (record {
       leaves = work_leaves (KeepsMapOf old.places state)
           (λ v k. StoryRests old.places state.map k)
-          (λ k. StoryRests old.places state.map k) before after h result old new _ way
+          (λ k. StoryRests old.places state.map k) before after h state result old new _ here way
           (subst (λ (units : ℕ). AtEachMoment (λ e. EachStandsIn old.places units state.map
           (adds_all e h)) way.added) here.shown.count
           (moments_of_one old.places state.map h here.shown.layout way.added

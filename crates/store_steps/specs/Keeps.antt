@@ -5,6 +5,7 @@ use Rattle.std.proofs.Common.{sym, ◌∙◌, ap, subst, arith}
 use Rattle.ipl_base.specs.declared.limits.TheConstants.{UNIT_NAMES, SESSIONS}
 use Rattle.chip_trait.specs.Chart.{says}
 use Rattle.chip_trait.specs.Moment.{Leaves}
+use Rattle.chip_trait.specs.declared.event.Event.TheVariants.{Said}
 use Rattle.chip_trait.specs.Story.{Story, Contents, held}
 use Rattle.chip_trait.specs.Told.{History, Told, Rose, adds_all}
 use Rattle.ipl_base.specs.declared.fault.ChipFault.{ChipFault}
@@ -20,6 +21,7 @@ use Rattle.ipl_format.specs.Sector.{sector_in}
 use Rattle.record_locks.specs.Held.{Slots, number_of}
 use Rattle.ipl_meaning.specs.Chart.{chart_of}
 use Rattle.ipl_meaning.specs.Layout.{Layout, Laid}
+use Rattle.ipl_meaning.specs.Marks.{AreUnused, MarksAreUnused}
 use Rattle.ipl_meaning.specs.Stands.{Says, StandsIn}
 use Rattle.ipl_meaning.specs.Rests.{EachStandsIn, StoryRests}
 use Rattle.ipl_meaning.specs.Tables.{Tables, IsCountedClean}
@@ -231,10 +233,23 @@ keeps_each places limits store t h state keeps =
     subst (λ (units : ℕ). EachStandsIn places units state.map h)
     (keeps.many ∙ sym (ap (λ (l : Limits). l.units) keeps.limits_are)) keeps.rests.each.1
 
+-- nothing that is marked was used, in whatever a power cut leaves of this history, but by chance; nor what the store counts
+-- as clean
+abbrev pub UsedNothing : ℕ → View → History → Type 0
+UsedNothing places store h = MarksAreUnused places h × AreUnused (IsCountedClean store.memory.tables) h.story
+
+-- what is said uses nothing
+pub said_unused : (places : ℕ) (store : View) (h : History) (piece : List ℕ) → UsedNothing places store h
+    → UsedNothing places store (adds_all (Said piece ∷ []) h)
+said_unused places store h piece unused = (
+  λ x image p s marked. unused.0 x (record { image = image.image; chance = image.chance }) p s marked,
+  λ p s counted. unused.1 p s counted,
+)
+
 -- ---- the seam
 
--- Such a store over a chip of so many places, as a run knows it. It says nothing of worn places, which
--- a store knows whether or not it keeps a state.
+-- Such a store over a chip of so many places, as a run knows it. It says nothing of worn places and of
+-- what was erased, which a store knows whether or not it keeps a state.
 abbrev pub store_keeping : ℕ → Keeping View
 store_keeping places = record {
   checks = says sector_in;
@@ -242,15 +257,21 @@ store_keeping places = record {
   holds = KeepsStore places;
   suits = λ store. store.down ≡ false;
   clean = λ store p s. IsCountedClean store.memory.tables p s;
+  marked = MarksAreUnused places;
+  unused = UsedNothing places;
   counter = λ store. store.memory.tables.next;
   does = λ e. Unit {0};
   cause = StoreCause places;
   knows = λ entry store t. Unit {0};
   wears = λ entry fault t. Unit {0};
+  recalls = λ entry store t. Unit {0};
   tells = λ limits fault. FaultTells (spares_on places limits.units) fault;
   each = keeps_each places;
   still = keeps_still places;
   known_still = λ entry store old new still known. tt;
+  unused_marked = λ store h unused. unused.0;
+  unused_said = said_unused places;
+  recalled_still = λ entry store old new still known. tt;
   caused = cause_longer places;
 }
 

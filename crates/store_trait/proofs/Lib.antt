@@ -1,3 +1,4 @@
 pub mod OnwardLemmas
 pub mod DrawLemmas
 pub mod TidyLemmas
+pub mod UnusedLemmas

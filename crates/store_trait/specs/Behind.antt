@@ -4,7 +4,7 @@ use Rattle.chip_trait.specs.Told.{History, Told, Counts, adds_all}
 use Rattle.ipl_rules.specs.State.{State, Limits}
 use Rattle.store_trait.specs.declared.fault.Fault.{Fault}
 use Rattle.store_trait.specs.declared.fault.Fault.TheVariants.{Spent}
-use Rattle.store_trait.specs.Keeping.{Keeping, WORK_DRAWS, WorkLeaves, LeavesTidy, Stays, Draws, Learns, Excuses}
+use Rattle.store_trait.specs.Keeping.{Keeping, WORK_DRAWS, WorkLeaves, LeavesTidy, Stays, Draws, Learns, DoneRecalls, Excuses}
 
 module _ {S : Type 0} (k : Keeping S) where
   -- Of a store that keeps a state: wherever the power is cut, the chip stands for the same records. Done, the store keeps
@@ -20,7 +20,7 @@ module _ {S : Type 0} (k : Keeping S) where
     pub tells : IfErr result (k.tells limits)
 
   -- Whatever state the store keeps, and whatever the chip tells: what is added is lawful by what the store counts as clean,
-  -- few numbers are drawn, what is worn is known still, and a fault has its cause.
+  -- few numbers are drawn, what is worn is known still, and done, what was erased is too; and a fault has its cause.
   pub record WorksBehind (before : S) (old : Told) (result : Result (Unit {0}) Fault) (then : S) (new : Told)
       : Type 0 where
     pub keeps : (limits : Limits) (state : State) (h : History) → k.holds limits before old h state
@@ -28,5 +28,6 @@ module _ {S : Type 0} (k : Keeping S) where
     pub tidy : LeavesTidy k before then old new (is_ok result)
     pub draws : Draws k WORK_DRAWS before (IsErrOf result Spent) then
     pub learns : Learns k before old result then new
+    pub recalls : DoneRecalls k before old result then new
     pub counts : Counts old new
     pub cause : IfErr result (λ fault. k.cause fault old new)

@@ -1,5 +1,5 @@
 -- How a store keeps a state on a chip, and what one command's work leaves.
-use Rattle.std.specs.Prelude.{IfErr, ◌≡◌, ◌⊎◌, ◌<◌, ◌≤◌, ◌+◌, ◌-◌, ◌^◌, max, ℕ, Bool, true, List, [], ◌∷◌, Option, Result, MatchResult, is_ok}
+use Rattle.std.specs.Prelude.{IfErr, OnOk, ◌≡◌, ◌⊎◌, ◌<◌, ◌≤◌, ◌+◌, ◌-◌, ◌^◌, ◌||◌, max, ℕ, Bool, true, false, List, [], ◌∷◌, Option, Result, MatchResult, is_ok}
 use Rattle.std.specs.Option.{option_map}
 use Rattle.std.specs.FinMap.{get}
 use Rattle.ipl_base.specs.Calls.{IsFailedCall}
@@ -10,6 +10,7 @@ use Rattle.ipl_model.specs.declared.command.Command.TheVariants as command
 use Rattle.ipl_model.specs.declared.reply.Reply.{Reply}
 use Rattle.ipl_model.specs.Step.{step}
 use Rattle.chip_trait.specs.declared.event.Event.{Event}
+use Rattle.chip_trait.specs.declared.event.Event.TheVariants.{Said}
 use Rattle.chip_trait.specs.Story.{Story, Contents, pieces}
 use Rattle.chip_trait.specs.Moment.{AtEachMoment, Leaves}
 use Rattle.chip_trait.specs.Lawful.{IsLawfulAfter, LeavesClean}
@@ -35,6 +36,10 @@ pub record Keeping (S : Type 0) : Type 1 where
   pub suits : S → Type 0
   -- the store counts this sector of this place as clean
   pub clean : S → ℕ → ℕ → Type 0
+  -- in whatever a power cut leaves of this history, but by chance, nothing that a mark says to be clean was used
+  pub marked : History → Type 0
+  -- nor was what the store counts as clean
+  pub unused : S → History → Type 0
   -- the next number that the store draws
   pub counter : S → ℕ
   -- the store's work may add such an event
@@ -48,6 +53,9 @@ pub record Keeping (S : Type 0) : Type 1 where
   pub knows : Told → S → Told → Type 0
   -- such a fault comes only where more places are known to be worn since that entry than are spare
   pub wears : Told → Fault → Told → Type 0
+  -- Over a chip that told this at an entry and tells that now, and wasn't opened since, the store knows of all that was
+  -- erased since.
+  pub recalls : Told → S → Told → Type 0
   -- whatever a power cut leaves of such a chip stands for the records
   pub each : (limits : Limits) (store : S) (t : Told) (h : History) (state : State) → holds limits store t h state
       → Leaves checks (λ x. stands limits x state.map) h []
@@ -57,6 +65,12 @@ pub record Keeping (S : Type 0) : Type 1 where
   -- nor does it change what is known
   pub known_still : (entry : Told) (store : S) (old new : Told) → Still old new → knows entry store old
       → knows entry store new
+  pub recalled_still : (entry : Told) (store : S) (old new : Told) → Still old new → recalls entry store old
+      → recalls entry store new
+  -- what is said uses nothing
+  pub unused_marked : (store : S) (h : History) → unused store h → marked h
+  pub unused_said : (store : S) (h : History) (piece : List ℕ) → unused store h
+      → unused store (adds_all (Said piece ∷ []) h)
   -- a cause is one for a longer time too
   pub caused : (fault : Fault) (first old new last : Told) → Further first old → cause fault old new
       → Further new last → cause fault first last
@@ -114,8 +128,34 @@ IsSingle (command.Merge u) = Unit {0}
 IsSingle command.Restart = Unit {0}
 IsSingle command.Syntax = Unit {0}
 
+-- the command opens the chip again
+abbrev pub is_restart : Command → Bool
+is_restart (command.Begin s) = false
+is_restart (command.Get s n) = false
+is_restart (command.Share s n) = false
+is_restart (command.Put s n bytes) = false
+is_restart (command.Del s n) = false
+is_restart (command.Commit s) = false
+is_restart (command.Batch ss) = false
+is_restart (command.Abort s) = false
+is_restart (command.List a b) = false
+is_restart (command.Merge u) = false
+is_restart command.Restart = true
+is_restart command.Syntax = false
+
+-- one of the commands does
+abbrev pub restarts : List Command → Bool
+restarts [] = false
+restarts (c ∷ commands) = is_restart c || restarts commands
+
 -- over stores of one kind
 module _ {S : Type 0} (k : Keeping S) where
+  -- Where nothing was used that a mark says to be clean or that the first store counts so, nothing that a mark says is used
+  -- at any moment; and done, nor is what the store counts so then.
+  pub record UsesNothingMarked (before : S) (h : History) (then : S) (done : Bool) (added : Story) : Type 0 where
+    pub marks : k.unused before h → AtEachMoment (λ e. k.marked (adds_all e h)) added
+    pub counts : done ≡ true → k.unused before h → k.unused then (adds_all added h)
+
   -- What work leaves that says nothing. What the chip tells grew by the added events. At each moment of them a power cut
   -- leaves contents with P; they are lawful, after any lawful events that leave the sectors clean which the store counts so;
   -- and done, they leave those clean that the store counts so then.
@@ -128,6 +168,7 @@ module _ {S : Type 0} (k : Keeping S) where
     pub only : AllOf k.does added
     pub lawful : IsLawfulAfter (k.clean before) added
     pub clean : done ≡ true → LeavesClean (k.clean before) (k.clean then) added
+    pub unused : UsesNothingMarked before h then done added
 
   -- What is added between one store and another, whatever the chip tells and whether a state is kept: it is lawful, after any
   -- lawful events that leave the sectors clean which the first counts so; and done, all leave those clean that the other does.
@@ -142,6 +183,14 @@ module _ {S : Type 0} (k : Keeping S) where
   abbrev pub Learns : {T : Type 0} → S → Told → Result T Fault → S → Told → Type 0
   Learns before old result then new = (entry : Told) → k.knows entry before old →
       MatchResult result (λ _. k.knows entry then new) (λ fault. k.wears entry fault new)
+
+  -- the store still knows of all that was erased since an entry
+  abbrev pub StillRecalls : S → Told → S → Told → Type 0
+  StillRecalls before old then new = (entry : Told) → k.recalls entry before old → k.recalls entry then new
+
+  -- so it does when the work is done
+  abbrev pub DoneRecalls : {T : Type 0} → S → Told → Result T Fault → S → Told → Type 0
+  DoneRecalls before old result then new = OnOk result (StillRecalls before old then new)
 
   -- At most n numbers were drawn, from the counter before on or from what an opening found; and where this says that the
   -- numbers are used up, the counter would have come near its end.

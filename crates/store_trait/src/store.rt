@@ -1,5 +1,5 @@
 //! What keeps records on a chip and does the work of commands.
-ghost use Rattle.std.specs.Prelude.{◌≡◌, ◌<◌, ◌≤◌, ℕ, IfErr, OnOk, IsErrOf, is_ok};
+ghost use Rattle.std.specs.Prelude.{◌≡◌, ◌<◌, ◌≤◌, ℕ, false, IfErr, OnOk, IsErrOf, is_ok};
 ghost use Rattle.chip_trait.specs.Told.{History, Told, Counts};
 
 use crate::Fault;
@@ -10,7 +10,7 @@ use ipl_model::{Command, Reply};
 /// A store of records over a chip. It says nothing; a run says its replies.
 pub trait Store {
     ghost use Rattle.ipl_rules.specs.State.{State, Limits};
-    ghost use Rattle.store_trait.specs.Keeping.{Keeping, IsSingle, Works, LooksUp, LeavesTidy, Learns, Draws, WORK_DRAWS, LOOK_UP_DRAWS};
+    ghost use Rattle.store_trait.specs.Keeping.{Keeping, IsSingle, Works, LooksUp, LeavesTidy, Learns, DoneRecalls, is_restart, Draws, WORK_DRAWS, LOOK_UP_DRAWS};
 
     /// How it keeps a state on a chip of so many places.
     ghost keeping: { ℕ → Keeping Self };
@@ -33,6 +33,9 @@ pub trait Store {
         ensures suited { OnOk result ((keeping (C.told chip.old).places).suits self.new) }
         ensures learns { Learns (keeping (C.told chip.old).places) self.old (C.told chip.old) result self.new
             (C.told chip.new) }
+        ensures recalls { is_restart command.now ≡ false
+            → DoneRecalls (keeping (C.told chip.old).places) self.old (C.told chip.old) result self.new
+            (C.told chip.new) }
         ensures counts { Counts (C.told chip.old) (C.told chip.new) }
         ensures cause { IfErr result
             (λ fault. (keeping (C.told chip.old).places).cause fault (C.told chip.old) (C.told chip.new)) };
@@ -47,6 +50,8 @@ pub trait Store {
             (is_ok result) }
         ensures suited { OnOk result ((keeping (C.told chip.old).places).suits self.new) }
         ensures learns { Learns (keeping (C.told chip.old).places) self.old (C.told chip.old) result self.new
+            (C.told chip.new) }
+        ensures recalls { DoneRecalls (keeping (C.told chip.old).places) self.old (C.told chip.old) result self.new
             (C.told chip.new) }
         ensures counts { Counts (C.told chip.old) (C.told chip.new) }
         ensures cause { IfErr result

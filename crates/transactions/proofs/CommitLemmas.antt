@@ -11,10 +11,10 @@ use Rattle.ipl_meaning.specs.Tables.{Places, Status, Tables, IsCountedClean}
 use Rattle.ipl_meaning.specs.TableSteps.{after_commit as after_commit_of}
 use Rattle.merge_rules.specs.Known.{KnowsPlaces}
 use Rattle.merge_rules.proofs.KnownCleanLemmas.{commit_shrinks}
-use Rattle.place_taking.specs.Laws.{IsAlikeInWear}
 use Rattle.place_taking.specs.Spending.{tells_worn}
 use Rattle.place_taking.specs.Wear.{Wears}
-use Rattle.place_taking.proofs.WearLemmas.{failures_wear, nothing_wears, programs_retire_none, programs_wear_nothing}
+use Rattle.place_taking.proofs.HomeLemmas.{homes_equal}
+use Rattle.place_taking.proofs.WearLemmas.{alike_tables, failures_wear, nothing_wears, programs_leave_places, programs_wear_nothing}
 use Rattle.unit_io.specs.Costs.{ProgramsAt, Spends}
 use Rattle.unit_io.specs.Spots.{Programs, IsSpot}
 use Rattle.steps.specs.Steps.{Settled, Tidies}
@@ -68,12 +68,6 @@ stopped_accounts then before after (Err e) did = record {
   counts = did.counts;
   cause = subst (λ (f : ChipFault). PageCause then f before after) (sym did.cause.0) did.cause.1;
 }
-
--- with the same directory the same places are retired
-alike_in_wear : (old new : Pages) → new.parts.directory ≡ old.parts.directory
-    → new.parts.status.place ≡ old.parts.status.place → IsAlikeInWear (tables_in old) (tables_in new)
-alike_in_wear old new directory status =
-    record { retired = ap (λ (d : Places). d.retired) directory; status = status }
 
 -- the numbers of sessions were added, and their changes are values
 pub numbers_added : (ss tids : List ℕ) (old new : Transactions) (added : Pages)
@@ -130,10 +124,12 @@ numbers_added ss tids old new added before after order are may writers adds step
           (λ end q n counted. subst (λ (m : Memory). IsCountedClean m.tables q n) (sym same) counted)
           programs;
       wears = programs_wear_nothing (tables_in old.pages) (tables_in new.pages) true false before after
-          (alike_in_wear old.pages new.pages (rest.directory ∙ directory)
+          (alike_tables (tables_in old.pages) (tables_in new.pages) (rest.directory ∙ directory)
           (ap (λ (it : Status). it.place) (rest.status ∙ status)))
-          (programs_retire_none (tables_in old.pages).places (tables_in new.pages).places stands.place 1 2
-          6 before after (ap (λ (d : Places). d.retired) (rest.directory ∙ directory)) costs)
+          (programs_leave_places (tables_in old.pages).places (tables_in new.pages).places stands.place 1 2
+          6 before after (ap (λ (d : Places). d.retired) (rest.directory ∙ directory))
+          (homes_equal (tables_in old.pages).places (tables_in new.pages).places
+          (rest.directory ∙ directory)) costs)
           (λ done. header);
       order = record {
         ready = still_ready before.places old.pages new.pages (record {
@@ -185,8 +181,9 @@ numbers_not_added ss tids e old new before after order are may writers steps ses
       wears = subst (λ (f : ChipFault). Wears (tables_in old.pages) (tables_in new.pages) false
           (tells_worn f) before after) (sym accounts.cause.0)
           (failures_wear (tables_in old.pages) (tables_in new.pages) false before after
-          (programs_retire_none (tables_in old.pages).places (tables_in new.pages).places
-          old.pages.parts.status.place 1 2 6 before after (ap (λ (d : Places). d.retired) directory) costs));
+          (programs_leave_places (tables_in old.pages).places (tables_in new.pages).places
+          old.pages.parts.status.place 1 2 6 before after (ap (λ (d : Places). d.retired) directory)
+          (homes_equal (tables_in old.pages).places (tables_in new.pages).places directory) costs));
       order = record {
         ready = still_ready before.places old.pages new.pages (record {
           places = directory;
@@ -257,7 +254,7 @@ empty_committed ss most old new told order are none rest slots active locks =
           told told (λ q n counted. active_counted old.pages new.pages rest q n counted)
           (tables_none {T = Unit {0}} {E = ChipFault} (tables_in old.pages) (Ok tt) told);
       wears = nothing_wears (tables_in old.pages) (tables_in new.pages) true told
-          (alike_in_wear old.pages new.pages rest.directory (ap (λ (it : Status). it.place) rest.status));
+          (alike_tables (tables_in old.pages) (tables_in new.pages) rest.directory (ap (λ (it : Status). it.place) rest.status));
       order = record {
         ready = still_ready told.places old.pages new.pages (record {
           places = rest.directory;

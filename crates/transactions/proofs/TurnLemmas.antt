@@ -9,7 +9,7 @@ use Rattle.status_renewal.proofs.CauseLemmas.{accounts_then}
 use Rattle.steps.proofs.TablesLemmas.{tables_none, tables_then}
 use Rattle.place_taking.specs.Spending.{is_worn_out, tells_worn}
 use Rattle.place_taking.specs.Wear.{Wears}
-use Rattle.place_taking.proofs.WearLemmas.{nothing_wears, wears_are_joined}
+use Rattle.place_taking.proofs.WearLemmas.{alike_tables, nothing_wears, wears_are_joined}
 use Rattle.unit_io.proofs.ReadsAtLemmas.{at_none}
 use Rattle.store_steps.specs.Advances.{memory_of, LeadsTo}
 use Rattle.store_steps.proofs.KeeperLemmas.{Nowhere, keepers_are_joined, reads_keep_states}
@@ -103,7 +103,7 @@ upheld_refused next n old new e before after order did same cause calm =
           t tt (Err e) before after after did.accounts.counts did.tidy (tables_none {T = Unit {0}} {E = ChipFault} t (Err e) after);
       wears = subst (λ (worn_out : Bool). Wears (tables_in old.pages) t false worn_out before after)
           (sym calm) (wears_are_joined (tables_in old.pages) t t false false before after after did.wears
-          (nothing_wears t t false after (record { retired = refl; status = refl })));
+          (nothing_wears t t false after (alike_tables t t refl refl)));
       ready = did.ready;
       units = did.units;
       active = did.active;

@@ -39,7 +39,7 @@ use Rattle.frame_changes.proofs.RoomLemmas.{puts_by_marks_have_room}
 use Rattle.page_writing.specs.Spending.{ErasesAndLogs}
 use Rattle.page_frames.specs.declared.pages.Pages.{Pages}
 use Rattle.page_frames.specs.Pages.{tables_in, frames_in, IsFramed, KeepsValues, Upholds}
-use Rattle.place_taking.proofs.WearLemmas.{nothing_wears}
+use Rattle.place_taking.proofs.WearLemmas.{alike_tables, nothing_wears}
 use Rattle.transactions.specs.declared.transactions.Transactions.{Transactions}
 use Rattle.page_frames.specs.Asks.{AsksToPrepare}
 use Rattle.transactions.specs.Costs.{HasRoomFor, AsksToWrite}
@@ -215,10 +215,8 @@ was_put s n u r old new told order low mine of_unit valid home slots locks parts
           (λ i. memory_of (tables_of (sym parts i)) (sym did.frames i) (sym slots i)) led;
       tidy = subst (λ (p : Parts). Tidies {T = Unit {0}} {E = ChipFault} t (Ok tt) (tables_of p) told told)
           (sym parts) (tables_none {T = Unit {0}} {E = ChipFault} t (Ok tt) told);
-      wears = nothing_wears t (tables_in new.pages) true told (record {
-        retired = ap (λ (p : Parts). p.directory.retired) parts;
-        status = ap (λ (p : Parts). p.status.place) parts;
-      });
+      wears = nothing_wears t (tables_in new.pages) true told (alike_tables t (tables_in new.pages)
+          (ap (λ (p : Parts). p.directory) parts) (ap (λ (p : Parts). p.status.place) parts));
       order = record {
         ready = still_ready told.places old.pages new.pages (record {
           places = ap (λ (p : Parts). p.directory) parts;

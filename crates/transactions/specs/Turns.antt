@@ -64,9 +64,9 @@ TellsFaultsFor it result told new = OfContents told (λ x. (layout : Layout) (st
     → IfErr result (FailsByPage x layout (tables_in new)))
 
 -- A call that leads from each state that memory and chip stand for to the next one. Whatever the chip
--- tells: its events are lawful by the tables, what is retired besides was found worn, the memory is in
--- order, there are as many units, the same pages are held, at most so many numbers were drawn, and a fault
--- has its cause.
+-- tells: its events are lawful by the tables, what is retired besides was found worn, a unit whose place
+-- was erased is known, the memory is in order, there are as many units, the same pages are held, at most so
+-- many numbers were drawn, and a fault has its cause.
 pub record Turns {T : Type 0} (next : State → State) (most : ℕ) (old : Transactions) (before : Told)
     (result : Result T ChipFault) (new : Transactions) (after : Told) : Type 0 where
   pub leads : LeadsTo next (memory_in old) before result (memory_in new) after

@@ -11,6 +11,7 @@ use Rattle.chip_trait.specs.Moment.{AtEachMoment, Leaves}
 use Rattle.chip_trait.specs.Told.{History, Told, IsPrefix, Appends, FailsToSay, Rose, adds, adds_all}
 use Rattle.chip_trait.proofs.HistoryLemmas.{same_history, history_then}
 use Rattle.chip_trait.proofs.MomentLemmas.{at_start, at_next, at_end}
+use Rattle.store_trait.proofs.UnusedLemmas.{unused_sayings}
 use Rattle.store_trait.specs.Onward.{Onward, Still, sayings}
 use Rattle.store_trait.specs.Keeping.{Keeping, AllOf}
 use Rattle.store_trait.proofs.OnwardLemmas.{still_said}
@@ -147,6 +148,8 @@ module _ {S : Type 0} (k : Keeping S) (limits : Limits) (state : State) (store :
         only = only_sayings k.does (reverse said);
         lawful = record { lawful = λ base lawful clean. lawful_sayings (reverse said) base lawful };
         clean = λ e. record { clean = λ base lawful clean. clean_sayings (k.clean store) (reverse said) base clean };
+        unused = unused_sayings k store (reverse said) h done;
+        recalls = λ e entry. k.recalled_still entry store old new (still_of said old new has);
       } in (leaves, kept_still)
 
 -- ---- what goes along, whatever the chip tells

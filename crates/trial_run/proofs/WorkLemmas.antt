@@ -9,6 +9,7 @@ use Rattle.chip_trait.proofs.LawfulLemmas.{lawful_none, clean_none, lawful_then,
 use Rattle.chip_trait.proofs.MomentLemmas.{at_start, at_both}
 use Rattle.chip_trait.proofs.SaidLemmas.{pieces-append}
 use Rattle.store_trait.specs.Keeping.{Keeping, WorkLeaves}
+use Rattle.store_trait.proofs.UnusedLemmas.{unused_none, unused_then}
 use Rattle.script_run.proofs.RunLemmas.{all_both, regrouped}
 
 module _ {S : Type 0} (k : Keeping S) where
@@ -23,6 +24,7 @@ module _ {S : Type 0} (k : Keeping S) where
     only = tt;
     lawful = lawful_none (k.clean store);
     clean = λ e. clean_none (k.clean store);
+    unused = unused_none k store h true;
   }
 
   -- less said of what is left
@@ -36,6 +38,7 @@ module _ {S : Type 0} (k : Keeping S) where
     only = w.only;
     lawful = w.lawful;
     clean = w.clean;
+    unused = w.unused;
   }
 
   -- one part after another
@@ -55,4 +58,5 @@ module _ {S : Type 0} (k : Keeping S) where
     clean = λ e.
         clean_then (k.clean before) (k.clean mid) (k.clean then) two.added first.added first.lawful (first.clean refl)
         (two.clean e);
+    unused = unused_then k before mid then h done two.added first.added first.unused two.unused;
   }

@@ -109,4 +109,4 @@ returns-clause-framed g c = record {
 pub returns-clause-closed : goal.returns-clause-closed
 returns-clause-closed g c = λ is.
     formatted_closed (g.D.Chip.told c.args.desk.now) (g.D.Chip.told c.start_formatted.new.desk)
-    (g.D.Chip.told c.run_over.new.desk) c.in_ok-store.store c.in_ok-store.ensures.starts (c.in_ok-run_over.ensures.closed is)
+    (g.D.Chip.told c.run_over.new.desk) c.in_ok-store.store c.in_ok-store.ensures.starts (c.in_ok-run_over.ensures.closed is).ends

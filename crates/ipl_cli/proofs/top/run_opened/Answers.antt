@@ -4,6 +4,7 @@ use Rattle.store_trait.proofs.OnwardLemmas.{onward_counts, further_onward, furth
 use Rattle.ipl_cli.proofs.StartLemmas.{opened_left, opened_cause, opened_running, opened_number}
 use Rattle.std.specs.Prelude.{is_ok}
 use Rattle.ipl_cli.proofs.CloseLemmas.{closed_since}
+use Rattle.ipl_cli.proofs.EndLemmas.{opened_marks}
 use Rattle.ipl_cli.proofs.LawfulLemmas.{opened_adds}
 use Rattle.ipl_cli.proofs.top.run_opened.Goals as goal
 
@@ -92,5 +93,9 @@ returns-clause-framed g c = record {
 pub returns-clause-closed : goal.returns-clause-closed
 returns-clause-closed g c = λ is.
     let tidies = c.in_ok-store.ensures.starts.tries.tidy.tidies in
-    closed_since tidies.added (g.D.Chip.told c.args.desk.now) (g.D.Chip.told c.start_opened.new.desk)
-    (g.D.Chip.told c.run_over.new.desk) tidies.history (c.in_ok-run_over.ensures.closed is)
+    let closed = c.in_ok-run_over.ensures.closed is in record {
+      ends = closed_since tidies.added (g.D.Chip.told c.args.desk.now) (g.D.Chip.told c.start_opened.new.desk)
+          (g.D.Chip.told c.run_over.new.desk) tidies.history closed.ends;
+      marked = opened_marks (g.D.Chip.told c.args.desk.now) (g.D.Chip.told c.start_opened.new.desk)
+          c.in_ok-store.store c.in_ok-store.ensures.starts (g.D.Chip.told c.run_over.new.desk) closed.marked;
+    }

@@ -11,7 +11,7 @@ use Rattle.page_writing.proofs.FoundLemmas.{found_told, unplaced_told, found_ste
 use Rattle.page_writing.proofs.OutLemmas.{out_told, out_steps, stopped_told}
 use Rattle.page_writing.proofs.SpendLemmas.{unplaced_costs, placed_costs, room_costs}
 use Rattle.page_writing.proofs.SpotLemmas.{holds_then}
-use Rattle.page_writing.proofs.WearLemmas.{room_wears}
+use Rattle.page_writing.proofs.WearLemmas.{no_room_wears, room_wears}
 use Rattle.place_taking.proofs.WearLemmas.{wears_are_joined}
 use Rattle.merge_rules.proofs.FaultLemmas.{fault_as, fault_stopped}
 use Rattle.selective_merge.proofs.CompleteLemmas.{fails_complete}
@@ -259,6 +259,15 @@ returns-in_err-write_log-clause-stays g c = λ x told it mirrors.
     (tables_of c.write_log.new.parts) e.0 (e.2 ∙ c.in_err-write_log.ensures.accounts.cause.0))
 
 -- ---- what is worn
+
+pub returns-in_err-at-clause-wears : goal.returns-in_err-at-clause-wears
+returns-in_err-at-clause-wears g c =
+    let e = err_from_is_err_and c.from_residual.result c.from_residual.ensures.1 in
+    let old = g.C.Chip.told c.args.chip.now in
+    let lost = c.in_err-at.ensures in
+    rw (e.1, e.2) (no_room_wears old.places (tables_of c.args.parts.now) (tables_of c.log_place.new.parts)
+    (tells_worn c.in_err-at.field-0.0) old (g.C.Chip.told c.log_place.new.chip) c.requires.known lost.holds
+    lost.costs)
 
 pub returns-in_err-write_log-clause-wears : goal.returns-in_err-write_log-clause-wears
 returns-in_err-write_log-clause-wears g c =

@@ -13,11 +13,11 @@ returns-in_err-reply-clause-answers g c = rw (← c.requires.1.1.1.0) (λ limits
 
 pub returns-in-Ok-clause-answers : goal.returns-in-Ok-clause-answers
 returns-in-Ok-clause-answers g c = rw (← c.requires.1.1.1.0) (λ limits state h holds.
-    answered (g.S.Store.keeping (g.D.Chip.told c.args.desk.now).places) limits state c.args.command.now c.args.store.now c.work.new.self h _ _ _ _ (c.in_ok-reply.ensures.works limits state h holds) c.in-Ok.ensures.says)
+    answered (g.S.Store.keeping (g.D.Chip.told c.args.desk.now).places) limits state c.args.command.now c.args.store.now c.work.new.self h _ _ _ _ (c.in_ok-reply.ensures.works limits state h holds) c.in_ok-reply.ensures.recalls c.in-Ok.ensures.says)
 
 pub returns-in-Err-clause-answers : goal.returns-in-Err-clause-answers
 returns-in-Err-clause-answers g c = rw (← c.requires.1.1.1.0) (λ limits state h holds.
-    unsaid (g.S.Store.keeping (g.D.Chip.told c.args.desk.now).places) limits state c.args.command.now c.args.store.now c.work.new.self h _ _ _ _ (c.in_ok-reply.ensures.works limits state h holds) c.in-Err.ensures.says)
+    unsaid (g.S.Store.keeping (g.D.Chip.told c.args.desk.now).places) limits state c.args.command.now c.args.store.now c.work.new.self h _ _ _ _ (c.in_ok-reply.ensures.works limits state h holds) c.in_ok-reply.ensures.recalls c.in-Err.ensures.says)
 
 pub returns-in_err-reply-clause-along : goal.returns-in_err-reply-clause-along
 returns-in_err-reply-clause-along g c = rw (← c.requires.1.1.1.0) (let w = c.in_err-reply.ensures in

@@ -11,13 +11,13 @@ pub returns-in-Ok-clause-answers : goal.returns-in-Ok-clause-answers
 returns-in-Ok-clause-answers g c = λ limits state h holds.
     let out = past_names c.names-names.result c.args.first c.args.last c.then-first-names.either in
     let works = works_refused (g.S.Store.keeping g.places) limits state c.args.first c.args.last c.names-names.result (c.names-names.ensures.limit g.places limits (g.D.Chip.told c.args.desk.now) h state holds) c.args.store.now h (g.D.Chip.told c.args.desk.now) out holds in
-    answered (g.S.Store.keeping g.places) limits state (command.List c.args.first c.args.last) c.args.store.now c.args.store.now h _ _ _ _ works c.in-Ok.ensures.says
+    answered (g.S.Store.keeping g.places) limits state (command.List c.args.first c.args.last) c.args.store.now c.args.store.now h _ _ _ _ works (λ calm entry recalled. recalled) c.in-Ok.ensures.says
 
 pub returns-in-Err-clause-answers : goal.returns-in-Err-clause-answers
 returns-in-Err-clause-answers g c = λ limits state h holds.
     let out = past_names c.names-names.result c.args.first c.args.last c.then-first-names.either in
     let works = works_refused (g.S.Store.keeping g.places) limits state c.args.first c.args.last c.names-names.result (c.names-names.ensures.limit g.places limits (g.D.Chip.told c.args.desk.now) h state holds) c.args.store.now h (g.D.Chip.told c.args.desk.now) out holds in
-    unsaid (g.S.Store.keeping g.places) limits state (command.List c.args.first c.args.last) c.args.store.now c.args.store.now h _ _ _ _ works c.in-Err.ensures.says
+    unsaid (g.S.Store.keeping g.places) limits state (command.List c.args.first c.args.last) c.args.store.now c.args.store.now h _ _ _ _ works (λ calm entry recalled. recalled) c.in-Err.ensures.says
 
 pub returns-in_err-say_rows-clause-answers : goal.returns-in_err-say_rows-clause-answers
 returns-in_err-say_rows-clause-answers g c = λ limits state h holds.

@@ -15,17 +15,17 @@ returns-in_err-value-clause-says g c = rw (← c.requires.1.1.0) (λ limits name
 pub returns-in-Ok-clause-says : goal.returns-in-Ok-clause-says
 returns-in-Ok-clause-says g c = rw (← c.requires.1.1.0) (λ limits named state h holds.
     let found = subst (λ (o : Option (List ℕ)). LooksUpFor (g.S.Store.keeping (g.D.Chip.told c.args.desk.now).places) limits state c.args.n c.args.store.now h (Ok o) c.look_up.new.self (g.D.Chip.told c.args.desk.now) (g.D.Chip.told c.look_up.new.chip)) c.in-Some.is (c.in_ok-value.ensures.looks_up limits state h holds named) in
-    row_said (g.S.Store.keeping (g.D.Chip.told c.args.desk.now).places) limits state c.args.n c.args.store.now c.look_up.new.self h _ _ _ c.in-Some.value found c.in-Ok.ensures.says)
+    row_said (g.S.Store.keeping (g.D.Chip.told c.args.desk.now).places) limits state c.args.n c.args.store.now c.look_up.new.self h _ _ _ c.in-Some.value found c.in_ok-value.ensures.recalls c.in-Ok.ensures.says)
 
 pub returns-in-Err-clause-says : goal.returns-in-Err-clause-says
 returns-in-Err-clause-says g c = rw (← c.requires.1.1.0) (λ limits named state h holds.
     let found = subst (λ (o : Option (List ℕ)). LooksUpFor (g.S.Store.keeping (g.D.Chip.told c.args.desk.now).places) limits state c.args.n c.args.store.now h (Ok o) c.look_up.new.self (g.D.Chip.told c.args.desk.now) (g.D.Chip.told c.look_up.new.chip)) c.in-Some.is (c.in_ok-value.ensures.looks_up limits state h holds named) in
-    row_unsaid (g.S.Store.keeping (g.D.Chip.told c.args.desk.now).places) limits state c.args.n c.args.store.now c.look_up.new.self h _ _ _ c.in-Some.value found c.in-Err.ensures.says)
+    row_unsaid (g.S.Store.keeping (g.D.Chip.told c.args.desk.now).places) limits state c.args.n c.args.store.now c.look_up.new.self h _ _ _ c.in-Some.value found c.in_ok-value.ensures.recalls c.in-Err.ensures.says)
 
 pub returns-in-None-clause-says : goal.returns-in-None-clause-says
 returns-in-None-clause-says g c = rw (← c.requires.1.1.0) (λ limits named state h holds.
     let found = subst (λ (o : Option (List ℕ)). LooksUpFor (g.S.Store.keeping (g.D.Chip.told c.args.desk.now).places) limits state c.args.n c.args.store.now h (Ok o) c.look_up.new.self (g.D.Chip.told c.args.desk.now) (g.D.Chip.told c.look_up.new.chip)) c.in-None.is (c.in_ok-value.ensures.looks_up limits state h holds named) in
-    row_absent (g.S.Store.keeping (g.D.Chip.told c.args.desk.now).places) limits state c.args.n c.args.store.now c.look_up.new.self h _ _ found)
+    row_absent (g.S.Store.keeping (g.D.Chip.told c.args.desk.now).places) limits state c.args.n c.args.store.now c.look_up.new.self h _ _ found c.in_ok-value.ensures.recalls)
 
 pub returns-in_err-value-clause-along : goal.returns-in_err-value-clause-along
 returns-in_err-value-clause-along g c = rw (← c.requires.1.1.0) (let w = c.in_err-value.ensures in

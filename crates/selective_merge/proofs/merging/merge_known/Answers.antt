@@ -1,6 +1,7 @@
 use Rattle.std.proofs.Common.{Option, refl, sym, subst}
 use Rattle.ipl_base.specs.declared.fault.ChipFault.TheVariants.{Malformed}
 use Rattle.unit_io.proofs.ReadsAtLemmas.{at_none}
+use Rattle.place_taking.proofs.HomeLemmas.{homes_same}
 use Rattle.selective_merge.specs.Moving.{tables_of}
 use Rattle.selective_merge.proofs.FewLemmas.{few_packed, too_many}
 use Rattle.selective_merge.proofs.SpendLemmas.{for_none}
@@ -24,7 +25,13 @@ returns-then-not-pack_carried-clause-tells g c = λ soft x told.
 
 pub returns-then-not-pack_carried-clause-holds : goal.returns-then-not-pack_carried-clause-holds
 returns-then-not-pack_carried-clause-holds g c =
-    record { units = refl; active = refl; status = refl; known = c.requires.known }
+    let t = tables_of c.args.parts.now in record {
+      units = refl;
+      homes = homes_same t.places t.places refl refl;
+      active = refl;
+      status = refl;
+      known = c.requires.known;
+    }
 
 pub returns-then-not-pack_carried-clause-costs : goal.returns-then-not-pack_carried-clause-costs
 returns-then-not-pack_carried-clause-costs g c =

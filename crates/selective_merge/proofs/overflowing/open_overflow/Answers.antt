@@ -9,13 +9,14 @@ use Rattle.ipl_meaning.specs.TableSteps.{taken, with_next, with_overflow}
 use Rattle.unit_io.specs.Spots.{IsSpot}
 use Rattle.place_taking.specs.Spending.{tells_worn}
 use Rattle.place_taking.specs.Takes.{IsTakenFrom, with_places}
+use Rattle.place_taking.proofs.HomeLemmas.{homes_same, homes_then}
 use Rattle.place_taking.proofs.JoinLemmas.{costs_of_filled, fills_programs, taken_was_free, taken_within, tidy_taken}
 use Rattle.unit_directory.specs.Free.{aside}
 use Rattle.merge_rules.specs.Known.{KnowsPlaces}
 use Rattle.selective_merge.specs.Moving.{tables_of, set_aside}
 use Rattle.selective_merge.specs.Placing.{RestsOpened}
 use Rattle.selective_merge.proofs.CompleteLemmas.{used_then}
-use Rattle.selective_merge.proofs.HeldLemmas.{given_back, erases_then, held_aside, held_back, known_aside, units_aside}
+use Rattle.selective_merge.proofs.HeldLemmas.{given_back, erases_then, held_aside, held_back, homes_aside, known_aside, units_aside}
 use Rattle.selective_merge.proofs.SpendLemmas.{frees_for, frees_untaken}
 use Rattle.selective_merge.proofs.OverflowLemmas.{opened_mirrors, opened_says, opened_steps, open_failed, taken_told, tables_same}
 use Rattle.selective_merge.proofs.TakenLemmas.{aside_mirrors, has_counts, steps_not, told_not, untaken_tables}
@@ -115,6 +116,11 @@ returns-in-Ok-clause-holds g c =
     let taken_so = c.in_ok-place.ensures.taken in record {
       units = ap (λ (d : Places). length d.current) taken_so.places_is
           ∙ units_aside t taken_so.worn taken_so.in_turn;
+      homes = homes_then t.places (aside t.places taken_so.worn) c.take_place.new.directory
+          (homes_aside t taken_so.worn taken_so.in_turn)
+          (homes_same (aside t.places taken_so.worn) c.take_place.new.directory
+          (ap (λ (d : Places). d.current) taken_so.places_is)
+          (ap (λ (d : Places). d.written) taken_so.places_is));
       active = refl;
       status = refl;
       known = subst (KnowsPlaces places)

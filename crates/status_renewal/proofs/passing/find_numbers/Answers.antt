@@ -4,6 +4,7 @@ use Rattle.chip_trait.proofs.CountsLemmas.{counts_none}
 use Rattle.ipl_meaning.specs.Chart.{chart_of}
 use Rattle.ipl_meaning.specs.Mirrors.{Mirrors}
 use Rattle.selective_merge.specs.Moving.{tables_of}
+use Rattle.place_taking.proofs.HomeLemmas.{homes_same}
 use Rattle.steps.proofs.MapLemmas.{nothing_keeps}
 use Rattle.unit_io.specs.Costs.{Spends}
 use Rattle.unit_io.specs.Unread.{ReadsNothing}
@@ -33,7 +34,13 @@ returns-then-found-clause-steps g c = λ places same m it h steady rests agrees.
 
 pub returns-then-found-clause-holds : goal.returns-then-found-clause-holds
 returns-then-found-clause-holds g c =
-    record { active = refl; status = refl; units = refl; known = c.requires.known }
+    let t = tables_of c.args.parts.now in record {
+      active = refl;
+      status = refl;
+      units = refl;
+      homes = homes_same t.places t.places refl refl;
+      known = c.requires.known;
+    }
 
 pub returns-then-found-clause-costs : goal.returns-then-found-clause-costs
 returns-then-found-clause-costs g c =

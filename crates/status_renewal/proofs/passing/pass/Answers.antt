@@ -3,6 +3,7 @@ use Rattle.std.proofs.lemmas.Result.{err_from_is_err_and}
 use Rattle.chip_trait.proofs.CountsLemmas.{counts_none, counts_then}
 use Rattle.ipl_meaning.specs.Chart.{chart_of}
 use Rattle.selective_merge.specs.Moving.{tables_of, Holds}
+use Rattle.place_taking.proofs.HomeLemmas.{homes_same, homes_then}
 use Rattle.steps.proofs.MapLemmas.{nothing_keeps}
 use Rattle.status_renewal.specs.Passes.{HasPassed}
 use Rattle.status_renewal.proofs.CostLemmas.{erases_none, erases_more, erases_then}
@@ -18,7 +19,13 @@ loop-unit-init g c =
     let t = tables_of c.args.parts.now in
     let told = g.C.Chip.told c.args.chip.now in record {
       counts = counts_none told;
-      holds = record { active = refl; status = refl; units = refl; known = c.requires.known };
+      holds = record {
+        active = refl;
+        status = refl;
+        units = refl;
+        homes = homes_same t.places t.places refl refl;
+        known = c.requires.known;
+      };
       least = omega arith;
       most = omega arith;
       costs = erases_none c.args.parts.now.directory told;
@@ -90,6 +97,7 @@ loop-unit-preserved g c =
         active = holds.active ∙ so_far.holds.active;
         status = holds.status ∙ so_far.holds.status;
         units = holds.units ∙ so_far.holds.units;
+        homes = homes_then t.places between.places after.places so_far.holds.homes holds.homes;
         known = holds.known;
       };
       least = omega (arith, so_far.least, c.take_unit.ensures.draws);

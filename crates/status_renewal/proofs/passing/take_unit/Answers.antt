@@ -8,6 +8,7 @@ use Rattle.ipl_meaning.specs.Rests.{now}
 use Rattle.ipl_format.specs.Record.{Record}
 use Rattle.selective_merge.specs.Merging.{Merges, StaysMirrored, RestsMerged, MergesInSteps}
 use Rattle.selective_merge.specs.Moving.{tables_of, Holds}
+use Rattle.selective_merge.proofs.HeldLemmas.{homes_used}
 use Rattle.selective_merge.specs.Throughout.{ChartsThroughout}
 use Rattle.place_taking.specs.Spending.{tells_worn}
 use Rattle.steps.specs.Steps.{RestsAgreeing}
@@ -195,7 +196,9 @@ returns-clause-costs g c =
     let before = c.args.parts.now.directory in
     let after = c.merge.new.parts.directory in
     reads_then_erase _ before after 1 _ old mid new c.read_live.ensures.looks.reads
-    (place_erases before after _ _ _ mid new c.merge.ensures.costs)
+    (place_erases before after _ _ _ mid new
+    (homes_used old.places (tables_of c.args.parts.now) c.requires.known) c.merge.ensures.holds.homes
+    c.merge.ensures.costs)
 
 pub returns-in_err-read_live-clause-complete : goal.returns-in_err-read_live-clause-complete
 returns-in_err-read_live-clause-complete g c = λ places chart it t same holds was all.

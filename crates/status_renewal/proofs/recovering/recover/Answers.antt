@@ -1,26 +1,27 @@
-use Rattle.std.proofs.Common.{◌≡◌, ◌+◌, ◌∙◌, [], length, true, false, Ok, Err, refl, sym, ap, subst, arith}
+use Rattle.std.proofs.Common.{ℕ, ◌≡◌, ◌+◌, ◌∙◌, [], length, true, false, Ok, Err, refl, sym, ap, subst, arith}
 use Rattle.std.proofs.lemmas.Bool.{false≢true}
 use Rattle.std.proofs.lemmas.Result.{err_from_is_err_and}
 use Rattle.ipl_base.specs.declared.fault.ImageFault.TheVariants.{Chip}
 use Rattle.ipl_meaning.specs.Chart.{chart_of}
-use Rattle.ipl_meaning.specs.Tables.{Places}
 use Rattle.ipl_meaning.specs.TableSteps.{without_marks}
 use Rattle.merge_rules.specs.Known.{KnowsPlaces}
 use Rattle.opening_rules.specs.LaidOut.{layout_in}
 use Rattle.selective_merge.specs.Moving.{tables_of}
+use Rattle.unit_io.specs.Costs.{Spends}
 use Rattle.unit_io.specs.ReadsAt.{Anywhere}
 use Rattle.unit_io.proofs.CostLemmas.{spends_reads}
 use Rattle.unit_io.proofs.UnreadLemmas.{once_alone, once_then_unread}
+use Rattle.place_taking.proofs.HomeLemmas.{homes_same}
 use Rattle.place_taking.specs.Spending.{tells_worn}
 use Rattle.status_renewal.specs.Settling.{knows_logs, waits_for}
-use Rattle.status_renewal.specs.Recovers.{HasOpened, ErasesOpening, TidiesOpening, RecoversInSteps, HoldsOpened, tells_wear}
+use Rattle.status_renewal.specs.Recovers.{HasOpened, ErasesOpening, ErasesWaiting, TidiesOpening, RecoversInSteps, HoldsOpened, tells_wear}
 use Rattle.status_renewal.specs.Passes.{TellsChart, KeepsAll, RenewsTold, KeepsInSteps, FailsAsRenewal, CompletesRenewal}
 use Rattle.status_renewal.proofs.CostLemmas.{erases_more, waiting_alone, waiting_then, waiting_ended, waiting_then_renewed, reads_then_wait}
 use Rattle.status_renewal.proofs.RecoverLemmas.{of_parts, opened_parts, reading_not_worn, opens_told, opens_done, fault_looks, sound_looks, reads_recover, settling_failed, recovers_done, recovers_failed, tidies_settled, tidies_renewed, tidies_ended}
 use Rattle.status_renewal.proofs.CompleteLemmas.{all_mergeable, call_failed, reading_failed, stopped_failed}
 use Rattle.status_renewal.proofs.FaultLemmas.{opening_fault}
 use Rattle.status_renewal.proofs.FoundLemmas.{all_kept, once_where_fit, unread_first}
-use Rattle.status_renewal.proofs.SettlingLemmas.{unknown_logs, wait_contents, wait_unread, wait_costs, known_ended, none_marked}
+use Rattle.status_renewal.proofs.SettlingLemmas.{forgotten, homes_forgotten, no_waits, none_known, unknown_logs, wait_contents, wait_unread, wait_costs, known_ended, none_marked}
 use Rattle.status_renewal.proofs.TidyLemmas.{tidies_nothing, tidies_opened}
 use Rattle.status_renewal.proofs.recovering.recover.Goals as goal
 
@@ -56,16 +57,18 @@ returns-in_err-found-clause-costs g c =
     let old = g.C.Chip.told c.args.chip.now in
     let mid = g.C.Chip.told c.recover.new.chip in
     let after = c.recover.new.directory in
-    let found : Places = record after { current = [] } in
+    let found = forgotten after in
     let fault = c.in_err-found.field-0.0 in
     let still : tells_wear fault ≡ false =
     reading_not_worn fault old mid c.in_err-found.ensures.looks.cause in
     let e = err_from_is_err_and c.from_residual.result c.from_residual.ensures.1 in
     rw (e.1 ∙ ap Err e.2) (record {
       found = found;
-      erases = waiting_alone found after (length after.current + 1) 0 (tells_wear fault) old mid refl
-          still (spends_reads Anywhere [] old mid c.recover.ensures.looks.reads);
-      unmarked = λ off. refl;
+      erases = subst (λ (waits : ℕ). Spends (ErasesWaiting found after (length after.current + 1) waits
+          (tells_wear fault)) old mid) (sym (no_waits after))
+          (waiting_alone found after (length after.current + 1) 0 (tells_wear fault) old mid refl still
+          (homes_forgotten after) (spends_reads Anywhere [] old mid c.recover.ensures.looks.reads));
+      unmarked = λ off. unknown_logs found (none_known after);
       finds = λ is. absurd (false≢true (sym still ∙ is));
       units = λ is. absurd (false≢true (sym still ∙ is));
     })
@@ -397,7 +400,7 @@ returns-in_err-settle_marks-clause-costs g c =
     rw (e.1 ∙ ap Err e.2) (record {
       found = found;
       erases = waiting_alone found found (length found.current + 1) (waits_for found)
-          (tells_worn fault) old settled refl still
+          (tells_worn fault) old settled refl still (homes_same found found refl refl)
           (reads_then_wait Anywhere (waits_for found) old mid settled c.recover.ensures.looks.reads
           (wait_costs found (Err fault) mid settled c.in_err-settle_marks.ensures.waits));
       unmarked = λ off. unknown_logs found (c.in_ok-found.ensures.unmarked off).unknown;

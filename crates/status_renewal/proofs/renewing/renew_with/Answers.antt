@@ -4,6 +4,7 @@ use Rattle.ipl_meaning.specs.Chart.{chart_of}
 use Rattle.ipl_meaning.specs.Rests.{now}
 use Rattle.merge_rules.specs.Known.{KnowsPlaces}
 use Rattle.selective_merge.specs.Moving.{tables_of}
+use Rattle.selective_merge.proofs.HeldLemmas.{homes_used}
 use Rattle.selective_merge.specs.Throughout.{ChartsThroughout}
 use Rattle.steps.specs.Steps.{RestsAgreeing}
 use Rattle.txn_status.specs.Switching.{RestsSwitched}
@@ -11,7 +12,7 @@ use Rattle.status_renewal.specs.Passes.{HasPassed, ErasesAtMost}
 use Rattle.status_renewal.specs.Renewed.{with_tables, Renews, RenewsInSteps}
 use Rattle.status_renewal.proofs.CostLemmas.{erases_more, erases_then, place_erases, renewed_then}
 use Rattle.status_renewal.proofs.PreserveLemmas.{passed_then, steps_preserve}
-use Rattle.status_renewal.proofs.RenewLemmas.{may_renew, renew_ends, status_ends, units_still}
+use Rattle.status_renewal.proofs.RenewLemmas.{homes_still, may_renew, renew_ends, status_ends, units_still}
 use Rattle.status_renewal.proofs.CompleteLemmas.{written_alone}
 use Rattle.status_renewal.proofs.TellingLemmas.{goes_on_from, goes_on_then, renews_told}
 use Rattle.status_renewal.proofs.FaultLemmas.{pass_written, place_written}
@@ -144,7 +145,12 @@ returns-clause-costs g c =
     let last = c.renew_place.new.directory in
     erases_then first between last (length first.current) 1 _ old mid new
     c.in_ok-find_numbers.ensures.costs
-    (place_erases between last _ _ _ mid new c.renew_place.ensures.costs)
+    (place_erases between last _ _ _ mid new
+    (homes_used old.places (tables_of c.find_numbers.new.parts)
+    c.in_ok-find_numbers.ensures.holds.known)
+    (homes_still c.renew_place.result between last c.find_numbers.new.parts.status
+    c.renew_place.new.status c.find_numbers.new.parts.counter c.as_slice.result.now
+    c.renew_place.ensures.moved c.renew_place.ensures.same) c.renew_place.ensures.costs)
 
 pub returns-clause-renewed : goal.returns-clause-renewed
 returns-clause-renewed g c =
@@ -169,10 +175,17 @@ returns-clause-wears g c =
     let between = tables_of c.find_numbers.new.parts in
     wears_renewed (tables_of c.args.parts.now) between
     (with_tables between c.renew_place.new.directory c.renew_place.new.status
-    c.renew_place.new.counter) (length c.args.parts.now.directory.current) 3
-    c.renew_place.new.status.place c.renew_place.result (g.C.Chip.told c.args.chip.now)
+    c.renew_place.new.counter) (length c.args.parts.now.directory.current) 1
+    c.renew_place.result (g.C.Chip.told c.args.chip.now)
     (g.C.Chip.told c.find_numbers.new.chip) (g.C.Chip.told c.renew_place.new.chip)
-    c.in_ok-find_numbers.ensures.costs c.renew_place.ensures.costs
+    c.in_ok-find_numbers.ensures.costs
+    (place_erases between.places c.renew_place.new.directory _ _ _
+    (g.C.Chip.told c.find_numbers.new.chip) (g.C.Chip.told c.renew_place.new.chip)
+    (homes_used (g.C.Chip.told c.args.chip.now).places between
+    c.in_ok-find_numbers.ensures.holds.known)
+    (homes_still c.renew_place.result between.places c.renew_place.new.directory between.status
+    c.renew_place.new.status between.next c.as_slice.result.now
+    c.renew_place.ensures.moved c.renew_place.ensures.same) c.renew_place.ensures.costs)
     c.in_ok-find_numbers.ensures.goes_on c.renew_place.ensures.lists
 
 pub returns-in_err-find_numbers-clause-complete : goal.returns-in_err-find_numbers-clause-complete

@@ -18,6 +18,9 @@ returns-clause-cause g c = c.look.ensures.finds.cause
 pub returns-clause-tidy : goal.returns-clause-tidy
 returns-clause-tidy g c = c.look.ensures.finds.tidy
 
+pub returns-clause-recalls : goal.returns-clause-recalls
+returns-clause-recalls g c = c.look.ensures.finds.recalls
+
 pub returns-clause-learns : goal.returns-clause-learns
 returns-clause-learns g c = c.look.ensures.finds.learns
 
