@@ -361,7 +361,7 @@ fn add_pin(buffers: &mut Slab<Buffer>, key: usize, now: u64)
     buffer.used = now;
 }
 
-// Counts one pin fewer.
+/// Counts one pin fewer on the buffer under a key, which has one at least. No other buffer changes.
 pub(crate) fn drop_pin(buffers: &mut Slab<Buffer>, key: usize)
     requires { (buffer : BufferFields) × (get buffers.old key ≡ Some buffer) × (0 < buffer.pins) }
     ensures changes { Changes buffers.old buffers.new key without_pin }

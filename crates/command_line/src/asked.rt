@@ -32,7 +32,7 @@ pub enum Request {
     Serial,
     /// It is checked: all that it holds is read, and its records are counted.
     Check,
-    /// So many transactions that a seed chooses are run, with so many page frames.
+    /// So many commands that a seed chooses are done, with so many page frames.
     Trial {
         seed: u32,
         count: u32,

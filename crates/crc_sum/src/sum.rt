@@ -114,6 +114,8 @@ fn after_blocks(register: u32, blocks: &[[u8; 64]]) -> u32
         .fold(register, |r, block| with_block(r, block))
 }
 
+/// What the register of CRC-32 comes to after these bytes, however many, from what it holds before.
+/// What a byte does to it is in docs/FORMAT.md, "The sector".
 pub(crate) fn register_after(register: u32, bytes: &[u8]) -> u32
     ensures { result ≡ register_after register bytes.now }
 {

@@ -16,7 +16,8 @@ pub(crate) struct Span {
     pub(crate) until: usize,
 }
 
-// Where the pair of this key stands, or would.
+/// Where the pair of this key (any bytes) stands in the bytes of a bucket, or would stand. The span
+/// ends within them, and is empty exactly where the bucket has no pair of the key.
 pub(crate) fn span_of(bytes: &[u8], key: &[u8]) -> Span
     requires { IsBucketText bytes.now }
     ensures splits { (pairs : Pairs) → SpellsBucket bytes.now pairs

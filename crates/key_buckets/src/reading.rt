@@ -9,7 +9,8 @@ ghost use Rattle.key_buckets.specs.Reading.{after_pair, first_key, first_value, 
 use crate::limits::{KEY_LEN, KEY_VALUE_LEN};
 use ipl_base::VALUE_LEN;
 
-// Whether the bytes begin with a pair.
+/// Whether the bytes begin with a pair: the length of a key, 1 to 16, the key, the length of its
+/// value, 0 to 200, and the value.
 pub(crate) fn has_pair(bytes: &[u8]) -> bool
     ensures { result ≡ has_pair bytes.now }
 {
@@ -30,7 +31,7 @@ fn has_value(bytes: &[u8], key: usize) -> bool
     value <= KEY_VALUE_LEN && 2 + key + value <= bytes.len()
 }
 
-// The key of the first pair.
+/// The key of the first pair, 1 to 16 bytes. The bytes begin with a pair (see `has_pair`).
 pub(crate) fn first_key(bytes: &[u8]) -> &[u8]
     requires { has_pair bytes.now ≡ true }
     ensures { result.now ≡ first_key bytes.now }
@@ -38,7 +39,7 @@ pub(crate) fn first_key(bytes: &[u8]) -> &[u8]
     &bytes[1..1 + usize::from(bytes[0])]
 }
 
-// Its value.
+/// The value of the first pair, 0 to 200 bytes. The bytes begin with a pair.
 pub(crate) fn first_value(bytes: &[u8]) -> &[u8]
     requires { has_pair bytes.now ≡ true }
     ensures { result.now ≡ first_value bytes.now }
@@ -47,7 +48,7 @@ pub(crate) fn first_value(bytes: &[u8]) -> &[u8]
     &bytes[value..pair_len(bytes)]
 }
 
-// How many bytes the first pair has.
+/// How many of the bytes the first pair takes, 3 to 218. The bytes begin with a pair.
 pub(crate) fn pair_len(bytes: &[u8]) -> usize
     requires { has_pair bytes.now ≡ true }
     ensures len { result ≡ pair_len bytes.now }
@@ -57,7 +58,7 @@ pub(crate) fn pair_len(bytes: &[u8]) -> usize
     2 + key + usize::from(bytes[1 + key])
 }
 
-// The bytes after it.
+/// The bytes after the first pair. The bytes begin with a pair.
 pub(crate) fn after_pair(bytes: &[u8]) -> &[u8]
     requires { has_pair bytes.now ≡ true }
     ensures { result.now ≡ after_pair bytes.now }

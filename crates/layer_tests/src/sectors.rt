@@ -10,6 +10,7 @@ use std::process::Abort;
 /// A sector of a chip, and what it says.
 pub(crate) type Put<'a> = (Spot, Head, &'a [u8]);
 
+/// The spot of a sector of a place.
 pub(crate) fn at(place: u32, sector: u32) -> Spot
     ensures { (result.place ≡ place) × (result.sector ≡ sector) }
 {

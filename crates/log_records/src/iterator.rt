@@ -23,6 +23,7 @@ impl<'a> Model for Records<'a> {
 }
 
 impl<'a> Records<'a> {
+    /// The records that these bytes begin with, in order, as they are read in this version.
     pub(crate) fn over(bytes: &'a [u8], version: u8) -> Records<'a>
         ensures { result ≡ record { version = version; bytes = bytes.entry.now } }
     {

@@ -10,7 +10,8 @@ use crate::{Change, Record};
 use ipl_base::{RECORD_HEAD, SHORT_LEN, VALUE_LEN, Value};
 use ipl_format::{half_at, long_at};
 
-// The bytes of a value in a version, at most.
+/// How many bytes a value has in this version, at most: 108 in version 1, and 464 from version 2
+/// on. The table is in docs/FORMAT.md, "Log payload".
 pub(crate) fn most_len(version: u8) -> usize
     ensures { result ≡ most_len version }
 {
@@ -101,7 +102,8 @@ fn after_record(bytes: &[u8], version: u8) -> &[u8]
     &bytes[RECORD_HEAD + size_in(bytes, version)..]
 }
 
-// The first record, and the bytes after it.
+/// The first record, read in this version, and the bytes after it. `None` exactly where the bytes
+/// begin with no record. The table is in docs/FORMAT.md, "Log payload".
 #[tactic(auto, unfolding(crate::specs::Reading::record_at))]
 pub(crate) fn record_at(bytes: &[u8], version: u8) -> Option<(Record, &[u8])>
     ensures { option_map (λ p. (record_of p.0, p.1.now)) result ≡ record_at version bytes.now }

@@ -16,6 +16,8 @@ pub enum Change {
 }
 
 impl Change {
+    /// The number of its kind in a log record: 1 for a put, 2 for a delete. The table is in
+    /// docs/FORMAT.md, "Log payload".
     pub(crate) fn kind(&self) -> u8
         ensures { result ≡ kind_of (change_of self.now) }
     {
@@ -25,7 +27,7 @@ impl Change {
         }
     }
 
-    // The value of a put, and nothing for a delete.
+    /// The value of a put, 0 to 464 bytes, and no bytes for a delete.
     pub(crate) fn bytes(&self) -> &[u8]
         ensures value { result.now ≡ value_of (change_of self.now) }
         ensures fits { length result.now ≤ VALUE_LEN }

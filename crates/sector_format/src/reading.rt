@@ -28,7 +28,8 @@ pub fn tail_of(bytes: &[u8; 512]) -> u32
     crc32_tail(&bytes[32..])
 }
 
-// The sum of all bytes but those of the sum itself, of which those behind the head bring in so much.
+/// The sum of all bytes but those of the sum itself, 28..32, where those behind the head, 32..512,
+/// bring in so much (see `tail_of`). It is the CRC-32 in docs/FORMAT.md, "The sector".
 pub(crate) fn sum_by(bytes: &[u8; 512], tail: u32) -> u32
     requires { tail ≡ tail_sum (drop 32 bytes.now) }
     ensures { result ≡ computed_sum bytes.now }
@@ -42,6 +43,7 @@ fn is_all(bytes: &[u8], byte: u8) -> bool
     bytes.iter().all(|b| *b == byte)
 }
 
+/// Whether all 512 bytes are FF: the sector is erased then.
 #[tactic(auto, unfolding(chip_trait::specs::Story::blank))]
 pub(crate) fn is_erased(bytes: &[u8; 512]) -> bool
     ensures { IsTrue result ↔ (bytes.now ≡ blank) }
@@ -55,6 +57,8 @@ fn is_marked(bytes: &[u8; 512]) -> bool
     bytes[0] == b'I' && bytes[1] == b'P' && bytes[2] == b'L' && bytes[3] == b'1'
 }
 
+/// The used length that stands in bytes 6..8, 0 to 65,535: it isn't tested here. The table is in
+/// docs/FORMAT.md, "The sector".
 pub(crate) fn used_length(bytes: &[u8; 512]) -> usize
     ensures { result ≡ used_length bytes.now }
 {
@@ -81,7 +85,9 @@ fn is_zero_from(bytes: &[u8; 512], start: usize) -> bool
     is_zero(&bytes[start..])
 }
 
-// All rules but that of the sum.
+/// Whether the bytes keep all rules of a sector but that of the sum: the marker, a kind of 1 to 7,
+/// a version of 1 to 3, a used length of at most 480, and zeros after the used bytes. The table is
+/// in docs/FORMAT.md, "The sector".
 #[tactic(auto, unfolding(ipl_format::specs::Sector::is_formed))]
 pub(crate) fn is_formed(bytes: &[u8; 512]) -> bool
     ensures { result ≡ is_formed bytes.now }
@@ -95,6 +101,8 @@ pub(crate) fn is_formed(bytes: &[u8; 512]) -> bool
         && is_zero_from(bytes, 32 + used)
 }
 
+/// The head that stands in the bytes, each number as it is: none is tested here. The table is in
+/// docs/FORMAT.md, "The sector".
 pub(crate) fn head_in(bytes: &[u8; 512]) -> Head
     ensures { result ≡ head_in bytes.now }
 {

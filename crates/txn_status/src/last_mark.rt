@@ -101,7 +101,7 @@ impl LastMark {
         }
     }
 
-    // Takes in a commit sector of this serial.
+    /// Takes in a commit sector of this serial: from then on no mark of a lower serial counts.
     pub(crate) fn take_commit(&mut self, serial: u64)
         ensures { self.new ≡ record {
           best = self.old.best;
@@ -121,7 +121,8 @@ impl LastMark {
         }
     }
 
-    // Takes in a close mark.
+    /// Takes in a mark of this head and this payload, of at most 132 bytes: it is kept instead of
+    /// the one before where its serial is greater, or where there was none.
     pub(crate) fn take_mark(&mut self, head: &Head, payload: &[u8])
         requires { length payload.now ≤ 132 }
         ensures { self.new ≡ record {

@@ -8,7 +8,8 @@ ghost use Rattle.unit_layout.specs.Header.{erases_at, SayErases};
 use ipl_base::VERSION;
 use ipl_format::word_at;
 
-// Writes a number at this place: what stands before it is followed by it.
+/// Writes a number in four bytes, the highest first, from byte `at` on, for which `out` has room.
+/// All other bytes stay.
 #[tactic(auto, unfolding(ipl_format::specs::Numbers::word))]
 pub(crate) fn write_word(number: u32, at: usize, out: &mut [u8])
     requires { at + 4 ≤ length out.old }

@@ -5,6 +5,8 @@ use ipl_base::{ChipFault, ImageFault};
 use program_end::{End, NoteLine, status};
 use std::alloc::Global;
 
+/// What comes of a row `end NAME NUMBERS`: the status of the end, and the line that is noted,
+/// without its line feed. Fails where the words behind the verb are no end, or memory is wanting.
 pub fn ends_row(alloc: Global, rest: &str) -> Result<String> {
     let words = words_of(alloc, rest)?;
     let end = match words.as_slice() {

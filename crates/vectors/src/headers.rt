@@ -15,6 +15,9 @@ use unit_layout::{
     write_status_header,
 };
 
+/// What comes of a row `data BYTES`, in a version: what the payload of a data header says, and
+/// `same`, `more` or `other`, by how it is written now; or `refused`, where the bytes are no such
+/// payload. Fails where the version or the bytes are misspelled, or memory is wanting.
 pub fn data_row(alloc: Global, rest: &str) -> Result<String> {
     let (version, rest) = versioned(rest)?;
     let bytes = bytes_of(alloc, rest)?;
@@ -61,6 +64,9 @@ fn again(written: &[u8], bytes: &[u8]) -> &'static str {
     }
 }
 
+/// What comes of a row `status PLACES BYTES`, in a version: the same of the payload of a status
+/// header on a chip of so many places, with the places that it lists as retired. Fails where a word
+/// is misspelled, or memory is wanting.
 pub fn status_row(alloc: Global, rest: &str) -> Result<String> {
     let (version, rest) = versioned(rest)?;
     let (places, rest) = parted(rest);
@@ -90,6 +96,8 @@ fn retired_in(alloc: Global, bytes: &[u8]) -> Result<Vec<u32>> {
     Ok(retired)
 }
 
+/// What comes of a row `overflow BYTES`, in a version: the same of the payload of an overflow
+/// header. Fails where the version or the bytes are misspelled, or memory is wanting.
 pub fn overflow_row(alloc: Global, rest: &str) -> Result<String> {
     let (version, rest) = versioned(rest)?;
     let bytes = bytes_of(alloc, rest)?;
@@ -103,6 +111,9 @@ pub fn overflow_row(alloc: Global, rest: &str) -> Result<String> {
     Ok(format!(in alloc; "units {units} erases {erases}/{same}")?)
 }
 
+/// What comes of a row `erases KIND BYTES`, in a version: how often a place was erased, by a sector
+/// 0 of this kind, 0 to 255, and this payload. Fails where a word is misspelled, or memory is
+/// wanting.
 pub fn erases_row(alloc: Global, rest: &str) -> Result<String> {
     let (version, rest) = versioned(rest)?;
     let (kind, rest) = parted(rest);
@@ -110,6 +121,8 @@ pub fn erases_row(alloc: Global, rest: &str) -> Result<String> {
     Ok(format!(in alloc; "{erases}")?)
 }
 
+/// What comes of a row `base PAGE PIECE`: the sector, 1 to 240, of a piece of a page's text. Fails
+/// where the page isn't 0 to 14 or the piece isn't 0 to 15, or memory is wanting.
 pub fn base_row(alloc: Global, rest: &str) -> Result<String> {
     let (page, piece) = parted(rest);
     let page = number(page)?;
@@ -119,6 +132,8 @@ pub fn base_row(alloc: Global, rest: &str) -> Result<String> {
     Ok(format!(in alloc; "sector {sector}")?)
 }
 
+/// What comes of a row `log NUMBER`: the log sector of this number in the place of a unit, 241 to
+/// 255. Fails where the number isn't 0 to 14, or memory is wanting.
 pub fn log_row(alloc: Global, rest: &str) -> Result<String> {
     let i = number(rest)?;
     ensure!(i < 15, "no log sector");

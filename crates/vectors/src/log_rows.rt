@@ -10,6 +10,9 @@ use ipl_base::SHORT_LEN;
 use log_records::{Change, Payload, Record, is_list, put, records};
 use std::alloc::Global;
 
+/// What comes of a row `records BYTES`, in a version: each record of a log payload, and `same` or
+/// `other`, by whether they are put again as the same bytes; or `refused`, where the bytes are no
+/// list of records. Fails where they are more than 480, a word is misspelled, or memory is wanting.
 pub fn records_row(alloc: Global, rest: &str) -> Result<String> {
     let (version, rest) = versioned(rest)?;
     let bytes = bytes_of(alloc, rest)?;

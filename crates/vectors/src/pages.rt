@@ -10,6 +10,9 @@ use ipl_base::{SLOTS, Value};
 use page_text::{PageMap, read, write};
 use std::alloc::Global;
 
+/// What comes of a row `page BYTES`, in a version: each slot that the text of a page has and its
+/// value, and `same` or `other`, by whether it is written again as the same bytes; or `refused`,
+/// where the bytes are no page's text. Fails where a word is misspelled, or memory is wanting.
 pub fn page_row(alloc: Global, rest: &str) -> Result<String> {
     let (version, rest) = versioned(rest)?;
     let bytes = bytes_of(alloc, rest)?;

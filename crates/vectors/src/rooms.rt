@@ -10,6 +10,9 @@ use std::alloc::Global;
 /// More records than a log sector has room for.
 const MANY: u32 = 50;
 
+/// What comes of a row `room COUNT BYTES`: how many puts of these bytes a payload takes, at most so
+/// many, how many deletes behind them, and the bytes of all; and the same of a log in memory, where
+/// that differs. Fails where a word is misspelled, a value is too long, or memory is wanting.
 pub fn room_row(alloc: Global, rest: &str) -> Result<String> {
     let (most, bytes) = parted(rest);
     let most = number(most)?;

@@ -11,12 +11,17 @@ use plain_text::TextLine;
 use script_text::{parse, print};
 use std::alloc::Global;
 
+/// What comes of a row `run PLACES LINES`: the replies of a new model over so many places, 5 to
+/// 1,028, with which the rows after it go on. Fails where PLACES is no such number, or memory is
+/// wanting.
 pub fn run_row(alloc: Global, model: &mut PlainModel, rest: &str) -> Result<String> {
     let (places, lines) = parted(rest);
     *model = PlainModel::new(alloc, geometry_of(places)?)?;
     do_row(alloc, model, lines)
 }
 
+/// What comes of a row `do LINES`: the replies of the model as it stands, one line after the other,
+/// and `no reply` for a line that is skipped. Fails where memory is wanting.
 pub fn do_row(alloc: Global, model: &mut PlainModel, lines: &str) -> Result<String> {
     let mut text = String::new(alloc);
     for line in lines.split('/') {
@@ -46,12 +51,17 @@ fn add_reply(reply: &Reply, text: &mut String) -> Result<()> {
     join(text, str::from_utf8(line.bytes())?.trim_end())
 }
 
+/// What comes of a row `line BYTES`: the replies of the model as it stands to one line, as its
+/// bytes. Fails where the bytes are misspelled, or memory is wanting.
 pub fn line_row(alloc: Global, model: &mut PlainModel, rest: &str) -> Result<String> {
     let mut text = String::new(alloc);
     do_line(model, &bytes_of(alloc, rest)?, &mut text)?;
     Ok(text)
 }
 
+/// What comes of a row `each FIRST END LINE`: the replies to the line where its first star stands
+/// for each number in turn, from the first to below the end; of these only such as differ from the
+/// one before. Fails where a number is misspelled, the line has no star, or memory is wanting.
 pub fn each_row(alloc: Global, model: &mut PlainModel, rest: &str) -> Result<String> {
     let (first, rest) = parted(rest);
     let (end, line) = parted(rest);
@@ -69,6 +79,8 @@ pub fn each_row(alloc: Global, model: &mut PlainModel, rest: &str) -> Result<Str
     Ok(text)
 }
 
+/// What comes of a row `home NAME`: the unit, the page and the slot in which the name lives. Fails
+/// where the name is no number below 2^32, or memory is wanting.
 pub fn home_row(alloc: Global, rest: &str) -> Result<String> {
     let Home { unit, page, slot } = home(Name(number(rest)?));
     Ok(format!(in alloc; "unit {unit} page {page} slot {slot}")?)

@@ -9,11 +9,16 @@ use crc_sum::crc32_parts;
 use sector_format::{Decoded, Head, decode, encode};
 use std::alloc::Global;
 
+/// What comes of a row `decode BYTES`: what the bytes say as a sector, with zeros behind them up to
+/// 512, or that it is erased, bad or strange. Fails where they are more than 512 or misspelled, or
+/// memory is wanting.
 pub fn decode_row(alloc: Global, rest: &str) -> Result<String> {
     let sector = sector_of(&bytes_of(alloc, rest)?)?;
     said(alloc, &sector)
 }
 
+/// What comes of a row `seal BYTES`: the same of that sector once its sum is put into bytes 28..32.
+/// Fails where the bytes are more than 512 or misspelled, or memory is wanting.
 pub fn seal_row(alloc: Global, rest: &str) -> Result<String> {
     let mut sector = sector_of(&bytes_of(alloc, rest)?)?;
     let sum = crc32_parts(&sector[..28], &sector[32..]).to_be_bytes();
@@ -56,6 +61,10 @@ fn said(alloc: Global, sector: &[u8; 512]) -> Result<String> {
     }
 }
 
+/// What comes of a row `encode KIND UNIT GENERATION SERIAL BYTES`, in a version: the head of 32
+/// bytes and the payload of the sector, in hex digits. Fails where the kind isn't 1 to 7, the
+/// payload has more than 480 bytes, a word is misspelled, missing or one too many, or memory is
+/// wanting.
 pub fn encode_row(alloc: Global, rest: &str) -> Result<String> {
     let (version, rest) = versioned(rest)?;
     let words = words_of(alloc, rest)?;

@@ -4,6 +4,8 @@ use anyhow::Result;
 use crc_sum::{Crc, crc32, crc32_parts};
 use std::alloc::Global;
 
+/// What comes of a row `sum BYTES`, or `sum BYTES BYTES`: the CRC-32 of the bytes, or of both one
+/// after the other, in eight hex digits. Fails where bytes are misspelled, or memory is wanting.
 pub fn sum_row(alloc: Global, rest: &str) -> Result<String> {
     match rest.split_once(' ') {
         None => {

@@ -7,6 +7,9 @@ use ipl_model::{Command, PlainModel, Reply};
 use std::alloc::Global;
 use trial_commands::{Records, Tally, TrialCommands, summary_lines};
 
+/// What comes of a row `trial PLACES SEED COUNT`: the six lines of the summary of so many commands
+/// of the seed, done by a new model over so many places, 5 to 1,028. Fails where the words aren't
+/// three such numbers, or memory is wanting.
 pub fn trial_row(alloc: Global, rest: &str) -> Result<String> {
     let words = words_of(alloc, rest)?;
     let [places, seed, count] = words.as_slice() else {

@@ -8,6 +8,9 @@ use serial_view::serial_order;
 use std::alloc::Global;
 use std::fmt::Write;
 
+/// What comes of a row `view PLACES LINES`: `view` and the positions of the commands in the serial
+/// view of the lines, from the empty map, over so many places, 5 to 1,028. Fails where PLACES is no
+/// such number, or memory is wanting.
 pub fn view_row(alloc: Global, rest: &str) -> Result<String> {
     let (places, lines) = parted(rest);
     let commands = commands_of(alloc, lines)?;

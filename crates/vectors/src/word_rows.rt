@@ -4,6 +4,8 @@ use anyhow::Result;
 use command_line::{Choice, Request, chip_choice, request};
 use std::alloc::Global;
 
+/// What comes of a row `words WORDS`: what the words of a command line ask, and over which chip;
+/// both are `nothing` where they aren't valid. Fails where memory is wanting.
 pub fn words_row(alloc: Global, rest: &str) -> Result<String> {
     let words = owned(alloc, rest)?;
     let asked = asked_text(alloc, request(alloc, &words)?)?;
