@@ -7,7 +7,7 @@
 //!
 //! - `chip PLACES`: a blank chip; `chip PLACES EVENTS`, with room for more events than a run mostly has.
 //! - `next`: the chip as the run left it. `stop N`: as a cut leaves it before the run's header of this
-//!   number, from 1 on, with nothing left of what isn't sure to last.
+//!   number, from 1 on, with each open sector as it was meant to be.
 //! - `wear PLACES`: from now on these places are found worn, and no others.
 //! - `pieces SIZES`: from now on the script is read in pieces of so many bytes; `137*80` is one size
 //!   80 times. Behind them, and where a size is 0, as many are read as fit.

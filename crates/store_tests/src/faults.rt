@@ -8,7 +8,6 @@ use crate::calls::{
     Answer, Call, DONE, DOWN, call_all, call_in_frames, call_left, call_reopened, failed,
     formatted, found, left_by, left_of, opened, reopened,
 };
-use crate::scripts::add_all;
 use chip_mem::MemChip;
 use chip_trait::Event;
 use ipl_base::{ChipFault, ImageFault};
@@ -113,9 +112,9 @@ fn with_fault<'a>(
     behind: &[Case<'a>],
 ) -> Result<Vec<Case<'a>>, Fail> {
     let mut cases = Vec::new(alloc);
-    add_all(&mut cases, before)?;
-    add_all(&mut cases, &[(call, failed(fault))])?;
-    add_all(&mut cases, behind)?;
+    cases.extend_from_slice(before)?;
+    cases.push((call, failed(fault)))?;
+    cases.extend_from_slice(behind)?;
     Ok(cases)
 }
 
