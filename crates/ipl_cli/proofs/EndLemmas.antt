@@ -1,5 +1,5 @@
 -- What a format and a run leave, where they end.
-use Rattle.std.proofs.Common.{◌≡◌, ◌⊎◌, ◌≤◌, ℕ, Bool, true, false, [], ◌∷◌, List, ◌++◌, Some, Result, Ok, Err, is_ok, inl, inr, refl, sym, ◌∙◌, ap, subst, arith, append_assoc, ◌<◌}
+use Rattle.std.proofs.Common.{◌≡◌, ◌⊎◌, ◌≤◌, ℕ, Bool, true, false, not, [], ◌∷◌, List, ◌++◌, Some, Result, Ok, Err, is_ok, inl, inr, refl, sym, ◌∙◌, ap, subst, arith, append_assoc, ◌<◌}
 use Rattle.std.proofs.lemmas.List.{append-nil}
 use Rattle.std.specs.Option.{option_map}
 use Rattle.std.specs.FinMap.{empty}
@@ -58,9 +58,10 @@ use Rattle.script_store.proofs.RecallLemmas.{opening_recalls}
 use Rattle.program_end.specs.declared.end.End.{End}
 use Rattle.program_end.specs.declared.end.End.TheVariants.{Words, Chip, OutOfMemory, Script, Output, TooLong}
 use Rattle.ipl_cli.specs.Ending.{Ending, IsStopped, StopRose, IsUntouched, format_end, units_beside}
-use Rattle.ipl_cli.specs.Top.{AreMarked, Runs, RunsFrom, RunsOpened, RunsFormatted, IsLaidOut, LaysOut, IsAbout, StandsAbout, IsBetween, EndsBy, answers, ok_line}
-use Rattle.ipl_cli.specs.Runs.{StartsOpened, IsNotOpened, WasFormatted, MarksBehind, ending_of}
+use Rattle.ipl_cli.specs.Top.{AreMarked, WereUnused, Runs, RunsOpened, RunsFormatted, IsLaidOut, LaysOut, IsAbout, StandsAbout, IsBetween, EndsBy, answers, ok_line}
+use Rattle.ipl_cli.specs.Runs.{RunsFrom, StartsOpened, IsNotOpened, WasFormatted, MarksBehind, ending_of}
 use Rattle.ipl_cli.specs.Frames.{MarksWhatWasErased}
+use Rattle.ipl_cli.proofs.UnusedLemmas.{were_unused, format_unused, said_unused}
 
 -- what stands beside the chip is left as it was
 pub left_counts : (old new : Told) → Counts old new → new.beside.left ≡ old.beside.left
@@ -112,6 +113,7 @@ module _ (spares : ℕ) (old mid new : Told) (counts : Counts old mid)
       (λ (s : Story). units_at (now (adds_all s h)) old.places ≡ units_left) exact
       (laid_says_its_units (now (adds_all did.added h)) old.places (first_layout units_left)
       did.done.fresh.mirrors.laid) in
+      let unused_then = format_unused old.places units_left h old mid did in
       record {
         added = added;
         says = part;
@@ -132,6 +134,13 @@ module _ (spares : ℕ) (old mid new : Told) (counts : Counts old mid)
               units_at (now (adds_all s (adds_all events h))) old.places ≡ units_left) (sym none) counted
           | inr (piece, prefix, one) ↦ subst (λ (s : Story).
               units_at (now (adds_all s (adds_all events h))) old.places ≡ units_left) (sym one) counted
+        ];
+        unused = elim part [
+          | inl none ↦ subst (λ (s : Story). MarksAreUnused old.places (adds_all s (adds_all events h)))
+              (sym none) unused_then
+          | inr (piece, prefix, one) ↦ subst (λ (s : Story). MarksAreUnused old.places
+              (adds_all s (adds_all events h))) (sym one)
+              (said_unused old.places (adds_all events h) piece unused_then)
         ];
         lawful = λ base lawful. elim part [
           | inl none ↦ subst (λ (s : Story). IsLawful (s ++ (events ++ base)))
@@ -247,7 +256,7 @@ module _ (marks : Bool) (places units : ℕ) (m : Map) (script : List ℕ) (h : 
     (silent : pieces first ≡ [])
     (each : AtEachMoment (λ e. EachStandsIn places units m (adds_all e h)) first)
     (lawful : (base : Story) → IsLawful base → AreClean (AreMarked marks places h) base → IsLawful (first ++ base))
-    (unused : MarksAreUnused places h → AtEachMoment (λ e. MarksAreUnused places (adds_all e h)) first) where
+    (unused : WereUnused marks places h → AtEachMoment (λ e. MarksAreUnused places (adds_all e h)) first) where
   abbrev limits : Limits
   limits = limits_of units
 
@@ -314,7 +323,7 @@ module _ (marks : Bool) (places units : ℕ) (m : Map) (script : List ℕ) (h : 
       (told : mid.history ≡ option_map (adds_all first) old.history)
       (clean : (base : Story) → AreClean (AreMarked marks places h) base
       → AreClean ((script_keeping places).clean before) (first ++ base))
-      (unused_then : MarksAreUnused places h → (script_keeping places).unused before (adds_all first h)) where
+      (unused_then : WereUnused marks places h → (script_keeping places).unused before (adds_all first h)) where
     module _ (R : History → State → Type 0) (result : Result (Unit {0}) Stop)
         (stays : (k : History) (s : State) → R k s → Stays (script_keeping places) limits then mid new k s)
         (leaves : RunLeaves (script_keeping places) limits (at_rest m) (commands_of script) before
@@ -494,53 +503,57 @@ module _ {marks : Bool} (old mid : Told) (store : ScriptStore) (s : StartsOpened
     opened_so : (result : Result (Unit {0}) Stop)
         → RunsScript (script_keeping old.places) store mid result then new
         → (h : History) (script : List ℕ) → IsSteady h old → old.beside.left ≡ Some script
-        → (m : Map) → StoryRests old.places m h
+        → (m : Map) → StoryRests old.places m h → WereUnused (not marks) old.places h
         → Runs marks old.places store.store.units m script h [] old new (ending_of result)
-    opened_so (Ok u) run h script steady left m rests =
+    opened_so (Ok u) run h script steady left m rests besides =
         let (took, takes, did) = s.tries.steps m h steady rests in
         let taken = took_marked marks old took h steady takes in
         runs_ended marks old.places store.store.units m script h did.added did.does.silent
         (opened_each m h steady rests)
         (λ base good marked. did.does.lawful.lawful base good (taken base marked))
-        (λ were later e split. did.marks tt later e split were)
+        (λ were later e split. did.marks tt later e split (were_unused marks old.places h were besides))
         old mid new store then s.tries.accounts.counts.writes did.history
         (λ base marked. did.does.clean refl base (taken base marked))
-        (opened_unused h steady m rests)
+        (λ were. opened_unused h steady m rests (were_unused marks old.places h were besides))
         (run (limits_of store.store.units) (at_rest m) (adds_all did.added h) (opened_keeps m h
         steady rests) script (left_counts old mid s.tries.accounts.counts ∙ left))
-    opened_so (Err e) run h script steady left m rests =
+    opened_so (Err e) run h script steady left m rests besides =
         let (took, takes, did) = s.tries.steps m h steady rests in
         let taken = took_marked marks old took h steady takes in
         runs_stopped marks old.places store.store.units m script h did.added did.does.silent
         (opened_each m h steady rests)
         (λ base good marked. did.does.lawful.lawful base good (taken base marked))
-        (λ were later e split. did.marks tt later e split were)
+        (λ were later e split. did.marks tt later e split (were_unused marks old.places h were besides))
         old mid new store then s.tries.accounts.counts.writes did.history
         (λ base marked. did.does.clean refl base (taken base marked))
-        (opened_unused h steady m rests) e
+        (λ were. opened_unused h steady m rests (were_unused marks old.places h were besides)) e
         (run (limits_of store.store.units) (at_rest m) (adds_all did.added h) (opened_keeps m h
         steady rests) script (left_counts old mid s.tries.accounts.counts ∙ left))
 
     pub opened_runs : (result : Result (Unit {0}) Stop)
         → RunsScript (script_keeping mid.places) store mid result then new
         → RunsFrom marks old new (ending_of result)
-    opened_runs result run = λ h script steady left m rests.
+    opened_runs result run = λ h script steady left m rests besides.
         subst (λ (n : ℕ). Runs marks old.places n m script h [] old new (ending_of result))
         (units_told h steady)
         (opened_so result (subst (λ (n : ℕ). RunsScript (script_keeping n) store mid result then new)
-        s.tries.accounts.counts.places run) h script steady left m rests)
+        s.tries.accounts.counts.places run) h script steady left m rests besides)
 
 -- an opening that fails leaves the records
 pub unopened_runs : {marks : Bool} (old new : Told) (end : End) → (n : IsNotOpened marks end old new)
     → RunsFrom marks old new (Err (Chip n.fault))
-unopened_runs {marks} old new end n = λ h script steady left m rests.
+unopened_runs {marks} old new end n = λ h script steady left m rests besides.
     let (took, takes, did) = n.tries.steps m h steady rests in
     none_failed marks old.places (units_at (now h) old.places) m script h did.added did.does.silent
     (moments_as_said old.places m h did.added rests did.each_moment)
     (λ base good marked. did.does.lawful.lawful base good (took_marked marks old took h steady takes base marked))
-    (λ were later e split. did.marks tt later e split were)
+    (λ were later e split. did.marks tt later e split (were_unused marks old.places h were besides))
     old new did.history (left_counts old new n.tries.accounts.counts ∙ left) did.steady did.ends
     n.fault
+
+-- where marks count nothing is asked besides
+pub runs_opened : {old new : Told} {ending : Ending} → RunsFrom true old new ending → RunsOpened old new ending
+runs_opened runs = λ h script steady left m rests. runs h script steady left m rests tt
 
 -- and so does what does nothing
 module _ (old new : Told) (is : IsUntouched old new) where
@@ -659,4 +672,6 @@ module _ (old mid new : Told) (f : WasFormatted old mid) where
       (runs (adds_all first h) script fresh.0
       (left_counts old mid f.counts ∙ left) empty
       (subst (λ (q : ℕ). StoryRests q empty (adds_all first h))
-      (sym f.counts.places) fresh.1))))
+      (sym f.counts.places) fresh.1)
+      (subst (λ (q : ℕ). MarksAreUnused q (adds_all first h)) (sym f.counts.places)
+      (format_unused old.places (units_on old.places) h old mid (f.formats h))))))

@@ -1,5 +1,6 @@
 mod CloseLemmas
 mod CountLemmas
+mod UnusedLemmas
 mod EndLemmas
 mod WornLemmas
 mod StartLemmas

@@ -153,6 +153,7 @@ module _ (old mid : Told) (noted : Option (List ℕ)) where
     steady = λ steady. steady_noted (l.steady steady);
     rests = l.rests;
     count = l.count;
+    unused = l.unused;
     lawful = l.lawful;
     left_is = l.left_is;
     all = l.all;

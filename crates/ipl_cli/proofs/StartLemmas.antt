@@ -60,10 +60,10 @@ use Rattle.program_end.specs.declared.end.End.{End}
 use Rattle.program_end.specs.declared.end.End.TheVariants.{Words, Chip, OutOfMemory, Script, Output, TooLong}
 use Rattle.command_line.specs.declared.asked.Request.TheVariants.{Run}
 use Rattle.ipl_cli.specs.Ending.{Ending, StopsEarly, StopRose, format_end}
-use Rattle.ipl_cli.specs.Top.{IsLaidWell, RestsWithNumbersLeft, IsMetLater, LaidCause, StrayCause, OpenedCause, WornOutCause, AnewCause, FormattedCause, FindsWorn, IsTooLong, RequestCause, EndCause, RunsFrom, RunsOpened, IsRefused, OpenedRuns, FormattedLeaves, OpenedLeaves}
-use Rattle.ipl_cli.specs.Runs.{ClosesFor, StartsOpened, IsNotOpened, WasFormatted, IsNotFormatted, StartsFormatted, IsNotStarted, RunsOver, end_of, ending_of}
+use Rattle.ipl_cli.specs.Top.{IsLaidWell, RestsWithNumbersLeft, IsMetLater, LaidCause, StrayCause, OpenedCause, WornOutCause, AnewCause, FormattedCause, FindsWorn, IsTooLong, RequestCause, EndCause, RunsOpened, IsRefused, OpenedRuns, FormattedLeaves, OpenedLeaves}
+use Rattle.ipl_cli.specs.Runs.{RunsFrom, ClosesFor, StartsOpened, IsNotOpened, WasFormatted, IsNotFormatted, StartsFormatted, IsNotStarted, RunsOver, end_of, ending_of}
 use Rattle.ipl_cli.proofs.WornLemmas.{format_finds, fresh_finds}
-use Rattle.ipl_cli.proofs.EndLemmas.{left_counts, stopped_early, units_told, opened_keeps, opened_runs, unopened_runs, untouched_stops, formatted_runs, fresh_story, fresh_units}
+use Rattle.ipl_cli.proofs.EndLemmas.{left_counts, stopped_early, units_told, opened_keeps, opened_runs, runs_opened, unopened_runs, untouched_stops, formatted_runs, fresh_story, fresh_units}
 
 -- ---- counts
 
@@ -265,7 +265,7 @@ module _ {marks : Bool} (old new : Told) (end : End) (n : IsNotOpened marks end 
 pub unopened_left : (old new : Told) (end : End) → IsNotOpened true end old new → OpenedLeaves (Err end) old new
 unopened_left old new end n = subst (λ (e : End). OpenedLeaves (Err e) old new) (sym n.end_is)
     (record {
-      runs = unopened_runs old new end n;
+      runs = runs_opened (unopened_runs old new end n);
       refused = refused old new end n;
       other = λ misfit. absurd (misfit n.fits);
     })
@@ -438,7 +438,7 @@ module _ (old mid : Told) (store : ScriptStore) (s : StartsOpened true old store
   pub opened_left : (ending : Ending) → RunsOver ending store mid then new
       → OpenedLeaves ending old new
   opened_left ending r = subst (λ (e : Ending). OpenedLeaves e old new) (sym r.ending_is)
-      (leaves_by r.result (opened_runs old mid store s then new r.result r.runs)
+      (leaves_by r.result (runs_opened (opened_runs old mid store s then new r.result r.runs))
       (read_before old mid store s new r.result r.read))
 
 -- ---- memory that was wanting, and other numbers of places

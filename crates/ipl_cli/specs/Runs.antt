@@ -1,5 +1,5 @@
 -- How the program starts and runs.
-use Rattle.std.specs.Prelude.{ℕ, ◌≡◌, ◌⊎◌, ◌+◌, Bool, true, false, List, Some, Result, Ok, Err, OnOk, IfErr, IsErrOf, is_ok}
+use Rattle.std.specs.Prelude.{ℕ, ◌≡◌, ◌⊎◌, ◌+◌, Bool, true, false, not, List, [], Some, Result, Ok, Err, OnOk, IfErr, IsErrOf, is_ok}
 use Rattle.chip_trait.specs.Story.{Contents}
 use Rattle.chip_trait.specs.Told.{History, Told, Counts}
 use Rattle.ipl_base.specs.Places.{IsGeometry, units_on}
@@ -8,7 +8,10 @@ use Rattle.ipl_base.specs.declared.fault.FormatFault.TheVariants as format
 use Rattle.ipl_base.specs.declared.fault.ImageFault.{ImageFault}
 use Rattle.ipl_base.specs.declared.fault.ImageFault.TheVariants as image
 use Rattle.ipl_meaning.specs.Tables.{Tables}
+use Rattle.ipl_meaning.specs.Rests.{now, StoryRests}
 use Rattle.ipl_model.specs.Grammar.{commands_of}
+use Rattle.ipl_rules.specs.State.{Map}
+use Rattle.opening_rules.specs.Chosen.{units_at}
 use Rattle.restart.specs.Fresh.{Formats, TellsFresh}
 use Rattle.store_trait.specs.Onward.{Onward, Further}
 use Rattle.store_trait.specs.Keeping.{SCRIPT_DRAWS, WORK_DRAWS, LeavesTidy, restarts}
@@ -32,7 +35,7 @@ use Rattle.trial_run.specs.Trial.{RunsTrial, IsTrialStop}
 use Rattle.program_end.specs.declared.end.End.{End}
 use Rattle.program_end.specs.declared.end.End.TheVariants.{Words, Chip, OutOfMemory, Script, Output, TooLong}
 use Rattle.ipl_cli.specs.Ending.{Ending, IsStopped, StopRose, format_end}
-use Rattle.ipl_cli.specs.Top.{FindsWorn, IsTooLong}
+use Rattle.ipl_cli.specs.Top.{FindsWorn, IsTooLong, OverTold, WereUnused, Runs}
 
 -- ---- the start
 
@@ -133,6 +136,13 @@ pub record RunsOver (ending : Ending) (before : ScriptStore) (old : Told) (then 
   pub long : IsErrOf result stop.TooLong → IsTooLong old new
   pub further : Further old new
   pub read : OnOk result (ReadsAll old new)
+
+-- A chip was opened whose marks count or don't, and a script was run: from the records on which its history
+-- rests, on as many units as it says. Where marks don't count, nothing that is marked was used.
+abbrev pub RunsFrom : Bool → Told → Told → Ending → Type 0
+RunsFrom marks old new ending = OverTold
+    (λ places script h. (m : Map) → StoryRests places m h → WereUnused (not marks) places h
+    → Runs marks places (units_at (now h) places) m script h [] old new ending) old
 
 -- ---- a close behind a run
 

@@ -281,13 +281,18 @@ abbrev pub AreMarked : Bool → ℕ → History → ℕ → ℕ → Type 0
 AreMarked false places h p s = ⊥
 AreMarked true places h p s = IsMarked places (held h.start h.story) p s
 
+-- nothing that is marked was used, where marks count; where they don't, nothing is asked
+abbrev pub WereUnused : Bool → ℕ → History → Type 0
+WereUnused false places h = Unit {0}
+WereUnused true places h = MarksAreUnused places h
+
 -- What a run of a script leaves, from these records on and on so many units, after these first events
 -- on a chip of so many places that holds what this history leaves, where its marks count or don't. What the chip tells grew by these
 -- events. Whatever moment the power is cut at, within a chip operation too, the chip stands for the
 -- records after the commands whose replies were said, or after one more. What is said is a beginning of
 -- the model's text, line by line. No sector is programmed twice between erases of its place,
--- after events that leave clean what is marked so; and where nothing that is marked was used before, nothing is
--- at any of these moments. Where no write failed, the chip holds at the end what
+-- after events that leave clean what is marked so; and nothing that is marked is used at any of these
+-- moments, where marks count if nothing was before. Where no write failed, the chip holds at the end what
 -- the history then leaves; that rests on such records, and by how the run ended exactly on those of the
 -- commands that are done: the next run may begin there. Where all is done, the whole text is said, and the
 -- script was read to its end.
@@ -304,7 +309,7 @@ pub record Runs (marks : Bool) (places units : ℕ) (m : Map) (script : List ℕ
   pub is_prefix : IsPrefix (said added) (joined (answers units m script))
   pub lawful : (base : Story) → IsLawful base → AreClean (AreMarked marks places h) base
       → IsLawful (added ++ (first ++ base))
-  pub unused : MarksAreUnused places (adds_all first h)
+  pub unused : WereUnused marks places (adds_all first h)
       → AtEachMoment (λ e. MarksAreUnused places (adds_all e (adds_all first h))) added
   pub steady : Unrisen old new → IsSteady (adds_all added (adds_all first h)) new
   pub rests : Unrisen old new
@@ -327,15 +332,12 @@ abbrev pub OverTold : (ℕ → List ℕ → History → Type 0) → Told → Typ
 OverTold P old = (h : History) (script : List ℕ) → IsSteady h old
     → old.beside.left ≡ Some script → P old.places script h
 
--- The chip was opened, where its marks count or don't, and the script was run: from the records on which
--- such a history rests, on as many units as the chip says. All events are in this, those of the opening too.
-abbrev pub RunsFrom : Bool → Told → Told → Ending → Type 0
-RunsFrom marks old new ending = OverTold
-    (λ places script h. (m : Map) → StoryRests places m h
-    → Runs marks places (units_at (now h) places) m script h [] old new ending) old
-
+-- The chip was opened, and the script was run: from the records on which such a history rests, on as many
+-- units as the chip says. All events are in this, those of the opening too.
 abbrev pub RunsOpened : Told → Told → Ending → Type 0
-RunsOpened = RunsFrom true
+RunsOpened old new ending = OverTold
+    (λ places script h. (m : Map) → StoryRests places m h
+    → Runs true places (units_at (now h) places) m script h [] old new ending) old
 
 -- the chip was formatted with no place to spare, and the script was run from no records on
 abbrev pub RunsFormatted : Told → Told → Ending → Type 0
@@ -384,8 +386,8 @@ RunsOrStops old new ending = OverTold
 abbrev pub ok_line : List ℕ
 ok_line = codes "ok\n"
 
--- What a format for so many units leaves of a chip, after this history: no record, whatever the power
--- is cut at from then on, and the chip says that it has so many. It said its line, or a beginning of it,
+-- What a format for so many units leaves of a chip, after this history: no record and nothing used that is
+-- marked, whatever the power is cut at from then on, and the chip says that it has so many. It said its line, or a beginning of it,
 -- or nothing, and read nothing of the script. Where the chip held what the history left, it holds what
 -- it leaves then.
 pub record IsLaidOut (places units : ℕ) (h : History) (old new : Told) (done : Bool)
@@ -400,6 +402,7 @@ pub record IsLaidOut (places units : ℕ) (h : History) (old new : Told) (done :
   pub rests : StoryRests places empty (adds_all added (adds_all (format_events places units) h))
   pub count : units_at (now (adds_all added (adds_all (format_events places units) h))) places
       ≡ units
+  pub unused : MarksAreUnused places (adds_all added (adds_all (format_events places units) h))
   pub lawful : (base : Story) → IsLawful base
       → IsLawful (added ++ (format_events places units ++ base))
   pub left_is : new.beside.left ≡ old.beside.left
