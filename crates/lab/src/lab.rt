@@ -109,10 +109,10 @@ impl Run {
             return Ok(Known::nothing(spares));
         };
         let words = self.start.words.as_str();
-        if self.ended.status != 0 || words.starts_with("trial") {
+        if self.ended.status != 0 || words.starts_with("trial") || words.starts_with("keys") {
             return Ok(Known::nothing(spares));
         }
-        if words.starts_with("run") {
+        if words.starts_with("run") || self.start.goes_on() {
             past.extend_from_slice(&self.start.script)?;
             past.extend_from_slice(b"\nrestart\n")?;
         }
@@ -199,7 +199,9 @@ impl Scenes {
         }
         let (verb, rest) = parted(line);
         match verb {
-            "run" | "format" | "serial" | "check" | "trial" => self.run(alloc, line),
+            "run" | "format" | "serial" | "check" | "trial" | "calls" | "keys" => {
+                self.run(alloc, line)
+            }
             "ipl" => self.run(alloc, rest),
             "then" => self.then(alloc, rest),
             "chip" | "wear" | "pieces" | "look" | "alter" | "write" => {

@@ -20,6 +20,12 @@
 //! - `run WORDS | SCRIPT`: the program with the words before the stroke. Words that begin with `format`,
 //!   `serial`, `check` or `trial` stand so too, and any others behind `ipl`.
 //! - `then WORDS`: it is run again over the same desk, with what is left of the script.
+//! - `calls FRAMES | CALLS`: a store with so many frames opens the chip. The calls are a script's
+//!   commands, but `list`, and `committed NAME`, `hold UNIT PAGE`, `release UNIT PAGE` and `close`; each
+//!   says what it answers, as a script's reply, or the text of its fault. They go on behind a call that
+//!   fails, and one in which a read of the chip failed is made once more. The status is 3 where a write
+//!   failed. `keys FRAMES | CALLS`: the same on values by keys, with `begin`, `get SESSION KEY`, `put
+//!   SESSION KEY VALUE`, `del SESSION KEY`, `commit`, `abort` and `close`, and no call is made twice.
 //! - `with PLACE SECTOR SPELLED`: the same run over the chip as it was, but for this sector.
 //! - `fail N`, `unheard N`, `unsaid N KEPT`: the same run, where the call of the chip of this number
 //!   fails, the read of the script, or the saying, of which so many bytes are said all the same; and
@@ -31,7 +37,8 @@
 //!   with a minus sign FIRST is counted from the end. What is open is left old, whole and torn.
 //!   `cuts FIRST STEP twice`: the opening of what is left is cut too, in its status header.
 //! - `fails FIRST`: each call of the chip fails in turn, from the event of this number on, and a write
-//!   that fails isn't done, or is.
+//!   that fails isn't done, or is. Calls of a store go on: behind a read that failed as if it hadn't, and
+//!   behind a write each answers that the store is down.
 //! - `unheards`: each read of the script fails in turn. `unsaids`: each saying, of which none of its
 //!   bytes is said, one, or all but one.
 //!
@@ -54,10 +61,13 @@
 //! besides that it is one more exactly once its commit sector is there, that is said.
 #![tactic(auto)]
 
+mod answers;
+mod calls;
 mod compared;
 mod cuts;
 mod ends;
 mod fails;
+mod keys;
 mod lab;
 mod modelled;
 mod runs;

@@ -1,6 +1,8 @@
 //! Runs of the program over desks in memory.
+use crate::calls::calls;
 use crate::ends::Ended;
-use crate::words::text_of;
+use crate::keys::keys;
+use crate::words::{number, parted, text_of};
 use anyhow::Result;
 use chip_mem::MemChip;
 use chip_trait::Chip;
@@ -72,8 +74,20 @@ impl Start {
     /// The run, where this fails.
     pub fn run(&self, alloc: Global, failing: Failing) -> Result<Ended> {
         let mut desk = self.desk(alloc, failing)?;
-        let status = ends(alloc, self.words.as_str(), &mut desk)?;
+        let status = match parted(self.words.as_str()) {
+            ("calls", frames) => calls(alloc, number(frames)?, &mut desk, &self.script)?,
+            ("keys", frames) => {
+                keys(alloc, number(frames)?, &mut desk, &self.script)?;
+                0
+            }
+            _ => ends(alloc, self.words.as_str(), &mut desk)?,
+        };
         Ok(Ended { status, desk })
+    }
+
+    /// The script's commands are calls of a store, which go on behind one that fails.
+    pub fn goes_on(&self) -> bool {
+        self.words.as_str().starts_with("calls")
     }
 
     /// The words format the chip first.

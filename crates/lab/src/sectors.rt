@@ -29,7 +29,7 @@ pub fn kind_of(word: &str) -> Result<u8> {
 
 /// The bytes that a word spells: `-` for none, else hex digits with points between the parts, each of
 /// which may have a star and a number behind it.
-fn bytes_of(alloc: Global, word: &str) -> Result<Vec<u8>> {
+pub fn bytes_of(alloc: Global, word: &str) -> Result<Vec<u8>> {
     let mut bytes = Vec::new(alloc);
     if word == "-" {
         return Ok(bytes);
