@@ -7,7 +7,7 @@ use Rattle.slab.proofs.SlabLemmas.{ContainsKey-within, Updates-set}
 use Rattle.buffer_pool.specs.declared.pool.Buffer.{Buffer}
 use Rattle.buffer_pool.specs.declared.pool.Pool.TheInside.{Inside}
 use Rattle.buffer_pool.specs.Index.{page_number, key_of, with_key, IsRising}
-use Rattle.buffer_pool.specs.Pools.{PoolView, view_of, HasPage, IsAbsent, AreBefore, IsSound, Changes, new_buffer}
+use Rattle.buffer_pool.specs.Pools.{PoolView, view_of, HasPage, IsAbsent, AreBefore, IsPoolSound, Changes, new_buffer}
 use Rattle.buffer_pool.specs.Passes.{LeavesFrame, Passes}
 use Rattle.buffer_pool.proofs.SoundLemmas.{has_inside, sound_added, sound_pool, sound_removed}
 use Rattle.buffer_pool.proofs.IndexedLemmas.{are_once}
@@ -51,7 +51,7 @@ absent_still old new key unit page did absent k has = elim (cases_eq k key) [
 ]
 
 -- the pool once a page has left its frame
-module _ (p : Inside) (v : PoolView) (sound : IsSound p) (same : view_of p ≡ v) (key unit page : ℕ)
+module _ (p : Inside) (v : PoolView) (sound : IsPoolSound p) (same : view_of p ≡ v) (key unit page : ℕ)
     (less : List (ℕ × ℕ)) (number : ℕ) (number_is : number ≡ page_number unit page)
     (has : HasPage v.buffers unit page key)
     (removes : (n : ℕ) → key_of less n ≡ with_key (key_of p.index) number None n)
@@ -68,7 +68,7 @@ module _ (p : Inside) (v : PoolView) (sound : IsSound p) (same : view_of p ≡ v
   fewer : slab_len (without p.buffers key) + 1 ≡ slab_len p.buffers
   fewer = without_len p.buffers key there.buffer there.stored
 
-  pub between_sound : IsSound between
+  pub between_sound : IsPoolSound between
   between_sound = sound_removed p v sound same (without p.buffers key) less key unit page number
       p.clock number_is has left removes shorter fewer refl
       (before_removed p.buffers (without p.buffers key) key p.clock sound.counted left)
@@ -110,7 +110,7 @@ module _ (p : Inside) (v : PoolView) (sound : IsSound p) (same : view_of p ≡ v
     counted = subst (AreBefore new) (sym clock_is)
         (before_used (without p.buffers key) new key p.clock _ between_sound.counted end came refl)
 
-    pub passed_sound : IsSound (record { buffers = new; index = more; limit = p.limit; clock = clock })
+    pub passed_sound : IsPoolSound (record { buffers = new; index = more; limit = p.limit; clock = clock })
     passed_sound =
         let holds = sound.holds in
         sound_added between (view_of between) between_sound refl new more key to_unit to_page

@@ -6,7 +6,7 @@ use Rattle.slab.proofs.SlabLemmas.{ContainsKey-within, Updates-with_value}
 use Rattle.buffer_pool.specs.declared.pool.Buffer.{Buffer}
 use Rattle.buffer_pool.specs.declared.pool.Pool.TheInside.{Inside}
 use Rattle.buffer_pool.specs.Index.{page_number, key_of, with_key, number_at, IsRising}
-use Rattle.buffer_pool.specs.Pools.{PoolView, view_of, HasPage, IsThere, IsAbsent, AreOnce, AreBefore, IsSound, IsSoundPool, Changes}
+use Rattle.buffer_pool.specs.Pools.{PoolView, view_of, HasPage, IsThere, IsAbsent, AreOnce, AreBefore, IsPoolSound, IsSoundPool, Changes}
 use Rattle.buffer_pool.specs.Laws.{SamePage}
 use Rattle.buffer_pool.specs.Uses.{IsUsedLast}
 use Rattle.buffer_pool.proofs.IndexLemmas.{some_is, numbers_at, length-numbers, numbers_rise, ordered_key, key_ordered}
@@ -14,7 +14,7 @@ use Rattle.buffer_pool.proofs.BufferLemmas.{changes_stay_once}
 use Rattle.buffer_pool.proofs.UseLemmas.{before_kept, before_used, used_last}
 use Rattle.buffer_pool.proofs.IndexedLemmas.{same_number, told, are_once, found_page, page_listed, none_listed, index_stays, index_added, index_removed}
 
-module _ (p : Inside) (v : PoolView) (sound : IsSound p) (same : view_of p ≡ v) where
+module _ (p : Inside) (v : PoolView) (sound : IsPoolSound p) (same : view_of p ≡ v) where
   pub sound_pool : IsRising p.index → IsSoundPool v
   sound_pool rise = subst IsSoundPool same (record {
     once = are_once p.index p.buffers sound.indexed;
@@ -95,7 +95,7 @@ module _ (p : Inside) (v : PoolView) (sound : IsSound p) (same : view_of p ≡ v
       → ((n : ℕ) → key_of more n ≡ with_key (key_of p.index) number (Some key) n)
       → length more ≡ length p.index + 1 → slab_len new ≡ slab_len p.buffers + 1
       → new.capacity ≡ p.buffers.capacity → AreBefore new clock
-      → IsSound (record { buffers = new; index = more; limit = p.limit; clock = clock })
+      → IsPoolSound (record { buffers = new; index = more; limit = p.limit; clock = clock })
   sound_added new more key u page number clock added unit_is page_is number_is low absent free empty did adds longer len room counted =
       let here = subst (λ (w : PoolView). IsAbsent w.buffers u page) (sym same) absent in
       let is_free : slab_len p.buffers < p.limit =
@@ -117,7 +117,7 @@ module _ (p : Inside) (v : PoolView) (sound : IsSound p) (same : view_of p ≡ v
       → ((n : ℕ) → key_of less n ≡ with_key (key_of p.index) number None n)
       → length less + 1 ≡ length p.index → slab_len new + 1 ≡ slab_len p.buffers
       → new.capacity ≡ p.buffers.capacity → AreBefore new clock
-      → IsSound (record { buffers = new; index = less; limit = p.limit; clock = clock })
+      → IsPoolSound (record { buffers = new; index = less; limit = p.limit; clock = clock })
   sound_removed new less key u page number clock number_is has did removes shorter len room counted =
       let holds = sound.holds in
       let reserved = sound.reserved in record {
@@ -132,11 +132,11 @@ module _ (p : Inside) (v : PoolView) (sound : IsSound p) (same : view_of p ≡ v
       }
 
 -- a buffer is changed, and has its page still
-pub sound_stays : (p : Inside) (new : Slab Buffer) (key clock : ℕ) (was now : Buffer) → IsSound p
+pub sound_stays : (p : Inside) (new : Slab Buffer) (key clock : ℕ) (was now : Buffer) → IsPoolSound p
     → get p.buffers key ≡ Some was → Updates p.buffers new key (Some now)
     → now.unit ≡ was.unit → now.page ≡ was.page → slab_len new ≡ slab_len p.buffers
     → new.capacity ≡ p.buffers.capacity → AreBefore new clock
-    → IsSound (record { buffers = new; index = p.index; limit = p.limit; clock = clock })
+    → IsPoolSound (record { buffers = new; index = p.index; limit = p.limit; clock = clock })
 sound_stays p new key clock was now sound there did unit page len room counted =
     let holds = sound.holds in
     let reserved = sound.reserved in record {
@@ -155,10 +155,10 @@ changes_update old new key change was there did =
 
 -- by a change of it alone that is no use
 pub sound_changed : (p : Inside) (new : Slab Buffer) (key : ℕ) (change : Buffer → Buffer)
-    (was : Buffer) → IsSound p → get p.buffers key ≡ Some was → Changes p.buffers new key change
+    (was : Buffer) → IsPoolSound p → get p.buffers key ≡ Some was → Changes p.buffers new key change
     → (change was).unit ≡ was.unit → (change was).page ≡ was.page → (change was).used ≡ was.used
     → slab_len new ≡ slab_len p.buffers → new.capacity ≡ p.buffers.capacity
-    → IsSound (record { buffers = new; index = p.index; limit = p.limit; clock = p.clock })
+    → IsPoolSound (record { buffers = new; index = p.index; limit = p.limit; clock = p.clock })
 sound_changed p new key change was sound there did unit page used len room =
     let updates = changes_update p.buffers new key change was there did in
     sound_stays p new key p.clock was (change was) sound there updates unit page len room
@@ -166,11 +166,11 @@ sound_changed p new key change was sound there did unit page used len room =
 
 -- or by one that is a use
 pub sound_used : (p : Inside) (new : Slab Buffer) (key clock : ℕ) (change : Buffer → Buffer)
-    (was : Buffer) → IsSound p → get p.buffers key ≡ Some was → Changes p.buffers new key change
+    (was : Buffer) → IsPoolSound p → get p.buffers key ≡ Some was → Changes p.buffers new key change
     → (change was).unit ≡ was.unit → (change was).page ≡ was.page → (change was).used ≡ p.clock
     → slab_len new ≡ slab_len p.buffers → new.capacity ≡ p.buffers.capacity
     → p.clock ≤ 18446744073709551615 → clock ≡ min (p.clock + 1) 18446744073709551615
-    → IsSound (record { buffers = new; index = p.index; limit = p.limit; clock = clock })
+    → IsPoolSound (record { buffers = new; index = p.index; limit = p.limit; clock = clock })
 sound_used p new key clock change was sound there did unit page used len room end more =
     let updates = changes_update p.buffers new key change was there did in
     sound_stays p new key clock was (change was) sound there updates unit page len room
@@ -179,7 +179,7 @@ sound_used p new key clock change was sound there did unit page used len room en
 
 -- and the buffer's page is the one used last then
 pub last_used : (p : Inside) (new : PoolView) (key u page : ℕ) (change : Buffer → Buffer)
-    (was : Buffer) → IsSound p → get p.buffers key ≡ Some was → Changes p.buffers new.buffers key change
+    (was : Buffer) → IsPoolSound p → get p.buffers key ≡ Some was → Changes p.buffers new.buffers key change
     → SamePage (change was) was → (change was).used ≡ p.clock → was.unit ≡ u → was.page ≡ page
     → IsUsedLast new u page
 last_used p new key u page change was sound there did same used unit of =
@@ -202,10 +202,10 @@ same_count buffers key was now there =
     omega (arith, sums, one)
 
 -- whatever is written through a part of it that was lent
-pub sound_lent : (p : Inside) (key : ℕ) (was now : Buffer) → IsSound p
+pub sound_lent : (p : Inside) (key : ℕ) (was now : Buffer) → IsPoolSound p
     → get p.buffers key ≡ Some was → now.unit ≡ was.unit → now.page ≡ was.page
     → now.used ≡ was.used
-    → IsSound (record { buffers = with_value p.buffers key now; index = p.index; limit = p.limit; clock = p.clock })
+    → IsPoolSound (record { buffers = with_value p.buffers key now; index = p.index; limit = p.limit; clock = p.clock })
 sound_lent p key was now sound there unit page used =
     let did = Updates-with_value p.buffers key now (subst IsSome (sym there) refl) in
     sound_stays p (with_value p.buffers key now) key p.clock was now sound there did unit page

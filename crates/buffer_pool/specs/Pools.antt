@@ -95,7 +95,7 @@ pub record IsIndexed (index : List (ℕ × ℕ)) (buffers : Slab Buffer) : Type 
 
 -- the buffers keep to the limit, their room is reserved, the index is theirs, and the clock counted
 -- their uses
-pub record IsSound (p : Inside) : Type 0 where
+pub record IsPoolSound (p : Inside) : Type 0 where
   pub holds : slab_len p.buffers ≤ p.limit
   pub reserved : p.limit ≤ p.buffers.capacity
   pub few : p.limit ≤ FRAMES

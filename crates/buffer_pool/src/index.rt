@@ -7,7 +7,7 @@ use ipl_base::PAGES;
 use std::marker::Model;
 
 /// The number of a page among all pages of a chip.
-pub fn page_number(unit: u32, page: u32) -> u64
+pub(crate) fn page_number(unit: u32, page: u32) -> u64
     ensures { result ≡ page_number unit page }
 {
     u64::from(unit) * u64::from(PAGES) + u64::from(page)
@@ -55,7 +55,7 @@ impl PageIndex {
     }
 
     /// The key of the page at a place of the order.
-    pub fn key_at(&self, at: usize) -> usize
+    pub(crate) fn key_at(&self, at: usize) -> usize
         requires { at < length self.now }
         ensures { key_of self.now (number_at self.now at) ≡ Some result }
     {
@@ -87,7 +87,7 @@ impl PageIndex {
     }
 
     /// Takes a page out that is listed.
-    pub fn remove(&mut self, number: u64)
+    pub(crate) fn remove(&mut self, number: u64)
         requires { IsSome (key_of self.old number) }
         ensures removed { (n : ℕ) → key_of self.new n
             ≡ with_key (key_of self.old) number None n }

@@ -49,13 +49,13 @@ pub struct Pool {
 }
 
 impl Model for Pool {
-    ghost use Rattle.buffer_pool.specs.Pools.{PoolView, view_of, IsSound};
+    ghost use Rattle.buffer_pool.specs.Pools.{PoolView, view_of, IsPoolSound};
 
     ghost Value = { PoolView };
 
     ghost view = { view_of };
 
-    ghost invariant = { IsSound };
+    ghost invariant = { IsPoolSound };
 }
 
 impl Pool {

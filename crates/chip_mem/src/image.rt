@@ -14,7 +14,7 @@ use ipl_base::{OutOfMemory, SECTORS};
 use std::alloc::Global;
 
 /// The sectors of the image of these events, on a chip that began with these sectors.
-pub fn image_sectors(
+pub(crate) fn image_sectors(
     alloc: Global,
     start: &[[u8; 512]],
     events: &[Event],

@@ -33,7 +33,7 @@ fn put_event(sectors: &mut [[u8; 512]], event: &Event)
 }
 
 /// What a sector holds after the events.
-pub fn held_at(start: &[[u8; 512]], events: &[Event], p: u32, s: u32) -> [u8; 512]
+pub(crate) fn held_at(start: &[[u8; 512]], events: &[Event], p: u32, s: u32) -> [u8; 512]
     requires place { p * 256 + 256 ≤ length start.now }
     requires sector { s < 256 }
     ensures { result ≡ held (contents_of start.now) (reverse events.now) p s }
@@ -57,7 +57,7 @@ fn put_bytes(event: &Event, p: u32, s: u32, bytes: &mut [u8; 512])
 }
 
 /// Whether a power cut may leave any bytes of a sector.
-pub fn may_tear(events: &[Event], p: u32, s: u32) -> bool
+pub(crate) fn may_tear(events: &[Event], p: u32, s: u32) -> bool
     ensures { result ≡ may_tear (reverse events.now) p s }
 {
     let mut state = Lasting {
@@ -109,7 +109,7 @@ fn lasting_after(event: &Event, p: u32, s: u32, before: Lasting) -> Lasting
 }
 
 /// How many events there are up to the last barrier, with it.
-pub fn settled_count(events: &[Event]) -> usize
+pub(crate) fn settled_count(events: &[Event]) -> usize
     ensures value { result ≡ settled_count (reverse events.now) }
     ensures within { result ≤ length events.now }
 {

@@ -35,7 +35,7 @@ impl Schedule {
     }
 
     /// The next call is one of those that fail.
-    pub fn lists_call(&self) -> bool
+    pub(crate) fn lists_call(&self) -> bool
         ensures { result ≡ list_any (λ n. n == self.now.calls) self.now.failing.items }
     {
         self.failing.contains(&self.calls)
@@ -49,7 +49,7 @@ impl Schedule {
     }
 
     /// All writes that may succeed were asked for.
-    pub fn is_past_stop(&self) -> bool
+    pub(crate) fn is_past_stop(&self) -> bool
         ensures { result ≡ is_past self.now.stop self.now.writes }
     {
         match self.stop {

@@ -11,7 +11,7 @@ use std::alloc::Global;
 pub const BLANK: [u8; 512] = [255; 512];
 
 /// So many erased sectors.
-pub fn erased_sectors(alloc: Global, count: usize) -> Result<Vec<[u8; 512]>, OutOfMemory>
+pub(crate) fn erased_sectors(alloc: Global, count: usize) -> Result<Vec<[u8; 512]>, OutOfMemory>
     ensures { IfOk result (λ v. v.items ≡ replicate count BLANK) }
 {
     let mut sectors = Vec::with_capacity(alloc, count)?;
@@ -22,7 +22,10 @@ pub fn erased_sectors(alloc: Global, count: usize) -> Result<Vec<[u8; 512]>, Out
 }
 
 /// A copy of the sectors, each of which has 512 bytes.
-pub fn copy_sectors(alloc: Global, sectors: &[[u8; 512]]) -> Result<Vec<[u8; 512]>, OutOfMemory>
+pub(crate) fn copy_sectors(
+    alloc: Global,
+    sectors: &[[u8; 512]],
+) -> Result<Vec<[u8; 512]>, OutOfMemory>
     ensures items { IfOk result (λ v. v.items ≡ sectors.now) }
     ensures fits { HasWholeSectors (contents_of sectors.now) }
 {
@@ -30,7 +33,7 @@ pub fn copy_sectors(alloc: Global, sectors: &[[u8; 512]]) -> Result<Vec<[u8; 512
 }
 
 /// Erases a place.
-pub fn erase_place(sectors: &mut [[u8; 512]], place: usize)
+pub(crate) fn erase_place(sectors: &mut [[u8; 512]], place: usize)
     requires { place * 256 + 256 ≤ length sectors.old }
     ensures { contents_of sectors.new ≡ after (Erase place) (contents_of sectors.old) }
 {
@@ -40,7 +43,12 @@ pub fn erase_place(sectors: &mut [[u8; 512]], place: usize)
 }
 
 /// Programs a sector, 0 to 255, of a place.
-pub fn program_sector(sectors: &mut [[u8; 512]], place: usize, sector: usize, bytes: &[u8; 512])
+pub(crate) fn program_sector(
+    sectors: &mut [[u8; 512]],
+    place: usize,
+    sector: usize,
+    bytes: &[u8; 512],
+)
     requires place { place * 256 + 256 ≤ length sectors.old }
     requires sector { sector < 256 }
     ensures { contents_of sectors.new ≡ after (Program place sector bytes.now) (contents_of sectors.old) }
@@ -60,7 +68,7 @@ pub fn read_sector(sectors: &[[u8; 512]], place: usize, sector: usize, into: &mu
 // ---- sectors of which only those count that were written since their place was erased
 
 /// So many sectors, none of which was written.
-pub fn none_written(alloc: Global, count: usize) -> Result<Vec<bool>, OutOfMemory>
+pub(crate) fn none_written(alloc: Global, count: usize) -> Result<Vec<bool>, OutOfMemory>
     ensures { IfOk result (λ v. v.items ≡ replicate count false) }
 {
     let mut written = Vec::with_capacity(alloc, count)?;
@@ -71,7 +79,7 @@ pub fn none_written(alloc: Global, count: usize) -> Result<Vec<bool>, OutOfMemor
 }
 
 /// Erases a place: from now on none of its sectors counts as written, and no byte is set.
-pub fn forget_place(written: &mut [bool], place: usize)
+pub(crate) fn forget_place(written: &mut [bool], place: usize)
     requires { place * 256 + 256 ≤ length written.old }
     ensures { (sectors : List (List ℕ)) → written_contents written.new sectors
         ≡ after (Erase place) (written_contents written.old sectors) }
@@ -82,7 +90,7 @@ pub fn forget_place(written: &mut [bool], place: usize)
 }
 
 /// Programs a sector, 0 to 255, of a place.
-pub fn write_sector(
+pub(crate) fn write_sector(
     written: &mut [bool],
     sectors: &mut [[u8; 512]],
     place: usize,
@@ -101,7 +109,7 @@ pub fn write_sector(
 }
 
 /// Reads a sector, 0 to 255, of a place.
-pub fn read_written(
+pub(crate) fn read_written(
     written: &[bool],
     sectors: &[[u8; 512]],
     place: usize,

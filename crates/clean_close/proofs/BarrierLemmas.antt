@@ -19,10 +19,10 @@ use Rattle.unit_io.proofs.CostLemmas.{spends_barred, spends_at_then, spends_then
 use Rattle.unit_io.proofs.LeadsLemmas.{leads_waited}
 use Rattle.unit_io.proofs.SealLemmas.{settled_rests}
 use Rattle.unit_io.proofs.SpotLemmas.{programs_none, programs_barrier}
-use Rattle.steps.specs.Steps.{Settled, NoOtherEnd, EndsWith, OutcomeWhere, TidyWork, Tidies}
-use Rattle.steps.proofs.StepLemmas.{outcome_then, outcome_weaker, outcome_written, failures_settle}
-use Rattle.steps.proofs.TablesLemmas.{tables_then}
-use Rattle.steps.proofs.TidyLemmas.{tidy_none, tidy_programs, tidy_then, tidy_weaker}
+use Rattle.step_laws.specs.Steps.{Settled, NoOtherEnd, EndsWith, OutcomeWhere, TidyWork, Tidies}
+use Rattle.step_laws.proofs.StepLemmas.{outcome_then, outcome_weaker, outcome_written, failures_settle}
+use Rattle.step_laws.proofs.TablesLemmas.{tables_then}
+use Rattle.step_laws.proofs.TidyLemmas.{tidy_none, tidy_programs, tidy_then, tidy_weaker}
 use Rattle.clean_close.specs.Closing.{CountsUnused, RestsMarked, Closes, ClosesInSteps, ClosesClosed, EndsWithMark}
 
 -- nothing is programmed

@@ -10,11 +10,11 @@ use Rattle.ipl_meaning.proofs.ApartLemmas.{home_not_status}
 use Rattle.unit_io.specs.Costs.{Spends}
 use Rattle.unit_io.specs.Leads.{IsStopped}
 use Rattle.unit_io.specs.Spots.{Programs, IsSpot}
-use Rattle.steps.specs.Steps.{Settled, Tidies}
-use Rattle.steps.proofs.TablesLemmas.{tables_programmed}
+use Rattle.step_laws.specs.Steps.{Settled, Tidies}
+use Rattle.step_laws.proofs.TablesLemmas.{tables_programmed}
 use Rattle.txn_status.specs.Status.{after_mark}
-use Rattle.merge_rules.specs.Known.{KnowsPlaces}
-use Rattle.merge_rules.proofs.KnownCleanLemmas.{commit_shrinks}
+use Rattle.merge_laws.specs.Known.{KnowsPlaces}
+use Rattle.merge_laws.proofs.KnownCleanLemmas.{commit_shrinks}
 
 -- the tables with another status and counter
 abbrev pub with_status : Tables → Status → ℕ → Tables

@@ -29,12 +29,12 @@ use Rattle.unit_io.specs.Costs.{Spends}
 use Rattle.unit_io.specs.Leads.{IsStopped, IsAdded, RestsAdded}
 use Rattle.unit_io.specs.Spots.{AddsSector, Programs, IsSpot}
 use Rattle.unit_io.proofs.CostLemmas.{spends_weaker}
-use Rattle.steps.specs.Steps.{Settled, NoOtherEnd, EndsWith, TidyWork}
-use Rattle.steps.proofs.StepLemmas.{outcome_weaker}
-use Rattle.steps.proofs.TidyLemmas.{tidy_programs}
+use Rattle.step_laws.specs.Steps.{Settled, NoOtherEnd, EndsWith, TidyWork}
+use Rattle.step_laws.proofs.StepLemmas.{outcome_weaker}
+use Rattle.step_laws.proofs.TidyLemmas.{tidy_programs}
 use Rattle.txn_status.specs.Marking.{mark_sector, IsReadyToMark, MarksInSteps}
 use Rattle.txn_status.specs.Status.{after_mark}
-use Rattle.merge_rules.specs.Known.{KnowsPlaces}
+use Rattle.merge_laws.specs.Known.{KnowsPlaces}
 use Rattle.clean_close.specs.Closing.{MarksWhatCounts, MarksUnits, RestsMarked, EndsWithMark, ClosesClosed}
 use Rattle.clean_close.proofs.LayoutLemmas.{layout_says}
 use Rattle.clean_close.proofs.CleanLemmas.{with_status, mark_shrinks, spot_counted, counted_at_home}

@@ -15,7 +15,7 @@ use Rattle.ipl_meaning.specs.Marks.{IsMarked, AreUnused}
 use Rattle.ipl_meaning.specs.Rests.{EachStands, StoryRests}
 use Rattle.ipl_meaning.specs.Tables.{Tables, written_of, UNKNOWN_LOGS, IsCountedClean}
 use Rattle.unit_io.specs.Leads.{IsSteady}
-use Rattle.steps.specs.Steps.{Settled, NoOtherEnd, EndsWith, OutcomeWhere, TidyWork}
+use Rattle.step_laws.specs.Steps.{Settled, NoOtherEnd, EndsWith, OutcomeWhere, TidyWork}
 
 -- at the units' places exactly those sectors are marked that the tables count as clean
 abbrev pub MarksWhatCounts : ℕ → Tables → Contents → Type 0

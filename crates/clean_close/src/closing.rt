@@ -3,9 +3,9 @@ ghost use Rattle.std.specs.Prelude.{◌≡◌, ◌<◌, ◌≤◌, ◌+◌, ◌^
 ghost use Rattle.unit_io.specs.Accounts.{Accounts};
 ghost use Rattle.unit_io.specs.Costs.{ProgramsAt, Spends};
 ghost use Rattle.unit_io.specs.Leads.{IsStopped};
-ghost use Rattle.steps.specs.Steps.{Tidies};
+ghost use Rattle.step_laws.specs.Steps.{Tidies};
 ghost use Rattle.txn_status.specs.Status.{after_mark, room_of};
-ghost use Rattle.merge_rules.specs.Known.{KnowsPlaces};
+ghost use Rattle.merge_laws.specs.Known.{KnowsPlaces};
 ghost use Rattle.selective_merge.specs.Moving.{tables_of};
 ghost use Rattle.clean_close.specs.Closing.{ClosesClosed, ClosesInSteps, EndsWithMark};
 

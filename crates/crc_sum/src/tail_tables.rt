@@ -170,7 +170,7 @@ static TAIL_TABLES: [[u32; 256]; 4] = [
 
 /// The table's entry for this byte: the register that holds the byte alone, shifted by 477 bytes,
 /// and by one more for each table before it.
-pub fn tail_entry(table: usize, byte: u8) -> u32
+pub(crate) fn tail_entry(table: usize, byte: u8) -> u32
     requires { table < 4 }
     ensures { result ≡ shifted_bytes (table + 477) byte }
 {

@@ -166,7 +166,7 @@ static ZERO_TABLES: [[u32; 256]; 4] = [
 
 /// The table's entry for this byte: the register that holds the byte alone, shifted by 61 bytes, and
 /// by one more for each table before this one.
-pub fn zero_entry(table: usize, byte: u8) -> u32
+pub(crate) fn zero_entry(table: usize, byte: u8) -> u32
     requires { table < 4 }
     ensures { result ≡ shifted_bytes (table + 61) byte }
 {

@@ -8,7 +8,7 @@ use Rattle.ipl_base.specs.declared.limits.TheConstants.{SLOTS}
 use Rattle.ipl_rules.specs.Marks.{Marks, fill_of}
 use Rattle.ipl_meaning.specs.Values.{Values}
 use Rattle.page_ops.proofs.FillLemmas.{room_of, one_more}
-use Rattle.pending_writes.specs.Pending.{name_at}
+use Rattle.store_laws.specs.Pending.{name_at}
 
 -- the marks of the names of a page
 abbrev pub marks_here : Marks → ℕ → Marks

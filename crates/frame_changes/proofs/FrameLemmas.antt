@@ -8,7 +8,7 @@ use Rattle.buffer_pool.specs.Pools.{PoolView, HasPage, AreOnce, new_buffer, with
 use Rattle.buffer_pool.specs.Lending.{changed_at}
 use Rattle.buffer_pool.specs.Laws.{buffer_of, with_buffer}
 use Rattle.buffer_pool.proofs.BufferLemmas.{buffer_found, brings_add_a_buffer, evicts_take_a_buffer, pins_change_a_buffer, loans_change_a_buffer}
-use Rattle.pending_writes.specs.Frames.{Frame, Frames, with_frame_at}
+use Rattle.store_laws.specs.Frames.{Frame, Frames, with_frame_at}
 use Rattle.frame_changes.specs.Views.{frame_in, frames_of}
 use Rattle.frame_changes.specs.Laws.{BringsAddAFrame, EvictionsTakeAFrame, PinsKeepFrames, LoansChangeAFrame}
 

@@ -4,9 +4,9 @@ use Rattle.std.proofs.lemmas.List.{map_more, take_all}
 use Rattle.ipl_base.specs.Places.{home_of}
 use Rattle.ipl_base.specs.declared.name.Name.{Name}
 use Rattle.ipl_base.specs.declared.spot.Home.{Home}
-use Rattle.pending_writes.specs.Frames.{Frame, Frames, ChangesSo}
-use Rattle.store_steps.specs.NamedFrames.{NamedFramesChange}
-use Rattle.store_steps.proofs.ChangeLemmas.{AreJoined, named_more}
+use Rattle.store_laws.specs.Frames.{Frame, Frames, ChangesSo}
+use Rattle.store_laws.specs.NamedFrames.{NamedFramesChange}
+use Rattle.store_laws.proofs.ChangeLemmas.{AreJoined, named_more}
 use Rattle.frame_changes.specs.Changes.{FrameChanges, OnlyPageChanges}
 use Rattle.frame_changes.proofs.FrameLemmas.{frame_here, frame_elsewhere}
 

@@ -22,9 +22,9 @@ use Rattle.buffer_pool.proofs.LentLemmas.{changed_is}
 use Rattle.buffer_pool.proofs.BufferLemmas.{changes_stay_once, buffer_absent}
 use Rattle.buffer_pool.proofs.HoldingLemmas.{both_keep, loans_keep}
 use Rattle.buffer_pool.proofs.UseLemmas.{loans_keep_uses}
-use Rattle.pending_writes.specs.Frames.{Frame, Frames, logs_of, with_frame_at, IsWrittenFrame, IsCommittedFrame, IsAbortedFrame}
-use Rattle.store_steps.specs.Views.{frame_of}
-use Rattle.store_steps.proofs.ViewLemmas.{settled_frames_are_committed, dropped_frames_are_aborted, changed_frames_are_written}
+use Rattle.store_laws.specs.Frames.{Frame, Frames, logs_of, with_frame_at, IsWrittenFrame, IsCommittedFrame, IsAbortedFrame}
+use Rattle.store_laws.specs.Views.{frame_of}
+use Rattle.store_laws.proofs.ViewLemmas.{settled_frames_are_committed, dropped_frames_are_aborted, changed_frames_are_written}
 use Rattle.frame_changes.specs.Views.{frame_in, frames_of}
 use Rattle.frame_changes.specs.Changes.{noted, FrameChanges, IsClearedFrame, MayPut, PutHasRoom}
 use Rattle.frame_changes.proofs.FrameLemmas.{frame_found, loans_change_a_frame, put_again}

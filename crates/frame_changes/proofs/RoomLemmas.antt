@@ -10,10 +10,10 @@ use Rattle.ipl_rules.proofs.MarkLemmas.{le_trans}
 use Rattle.ipl_format.specs.Record.{Record}
 use Rattle.ipl_meaning.specs.Values.{Values}
 use Rattle.page_ops.specs.Pending.{Pending, Pendings, fill_by, mark_of}
-use Rattle.pending_writes.specs.Pending.{name_at}
-use Rattle.pending_writes.specs.Room.{fill_at, marked_by}
-use Rattle.pending_writes.specs.Frames.{Frame}
-use Rattle.pending_writes.proofs.RoomLemmas.{fewer_marks, one_less}
+use Rattle.store_laws.specs.Pending.{name_at}
+use Rattle.store_laws.specs.Room.{fill_at, marked_by}
+use Rattle.store_laws.specs.Frames.{Frame}
+use Rattle.store_laws.proofs.RoomLemmas.{fewer_marks, one_less}
 use Rattle.frame_changes.specs.Changes.{noted}
 use Rattle.frame_changes.specs.Laws.{PutsByMarksHaveRoom}
 

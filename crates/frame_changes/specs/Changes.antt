@@ -5,8 +5,8 @@ use Rattle.ipl_base.specs.declared.limits.TheConstants.{PAGE_LEN}
 use Rattle.ipl_format.specs.Record.{Record}
 use Rattle.ipl_meaning.specs.Last.{size_of, size_of_all}
 use Rattle.page_ops.specs.Pending.{Pendings, fill_by, with_pending}
-use Rattle.pending_writes.specs.Frames.{Frame, Frames, with_frame_at, with_frame_log}
-use Rattle.store_steps.specs.NamedFrames.{ChangesPageOf}
+use Rattle.store_laws.specs.Frames.{Frame, Frames, with_frame_at, with_frame_log}
+use Rattle.store_laws.specs.NamedFrames.{ChangesPageOf}
 
 -- the page of the record is in a frame of this unit, and its records have room for one more
 pub record MayPut (frames : Frames) (unit : ℕ) (r : Record) : Type 0 where

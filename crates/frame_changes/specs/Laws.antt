@@ -10,10 +10,10 @@ use Rattle.buffer_pool.specs.declared.pool.Buffer.{Buffer}
 use Rattle.buffer_pool.specs.Pools.{PoolView, HasPage, IsAbsent, AreOnce, Changes, new_buffer, with_buffers}
 use Rattle.buffer_pool.specs.Lending.{changed_at}
 use Rattle.buffer_pool.specs.Laws.{SamePage}
-use Rattle.pending_writes.specs.Pending.{name_at}
-use Rattle.pending_writes.specs.Room.{PageHasRoomFor}
-use Rattle.pending_writes.specs.Frames.{Frame, with_frame_at}
-use Rattle.store_steps.specs.Views.{frame_of}
+use Rattle.store_laws.specs.Pending.{name_at}
+use Rattle.store_laws.specs.Room.{PageHasRoomFor}
+use Rattle.store_laws.specs.Frames.{Frame, with_frame_at}
+use Rattle.store_laws.specs.Views.{frame_of}
 use Rattle.frame_changes.specs.Views.{frame_in, frames_of}
 use Rattle.frame_changes.specs.Changes.{PutHasRoom}
 

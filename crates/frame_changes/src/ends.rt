@@ -2,9 +2,9 @@
 ghost use Rattle.std.specs.Prelude.{◌≡◌, ◌<◌, map};
 ghost use Rattle.buffer_pool.specs.Holding.{KeepsPins};
 ghost use Rattle.buffer_pool.specs.Uses.{used_of};
-ghost use Rattle.pending_writes.specs.Frames.{IsCommittedFrame, IsAbortedFrame};
+ghost use Rattle.store_laws.specs.Frames.{IsCommittedFrame, IsAbortedFrame};
 ghost use Rattle.frame_changes.specs.Views.{frames_of};
-ghost use Rattle.store_steps.specs.NamedFrames.{NamedFramesChange};
+ghost use Rattle.store_laws.specs.NamedFrames.{NamedFramesChange};
 ghost use Rattle.frame_changes.specs.Changes.{OnlyPageChanges};
 
 use buffer_pool::Pool;

@@ -7,8 +7,8 @@ ghost use Rattle.ipl_rules.specs.Marks.{with_mark};
 ghost use Rattle.ipl_format.specs.Page.{value_in};
 ghost use Rattle.record_locks.specs.Held.{marks_in};
 ghost use Rattle.page_ops.specs.Frames.{values_in};
-ghost use Rattle.pending_writes.specs.Frames.{Frame as FrameOfPage};
-ghost use Rattle.pending_writes.specs.Room.{fill_at, overfills_at};
+ghost use Rattle.store_laws.specs.Frames.{Frame as FrameOfPage};
+ghost use Rattle.store_laws.specs.Room.{fill_at, overfills_at};
 ghost use Rattle.frame_changes.specs.Views.{frames_of};
 ghost use Rattle.frame_changes.specs.declared.filling.TheConstants.{HEAD};
 

@@ -3,7 +3,7 @@
 //! what a session wrote becomes values or is dropped; what a slot holds is lent; and it's told whether a
 //! put finds its page full. It stands on the frames and their records (`page_ops`, `mem_log_sector`) in
 //! their pool (`buffer_pool`), and on the marks of sessions (`record_locks`). A contract sees the pool's
-//! frames by unit and page, as the condition of a store does (`Frames` of `pending_writes`).
+//! frames by unit and page, as the condition of a store does (`Frames` of `store_laws`).
 //!
 //! Proved, by its calls, `buffer_laws`, `room_laws`: a put changes the frame of its page by its record
 //! and no other, exactly where the page has room for all that may become values then; whether a put

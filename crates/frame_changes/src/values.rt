@@ -3,7 +3,7 @@ ghost use Rattle.std.specs.Prelude.{◌≡◌, ◌≤◌, ◌<◌, Some, None, I
 ghost use Rattle.ipl_base.specs.declared.limits.TheConstants.{VALUE_LEN};
 ghost use Rattle.page_ops.specs.Frames.{values_in, pending_in};
 ghost use Rattle.page_ops.specs.Pending.{seen_by};
-ghost use Rattle.pending_writes.specs.Frames.{Frame as FrameOfPage};
+ghost use Rattle.store_laws.specs.Frames.{Frame as FrameOfPage};
 ghost use Rattle.frame_changes.specs.Views.{frames_of};
 
 use buffer_pool::Pool;

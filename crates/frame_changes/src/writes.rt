@@ -7,7 +7,7 @@ ghost use Rattle.buffer_pool.specs.Holding.{KeepsPins};
 ghost use Rattle.buffer_pool.specs.Uses.{used_of};
 ghost use Rattle.page_ops.specs.Frames.{values_in, pending_in};
 ghost use Rattle.page_ops.specs.Pending.{fill_by};
-ghost use Rattle.pending_writes.specs.Frames.{Frame as FrameOfPage, IsWrittenFrame, logs_of};
+ghost use Rattle.store_laws.specs.Frames.{Frame as FrameOfPage, IsWrittenFrame, logs_of};
 ghost use Rattle.frame_changes.specs.Views.{frames_of};
 ghost use Rattle.frame_changes.specs.Changes.{noted, FrameChanges, IsClearedFrame, MayPut, PutHasRoom};
 

@@ -19,13 +19,13 @@ use Rattle.ipl_meaning.proofs.OnceLemmas.{laid_once}
 use Rattle.ipl_meaning.proofs.RoomLemmas.{same_sizes}
 use Rattle.ipl_meaning.proofs.SwitchLemmas.{same_applied}
 use Rattle.number_set.specs.Numbers.{among}
-use Rattle.opening_rules.specs.Faults.{shape_fault}
-use Rattle.opening_rules.specs.First.{count_below}
-use Rattle.opening_rules.specs.Chosen.{units_at}
-use Rattle.opening_rules.specs.Laws.{IsByteChart}
-use Rattle.opening_rules.specs.LaidOut.{layout_in}
-use Rattle.opening_rules.proofs.NoFaultLemmas.{no_shape_fault_is_laid}
-use Rattle.opening_rules.proofs.LaidLemmas.{laid_has_no_shape_fault, laid_says_its_units}
+use Rattle.opening_laws.specs.Faults.{shape_fault}
+use Rattle.opening_laws.specs.First.{count_below}
+use Rattle.opening_laws.specs.Chosen.{units_at}
+use Rattle.opening_laws.specs.Laws.{IsByteChart}
+use Rattle.opening_laws.specs.LaidOut.{layout_in}
+use Rattle.opening_laws.proofs.NoFaultLemmas.{no_shape_fault_is_laid}
+use Rattle.opening_laws.proofs.LaidLemmas.{laid_has_no_shape_fault, laid_says_its_units}
 use Rattle.page_ops.specs.Pending.{fill_by}
 use Rattle.page_rebuild.specs.Loaded.{loaded_values, loaded_pending}
 use Rattle.page_rebuild.proofs.LoadedLemmas.{loaded_slot, sound_pages_show_values}

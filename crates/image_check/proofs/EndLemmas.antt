@@ -17,14 +17,14 @@ use Rattle.ipl_meaning.specs.Layout.{Layout}
 use Rattle.ipl_meaning.specs.Mirrors.{Mirrors}
 use Rattle.ipl_meaning.specs.Stands.{Stands}
 use Rattle.ipl_meaning.specs.Tables.{Places, OverflowLists, Status, Tables}
-use Rattle.merge_rules.specs.Known.{KnowsPlaces}
-use Rattle.opened_tables.specs.Opened.{tables_of}
-use Rattle.opening_rules.specs.Chosen.{units_at}
-use Rattle.opening_rules.specs.Faults.{is_image, is_told, shape_fault}
-use Rattle.opening_rules.specs.Laws.{IsByteChart}
-use Rattle.opening_rules.specs.LaidOut.{layout_in}
-use Rattle.opening_rules.proofs.LaidLemmas.{laid_has_no_shape_fault, laid_says_its_units}
-use Rattle.opening_rules.proofs.NoFaultLemmas.{no_shape_fault_is_laid}
+use Rattle.merge_laws.specs.Known.{KnowsPlaces}
+use Rattle.opening_laws.specs.Opened.{tables_of}
+use Rattle.opening_laws.specs.Chosen.{units_at}
+use Rattle.opening_laws.specs.Faults.{is_image, is_told, shape_fault}
+use Rattle.opening_laws.specs.Laws.{IsByteChart}
+use Rattle.opening_laws.specs.LaidOut.{layout_in}
+use Rattle.opening_laws.proofs.LaidLemmas.{laid_has_no_shape_fault, laid_says_its_units}
+use Rattle.opening_laws.proofs.NoFaultLemmas.{no_shape_fault_is_laid}
 use Rattle.page_rebuild.specs.Loaded.{AreTables}
 use Rattle.restart.specs.Looks.{HasCauseFor}
 use Rattle.image_check.specs.Checked.{IsReadingCause, IsCheckCause, IsUnwell, ChecksImage, check_fault, pages_fault, records_below, records_in}

@@ -16,10 +16,10 @@ use Rattle.ipl_meaning.specs.Layout.{Layout}
 use Rattle.ipl_meaning.specs.Stands.{Stands}
 use Rattle.number_set.specs.Numbers.{among}
 use Rattle.unit_io.specs.Reads.{OfContents}
-use Rattle.opening_rules.specs.First.{count_below}
-use Rattle.opening_rules.specs.Faults.{shape_fault}
-use Rattle.opening_rules.specs.Chosen.{units_at}
-use Rattle.opening_rules.specs.LaidOut.{layout_in}
+use Rattle.opening_laws.specs.First.{count_below}
+use Rattle.opening_laws.specs.Faults.{shape_fault}
+use Rattle.opening_laws.specs.Chosen.{units_at}
+use Rattle.opening_laws.specs.LaidOut.{layout_in}
 use Rattle.page_rebuild.specs.Loaded.{load_fault, loaded_values}
 use Rattle.image_check.specs.declared.fault.CheckFault.{CheckFault}
 use Rattle.image_check.specs.declared.fault.CheckFault.TheVariants.{Image, OutOfMemory}

@@ -4,9 +4,9 @@ use Rattle.chip_trait.specs.Story.{Contents}
 use Rattle.ipl_rules.specs.State.{Map}
 use Rattle.ipl_meaning.specs.Chart.{chart_of}
 use Rattle.ipl_meaning.specs.Stands.{Stands}
-use Rattle.opening_rules.specs.Chosen.{units_at}
-use Rattle.opening_rules.specs.Laws.{IsByteChart}
-use Rattle.opening_rules.specs.LaidOut.{layout_in}
+use Rattle.opening_laws.specs.Chosen.{units_at}
+use Rattle.opening_laws.specs.Laws.{IsByteChart}
+use Rattle.opening_laws.specs.LaidOut.{layout_in}
 use Rattle.image_check.specs.Checked.{check_fault, records_below, records_in}
 
 -- a chip without a fault stands for records

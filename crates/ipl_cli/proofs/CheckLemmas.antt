@@ -17,7 +17,7 @@ use Rattle.program_end.specs.declared.end.End.{End}
 use Rattle.program_end.specs.Ends.{fault_status}
 use Rattle.program_end.specs.declared.end.End.TheVariants.{Words, Chip, OutOfMemory, Script, Output, TooLong}
 use Rattle.ipl_cli.specs.Adds.{AddsLawful}
-use Rattle.ipl_cli.specs.Ending.{Ending, IsUntouched, but_noted}
+use Rattle.ipl_cli.specs.Ending.{Ending, IsLeftAlone, but_noted}
 use Rattle.ipl_cli.specs.Checks.{records_line, HoldsAsMany, IsSaid, Counted, Unwell, CheckedCause, CheckLeaves}
 use Rattle.ipl_cli.specs.Top.{IsStray, HoldsRecords, IsCalm, RequestCause, EndCause}
 use Rattle.ipl_cli.proofs.LawfulLemmas.{adds_said, adds_unsaid}
@@ -181,7 +181,7 @@ pub said_adds : (mid new : Told) (records : ℕ) (result : Result (Unit {0}) End
 said_adds mid new records (Ok u) said unsaid = adds_said (records_line records) mid new said
 said_adds mid new records (Err e) said unsaid = adds_unsaid (records_line records) mid new unsaid
 
-untouched_is : (old new : Told) → new ≡ old → IsUntouched old new
+untouched_is : (old new : Told) → new ≡ old → IsLeftAlone old new
 untouched_is old new is = subst (λ (t : Told). t ≡ but_noted old t.beside.noted) (sym is) refl
 
 pub unwell_leaves : (old new : Told) (fault : ImageFault) → OnlyReads old new

@@ -32,9 +32,9 @@ use Rattle.ipl_meaning.proofs.CarriedLemmas.{unused_carried}
 use Rattle.store_trait.proofs.UnusedLemmas.{twice}
 use Rattle.page_frames.specs.Pages.{tables_in}
 use Rattle.chip_trait.proofs.ImageLemmas.{held_is_image}
-use Rattle.opening_rules.specs.Chosen.{units_at}
-use Rattle.opening_rules.proofs.LaidLemmas.{laid_says_its_units}
-use Rattle.opening_rules.proofs.MomentLemmas.{moments_as_said}
+use Rattle.opening_laws.specs.Chosen.{units_at}
+use Rattle.opening_laws.proofs.LaidLemmas.{laid_says_its_units}
+use Rattle.opening_laws.proofs.MomentLemmas.{moments_as_said}
 use Rattle.ipl_meaning.proofs.StoryLemmas.{held_stands, says_keep}
 use Rattle.unit_io.specs.Leads.{IsSteady}
 use Rattle.unit_io.proofs.LeadsLemmas.{steady_then}
@@ -44,7 +44,7 @@ use Rattle.status_renewal.specs.Recovers.{TakesMarks}
 use Rattle.store_trait.specs.Keeping.{Stays}
 use Rattle.store_trait.specs.declared.fault.Fault.TheVariants as fault
 use Rattle.store_trait.proofs.OnwardLemmas.{unrisen_later}
-use Rattle.store_steps.specs.Keeps.{limits_of}
+use Rattle.store_laws.specs.Keeps.{limits_of}
 use Rattle.script_run.specs.declared.fault.Stop.{Stop}
 use Rattle.script_run.specs.declared.fault.Stop.TheVariants as stop
 use Rattle.script_run.specs.Run.{RunLeaves, SaysLines, EndsAt}
@@ -57,7 +57,7 @@ use Rattle.script_store.specs.Keeps.{KeepsScript, script_keeping}
 use Rattle.script_store.proofs.RecallLemmas.{opening_recalls}
 use Rattle.program_end.specs.declared.end.End.{End}
 use Rattle.program_end.specs.declared.end.End.TheVariants.{Words, Chip, OutOfMemory, Script, Output, TooLong}
-use Rattle.ipl_cli.specs.Ending.{Ending, IsStopped, StopRose, IsUntouched, format_end, units_beside}
+use Rattle.ipl_cli.specs.Ending.{Ending, IsStopped, StopRose, IsLeftAlone, format_end, units_beside}
 use Rattle.ipl_cli.specs.Top.{AreMarked, WereUnused, Runs, RunsOpened, RunsFormatted, IsLaidOut, LaysOut, IsAbout, StandsAbout, IsBetween, EndsBy, answers, ok_line}
 use Rattle.ipl_cli.specs.Runs.{RunsFrom, StartsOpened, IsNotOpened, WasFormatted, MarksBehind, ending_of}
 use Rattle.ipl_cli.specs.Frames.{MarksWhatWasErased}
@@ -556,7 +556,7 @@ pub runs_opened : {old new : Told} {ending : Ending} → RunsFrom true old new e
 runs_opened runs = λ h script steady left m rests. runs h script steady left m rests tt
 
 -- and so does what does nothing
-module _ (old new : Told) (is : IsUntouched old new) where
+module _ (old new : Told) (is : IsLeftAlone old new) where
   told_still : new.history ≡ option_map (adds_all []) old.history
   told_still = ap (λ (t : Told). t.history) is ∙ same_history old.history
 

@@ -12,7 +12,7 @@ use Rattle.command_line.specs.declared.asked.Request.{Request}
 use Rattle.command_line.specs.declared.asked.Request.TheVariants.{Format, Run, Serial, Check, Trial}
 use Rattle.program_end.specs.declared.end.End.{End}
 use Rattle.program_end.specs.declared.end.End.TheVariants.{Words, Chip, OutOfMemory, Script, Output, TooLong}
-use Rattle.ipl_cli.specs.Ending.{AskedFor, Ending, StopsEarly, IsStopped, IsUntouched, but_noted, note_at, status_at}
+use Rattle.ipl_cli.specs.Ending.{AskedFor, Ending, StopsEarly, IsStopped, IsLeftAlone, but_noted, note_at, status_at}
 use Rattle.ipl_cli.specs.Trials.{Trials, TrialsFormatted, TrialsOrStops, TrialLeaves}
 use Rattle.ipl_cli.specs.Top.{OpenedCause, FormatCause, FormattedCause, RequestCause, EndCause, Runs, RunsOpened, RunsFormatted, RunsOrStops, IsLaidOut, LaysOut, OnlyLooks, IsRefused, OpenedRuns, FormatLeaves, FormattedLeaves, OpenedLeaves, EndLeaves, Ends, NoneFalls}
 use Rattle.ipl_cli.proofs.ViewLemmas.{serial_left}
@@ -167,7 +167,7 @@ module _ (old mid : Told) (noted : Option (List ℕ)) where
         noted) l.noted;
   }
 
-  untouched_noted : IsUntouched old mid → IsUntouched old then
+  untouched_noted : IsLeftAlone old mid → IsLeftAlone old then
   untouched_noted is = ap (λ (t : Told). but_noted t noted) is
 
   formatted_noted : {ending : Ending} → RunsFormatted old mid ending → RunsFormatted old then ending

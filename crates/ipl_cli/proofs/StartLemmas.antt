@@ -24,15 +24,15 @@ use Rattle.ipl_meaning.specs.FirstTables.{first_layout}
 use Rattle.ipl_meaning.proofs.FormattedLemmas.{no_sector}
 use Rattle.ipl_meaning.proofs.StoryLemmas.{held_stands}
 use Rattle.unit_io.specs.Leads.{IsSteady}
-use Rattle.opening_rules.specs.Chosen.{units_at}
-use Rattle.opening_rules.specs.Faults.{first_fault, greatest_found}
-use Rattle.opening_rules.specs.LaidOut.{layout_in}
-use Rattle.opening_rules.specs.Laws.{IsByteChart}
-use Rattle.opening_rules.proofs.CauseLemmas.{faults_are_caused}
-use Rattle.opening_rules.proofs.FormattedLemmas.{formatted_bytes}
-use Rattle.opening_rules.proofs.LaidLemmas.{laid_is_fine_or_spent}
-use Rattle.opening_rules.proofs.NoFaultLemmas.{no_fault_is_laid}
-use Rattle.opening_rules.proofs.NumberLemmas.{greatest_is_found}
+use Rattle.opening_laws.specs.Chosen.{units_at}
+use Rattle.opening_laws.specs.Faults.{first_fault, greatest_found}
+use Rattle.opening_laws.specs.LaidOut.{layout_in}
+use Rattle.opening_laws.specs.Laws.{IsByteChart}
+use Rattle.opening_laws.proofs.CauseLemmas.{faults_are_caused}
+use Rattle.opening_laws.proofs.FormattedLemmas.{formatted_bytes}
+use Rattle.opening_laws.proofs.LaidLemmas.{laid_is_fine_or_spent}
+use Rattle.opening_laws.proofs.NoFaultLemmas.{no_fault_is_laid}
+use Rattle.opening_laws.proofs.NumberLemmas.{greatest_is_found}
 use Rattle.restart.specs.Events.{format_events}
 use Rattle.restart.specs.Fresh.{IsFresh, Formats, TellsFresh}
 use Rattle.restart.proofs.LookLemmas.{reads_none}
@@ -43,7 +43,7 @@ use Rattle.place_taking.proofs.SpendingLemmas.{or_right}
 use Rattle.selective_merge.specs.Homes.{WearCause}
 use Rattle.status_renewal.specs.Recovers.{FailsByCallAlone, OpeningCause, tells_wear}
 use Rattle.status_renewal.proofs.ReadyLemmas.{layouts_say}
-use Rattle.store_steps.specs.Keeps.{IsWornCount, FaultTells, StoreCause, limits_of}
+use Rattle.store_laws.specs.Keeps.{IsWornCount, FaultTells, StoreCause, limits_of}
 use Rattle.script_run.specs.declared.fault.Stop.{Stop}
 use Rattle.script_run.specs.declared.fault.Stop.TheVariants as stop
 use Rattle.script_run.specs.Goes.{StopCause, StopWears, LearnsAlong, KeepsSome, CompletesOver, ReadsAll}

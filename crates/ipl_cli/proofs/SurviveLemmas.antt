@@ -27,9 +27,9 @@ use Rattle.restart.proofs.FreshLemmas.{format_rests, fresh_contents}
 use Rattle.unit_io.specs.Leads.{IsSteady}
 use Rattle.status_renewal.specs.Chains.{starts_at}
 use Rattle.status_renewal.proofs.ChainLemmas.{images_rest}
-use Rattle.store_steps.specs.Keeps.{limits_of}
+use Rattle.store_laws.specs.Keeps.{limits_of}
 use Rattle.program_end.specs.declared.end.End.TheVariants.{Words, Chip, OutOfMemory, Script, Output, TooLong}
-use Rattle.ipl_cli.specs.Ending.{AskedFor, Ending, AsksFormatted, AtStatus, StopsEarly, StopRose, IsUntouched, but_noted}
+use Rattle.ipl_cli.specs.Ending.{AskedFor, Ending, AsksFormatted, AtStatus, StopsEarly, StopRose, IsLeftAlone, but_noted}
 use Rattle.ipl_cli.specs.Top.{Runs, RunsOpened, FormattedLeaves, EndLeaves, Ends}
 use Rattle.ipl_cli.specs.Survives.{StandsAfterAnswered, Survives, SurvivesFormat, SurvivesAnew}
 use Rattle.ipl_cli.proofs.EndLemmas.{near_silent}
@@ -120,7 +120,7 @@ module _ (old new : Told) where
           (limits_of (units_on old.places)) (at_rest empty) (commands_of script) stands);
     }
 
-    untouched_survives : old.contents ≡ Some x → IsUntouched old new → SurvivesFormat script x old new
+    untouched_survives : old.contents ≡ Some x → IsLeftAlone old new → SurvivesFormat script x old new
     untouched_survives told is = none_survives []
         (ap (λ (t : Told). t.history) is ∙ same_history old.history)
         (λ unrisen. ap (λ (t : Told). t.contents) is ∙ told) (omega arith)

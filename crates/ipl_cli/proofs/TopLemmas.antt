@@ -8,7 +8,7 @@ use Rattle.ipl_base.specs.declared.fault.ImageFault.TheVariants as image
 use Rattle.ipl_base.specs.declared.fault.FormatFault.{FormatFault}
 use Rattle.ipl_base.specs.declared.fault.FormatFault.TheVariants as format
 use Rattle.ipl_meaning.specs.Chart.{chart_of}
-use Rattle.opening_rules.proofs.CauseLemmas.{faults_are_caused}
+use Rattle.opening_laws.proofs.CauseLemmas.{faults_are_caused}
 use Rattle.restart.specs.Fresh.{Formats}
 use Rattle.restart.proofs.LookLemmas.{reads_none}
 use Rattle.script_run.specs.Goes.{ReadsAll}
@@ -17,7 +17,7 @@ use Rattle.command_line.specs.declared.asked.Request.{Request}
 use Rattle.command_line.specs.declared.asked.Request.TheVariants.{Format, Run, Serial, Check, Trial}
 use Rattle.program_end.specs.Ends.{status_of, fault_status}
 use Rattle.program_end.specs.declared.end.End.TheVariants.{Words, Chip, OutOfMemory, Script, Output, TooLong}
-use Rattle.ipl_cli.specs.Ending.{AskedFor, AsksOpened, AsksFormatted, AsksAnew, AtStatus, Ending, IsUntouched, but_noted, format_end, status_at, units_beside}
+use Rattle.ipl_cli.specs.Ending.{AskedFor, AsksOpened, AsksFormatted, AsksAnew, AtStatus, Ending, IsLeftAlone, but_noted, format_end, status_at, units_beside}
 use Rattle.ipl_cli.specs.Trials.{TrialLeaves}
 use Rattle.ipl_cli.specs.Checks.{CheckLeaves}
 use Rattle.ipl_cli.specs.Views.{ViewsTold, OnlyViews, OnlyHears, SerialLeaves}
@@ -32,7 +32,7 @@ use Rattle.ipl_cli.proofs.CalmLemmas.{stray_unfit, spent_unfit, anew_silent, com
 
 -- ---- a format that fails
 
-untouched : (old new : Told) → new ≡ old → IsUntouched old new
+untouched : (old new : Told) → new ≡ old → IsLeftAlone old new
 untouched old new is = subst (λ (t : Told). t ≡ but_noted old t.beside.noted) (sym is) refl
 
 -- memory was wanting for the words
@@ -81,7 +81,7 @@ failed_cause spares old new (format.Worn p) other rose worn formats = record {
 
 -- ---- by the status
 
-untouched_looks : (old new : Told) → IsUntouched old new → OnlyLooks old new
+untouched_looks : (old new : Told) → IsLeftAlone old new → OnlyLooks old new
 untouched_looks old new is = record { read = old; reads = reads_none old; noted = is }
 
 none_is_some : {X : Type 0} {x : X} → None ≡ Some x → ⊥
@@ -436,7 +436,7 @@ module _ (asked : AskedFor) (old new : Told) (status : ℕ) (e : Ends asked old 
 
 module _ (old new : Told) where
   early_by : (asked : AskedFor) (ending : Ending) → EndCause asked ending old new
-      → EndLeaves asked ending old new → status_at ending ≡ 2 → IsUntouched old new
+      → EndLeaves asked ending old new → status_at ending ≡ 2 → IsLeftAlone old new
   early_by None ending c l is = l
   early_by (Some request) (Ok u) c l is = absurd (omega (arith, is))
   early_by (Some request) (Err Words) c l is = absurd c
@@ -447,9 +447,9 @@ module _ (old new : Told) where
   early_by (Some request) (Err TooLong) c l is = absurd (omega (arith, is))
 
   abbrev Wanting : AskedFor → Type 0
-  Wanting asked = OnlyHears old new × (asked ≢ Some Serial → IsUntouched old new)
+  Wanting asked = OnlyHears old new × (asked ≢ Some Serial → IsLeftAlone old new)
 
-  wanting_untouched : (asked : AskedFor) → IsUntouched old new → Wanting asked
+  wanting_untouched : (asked : AskedFor) → IsLeftAlone old new → Wanting asked
   wanting_untouched asked l = (untouched_hears old new l, λ apart. l)
 
   wanting_by : (asked : AskedFor) (ending : Ending) → EndCause asked ending old new
@@ -477,7 +477,7 @@ module _ (old new : Told) where
   IsMisfit asked = (¬ IsGeometry old.places) ⊎ LacksUnits asked old
 
   format_other : (spares : ℕ) (e : ImageFault) → FormatCause spares e old new
-      → FormatLeaves spares (Err (Chip e)) old new → fault_status e ≡ 4 → IsUntouched old new
+      → FormatLeaves spares (Err (Chip e)) old new → fault_status e ≡ 4 → IsLeftAlone old new
   format_other spares image.Geometry c l is = l
   format_other spares image.NotFormatted c l is = absurd c
   format_other spares (image.Missing u) c l is = absurd c
@@ -490,12 +490,12 @@ module _ (old new : Told) where
   format_other spares (image.NoSpare n) c l is = absurd c
 
   formatted_other : (e : ImageFault) → FormattedLeaves (Err (Chip e)) old new
-      → ¬ IsGeometry old.places → IsUntouched old new
+      → ¬ IsGeometry old.places → IsLeftAlone old new
   formatted_other e (inl other) misfit = other.2
   formatted_other e (inr ran) misfit = absurd (misfit ran.0)
 
   trial_other : (seed count : ℕ) (e : ImageFault) → TrialLeaves seed count (Err (Chip e)) old new
-      → ¬ IsGeometry old.places → IsUntouched old new
+      → ¬ IsGeometry old.places → IsLeftAlone old new
   trial_other seed count e (inl other) misfit = other.2
   trial_other seed count e (inr tried) misfit = absurd (misfit tried.0)
 
@@ -507,7 +507,7 @@ module _ (old new : Told) where
 
   chip_other : (request : Request) (e : ImageFault) → ChipCause request e old new
       → EndLeaves (Some request) (Err (Chip e)) old new → fault_status e ≡ 4
-      → IsMisfit (Some request) → IsUntouched old new
+      → IsMisfit (Some request) → IsLeftAlone old new
   chip_other (Format spares) e c l is misfit = format_other spares e c l is
   chip_other (Run frames true closes) e c l is misfit =
       formatted_other e l (outside (Run frames true closes) (λ spares same. cc) misfit)
@@ -520,7 +520,7 @@ module _ (old new : Told) where
 
   other_by : (asked : AskedFor) (ending : Ending) → EndCause asked ending old new
       → EndLeaves asked ending old new → status_at ending ≡ 4 → IsMisfit asked
-      → IsUntouched old new
+      → IsLeftAlone old new
   other_by None ending c l is misfit = l
   other_by (Some request) (Ok u) c l is misfit = absurd (omega (arith, is))
   other_by (Some request) (Err Words) c l is misfit = absurd c
@@ -663,14 +663,14 @@ module _ (old new : Told) where
 -- ---- as it was asked
 
 module _ (asked : AskedFor) (old new : Told) (status : ℕ) (e : Ends asked old new status) where
-  pub end_early : status ≡ 2 → IsUntouched old new
+  pub end_early : status ≡ 2 → IsLeftAlone old new
   end_early at = early_by old new asked e.ending e.cause e.leaves (sym e.status_is ∙ at)
 
-  pub end_wanting : status ≡ 5 → OnlyHears old new × (asked ≢ Some Serial → IsUntouched old new)
+  pub end_wanting : status ≡ 5 → OnlyHears old new × (asked ≢ Some Serial → IsLeftAlone old new)
   end_wanting at = wanting_by old new asked e.ending e.cause e.leaves (sym e.status_is ∙ at)
 
   pub end_other : status ≡ 4 → (¬ IsGeometry old.places) ⊎ LacksUnits asked old
-      → IsUntouched old new
+      → IsLeftAlone old new
   end_other at = other_by old new asked e.ending e.cause e.leaves (sym e.status_is ∙ at)
 
   pub end_words : status ≡ 2 → asked ≡ None

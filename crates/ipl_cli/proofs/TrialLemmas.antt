@@ -19,8 +19,8 @@ use Rattle.ipl_model.specs.declared.command.Command.{Command}
 use Rattle.ipl_model.specs.Run.{joined as joined_text}
 use Rattle.ipl_format.specs.Sector.{sector_in}
 use Rattle.ipl_meaning.specs.Rests.{now, EachStandsIn, StoryRests}
-use Rattle.opening_rules.specs.Chosen.{units_at}
-use Rattle.opening_rules.proofs.MomentLemmas.{moments_as_said}
+use Rattle.opening_laws.specs.Chosen.{units_at}
+use Rattle.opening_laws.proofs.MomentLemmas.{moments_as_said}
 use Rattle.unit_io.specs.Leads.{IsSteady}
 use Rattle.restart.specs.Events.{format_events}
 use Rattle.store_trait.specs.Keeping.{Stays, SCRIPT_DRAWS}
@@ -28,7 +28,7 @@ use Rattle.store_trait.specs.Onward.{Onward}
 use Rattle.store_trait.specs.declared.fault.Fault.TheVariants as fault
 use Rattle.store_trait.proofs.DrawLemmas.{numbers_last}
 use Rattle.store_trait.proofs.OnwardLemmas.{unrisen_later}
-use Rattle.store_steps.specs.Keeps.{limits_of}
+use Rattle.store_laws.specs.Keeps.{limits_of}
 use Rattle.script_run.specs.declared.fault.Stop.{Stop}
 use Rattle.script_run.specs.declared.fault.Stop.TheVariants as stop
 use Rattle.script_run.specs.Goes.{Along, CompletesOver}
@@ -37,7 +37,7 @@ use Rattle.script_run.proofs.RunLemmas.{says_none, says_prefix}
 use Rattle.script_store.specs.declared.store.ScriptStore.{ScriptStore}
 use Rattle.script_store.specs.Keeps.{KeepsScript, script_keeping, next_number}
 use Rattle.store_trait.specs.Keeping.{FOUND_NUMBER}
-use Rattle.trial_commands.specs.Words.{trial_commands}
+use Rattle.trial_run.specs.Words.{trial_commands}
 use Rattle.trial_run.specs.Trial.{StandsBehind as StandsBehindOf, TrialLeaves as LeavesOf, TrialEnds, EndsInWork, RunsTrial, IsTrialStop}
 use Rattle.command_line.specs.declared.asked.Request.TheVariants.{Run, Trial}
 use Rattle.program_end.specs.declared.end.End.{End}

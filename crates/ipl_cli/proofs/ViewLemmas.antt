@@ -12,7 +12,7 @@ use Rattle.serial_run.specs.View.{ReadsScript, OnlySays, SaysView}
 use Rattle.serial_run.specs.declared.stop.ViewStop.{ViewStop}
 use Rattle.serial_run.specs.declared.stop.ViewStop.TheVariants as stop
 use Rattle.program_end.specs.declared.end.End.TheVariants.{Words, Chip, OutOfMemory, Script, Output, TooLong}
-use Rattle.ipl_cli.specs.Ending.{Ending, IsUntouched, but_noted}
+use Rattle.ipl_cli.specs.Ending.{Ending, IsLeftAlone, but_noted}
 use Rattle.ipl_cli.specs.Views.{Views, ViewsTold, OnlyViews, OnlyHears, SerialLeaves, view_end, view_on}
 
 -- ---- a view that is said, or stops
@@ -121,7 +121,7 @@ module _ (old mid : Told) (noted : Option (List ℕ)) where
 -- ---- where nothing was said
 
 module _ (old new : Told) where
-  pub untouched_hears : IsUntouched old new → OnlyHears old new
+  pub untouched_hears : IsLeftAlone old new → OnlyHears old new
   untouched_hears is = record {
     heard = old;
     reads = record { settled = refl; history = refl; contents = refl; further = further_none old };

@@ -11,11 +11,11 @@ use Rattle.ipl_rules.specs.State.{Map}
 use Rattle.ipl_meaning.specs.Chart.{chart_of}
 use Rattle.ipl_meaning.specs.Stands.{Stands}
 use Rattle.unit_io.specs.Reads.{OfContents}
-use Rattle.opening_rules.specs.Chosen.{units_at}
+use Rattle.opening_laws.specs.Chosen.{units_at}
 use Rattle.restart.specs.Looks.{OnlyReads}
 use Rattle.image_check.specs.Checked.{IsCheckCause, IsUnwell, records_in}
 use Rattle.program_end.specs.declared.end.End.TheVariants.{Words, Chip, OutOfMemory, Script, Output, TooLong}
-use Rattle.ipl_cli.specs.Ending.{Ending, IsUntouched, but_noted}
+use Rattle.ipl_cli.specs.Ending.{Ending, IsLeftAlone, but_noted}
 
 -- the line that says how many records there are
 abbrev pub records_line : ℕ → List ℕ
@@ -47,7 +47,7 @@ pub record Unwell (fault : ImageFault) (old new : Told) : Type 0 where
   pub reads : OnlyReads old read
   pub noted : new ≡ but_noted read new.beside.noted
   pub unwell : fault ≢ image.Chip ReadFault → OfContents old (λ x. IsUnwell x old.places fault)
-  pub other : ¬ IsGeometry old.places → IsUntouched old new
+  pub other : ¬ IsGeometry old.places → IsLeftAlone old new
 
 -- When a fault of the chip ends a check: never since a write failed, a place is worn or numbers are used
 -- up. Where the chip tells what it holds, that stands for no records and the fault is its first one,
@@ -61,7 +61,7 @@ abbrev pub CheckLeaves : Ending → Told → Told → Type 0
 CheckLeaves (Ok u) old new = Counted IsSaid old new
 CheckLeaves (Err Words) old new = ⊥
 CheckLeaves (Err (Chip fault)) old new = Unwell fault old new
-CheckLeaves (Err OutOfMemory) old new = IsUntouched old new
+CheckLeaves (Err OutOfMemory) old new = IsLeftAlone old new
 CheckLeaves (Err Script) old new = ⊥
 CheckLeaves (Err Output) old new = Counted FailsToSay old new
 CheckLeaves (Err TooLong) old new = ⊥

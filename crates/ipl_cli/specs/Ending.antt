@@ -49,8 +49,8 @@ abbrev pub but_noted : Told → Option (List ℕ) → Told
 but_noted t noted = record t { beside = record t.beside { noted = noted } }
 
 -- nothing was done but noted
-abbrev pub IsUntouched : Told → Told → Type 0
-IsUntouched old new = new ≡ but_noted old new.beside.noted
+abbrev pub IsLeftAlone : Told → Told → Type 0
+IsLeftAlone old new = new ≡ but_noted old new.beside.noted
 
 -- this is so of an ending with that status
 abbrev pub AtStatus : (Ending → Type 0) → ℕ → Type 0

@@ -11,7 +11,7 @@ use Rattle.ipl_meaning.specs.Tables.{Tables}
 use Rattle.ipl_meaning.specs.Rests.{now, StoryRests}
 use Rattle.ipl_model.specs.Grammar.{commands_of}
 use Rattle.ipl_rules.specs.State.{Map}
-use Rattle.opening_rules.specs.Chosen.{units_at}
+use Rattle.opening_laws.specs.Chosen.{units_at}
 use Rattle.restart.specs.Fresh.{Formats, TellsFresh}
 use Rattle.store_trait.specs.Onward.{Onward, Further}
 use Rattle.store_trait.specs.Keeping.{SCRIPT_DRAWS, WORK_DRAWS, LeavesTidy, restarts}
@@ -30,7 +30,7 @@ use Rattle.script_store.specs.Keeps.{IsRunning, script_keeping}
 use Rattle.script_store.specs.Closes.{MarksRecalled, Closes}
 use Rattle.clean_close.specs.Closing.{EndsWithMark}
 use Rattle.unit_io.specs.Costs.{Spends}
-use Rattle.trial_commands.specs.Words.{trial_commands}
+use Rattle.trial_run.specs.Words.{trial_commands}
 use Rattle.trial_run.specs.Trial.{RunsTrial, IsTrialStop}
 use Rattle.program_end.specs.declared.end.End.{End}
 use Rattle.program_end.specs.declared.end.End.TheVariants.{Words, Chip, OutOfMemory, Script, Output, TooLong}

@@ -13,9 +13,9 @@ use Rattle.ipl_model.specs.Run.{answered, map_after}
 use Rattle.ipl_format.specs.Sector.{sector_in}
 use Rattle.ipl_meaning.specs.Chart.{chart_of}
 use Rattle.ipl_meaning.specs.Stands.{Stands, StandsIn}
-use Rattle.opening_rules.specs.Chosen.{units_at}
+use Rattle.opening_laws.specs.Chosen.{units_at}
 use Rattle.restart.specs.Events.{format_events}
-use Rattle.store_steps.specs.Keeps.{limits_of}
+use Rattle.store_laws.specs.Keeps.{limits_of}
 
 -- The contents stand, in so many units, for the records after r commands of the script, from the records
 -- m and on as many units, or after one more: r is the greatest number of commands with whose replies the bytes begin.

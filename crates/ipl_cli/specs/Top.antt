@@ -22,12 +22,12 @@ use Rattle.ipl_meaning.specs.Stands.{Stands, StandsIn}
 use Rattle.ipl_meaning.specs.Rests.{now, StoryRests}
 use Rattle.unit_io.specs.Leads.{IsSteady}
 use Rattle.unit_io.specs.Reads.{OfContents}
-use Rattle.opening_rules.specs.Chosen.{units_at}
-use Rattle.opening_rules.specs.Faults.{first_fault, greatest_found}
+use Rattle.opening_laws.specs.Chosen.{units_at}
+use Rattle.opening_laws.specs.Faults.{first_fault, greatest_found}
 use Rattle.restart.specs.Events.{format_events}
 use Rattle.restart.specs.Looks.{OnlyReads}
 use Rattle.place_taking.specs.Spending.{is_found_worn}
-use Rattle.store_steps.specs.Keeps.{IsWornCount, limits_of}
+use Rattle.store_laws.specs.Keeps.{IsWornCount, limits_of}
 use Rattle.script_store.specs.Worn.{WearsOut}
 use Rattle.script_run.specs.Run.{SaysLines, EndsBetween, EndsUnsaid}
 use Rattle.script_run.specs.Goes.{ReadsAll}
@@ -36,7 +36,7 @@ use Rattle.command_line.specs.declared.asked.Request.TheVariants.{Format, Run, S
 use Rattle.program_end.specs.declared.end.End.{End}
 use Rattle.program_end.specs.declared.end.End.TheVariants.{Words, Chip, OutOfMemory, Script, Output, TooLong}
 use Rattle.program_end.specs.Ends.{fault_status}
-use Rattle.ipl_cli.specs.Ending.{AskedFor, AsksOpened, AsksAnew, Ending, StopsEarly, IsStopped, IsUntouched, but_noted, note_at, status_at, units_beside}
+use Rattle.ipl_cli.specs.Ending.{AskedFor, AsksOpened, AsksAnew, Ending, StopsEarly, IsStopped, IsLeftAlone, but_noted, note_at, status_at, units_beside}
 use Rattle.ipl_cli.specs.Trials.{TrialLeaves}
 use Rattle.ipl_cli.specs.Views.{ViewedCause, SerialLeaves}
 use Rattle.ipl_cli.specs.Checks.{CheckedCause, CheckLeaves}
@@ -419,10 +419,10 @@ LaysOut spares old new done =
 abbrev pub FormatLeaves : ℕ → Ending → Told → Told → Type 0
 FormatLeaves spares (Ok u) old new = LaysOut spares old new true
 FormatLeaves spares (Err Words) old new = ⊥
-FormatLeaves spares (Err (Chip image.Geometry)) old new = IsUntouched old new
+FormatLeaves spares (Err (Chip image.Geometry)) old new = IsLeftAlone old new
 FormatLeaves spares (Err (Chip e)) old new =
     IsStopped (units_beside old.places spares) old new (Err (Chip e))
-FormatLeaves spares (Err OutOfMemory) old new = IsUntouched old new
+FormatLeaves spares (Err OutOfMemory) old new = IsLeftAlone old new
 FormatLeaves spares (Err Script) old new = ⊥
 FormatLeaves spares (Err Output) old new = LaysOut spares old new false
 FormatLeaves spares (Err TooLong) old new = ⊥
@@ -432,9 +432,9 @@ abbrev pub FormattedLeaves : Ending → Told → Told → Type 0
 FormattedLeaves (Ok u) old new = RunsFormatted old new (Ok u) × ReadsAll old new
 FormattedLeaves (Err Words) old new = ⊥
 FormattedLeaves (Err (Chip e)) old new =
-    ((¬ IsGeometry old.places) × (e ≡ image.Geometry) × IsUntouched old new)
+    ((¬ IsGeometry old.places) × (e ≡ image.Geometry) × IsLeftAlone old new)
     ⊎ (IsGeometry old.places × RunsOrStops old new (Err (Chip e)))
-FormattedLeaves (Err OutOfMemory) old new = IsUntouched old new
+FormattedLeaves (Err OutOfMemory) old new = IsLeftAlone old new
 FormattedLeaves (Err Script) old new = RunsFormatted old new (Err Script)
 FormattedLeaves (Err Output) old new = RunsFormatted old new (Err Output)
 FormattedLeaves (Err TooLong) old new = RunsFormatted old new (Err TooLong)
@@ -458,7 +458,7 @@ IsRefused ended old new = (e : ImageFault) → HasFault old e
 pub record OpenedStops (e : ImageFault) (old new : Told) : Type 0 where
   pub runs : RunsOpened old new (Err (Chip e))
   pub refused : IsRefused e old new
-  pub other : ¬ IsGeometry old.places → IsUntouched old new
+  pub other : ¬ IsGeometry old.places → IsLeftAlone old new
 
 -- What is left of a chip that was opened well. At the end of the script all of it was read.
 pub record OpenedRuns (old new : Told) (ending : Ending) : Type 0 where
@@ -472,14 +472,14 @@ abbrev pub OpenedLeaves : Ending → Told → Told → Type 0
 OpenedLeaves (Ok u) old new = OpenedRuns old new (Ok u)
 OpenedLeaves (Err Words) old new = ⊥
 OpenedLeaves (Err (Chip e)) old new = OpenedStops e old new
-OpenedLeaves (Err OutOfMemory) old new = IsUntouched old new
+OpenedLeaves (Err OutOfMemory) old new = IsLeftAlone old new
 OpenedLeaves (Err Script) old new = OpenedRuns old new (Err Script)
 OpenedLeaves (Err Output) old new = OpenedRuns old new (Err Output)
 OpenedLeaves (Err TooLong) old new = OpenedRuns old new (Err TooLong)
 
 -- what the program leaves, wherever it ends
 abbrev pub EndLeaves : AskedFor → Ending → Told → Told → Type 0
-EndLeaves None ending old new = IsUntouched old new
+EndLeaves None ending old new = IsLeftAlone old new
 EndLeaves (Some (Format spares)) ending old new = FormatLeaves spares ending old new
 EndLeaves (Some (Run frames true closes)) ending old new = FormattedLeaves ending old new
 EndLeaves (Some (Run frames false closes)) ending old new = OpenedLeaves ending old new
@@ -522,7 +522,7 @@ SpentCause old = IsSpent old ⊎ IsMetLater old
 -- nothing was done to a chip of another number of places, or it was formatted and the script run, or a
 -- part of that
 abbrev pub UntouchedOrRuns : Told → Told → Ending → Type 0
-UntouchedOrRuns old new ending = ((¬ IsGeometry old.places) × IsUntouched old new)
+UntouchedOrRuns old new ending = ((¬ IsGeometry old.places) × IsLeftAlone old new)
     ⊎ RunsOrStops old new ending
 
 -- ---- completeness

@@ -18,12 +18,12 @@ use Rattle.ipl_meaning.specs.Rests.{StoryRests}
 use Rattle.ipl_meaning.specs.Stands.{StandsIn}
 use Rattle.unit_io.specs.Leads.{IsSteady}
 use Rattle.restart.specs.Events.{format_events}
-use Rattle.store_steps.specs.Keeps.{limits_of}
+use Rattle.store_laws.specs.Keeps.{limits_of}
 use Rattle.script_run.specs.Run.{SaysLines, IsUnsaid}
-use Rattle.trial_commands.specs.Words.{trial_commands}
-use Rattle.trial_commands.specs.Summary.{trial_lines}
+use Rattle.trial_run.specs.Words.{trial_commands}
+use Rattle.trial_run.specs.Summary.{trial_lines}
 use Rattle.program_end.specs.declared.end.End.TheVariants.{Words, Chip, OutOfMemory, Script, Output, TooLong}
-use Rattle.ipl_cli.specs.Ending.{Ending, StopsEarly, IsUntouched}
+use Rattle.ipl_cli.specs.Ending.{Ending, StopsEarly, IsLeftAlone}
 
 -- the commands of a seed, so many, on so many places, none of which is spare
 abbrev pub commands_on : ℕ → ℕ → ℕ → List Command
@@ -117,9 +117,9 @@ abbrev pub TrialLeaves : ℕ → ℕ → Ending → Told → Told → Type 0
 TrialLeaves seed count (Ok u) old new = TrialsFormatted seed count old new (Ok u)
 TrialLeaves seed count (Err Words) old new = ⊥
 TrialLeaves seed count (Err (Chip e)) old new =
-    ((¬ IsGeometry old.places) × (e ≡ image.Geometry) × IsUntouched old new)
+    ((¬ IsGeometry old.places) × (e ≡ image.Geometry) × IsLeftAlone old new)
     ⊎ (IsGeometry old.places × TrialsOrStops seed count old new (Err (Chip e)))
-TrialLeaves seed count (Err OutOfMemory) old new = IsUntouched old new
+TrialLeaves seed count (Err OutOfMemory) old new = IsLeftAlone old new
 TrialLeaves seed count (Err Script) old new = ⊥
 TrialLeaves seed count (Err Output) old new = TrialsFormatted seed count old new (Err Output)
 TrialLeaves seed count (Err TooLong) old new = ⊥

@@ -14,7 +14,7 @@ use Rattle.serial_run.specs.declared.stop.ViewStop.{ViewStop}
 use Rattle.serial_run.specs.declared.stop.ViewStop.TheVariants as stop
 use Rattle.program_end.specs.declared.end.End.{End}
 use Rattle.program_end.specs.declared.end.End.TheVariants.{Words, Chip, OutOfMemory, Script, Output, TooLong}
-use Rattle.ipl_cli.specs.Ending.{Ending, IsUntouched, but_noted}
+use Rattle.ipl_cli.specs.Ending.{Ending, IsLeftAlone, but_noted}
 
 -- the end that a view is which isn't said to its end
 abbrev pub view_end : ViewStop → End
@@ -64,7 +64,7 @@ pub record OnlyHears (old new : Told) : Type 0 where
 abbrev pub SerialLeaves : Ending → Told → Told → Type 0
 SerialLeaves (Ok u) old new = ViewsTold old new true × OnlyViews old new
 SerialLeaves (Err Words) old new = ⊥
-SerialLeaves (Err (Chip e)) old new = IsUntouched old new
+SerialLeaves (Err (Chip e)) old new = IsLeftAlone old new
 SerialLeaves (Err OutOfMemory) old new = OnlyHears old new
 SerialLeaves (Err Script) old new = ViewsTold old new false × OnlyViews old new
 SerialLeaves (Err Output) old new = ViewsTold old new false × OnlyViews old new

@@ -14,7 +14,7 @@ ghost use Rattle.command_line.specs.declared.asked.Request.{Request};
 ghost use Rattle.command_line.specs.declared.asked.Request.TheVariants.{Format, Run, Serial, Check, Trial};
 ghost use Rattle.ipl_cli.specs.Trials.{TrialLeaves};
 ghost use Rattle.ipl_cli.specs.Adds.{AddsLawful, AddsLawfulByMark, AddsAsAsked};
-ghost use Rattle.ipl_cli.specs.Ending.{AsksOpened, AsksFormatted, AsksAnew, AtStatus, status_at, note_at, but_noted, format_end, IsUntouched};
+ghost use Rattle.ipl_cli.specs.Ending.{AsksOpened, AsksFormatted, AsksAnew, AtStatus, status_at, note_at, but_noted, format_end, IsLeftAlone};
 ghost use Rattle.ipl_cli.specs.Checks.{CheckLeaves};
 ghost use Rattle.ipl_cli.specs.Views.{ViewsTold, OnlyViews, OnlyHears, SerialLeaves, view_end};
 ghost use Rattle.ipl_cli.specs.Top.{NoneFalls, EndCause, RequestCause, FormatLeaves, FormattedLeaves, OpenedLeaves, EndLeaves};
@@ -449,12 +449,12 @@ pub fn top<D: Desk>(alloc: Global, words: &[String], desk: &mut D) -> u8
     // At 2 nothing was asked of the chip, said or read, and so at 5, but that a view may have read its
     // script. At 4 a chip of another number of places was left alone, and one with no unit left by the
     // places that a format is to spare.
-    ensures early { result ≡ 2 → IsUntouched (D.told desk.old) (D.told desk.new) }
+    ensures early { result ≡ 2 → IsLeftAlone (D.told desk.old) (D.told desk.new) }
     ensures wanting { result ≡ 5 → OnlyHears (D.told desk.old) (D.told desk.new)
-        × (requested (map string_bytes words.now) ≢ Some Serial → IsUntouched (D.told desk.old) (D.told desk.new)) }
+        × (requested (map string_bytes words.now) ≢ Some Serial → IsLeftAlone (D.told desk.old) (D.told desk.new)) }
     ensures other { result ≡ 4 → ¬ IsGeometry (D.told desk.old).places
         ⊎ LacksUnits (requested (map string_bytes words.now)) (D.told desk.old)
-        → IsUntouched (D.told desk.old) (D.told desk.new) }
+        → IsLeftAlone (D.told desk.old) (D.told desk.new) }
 
     // Each status but 0 and 5 comes only for its cause.
     ensures words { result ≡ 2 → requested (map string_bytes words.now) ≡ None }

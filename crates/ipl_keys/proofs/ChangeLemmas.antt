@@ -10,11 +10,11 @@ use Rattle.ipl_rules.specs.Refusals.{refuses_end}
 use Rattle.ipl_rules.specs.Operations.{after_write}
 use Rattle.ipl_meaning.specs.Rests.{EachStandsEitherIn}
 use Rattle.record_locks.specs.Standing.{state_of}
-use Rattle.steps.specs.Steps.{Settled, EndsWith, Steps}
+use Rattle.step_laws.specs.Steps.{Settled, EndsWith, Steps}
 use Rattle.page_frames.specs.Pages.{tables_in}
-use Rattle.store_steps.specs.Keeps.{limits_of, KeepsStore}
-use Rattle.store_steps.specs.Refusals.{sessions_refuse_del}
-use Rattle.store_steps.proofs.StepLemmas.{steps_then, steps_weaker}
+use Rattle.store_laws.specs.Keeps.{limits_of, KeepsStore}
+use Rattle.store_laws.specs.Refusals.{sessions_refuse_del}
+use Rattle.store_laws.proofs.StepLemmas.{steps_then, steps_weaker}
 use Rattle.ipl_store.specs.declared.store.Store.{Store}
 use Rattle.ipl_store.specs.Calls.{view_of, IsSound, early_fault, entry_fault}
 use Rattle.ipl_store.specs.Puts.{is_page_full, found_room, put_fault, put_next}
@@ -32,7 +32,7 @@ use Rattle.ipl_keys.specs.Records.{IsBucketOf, HasKeys}
 use Rattle.ipl_keys.specs.Sessions.{pairs_after, written, HasKeyState}
 use Rattle.ipl_keys.specs.Laws.{pairs_of}
 use Rattle.ipl_keys.specs.Keeps.{LeavesKeys, KeepsKeys}
-use Rattle.ipl_keys.specs.Calls.{early_key_fault, Reads, change_of, HandsOn, handed, PutsBytes, Writes, IsFull, IsWritten, Changes, CallsKey, IsDone, IsNoBadBucket, ServesFor, ServesKeys}
+use Rattle.ipl_keys.specs.Calls.{early_key_fault, ReadsBucket, change_of, HandsOn, handed, PutsBytes, Writes, IsFull, IsWritten, Changes, CallsKey, IsDone, IsNoBadBucket, ServesFor, ServesKeys}
 use Rattle.ipl_keys.proofs.StateLemmas.{seen_holds, wrote_map, writes_keep_keys}
 use Rattle.ipl_keys.proofs.ServeLemmas.{StoreSteps, leads_steps, keeps_keys, keys_steps, leaves_keys, steps_as, nothing_serves}
 use Rattle.ipl_keys.proofs.SessionLemmas.{call_serves}
@@ -280,7 +280,7 @@ module _ (s : ℕ) (w : KeyWrite) (a b : Store) (before after : Told) (result : 
           (subst (λ (store : Store). Serving result store told h k) (sym same)
           (subst (λ (q : Result (Unit {0}) KeyFault). Serving q mid told h k) (sym answer) did))
 
-      by_read : (read : Result (List ℕ) KeyFault) → Reads s name a before read mid told
+      by_read : (read : Result (List ℕ) KeyFault) → ReadsBucket s name a before read mid told
           → ((fault : KeyFault) → read ≡ Err fault → (result ≡ Err fault) × (b ≡ mid) × (after ≡ told))
           → ((bytes : List ℕ) → read ≡ Ok bytes
           → (pairs : Pairs) × SpellsBucket bytes pairs × Rest pairs mid told)
@@ -331,7 +331,7 @@ module _ (early : Option KeyFault) (s n : ℕ) (Rest : Pairs → Store → Told 
     (before told : Told) where
   -- the reading failed, or ended the call
   pub changes_failed : (fault : KeyFault)
-      → CallsKey {T = ℕ} early (Reads s n a before (Err fault) mid told) a before (Err fault) mid told
+      → CallsKey {T = ℕ} early (ReadsBucket s n a before (Err fault) mid told) a before (Err fault) mid told
       → CallsKey {T = Unit {0}} early (Changes s n Rest a before (Err fault) mid told) a before (Err fault)
       mid told
   changes_failed fault calls = record {
@@ -357,7 +357,7 @@ module _ (early : Option KeyFault) (s n : ℕ) (Rest : Pairs → Store → Told 
   -- the bucket was read
   pub changes_read : (b : Store) (after : Told) (result : Result (Unit {0}) KeyFault) (len : ℕ)
       (bytes : List ℕ) (pairs : Pairs)
-      → CallsKey early (Reads s n a before (Ok bytes) mid told) a before (Ok len) mid told
+      → CallsKey early (ReadsBucket s n a before (Ok bytes) mid told) a before (Ok len) mid told
       → SpellsBucket bytes pairs → Rest pairs mid told → IsSound told.places b → b.units ≡ mid.units
       → Counts told after
       → CallsKey early (Changes s n Rest a before result b after) a before result b after

@@ -15,12 +15,12 @@ use Rattle.ipl_meaning.specs.Rests.{EachStandsIn, StoryRests}
 use Rattle.ipl_meaning.specs.Tables.{Tables, IsCountedClean}
 use Rattle.ipl_meaning.proofs.CarriedLemmas.{unused_is_carried}
 use Rattle.ipl_meaning.proofs.StoryLemmas.{moments_of_one, rests_in_units}
-use Rattle.steps.specs.Steps.{Settled, NoOtherEnd, EndsWith, OutcomeWhere, TidyWork}
-use Rattle.steps.proofs.StepLemmas.{outcome_then}
-use Rattle.steps.proofs.TidyLemmas.{tidy_then, tidy_weaker}
+use Rattle.step_laws.specs.Steps.{Settled, NoOtherEnd, EndsWith, OutcomeWhere, TidyWork}
+use Rattle.step_laws.proofs.StepLemmas.{outcome_then}
+use Rattle.step_laws.proofs.TidyLemmas.{tidy_then, tidy_weaker}
 use Rattle.clean_close.specs.Closing.{CountsUnused, RestsMarked, Closes, ClosesInSteps}
 use Rattle.page_frames.specs.Pages.{tables_in}
-use Rattle.store_steps.specs.Keeps.{limits_of, KeepsStore, IsUp}
+use Rattle.store_laws.specs.Keeps.{limits_of, KeepsStore, IsUp}
 use Rattle.ipl_store.specs.declared.store.Store.{Store}
 use Rattle.ipl_store.specs.Calls.{view_of, early_fault, entry_fault, Serves}
 use Rattle.ipl_store.specs.Closing.{ClosesStore, EndsMarking, MarksStore, ServesClose}

@@ -14,8 +14,8 @@ use Rattle.record_locks.specs.Held.{Slots}
 use Rattle.record_locks.specs.Locks.{pending_full}
 use Rattle.record_locks.specs.Standing.{state_of}
 use Rattle.store_trait.specs.Keeping.{LAST_NUMBER}
-use Rattle.store_steps.specs.Keeps.{limits_of}
-use Rattle.store_steps.specs.Refusals.{sessions_refuse_put, sessions_refuse_del}
+use Rattle.store_laws.specs.Keeps.{limits_of}
+use Rattle.store_laws.specs.Refusals.{sessions_refuse_put, sessions_refuse_del}
 use Rattle.ipl_store.specs.declared.store.Store.{Store}
 use Rattle.ipl_store.specs.Calls.{counter_of, early_fault, entry_fault, Calls}
 use Rattle.ipl_store.specs.Puts.{is_page_full, found_room, put_fault, put_next}
@@ -25,7 +25,7 @@ use Rattle.key_buckets.specs.Home.{bucket_of}
 use Rattle.ipl_keys.specs.declared.fault.KeyFault.{KeyFault}
 use Rattle.ipl_keys.specs.declared.fault.KeyFault.TheVariants as key
 use Rattle.ipl_keys.specs.Sessions.{written}
-use Rattle.ipl_keys.specs.Calls.{is_key, bad_key, bad_pair, first_fault, early_key_fault, Reads, Gets, handed, Writes, IsFull, IsWritten, Changes, CallsKey, may_meet, IsMet}
+use Rattle.ipl_keys.specs.Calls.{is_key, bad_key, bad_pair, first_fault, early_key_fault, ReadsBucket, Gets, handed, Writes, IsFull, IsWritten, Changes, CallsKey, may_meet, IsMet}
 
 -- ---- lists of tests
 
@@ -151,7 +151,7 @@ module _ (s n : ℕ) (a b : Store) (before after : Told) (low : n < 960 * a.unit
 
 -- it was read or it wasn't
 reads_met : (s n : ℕ) (a b : Store) (before after : Told) (fault : KeyFault)
-    → Reads s n a before (Err fault) b after → IsMet fault
+    → ReadsBucket s n a before (Err fault) b after → IsMet fault
 reads_met s n a b before after (key.Store Down) did = refl
 reads_met s n a b before after (key.Store Spent) did = refl
 reads_met s n a b before after (key.Store (Chip e)) did = refl
@@ -248,7 +248,7 @@ module _ (s n : ℕ) (bad : Option KeyFault) (Rest : Pairs → Store → Told �
         let answer = (did.fails f is).0 in
         let same : fault ≡ f = cc answer in
         subst IsMet (sym same) (reads_met s n a did.mid before did.told f
-        (subst (λ (q : Result (List ℕ) KeyFault). Reads s n a before q did.mid did.told) is did.reads))
+        (subst (λ (q : Result (List ℕ) KeyFault). ReadsBucket s n a before q did.mid did.told) is did.reads))
     by_read (Ok bytes) did is =
         let (pairs, spells, goes) = did.goes_on bytes is in
         elim (rest pairs did.mid did.told goes) [

@@ -12,8 +12,8 @@ use Rattle.ipl_rules.specs.State.{Map, at_rest}
 use Rattle.ipl_meaning.specs.Rests.{now, EachStands, EachStandsIn, StoryRests}
 use Rattle.ipl_meaning.specs.Tables.{Tables}
 use Rattle.ipl_meaning.proofs.StoryLemmas.{held_stands}
-use Rattle.opening_rules.specs.Chosen.{units_at}
-use Rattle.opening_rules.proofs.MomentLemmas.{moments_as_said}
+use Rattle.opening_laws.specs.Chosen.{units_at}
+use Rattle.opening_laws.proofs.MomentLemmas.{moments_as_said}
 use Rattle.unit_io.specs.Leads.{IsSteady}
 use Rattle.ipl_store.specs.Openings.{OpensAs, Tries}
 use Rattle.ipl_keys.specs.declared.keys.Keys.{Keys}

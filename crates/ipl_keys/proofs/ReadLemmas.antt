@@ -13,10 +13,10 @@ use Rattle.ipl_rules.specs.Refusals.{refuses_get, refuses_end}
 use Rattle.ipl_meaning.specs.Rests.{EachStandsEitherIn}
 use Rattle.record_locks.specs.Standing.{state_of}
 use Rattle.record_locks.proofs.SameLemmas.{alike}
-use Rattle.steps.specs.Steps.{Settled, EndsWith, Steps}
+use Rattle.step_laws.specs.Steps.{Settled, EndsWith, Steps}
 use Rattle.page_frames.specs.Pages.{tables_in}
-use Rattle.store_steps.proofs.StepLemmas.{steps_weaker}
-use Rattle.store_steps.specs.Keeps.{limits_of, KeepsStore}
+use Rattle.store_laws.proofs.StepLemmas.{steps_weaker}
+use Rattle.store_laws.specs.Keeps.{limits_of, KeepsStore}
 use Rattle.ipl_store.specs.declared.store.Store.{Store}
 use Rattle.ipl_store.specs.Calls.{view_of, IsSound, early_fault, entry_fault, Serves, Calls}
 use Rattle.ipl_store.specs.Shown.{IsSeen}
@@ -32,7 +32,7 @@ use Rattle.ipl_keys.specs.Records.{bytes_of}
 use Rattle.ipl_keys.specs.Sessions.{HasKeyState}
 use Rattle.ipl_keys.specs.Laws.{pairs_of}
 use Rattle.ipl_keys.specs.Keeps.{LeavesKeys, KeepsKeys}
-use Rattle.ipl_keys.specs.Calls.{is_key, bad_key, bad_pair, first_fault, early_key_fault, LooksAt, Reads, Gets, GetsKey, CallsKey, IsNoBadBucket, ServesFor, ServesKeys}
+use Rattle.ipl_keys.specs.Calls.{is_key, bad_key, bad_pair, first_fault, early_key_fault, LooksAt, ReadsBucket, Gets, GetsKey, CallsKey, IsNoBadBucket, ServesFor, ServesKeys}
 use Rattle.ipl_keys.proofs.NeverLemmas.{get_met}
 use Rattle.ipl_keys.proofs.StateLemmas.{seen_holds, seen_key}
 use Rattle.ipl_keys.proofs.ServeLemmas.{StoreSteps, leads_steps, keeps_keys, steps_as, leaves_keys, nothing_serves}
@@ -248,7 +248,7 @@ module _ (s n : ℕ) (a mid : Store) (before told : Told) (h : History) (state :
       (tables_in a.transactions.pages) (tables_in mid.transactions.pages) (λ v. Kept) Kept Read Kept h
       r read before told less ends (looked r looks)
 
-  pub reads_steps : (read : Result (List ℕ) KeyFault) → Reads s n a before read mid told
+  pub reads_steps : (read : Result (List ℕ) KeyFault) → ReadsBucket s n a before read mid told
       → ReadSteps read × IfErr read IsNoBadBucket
   reads_steps (Ok bytes) (sees, text, looks) = (
     as_read (Ok tt) (Ok bytes) (λ settled. tt)
@@ -351,7 +351,7 @@ module _ (s : ℕ) (bytes : List ℕ) (a b : Store) (before after : Told)
 
 pub gets_found : (early : Option KeyFault) (s n len : ℕ) (bytes bucket : List ℕ) (found : Option (List ℕ))
     (a b : Store) (before after : Told)
-    → CallsKey early (Reads s n a before (Ok bucket) b after) a before (Ok len) b after
+    → CallsKey early (ReadsBucket s n a before (Ok bucket) b after) a before (Ok len) b after
     → ((pairs : Pairs) → SpellsBucket bucket pairs → found ≡ value_at bytes pairs)
     → CallsKey early (Gets s n bytes a before (Ok found) b after) a before (Ok found) b after
 gets_found early s n len bytes bucket found a b before after calls value = record {
@@ -364,7 +364,7 @@ gets_found early s n len bytes bucket found a b before after calls value = recor
 
 pub gets_failed : (early : Option KeyFault) (s n : ℕ) (bytes : List ℕ) (fault : KeyFault) (a b : Store)
     (before after : Told)
-    → CallsKey {T = ℕ} early (Reads s n a before (Err fault) b after) a before (Err fault) b after
+    → CallsKey {T = ℕ} early (ReadsBucket s n a before (Err fault) b after) a before (Err fault) b after
     → CallsKey {T = Option (List ℕ)} early (Gets s n bytes a before (Err fault) b after) a before
     (Err fault) b after
 gets_failed early s n bytes fault a b before after calls = record {

@@ -11,14 +11,14 @@ use Rattle.ipl_meaning.specs.Layout.{Laid}
 use Rattle.ipl_meaning.specs.Rests.{now, EachStandsEitherIn, StoryRests}
 use Rattle.ipl_meaning.specs.Tables.{Tables, IsCountedClean}
 use Rattle.ipl_meaning.proofs.StoryLemmas.{moments_keep_units, rests_in_units}
-use Rattle.steps.specs.Steps.{Settled, EndsWith, TidyWork, Steps}
-use Rattle.steps.proofs.StepLemmas.{outcome_none, outcome_weaker}
-use Rattle.steps.proofs.TidyLemmas.{tidy_none, tidy_weaker}
+use Rattle.step_laws.specs.Steps.{Settled, EndsWith, TidyWork, Steps}
+use Rattle.step_laws.proofs.StepLemmas.{outcome_none, outcome_weaker}
+use Rattle.step_laws.proofs.TidyLemmas.{tidy_none, tidy_weaker}
 use Rattle.page_frames.specs.Pages.{tables_in}
-use Rattle.store_steps.specs.Advances.{state_then, TurnsMapOf, LeadsTo}
-use Rattle.store_steps.specs.Keeps.{limits_of, ShowsState, KeepsStore, keeps_each}
-use Rattle.store_steps.proofs.AdvanceLemmas.{same_held}
-use Rattle.store_steps.proofs.KeepLemmas.{IsAt, is_at, says_next}
+use Rattle.store_laws.specs.Advances.{state_then, TurnsMapOf, LeadsTo}
+use Rattle.store_laws.specs.Keeps.{limits_of, ShowsState, KeepsStore, keeps_each}
+use Rattle.store_laws.proofs.AdvanceLemmas.{same_held}
+use Rattle.store_laws.proofs.KeepLemmas.{IsAt, is_at, says_next}
 use Rattle.ipl_store.specs.declared.store.Store.{Store}
 use Rattle.ipl_store.specs.Calls.{memory_of_store, view_of}
 use Rattle.ipl_keys.specs.declared.fault.KeyFault.{KeyFault}

@@ -9,9 +9,9 @@ use Rattle.std.proofs.lemmas.Bool.Decides.{nat_tests}
 use Rattle.ipl_rules.specs.State.{Map, Session, State, Write, at_rest, is_open, writes_of, last_write, see}
 use Rattle.ipl_rules.specs.Operations.{new_session, after_begin, after_write, after_commit, after_abort}
 use Rattle.ipl_rules.proofs.SeenLemmas.{get-with_writes}
-use Rattle.pending_writes.specs.Pending.{wrote}
-use Rattle.pending_writes.specs.PendingLaws.{StateHasOneWriter}
-use Rattle.pending_writes.proofs.StateLemmas.{writes_in, wrote_here, wrote_other, last_here, last_before}
+use Rattle.store_laws.specs.Pending.{wrote}
+use Rattle.store_laws.specs.PendingLaws.{StateHasOneWriter}
+use Rattle.store_laws.proofs.StateLemmas.{writes_in, wrote_here, wrote_other, last_here, last_before}
 use Rattle.key_buckets.specs.Pairs.{Pairs, value_at}
 use Rattle.key_buckets.specs.Home.{bucket_of}
 use Rattle.key_buckets.proofs.ReadLemmas.{bytes_total, same_key}

@@ -11,10 +11,10 @@ use Rattle.ipl_base.specs.declared.limits.TheConstants.{VALUE_LEN}
 use Rattle.ipl_rules.specs.Operations.{after_write}
 use Rattle.ipl_rules.specs.Refusals.{refuses_end}
 use Rattle.record_locks.specs.Standing.{state_of}
-use Rattle.steps.specs.Steps.{Steps}
+use Rattle.step_laws.specs.Steps.{Steps}
 use Rattle.page_frames.specs.Pages.{tables_in}
-use Rattle.store_steps.specs.Keeps.{limits_of}
-use Rattle.store_steps.specs.Refusals.{sessions_refuse_del}
+use Rattle.store_laws.specs.Keeps.{limits_of}
+use Rattle.store_laws.specs.Refusals.{sessions_refuse_del}
 use Rattle.ipl_store.specs.declared.store.Store.{Store}
 use Rattle.ipl_store.specs.Calls.{IsSound, early_fault, entry_fault, Serves, Calls}
 use Rattle.ipl_store.specs.Puts.{found_room, put_fault, put_next, TellsRoom}
@@ -70,14 +70,14 @@ LooksAt old before result new after = Serves (λ state. state) 14 old before res
 
 -- The bytes of the bucket of this name were read; or the store's look-up failed; or what the session
 -- sees is no bucket.
-abbrev pub Reads : ℕ → ℕ → Store → Told → Result (List ℕ) KeyFault → Store → Told → Type 0
-Reads s n old before (Ok bytes) new after = Sees s n old before (λ seen. seen ≡ bytes)
+abbrev pub ReadsBucket : ℕ → ℕ → Store → Told → Result (List ℕ) KeyFault → Store → Told → Type 0
+ReadsBucket s n old before (Ok bytes) new after = Sees s n old before (λ seen. seen ≡ bytes)
     × IsBucketText bytes × LooksAt old before (Ok tt) new after
-Reads s n old before (Err (key.Store fault)) new after = LooksAt old before (Err fault) new after
-Reads s n old before (Err key.BadKey) new after = ⊥
-Reads s n old before (Err key.LongValue) new after = ⊥
-Reads s n old before (Err (key.BucketFull m)) new after = ⊥
-Reads s n old before (Err (key.BadBucket m)) new after = (m ≡ n)
+ReadsBucket s n old before (Err (key.Store fault)) new after = LooksAt old before (Err fault) new after
+ReadsBucket s n old before (Err key.BadKey) new after = ⊥
+ReadsBucket s n old before (Err key.LongValue) new after = ⊥
+ReadsBucket s n old before (Err (key.BucketFull m)) new after = ⊥
+ReadsBucket s n old before (Err (key.BadBucket m)) new after = (m ≡ n)
     × Sees s n old before (λ seen. IsBucketText seen → ⊥) × LooksAt old before (Ok tt) new after
 
 -- a length as that many bytes of these
@@ -94,9 +94,9 @@ lent_of (Err fault) = Err fault
 abbrev pub Gets : ℕ → ℕ → List ℕ → Store → Told → Result (Option (List ℕ)) KeyFault → Store → Told
     → Type 0
 Gets s n bytes old before (Ok found) new after = (bucket : List ℕ)
-    × Reads s n old before (Ok bucket) new after
+    × ReadsBucket s n old before (Ok bucket) new after
     × ((pairs : Pairs) → SpellsBucket bucket pairs → found ≡ value_at bytes pairs)
-Gets s n bytes old before (Err fault) new after = Reads s n old before (Err fault) new after
+Gets s n bytes old before (Err fault) new after = ReadsBucket s n old before (Err fault) new after
 
 -- ---- a bucket is written
 
@@ -150,7 +150,7 @@ pub record Changes (s n : ℕ) (Rest : Pairs → Store → Told → Type 0) (old
   pub mid : Store
   pub told : Told
   pub read : Result (List ℕ) KeyFault
-  pub reads : Reads s n old before read mid told
+  pub reads : ReadsBucket s n old before read mid told
   pub sound : IsSound before.places mid
   pub units : mid.units ≡ old.units
   pub counts : Counts before told

@@ -6,7 +6,7 @@ use Rattle.ipl_rules.specs.State.{Map, State}
 use Rattle.ipl_format.specs.Sector.{sector_in}
 use Rattle.ipl_meaning.specs.Chart.{Chart}
 use Rattle.ipl_meaning.specs.Stands.{StandsIn}
-use Rattle.store_steps.specs.Keeps.{limits_of, KeepsStore}
+use Rattle.store_laws.specs.Keeps.{limits_of, KeepsStore}
 use Rattle.ipl_store.specs.declared.store.Store.{Store}
 use Rattle.ipl_store.specs.Calls.{view_of}
 use Rattle.ipl_keys.specs.KeyState.{KeyMap, KeyState}

@@ -5,7 +5,7 @@ ghost use Rattle.std.specs.Io.BufRead.{Rests};
 ghost use Rattle.ipl_base.specs.declared.limits.TheConstants.{UNIT_NAMES, VALUE_LEN};
 ghost use Rattle.ipl_rules.specs.Refusals.{refuses_get};
 ghost use Rattle.record_locks.specs.Standing.{state_of};
-ghost use Rattle.store_steps.specs.Keeps.{limits_of};
+ghost use Rattle.store_laws.specs.Keeps.{limits_of};
 ghost use Rattle.ipl_store.specs.Calls.{Calls, IsSound, early_fault, entry_fault};
 ghost use Rattle.key_buckets.specs.Pairs.{Pairs, value_at};
 ghost use Rattle.key_buckets.specs.Bucket.{IsBucketText, SpellsBucket};
@@ -15,7 +15,7 @@ ghost use Rattle.ipl_keys.specs.Records.{bytes_of};
 ghost use Rattle.ipl_keys.specs.Calls.{
   CallsKey,
   GetsKey,
-  Reads,
+  ReadsBucket,
   Sees,
   bytes_in,
   early_key_fault,
@@ -67,7 +67,7 @@ impl Keys {
         requires entry { entry_fault self.old.store ≡ None }
         requires name { n < UNIT_NAMES * self.old.store.units }
         ensures calls { CallsKey (early_key_fault self.old.store None s)
-            (Reads s n self.old.store (C.told chip.old) (bytes_in self.new.bucket result)
+            (ReadsBucket s n self.old.store (C.told chip.old) (bytes_in self.new.bucket result)
             self.new.store (C.told chip.new))
             self.old.store (C.told chip.old) result self.new.store (C.told chip.new) }
         ensures bucket { IfOk result (λ len. IsBucketText (take len self.new.bucket)) }
@@ -103,7 +103,7 @@ impl Keys {
         requires sound { IsSound (C.told chip.old).places self.old.store }
         requires name { n < UNIT_NAMES * self.old.store.units }
         ensures calls { CallsKey (early_key_fault self.old.store bad s)
-            (Reads s n self.old.store (C.told chip.old) (bytes_in self.new.bucket result)
+            (ReadsBucket s n self.old.store (C.told chip.old) (bytes_in self.new.bucket result)
             self.new.store (C.told chip.new))
             self.old.store (C.told chip.old) result self.new.store (C.told chip.new) }
         ensures bucket { IfOk result (λ len. IsBucketText (take len self.new.bucket)) }

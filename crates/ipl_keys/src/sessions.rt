@@ -3,7 +3,7 @@ ghost use Rattle.std.specs.Prelude.{◌^◌};
 ghost use Rattle.ipl_rules.specs.Operations.{after_begin, after_commit, after_abort};
 ghost use Rattle.ipl_rules.specs.Refusals.{refuses_begin, refuses_end};
 ghost use Rattle.record_locks.specs.Standing.{state_of};
-ghost use Rattle.store_steps.specs.Keeps.{limits_of};
+ghost use Rattle.store_laws.specs.Keeps.{limits_of};
 ghost use Rattle.ipl_store.specs.Calls.{Calls, IsSound, down_fault, early_fault, entry_fault};
 ghost use Rattle.ipl_keys.specs.KeyState.{after_key_begin, after_key_commit, after_key_abort};
 ghost use Rattle.ipl_keys.specs.Calls.{HandsOn, IsDone, ServesKeys};

@@ -12,12 +12,12 @@ use Rattle.page_rebuild.specs.Loaded.{load_fault}
 use Rattle.buffer_pool.specs.Pools.{AreOnce, with_use}
 use Rattle.frame_changes.proofs.FrameLemmas.{pins_keep_frames}
 use Rattle.record_locks.specs.Held.{Slots}
-use Rattle.pending_writes.specs.Frames.{Frame}
-use Rattle.store_steps.specs.Advances.{memory_of, MemoryFits}
-use Rattle.store_steps.proofs.KeepLemmas.{says_next}
+use Rattle.store_laws.specs.Frames.{Frame}
+use Rattle.store_laws.specs.Advances.{memory_of, MemoryFits}
+use Rattle.store_laws.proofs.KeepLemmas.{says_next}
 use Rattle.page_frames.specs.declared.pages.Pages.{Pages}
 use Rattle.page_frames.specs.Asks.{AsksToBring}
-use Rattle.page_frames.specs.Pages.{tables_in, frames_in, IsFramed, IsFresh, OnlyUses, Upholds}
+use Rattle.page_frames.specs.Pages.{tables_in, frames_in, IsFramed, IsCleanFrame, OnlyUses, Upholds}
 use Rattle.page_frames.proofs.FaultyLemmas.{still_sound}
 use Rattle.transactions.specs.declared.transactions.Transactions.{Transactions}
 use Rattle.transactions.specs.Turns.{memory_in, CompletesFor, TellsFaultsFor, Turns}
@@ -44,7 +44,7 @@ with_pages store pages =
     record store { transactions = record store.transactions { pages = pages } }
 
 fresh_frame : (u page : ℕ) (pages : Pages) (f : Frame) → frames_in pages u page ≡ Some f
-    → IsFresh pages u page → f.log ≡ []
+    → IsCleanFrame pages u page → f.log ≡ []
 fresh_frame u page pages f there (g, is, empty) =
     let one : Some g ≡ Some f = sym is ∙ there in
     let which : g ≡ f = cc one in ap (λ (h : Frame). h.log) (sym which) ∙ empty
@@ -53,7 +53,7 @@ pub has_brought : (u page : ℕ) (old : Store) (pages : Pages) (before after : T
     (done : Result (Unit {0}) ChipFault) (result : Result (Unit {0}) StoreFault) (new : Store)
     → AreOnce old.transactions.pages.pool.buffers
     → Upholds 14 old.transactions.pages before done pages after → OnOk done (IsFramed pages u page)
-    → (frames_in old.transactions.pages u page ≡ None → OnOk done (IsFresh pages u page))
+    → (frames_in old.transactions.pages u page ≡ None → OnOk done (IsCleanFrame pages u page))
     → AsksToBring u page (is_worn_out done) old.transactions.pages pages before after
     → new ≡ record (with_pages old pages) { down = new.down }
     → EndsAs done old.down result new.down

@@ -21,17 +21,17 @@ use Rattle.unit_io.specs.Charts.{Charts}
 use Rattle.unit_io.specs.Costs.{Spends}
 use Rattle.unit_io.specs.Reads.{OfContents}
 use Rattle.place_taking.specs.Spending.{is_worn_out}
-use Rattle.place_taking.specs.Wear.{Wears}
+use Rattle.place_taking.specs.Wear.{TellsOfWear}
 use Rattle.place_taking.proofs.WearLemmas.{alike_tables, nothing_wears, wears_are_joined}
-use Rattle.merge_rules.specs.Faults.{FailsByChipAlone}
+use Rattle.merge_laws.specs.Faults.{FailsByChipAlone}
 use Rattle.selective_merge.specs.Throughout.{ChartsThroughout}
-use Rattle.steps.specs.Steps.{Tidies}
-use Rattle.steps.proofs.TablesLemmas.{tables_none, tables_then, tables_answered, tables_fewer}
-use Rattle.store_steps.specs.Advances.{TurnsMapOf, LeadsTo}
-use Rattle.store_steps.specs.Keeps.{ShowsState}
-use Rattle.store_steps.proofs.AdvanceLemmas.{answers_advance, calls_advance, failures_advance}
-use Rattle.store_steps.proofs.KeeperLemmas.{nothing_keeps_states}
-use Rattle.store_steps.proofs.LeadLemmas.{keepers_lead_still}
+use Rattle.step_laws.specs.Steps.{Tidies}
+use Rattle.step_laws.proofs.TablesLemmas.{tables_none, tables_then, tables_answered, tables_fewer}
+use Rattle.store_laws.specs.Advances.{TurnsMapOf, LeadsTo}
+use Rattle.store_laws.specs.Keeps.{ShowsState}
+use Rattle.store_laws.proofs.AdvanceLemmas.{answers_advance, calls_advance, failures_advance}
+use Rattle.store_laws.proofs.KeeperLemmas.{nothing_keeps_states}
+use Rattle.store_laws.proofs.LeadLemmas.{keepers_lead_still}
 use Rattle.page_writing.specs.Spending.{ErasesAndLogs}
 use Rattle.page_frames.specs.declared.pages.Pages.{Pages}
 use Rattle.page_frames.specs.Complete.{Completes}
@@ -49,11 +49,11 @@ use Rattle.ipl_store.specs.Shown.{CostsOnePage, IsUsedLastIn}
 -- nothing is worn where nothing is done
 idle_wears : {T : Type 0} (store : Store) (told : Told) (result : Result T StoreFault)
     → ends_worn_out result ≡ false
-    → Wears (tables_in store.transactions.pages) (tables_in store.transactions.pages) (is_ok result)
+    → TellsOfWear (tables_in store.transactions.pages) (tables_in store.transactions.pages) (is_ok result)
     (ends_worn_out result) told told
 idle_wears store told result calm =
     let t = tables_in store.transactions.pages in
-    subst (λ (worn_out : Bool). Wears t t (is_ok result) worn_out told told) (sym calm)
+    subst (λ (worn_out : Bool). TellsOfWear t t (is_ok result) worn_out told told) (sym calm)
     (nothing_wears t t (is_ok result) told (alike_tables t t refl refl))
 
 pub calls_refused : {T : Type 0} (early : Option StoreFault) (next : State → State) (most : ℕ)
@@ -130,7 +130,7 @@ pub record Moves (next : State → State) (most : ℕ) (old : Transactions) (bef
     (done : Result (Unit {0}) ChipFault) (new : Transactions) (after : Told) : Type 0 where
   pub leads : LeadsTo next (memory_in old) before done (memory_in new) after
   pub tidy : Tidies (tables_in old.pages) done (tables_in new.pages) before after
-  pub wears : Wears (tables_in old.pages) (tables_in new.pages) (is_ok done) (is_worn_out done) before
+  pub wears : TellsOfWear (tables_in old.pages) (tables_in new.pages) (is_ok done) (is_worn_out done) before
       after
   pub order : IsInOrder before.places new
   pub units : length new.pages.parts.directory.current ≡ length old.pages.parts.directory.current
@@ -342,13 +342,13 @@ module _ (next : State → State) (most : ℕ) (old : Store) (t : Transactions) 
         (subst (λ (it : Transactions).
         Tidies (tables_in old.transactions.pages) done (tables_in it.pages) before after) (sym moved)
         moves.tidy);
-    wears = subst (λ (worn_out : Bool). Wears (tables_in old.transactions.pages)
+    wears = subst (λ (worn_out : Bool). TellsOfWear (tables_in old.transactions.pages)
         (tables_in new.transactions.pages) (is_ok result) worn_out before after)
         (sym (ended_worn done old.down new.down result ends))
-        (subst (λ (ok : Bool). Wears (tables_in old.transactions.pages)
+        (subst (λ (ok : Bool). TellsOfWear (tables_in old.transactions.pages)
         (tables_in new.transactions.pages) ok (is_worn_out done) before after)
         (same_answer done old.down new.down result ends)
-        (subst (λ (it : Transactions). Wears (tables_in old.transactions.pages) (tables_in it.pages)
+        (subst (λ (it : Transactions). TellsOfWear (tables_in old.transactions.pages) (tables_in it.pages)
         (is_ok done) (is_worn_out done) before after) (sym moved) moves.wears));
     counts = moves.accounts.counts;
   }

@@ -13,8 +13,8 @@ use Rattle.buffer_pool.specs.declared.pool.Buffer.{Buffer}
 use Rattle.buffer_pool.specs.Pools.{PoolView, IsThere}
 use Rattle.buffer_pool.specs.Holding.{is_pinned, pinned_count, IsHeld, KeepsPins}
 use Rattle.buffer_pool.specs.Laws.{buffer_of, TellsBuffers}
-use Rattle.pending_writes.specs.Frames.{Frames}
-use Rattle.store_steps.specs.Advances.{memory_of, LeadsTo}
+use Rattle.store_laws.specs.Frames.{Frames}
+use Rattle.store_laws.specs.Advances.{memory_of, LeadsTo}
 use Rattle.frame_changes.specs.Views.{frame_in}
 use Rattle.page_frames.specs.Pages.{tables_in, frames_in, KeepsFramed}
 use Rattle.ipl_store.specs.declared.store.Store.{Store}

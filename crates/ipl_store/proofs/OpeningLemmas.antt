@@ -21,34 +21,34 @@ use Rattle.ipl_meaning.specs.Tables.{Tables}
 use Rattle.ipl_meaning.specs.Values.{Values}
 use Rattle.ipl_meaning.proofs.OnceLemmas.{laid_once}
 use Rattle.ipl_meaning.proofs.StandsLemmas.{kept_pages_keep_the_map}
-use Rattle.opening_rules.specs.Chosen.{units_at}
-use Rattle.opening_rules.specs.Faults.{greatest_found}
-use Rattle.opening_rules.specs.LaidOut.{layout_in}
+use Rattle.opening_laws.specs.Chosen.{units_at}
+use Rattle.opening_laws.specs.Faults.{greatest_found}
+use Rattle.opening_laws.specs.LaidOut.{layout_in}
 use Rattle.record_locks.specs.Held.{Held, number_of, numbers_in}
 use Rattle.slab.specs.Slab.{get}
 use Rattle.buffer_pool.specs.declared.pool.Buffer.{Buffer}
 use Rattle.buffer_pool.specs.Holding.{is_pinned, pinned_count}
 use Rattle.buffer_pool.specs.Laws.{buffer_in}
 use Rattle.selective_merge.specs.declared.parts.Parts.{Parts}
-use Rattle.steps.specs.Laws.{Preserves}
+use Rattle.step_laws.specs.Laws.{Preserves}
 use Rattle.unit_io.specs.Charts.{Charts}
 use Rattle.unit_io.specs.Leads.{IsSteady}
 use Rattle.unit_io.specs.Reads.{OfContents}
 use Rattle.status_renewal.specs.Recovers.{RecoversTold, RecoversInSteps, HoldsOpened}
 use Rattle.status_renewal.proofs.ReadyLemmas.{layouts_say}
-use Rattle.pending_writes.proofs.FirstLemmas.{empty_slots_are_at_rest}
-use Rattle.pending_writes.proofs.MemoryFitLemmas.{openings_fit}
-use Rattle.store_steps.specs.Advances.{Memory, memory_of, MemoryFits, LeadsTo}
-use Rattle.store_steps.specs.Laws.{IsReopened}
-use Rattle.store_steps.specs.Keeps.{View, limits_of, ShowsState, KeepsStore, opened_with}
-use Rattle.store_steps.proofs.AdvanceLemmas.{same_held}
-use Rattle.store_steps.proofs.FaultLemmas.{opened_stores_keep}
-use Rattle.store_steps.proofs.LeadLemmas.{restarts_lead}
+use Rattle.store_laws.proofs.FirstLemmas.{empty_slots_are_at_rest}
+use Rattle.store_laws.proofs.MemoryFitLemmas.{openings_fit}
+use Rattle.store_laws.specs.Advances.{Memory, memory_of, MemoryFits, LeadsTo}
+use Rattle.store_laws.specs.Laws.{IsReopened}
+use Rattle.store_laws.specs.Keeps.{View, limits_of, ShowsState, KeepsStore, opened_with}
+use Rattle.store_laws.proofs.AdvanceLemmas.{same_held}
+use Rattle.store_laws.proofs.FaultLemmas.{opened_stores_keep}
+use Rattle.store_laws.proofs.LeadLemmas.{restarts_lead}
 use Rattle.frame_changes.specs.Views.{frame_in}
 use Rattle.page_frames.specs.Pages.{tables_in, frames_in}
 use Rattle.ipl_store.specs.declared.store.Store.{Store}
 use Rattle.ipl_store.specs.Calls.{memory_of_store, view_of, counter_of, IsMade, IsSound}
-use Rattle.ipl_store.specs.Openings.{IsFresh, Opens, Restarts}
+use Rattle.ipl_store.specs.Openings.{IsJustOpened, Opens, Restarts}
 
 -- ---- pages
 
@@ -205,7 +205,7 @@ module _ (marks : Bool) (places units : ℕ) (t : Tables) (old new : Told)
 
 -- ---- as its fields have it
 
-pub fresh_view : (store : Store) → IsFresh store
+pub fresh_view : (store : Store) → IsJustOpened store
     → opened_with store.units (tables_in store.transactions.pages) (replicate 32 None)
     ≡ view_of store
 fresh_view store fresh = λ i. record {
@@ -217,7 +217,7 @@ fresh_view store fresh = λ i. record {
 
 -- ---- the store
 
-module _ (places : ℕ) (store : Store) (made : IsMade places store) (fresh : IsFresh store)
+module _ (places : ℕ) (store : Store) (made : IsMade places store) (fresh : IsJustOpened store)
     (holds : HoldsOpened places (tables_in store.transactions.pages))
     (many : length store.transactions.pages.parts.directory.current ≡ store.units) where
   no_frame : (u page : ℕ) → frames_in store.transactions.pages u page ≡ None

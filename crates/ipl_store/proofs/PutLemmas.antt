@@ -22,11 +22,11 @@ use Rattle.selective_merge.specs.declared.parts.Parts.{Parts}
 use Rattle.selective_merge.specs.Moving.{tables_of}
 use Rattle.selective_merge.specs.Spotting.{HasHomeSpot}
 use Rattle.page_writing.specs.Spending.{ErasesAndLogs}
-use Rattle.pending_writes.specs.Frames.{Frame, Frames}
-use Rattle.pending_writes.specs.Room.{overfills_at}
-use Rattle.store_steps.specs.Advances.{memory_of, LeadsTo}
-use Rattle.store_steps.specs.Keeps.{limits_of}
-use Rattle.store_steps.specs.Refusals.{sessions_refuse_put}
+use Rattle.store_laws.specs.Frames.{Frame, Frames}
+use Rattle.store_laws.specs.Room.{overfills_at}
+use Rattle.store_laws.specs.Advances.{memory_of, LeadsTo}
+use Rattle.store_laws.specs.Keeps.{limits_of}
+use Rattle.store_laws.specs.Refusals.{sessions_refuse_put}
 use Rattle.page_frames.specs.Pages.{tables_in, frames_in, IsFramed, KeepsFramedFor}
 use Rattle.page_frames.proofs.AskLemmas.{one_of_none}
 use Rattle.page_frames.proofs.UseLemmas.{none_leaves, framed_then}

@@ -21,12 +21,12 @@ use Rattle.ipl_meaning.specs.Chart.{chart_of}
 use Rattle.ipl_meaning.specs.Tables.{Tables}
 use Rattle.unit_io.specs.Reads.{OfContents}
 use Rattle.store_trait.specs.Keeping.{LAST_NUMBER}
-use Rattle.pending_writes.specs.Frames.{Frame, Frames}
-use Rattle.pending_writes.specs.Room.{overfills_at}
-use Rattle.store_steps.specs.Advances.{memory_of}
-use Rattle.store_steps.specs.Keeps.{ShowsState, limits_of}
-use Rattle.store_steps.specs.Refusals.{sessions_refuse_put}
-use Rattle.store_steps.proofs.ViewLemmas.{frames_tell_full}
+use Rattle.store_laws.specs.Frames.{Frame, Frames}
+use Rattle.store_laws.specs.Room.{overfills_at}
+use Rattle.store_laws.specs.Advances.{memory_of}
+use Rattle.store_laws.specs.Keeps.{ShowsState, limits_of}
+use Rattle.store_laws.specs.Refusals.{sessions_refuse_put}
+use Rattle.store_laws.proofs.ViewLemmas.{frames_tell_full}
 use Rattle.ipl_store.specs.declared.store.Store.{Store}
 use Rattle.ipl_store.specs.Calls.{view_of, counter_of, early_fault}
 use Rattle.ipl_store.specs.Puts.{is_page_full, found_room, put_fault, BringsPageOf}

@@ -12,11 +12,11 @@ use Rattle.ipl_meaning.specs.Chart.{chart_of}
 use Rattle.ipl_meaning.specs.Tables.{Tables}
 use Rattle.unit_io.specs.Costs.{Spends}
 use Rattle.unit_io.specs.Reads.{OfContents}
-use Rattle.pending_writes.specs.Pending.{name_at}
-use Rattle.pending_writes.specs.Frames.{Frame, Frames}
-use Rattle.store_steps.specs.Advances.{KeepsState}
-use Rattle.store_steps.specs.Keeps.{View, ShowsState, TellsName}
-use Rattle.store_steps.proofs.ViewLemmas.{frames_tell_state}
+use Rattle.store_laws.specs.Pending.{name_at}
+use Rattle.store_laws.specs.Frames.{Frame, Frames}
+use Rattle.store_laws.specs.Advances.{KeepsState}
+use Rattle.store_laws.specs.Keeps.{View, ShowsState, TellsName}
+use Rattle.store_laws.proofs.ViewLemmas.{frames_tell_state}
 use Rattle.record_locks.specs.Held.{number_of}
 use Rattle.page_ops.specs.Pending.{seen_by}
 use Rattle.buffer_pool.specs.Uses.{IsUsedLast}

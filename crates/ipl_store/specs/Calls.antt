@@ -19,11 +19,11 @@ use Rattle.buffer_pool.specs.Pools.{PoolView}
 use Rattle.buffer_pool.specs.Laws.{buffer_of}
 use Rattle.buffer_pool.specs.Holding.{is_pinned, pinned_count, KeepsPins}
 use Rattle.store_trait.specs.Keeping.{LAST_NUMBER}
-use Rattle.store_steps.specs.Advances.{Memory, MemoryFits, LeadsTo}
-use Rattle.store_steps.specs.Keeps.{View, ShowsState}
+use Rattle.store_laws.specs.Advances.{Memory, MemoryFits, LeadsTo}
+use Rattle.store_laws.specs.Keeps.{View, ShowsState}
 use Rattle.place_taking.specs.Spending.{tells_worn}
-use Rattle.place_taking.specs.Wear.{Wears}
-use Rattle.steps.specs.Steps.{Tidies}
+use Rattle.place_taking.specs.Wear.{TellsOfWear}
+use Rattle.step_laws.specs.Steps.{Tidies}
 use Rattle.page_frames.specs.Faulty.{FailsByPage}
 use Rattle.page_frames.specs.Pages.{tables_in, PageCause}
 use Rattle.transactions.specs.Turns.{memory_in, IsInOrder}
@@ -196,6 +196,6 @@ pub record Calls {T : Type 0} (early : Option StoreFault) (next : State → Stat
   pub units : new.units ≡ old.units
   pub tidy : Tidies (tables_in old.transactions.pages) result (tables_in new.transactions.pages)
       before after
-  pub wears : Wears (tables_in old.transactions.pages) (tables_in new.transactions.pages) (is_ok result)
+  pub wears : TellsOfWear (tables_in old.transactions.pages) (tables_in new.transactions.pages) (is_ok result)
       (ends_worn_out result) before after
   pub counts : Counts before after

@@ -7,8 +7,8 @@ use Rattle.ipl_base.specs.declared.fault.StoreFault.TheVariants.{Chip}
 use Rattle.unit_io.specs.Accounts.{Accounts}
 use Rattle.unit_io.specs.Costs.{ProgramsAt, Spends}
 use Rattle.unit_io.specs.Leads.{IsStopped}
-use Rattle.steps.specs.Steps.{Tidies}
-use Rattle.place_taking.specs.Wear.{Wears}
+use Rattle.step_laws.specs.Steps.{Tidies}
+use Rattle.place_taking.specs.Wear.{TellsOfWear}
 use Rattle.clean_close.specs.Closing.{ClosesInSteps, EndsWithMark}
 use Rattle.page_frames.specs.Pages.{tables_in}
 use Rattle.ipl_store.specs.declared.store.Store.{Store}
@@ -45,7 +45,7 @@ pub record ServesClose (old : Store) (before : Told) (result : Result (Unit {0})
   pub readied : Result (Unit {0}) StoreFault
   pub ready : Serves (λ state. state) (2 ^ 14) old before readied between told
   pub tidy : Tidies (tables_in old.transactions.pages) readied (tables_in between.transactions.pages) before told
-  pub wears : Wears (tables_in old.transactions.pages) (tables_in between.transactions.pages) (is_ok readied)
+  pub wears : TellsOfWear (tables_in old.transactions.pages) (tables_in between.transactions.pages) (is_ok readied)
       (ends_worn_out readied) before told
   pub units : between.units ≡ old.units
   pub counts : Counts before told

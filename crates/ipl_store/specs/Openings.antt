@@ -17,8 +17,8 @@ use Rattle.ipl_meaning.specs.Layout.{Layout}
 use Rattle.ipl_meaning.specs.Rests.{StoryRests}
 use Rattle.ipl_meaning.specs.Stands.{Stands}
 use Rattle.ipl_meaning.specs.Tables.{Tables}
-use Rattle.opening_rules.specs.Chosen.{units_at}
-use Rattle.opening_rules.specs.Faults.{greatest_found}
+use Rattle.opening_laws.specs.Chosen.{units_at}
+use Rattle.opening_laws.specs.Faults.{greatest_found}
 use Rattle.restart.specs.Bytes.{ReadsBytes}
 use Rattle.unit_io.specs.Accounts.{Accounts}
 use Rattle.unit_io.specs.Charts.{Charts}
@@ -27,14 +27,14 @@ use Rattle.unit_io.specs.Leads.{IsSteady}
 use Rattle.unit_io.specs.Reads.{OfContents}
 use Rattle.status_renewal.specs.Passes.{HasErased, ListsRetired}
 use Rattle.status_renewal.specs.Recovers.{CompletesOpening, ErasesOpening, RecoversTold, LooksAtFaults, RecoversInSteps, TidiesOpening, OpeningCause}
-use Rattle.store_steps.specs.Advances.{Memory, MemoryFits, LeadsTo}
-use Rattle.store_steps.specs.Keeps.{limits_of, ShowsState, KeepsStore}
+use Rattle.store_laws.specs.Advances.{Memory, MemoryFits, LeadsTo}
+use Rattle.store_laws.specs.Keeps.{limits_of, ShowsState, KeepsStore}
 use Rattle.page_frames.specs.Pages.{tables_in}
 use Rattle.ipl_store.specs.declared.store.Store.{Store}
 use Rattle.ipl_store.specs.Calls.{memory_of_store, view_of, counter_of, IsSound}
 
 -- the store isn't down, no session is open, and no page is in a frame
-pub record IsFresh (store : Store) : Type 0 where
+pub record IsJustOpened (store : Store) : Type 0 where
   pub up : store.down ≡ false
   pub unclosed : store.closed ≡ false
   pub idle : store.transactions.sessions ≡ replicate SESSIONS None
@@ -52,7 +52,7 @@ pub record FitsAnew (places : ℕ) (store : Store) (y : Chart) : Type 0 where
 -- contents before stood for a map, its memory and the contents then show that map; and it keeps it over
 -- each history then that rests on it, and leaves clean what the tables count as clean.
 pub record Opens (places : ℕ) (old : Told) (store : Store) (new : Told) : Type 0 where
-  pub fresh : IsFresh store
+  pub fresh : IsJustOpened store
   pub units : OfContents old (λ x. store.units ≡ units_at (chart_of x) places)
   pub anew : Charts (λ c y. FitsAnew places store y) old new
   pub shows : (m : Map) → OfContents old (λ x. Stands places (chart_of x) m

@@ -14,11 +14,11 @@ use Rattle.ipl_rules.specs.State.{State}
 use Rattle.record_locks.specs.Held.{marks_in}
 use Rattle.ipl_meaning.specs.Tables.{Tables}
 use Rattle.unit_io.specs.Reads.{OfContents}
-use Rattle.pending_writes.specs.Frames.{Frame, Frames}
-use Rattle.pending_writes.specs.Room.{overfills_at}
-use Rattle.store_steps.specs.Advances.{memory_of, KeepsState, LeadsTo}
-use Rattle.store_steps.specs.Keeps.{ShowsState, limits_of}
-use Rattle.store_steps.specs.Refusals.{sessions_refuse_put}
+use Rattle.store_laws.specs.Frames.{Frame, Frames}
+use Rattle.store_laws.specs.Room.{overfills_at}
+use Rattle.store_laws.specs.Advances.{memory_of, KeepsState, LeadsTo}
+use Rattle.store_laws.specs.Keeps.{ShowsState, limits_of}
+use Rattle.store_laws.specs.Refusals.{sessions_refuse_put}
 use Rattle.page_frames.specs.Asks.{AsksToBring}
 use Rattle.page_frames.specs.Pages.{tables_in, frames_in, IsFramed, Upholds}
 use Rattle.ipl_store.specs.declared.store.Store.{Store}

@@ -11,12 +11,12 @@ use Rattle.ipl_meaning.specs.Layout.{Layout}
 use Rattle.ipl_meaning.specs.Stands.{Shows, page_in}
 use Rattle.unit_io.specs.Costs.{Costs, Spends}
 use Rattle.unit_io.specs.Reads.{OfContents}
-use Rattle.pending_writes.specs.Frames.{Frame}
+use Rattle.store_laws.specs.Frames.{Frame}
 use Rattle.buffer_pool.specs.Pools.{PoolView}
 use Rattle.buffer_pool.specs.Holding.{IsHeld, IsPage, IsAtRest}
 use Rattle.buffer_pool.specs.Uses.{IsUsedLast, UsesPage}
-use Rattle.store_steps.specs.Advances.{MemoryFits}
-use Rattle.store_steps.specs.Keeps.{View, TellsName}
+use Rattle.store_laws.specs.Advances.{MemoryFits}
+use Rattle.store_laws.specs.Keeps.{View, TellsName}
 use Rattle.page_writing.specs.Spending.{ErasesAndLogs}
 use Rattle.page_frames.specs.Pages.{frames_in, IsFramed, KeepsFramedFor, HasFreeFrame}
 use Rattle.ipl_store.specs.declared.store.Store.{Store}

@@ -4,7 +4,7 @@ ghost use Rattle.ipl_rules.specs.Operations.{after_begin, after_abort};
 ghost use Rattle.ipl_rules.specs.Refusals.{refuses_begin, refuses_end};
 ghost use Rattle.record_locks.specs.Held.{after_end};
 ghost use Rattle.record_locks.specs.Standing.{state_of};
-ghost use Rattle.store_steps.specs.Keeps.{limits_of};
+ghost use Rattle.store_laws.specs.Keeps.{limits_of};
 ghost use Rattle.page_frames.specs.Pages.{KeepsFramed};
 ghost use Rattle.ipl_store.specs.Calls.{
   IsSound,
@@ -19,7 +19,7 @@ ghost use Rattle.ipl_store.specs.Calls.{
 use crate::Store;
 use chip_trait::Chip;
 use ipl_base::StoreFault;
-use store_steps::passing_laws;
+use store_laws::passing_laws;
 
 impl Store {
     /// Opens a session, 0 to 31: it begins a transaction. The chip isn't asked.

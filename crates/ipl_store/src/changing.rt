@@ -5,8 +5,8 @@ ghost use Rattle.ipl_base.specs.Places.{home_of};
 ghost use Rattle.ipl_rules.specs.Operations.{after_write, after_commit, after_batch};
 ghost use Rattle.ipl_rules.specs.Refusals.{refuses_end, refuses_batch};
 ghost use Rattle.record_locks.specs.Standing.{state_of};
-ghost use Rattle.store_steps.specs.Keeps.{limits_of};
-ghost use Rattle.store_steps.specs.Refusals.{sessions_refuse_del};
+ghost use Rattle.store_laws.specs.Keeps.{limits_of};
+ghost use Rattle.store_laws.specs.Refusals.{sessions_refuse_del};
 ghost use Rattle.page_frames.specs.Pages.{IsFramed, KeepsFramed, KeepsFramedFor};
 ghost use Rattle.transactions.specs.Costs.{AsksToWrite, CommitAsks};
 ghost use Rattle.ipl_store.specs.Calls.{
@@ -25,7 +25,7 @@ use chip_trait::Chip;
 use frame_changes::overfills;
 use ipl_base::{Name, Refusal, StoreFault, Value};
 use log_records::Change;
-use store_steps::passing_laws;
+use store_laws::passing_laws;
 
 impl Store {
     /// Puts a value of at most 464 bytes at a name, for a session. It counts once that is

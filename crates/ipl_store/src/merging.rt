@@ -6,7 +6,7 @@ ghost use Rattle.unit_io.specs.Costs.{Spends};
 ghost use Rattle.ipl_rules.specs.Refusals.{refuses_merge};
 ghost use Rattle.selective_merge.specs.Merging.{Merges};
 ghost use Rattle.place_taking.specs.Spending.{ErasesFor};
-ghost use Rattle.store_steps.specs.Keeps.{limits_of};
+ghost use Rattle.store_laws.specs.Keeps.{limits_of};
 ghost use Rattle.page_frames.specs.Pages.{tables_in, KeepsFramed};
 ghost use Rattle.ipl_store.specs.Calls.{
   IsSound,
@@ -20,7 +20,7 @@ ghost use Rattle.ipl_store.specs.Calls.{
 use crate::Store;
 use chip_trait::Chip;
 use ipl_base::StoreFault;
-use store_steps::passing_laws;
+use store_laws::passing_laws;
 
 impl Store {
     /// Merges a unit at once, whatever is carried.

@@ -9,10 +9,10 @@ ghost use Rattle.ipl_rules.specs.Refusals.{refuses_get, refuses_share};
 ghost use Rattle.record_locks.specs.Held.{number_of};
 ghost use Rattle.record_locks.specs.Standing.{state_of};
 ghost use Rattle.store_trait.specs.Keeping.{LAST_NUMBER};
-ghost use Rattle.store_steps.specs.Keeps.{limits_of};
-ghost use Rattle.store_steps.specs.Refusals.{IsOpenSession};
+ghost use Rattle.store_laws.specs.Keeps.{limits_of};
+ghost use Rattle.store_laws.specs.Refusals.{IsOpenSession};
 ghost use Rattle.page_ops.specs.Pending.{seen_by};
-ghost use Rattle.pending_writes.specs.Frames.{Frame};
+ghost use Rattle.store_laws.specs.Frames.{Frame};
 ghost use Rattle.page_frames.specs.Pages.{frames_in};
 ghost use Rattle.ipl_store.specs.contracts.store.Store.{the_row};
 ghost use Rattle.ipl_store.specs.Calls.{
@@ -29,7 +29,7 @@ use crate::Store;
 use chip_trait::Chip;
 use frame_changes::{committed_value, seen_value};
 use ipl_base::{Name, StoreFault, home};
-use store_steps::passing_laws;
+use store_laws::passing_laws;
 
 impl Store {
     /// Brings the page of a name of the chip into a frame. The store isn't down, and has numbers

@@ -12,8 +12,8 @@ ghost use Rattle.ipl_rules.specs.Refusals.{
   refuses_batch,
   refuses_merge,
 };
-ghost use Rattle.store_steps.specs.Keeps.{limits_of};
-ghost use Rattle.store_steps.specs.Refusals.{sessions_refuse_put, sessions_refuse_del};
+ghost use Rattle.store_laws.specs.Keeps.{limits_of};
+ghost use Rattle.store_laws.specs.Refusals.{sessions_refuse_put, sessions_refuse_del};
 ghost use Rattle.ipl_store.specs.Calls.{
   is_held,
   refuses_pair,

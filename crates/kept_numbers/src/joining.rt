@@ -43,7 +43,7 @@ fn add_number(set: &mut NumberSet, logged: &Record, status: &Status) -> bool
 
 /// Adds the committed numbers of the records of a payload. False exactly where they don't all fit,
 /// and then it may have added some of them.
-pub fn add_payload(set: &mut NumberSet, payload: &Payload, status: &Status) -> bool
+pub(crate) fn add_payload(set: &mut NumberSet, payload: &Payload, status: &Status) -> bool
     requires { set.old.most ≡ KEPT_NUMBERS }
     ensures joined { OnTrue result (set.new ≡ with_list set.old
         (joined status.now.numbers (records_of payload.now.version payload.now.bytes) set.old.list)) }
@@ -62,7 +62,7 @@ pub fn add_payload(set: &mut NumberSet, payload: &Payload, status: &Status) -> b
 
 /// Adds the committed numbers of the records of log sectors. False exactly where they don't all fit,
 /// and then it may have added some of them.
-pub fn add_sectors(set: &mut NumberSet, sectors: &[LogSector], status: &Status) -> bool
+pub(crate) fn add_sectors(set: &mut NumberSet, sectors: &[LogSector], status: &Status) -> bool
     requires { set.old.most ≡ KEPT_NUMBERS }
     ensures joined { OnTrue result (set.new ≡ with_list set.old
         (joined status.now.numbers (records_kept sectors.now) set.old.list)) }

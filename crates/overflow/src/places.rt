@@ -17,7 +17,7 @@ pub struct PlaceInUse {
 }
 
 /// Whether a spot of some unit stands in a place.
-pub fn is_named(spots: &[SpotList], place: u32) -> bool
+pub(crate) fn is_named(spots: &[SpotList], place: u32) -> bool
     ensures { result ≡ is_named spots.now place }
 {
     spots.iter().any(|list| list.names(place))
@@ -41,7 +41,7 @@ fn lower_spot(best: Option<Spot>, other: PlaceInUse) -> Option<Spot>
 }
 
 /// The first clean sector of the lowest place that has one.
-pub fn first_spot(places: &[PlaceInUse]) -> Option<Spot>
+pub(crate) fn first_spot(places: &[PlaceInUse]) -> Option<Spot>
     ensures { option_map pair_of result ≡ first_spot None (map first_of places.now) }
 {
     let mut best = None;
@@ -89,7 +89,7 @@ fn left_of(spots: &[SpotList], place: Option<&PlaceInUse>) -> Option<u32>
 }
 
 /// Of at most two places those that no spot names.
-pub fn places_left(spots: &[SpotList], places: &[PlaceInUse]) -> [Option<u32>; 2]
+pub(crate) fn places_left(spots: &[SpotList], places: &[PlaceInUse]) -> [Option<u32>; 2]
     requires { length places.now ≤ 2 }
     ensures { listed result
         ≡ filter (is_left spots.now) (map place_of (map first_of places.now)) }
@@ -101,7 +101,7 @@ pub fn places_left(spots: &[SpotList], places: &[PlaceInUse]) -> [Option<u32>; 2
 }
 
 /// Keeps the places that a spot names.
-pub fn keep_named(spots: &[SpotList], places: &mut ArrayVec<PlaceInUse, OVERFLOW_PLACES>)
+pub(crate) fn keep_named(spots: &[SpotList], places: &mut ArrayVec<PlaceInUse, OVERFLOW_PLACES>)
     requires { length places.old.items ≤ 2 }
     ensures named { map first_of places.new.items
         ≡ filter (is_kept spots.now) (map first_of places.old.items) }

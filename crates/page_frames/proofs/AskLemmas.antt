@@ -10,7 +10,7 @@ use Rattle.unit_io.specs.Costs.{Costs, Spends}
 use Rattle.unit_io.proofs.CostLemmas.{costs_at_most, spends_weaker}
 use Rattle.buffer_pool.specs.Pools.{PoolView}
 use Rattle.buffer_pool.specs.Uses.{UsesPage}
-use Rattle.pending_writes.specs.Frames.{logs_of}
+use Rattle.store_laws.specs.Frames.{logs_of}
 use Rattle.selective_merge.specs.declared.parts.Parts.{Parts}
 use Rattle.selective_merge.specs.Moving.{tables_of}
 use Rattle.selective_merge.specs.Spotting.{HasHomeSpot}

@@ -5,16 +5,16 @@ use Rattle.std.specs.Option.{option_map}
 use Rattle.ipl_base.specs.declared.fault.ChipFault.{ChipFault}
 use Rattle.ipl_format.specs.Record.{Record}
 use Rattle.ipl_meaning.specs.Last.{size_of, size_of_all}
-use Rattle.pending_writes.specs.Frames.{Frames, with_frame_log}
-use Rattle.pending_writes.proofs.SameLemmas.{frame_here}
+use Rattle.store_laws.specs.Frames.{Frames, with_frame_log}
+use Rattle.store_laws.proofs.SameLemmas.{frame_here}
 use Rattle.frame_changes.specs.Changes.{MayPut}
 use Rattle.page_frames.specs.declared.pages.Pages.{Pages}
-use Rattle.page_frames.specs.Pages.{frames_in, IsFramed, IsFresh, KeepsValues, BringsPage, frames_after}
+use Rattle.page_frames.specs.Pages.{frames_in, IsFramed, IsCleanFrame, KeepsValues, BringsPage, frames_after}
 use Rattle.page_frames.proofs.HeldLemmas.{some_of}
 
 -- done, the page has no records in memory
 pub brings_fresh : (result : Result (Unit {0}) ChipFault) (u page : ℕ) (old new : Pages)
-    → BringsPage result u page (frames_in old) (frames_in new) → OnOk result (IsFresh new u page)
+    → BringsPage result u page (frames_in old) (frames_in new) → OnOk result (IsCleanFrame new u page)
 brings_fresh (Ok v) u page old new (f, empty, is) = (
   f,
   ap (λ (F : Frames). F u page) is ∙ frame_here (frames_in old) u page (Some f) u page refl refl,
@@ -23,7 +23,7 @@ brings_fresh (Ok v) u page old new (f, empty, is) = (
 brings_fresh (Err e) u page old new same = tt
 
 -- so that one record fits
-pub fits_fresh : (new : Pages) (u : ℕ) (r : Record) → size_of r ≤ 476 → IsFresh new u r.page
+pub fits_fresh : (new : Pages) (u : ℕ) (r : Record) → size_of r ≤ 476 → IsCleanFrame new u r.page
     → MayPut (frames_in new) u r
 fits_fresh new u r short (f, there, empty) = record {
   frame = f;
@@ -34,7 +34,7 @@ fits_fresh new u r short (f, there, empty) = record {
 -- and where the page's records were written out
 pub out_fresh : (result : Result (Unit {0}) ChipFault) (u page : ℕ) (old new : Pages)
     → IsSome (frames_in old u page)
-    → frames_in new ≡ frames_after result (frames_in old) u page → OnOk result (IsFresh new u page)
+    → frames_in new ≡ frames_after result (frames_in old) u page → OnOk result (IsCleanFrame new u page)
 out_fresh (Ok v) u page old new there is =
     let (f, was) = some_of (frames_in old u page) there in (
       with_frame_log f [],

@@ -14,19 +14,19 @@ use Rattle.ipl_meaning.specs.Stands.{Shows, Says, page_in}
 use Rattle.ipl_meaning.specs.Tables.{Tables}
 use Rattle.ipl_meaning.specs.Values.{Values}
 use Rattle.unit_io.specs.Faults.{TellsChipFault}
-use Rattle.merge_rules.specs.Faults.{IsMergeable, IsTheFault}
-use Rattle.merge_rules.proofs.FaultLemmas.{said_units_are_mergeable, by_chip_alone}
+use Rattle.merge_laws.specs.Faults.{IsMergeable, IsTheFault}
+use Rattle.merge_laws.proofs.FaultLemmas.{said_units_are_mergeable, by_chip_alone}
 use Rattle.selective_merge.specs.Merging.{CompletesMerge}
 use Rattle.status_renewal.specs.Passes.{CompletesRenewal}
 use Rattle.number_set.specs.Numbers.{among}
 use Rattle.page_ops.specs.Pending.{fill_by}
 use Rattle.page_rebuild.specs.Loaded.{OfTables, loaded_pending, load_fault}
 use Rattle.page_rebuild.proofs.LoadedLemmas.{sound_pages_show_values}
-use Rattle.pending_writes.specs.Frames.{Frames}
-use Rattle.pending_writes.proofs.FitLemmas.{merges_are_small}
-use Rattle.pending_writes.proofs.PendingRoomLemmas.{loaded_pages_fit}
-use Rattle.store_steps.specs.Advances.{memory_of, MemoryFits, KeepsState}
-use Rattle.store_steps.proofs.KeepLemmas.{says_next}
+use Rattle.store_laws.specs.Frames.{Frames}
+use Rattle.store_laws.proofs.FitLemmas.{merges_are_small}
+use Rattle.store_laws.proofs.PendingRoomLemmas.{loaded_pages_fit}
+use Rattle.store_laws.specs.Advances.{memory_of, MemoryFits, KeepsState}
+use Rattle.store_laws.proofs.KeepLemmas.{says_next}
 use Rattle.page_frames.specs.declared.pages.Pages.{Pages}
 use Rattle.page_frames.specs.Pages.{tables_in, frames_in}
 use Rattle.page_frames.specs.Complete.{Completes, CompletesLoad}

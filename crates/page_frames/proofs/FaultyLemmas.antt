@@ -29,17 +29,17 @@ use Rattle.ipl_meaning.proofs.OnceLemmas.{laid_once}
 use Rattle.unit_io.specs.Faults.{is_damaged, is_piece, piece_fault, piece_fault_at, text_below, is_page_text, text_fault, page_fault}
 use Rattle.unit_io.proofs.FaultLemmas.{undamaged}
 use Rattle.number_set.specs.Numbers.{among}
-use Rattle.merge_rules.specs.Faults.{page_fault_from}
-use Rattle.merge_rules.specs.Merged.{source_in}
+use Rattle.merge_laws.specs.Faults.{page_fault_from}
+use Rattle.merge_laws.specs.Merged.{source_in}
 use Rattle.page_ops.specs.Pending.{Pendings, fill_by, mark_of}
 use Rattle.page_ops.specs.Rebuilt.{full_fault}
 use Rattle.page_ops.proofs.FillLemmas.{room_in_fill}
 use Rattle.page_rebuild.specs.Taken.{last_changes}
 use Rattle.page_rebuild.specs.Loaded.{base_fault, loaded_values, loaded_pending, fill_fault, load_fault}
 use Rattle.page_rebuild.proofs.LoadedLemmas.{sound_pages_show_values}
-use Rattle.pending_writes.proofs.FitLemmas.{fits_whatever_the_map}
-use Rattle.pending_writes.proofs.PendingRoomLemmas.{loaded_pages_fit}
-use Rattle.store_steps.specs.Advances.{Memory, MemoryFits, FitsOn}
+use Rattle.store_laws.proofs.FitLemmas.{fits_whatever_the_map}
+use Rattle.store_laws.proofs.PendingRoomLemmas.{loaded_pages_fit}
+use Rattle.store_laws.specs.Advances.{Memory, MemoryFits, FitsOn}
 use Rattle.page_frames.specs.Faulty.{IsOfPage, NamesBadPage}
 use Rattle.page_frames.proofs.CompleteLemmas.{no_load_fault}
 use Rattle.page_frames.proofs.SlotMapLemmas.{page_map, page_has}

@@ -1,9 +1,9 @@
 -- Frames after a page's records were written out, and after it left its frame.
 use Rattle.std.proofs.Common.{◌≡◌, ℕ, [], Option, Some, None, inl, inr, refl, sym, ◌∙◌, ap}
 use Rattle.std.specs.Option.{option_map, option_map_or}
-use Rattle.pending_writes.specs.Frames.{Frame, Frames, logs_of, with_frame_at, with_frame_log}
-use Rattle.pending_writes.proofs.MemoryLemmas.{cases_page}
-use Rattle.pending_writes.proofs.SameLemmas.{frame_here, frame_other}
+use Rattle.store_laws.specs.Frames.{Frame, Frames, logs_of, with_frame_at, with_frame_log}
+use Rattle.store_laws.proofs.MemoryLemmas.{cases_page}
+use Rattle.store_laws.proofs.SameLemmas.{frame_here, frame_other}
 use Rattle.page_frames.specs.Pages.{emptied}
 
 -- a page that has no frame, or no records there, has none to be written out

@@ -5,9 +5,9 @@ use Rattle.std.specs.Option.{option_map}
 use Rattle.ipl_base.specs.declared.fault.ChipFault.{ChipFault}
 use Rattle.buffer_pool.specs.Pools.{PoolView}
 use Rattle.frame_changes.specs.Views.{frames_of}
-use Rattle.pending_writes.specs.Frames.{Frame, Frames, with_frame_at, with_frame_log}
-use Rattle.pending_writes.proofs.MemoryLemmas.{cases_page}
-use Rattle.pending_writes.proofs.SameLemmas.{frame_here, frame_other}
+use Rattle.store_laws.specs.Frames.{Frame, Frames, with_frame_at, with_frame_log}
+use Rattle.store_laws.proofs.MemoryLemmas.{cases_page}
+use Rattle.store_laws.proofs.SameLemmas.{frame_here, frame_other}
 use Rattle.page_frames.specs.declared.pages.Pages.{Pages}
 use Rattle.page_frames.specs.Pages.{frames_in, KeepsFramed, BringsPage, emptied}
 

@@ -10,9 +10,9 @@ use Rattle.buffer_pool.proofs.HoldingLemmas.{brings_keep, evictions_keep, nothin
 use Rattle.buffer_pool.proofs.UseLemmas.{brings_count_no_other, changes_keep_uses, evictions_count_no_use, kept_uses_are_last, same_counts}
 use Rattle.frame_changes.specs.Views.{frame_in, frames_of}
 use Rattle.frame_changes.proofs.FrameLemmas.{brings_add_a_frame, evictions_take_a_frame, pins_keep_frames}
-use Rattle.pending_writes.specs.Frames.{Frames, logs_of}
+use Rattle.store_laws.specs.Frames.{Frames, logs_of}
 use Rattle.page_frames.specs.declared.pages.Pages.{Pages}
-use Rattle.page_frames.specs.Frames.{FreesFrame, Gives, IsChosen, IsUnheld, MayGive, TakesFrame, Victim}
+use Rattle.page_frames.specs.Frames.{FreesFrame, Gives, IsVictimFor, IsUnheld, MayGive, TakesFrame, Victim}
 use Rattle.page_frames.specs.Pages.{IsReady, Upholds}
 use Rattle.page_frames.specs.Filling.{with_pool}
 use Rattle.page_frames.proofs.FrameLemmas.{evicted_none}
@@ -109,7 +109,7 @@ gives_count_no_use None old between gives v q used now =
 gives_count_no_use (Some w) old between gives v q used now = gives.uses v q used now
 
 -- a page that left its frame is the one that was chosen
-pub left_first : (victim : Victim) (old mid between : PoolView) (v q : ℕ) → IsChosen old victim
+pub left_first : (victim : Victim) (old mid between : PoolView) (v q : ℕ) → IsVictimFor old victim
     → Gives victim mid between → IsSome (frames_of mid v q) → (IsSome (frames_of between v q) → ⊥)
     → IsUsedFirst old v q
 left_first None old mid between v q chosen gives there gone =
@@ -120,7 +120,7 @@ left_first (Some w) old mid between v q chosen gives there gone =
     (subst (λ (r : ℕ). IsUsedFirst old w.0 r) (sym this.1) chosen.3)
 
 -- where a frame is free, none was chosen
-pub free_is_chosen : (victim : Victim) (p : PoolView) → IsChosen p victim
+pub free_is_chosen : (victim : Victim) (p : PoolView) → IsVictimFor p victim
     → slab_len p.buffers < p.limit → victim ≡ None
 free_is_chosen None p chosen free = refl
 free_is_chosen (Some v) p chosen free = let full = chosen.0 in absurd (omega (arith, full, free))

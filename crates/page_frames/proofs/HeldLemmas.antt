@@ -11,7 +11,7 @@ use Rattle.buffer_pool.specs.Laws.{buffer_of}
 use Rattle.buffer_pool.proofs.BufferLemmas.{buffers_are_told}
 use Rattle.buffer_pool.proofs.CallerLemmas.{may_leave}
 use Rattle.buffer_pool.proofs.IndexLemmas.{some_is}
-use Rattle.pending_writes.specs.Frames.{Frame, Frames, logs_of, with_frame_at}
+use Rattle.store_laws.specs.Frames.{Frame, Frames, logs_of, with_frame_at}
 use Rattle.frame_changes.specs.Views.{frame_in, frames_of}
 use Rattle.frame_changes.proofs.FrameLemmas.{frame_here, frame_found}
 use Rattle.page_frames.specs.Frames.{IsUnheld}

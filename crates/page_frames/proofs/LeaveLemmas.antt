@@ -7,16 +7,16 @@ use Rattle.ipl_base.specs.declared.fault.ChipFault.{ChipFault}
 use Rattle.buffer_pool.specs.Pools.{PoolView, AreOnce}
 use Rattle.buffer_pool.specs.Holding.{KeepsPins}
 use Rattle.buffer_pool.proofs.HoldingLemmas.{rest_stays}
-use Rattle.pending_writes.specs.Frames.{Frame, Frames, with_frame_at, with_frame_log}
-use Rattle.pending_writes.proofs.MemoryLemmas.{cases_page}
-use Rattle.pending_writes.proofs.SameLemmas.{frame_here, frame_other}
-use Rattle.steps.specs.Steps.{Tidies}
-use Rattle.steps.proofs.TablesLemmas.{tables_none}
+use Rattle.store_laws.specs.Frames.{Frame, Frames, with_frame_at, with_frame_log}
+use Rattle.store_laws.proofs.MemoryLemmas.{cases_page}
+use Rattle.store_laws.proofs.SameLemmas.{frame_here, frame_other}
+use Rattle.step_laws.specs.Steps.{Tidies}
+use Rattle.step_laws.proofs.TablesLemmas.{tables_none}
 use Rattle.place_taking.proofs.WearLemmas.{alike_tables, nothing_wears}
-use Rattle.store_steps.specs.Advances.{KeepsState}
-use Rattle.merge_rules.specs.Known.{KnowsPlaces}
+use Rattle.store_laws.specs.Advances.{KeepsState}
+use Rattle.merge_laws.specs.Known.{KnowsPlaces}
 use Rattle.selective_merge.specs.Moving.{tables_of}
-use Rattle.store_steps.proofs.KeeperLemmas.{evictions_keep_states}
+use Rattle.store_laws.proofs.KeeperLemmas.{evictions_keep_states}
 use Rattle.frame_changes.specs.Views.{frame_in, frames_of}
 use Rattle.page_frames.specs.declared.pages.Pages.{Pages}
 use Rattle.page_frames.specs.Frames.{IsUnheld}

@@ -15,25 +15,25 @@ use Rattle.ipl_meaning.specs.Values.{counts_for}
 use Rattle.number_set.specs.Numbers.{among}
 use Rattle.page_ops.specs.Frames.{FrameView, values_in, pending_in}
 use Rattle.page_rebuild.specs.Loaded.{IsLoaded, IsLoadCause}
-use Rattle.pending_writes.specs.Frames.{Frame, Frames, logs_of, with_frame_at, IsFrameOf, pending_of}
+use Rattle.store_laws.specs.Frames.{Frame, Frames, logs_of, with_frame_at, IsFrameOf, pending_of}
 use Rattle.place_taking.specs.Spending.{is_worn_out, tells_worn}
-use Rattle.place_taking.specs.Wear.{Wears}
+use Rattle.place_taking.specs.Wear.{TellsOfWear}
 use Rattle.place_taking.proofs.WearLemmas.{alike_tables, reads_wear_at}
 use Rattle.status_renewal.specs.Passes.{RenewCause}
-use Rattle.steps.specs.Steps.{Tidies}
-use Rattle.steps.proofs.TablesLemmas.{tables_read}
-use Rattle.store_steps.specs.Advances.{KeepsState}
-use Rattle.store_steps.specs.Views.{frame_of}
-use Rattle.store_steps.proofs.KeeperLemmas.{loads_anywhere_keep_states, reads_anywhere_keep_states}
+use Rattle.step_laws.specs.Steps.{Tidies}
+use Rattle.step_laws.proofs.TablesLemmas.{tables_read}
+use Rattle.store_laws.specs.Advances.{KeepsState}
+use Rattle.store_laws.specs.Views.{frame_of}
+use Rattle.store_laws.proofs.KeeperLemmas.{loads_anywhere_keep_states, reads_anywhere_keep_states}
 use Rattle.unit_io.specs.Reads.{OfContents}
 use Rattle.unit_io.specs.ReadsAt.{Anywhere, ReadsAt}
 use Rattle.frame_changes.proofs.FrameLemmas.{put_again, put_same}
 use Rattle.unit_io.specs.Accounts.{Accounts}
-use Rattle.merge_rules.specs.Known.{KnowsPlaces}
+use Rattle.merge_laws.specs.Known.{KnowsPlaces}
 use Rattle.buffer_pool.specs.Holding.{KeepsPins}
 use Rattle.buffer_pool.proofs.HoldingLemmas.{rest_stays}
-use Rattle.pending_writes.proofs.MemoryLemmas.{cases_page}
-use Rattle.pending_writes.proofs.SameLemmas.{frame_other}
+use Rattle.store_laws.proofs.MemoryLemmas.{cases_page}
+use Rattle.store_laws.proofs.SameLemmas.{frame_other}
 use Rattle.page_frames.specs.declared.pages.Pages.{Pages}
 use Rattle.page_frames.specs.Pages.{tables_in, frames_in, IsReady, Upholds, PageCause}
 
@@ -125,7 +125,7 @@ frames_uphold old new later result before after ready tables is within keeps rea
           (tables_in old) F after) (sym is) keeps);
       tidy = subst (λ (t : Tables). Tidies (tables_in old) result t before after) (sym tables)
           (tables_read Anywhere (tables_in old) result before after reads);
-      wears = subst (λ (b : Bool). Wears (tables_in old) (tables_in new) (is_ok result) b before after)
+      wears = subst (λ (b : Bool). TellsOfWear (tables_in old) (tables_in new) (is_ok result) b before after)
           (sym unworn) (reads_wear_at Anywhere (tables_in old) (tables_in new) (is_ok result) before after
           (alike_tables (tables_in old) (tables_in new) (ap (λ (t : Tables). t.places) tables)
           (ap (λ (t : Tables). t.status.place) tables)) reads);

@@ -9,10 +9,10 @@ use Rattle.ipl_base.specs.declared.fault.ChipFault.{ChipFault}
 use Rattle.place_taking.specs.Spending.{is_worn_out, tells_worn}
 use Rattle.buffer_pool.specs.Pools.{PoolView, IsThere, AreOnce}
 use Rattle.buffer_pool.specs.Index.{page_number}
-use Rattle.pending_writes.specs.Frames.{Frame, Frames, logs_of}
-use Rattle.pending_writes.proofs.MemoryLemmas.{cases_page}
-use Rattle.pending_writes.proofs.SameLemmas.{frame_other}
-use Rattle.store_steps.specs.Numbers.{IsOut}
+use Rattle.store_laws.specs.Frames.{Frame, Frames, logs_of}
+use Rattle.store_laws.proofs.MemoryLemmas.{cases_page}
+use Rattle.store_laws.proofs.SameLemmas.{frame_other}
+use Rattle.store_laws.specs.Numbers.{IsOut}
 use Rattle.buffer_pool.specs.declared.pool.Buffer.{Buffer}
 use Rattle.buffer_pool.specs.Laws.{buffer_of}
 use Rattle.buffer_pool.proofs.BufferLemmas.{buffers_are_told}

@@ -12,11 +12,11 @@ use Rattle.selective_merge.specs.Moving.{Holds}
 use Rattle.status_renewal.specs.Passes.{RenewCause}
 use Rattle.buffer_pool.specs.Holding.{KeepsPins}
 use Rattle.buffer_pool.proofs.HoldingLemmas.{rest_stays}
-use Rattle.pending_writes.specs.Frames.{Frame, Frames, logs_of, with_frame_at, with_frame_log}
-use Rattle.steps.specs.Steps.{Tidies}
+use Rattle.store_laws.specs.Frames.{Frame, Frames, logs_of, with_frame_at, with_frame_log}
+use Rattle.step_laws.specs.Steps.{Tidies}
 use Rattle.place_taking.specs.Spending.{tells_worn}
-use Rattle.place_taking.specs.Wear.{Wears}
-use Rattle.store_steps.specs.Advances.{KeepsState}
+use Rattle.place_taking.specs.Wear.{TellsOfWear}
+use Rattle.store_laws.specs.Advances.{KeepsState}
 use Rattle.page_writing.specs.Causes.{WritingCause}
 use Rattle.page_writing.specs.Laws.{frames_out}
 use Rattle.page_writing.specs.Writing.{WritesOut, WritesOutInSteps}
@@ -77,7 +77,7 @@ pub out_failed : (u page : ℕ) (payload : Versioned) (old new : Pages) (e : Chi
     → WritesOutInSteps before.places payload (tables_in old) (tables_in new) before (Err e) after
     → Holds before.places (tables_in old) (tables_in new)
     → Tidies {T = Unit {0}} {E = ChipFault} (tables_in old) (Err e) (tables_in new) before after
-    → Wears (tables_in old) (tables_in new) false (tells_worn e) before after
+    → TellsOfWear (tables_in old) (tables_in new) false (tells_worn e) before after
     → (old.parts.counter ≤ new.parts.counter) × (new.parts.counter ≤ old.parts.counter + 14)
     → Accounts {T = Unit {0}} (WritingCause new.parts.directory (tables_in old) u) (Err e) before after
     → Upholds {T = Unit {0}} 14 old before (Err e) new after
@@ -104,7 +104,7 @@ pub out_done : (u page : ℕ) (payload : Versioned) (old new : Pages) (before af
     → WritesOutInSteps before.places payload (tables_in old) (tables_in new) before (Ok tt) after
     → Holds before.places (tables_in old) (tables_in new)
     → Tidies {T = Unit {0}} {E = ChipFault} (tables_in old) (Ok tt) (tables_in new) before after
-    → Wears (tables_in old) (tables_in new) true false before after
+    → TellsOfWear (tables_in old) (tables_in new) true false before after
     → (old.parts.counter ≤ new.parts.counter) × (new.parts.counter ≤ old.parts.counter + 14)
     → Accounts {T = Unit {0}} {E = ChipFault} (WritingCause new.parts.directory (tables_in old) u) (Ok tt) before after
     → Upholds {T = Unit {0}} 14 old before (Ok tt) new after

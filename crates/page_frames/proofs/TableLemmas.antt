@@ -14,21 +14,21 @@ use Rattle.unit_io.specs.Costs.{Spends}
 use Rattle.unit_io.proofs.CostLemmas.{spends_weaker}
 use Rattle.place_taking.specs.Homes.{LeavesPlaces}
 use Rattle.place_taking.specs.Spending.{ErasesFor, SparesUsed, is_worn_out}
-use Rattle.place_taking.specs.Wear.{Wears}
+use Rattle.place_taking.specs.Wear.{TellsOfWear}
 use Rattle.place_taking.proofs.HomeLemmas.{erases_leave}
 use Rattle.place_taking.proofs.WearLemmas.{spared_places_wear}
-use Rattle.steps.specs.Steps.{Settled, RestsAgreeing, Tidies}
+use Rattle.step_laws.specs.Steps.{Settled, RestsAgreeing, Tidies}
 use Rattle.selective_merge.specs.Homes.{MergeCause}
 use Rattle.selective_merge.specs.Merging.{Merges, StaysMirrored, MergesInSteps, RestsMerged}
 use Rattle.selective_merge.specs.Moving.{Holds}
 use Rattle.selective_merge.proofs.HeldLemmas.{homes_used}
 use Rattle.selective_merge.specs.Throughout.{ChartsThroughout}
-use Rattle.pending_writes.specs.Frames.{Frames}
-use Rattle.store_steps.specs.Advances.{TurnsTables, KeepsState}
-use Rattle.store_steps.proofs.KeeperLemmas.{table_calls_keep_states}
-use Rattle.store_steps.proofs.StepLemmas.{steps_weaker}
+use Rattle.store_laws.specs.Frames.{Frames}
+use Rattle.store_laws.specs.Advances.{TurnsTables, KeepsState}
+use Rattle.store_laws.proofs.KeeperLemmas.{table_calls_keep_states}
+use Rattle.store_laws.proofs.StepLemmas.{steps_weaker}
 use Rattle.page_writing.proofs.RoomLemmas.{turned_same, turned_merged}
-use Rattle.merge_rules.specs.Known.{KnowsPlaces}
+use Rattle.merge_laws.specs.Known.{KnowsPlaces}
 use Rattle.buffer_pool.specs.Pools.{PoolView}
 use Rattle.buffer_pool.specs.Holding.{IsAtRest, KeepsPins}
 use Rattle.buffer_pool.proofs.HoldingLemmas.{nothing_keeps}
@@ -95,7 +95,7 @@ pub merge_wears : (places place : ℕ) (t after : Tables) (result : Result (Unit
     (old new : Told) → KnowsPlaces places t → Holds places t after
     → OnOk result (SparesUsed t.places old new)
     → Spends (ErasesFor t.places after.places 3 place (is_ok result) (is_worn_out result)) old new
-    → Wears t after (is_ok result) (is_worn_out result) old new
+    → TellsOfWear t after (is_ok result) (is_worn_out result) old new
 merge_wears places place t after result old new known holds spares costs =
     spared_places_wear t after (is_ok result) (is_worn_out result) old new
     (known.used t.status.place (inr (inl refl))) (ap (λ (it : Status). it.place) holds.status)
@@ -119,7 +119,7 @@ pub tables_uphold : (most : ℕ) (old new : Pages) (result : Result (Unit {0}) C
     → new.parts.active ≡ old.parts.active
     → KeepsState (tables_in old) (frames_in old) before result (tables_in new) (frames_in old) after
     → Tidies (tables_in old) result (tables_in new) before after
-    → Wears (tables_in old) (tables_in new) (is_ok result) (is_worn_out result) before after
+    → TellsOfWear (tables_in old) (tables_in new) (is_ok result) (is_worn_out result) before after
     → (old.parts.counter ≤ new.parts.counter) × (new.parts.counter ≤ old.parts.counter + most)
     → Accounts (PageCause new.parts.directory) result before after
     → Upholds most old before result new after
@@ -153,7 +153,7 @@ pub merge_upholds : (u : ℕ) (old new : Pages) (result : Result (Unit {0}) Chip
     (StaysMirrored before.places (tables_in old) (tables_in new)) result before after
     → MergesInSteps before.places u (tables_in old) (tables_in new) before result after
     → Tidies (tables_in old) result (tables_in new) before after
-    → Wears (tables_in old) (tables_in new) (is_ok result) (is_worn_out result) before after
+    → TellsOfWear (tables_in old) (tables_in new) (is_ok result) (is_worn_out result) before after
     → (old.parts.counter ≤ new.parts.counter) × (new.parts.counter ≤ old.parts.counter + 13)
     → (place : ℕ) (spots : List (ℕ × ℕ))
     → Accounts (MergeCause new.parts.directory place spots) result before after
@@ -172,7 +172,7 @@ pub renew_upholds : (old new : Pages) (result : Result (Unit {0}) ChipFault) (be
     → RenewsTold before.places (tables_in old) (tables_in new) before result after
     → KeepsInSteps before.places (tables_in old) (tables_in new) before result after
     → Tidies (tables_in old) result (tables_in new) before after
-    → Wears (tables_in old) (tables_in new) (is_ok result) (is_worn_out result) before after
+    → TellsOfWear (tables_in old) (tables_in new) (is_ok result) (is_worn_out result) before after
     → (old.parts.counter ≤ new.parts.counter) × (new.parts.counter ≤ old.parts.counter + 2 ^ 14)
     → Accounts (RenewCause new.parts.directory) result before after → Upholds (2 ^ 14) old before result new after
 renew_upholds old new result before after ready same holds tells steps tidy wears draws accounts =

@@ -10,9 +10,9 @@ use Rattle.ipl_meaning.specs.Chart.{chart_of}
 use Rattle.ipl_meaning.specs.Layout.{Layout}
 use Rattle.ipl_meaning.specs.Tables.{Tables}
 use Rattle.unit_io.specs.Faults.{TellsChipFault}
-use Rattle.merge_rules.specs.Faults.{page_fault_from, merge_fault, FailsByChipAlone}
-use Rattle.merge_rules.specs.Merged.{source_in}
-use Rattle.merge_rules.proofs.FaultLemmas.{merge_faults_are_of_the_unit}
+use Rattle.merge_laws.specs.Faults.{page_fault_from, merge_fault, FailsByChipAlone}
+use Rattle.merge_laws.specs.Merged.{source_in}
+use Rattle.merge_laws.proofs.FaultLemmas.{merge_faults_are_of_the_unit}
 use Rattle.selective_merge.specs.Merging.{Merges, StaysMirrored, FailsAsMerge, TellsMergeFault}
 use Rattle.selective_merge.specs.Throughout.{ChartsThroughout}
 use Rattle.selective_merge.proofs.CompleteLemmas.{merge_fails_so}
@@ -20,8 +20,8 @@ use Rattle.status_renewal.specs.InPlace.{RenewalFailsInPlace}
 use Rattle.number_set.specs.Numbers.{among}
 use Rattle.page_rebuild.specs.Loaded.{OfTables, load_fault}
 use Rattle.page_writing.specs.InPlace.{StaysInPlace}
-use Rattle.pending_writes.proofs.FitLemmas.{merges_are_small}
-use Rattle.store_steps.specs.Advances.{memory_of, MemoryFits, KeepsState}
+use Rattle.store_laws.proofs.FitLemmas.{merges_are_small}
+use Rattle.store_laws.specs.Advances.{memory_of, MemoryFits, KeepsState}
 use Rattle.page_frames.specs.declared.pages.Pages.{Pages}
 use Rattle.page_frames.specs.Pages.{tables_in, frames_in}
 use Rattle.page_frames.specs.Faulty.{FailsAsPage, NamesBadPage, TellsFaults}

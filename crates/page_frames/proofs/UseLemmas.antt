@@ -9,13 +9,13 @@ use Rattle.buffer_pool.specs.Holding.{IsPage, KeepsPins}
 use Rattle.buffer_pool.specs.Uses.{used_of, CountsNoOther, IsUsedLast}
 use Rattle.buffer_pool.proofs.HoldingLemmas.{rest_stays}
 use Rattle.buffer_pool.proofs.UseLemmas.{kept_uses_are_last}
-use Rattle.pending_writes.specs.Frames.{Frames, with_frame_at}
-use Rattle.pending_writes.proofs.MemoryLemmas.{cases_page}
-use Rattle.pending_writes.proofs.SameLemmas.{frame_other}
-use Rattle.steps.proofs.TablesLemmas.{tables_none}
+use Rattle.store_laws.specs.Frames.{Frames, with_frame_at}
+use Rattle.store_laws.proofs.MemoryLemmas.{cases_page}
+use Rattle.store_laws.proofs.SameLemmas.{frame_other}
+use Rattle.step_laws.proofs.TablesLemmas.{tables_none}
 use Rattle.place_taking.proofs.WearLemmas.{alike_tables, nothing_wears}
-use Rattle.store_steps.specs.Advances.{KeepsState}
-use Rattle.store_steps.proofs.KeeperLemmas.{nothing_keeps_states}
+use Rattle.store_laws.specs.Advances.{KeepsState}
+use Rattle.store_laws.proofs.KeeperLemmas.{nothing_keeps_states}
 use Rattle.frame_changes.specs.Views.{frames_of}
 use Rattle.page_frames.specs.declared.pages.Pages.{Pages}
 use Rattle.page_frames.specs.Pages.{tables_in, frames_in, KeepsFramed, KeepsFramedFor, IsReady, Upholds}

@@ -8,7 +8,7 @@ use Rattle.ipl_meaning.specs.Tables.{Places}
 use Rattle.unit_io.specs.Costs.{Costs, Spends}
 use Rattle.place_taking.specs.Spending.{RetiringCosts, RetiresWorn, is_worn_out}
 use Rattle.selective_merge.specs.Spotting.{HasHomeSpot}
-use Rattle.pending_writes.specs.Frames.{logs_of}
+use Rattle.store_laws.specs.Frames.{logs_of}
 use Rattle.frame_changes.specs.Changes.{MayPut}
 use Rattle.page_writing.specs.Spending.{ErasesAndLogs, UsesHome}
 use Rattle.page_frames.specs.declared.pages.Pages.{Pages}

@@ -4,7 +4,7 @@ use Rattle.std.specs.List.{list_any}
 use Rattle.ipl_base.specs.declared.limits.TheConstants.{LOG_SECTORS, PAGES}
 use Rattle.ipl_base.specs.Places.{home_of}
 use Rattle.ipl_format.specs.Record.{Record}
-use Rattle.pending_writes.specs.Frames.{Frames, logs_of}
+use Rattle.store_laws.specs.Frames.{Frames, logs_of}
 use Rattle.page_frames.specs.declared.pages.Pages.{Pages}
 use Rattle.page_frames.specs.Pages.{frames_in}
 

@@ -13,10 +13,10 @@ use Rattle.ipl_meaning.specs.Tables.{Tables}
 use Rattle.ipl_meaning.specs.Values.{Values}
 use Rattle.unit_io.specs.Reads.{OfContents}
 use Rattle.number_set.specs.Numbers.{among}
-use Rattle.merge_rules.specs.Faults.{FailsByChipAlone}
+use Rattle.merge_laws.specs.Faults.{FailsByChipAlone}
 use Rattle.page_ops.specs.Pending.{fill_by}
 use Rattle.page_rebuild.specs.Loaded.{loaded_pending}
-use Rattle.store_steps.specs.Advances.{memory_of, MemoryFits}
+use Rattle.store_laws.specs.Advances.{memory_of, MemoryFits}
 use Rattle.page_frames.specs.declared.pages.Pages.{Pages}
 use Rattle.page_frames.specs.Pages.{tables_in, frames_in}
 

@@ -16,7 +16,7 @@ use Rattle.number_set.specs.Numbers.{among}
 use Rattle.unit_io.specs.Reads.{OfContents}
 use Rattle.unit_io.specs.Spots.{IsPieceSpot}
 use Rattle.page_rebuild.specs.Loaded.{load_fault}
-use Rattle.store_steps.specs.Advances.{memory_of, MemoryFits}
+use Rattle.store_laws.specs.Advances.{memory_of, MemoryFits}
 use Rattle.page_frames.specs.declared.pages.Pages.{Pages}
 use Rattle.page_frames.specs.Pages.{tables_in, frames_in}
 

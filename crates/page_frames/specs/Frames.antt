@@ -7,8 +7,8 @@ use Rattle.buffer_pool.specs.declared.pool.Buffer.{Buffer}
 use Rattle.buffer_pool.specs.Pools.{PoolView}
 use Rattle.buffer_pool.specs.Holding.{KeepsPins}
 use Rattle.buffer_pool.specs.Uses.{CountsNoOther, CountsNoUse, IsUsedFirst, IsUsedLast}
-use Rattle.pending_writes.specs.Frames.{logs_of, with_frame_at}
-use Rattle.store_steps.specs.Views.{frame_of}
+use Rattle.store_laws.specs.Frames.{logs_of, with_frame_at}
+use Rattle.store_laws.specs.Views.{frame_of}
 use Rattle.frame_changes.specs.Views.{frames_of}
 
 -- the page is in a frame, and no hold keeps it there
@@ -43,9 +43,9 @@ abbrev pub Victim : Type 0
 Victim = Option (ℕ × ℕ)
 
 -- a frame is free; or none is, and of the pages that aren't held the page was used longest ago
-abbrev pub IsChosen : PoolView → Victim → Type 0
-IsChosen p None = slab_len p.buffers < p.limit
-IsChosen p (Some v) = (slab_len p.buffers ≡ p.limit) × (v.1 < PAGES) × IsUnheld p v.0 v.1
+abbrev pub IsVictimFor : PoolView → Victim → Type 0
+IsVictimFor p None = slab_len p.buffers < p.limit
+IsVictimFor p (Some v) = (slab_len p.buffers ≡ p.limit) × (v.1 < PAGES) × IsUnheld p v.0 v.1
     × IsUsedFirst p v.0 v.1
 
 -- a frame is free; or the page isn't held and has no records in memory

@@ -12,18 +12,18 @@ use Rattle.slab.specs.Slab.{slab_len}
 use Rattle.buffer_pool.specs.Holding.{IsAtRest, KeepsPins}
 use Rattle.buffer_pool.specs.Uses.{CountsNoOther, IsUsedFirst, UsesPage}
 use Rattle.place_taking.specs.Spending.{is_worn_out}
-use Rattle.place_taking.specs.Wear.{Wears}
-use Rattle.merge_rules.specs.Known.{KnowsPlaces}
+use Rattle.place_taking.specs.Wear.{TellsOfWear}
+use Rattle.merge_laws.specs.Known.{KnowsPlaces}
 use Rattle.selective_merge.specs.Moving.{tables_of}
 use Rattle.status_renewal.specs.Passes.{RenewCause}
 use Rattle.unit_io.specs.Accounts.{Accounts}
-use Rattle.steps.specs.Steps.{Tidies}
-use Rattle.store_steps.specs.Advances.{KeepsState}
-use Rattle.pending_writes.specs.Frames.{Frame, Frames, with_frame_at, with_frame_log}
+use Rattle.step_laws.specs.Steps.{Tidies}
+use Rattle.store_laws.specs.Advances.{KeepsState}
+use Rattle.store_laws.specs.Frames.{Frame, Frames, with_frame_at, with_frame_log}
 use Rattle.number_set.specs.Numbers.{among}
 use Rattle.page_ops.specs.Frames.{FrameView}
 use Rattle.page_rebuild.specs.Loaded.{IsLoaded}
-use Rattle.store_steps.specs.Views.{frame_of}
+use Rattle.store_laws.specs.Views.{frame_of}
 use Rattle.frame_changes.specs.Views.{frames_of}
 use Rattle.page_frames.specs.declared.pages.Pages.{Pages}
 
@@ -61,8 +61,8 @@ pub record OnlyUses (u page : ℕ) (old new : Pages) : Type 0 where
   pub pool : UsesPage old.pool new.pool u page
 
 -- the page is in a frame, with no records in memory
-abbrev pub IsFresh : Pages → ℕ → ℕ → Type 0
-IsFresh pages u page = (f : Frame) × (frames_in pages u page ≡ Some f) × (f.log ≡ [])
+abbrev pub IsCleanFrame : Pages → ℕ → ℕ → Type 0
+IsCleanFrame pages u page = (f : Frame) × (frames_in pages u page ≡ Some f) × (f.log ≡ [])
 
 -- the page's frame, where it had one, has the same values
 abbrev pub KeepsValues : ℕ → ℕ → Pages → Pages → Type 0
@@ -98,7 +98,7 @@ pub record Upholds {T : Type 0} (most : ℕ) (old : Pages) (before : Told) (resu
   pub keeps : KeepsState (tables_in old) (frames_in old) before result
       (tables_in new) (frames_in new) after
   pub tidy : Tidies (tables_in old) result (tables_in new) before after
-  pub wears : Wears (tables_in old) (tables_in new) (is_ok result) (is_worn_out result) before after
+  pub wears : TellsOfWear (tables_in old) (tables_in new) (is_ok result) (is_worn_out result) before after
   pub ready : IsReady before.places new
   pub units : length new.parts.directory.current ≡ length old.parts.directory.current
   pub active : new.parts.active ≡ old.parts.active

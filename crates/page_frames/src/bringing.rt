@@ -4,17 +4,17 @@ ghost use Rattle.unit_io.specs.Accounts.{Accounts};
 ghost use Rattle.unit_io.specs.Costs.{Costs, Spends};
 ghost use Rattle.unit_io.specs.ReadsAt.{Anywhere, ReadsAt};
 ghost use Rattle.place_taking.specs.Spending.{is_worn_out};
-ghost use Rattle.merge_rules.specs.Known.{Suits};
+ghost use Rattle.merge_laws.specs.Known.{Suits};
 ghost use Rattle.buffer_pool.specs.Pools.{PoolView};
 ghost use Rattle.buffer_pool.specs.Holding.{IsAtRest, KeepsPins};
 ghost use Rattle.buffer_pool.specs.Uses.{used_of, IsUsedLast};
-ghost use Rattle.pending_writes.specs.Frames.{logs_of};
+ghost use Rattle.store_laws.specs.Frames.{logs_of};
 ghost use Rattle.log_records.specs.View.{record_of};
 ghost use Rattle.page_writing.specs.Spending.{ErasesAndLogs};
 ghost use Rattle.frame_changes.specs.Changes.{MayPut};
 ghost use Rattle.frame_changes.specs.Views.{frames_of};
 ghost use Rattle.page_frames.specs.Asks.{AsksToBring, AsksToPrepare};
-ghost use Rattle.page_frames.specs.Frames.{IsChosen, IsUnheld, MayGive, TakesFrame};
+ghost use Rattle.page_frames.specs.Frames.{IsVictimFor, IsUnheld, MayGive, TakesFrame};
 ghost use Rattle.page_frames.specs.Complete.{Completes, CompletesLoad};
 ghost use Rattle.page_frames.specs.Faulty.{FailsAsPage, TellsFaults};
 ghost use Rattle.page_frames.specs.Filling.{Fills, with_pool};
@@ -22,7 +22,7 @@ ghost use Rattle.page_frames.specs.Pages.{
   tables_in,
   frames_in,
   IsFramed,
-  IsFresh,
+  IsCleanFrame,
   HasFreeFrame,
   KeepsFramed,
   KeepsFramedFor,
@@ -47,7 +47,7 @@ impl Pages {
     /// which was used longest ago, of those that aren't held.
     fn choose_victim(&self) -> Option<(u32, u32)>
         requires { IsAtRest self.now.pool }
-        ensures { IsChosen self.now.pool result }
+        ensures { IsVictimFor self.now.pool result }
     {
         self.pool.facts();
         match self.pool.room() {
@@ -64,7 +64,7 @@ impl Pages {
         victim: Option<(u32, u32)>,
     ) -> Result<(), ChipFault>
         requires ready { IsReady (C.told chip.old).places self.old }
-        requires chosen { IsChosen self.old.pool victim }
+        requires chosen { IsVictimFor self.old.pool victim }
         requires left { self.old.parts.counter + 14 < 2 ^ 64 }
         ensures upholds { Upholds 14 self.old (C.told chip.old) result self.new (C.told chip.new) }
         ensures complete { Completes self.old result (C.told chip.old) }
@@ -165,7 +165,7 @@ impl Pages {
         ensures faults { TellsFaults self.old result (C.told chip.old) self.new }
         ensures exact { HasFreeFrame self.old
             → FailsAsPage (tables_in self.old) unit page result (C.told chip.old) }
-        ensures fresh { OnOk result (IsFresh self.new unit page) }
+        ensures fresh { OnOk result (IsCleanFrame self.new unit page) }
         ensures used { OnOk result (IsUsedLast self.new.pool unit page) }
         ensures framed { KeepsFramedFor unit page self.old self.new }
         ensures idle { HasFreeFrame self.old
@@ -196,7 +196,7 @@ impl Pages {
             → FailsAsPage (tables_in self.old) unit page result (C.told chip.old) }
         ensures there { OnOk result (IsFramed self.new unit page) }
         ensures fresh { frames_in self.old unit page ≡ None
-            → OnOk result (IsFresh self.new unit page) }
+            → OnOk result (IsCleanFrame self.new unit page) }
         ensures used { OnOk result (IsUsedLast self.new.pool unit page) }
         ensures framed { KeepsFramedFor unit page self.old self.new }
         ensures status { self.new.parts.status ≡ self.old.parts.status }

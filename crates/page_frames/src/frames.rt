@@ -6,7 +6,7 @@ ghost use Rattle.ipl_meaning.specs.Last.{size_of};
 ghost use Rattle.log_records.specs.View.{record_of};
 ghost use Rattle.buffer_pool.specs.Holding.{KeepsPins};
 ghost use Rattle.buffer_pool.specs.Uses.{CountsNoOther, IsUsedLast, UsesPage};
-ghost use Rattle.pending_writes.specs.Frames.{logs_of};
+ghost use Rattle.store_laws.specs.Frames.{logs_of};
 ghost use Rattle.frame_changes.specs.Views.{frames_of};
 ghost use Rattle.page_frames.specs.Frames.{FreesFrame, GivesTo, IsUnheld, MayGive, TakesFrame};
 

@@ -3,7 +3,7 @@ ghost use Rattle.std.specs.Prelude.{◌≡◌, ℕ, ◌<◌, ◌+◌, ◌*◌, �
 ghost use Rattle.ipl_base.specs.declared.limits.TheConstants.{SESSIONS};
 ghost use Rattle.place_taking.specs.Spending.{is_worn_out};
 ghost use Rattle.record_locks.specs.Held.{written_by};
-ghost use Rattle.store_steps.specs.Numbers.{IsOut};
+ghost use Rattle.store_laws.specs.Numbers.{IsOut};
 ghost use Rattle.page_frames.specs.Asks.{AsksToWriteNamesOut};
 ghost use Rattle.page_frames.specs.Complete.{Completes};
 ghost use Rattle.page_frames.specs.Faulty.{TellsFaults};

@@ -8,7 +8,7 @@ use Rattle.ipl_meaning.specs.Rests.{StoryRests}
 use Rattle.ipl_meaning.specs.Tables.{Tables}
 use Rattle.ipl_meaning.specs.Agrees.{Agrees}
 use Rattle.unit_io.specs.Leads.{IsSteady}
-use Rattle.steps.specs.Steps.{KeepsTables}
+use Rattle.step_laws.specs.Steps.{KeepsTables}
 
 -- whatever map the story rests on, and whatever tables agree with the chip: it rests and they agree
 -- still

@@ -8,11 +8,11 @@ use Rattle.ipl_meaning.specs.Mirrors.{NoneIsLost}
 use Rattle.ipl_meaning.specs.Rests.{now, EachStands, StoryRests}
 use Rattle.ipl_meaning.specs.Tables.{Tables}
 use Rattle.unit_io.specs.Charts.{Charts}
-use Rattle.steps.specs.Steps.{RestsAgreeing}
+use Rattle.step_laws.specs.Steps.{RestsAgreeing}
 use Rattle.selective_merge.specs.Merging.{StaysMirrored}
 use Rattle.selective_merge.specs.Placing.{IsPlaced, MakesRoom, RestsWithRoom, MakesRoomInSteps}
-use Rattle.store_steps.specs.Advances.{TurnsTables}
-use Rattle.store_steps.proofs.StepLemmas.{steps_weaker}
+use Rattle.store_laws.specs.Advances.{TurnsTables}
+use Rattle.store_laws.proofs.StepLemmas.{steps_weaker}
 use Rattle.page_writing.specs.Rooms.{MakesLogRoom, RestsWithLogRoom, FindsRoomInSteps}
 use Rattle.page_writing.proofs.RoomLemmas.{turned_same, log_room}
 

@@ -16,16 +16,16 @@ use Rattle.ipl_meaning.specs.Steps.{KeepsPages, with_log}
 use Rattle.ipl_meaning.specs.Tables.{Places, Tables}
 use Rattle.record_locks.specs.Held.{Slots, number_of}
 use Rattle.unit_io.specs.Charts.{Charts}
-use Rattle.steps.specs.Steps.{Settled}
-use Rattle.merge_rules.specs.Merged.{merged_shape}
-use Rattle.pending_writes.specs.Pending.{IsPending}
-use Rattle.pending_writes.specs.Frames.{Frame, Frames, with_frame_at, with_frame_log}
-use Rattle.pending_writes.specs.Fits.{Fits}
-use Rattle.pending_writes.proofs.ActiveLemmas.{is_listed}
-use Rattle.pending_writes.proofs.ChipFitLemmas.{log_sectors_fit, merges_fit, other_steps_fit}
-use Rattle.pending_writes.proofs.SameLemmas.{log_in}
-use Rattle.store_steps.specs.Advances.{memory_of, MemoryFits, FitsOn, TurnsTables}
-use Rattle.store_steps.proofs.KeeperLemmas.{table_calls_keep_states}
+use Rattle.step_laws.specs.Steps.{Settled}
+use Rattle.merge_laws.specs.Merged.{merged_shape}
+use Rattle.store_laws.specs.Pending.{IsPending}
+use Rattle.store_laws.specs.Frames.{Frame, Frames, with_frame_at, with_frame_log}
+use Rattle.store_laws.specs.Fits.{Fits}
+use Rattle.store_laws.proofs.ActiveLemmas.{is_listed}
+use Rattle.store_laws.proofs.ChipFitLemmas.{log_sectors_fit, merges_fit, other_steps_fit}
+use Rattle.store_laws.proofs.SameLemmas.{log_in}
+use Rattle.store_laws.specs.Advances.{memory_of, MemoryFits, FitsOn, TurnsTables}
+use Rattle.store_laws.proofs.KeeperLemmas.{table_calls_keep_states}
 use Rattle.page_writing.specs.Rooms.{IsMergedOrSame}
 use Rattle.page_writing.specs.Writing.{IsPayloadOf, IsWrittenOut, WritesOutInSteps}
 use Rattle.page_writing.specs.Laws.{WritingsKeepStates}

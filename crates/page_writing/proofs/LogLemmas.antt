@@ -33,7 +33,7 @@ use Rattle.sector_format.specs.declared.sector.Head.{Head}
 use Rattle.unit_io.specs.Charts.{Charts, Gains}
 use Rattle.unit_io.specs.Leads.{IsSteady, IsStopped, KeepsMap, RestsWith}
 use Rattle.unit_io.specs.Spots.{Programs, IsSpot}
-use Rattle.steps.proofs.StepLemmas.{writes_are_steps, failed_writes_are_steps}
+use Rattle.step_laws.proofs.StepLemmas.{writes_are_steps, failed_writes_are_steps}
 use Rattle.selective_merge.specs.Spotting.{IsSpotFor}
 use Rattle.page_writing.specs.Writing.{mask_by, IsAfterLog, IsLogOf, IsToLog, HasLogSector, WritesLog, WritesLogInSteps}
 use Rattle.page_writing.proofs.SpotLemmas.{spot_counted, spot_of_log, log_active}

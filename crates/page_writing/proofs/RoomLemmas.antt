@@ -8,12 +8,12 @@ use Rattle.ipl_meaning.specs.Layout.{Shape, Layout, records_of}
 use Rattle.ipl_meaning.specs.Mirrors.{Mirrors, NoneIsLost}
 use Rattle.ipl_meaning.specs.Steps.{KeepsPages}
 use Rattle.ipl_meaning.specs.Tables.{Tables}
-use Rattle.merge_rules.specs.Merged.{IsMergedUnit, merged_layout, merged_shape, packs_in}
-use Rattle.merge_rules.proofs.PacksLemmas.{entries_records, packs_join}
+use Rattle.merge_laws.specs.Merged.{IsMergedUnit, merged_layout, merged_shape, packs_in}
+use Rattle.merge_laws.proofs.PacksLemmas.{entries_records, packs_join}
 use Rattle.selective_merge.specs.Placing.{IsPlaced}
-use Rattle.pending_writes.specs.Fits.{is_active}
-use Rattle.pending_writes.proofs.CarriedLemmas.{merged_or_same}
-use Rattle.store_steps.specs.Advances.{KeepsTablesOn}
+use Rattle.store_laws.specs.Fits.{is_active}
+use Rattle.store_laws.proofs.CarriedLemmas.{merged_or_same}
+use Rattle.store_laws.specs.Advances.{KeepsTablesOn}
 use Rattle.page_writing.specs.Rooms.{HasLogRoom}
 
 -- ---- the tables turned

@@ -11,10 +11,10 @@ use Rattle.unit_io.proofs.CostLemmas.{spends_weaker}
 use Rattle.place_taking.specs.Laws.{IsAlikeInWear, KeepsFirst}
 use Rattle.place_taking.specs.Homes.{LeavesPlaces}
 use Rattle.place_taking.specs.Spending.{ErasesFree, SparesUsed}
-use Rattle.place_taking.specs.Wear.{Wears}
+use Rattle.place_taking.specs.Wear.{TellsOfWear}
 use Rattle.place_taking.proofs.HomeLemmas.{erases_leave, homes_equal}
 use Rattle.place_taking.proofs.WearLemmas.{failures_wear, programs_leave_places, programs_wear_nothing, spared_places_wear}
-use Rattle.merge_rules.specs.Known.{KnowsPlaces}
+use Rattle.merge_laws.specs.Known.{KnowsPlaces}
 use Rattle.selective_merge.specs.Moving.{Holds}
 use Rattle.selective_merge.proofs.HeldLemmas.{homes_used}
 use Rattle.selective_merge.specs.Spotting.{IsSpotFor}
@@ -34,7 +34,7 @@ firsts_stay t p s sector c y behind gains = elim (cases_Bool ((p == t.status.pla
 -- a sector was programmed there
 pub sectors_wear_nothing : (t after : Tables) (p s kind : ℕ) (sector : Sector) (old new : Told)
     → s ≢ 0 → IsAlikeInWear t after → Spends (ProgramsAt p 1 0 kind) old new
-    → Charts (Gains p s sector) old new → Wears t after true false old new
+    → Charts (Gains p s sector) old new → TellsOfWear t after true false old new
 sectors_wear_nothing t after p s kind sector old new behind alike programs gains =
     programs_wear_nothing t after true false old new alike
     (programs_leave_places t.places after.places p 1 0 kind old new alike.retired alike.homes programs)
@@ -45,7 +45,7 @@ sectors_wear_nothing t after p s kind sector old new behind alike programs gains
 -- or it wasn't
 pub unwritten_wears : (t after : Tables) (p kind : ℕ) (old new : Told)
     → after.places ≡ t.places → Spends (ProgramsAt p 1 0 kind) old new
-    → Wears t after false false old new
+    → TellsOfWear t after false false old new
 unwritten_wears t after p kind old new same programs =
     failures_wear t after false old new
     (programs_leave_places t.places after.places p 1 0 kind old new
@@ -66,7 +66,7 @@ log_retired t after u p s mask next (inr (over, is)) = ap (λ (x : Tables). x.pl
 -- it was written to its spot
 pub logs_wear_nothing : (t after : Tables) (u p s mask next : ℕ) (sector : Sector) (old new : Told)
     → IsAfterLog t after u p s mask next → Spends (ProgramsAt p 1 0 5) old new
-    → Charts (Gains p s sector) old new → Wears t after true false old new
+    → Charts (Gains p s sector) old new → TellsOfWear t after true false old new
 logs_wear_nothing t after u p s mask next sector old new is =
     sectors_wear_nothing t after p s 5 sector old new
     (spot_behind t u p s (spot_of_log t after u p s mask next is)) (record {
@@ -80,7 +80,7 @@ logs_wear_nothing t after u p s mask next sector old new is =
 -- room was found: free places alone were written
 pub room_wears : (places : ℕ) (t after : Tables) (old new : Told) → KnowsPlaces places t
     → Holds places t after → Spends (ErasesFree t.places after.places 3 false) old new
-    → SparesUsed t.places old new → Wears t after true false old new
+    → SparesUsed t.places old new → TellsOfWear t after true false old new
 room_wears places t after old new known holds costs spares =
     spared_places_wear t after true false old new (known.used t.status.place (inr (inl refl)))
     (ap (λ (it : Status). it.place) holds.status)
@@ -92,7 +92,7 @@ room_wears places t after old new known holds costs spares =
 -- none was found
 pub no_room_wears : (places : ℕ) (t after : Tables) (worn_out : Bool) (old new : Told) → KnowsPlaces places t
     → Holds places t after → Spends (ErasesFree t.places after.places 3 worn_out) old new
-    → Wears t after false worn_out old new
+    → TellsOfWear t after false worn_out old new
 no_room_wears places t after worn_out old new known holds costs =
     failures_wear t after worn_out old new
     (spends_weaker (ErasesFree t.places after.places 3 worn_out)

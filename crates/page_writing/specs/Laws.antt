@@ -4,8 +4,8 @@ use Rattle.chip_trait.specs.Told.{Told}
 use Rattle.log_records.specs.View.{Versioned, Spells}
 use Rattle.ipl_base.specs.declared.fault.ChipFault.{ChipFault}
 use Rattle.ipl_meaning.specs.Tables.{Tables}
-use Rattle.pending_writes.specs.Frames.{Frame, Frames, with_frame_at, with_frame_log}
-use Rattle.store_steps.specs.Advances.{KeepsState}
+use Rattle.store_laws.specs.Frames.{Frame, Frames, with_frame_at, with_frame_log}
+use Rattle.store_laws.specs.Advances.{KeepsState}
 use Rattle.page_writing.specs.Causes.{WritingCause}
 use Rattle.page_writing.specs.Writing.{WritesOut, WritesOutInSteps}
 

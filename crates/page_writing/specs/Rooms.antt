@@ -11,11 +11,11 @@ use Rattle.ipl_meaning.specs.Mirrors.{Mirrors}
 use Rattle.ipl_meaning.specs.Rests.{now, EachStands, StoryRests}
 use Rattle.ipl_meaning.specs.Tables.{Tables}
 use Rattle.unit_io.specs.Leads.{IsSteady}
-use Rattle.steps.specs.Steps.{Steps}
-use Rattle.merge_rules.specs.Merged.{IsMergedUnit, merged_layout}
+use Rattle.step_laws.specs.Steps.{Steps}
+use Rattle.merge_laws.specs.Merged.{IsMergedUnit, merged_layout}
 use Rattle.selective_merge.specs.Placing.{IsPlaced}
 use Rattle.selective_merge.specs.Throughout.{ChartsThroughout}
-use Rattle.store_steps.specs.Advances.{KeepsTablesOn, TurnsTables}
+use Rattle.store_laws.specs.Advances.{KeepsTablesOn, TurnsTables}
 
 -- the layout is as it was, or it has the unit merged
 abbrev pub IsMergedOrSame : ℕ → Chart → Chart → Layout → Tables → ℕ → Tables → Layout → Type 0

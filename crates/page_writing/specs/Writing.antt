@@ -19,12 +19,12 @@ use Rattle.ipl_meaning.specs.Tables.{Tables}
 use Rattle.ipl_meaning.specs.TableSteps.{after_home_log, after_overflow_log}
 use Rattle.unit_io.specs.Charts.{Gains}
 use Rattle.unit_io.specs.Leads.{IsSteady}
-use Rattle.steps.specs.Steps.{NoOtherEnd, Steps}
-use Rattle.steps.specs.Laws.{Preserves}
+use Rattle.step_laws.specs.Steps.{NoOtherEnd, Steps}
+use Rattle.step_laws.specs.Laws.{Preserves}
 use Rattle.selective_merge.specs.Spotting.{IsHomeSpot, IsOverflowSpot}
 use Rattle.selective_merge.specs.Throughout.{ChartsThroughout}
-use Rattle.store_steps.specs.Advances.{TurnsTables}
-use Rattle.store_steps.specs.Laws.{IsLogged}
+use Rattle.store_laws.specs.Advances.{TurnsTables}
+use Rattle.store_laws.specs.Laws.{IsLogged}
 use Rattle.page_writing.specs.Rooms.{HasLogRoom}
 
 -- ---- one log sector

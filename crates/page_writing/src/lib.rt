@@ -2,7 +2,7 @@
 //! log in memory, an eviction and a commit. It finds room for a log sector of the page's unit, which
 //! may take a merge or a new overflow place (`selective_merge`), and writes the sector. The code
 //! never sees a page or a frame: a unit, and the records as a payload. A contract sees the tables as
-//! one record (`tables_of`); a law says what a store with frames keeps so (`store_steps`).
+//! one record (`tables_of`); a law says what a store with frames keeps so (`store_laws`).
 //!
 //! Proved, by `write_out`, `writing_laws`: a page's records written out: done, the unit's log has
 //! one entry more, with exactly these records, behind nothing, a new overflow place or a merge, by

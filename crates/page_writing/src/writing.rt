@@ -5,10 +5,10 @@ ghost use Rattle.unit_io.specs.Accounts.{Accounts};
 ghost use Rattle.unit_io.specs.Charts.{Charts};
 ghost use Rattle.unit_io.specs.Costs.{ProgramsAt, Spends};
 ghost use Rattle.unit_io.specs.Leads.{IsStopped};
-ghost use Rattle.steps.specs.Steps.{Tidies};
+ghost use Rattle.step_laws.specs.Steps.{Tidies};
 ghost use Rattle.place_taking.specs.Spending.{is_worn_out};
-ghost use Rattle.place_taking.specs.Wear.{Wears};
-ghost use Rattle.merge_rules.specs.Known.{KnowsPlaces};
+ghost use Rattle.place_taking.specs.Wear.{TellsOfWear};
+ghost use Rattle.merge_laws.specs.Known.{KnowsPlaces};
 ghost use Rattle.selective_merge.specs.Merging.{FailsAsMerge, CompletesMerge};
 ghost use Rattle.selective_merge.specs.Moving.{tables_of, Holds};
 ghost use Rattle.selective_merge.specs.Spotting.{IsHomeSpot, IsSpotFor};
@@ -86,7 +86,7 @@ fn write_log<C: Chip>(
     ensures uses { UsesHome result parts.old.directory parts.new.directory unit }
     ensures drawn { parts.new.counter ≡ parts.old.counter + 1 }
     ensures costs { Spends (ProgramsAt at.place 1 0 5) (C.told chip.old) (C.told chip.new) }
-    ensures wears { Wears (tables_of parts.old) (tables_of parts.new) (is_ok result)
+    ensures wears { TellsOfWear (tables_of parts.old) (tables_of parts.new) (is_ok result)
         (is_worn_out result) (C.told chip.old) (C.told chip.new) }
     ensures tidy { Tidies (tables_of parts.old) result (tables_of parts.new)
         (C.told chip.old) (C.told chip.new) }
@@ -148,7 +148,7 @@ pub fn write_out<C: Chip>(
         × (parts.new.counter ≤ parts.old.counter + 14) }
     ensures costs { WritingCosts result (tables_of parts.old) (tables_of parts.new) unit
         (C.told chip.old) (C.told chip.new) }
-    ensures wears { Wears (tables_of parts.old) (tables_of parts.new) (is_ok result)
+    ensures wears { TellsOfWear (tables_of parts.old) (tables_of parts.new) (is_ok result)
         (is_worn_out result) (C.told chip.old) (C.told chip.new) }
     ensures tidy { Tidies (tables_of parts.old) result (tables_of parts.new)
         (C.told chip.old) (C.told chip.new) }

@@ -23,8 +23,8 @@ use Rattle.unit_io.specs.ReadsAt.{IsReadAt, ReadsAt}
 use Rattle.unit_io.specs.Spots.{Programs}
 use Rattle.unit_io.proofs.CostLemmas.{barriers_joined, erased_joined, spends_then, spends_weaker}
 use Rattle.unit_io.proofs.SpotLemmas.{silent_both}
-use Rattle.steps.specs.Steps.{Settled, Outcome, TidyWork, RestsAgreeing}
-use Rattle.steps.proofs.StepLemmas.{failures_settle, outcome_then, outcome_weaker}
+use Rattle.step_laws.specs.Steps.{Settled, Outcome, TidyWork, RestsAgreeing}
+use Rattle.step_laws.proofs.StepLemmas.{failures_settle, outcome_then, outcome_weaker}
 use Rattle.place_taking.specs.Fills.{AreOf, FillsAt}
 use Rattle.place_taking.specs.Spending.{RetiringCosts, ErasesFree, ErasesFor, WritesFree, tells_worn}
 use Rattle.place_taking.specs.Takes.{ClearsNext, ErasesNext, IsAsideFrom, IsTakenFrom, TakesPlace, with_places}

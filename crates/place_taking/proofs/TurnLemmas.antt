@@ -41,10 +41,10 @@ use Rattle.unit_io.proofs.PlaceLemmas.{begin_tells, begin_worn, begun_done, begu
 use Rattle.unit_io.proofs.SparesLemmas.{spares_erased, spares_then, spares_waited}
 use Rattle.unit_io.proofs.SpotLemmas.{clears_all, clears_erase, clears_none, clears_worn, silent_both}
 use Rattle.unit_io.proofs.UnreadLemmas.{unread_then}
-use Rattle.steps.specs.Steps.{Settled, EndsWith, Outcome, RestsAgreeing}
-use Rattle.steps.proofs.StepLemmas.{failures_settle, outcome_then, outcome_weaker}
+use Rattle.step_laws.specs.Steps.{Settled, EndsWith, Outcome, RestsAgreeing}
+use Rattle.step_laws.proofs.StepLemmas.{failures_settle, outcome_then, outcome_weaker}
 use Rattle.place_taking.specs.Spending.{ErasesFree, FindsOneMore, IsFreshFrom, RetiresWorn, SparesClean, SparesUsed, is_found_worn, tells_worn}
-use Rattle.place_taking.specs.Takes.{ClearsNext, ErasesNext, IsAsideFrom, IsNotTaken, IsTakenFrom, RestsTaken, Takes, TakesPlace, TellsTaking, with_places}
+use Rattle.place_taking.specs.Takes.{ClearsNext, ErasesNext, IsAsideFrom, IsNotTaken, IsTakenFrom, RestsTaken, TakesFree, TakesPlace, TellsTaking, with_places}
 use Rattle.place_taking.specs.Turns.{FindsWorn}
 use Rattle.place_taking.proofs.SpendingLemmas.{all_apart, found_later, found_earlier, found_either, or_either, or_left, retires_none, tried_either}
 
@@ -232,7 +232,7 @@ module _ (d : Places) (p : ℕ) (next : IsNextFree d p) where
               leads.ends.1.0 leads.ends.1.1);
         }
 
-    pub place_erased : Takes d old (Ok p) then new
+    pub place_erased : TakesFree d old (Ok p) then new
     place_erased = record {
       directory = record { worn = []; in_turn = tt; next = next; places_is = is };
       takes = erased_rests;
@@ -292,7 +292,7 @@ module _ (d : Places) (p : ℕ) (next : IsNextFree d p) where
           ends = λ unrisen. absurd (omega (arith, stopped.1, unrisen));
         }
 
-    pub place_stopped : Takes d old (Err e) then new
+    pub place_stopped : TakesFree d old (Err e) then new
     place_stopped = record {
       directory = record { worn = []; in_turn = tt; places_is = is };
       takes = broken_rests;
@@ -371,8 +371,8 @@ module _ (d between : Places) (p : ℕ) (old mid : Told) (within : p < old.place
               leads.ends.1.1);
         }
 
-    pub place_last : Takes d old (Err e) then mid
-    place_last = subst (λ (b : Places). Takes d old (Err e) b mid) (sym as_before) (record {
+    pub place_last : TakesFree d old (Err e) then mid
+    place_last = subst (λ (b : Places). TakesFree d old (Err e) b mid) (sym as_before) (record {
       directory = record { worn = []; in_turn = tt; places_is = refl };
       takes = last_rests;
       tells = λ other x told. (x, finds.worn.contents ∙ ap (option_map (after (Worn p))) told, refl);
@@ -392,7 +392,7 @@ module _ (d between : Places) (p : ℕ) (old mid : Told) (within : p < old.place
   -- ---- and others are tried after it
 
   module _ (r : Result ℕ ChipFault) (then : Places) (new : Told)
-      (rest : Takes (put_aside d p) mid r then new) where
+      (rest : TakesFree (put_aside d p) mid r then new) where
     -- the directory
     worn_directory : MatchResult r (λ place. IsTakenFrom d place then) (λ fault. IsAsideFrom d then)
     worn_directory = by_case r rest.directory
@@ -601,7 +601,7 @@ module _ (d between : Places) (p : ℕ) (old mid : Told) (within : p < old.place
       ];
     }
 
-    pub worn_then : Takes d old r then new
+    pub worn_then : TakesFree d old r then new
     worn_then = record {
       directory = worn_directory;
       takes = worn_rests;
@@ -623,8 +623,8 @@ module _ (d between : Places) (p : ℕ) (old mid : Told) (within : p < old.place
 
 -- so many places are retired after those that were found worn, and what is done then is all that is done
 pub record AreTried (first d : Places) (old t : Told) (retired spares : ℕ) : Type 0 where
-  pub later : (r : Result ℕ ChipFault) (then : Places) (new : Told) → Takes d t r then new
-      → Takes first old r then new
+  pub later : (r : Result ℕ ChipFault) (then : Places) (new : Told) → TakesFree d t r then new
+      → TakesFree first old r then new
   pub ready : IsReadyToTake d
   pub places : length d.in_use ≡ t.places
   pub many : length d.retired ≡ retired

@@ -15,7 +15,7 @@ use Rattle.unit_io.proofs.CostLemmas.{costs_reads, programs_at_cost, spends_none
 use Rattle.place_taking.specs.Laws.{IsAlikeInWear, KeepsFirst, NothingWears, ProgramsWearNothing, SparedPlacesWear, WearsAreJoined, FailuresWear}
 use Rattle.place_taking.specs.Homes.{KeepsHomes, LeavesPlaces}
 use Rattle.place_taking.specs.Spending.{SparesUsed}
-use Rattle.place_taking.specs.Wear.{ListsNoOther, Wears}
+use Rattle.place_taking.specs.Wear.{ListsNoOther, TellsOfWear}
 use Rattle.place_taking.proofs.HomeLemmas.{homes_equal, known_untried, places_then}
 use Rattle.place_taking.proofs.SpendingLemmas.{none_found, retires_none}
 
@@ -126,7 +126,7 @@ nothing_wears t after done old alike = record {
 
 -- whichever sectors were read
 pub reads_wear_at : (At : ℕ → ℕ → Type 0) (t after : Tables) (done : Bool) (old new : Told)
-    → IsAlikeInWear t after → ReadsAt At old new → Wears t after done false old new
+    → IsAlikeInWear t after → ReadsAt At old new → TellsOfWear t after done false old new
 reads_wear_at At t after done old new alike did = record {
   places = reads_leave_places At t.places after.places old new alike.retired alike.homes did;
   lists = λ _. charts_same t after old new alike.status did.contents;

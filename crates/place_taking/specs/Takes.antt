@@ -15,7 +15,7 @@ use Rattle.unit_io.specs.Charts.{Charts, IsCleared}
 use Rattle.unit_io.specs.Costs.{Spends, is_erased}
 use Rattle.unit_io.specs.Leads.{IsSteady, IsStopped}
 use Rattle.unit_io.specs.Unread.{ReadsNothing}
-use Rattle.steps.specs.Steps.{Settled, EndsWith, Outcome, RestsAgreeing}
+use Rattle.step_laws.specs.Steps.{Settled, EndsWith, Outcome, RestsAgreeing}
 use Rattle.place_taking.specs.Spending.{ErasesFree, SparesClean, IsFreshFrom, SparesUsed, is_worn_out}
 
 -- ---- the directory
@@ -99,7 +99,7 @@ TakesPlace before old result after new = (m : Map) (it : Layout) (t : Tables) (h
 -- ---- all of it
 
 -- what taking a place leaves, however it ends
-pub record Takes (before : Places) (old : Told) (result : Result ℕ ChipFault) (after : Places)
+pub record TakesFree (before : Places) (old : Told) (result : Result ℕ ChipFault) (after : Places)
     (new : Told) : Type 0 where
   pub directory : MatchResult result (λ place. IsTakenFrom before place after)
       (λ fault. IsAsideFrom before after)

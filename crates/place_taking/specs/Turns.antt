@@ -7,7 +7,7 @@ use Rattle.ipl_meaning.specs.Tables.{Places, with_use}
 use Rattle.unit_directory.specs.Free.{IsNextFree}
 use Rattle.place_taking.specs.declared.taking.Tried.{Tried}
 use Rattle.place_taking.specs.declared.taking.Tried.TheVariants.{Erased, Worn as FoundWorn}
-use Rattle.place_taking.specs.Takes.{Takes}
+use Rattle.place_taking.specs.Takes.{TakesFree}
 
 -- the next free place was found worn, and is in use
 pub record FindsWorn (before : Places) (old : Told) (p : ℕ) (after : Places) (new : Told) : Type 0 where
@@ -19,6 +19,6 @@ pub record FindsWorn (before : Places) (old : Told) (p : ℕ) (after : Places) (
 
 -- the next free place was erased, or found worn
 abbrev pub TriesNext : Places → Told → Result Tried ChipFault → Places → Told → Type 0
-TriesNext before old (Ok (Erased p)) after new = Takes before old (Ok p) after new
+TriesNext before old (Ok (Erased p)) after new = TakesFree before old (Ok p) after new
 TriesNext before old (Ok (FoundWorn p)) after new = FindsWorn before old p after new
-TriesNext before old (Err fault) after new = Takes before old (Err fault) after new
+TriesNext before old (Err fault) after new = TakesFree before old (Err fault) after new

@@ -23,6 +23,6 @@ ListsNoOther t after c y = (p : ℕ) → IsListed after y p
 -- retired besides was found worn in it. A unit of which nothing is known then has the place that it had,
 -- nothing was known of it, and no erase of that was tried. Done, over a chip that tells what it holds the
 -- header of the status place lists what it listed, or places that are retired.
-pub record Wears (t after : Tables) (done worn_out : Bool) (old new : Told) : Type 0 where
+pub record TellsOfWear (t after : Tables) (done worn_out : Bool) (old new : Told) : Type 0 where
   pub places : Spends (LeavesPlaces t.places after.places worn_out) old new
   pub lists : done ≡ true → Charts (ListsNoOther t after) old new

@@ -23,7 +23,7 @@ fn weigh_slot(slot: &Option<OpenSession>, unit: u32) -> u32
 }
 
 /// What the names of a unit that sessions wrote weigh.
-pub fn weigh_pending(slots: &[Option<OpenSession>], unit: u32) -> u32
+pub(crate) fn weigh_pending(slots: &[Option<OpenSession>], unit: u32) -> u32
     requires few { length slots.now ≤ SESSIONS }
     requires sized { All IsSized slots.now }
     ensures weight { result ≡ sum_by (λ o. slot_weight o unit) slots.now }
@@ -83,7 +83,7 @@ fn is_holder(other: u32, slot: &Option<OpenSession>, s: u32, name: Name, for_wri
 }
 
 /// The least session other than `s` that keeps it from a name.
-pub fn find_holder(
+pub(crate) fn find_holder(
     slots: &[Option<OpenSession>],
     s: u32,
     name: Name,

@@ -96,7 +96,7 @@ impl OpenSession {
     }
 
     /// What the names of a unit that it wrote weigh.
-    pub fn weight_in_unit(&self, unit: u32) -> u32
+    pub(crate) fn weight_in_unit(&self, unit: u32) -> u32
         requires { length self.now.sizes ≡ length self.now.written }
         ensures weight { result ≡ weight_listed self.now.written self.now.sizes unit }
         ensures fits { result ≤ LONG_WEIGHT * SESSION_NAMES }
@@ -114,7 +114,7 @@ impl OpenSession {
     }
 
     /// Raises the size of a name that it wrote.
-    pub fn raise(&mut self, name: Name, size: u32)
+    pub(crate) fn raise(&mut self, name: Name, size: u32)
         requires { length self.old.sizes ≡ length self.old.written }
         ensures { self.new ≡ record self.old {
           sizes = raised self.old.written self.old.sizes name.0 size;
@@ -129,7 +129,7 @@ impl OpenSession {
     }
 
     /// Puts a name behind those that it wrote, and its size.
-    pub fn push_written(&mut self, name: Name, size: u32)
+    pub(crate) fn push_written(&mut self, name: Name, size: u32)
         requires names { length self.old.written < 256 }
         requires sizes { length self.old.sizes < 256 }
         ensures { self.new ≡ record self.old {
@@ -142,7 +142,7 @@ impl OpenSession {
     }
 
     /// Puts a name behind those that it shares.
-    pub fn push_shared(&mut self, name: Name)
+    pub(crate) fn push_shared(&mut self, name: Name)
         requires { length self.old.shared < 256 }
         ensures { self.new ≡ record self.old { shared = self.old.shared ++ name.0 ∷ [] } }
     {
@@ -151,7 +151,7 @@ impl OpenSession {
 }
 
 /// The session in a slot, if there is one, shares a name, unless it wrote or shares it already.
-pub fn share_in(slot: &mut Option<OpenSession>, name: Name)
+pub(crate) fn share_in(slot: &mut Option<OpenSession>, name: Name)
     requires { IfSome slot.old (λ h. is_among name.0 h.written ≡ false
         → is_among name.0 h.shared ≡ false → length h.shared < 256) }
     ensures { slot.new ≡ option_map (with_shared name.0) slot.old }
@@ -165,7 +165,7 @@ pub fn share_in(slot: &mut Option<OpenSession>, name: Name)
 }
 
 /// The session in a slot, if there is one, writes a name, by a write of this size.
-pub fn write_in(slot: &mut Option<OpenSession>, name: Name, size: u32)
+pub(crate) fn write_in(slot: &mut Option<OpenSession>, name: Name, size: u32)
     requires sized { IfSome slot.old (λ h. length h.sizes ≡ length h.written) }
     requires room { IfSome slot.old (λ h. is_among name.0 h.written ≡ false
         → length h.written < 256) }
@@ -181,7 +181,7 @@ pub fn write_in(slot: &mut Option<OpenSession>, name: Name, size: u32)
 }
 
 /// Whether a name is among these.
-pub fn is_listed(names: &[Name], name: Name) -> bool
+pub(crate) fn is_listed(names: &[Name], name: Name) -> bool
     ensures { result ≡ is_among name.0 (map (λ n. n.0) names.now) }
 {
     for listed in names {

@@ -8,9 +8,9 @@ use Rattle.ipl_meaning.specs.Chart.{Chart}
 use Rattle.number_set.proofs.NumberLemmas.{with_numbers_grow}
 use Rattle.kept_numbers.specs.Joins.{committed_in, joined}
 use Rattle.kept_numbers.proofs.JoinLemmas.{too_many}
-use Rattle.opening_rules.specs.Chosen.{KeptHeader, Winner}
-use Rattle.opening_rules.specs.Live.{kept, seen, is_live, live_at}
-use Rattle.opening_rules.proofs.ScanLemmas.{live_here}
+use Rattle.opening_laws.specs.Chosen.{KeptHeader, Winner}
+use Rattle.opening_laws.specs.Live.{kept, seen, is_live, live_at}
+use Rattle.opening_laws.proofs.ScanLemmas.{live_here}
 use Rattle.restart.specs.Collected.{records_at, numbers_below, AreKept}
 
 -- ---- one sector more

@@ -14,19 +14,19 @@ use Rattle.ipl_meaning.specs.Layout.{Laid}
 use Rattle.ipl_meaning.specs.Tables.{Status}
 use Rattle.unit_io.specs.ReadsAt.{Anywhere, ReadsAt, IsCauseAt}
 use Rattle.ipl_base.specs.First.{first_below}
-use Rattle.opening_rules.specs.First.{greatest_below}
-use Rattle.opening_rules.specs.Chosen.{Winner, head_of, status_at}
-use Rattle.opening_rules.specs.Live.{sectors, noted_at}
-use Rattle.opening_rules.specs.Faults.{TellsImageFault, noted_fault, noted_number, greatest_of_notes}
-use Rattle.opening_rules.specs.LaidOut.{committed_numbers, layout_in}
-use Rattle.opening_rules.proofs.HeaderLemmas.{chosen_are_status}
+use Rattle.opening_laws.specs.First.{greatest_below}
+use Rattle.opening_laws.specs.Chosen.{Winner, head_of, status_at}
+use Rattle.opening_laws.specs.Live.{sectors, noted_at}
+use Rattle.opening_laws.specs.Faults.{TellsImageFault, noted_fault, noted_number, greatest_of_notes}
+use Rattle.opening_laws.specs.LaidOut.{committed_numbers, layout_in}
+use Rattle.opening_laws.proofs.HeaderLemmas.{chosen_are_status}
 use Rattle.number_set.specs.Numbers.{with_numbers}
 use Rattle.number_set.proofs.NumberLemmas.{numbers_are_a_union}
 use Rattle.txn_status.specs.ReadingIn.{under, status_in}
 use Rattle.txn_status.specs.Marks.{MarksRead, marks_in}
-use Rattle.opened_tables.specs.Opened.{IsOpenedStatus}
+use Rattle.opening_laws.specs.Opened.{IsOpenedStatus}
 use Rattle.unit_io.proofs.ReadsAtLemmas.{at_wider}
-use Rattle.restart.specs.Looks.{OnlyReads, HasCauseFor, Looks}
+use Rattle.restart.specs.Looks.{OnlyReads, HasCauseFor, OnlyLooksAt}
 
 -- ---- what it does to the chip
 
@@ -44,7 +44,7 @@ at_cause At (WornOut n) old new cause = absurd cause
 
 -- and it is handed on
 pub at_looks : {T : Type 0} (At : ℕ → ℕ → Type 0) (r : Result T ImageFault) (e : ChipFault) (old new : Told)
-    → ReadsAt At old new → IsCauseAt At e old new → IsErrAnd r (λ y. y ≡ Chip e) → Looks (HasCauseFor false) r old new
+    → ReadsAt At old new → IsCauseAt At e old new → IsErrAnd r (λ y. y ≡ Chip e) → OnlyLooksAt (HasCauseFor false) r old new
 at_looks At (Ok v) e old new did cause exit = absurd exit
 at_looks At (Err y) e old new did cause exit = record {
   reads = at_reads At old new did;

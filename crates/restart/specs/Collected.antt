@@ -9,9 +9,9 @@ use Rattle.ipl_meaning.specs.Chart.{Chart}
 use Rattle.number_set.specs.Numbers.{AreRising}
 use Rattle.kept_numbers.specs.Joins.{joined}
 use Rattle.kept_numbers.specs.Keeps.{KeepsBelow}
-use Rattle.opening_rules.specs.Chosen.{KeptHeader, Winner}
-use Rattle.opening_rules.specs.LaidOut.{layout_in}
-use Rattle.opening_rules.specs.Live.{live_at}
+use Rattle.opening_laws.specs.Chosen.{KeptHeader, Winner}
+use Rattle.opening_laws.specs.LaidOut.{layout_in}
+use Rattle.opening_laws.specs.Live.{live_at}
 
 -- the records of a log sector, where there is one
 abbrev pub records_at : Option Sector → List Record

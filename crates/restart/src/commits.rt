@@ -4,14 +4,14 @@ ghost use Rattle.ipl_base.specs.declared.limits.TheConstants.{MOST_UNITS};
 ghost use Rattle.ipl_meaning.specs.Chart.{chart_of};
 ghost use Rattle.unit_io.specs.Reads.{OfContents};
 ghost use Rattle.ipl_base.specs.First.{first_below};
-ghost use Rattle.opening_rules.specs.Chosen.{units_told};
-ghost use Rattle.opening_rules.specs.Live.{sectors};
-ghost use Rattle.opening_rules.specs.Faults.{TellsImageFault, noted_fault, greatest_of_notes};
+ghost use Rattle.opening_laws.specs.Chosen.{units_told};
+ghost use Rattle.opening_laws.specs.Live.{sectors};
+ghost use Rattle.opening_laws.specs.Faults.{TellsImageFault, noted_fault, greatest_of_notes};
 ghost use Rattle.ipl_format.specs.Whole.{IsWhole};
 ghost use Rattle.unit_io.specs.ReadsAt.{ReadsOnce};
 ghost use Rattle.txn_status.specs.ReadingIn.{status_in, IsCommitSpot};
 ghost use Rattle.txn_status.specs.Marks.{marks_in};
-ghost use Rattle.restart.specs.Looks.{Looks, HasCauseFor};
+ghost use Rattle.restart.specs.Looks.{OnlyLooksAt, HasCauseFor};
 
 use crate::kept::Winner;
 use chip_trait::Chip;
@@ -43,7 +43,7 @@ pub(crate) fn read_commits<C: Chip>(
         (chart_of x) (Some winner.now)) sectors) result) }
     ensures whole { OnOk result (OfContents (C.told chip.old) (λ x.
         (s : ℕ) → 1 ≤ s → s < 256 → IsWhole (x winner.now.place s))) }
-    ensures looks { Looks (HasCauseFor false) result (C.told chip.old) (C.told chip.new) }
+    ensures looks { OnlyLooksAt (HasCauseFor false) result (C.told chip.old) (C.told chip.new) }
     ensures once { ReadsOnce (IsCommitSpot winner.now.place) (C.told chip.old) (C.told chip.new) }
 {
     let units = winner.units(geometry);

@@ -13,15 +13,15 @@ ghost use Rattle.unit_io.specs.Kinds.{sector_named};
 ghost use Rattle.unit_io.specs.Found.{checked};
 ghost use Rattle.kept_numbers.specs.Joins.{joined};
 ghost use Rattle.ipl_base.specs.First.{first_below};
-ghost use Rattle.opening_rules.specs.First.{at, with_one};
-ghost use Rattle.opening_rules.specs.Live.{kept, Mark, mark_of, is_log, is_log_spot, is_overflow_place, is_live};
-ghost use Rattle.opening_rules.specs.Payloads.{is_log_payload};
-ghost use Rattle.opened_tables.specs.Found.{mask_of_sector};
-ghost use Rattle.opening_rules.specs.Faults.{TellsImageFault, is_image, is_told, log_test, log_fault, log_number};
+ghost use Rattle.opening_laws.specs.First.{at, with_one};
+ghost use Rattle.opening_laws.specs.Live.{kept, Mark, mark_of, is_log, is_log_spot, is_overflow_place, is_live};
+ghost use Rattle.opening_laws.specs.Payloads.{is_log_payload};
+ghost use Rattle.opening_laws.specs.Found.{mask_of_sector};
+ghost use Rattle.opening_laws.specs.Faults.{TellsImageFault, is_image, is_told, log_test, log_fault, log_number};
 ghost use Rattle.overflow.specs.Lists.{spots_in};
 ghost use Rattle.unit_io.specs.ReadsAt.{ReadsOnce};
 ghost use Rattle.txn_status.specs.ReadingIn.{IsAt};
-ghost use Rattle.restart.specs.Looks.{Looks, HasCauseFor, MayHoldLog};
+ghost use Rattle.restart.specs.Looks.{OnlyLooksAt, HasCauseFor, MayHoldLog};
 ghost use Rattle.restart.specs.Notes.{units_of, HasRoom, AreSized, overflow_count_of, listed, IsNoted, IsRoomy};
 ghost use Rattle.restart.specs.Masked.{SamePlaces, NoneNamed, masked, IsMasked};
 ghost use Rattle.restart.specs.Collected.{records_at, AreKept};
@@ -342,7 +342,7 @@ fn scan_sector<C: Chip>(
         → AreReadLogs x mark (at current.now) (length current.now) (spot.place * 256 + spot.sector + 1) directory.new)) }
     ensures unknown { StaysUnknown directory.old directory.new }
     ensures places { SameHomes directory.old directory.new }
-    ensures looks { Looks (HasCauseFor false) result (C.told chip.old) (C.told chip.new) }
+    ensures looks { OnlyLooksAt (HasCauseFor false) result (C.told chip.old) (C.told chip.new) }
     ensures once { ReadsOnce (λ p s. IsAt spot.place spot.sector p s
         × MayHoldLog (at heads.now) (at current.now) p s) (C.told chip.old) (C.told chip.new) }
 {
@@ -397,7 +397,7 @@ fn scan_place<C: Chip>(
         → AreReadLogs x mark (at current.now) (length current.now) ((place + 1) * 256) directory.new)) }
     ensures unknown { StaysUnknown directory.old directory.new }
     ensures places { SameHomes directory.old directory.new }
-    ensures looks { Looks (HasCauseFor false) result (C.told chip.old) (C.told chip.new) }
+    ensures looks { OnlyLooksAt (HasCauseFor false) result (C.told chip.old) (C.told chip.new) }
     ensures once { ReadsOnce (λ p s. (p ≡ place) × MayHoldLog (at heads.now) (at current.now) p s)
         (C.told chip.old) (C.told chip.new) }
 {
@@ -448,7 +448,7 @@ pub(crate) fn scan<C: Chip>(
         → AreReadLogs x mark (at current.now) (length current.now) (geometry.places * 256) directory.new)) }
     ensures unknown { StaysUnknown directory.old directory.new }
     ensures places { SameHomes directory.old directory.new }
-    ensures looks { Looks (HasCauseFor false) result (C.told chip.old) (C.told chip.new) }
+    ensures looks { OnlyLooksAt (HasCauseFor false) result (C.told chip.old) (C.told chip.new) }
     ensures once { ReadsOnce (MayHoldLog (at heads.now) (at current.now))
         (C.told chip.old) (C.told chip.new) }
 {

@@ -7,24 +7,24 @@ ghost use Rattle.ipl_meaning.specs.Chart.{chart_of};
 ghost use Rattle.ipl_meaning.specs.Layout.{Laid};
 ghost use Rattle.ipl_meaning.specs.Mirrors.{Mirrors};
 ghost use Rattle.unit_io.specs.Reads.{OfContents};
-ghost use Rattle.opening_rules.specs.First.{at, count_below};
-ghost use Rattle.opening_rules.specs.Chosen.{units_told};
-ghost use Rattle.opening_rules.specs.Live.{marks as live_marks};
-ghost use Rattle.opening_rules.specs.Faults.{TellsImageFault, header_fault, fault_for, first_fault, shape_fault, greatest_found};
-ghost use Rattle.opening_rules.specs.Laws.{IsByteChart};
-ghost use Rattle.opening_rules.specs.LaidOut.{layout_in};
+ghost use Rattle.opening_laws.specs.First.{at, count_below};
+ghost use Rattle.opening_laws.specs.Chosen.{units_told};
+ghost use Rattle.opening_laws.specs.Live.{marks as live_marks};
+ghost use Rattle.opening_laws.specs.Faults.{TellsImageFault, header_fault, fault_for, first_fault, shape_fault, greatest_found};
+ghost use Rattle.opening_laws.specs.Laws.{IsByteChart};
+ghost use Rattle.opening_laws.specs.LaidOut.{layout_in};
 ghost use Rattle.ipl_format.specs.Whole.{IsWhole};
 ghost use Rattle.restart.specs.Bytes.{IsRestWhole, ReadsBytes, ReadsBytesFor};
 ghost use Rattle.unit_io.specs.ReadsAt.{Anywhere, ReadsOnce};
-ghost use Rattle.restart.specs.Looks.{Looks, HasCause, HasCauseFor, IsHeaderSpot, IsBehindHeader, MayHoldLog};
+ghost use Rattle.restart.specs.Looks.{OnlyLooksAt, HasCause, HasCauseFor, IsHeaderSpot, IsBehindHeader, MayHoldLog};
 ghost use Rattle.txn_status.specs.ReadingIn.{status_in};
-ghost use Rattle.merge_rules.specs.Known.{KnowsPlaces};
-ghost use Rattle.opened_tables.specs.Opened.{AreOpened, tables_of};
+ghost use Rattle.merge_laws.specs.Known.{KnowsPlaces};
+ghost use Rattle.opening_laws.specs.Opened.{AreOpened, tables_of};
 ghost use Rattle.restart.specs.Notes.{HasRoom, AreSized, IsNoted};
 ghost use Rattle.restart.specs.Kept.{counted_in};
 ghost use Rattle.restart.specs.Masked.{NoneNamed, mask_by, IsMasked};
 ghost use Rattle.restart.specs.Counted.{SameHomes, NoneKnown, AreHomes, AreReadLogs};
-ghost use Rattle.opening_rules.specs.Marked.{last_close_mark};
+ghost use Rattle.opening_laws.specs.Marked.{last_close_mark};
 ghost use Rattle.restart.specs.Shown.{ShowsHeaders, HeadersCount, is_held, number_by, fault_by};
 ghost use Rattle.restart.specs.Opened.{HasFree, IsUnmarked, CountsMarked};
 ghost use Rattle.restart.specs.Collected.{numbers_below, AreKept, AreCollected};
@@ -71,7 +71,7 @@ fn read_headers<C: Chip>(
         TellsImageFault (header_fault (chart_of x) geometry.places) result) }
     ensures whole { OnOk result (OfContents (C.told chip.old) (λ x.
         (p : ℕ) → p < geometry.places → IsWhole (x p 0))) }
-    ensures looks { Looks (HasCauseFor false) result (C.told chip.old) (C.told chip.new) }
+    ensures looks { OnlyLooksAt (HasCauseFor false) result (C.told chip.old) (C.told chip.new) }
     ensures once { ReadsOnce IsHeaderSpot (C.told chip.old) (C.told chip.new) }
     ensures size { length table.new ≡ length table.old }
 {
@@ -142,7 +142,7 @@ fn read_rest<C: Chip>(
     ensures none { OnOk result (overflow.new.in_use ≡ []) }
     ensures sized { OnOk result (AreSized (length current.now) geometry.places noted.new overflow.new) }
     ensures room { HasRoom geometry.places noted.new × (overflow.new.places ≡ geometry.places) }
-    ensures looks { Looks (HasCauseFor draws) result (C.told chip.old) (C.told chip.new) }
+    ensures looks { OnlyLooksAt (HasCauseFor draws) result (C.told chip.old) (C.told chip.new) }
     ensures once { ((s : ℕ) → ¬ MayHoldLog (at heads.now) (at current.now) winner.now.place s)
         → ReadsOnce IsBehindHeader (C.told chip.old) (C.told chip.new) }
 {
@@ -204,7 +204,7 @@ fn read_chip<C: Chip>(
     ensures size { length directory.new.in_use ≡ geometry.places }
     ensures table { length table.new ≡ length table.old }
     ensures room { HasRoom geometry.places noted.new × (overflow.new.places ≡ geometry.places) }
-    ensures looks { Looks (HasCauseFor draws) result (C.told chip.old) (C.told chip.new) }
+    ensures looks { OnlyLooksAt (HasCauseFor draws) result (C.told chip.old) (C.told chip.new) }
     ensures once { ReadsOnce Anywhere (C.told chip.old) (C.told chip.new) }
 {
     let mut kept = HeadSector::none();
@@ -265,7 +265,7 @@ fn open<C: Chip>(
     ensures size { length directory.new.in_use ≡ geometry.places }
     ensures table { length table.new ≡ length table.old }
     ensures room { HasRoom geometry.places noted.new × (overflow.new.places ≡ geometry.places) }
-    ensures looks { Looks HasCause result (C.told chip.old) (C.told chip.new) }
+    ensures looks { OnlyLooksAt HasCause result (C.told chip.old) (C.told chip.new) }
     ensures once { ReadsOnce Anywhere (C.told chip.old) (C.told chip.new) }
 {
     match read_chip(
@@ -279,7 +279,7 @@ fn open<C: Chip>(
     }
 }
 
-/// Looks a chip over into these tables, where no number will be drawn.
+/// OnlyLooksAt a chip over into these tables, where no number will be drawn.
 fn look_over<C: Chip>(
     chip: &mut C,
     geometry: Geometry,
@@ -312,7 +312,7 @@ fn look_over<C: Chip>(
     ensures size { length directory.new.in_use ≡ geometry.places }
     ensures table { length table.new ≡ length table.old }
     ensures room { HasRoom geometry.places noted.new × (overflow.new.places ≡ geometry.places) }
-    ensures looks { Looks (HasCauseFor false) result (C.told chip.old) (C.told chip.new) }
+    ensures looks { OnlyLooksAt (HasCauseFor false) result (C.told chip.old) (C.told chip.new) }
     ensures once { ReadsOnce Anywhere (C.told chip.old) (C.told chip.new) }
 {
     match read_chip(
@@ -430,7 +430,7 @@ pub fn recover<C: Chip>(
 
     // It only reads, each sector at most once, and fails with no other cause than a fault of the contents
     // or a failed read.
-    ensures looks { Looks HasCause result (C.told chip.old) (C.told chip.new) }
+    ensures looks { OnlyLooksAt HasCause result (C.told chip.old) (C.told chip.new) }
     ensures once { ReadsOnce Anywhere (C.told chip.old) (C.told chip.new) }
     ensures sized { (scratch.new ≡ scratch.old)
         × (length directory.new.in_use ≡ length directory.old.in_use)
@@ -451,7 +451,7 @@ pub fn recover<C: Chip>(
     )
 }
 
-/// Looks a chip over, as `recover` does, and fails with the same faults but for one: it draws no
+/// OnlyLooksAt a chip over, as `recover` does, and fails with the same faults but for one: it draws no
 /// number, so that none are left is none. Of a chip without a fault the tables then say what was
 /// found, as after `recover`.
 pub fn survey<C: Chip>(
@@ -488,7 +488,7 @@ pub fn survey<C: Chip>(
 
     // It only reads, each sector at most once, and fails with no other cause than a fault of the contents
     // or a failed read.
-    ensures looks { Looks (HasCauseFor false) result (C.told chip.old) (C.told chip.new) }
+    ensures looks { OnlyLooksAt (HasCauseFor false) result (C.told chip.old) (C.told chip.new) }
     ensures once { ReadsOnce Anywhere (C.told chip.old) (C.told chip.new) }
     ensures sized { (scratch.new ≡ scratch.old)
         × (length directory.new.in_use ≡ length directory.old.in_use)

@@ -146,7 +146,11 @@ fn answer<S: Store, D: Desk>(store: &mut S, desk: &mut D, command: &Command) -> 
 }
 
 /// Answers one line, if it is a command.
-pub fn answer_line<S: Store, D: Desk>(store: &mut S, desk: &mut D, line: &[u8]) -> Result<(), Stop>
+pub(crate) fn answer_line<S: Store, D: Desk>(
+    store: &mut S,
+    desk: &mut D,
+    line: &[u8],
+) -> Result<(), Stop>
     ghost places: { ℕ }
     requires places { (D.told desk.old).places ≡ places }
     requires suits { (S.keeping places).suits store.old }

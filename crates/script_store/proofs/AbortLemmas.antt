@@ -26,7 +26,7 @@ use Rattle.record_locks.specs.Standing.{state_of}
 use Rattle.store_trait.proofs.UnusedLemmas.{unused_none}
 use Rattle.store_trait.specs.Keeping.{WorkLeaves}
 use Rattle.store_trait.proofs.TidyLemmas.{tidy_same, tidy_then}
-use Rattle.store_steps.specs.Keeps.{limits_of, keeps_each}
+use Rattle.store_laws.specs.Keeps.{limits_of, keeps_each}
 use Rattle.ipl_store.specs.declared.store.Store.{Store}
 use Rattle.ipl_store.specs.Calls.{Calls, view_of, counter_of, down_fault, early_fault}
 use Rattle.script_store.specs.declared.store.ScriptStore.{ScriptStore}

@@ -21,8 +21,8 @@ use Rattle.unit_io.specs.Accounts.{Accounts}
 use Rattle.unit_io.specs.Costs.{Spends}
 use Rattle.unit_io.specs.Leads.{IsStopped}
 use Rattle.unit_io.proofs.CostLemmas.{spends_then}
-use Rattle.steps.specs.Steps.{Settled, Tidies}
-use Rattle.place_taking.specs.Wear.{Wears}
+use Rattle.step_laws.specs.Steps.{Settled, Tidies}
+use Rattle.place_taking.specs.Wear.{TellsOfWear}
 use Rattle.place_taking.proofs.HomeLemmas.{homes_equal}
 use Rattle.place_taking.proofs.WearLemmas.{programs_leave_places}
 use Rattle.clean_close.specs.Closing.{ClosesInSteps, EndsWithMark, MarksUnits}
@@ -33,7 +33,7 @@ use Rattle.store_trait.specs.declared.fault.Fault.TheVariants.{Chip, Spent}
 use Rattle.store_trait.specs.Behind.{KeepsBehind, WorksBehind}
 use Rattle.store_trait.specs.Keeping.{LAST_NUMBER, Works, WorkLeaves, StillRecalls, DoneRecalls}
 use Rattle.store_trait.proofs.TidyLemmas.{tidy_then}
-use Rattle.store_steps.specs.Keeps.{ChipCause, ChipTells, StoreCause}
+use Rattle.store_laws.specs.Keeps.{ChipCause, ChipTells, StoreCause}
 use Rattle.ipl_store.specs.declared.store.Store.{Store}
 use Rattle.ipl_store.specs.Calls.{view_of, counter_of, IsSound, entry_fault, early_fault, ends_worn_out, Serves, Calls}
 use Rattle.ipl_store.specs.Closing.{ClosesStore, EndsMarking, MarksStore, ServesClose}
@@ -79,7 +79,7 @@ module _ (m : ScriptStore) (between : Store) (before told : Told) (runs : IsRunn
   ready_failed : (fault : StoreFault) → Readied (Err fault) → IsSound before.places between
       → Tidies {T = Unit {0}} (tables_in m.store.transactions.pages) (Err fault)
       (tables_in between.transactions.pages) before told
-      → Wears (tables_in m.store.transactions.pages) (tables_in between.transactions.pages) false
+      → TellsOfWear (tables_in m.store.transactions.pages) (tables_in between.transactions.pages) false
       (ends_worn_out {T = Unit {0}} (Err fault)) before told
       → Counts before told
       → WorksBehind (script_keeping before.places) m before (closed (Err fault)) (shut between) told
@@ -376,7 +376,7 @@ module _ (a m : ScriptStore) (c : Store) (before after : Told) (result : Result 
       told = served.told
 
       -- what was erased is known still: the status place was made ready, and then programmed
-      marked_recalls : Wears (tables_in m.store.transactions.pages) (tables_in between.transactions.pages)
+      marked_recalls : TellsOfWear (tables_in m.store.transactions.pages) (tables_in between.transactions.pages)
           true false before told → MarksStore between told result c after
           → StillRecalls (script_keeping before.places) m before (shut c) after
       marked_recalls wears marked entry recalled =
@@ -392,7 +392,7 @@ module _ (a m : ScriptStore) (c : Store) (before after : Told) (result : Result 
       by_ready : (r : Result (Unit {0}) StoreFault)
           → Serves (λ state. state) (2 ^ 14) m.store before r between told
           → Tidies (tables_in m.store.transactions.pages) r (tables_in between.transactions.pages) before told
-          → Wears (tables_in m.store.transactions.pages) (tables_in between.transactions.pages) (is_ok r)
+          → TellsOfWear (tables_in m.store.transactions.pages) (tables_in between.transactions.pages) (is_ok r)
           (ends_worn_out r) before told
           → MatchResult r (λ _. MarksStore between told result c after)
           (λ fault. (result ≡ Err fault) × (c ≡ between) × (after ≡ told)) → Ended result

@@ -11,7 +11,7 @@ use Rattle.record_locks.specs.Held.{Held, Slots, held_at, after_end}
 use Rattle.record_locks.specs.Locks.{refuses_close}
 use Rattle.record_locks.specs.Standing.{state_of}
 use Rattle.record_locks.proofs.StandingLemmas.{open_at}
-use Rattle.store_steps.specs.Keeps.{limits_of}
+use Rattle.store_laws.specs.Keeps.{limits_of}
 
 -- no session below this number is open
 abbrev pub AreClosedBelow : ℕ → Slots → Type 0

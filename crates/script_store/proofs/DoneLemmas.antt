@@ -10,7 +10,7 @@ use Rattle.ipl_meaning.specs.Tables.{Places}
 use Rattle.unit_io.specs.Costs.{Spends}
 use Rattle.unit_io.proofs.CostLemmas.{spends_weaker}
 use Rattle.place_taking.specs.Spending.{ErasesFor}
-use Rattle.store_steps.specs.Keeps.{limits_of}
+use Rattle.store_laws.specs.Keeps.{limits_of}
 use Rattle.ipl_store.specs.Calls.{Calls, early_fault, entry_fault, refuses_name}
 use Rattle.ipl_store.specs.Shown.{IsSeen, IsCommitted}
 use Rattle.script_store.specs.declared.store.ScriptStore.{ScriptStore}

@@ -16,11 +16,11 @@ use Rattle.ipl_meaning.specs.Marks.{KeepsMarks, MarksAreUnused}
 use Rattle.ipl_meaning.specs.Tables.{Tables}
 use Rattle.ipl_meaning.proofs.CarriedLemmas.{unused_is_carried}
 use Rattle.ipl_meaning.proofs.StoryLemmas.{moments_of_one, rests_in_units}
-use Rattle.steps.specs.Steps.{Settled, NoOtherEnd, EndsWith}
+use Rattle.step_laws.specs.Steps.{Settled, NoOtherEnd, EndsWith}
 use Rattle.clean_close.specs.Closing.{Closes, ClosesInSteps, MarksUnits, RestsMarked}
 use Rattle.store_trait.specs.Keeping.{WorkLeaves}
-use Rattle.store_steps.specs.Keeps.{View, limits_of, KeepsStore, IsUp, UsedNothing, store_keeping}
-use Rattle.store_steps.proofs.KeepLemmas.{all_done, at_limits, done_settles}
+use Rattle.store_laws.specs.Keeps.{View, limits_of, KeepsStore, IsUp, UsedNothing, store_keeping}
+use Rattle.store_laws.proofs.KeepLemmas.{all_done, at_limits, done_settles}
 
 -- a mark was written, and the story rests; it is not written only where a write failed
 rests_marked : (places : ℕ) (m : Map) (t : Tables) (written : Result (Unit {0}) ChipFault) (k : History)

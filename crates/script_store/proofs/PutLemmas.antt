@@ -10,13 +10,13 @@ use Rattle.ipl_model.specs.declared.command.Command.TheVariants as command
 use Rattle.ipl_model.specs.declared.reply.Reply.{Reply}
 use Rattle.ipl_model.specs.declared.reply.Reply.TheVariants as reply
 use Rattle.page_frames.specs.Pages.{tables_in}
-use Rattle.steps.specs.Steps.{Tidies}
+use Rattle.step_laws.specs.Steps.{Tidies}
 use Rattle.store_trait.specs.declared.fault.Fault.{Fault}
 use Rattle.store_trait.specs.declared.fault.Fault.TheVariants.{Spent}
 use Rattle.store_trait.specs.Keeping.{WORK_DRAWS, Works, Learns, StillRecalls}
-use Rattle.store_steps.specs.Keeps.{limits_of, store_keeping}
-use Rattle.store_steps.specs.Refusals.{sessions_refuse_put}
-use Rattle.store_steps.proofs.PutLemmas.{full_puts_are_work, written_puts_are_work, failed_puts_leave_the_map}
+use Rattle.store_laws.specs.Keeps.{limits_of, store_keeping}
+use Rattle.store_laws.specs.Refusals.{sessions_refuse_put}
+use Rattle.store_laws.proofs.PutLemmas.{full_puts_are_work, written_puts_are_work, failed_puts_leave_the_map}
 use Rattle.ipl_store.specs.Calls.{view_of, counter_of, IsSound, entry_fault, Serves, Calls}
 use Rattle.ipl_store.specs.Puts.{put_fault, found_room, put_next, PutsBy}
 use Rattle.script_store.specs.declared.store.ScriptStore.{ScriptStore}

@@ -15,16 +15,16 @@ use Rattle.unit_layout.specs.Retired.{retired_in}
 use Rattle.ipl_meaning.specs.Chart.{Chart, chart_of}
 use Rattle.ipl_meaning.specs.Layout.{Layout, Laid}
 use Rattle.ipl_meaning.specs.Tables.{Tables}
-use Rattle.opening_rules.specs.Chosen.{status_at, units_at}
-use Rattle.opening_rules.specs.LaidOut.{no_sector, retired_at, sector_of}
-use Rattle.opening_rules.proofs.LaidLemmas.{laid_says_its_units}
-use Rattle.opening_rules.proofs.NumberLemmas.{status_is}
+use Rattle.opening_laws.specs.Chosen.{status_at, units_at}
+use Rattle.opening_laws.specs.LaidOut.{no_sector, retired_at, sector_of}
+use Rattle.opening_laws.proofs.LaidLemmas.{laid_says_its_units}
+use Rattle.opening_laws.proofs.NumberLemmas.{status_is}
 use Rattle.place_taking.specs.Wear.{IsListed}
 use Rattle.status_renewal.specs.Passes.{ListsRetired}
 use Rattle.status_renewal.specs.Recovers.{ErasesOpening, ends_worn_out}
 use Rattle.page_frames.specs.Pages.{tables_in}
 use Rattle.store_trait.specs.declared.fault.Fault.TheVariants.{Image}
-use Rattle.store_steps.specs.Advances.{MemoryFits}
+use Rattle.store_laws.specs.Advances.{MemoryFits}
 use Rattle.ipl_store.specs.Calls.{memory_of_store}
 use Rattle.ipl_store.specs.Openings.{Opens, Tries}
 use Rattle.script_store.specs.declared.store.ScriptStore.{ScriptStore}

@@ -18,27 +18,27 @@ use Rattle.ipl_meaning.specs.Found.{IsAbove}
 use Rattle.ipl_meaning.specs.Layout.{Layout, Laid}
 use Rattle.ipl_meaning.specs.Rests.{StoryRests}
 use Rattle.ipl_meaning.specs.Tables.{Places, Tables, IsCountedClean}
-use Rattle.opening_rules.specs.Chosen.{units_at}
-use Rattle.opening_rules.specs.Faults.{first_fault, greatest_found}
-use Rattle.opening_rules.specs.LaidOut.{layout_in}
-use Rattle.opening_rules.specs.Laws.{IsByteChart}
-use Rattle.opening_rules.proofs.LaidLemmas.{laid_has_no_fault, laid_is_fine_or_spent, laid_says_its_units}
-use Rattle.opening_rules.proofs.NoFaultLemmas.{no_fault_is_laid}
-use Rattle.opening_rules.proofs.NumberLemmas.{greatest_is_found}
+use Rattle.opening_laws.specs.Chosen.{units_at}
+use Rattle.opening_laws.specs.Faults.{first_fault, greatest_found}
+use Rattle.opening_laws.specs.LaidOut.{layout_in}
+use Rattle.opening_laws.specs.Laws.{IsByteChart}
+use Rattle.opening_laws.proofs.LaidLemmas.{laid_has_no_fault, laid_is_fine_or_spent, laid_says_its_units}
+use Rattle.opening_laws.proofs.NoFaultLemmas.{no_fault_is_laid}
+use Rattle.opening_laws.proofs.NumberLemmas.{greatest_is_found}
 use Rattle.unit_io.specs.Leads.{IsSteady}
 use Rattle.page_frames.specs.Pages.{tables_in}
-use Rattle.steps.specs.Laws.{Preserves}
+use Rattle.step_laws.specs.Laws.{Preserves}
 use Rattle.place_taking.proofs.SpendingLemmas.{or_right}
 use Rattle.status_renewal.specs.Recovers.{IsOpeningFault, FailsByCallAlone, OpeningCause, tells_wear}
 use Rattle.status_renewal.proofs.ReadyLemmas.{layouts_say}
 use Rattle.store_trait.specs.declared.fault.Fault.{Fault}
 use Rattle.store_trait.specs.declared.fault.Fault.TheVariants.{Image}
 use Rattle.store_trait.specs.Keeping.{FOUND_NUMBER, WORK_DRAWS, ChipRose, SaysFailedCall, Works}
-use Rattle.store_steps.specs.Advances.{memory_of, TurnsMapOf}
-use Rattle.store_steps.specs.Keeps.{View, ImageCause, ImageTells, DrawsFew, IsExcused, KeepsStore, ShowsState, limits_of, store_keeping}
-use Rattle.store_steps.proofs.AdvanceLemmas.{answers_advance}
-use Rattle.store_steps.proofs.KeepLemmas.{at_limits, leads_are_work}
-use Rattle.store_steps.proofs.FaultLemmas.{faults_that_leave_down}
+use Rattle.store_laws.specs.Advances.{memory_of, TurnsMapOf}
+use Rattle.store_laws.specs.Keeps.{View, ImageCause, ImageTells, DrawsFew, IsExcused, KeepsStore, ShowsState, limits_of, store_keeping}
+use Rattle.store_laws.proofs.AdvanceLemmas.{answers_advance}
+use Rattle.store_laws.proofs.KeepLemmas.{at_limits, leads_are_work}
+use Rattle.store_laws.proofs.FaultLemmas.{faults_that_leave_down}
 use Rattle.ipl_store.specs.Calls.{memory_of_store, view_of, counter_of, IsSound}
 use Rattle.ipl_store.specs.Openings.{Opens, Reopens, Restarts, Tries}
 use Rattle.script_store.specs.declared.store.ScriptStore.{ScriptStore}

@@ -15,16 +15,16 @@ use Rattle.ipl_model.specs.declared.reply.Reply.TheVariants as reply
 use Rattle.ipl_model.specs.Step.{found_reply}
 use Rattle.ipl_meaning.specs.Tables.{Places}
 use Rattle.unit_io.specs.Reads.{OfContents}
-use Rattle.steps.specs.Steps.{Tidies}
+use Rattle.step_laws.specs.Steps.{Tidies}
 use Rattle.page_frames.specs.Pages.{tables_in, PageCause}
 use Rattle.store_trait.specs.declared.fault.Fault.TheVariants.{Chip, Spent}
 use Rattle.store_trait.specs.Keeping.{LAST_NUMBER, LOOK_UP_DRAWS, WorkLeaves, Works, LooksUp, LeavesTidy, Learns, StillRecalls}
 use Rattle.store_trait.proofs.TidyLemmas.{tidy_same}
-use Rattle.store_steps.specs.Advances.{TurnsMapOf}
-use Rattle.store_steps.specs.Keeps.{View, limits_of, ShowsState, store_keeping}
-use Rattle.store_steps.proofs.AdvanceLemmas.{answers_advance}
-use Rattle.store_steps.proofs.KeepLemmas.{is_at, at_limits, leads_are_work}
-use Rattle.store_steps.proofs.FaultLemmas.{idle_faults_look_up}
+use Rattle.store_laws.specs.Advances.{TurnsMapOf}
+use Rattle.store_laws.specs.Keeps.{View, limits_of, ShowsState, store_keeping}
+use Rattle.store_laws.proofs.AdvanceLemmas.{answers_advance}
+use Rattle.store_laws.proofs.KeepLemmas.{is_at, at_limits, leads_are_work}
+use Rattle.store_laws.proofs.FaultLemmas.{idle_faults_look_up}
 use Rattle.ipl_store.specs.declared.store.Store.{Store}
 use Rattle.ipl_store.specs.Calls.{memory_of_store, view_of, counter_of, IsSound, early_fault, entry_fault, refuses_name, Serves, Calls}
 use Rattle.ipl_store.specs.Shown.{IsSeen, IsCommitted}

@@ -20,20 +20,20 @@ use Rattle.ipl_model.specs.Step.{Stepped, accepted, step}
 use Rattle.ipl_meaning.specs.Tables.{Places}
 use Rattle.unit_directory.specs.Free.{spares_of}
 use Rattle.unit_io.specs.Reads.{OfContents}
-use Rattle.pending_writes.specs.Fits.{AreSessionsOf}
-use Rattle.steps.specs.Steps.{Tidies}
+use Rattle.store_laws.specs.Fits.{AreSessionsOf}
+use Rattle.step_laws.specs.Steps.{Tidies}
 use Rattle.page_frames.specs.Pages.{tables_in, PageCause}
 use Rattle.store_trait.specs.declared.fault.Fault.TheVariants.{Chip, Spent}
 use Rattle.store_trait.specs.Keeping.{LAST_NUMBER, WORK_DRAWS, ChipRose, Works, LeavesTidy, Learns, StillRecalls}
 use Rattle.store_trait.proofs.TidyLemmas.{tidy_same}
-use Rattle.store_steps.specs.Advances.{TurnsMapOf}
-use Rattle.store_steps.specs.Keeps.{View, limits_of, ChipTells, ShowsState, StoreCause, store_keeping}
-use Rattle.store_steps.specs.Refusals.{finds_full, sessions_refuse}
-use Rattle.store_steps.proofs.AdvanceLemmas.{answers_advance}
-use Rattle.store_steps.proofs.LeadLemmas.{answers_are_alike, memory_leads}
-use Rattle.store_steps.proofs.RefusalLemmas.{refusals_answer, accepted_are_done, refusals_lead}
-use Rattle.store_steps.proofs.KeepLemmas.{leads_are_work}
-use Rattle.store_steps.proofs.FaultLemmas.{idle_faults_are_work}
+use Rattle.store_laws.specs.Advances.{TurnsMapOf}
+use Rattle.store_laws.specs.Keeps.{View, limits_of, ChipTells, ShowsState, StoreCause, store_keeping}
+use Rattle.store_laws.specs.Refusals.{finds_full, sessions_refuse}
+use Rattle.store_laws.proofs.AdvanceLemmas.{answers_advance}
+use Rattle.store_laws.proofs.LeadLemmas.{answers_are_alike, memory_leads}
+use Rattle.store_laws.proofs.RefusalLemmas.{refusals_answer, accepted_are_done, refusals_lead}
+use Rattle.store_laws.proofs.KeepLemmas.{leads_are_work}
+use Rattle.store_laws.proofs.FaultLemmas.{idle_faults_are_work}
 use Rattle.ipl_store.specs.declared.store.Store.{Store}
 use Rattle.ipl_store.specs.Calls.{view_of, counter_of, IsSound, entry_fault, down_fault, early_fault, IsOfTheChip, EndsFor, Serves, Calls}
 use Rattle.script_store.specs.declared.store.ScriptStore.{ScriptStore}

@@ -14,10 +14,10 @@ use Rattle.ipl_rules.specs.State.{State}
 use Rattle.ipl_model.specs.declared.reply.Reply.{Reply}
 use Rattle.ipl_meaning.specs.Chart.{Chart, chart_of}
 use Rattle.ipl_meaning.specs.Tables.{Places, Tables}
-use Rattle.opening_rules.specs.Chosen.{units_at}
+use Rattle.opening_laws.specs.Chosen.{units_at}
 use Rattle.unit_directory.specs.Free.{spares_of}
 use Rattle.place_taking.specs.Spending.{RetiresWorn}
-use Rattle.place_taking.specs.Wear.{IsListed, Wears}
+use Rattle.place_taking.specs.Wear.{IsListed, TellsOfWear}
 use Rattle.place_taking.proofs.SpendingLemmas.{found_later}
 use Rattle.page_frames.specs.Pages.{tables_in}
 use Rattle.store_trait.specs.Keeping.{Learns}
@@ -84,7 +84,7 @@ module _ (a b : ScriptStore) (before after entry : Told) (x : Contents) (h : His
   -- done
   done_knows : {T : Type 0} (v : T) (next : State → State) (most : ℕ)
       → Serves next most a.store before (Ok v) b.store after
-      → Wears t then true false before after → Counts before after
+      → TellsOfWear t then true false before after → Counts before after
       → KnowsSince entry.places x h b.store after
   done_knows v next most did wears counts =
       let more = wears.places.added in
@@ -112,7 +112,7 @@ module _ (a b : ScriptStore) (before after entry : Told) (x : Contents) (h : His
       }
 
   -- failed, since too many places are worn
-  fails_worn : Wears t then false true before after → IsSound before.places b.store
+  fails_worn : TellsOfWear t then false true before after → IsSound before.places b.store
       → length then.places.current ≡ b.store.units
       → (added : Story) × (after.history ≡ Some (adds_all added h))
       × TooManyAreWorn entry.places (chart_of x) added
@@ -146,7 +146,7 @@ module _ (a b : ScriptStore) (before after entry : Told) (runs : IsRunning befor
 
   module _ {T : Type 0} (result : Result T StoreFault) (units : b.store.units ≡ a.store.units)
       (sound : IsSound before.places b.store)
-      (wears : Wears (tables_in a.store.transactions.pages) (tables_in b.store.transactions.pages)
+      (wears : TellsOfWear (tables_in a.store.transactions.pages) (tables_in b.store.transactions.pages)
       (is_ok result) (ends_worn_out result) before after) (counts : Counts before after) where
     -- a fault of the chip
     chip_learns : (e : ChipFault) → result ≡ Err (store.Chip e)
@@ -156,7 +156,7 @@ module _ (a b : ScriptStore) (before after entry : Told) (runs : IsRunning befor
         let fault : result ≡ Err (store.Chip (WornOut n)) =
         is ∙ ap (λ (f : ChipFault). chip_err f) worn in
         fails_worn a b before after entry x h units (knows runs.up x h told history)
-        (subst (λ (r : Result T StoreFault). Wears (tables_in a.store.transactions.pages)
+        (subst (λ (r : Result T StoreFault). TellsOfWear (tables_in a.store.transactions.pages)
         (tables_in b.store.transactions.pages) (is_ok r) (ends_worn_out r) before after) fault wears)
         sound counted)
       where
@@ -172,7 +172,7 @@ module _ (a b : ScriptStore) (before after entry : Told) (runs : IsRunning befor
             → Serves next most a.store before r b.store after → CallLearns entry r b after
         by_result (Ok v) is did = λ up x h told history.
             done_knows a b before after entry x h units (knows runs.up x h told history) v next most did
-            (subst (λ (r : Result T StoreFault). Wears (tables_in a.store.transactions.pages)
+            (subst (λ (r : Result T StoreFault). TellsOfWear (tables_in a.store.transactions.pages)
             (tables_in b.store.transactions.pages) (is_ok r) (ends_worn_out r) before after) is wears)
             counts
         by_result (Err (store.Chip e)) is did = chip_learns e is did.counted

@@ -19,7 +19,7 @@ use Rattle.store_trait.specs.declared.fault.Fault.{Fault}
 use Rattle.store_trait.specs.declared.fault.Fault.TheVariants.{Chip, Spent}
 use Rattle.store_trait.specs.Onward.{Still, sayings}
 use Rattle.store_trait.specs.Keeping.{Keeping, WORK_DRAWS, LOOK_UP_DRAWS, Draws, Works, LooksUp, LeavesTidy, Learns, DoneRecalls, is_restart}
-use Rattle.store_steps.specs.Keeps.{KeepsStore, StoreCause, FaultTells, UsedNothing, keeps_each, keeps_still, said_unused, cause_longer}
+use Rattle.store_laws.specs.Keeps.{KeepsStore, StoreCause, FaultTells, UsedNothing, keeps_each, keeps_still, said_unused, cause_longer}
 use Rattle.ipl_store.specs.Calls.{view_of, counter_of, IsSound}
 use Rattle.script_store.specs.declared.store.ScriptStore.{ScriptStore}
 use Rattle.script_store.specs.Recalls.{RecallsErased, erased_still}

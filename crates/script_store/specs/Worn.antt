@@ -14,15 +14,15 @@ use Rattle.ipl_meaning.specs.Chart.{Chart, chart_of}
 use Rattle.ipl_meaning.specs.Layout.{Layout}
 use Rattle.ipl_meaning.specs.Mirrors.{AreApart}
 use Rattle.ipl_rules.specs.State.{State}
-use Rattle.opening_rules.specs.Chosen.{units_at}
-use Rattle.opening_rules.specs.LaidOut.{retired_at}
+use Rattle.opening_laws.specs.Chosen.{units_at}
+use Rattle.opening_laws.specs.LaidOut.{retired_at}
 use Rattle.place_taking.specs.Spending.{is_found_worn}
 use Rattle.place_taking.specs.Wear.{IsListed}
 use Rattle.place_taking.proofs.SpendingLemmas.{found_earlier}
 use Rattle.store_trait.specs.declared.fault.Fault.{Fault}
 use Rattle.store_trait.specs.declared.fault.Fault.TheVariants.{Chip, Image, Spent}
 use Rattle.store_trait.specs.Onward.{Still, sayings}
-use Rattle.store_steps.specs.Advances.{MemoryFits}
+use Rattle.store_laws.specs.Advances.{MemoryFits}
 use Rattle.page_frames.specs.Pages.{tables_in}
 use Rattle.ipl_store.specs.declared.store.Store.{Store}
 use Rattle.ipl_store.specs.Calls.{memory_of_store}

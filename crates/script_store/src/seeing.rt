@@ -4,7 +4,7 @@ ghost use Rattle.ipl_model.specs.declared.command.Command.TheVariants as command
 ghost use Rattle.ipl_rules.specs.Operations.{after_share};
 ghost use Rattle.ipl_rules.specs.Refusals.{refuses_get, refuses_share};
 ghost use Rattle.record_locks.specs.Standing.{state_of};
-ghost use Rattle.store_steps.specs.Keeps.{limits_of};
+ghost use Rattle.store_laws.specs.Keeps.{limits_of};
 ghost use Rattle.ipl_store.specs.Calls.{Calls, early_fault, entry_fault, refuses_name};
 ghost use Rattle.ipl_store.specs.Shown.{IsSeen, IsCommitted};
 ghost use Rattle.script_store.specs.Keeps.{IsRunning, Does, Finds};

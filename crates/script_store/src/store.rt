@@ -4,7 +4,7 @@ ghost use Rattle.chip_trait.specs.Told.{History, Told, Counts};
 ghost use Rattle.ipl_rules.specs.State.{State, Limits};
 ghost use Rattle.store_trait.specs.declared.fault.Fault.TheVariants.{Spent};
 ghost use Rattle.store_trait.specs.Keeping.{IsSingle, Works, LooksUp, LeavesTidy, Learns, DoneRecalls, is_restart, Draws, WORK_DRAWS, LOOK_UP_DRAWS};
-ghost use Rattle.store_steps.specs.Keeps.{StoreCause};
+ghost use Rattle.store_laws.specs.Keeps.{StoreCause};
 ghost use Rattle.script_store.specs.Keeps.{IsRunning, KeepsScript, Does, script_keeping};
 ghost use Rattle.script_store.specs.Done.{HasDone, HasFound};
 

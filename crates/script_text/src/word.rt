@@ -27,7 +27,7 @@ pub fn value(word: &[u8]) -> Option<PutBytes>
 }
 
 /// The first word of a line, and what stands behind the space after it, if there is one.
-pub fn first_word(line: &[u8]) -> (&[u8], Option<&[u8]>)
+pub(crate) fn first_word(line: &[u8]) -> (&[u8], Option<&[u8]>)
     ensures words { slice_split is_space line.now
         ≡ words_with result.0.now (option_copied result.1) }
     ensures first_fits { length result.0.now ≤ length line.now }

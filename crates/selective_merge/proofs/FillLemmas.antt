@@ -15,10 +15,10 @@ use Rattle.unit_io.specs.Charts.{Charts, IsCleared}
 use Rattle.unit_io.specs.Leads.{IsSteady, IsStopped}
 use Rattle.unit_io.specs.Spots.{Programs, IsSpot}
 use Rattle.unit_io.proofs.SpotLemmas.{programs_then, programs_wider}
-use Rattle.merge_rules.specs.Merged.{IsFilled}
-use Rattle.merge_rules.specs.Moved.{Source, HasMoved, IsAside, IsUnsealed}
-use Rattle.merge_rules.specs.Packs.{IsLogSpotBelow, HasLogs}
-use Rattle.merge_rules.specs.Pages.{IsBaseSpotBelow}
+use Rattle.merge_laws.specs.Merged.{IsFilled}
+use Rattle.merge_laws.specs.Moved.{Source, HasMoved, IsAside, IsUnsealed}
+use Rattle.merge_laws.specs.Packs.{IsLogSpotBelow, HasLogs}
+use Rattle.merge_laws.specs.Pages.{IsBaseSpotBelow}
 use Rattle.selective_merge.specs.Throughout.{KeepsThroughout}
 use Rattle.selective_merge.specs.Writing.{GainsUnit, IsCleanPlace, IsFilledSpot, IsUnitSpot, MovesPages, WritesLogs}
 use Rattle.selective_merge.proofs.MoveLemmas.{moved_aside}

@@ -8,8 +8,8 @@ use Rattle.ipl_meaning.specs.Layout.{Shape}
 use Rattle.ipl_meaning.specs.Tables.{Tables}
 use Rattle.unit_io.specs.ReadsAt.{ReadsAt}
 use Rattle.unit_log.specs.Live.{AreMirrored}
-use Rattle.merge_rules.specs.Packs.{among, packs_of}
-use Rattle.merge_rules.specs.Pages.{IsFew}
+use Rattle.merge_laws.specs.Packs.{among, packs_of}
+use Rattle.merge_laws.specs.Pages.{IsFew}
 use Rattle.selective_merge.specs.Homes.{IsHomeOf, Learns, IsLearnt}
 use Rattle.selective_merge.specs.declared.home.Home.{Home}
 

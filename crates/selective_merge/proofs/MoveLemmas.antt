@@ -7,8 +7,8 @@ use Rattle.ipl_format.specs.Page.{Slots, IsPage}
 use Rattle.ipl_format.specs.Place.{base_sector_of}
 use Rattle.ipl_meaning.specs.Chart.{Chart}
 use Rattle.unit_io.specs.Charts.{HasPage}
-use Rattle.merge_rules.specs.Pages.{HasPages, IsFew}
-use Rattle.merge_rules.specs.Moved.{Source, IsFrom, MovesPage, HasMoved, IsAside}
+use Rattle.merge_laws.specs.Pages.{HasPages, IsFew}
+use Rattle.merge_laws.specs.Moved.{Source, IsFrom, MovesPage, HasMoved, IsAside}
 
 -- ---- pages at a place
 

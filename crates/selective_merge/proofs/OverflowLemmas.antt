@@ -41,11 +41,11 @@ use Rattle.unit_io.specs.Charts.{Charts, IsCleared, Gains}
 use Rattle.unit_io.specs.Leads.{IsSteady, SwitchesMap, IsStopped}
 use Rattle.unit_io.specs.Spots.{Programs, IsSpot}
 use Rattle.unit_io.proofs.LeadsLemmas.{leads_weaker}
-use Rattle.steps.specs.Steps.{Steps, RestsAgreeing}
+use Rattle.step_laws.specs.Steps.{Steps, RestsAgreeing}
 use Rattle.place_taking.specs.Spending.{WritesFree}
 use Rattle.place_taking.specs.Takes.{ClearsNext, TakesPlace}
 use Rattle.place_taking.proofs.JoinLemmas.{counted_alike, counted_used, writes_taken}
-use Rattle.merge_rules.proofs.KnownLemmas.{taken_is_used}
+use Rattle.merge_laws.proofs.KnownLemmas.{taken_is_used}
 use Rattle.selective_merge.specs.Moving.{set_aside}
 use Rattle.selective_merge.specs.Placing.{IsOpened, OpensPlace, SaysErases, RestsOpened}
 use Rattle.selective_merge.specs.Throughout.{KeepsThroughout}

@@ -15,8 +15,8 @@ use Rattle.unit_io.specs.Reads.{OfContents}
 use Rattle.unit_io.specs.ReadsAt.{ReadsAt}
 use Rattle.unit_io.specs.Spots.{Programs, IsPieceSpot}
 use Rattle.unit_io.proofs.SpotLemmas.{programs_none, programs_then, programs_wider}
-use Rattle.merge_rules.specs.Moved.{Source, IsRebased, MovesPage, HasMoved, IsAside}
-use Rattle.merge_rules.specs.Pages.{IsBaseSpotBelow, IsFew}
+use Rattle.merge_laws.specs.Moved.{Source, IsRebased, MovesPage, HasMoved, IsAside}
+use Rattle.merge_laws.specs.Pages.{IsBaseSpotBelow, IsFew}
 use Rattle.selective_merge.specs.Throughout.{KeepsThroughout, ChartsThroughout}
 use Rattle.selective_merge.specs.Writing.{MovesOnePage}
 use Rattle.selective_merge.proofs.MoveLemmas.{moved_none, moved_more, moved_aside, aside_then, aside_none}

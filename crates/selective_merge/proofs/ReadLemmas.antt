@@ -13,9 +13,9 @@ use Rattle.unit_io.specs.ReadsAt.{ReadsAt}
 use Rattle.unit_io.specs.Spots.{Programs}
 use Rattle.unit_io.proofs.ReadsAtLemmas.{at_rests, at_now}
 use Rattle.unit_io.proofs.SpotLemmas.{programs_then}
-use Rattle.steps.specs.Steps.{Settled}
-use Rattle.steps.proofs.StepLemmas.{outcome_reads}
-use Rattle.steps.proofs.TidyLemmas.{tidy_reads}
+use Rattle.step_laws.specs.Steps.{Settled}
+use Rattle.step_laws.proofs.StepLemmas.{outcome_reads}
+use Rattle.step_laws.proofs.TidyLemmas.{tidy_reads}
 use Rattle.selective_merge.specs.Throughout.{RestsBy, KeepsThroughout}
 use Rattle.selective_merge.proofs.ThroughoutLemmas.{SoFar}
 

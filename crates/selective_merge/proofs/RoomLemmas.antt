@@ -11,12 +11,12 @@ use Rattle.ipl_meaning.specs.Rests.{now, EachStands}
 use Rattle.ipl_meaning.specs.Steps.{KeepsPages}
 use Rattle.ipl_meaning.specs.Tables.{Tables, IsCountedClean}
 use Rattle.unit_io.specs.ReadsAt.{ReadsAt}
-use Rattle.steps.specs.Steps.{TidyWork, Steps, RestsAgreeing}
-use Rattle.steps.proofs.StepLemmas.{outcome_none, outcome_weaker}
-use Rattle.steps.proofs.TidyLemmas.{tidy_none}
-use Rattle.merge_rules.specs.Merged.{IsMergedUnit}
+use Rattle.step_laws.specs.Steps.{TidyWork, Steps, RestsAgreeing}
+use Rattle.step_laws.proofs.StepLemmas.{outcome_none, outcome_weaker}
+use Rattle.step_laws.proofs.TidyLemmas.{tidy_none}
+use Rattle.merge_laws.specs.Merged.{IsMergedUnit}
 use Rattle.selective_merge.specs.Merging.{Merges, StaysMirrored, RestsMerged, MergesInSteps}
-use Rattle.selective_merge.specs.Placing.{Opens, SaysErases, RestsOpened, OpensInSteps, IsPlaced, MakesRoom, RestsWithRoom, MakesRoomInSteps}
+use Rattle.selective_merge.specs.Placing.{OpensOverflow, SaysErases, RestsOpened, OpensInSteps, IsPlaced, MakesRoom, RestsWithRoom, MakesRoomInSteps}
 use Rattle.selective_merge.specs.Throughout.{ChartsThroughout}
 use Rattle.selective_merge.proofs.WholeLemmas.{steps_behind, read_failed}
 
@@ -121,7 +121,7 @@ module _ (Is : RoomOf) (places u : ℕ) (t after : Tables) (old new : Told) wher
   makes_by_opening (Err e) says is m it h steady rests agrees = says m it h steady rests agrees
 
   pub told_by_opening : (result : Result Spot ChipFault)
-      → ChartsThroughout (λ (spot : Spot). Opens places t after spot.place) (StaysMirrored places t after)
+      → ChartsThroughout (λ (spot : Spot). OpensOverflow places t after spot.place) (StaysMirrored places t after)
       result old new
       → IfOk result (λ spot. (c y : Chart) (it : Layout) → Mirrors places y it after
       → KeepsPages places c it y it → SaysErases after spot.place y

@@ -5,7 +5,7 @@ use Rattle.chip_trait.specs.Chart.{with_sector}
 use Rattle.chip_trait.specs.Lawful.{Clean, age}
 use Rattle.chip_trait.specs.Told.{History, Told, Counts, adds_all}
 use Rattle.log_records.specs.View.{Versioned}
-use Rattle.merge_rules.specs.Packs.{payload_of}
+use Rattle.merge_laws.specs.Packs.{payload_of}
 use Rattle.ipl_base.specs.declared.fault.ChipFault.{ChipFault}
 use Rattle.ipl_rules.specs.State.{Map}
 use Rattle.ipl_base.specs.declared.limits.TheConstants.{VERSION}
@@ -32,11 +32,11 @@ use Rattle.unit_io.specs.Charts.{Charts, Gains}
 use Rattle.unit_io.specs.Leads.{IsSteady, SwitchesMap, IsStopped}
 use Rattle.unit_io.specs.Spots.{Programs, IsSpot}
 use Rattle.unit_io.proofs.LeadsLemmas.{leads_weaker}
-use Rattle.merge_rules.specs.Merged.{source_of, packs_in, merged_shape, IsUnitHead, IsFilled, MayMerge, IsToMerge, IsWritten}
-use Rattle.merge_rules.specs.Moved.{Source, IsAside}
-use Rattle.merge_rules.specs.Pages.{IsFew}
-use Rattle.merge_rules.proofs.FilledLemmas.{mirrors_filled}
-use Rattle.merge_rules.proofs.MergeLemmas.{filled_places_are_ready, stands_after_filling}
+use Rattle.merge_laws.specs.Merged.{source_of, packs_in, merged_shape, IsUnitHead, IsFilled, MayMerge, IsToMerge, IsWritten}
+use Rattle.merge_laws.specs.Moved.{Source, IsAside}
+use Rattle.merge_laws.specs.Pages.{IsFew}
+use Rattle.merge_laws.proofs.FilledLemmas.{mirrors_filled}
+use Rattle.merge_laws.proofs.MergeLemmas.{filled_places_are_ready, stands_after_filling}
 use Rattle.selective_merge.specs.Throughout.{KeepsThroughout, ChartsThroughout}
 use Rattle.selective_merge.specs.Writing.{GainsUnit, IsCleanPlace, IsFilledSpot, IsSealed, IsUnitSpot, SealsUnit, TellsWritten}
 use Rattle.selective_merge.proofs.FillLemmas.{clean_bare, worn_apart, programs_unit, programs_unsealed, filled_by}

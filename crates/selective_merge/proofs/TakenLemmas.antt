@@ -19,15 +19,15 @@ use Rattle.txn_status.specs.Switching.{HasCounts}
 use Rattle.unit_io.specs.Charts.{Charts, IsCleared}
 use Rattle.unit_io.specs.Leads.{IsSteady}
 use Rattle.unit_io.specs.Spots.{Programs}
-use Rattle.steps.specs.Steps.{Settled, TidyWork, Steps, RestsAgreeing}
-use Rattle.steps.proofs.StepLemmas.{outcome_weaker}
+use Rattle.step_laws.specs.Steps.{Settled, TidyWork, Steps, RestsAgreeing}
+use Rattle.step_laws.proofs.StepLemmas.{outcome_weaker}
 use Rattle.place_taking.specs.Spending.{WritesFree}
 use Rattle.place_taking.specs.Takes.{ClearsNext, IsAsideFrom, IsNotTaken, RestsTaken, TakesPlace, with_places}
 use Rattle.place_taking.proofs.JoinLemmas.{untaken, writes_taken}
-use Rattle.merge_rules.specs.Faults.{IsTheFault}
-use Rattle.merge_rules.specs.Merged.{IsToMerge, IsWritten}
-use Rattle.merge_rules.specs.Moved.{Source, IsAside, IsUnsealed}
-use Rattle.merge_rules.proofs.FaultLemmas.{fault_not_taken}
+use Rattle.merge_laws.specs.Faults.{IsTheFault}
+use Rattle.merge_laws.specs.Merged.{IsToMerge, IsWritten}
+use Rattle.merge_laws.specs.Moved.{Source, IsAside, IsUnsealed}
+use Rattle.merge_laws.proofs.FaultLemmas.{fault_not_taken}
 use Rattle.selective_merge.specs.Homes.{MoveCause, MergeCause}
 use Rattle.selective_merge.specs.Merging.{StaysMirrored}
 use Rattle.selective_merge.specs.Moving.{set_aside}

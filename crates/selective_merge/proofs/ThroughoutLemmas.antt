@@ -14,8 +14,8 @@ use Rattle.unit_io.specs.Leads.{IsSteady, KeepsMap, RestsWith, IsStopped}
 use Rattle.unit_io.specs.Reads.{PageAsked, Reads, page_reads, IsPageRead}
 use Rattle.unit_io.specs.ReadsAt.{IsReadAt, ReadsAt}
 use Rattle.unit_io.proofs.ReadsLemmas.{page_reads_of}
-use Rattle.steps.specs.Steps.{Settled, EndsWith, Outcome}
-use Rattle.steps.proofs.StepLemmas.{outcome_none, outcome_then, outcome_weaker, outcome_written}
+use Rattle.step_laws.specs.Steps.{Settled, EndsWith, Outcome}
+use Rattle.step_laws.proofs.StepLemmas.{outcome_none, outcome_then, outcome_weaker, outcome_written}
 use Rattle.selective_merge.specs.Throughout.{RestsBy, KeepsThroughout, ChartsThroughout}
 
 -- ---- ends

@@ -15,12 +15,12 @@ use Rattle.unit_io.specs.Charts.{Charts}
 use Rattle.unit_io.specs.Leads.{IsSteady}
 use Rattle.unit_io.specs.ReadsAt.{ReadsAt}
 use Rattle.unit_io.proofs.ReadsAtLemmas.{at_rests, at_agrees, at_now}
-use Rattle.steps.specs.Steps.{Settled, EndsWith, TidyWork, Steps, RestsAgreeing}
-use Rattle.steps.proofs.MapLemmas.{reads_keep_tables}
-use Rattle.steps.proofs.StepLemmas.{outcome_reads, outcome_then, outcome_weaker}
-use Rattle.steps.proofs.TidyLemmas.{tidy_reads, tidy_then, tidy_weaker}
-use Rattle.merge_rules.specs.Merged.{source_of}
-use Rattle.merge_rules.specs.Moved.{Source}
+use Rattle.step_laws.specs.Steps.{Settled, EndsWith, TidyWork, Steps, RestsAgreeing}
+use Rattle.step_laws.proofs.MapLemmas.{reads_keep_tables}
+use Rattle.step_laws.proofs.StepLemmas.{outcome_reads, outcome_then, outcome_weaker}
+use Rattle.step_laws.proofs.TidyLemmas.{tidy_reads, tidy_then, tidy_weaker}
+use Rattle.merge_laws.specs.Merged.{source_of}
+use Rattle.merge_laws.specs.Moved.{Source}
 use Rattle.selective_merge.specs.declared.home.Home.{Home}
 use Rattle.selective_merge.specs.Homes.{from_home, IsHomeOf, Learns}
 use Rattle.selective_merge.specs.Merging.{Merges, MergesFrom, StaysMirrored, RestsMerged, MergesInSteps, MergesFromInSteps}

@@ -17,8 +17,8 @@ use Rattle.unit_io.specs.Spots.{Programs, IsSpot}
 use Rattle.unit_io.proofs.SectorLemmas.{untouched}
 use Rattle.unit_io.proofs.LeadsLemmas.{leads_none, leads_then, leads_failed}
 use Rattle.unit_io.proofs.SpotLemmas.{programs_none, programs_then, programs_wider}
-use Rattle.merge_rules.specs.Packs.{log_sector, IsLogSpotBelow, HasLogs, payload_of}
-use Rattle.merge_rules.specs.Moved.{IsAside}
+use Rattle.merge_laws.specs.Packs.{log_sector, IsLogSpotBelow, HasLogs, payload_of}
+use Rattle.merge_laws.specs.Moved.{IsAside}
 use Rattle.selective_merge.specs.Writing.{WritesLog, KeepsLogs}
 
 -- a sector that was put in, and the others

@@ -14,10 +14,10 @@ use Rattle.ipl_meaning.specs.Steps.{KeepsPages}
 use Rattle.ipl_meaning.specs.Tables.{Tables}
 use Rattle.unit_io.specs.Leads.{IsSteady}
 use Rattle.unit_io.specs.Reads.{OfContents}
-use Rattle.steps.specs.Steps.{Steps, RestsAgreeing}
-use Rattle.merge_rules.specs.Faults.{merge_fault, IsMergeable, IsTheFault, TellsTheFault, FailsByChipAlone}
-use Rattle.merge_rules.specs.Merged.{source_of, IsMergedUnit}
-use Rattle.merge_rules.specs.Moved.{Source}
+use Rattle.step_laws.specs.Steps.{Steps, RestsAgreeing}
+use Rattle.merge_laws.specs.Faults.{merge_fault, IsMergeable, IsTheFault, TellsTheFault, FailsByChipAlone}
+use Rattle.merge_laws.specs.Merged.{source_of, IsMergedUnit}
+use Rattle.merge_laws.specs.Moved.{Source}
 
 -- ---- what the chip holds
 

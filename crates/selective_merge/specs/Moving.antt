@@ -5,7 +5,7 @@ use Rattle.unit_directory.specs.Directory.{after_replace}
 use Rattle.unit_directory.specs.Free.{free_count, aside}
 use Rattle.place_taking.specs.Homes.{KeepsHomes}
 use Rattle.place_taking.specs.Takes.{with_places}
-use Rattle.merge_rules.specs.Known.{KnowsPlaces}
+use Rattle.merge_laws.specs.Known.{KnowsPlaces}
 use Rattle.selective_merge.specs.declared.parts.Parts.{Parts}
 
 -- the tables, as the meaning of a chip speaks of them

@@ -17,9 +17,9 @@ use Rattle.ipl_meaning.specs.Tables.{IsFree, Tables}
 use Rattle.unit_io.specs.Charts.{Gains}
 use Rattle.unit_io.specs.Leads.{IsSteady, KeepsMap}
 use Rattle.unit_io.specs.Spots.{Programs, IsSpot}
-use Rattle.steps.specs.Steps.{Steps, RestsAgreeing}
-use Rattle.merge_rules.specs.Merged.{IsMergedUnit}
-use Rattle.merge_rules.specs.Packs.{among}
+use Rattle.step_laws.specs.Steps.{Steps, RestsAgreeing}
+use Rattle.merge_laws.specs.Merged.{IsMergedUnit}
+use Rattle.merge_laws.specs.Packs.{among}
 use Rattle.selective_merge.specs.Writing.{IsCleanPlace}
 use Rattle.selective_merge.specs.Spotting.{IsHomeSpot, MayOverflow, TakesOverflow, FollowsRules}
 
@@ -48,8 +48,8 @@ SaysErases t p c = erases_said (c p 0) ≡ slice_index t.places.erases p
 
 -- the header of the place says its erases, and whatever layout the tables mirrored, they mirror it
 -- still, and each page is shown still
-abbrev pub Opens : ℕ → Tables → Tables → ℕ → Chart → Chart → Type 0
-Opens places t after p c y = (it : Layout) → Mirrors places c it t
+abbrev pub OpensOverflow : ℕ → Tables → Tables → ℕ → Chart → Chart → Type 0
+OpensOverflow places t after p c y = (it : Layout) → Mirrors places c it t
     → Mirrors places y it after × KeepsPages places c it y it × SaysErases after p y
 
 -- the story rests on the map, the tables agree, each page is shown still, and the header of the place

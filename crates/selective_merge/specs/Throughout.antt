@@ -9,7 +9,7 @@ use Rattle.ipl_meaning.specs.Chart.{Chart}
 use Rattle.ipl_meaning.specs.Rests.{now, EachStands, StoryRests}
 use Rattle.unit_io.specs.Charts.{Charts}
 use Rattle.unit_io.specs.Leads.{RestsWith}
-use Rattle.steps.specs.Steps.{Settled, EndsWith, Outcome}
+use Rattle.step_laws.specs.Steps.{Settled, EndsWith, Outcome}
 
 -- The story rests on the map, and G holds of the chart at the history before and of the chart then.
 abbrev pub RestsBy : ℕ → Map → (Chart → Chart → Type 0) → History → History → Type 0

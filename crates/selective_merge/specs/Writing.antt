@@ -19,10 +19,10 @@ use Rattle.txn_status.specs.Switching.{HasCounts}
 use Rattle.unit_io.specs.Charts.{Gains}
 use Rattle.unit_io.specs.Leads.{IsSteady, KeepsMap}
 use Rattle.unit_io.specs.Spots.{Programs, IsSpot, IsPieceSpot}
-use Rattle.merge_rules.specs.Merged.{IsUnitHead, IsToMerge, IsWritten}
-use Rattle.merge_rules.specs.Moved.{Source, MovesPage, HasMoved, IsAside}
-use Rattle.merge_rules.specs.Packs.{IsLogSpotBelow, HasLogs}
-use Rattle.merge_rules.specs.Pages.{IsBaseSpotBelow}
+use Rattle.merge_laws.specs.Merged.{IsUnitHead, IsToMerge, IsWritten}
+use Rattle.merge_laws.specs.Moved.{Source, MovesPage, HasMoved, IsAside}
+use Rattle.merge_laws.specs.Packs.{IsLogSpotBelow, HasLogs}
+use Rattle.merge_laws.specs.Pages.{IsBaseSpotBelow}
 use Rattle.selective_merge.specs.Throughout.{KeepsThroughout}
 
 -- ---- pages

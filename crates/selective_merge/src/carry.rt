@@ -6,7 +6,7 @@ ghost use Rattle.ipl_base.specs.declared.limits.TheConstants.{CARRIED_SECTORS};
 ghost use Rattle.ipl_format.specs.Record.{Record as LogRecord};
 ghost use Rattle.ipl_meaning.specs.Last.{pack, carried};
 ghost use Rattle.ipl_meaning.specs.Values.{counts_for};
-ghost use Rattle.merge_rules.specs.Packs.{among, packs_of, payloads_of};
+ghost use Rattle.merge_laws.specs.Packs.{among, packs_of, payloads_of};
 ghost use Rattle.selective_merge.specs.Logs.{nth_record};
 ghost use Rattle.selective_merge.specs.Packing.{is_kept, IsPacking};
 
@@ -67,7 +67,7 @@ fn carry_one(log: &Log, i: usize, active: &Active, packs: &mut Packs) -> bool
 }
 
 /// Packs what is carried of a unit's records. False exactly where that fills more than 12 payloads.
-pub fn pack_carried(log: &Log, active: &Active, packs: &mut Packs) -> bool
+pub(crate) fn pack_carried(log: &Log, active: &Active, packs: &mut Packs) -> bool
     ensures packed { OnTrue result (packs.new.closed.items
         ≡ payloads_of (packs_of active.now log.now)) }
     ensures full { OnFalse result (CARRIED_SECTORS < length (packs_of active.now log.now)) }

@@ -88,7 +88,7 @@ fn change_in(values: &[u8], head: LogHead) -> Change
 }
 
 /// The head's record.
-pub fn record_in(values: &[u8], head: LogHead) -> Record
+pub(crate) fn record_in(values: &[u8], head: LogHead) -> Record
     requires { IsHead values.now head }
     ensures { record_of result ≡ kept_record values.now head }
 {

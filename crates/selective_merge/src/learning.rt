@@ -2,7 +2,7 @@
 ghost use Rattle.std.specs.Prelude.{◌≡◌, ◌<◌, length, slice_index, IfOk};
 ghost use Rattle.overflow.specs.Lists.{spots_in};
 ghost use Rattle.unit_log.specs.Looks.{IsLogRead, LooksAt};
-ghost use Rattle.merge_rules.specs.Pages.{IsFew};
+ghost use Rattle.merge_laws.specs.Pages.{IsFew};
 ghost use Rattle.selective_merge.specs.Homes.{Learns};
 
 use crate::MergeScratch;
@@ -40,7 +40,7 @@ fn home_at(place: u32, unit: u32, head: UnitHead) -> Home
 /// serials, into the scratch memory.
 ///
 /// Where the tables mirror what the chip holds, it fails only where a read failed.
-pub fn learn<C: Chip>(
+pub(crate) fn learn<C: Chip>(
     chip: &mut C,
     directory: &Directory,
     overflow: &Overflow,

@@ -1,7 +1,7 @@
 //! The selective merge: a unit written anew at a free place, with its committed changes applied to
 //! its pages and the changes of open sessions carried over; and where a log sector of a unit goes.
 //! It stands on the tables (`unit_directory`, `overflow`, `txn_status`), on the unit's log as it is
-//! read (`unit_log`), on places that are taken (`place_taking`), and on the laws of `merge_rules`. A
+//! read (`unit_log`), on places that are taken (`place_taking`), and on the laws of `merge_laws`. A
 //! contract sees the tables as one record (`tables_of`), and what a call leaves as `Steps` has it.
 //!
 //! Proved, by `merge`: done, the unit stands at a place that was free, its pages show the same,

@@ -6,7 +6,7 @@ ghost use Rattle.unit_io.specs.Charts.{Charts, Spares, Gains};
 ghost use Rattle.unit_io.specs.Costs.{ProgramsAt, Spends};
 ghost use Rattle.unit_io.specs.Leads.{IsStopped};
 ghost use Rattle.unit_io.specs.Spots.{Programs, IsSpot};
-ghost use Rattle.merge_rules.specs.Packs.{log_sector, IsLogSpotBelow, HasLogs};
+ghost use Rattle.merge_laws.specs.Packs.{log_sector, IsLogSpotBelow, HasLogs};
 ghost use Rattle.selective_merge.specs.Writing.{WritesLog, WritesLogs};
 
 use chip_trait::Chip;
@@ -48,7 +48,7 @@ fn write_log<C: Chip>(
 
 /// Programs log sectors with these payloads, at most 12, from the first one of a place without a
 /// header on, under serials that are drawn for them.
-pub fn write_logs<C: Chip>(
+pub(crate) fn write_logs<C: Chip>(
     chip: &mut C,
     place: u32,
     head: &Head,

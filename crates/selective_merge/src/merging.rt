@@ -10,12 +10,12 @@ ghost use Rattle.unit_directory.specs.Free.{free_count};
 ghost use Rattle.unit_io.specs.Accounts.{Accounts};
 ghost use Rattle.unit_io.specs.Costs.{Spends};
 ghost use Rattle.unit_io.specs.Reads.{OfContents};
-ghost use Rattle.steps.specs.Steps.{Tidies};
+ghost use Rattle.step_laws.specs.Steps.{Tidies};
 ghost use Rattle.place_taking.specs.Spending.{ErasesFor, SparesUsed, is_worn_out};
-ghost use Rattle.merge_rules.specs.Faults.{pages_fault, fault_with, TellsTheFault};
-ghost use Rattle.merge_rules.specs.Known.{KnowsPlaces};
-ghost use Rattle.merge_rules.specs.Pages.{IsFew};
-ghost use Rattle.merge_rules.specs.Packs.{among, packs_of, payloads_of};
+ghost use Rattle.merge_laws.specs.Faults.{pages_fault, fault_with, TellsTheFault};
+ghost use Rattle.merge_laws.specs.Known.{KnowsPlaces};
+ghost use Rattle.merge_laws.specs.Pages.{IsFew};
+ghost use Rattle.merge_laws.specs.Packs.{among, packs_of, payloads_of};
 ghost use Rattle.selective_merge.specs.Homes.{from_home, IsLearnt, MergeCause};
 ghost use Rattle.selective_merge.specs.Moving.{tables_of, Holds};
 ghost use Rattle.selective_merge.specs.Merging.{
@@ -39,7 +39,7 @@ use crate::parts::move_unit;
 use crate::places::write_unit;
 use chip_trait::Chip;
 use ipl_base::ChipFault;
-use merge_rules::known_laws;
+use merge_laws::known_laws;
 use place_taking::take_place;
 use unit_directory::{aside_laws, directory_laws};
 
@@ -181,7 +181,7 @@ fn merge_known<C: Chip>(
 
 /// Merges a unit that `learn` read into the scratch memory, and of which nothing changed since: it
 /// leaves what `merge` leaves, and reads its pages alone.
-pub fn merge_learnt<C: Chip>(
+pub(crate) fn merge_learnt<C: Chip>(
     chip: &mut C,
     parts: &mut Parts,
     unit: u32,

@@ -5,20 +5,20 @@ ghost use Rattle.unit_io.specs.Charts.{Charts, Spares};
 ghost use Rattle.unit_io.specs.Costs.{ProgramsAt, Spends};
 ghost use Rattle.unit_io.specs.Leads.{IsStopped};
 ghost use Rattle.unit_io.specs.Spots.{Programs, IsSpot};
-ghost use Rattle.steps.specs.Steps.{Tidies};
+ghost use Rattle.step_laws.specs.Steps.{Tidies};
 ghost use Rattle.place_taking.specs.Spending.{ErasesFree, SparesUsed, is_worn_out};
 ghost use Rattle.place_taking.specs.Takes.{IsNotTaken};
-ghost use Rattle.merge_rules.specs.Known.{KnowsPlaces};
+ghost use Rattle.merge_laws.specs.Known.{KnowsPlaces};
 ghost use Rattle.selective_merge.specs.Merging.{StaysMirrored};
 ghost use Rattle.selective_merge.specs.Moving.{tables_of, Holds};
-ghost use Rattle.selective_merge.specs.Placing.{IsOpened, OpensPlace, Opens, OpensInSteps};
+ghost use Rattle.selective_merge.specs.Placing.{IsOpened, OpensPlace, OpensOverflow, OpensInSteps};
 ghost use Rattle.selective_merge.specs.Spotting.{OpensNext};
 ghost use Rattle.selective_merge.specs.Throughout.{ChartsThroughout};
 
 use crate::Parts;
 use chip_trait::Chip;
 use ipl_base::{ChipFault, Spot};
-use merge_rules::known_laws;
+use merge_laws::known_laws;
 use place_taking::take_place;
 use sector_format::Head;
 use unit_io::seal;
@@ -55,14 +55,14 @@ fn write_overflow<C: Chip>(
 /// Whatever a power cut leaves at any moment stands for the map on which the story rested. It fails
 /// only where a write failed, and the place is given back then, with one erase more where it was erased;
 /// or where more places are worn than are spare: the story rests on that map still.
-pub fn open_overflow<C: Chip>(chip: &mut C, parts: &mut Parts) -> Result<Spot, ChipFault>
+pub(crate) fn open_overflow<C: Chip>(chip: &mut C, parts: &mut Parts) -> Result<Spot, ChipFault>
     requires known { KnowsPlaces (C.told chip.old).places (tables_of parts.old) }
     requires two { length parts.old.overflow.in_use < 2 }
     requires left { parts.old.counter + 1 < 2 ^ 64 }
 
     // What the chip holds then, and what a power cut leaves.
     ensures tells { ChartsThroughout
-        (λ spot. Opens (C.told chip.old).places (tables_of parts.old) (tables_of parts.new)
+        (λ spot. OpensOverflow (C.told chip.old).places (tables_of parts.old) (tables_of parts.new)
         spot.place)
         (StaysMirrored (C.told chip.old).places (tables_of parts.old) (tables_of parts.new))
         result (C.told chip.old) (C.told chip.new) }

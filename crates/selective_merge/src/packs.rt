@@ -4,7 +4,7 @@ ghost use Rattle.std.specs.Bool.{OnTrue, OnFalse};
 ghost use Rattle.ipl_base.specs.declared.limits.TheConstants.{CARRIED_SECTORS, VERSION};
 ghost use Rattle.ipl_format.specs.Record.{IsRecord, Record as LogRecord};
 ghost use Rattle.log_records.specs.View.{record_of};
-ghost use Rattle.merge_rules.specs.Packs.{payload_of, payloads_of};
+ghost use Rattle.merge_laws.specs.Packs.{payload_of, payloads_of};
 ghost use Rattle.selective_merge.specs.Packing.{pack_open, IsAdded, IsPayload, masks_of_payloads};
 
 use ipl_base::{CARRIED_SECTORS, OutOfMemory};
@@ -105,7 +105,7 @@ impl Packs {
 
 /// Which pages the records of each of these payloads name, at most 12: bit p is page p's. Behind them
 /// stand log sectors that name none.
-pub fn masks_of(payloads: &[Payload]) -> [u16; 15]
+pub(crate) fn masks_of(payloads: &[Payload]) -> [u16; 15]
     requires { length payloads.now ≤ CARRIED_SECTORS }
     ensures { result ≡ masks_of_payloads 15 payloads.now }
 {

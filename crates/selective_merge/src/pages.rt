@@ -11,10 +11,10 @@ ghost use Rattle.unit_io.specs.Costs.{ProgramsAt, Spends};
 ghost use Rattle.unit_io.specs.Reads.{OfContents};
 ghost use Rattle.unit_io.specs.Spots.{Programs, IsPieceSpot};
 ghost use Rattle.page_ops.specs.Rebuilt.{with_records, AreComing, IsMaking};
-ghost use Rattle.merge_rules.specs.Faults.{page_fault_from, pages_fault, TellsTheFault};
-ghost use Rattle.merge_rules.specs.Pages.{IsBaseSpotBelow, IsFew};
-ghost use Rattle.merge_rules.specs.Packs.{among};
-ghost use Rattle.merge_rules.specs.Moved.{IsRebased, MovesPage, HasMoved, IsAside};
+ghost use Rattle.merge_laws.specs.Faults.{page_fault_from, pages_fault, TellsTheFault};
+ghost use Rattle.merge_laws.specs.Pages.{IsBaseSpotBelow, IsFew};
+ghost use Rattle.merge_laws.specs.Packs.{among};
+ghost use Rattle.merge_laws.specs.Moved.{IsRebased, MovesPage, HasMoved, IsAside};
 ghost use Rattle.selective_merge.specs.Homes.{from_home, is_counted, MoveCause};
 ghost use Rattle.selective_merge.specs.Logs.{nth_record};
 ghost use Rattle.selective_merge.specs.Throughout.{ChartsThroughout};
@@ -191,7 +191,7 @@ fn move_page<C: Chip>(
 /// Moves all pages of a unit to a place without a header, as the committed records leave them, and
 /// answers how many sectors each took there. Malformed at sector 0 where the unit stands, where a page
 /// has no room for them.
-pub fn move_pages<C: Chip>(
+pub(crate) fn move_pages<C: Chip>(
     chip: &mut C,
     home: &Home,
     log: &Log,

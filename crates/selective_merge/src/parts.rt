@@ -56,7 +56,7 @@ fn free_one(directory: &mut Directory, place: Option<u32>)
 /// The unit stands at a place that was taken, with a header of this generation and so many log sectors
 /// written there, at most 12, which name these pages. Its old place is free, and so are overflow
 /// places that no list names any more.
-pub fn move_unit(
+pub(crate) fn move_unit(
     parts: &mut Parts,
     unit: u32,
     place: u32,

@@ -8,9 +8,9 @@ ghost use Rattle.unit_io.specs.Leads.{IsStopped};
 ghost use Rattle.unit_io.specs.Reads.{OfContents};
 ghost use Rattle.unit_io.specs.Spots.{Programs, IsSpot};
 ghost use Rattle.place_taking.specs.Fills.{FillsAt};
-ghost use Rattle.merge_rules.specs.Faults.{pages_fault, TellsTheFault};
-ghost use Rattle.merge_rules.specs.Pages.{IsFew};
-ghost use Rattle.merge_rules.specs.Moved.{IsAside};
+ghost use Rattle.merge_laws.specs.Faults.{pages_fault, TellsTheFault};
+ghost use Rattle.merge_laws.specs.Pages.{IsFew};
+ghost use Rattle.merge_laws.specs.Moved.{IsAside};
 ghost use Rattle.selective_merge.specs.Homes.{from_home, MoveCause};
 ghost use Rattle.selective_merge.specs.Throughout.{ChartsThroughout};
 ghost use Rattle.selective_merge.specs.Writing.{
@@ -122,7 +122,7 @@ fn count_of(payloads: &[Payload]) -> u8
 /// Writes a unit to a clean place that was free, under a generation that was drawn for it: the place
 /// is filled, and its header, which tells how many units the tables have and how often the place was
 /// erased, makes it the unit's.
-pub fn write_unit<C: Chip>(
+pub(crate) fn write_unit<C: Chip>(
     chip: &mut C,
     home: &Home,
     log: &Log,

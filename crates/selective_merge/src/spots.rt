@@ -9,8 +9,8 @@ ghost use Rattle.overflow.specs.Lists.{spots_in};
 ghost use Rattle.unit_io.specs.Reads.{OfContents};
 ghost use Rattle.unit_log.specs.Live.{OfMirrored};
 ghost use Rattle.unit_log.specs.Looks.{IsLogRead, LooksAt};
-ghost use Rattle.merge_rules.specs.Known.{Suits};
-ghost use Rattle.merge_rules.specs.Packs.{among, packs_of};
+ghost use Rattle.merge_laws.specs.Known.{Suits};
+ghost use Rattle.merge_laws.specs.Packs.{among, packs_of};
 ghost use Rattle.selective_merge.specs.Moving.{tables_of};
 ghost use Rattle.selective_merge.specs.Spotting.{IsHomeSpot, IsChoice};
 
@@ -23,7 +23,7 @@ use overflow::Overflow;
 use unit_directory::Directory;
 
 /// The first log sector at the unit's home that is known clean and may be written, if there is one.
-pub fn home_spot(parts: &Parts, unit: u32) -> Option<Spot>
+pub(crate) fn home_spot(parts: &Parts, unit: u32) -> Option<Spot>
     requires { unit < length parts.now.directory.current }
     ensures some { IfSome result (λ spot.
         IsHomeSpot (tables_of parts.now) unit spot.place spot.sector) }
@@ -44,7 +44,7 @@ pub enum OverflowChoice {
 }
 
 /// Which overflow sector is to be had for the unit.
-pub fn overflow_choice(parts: &Parts, unit: u32) -> OverflowChoice
+pub(crate) fn overflow_choice(parts: &Parts, unit: u32) -> OverflowChoice
     requires { unit < length parts.now.overflow.spots }
     ensures { IsChoice (tables_of parts.now) unit result }
 {
@@ -61,7 +61,7 @@ pub fn overflow_choice(parts: &Parts, unit: u32) -> OverflowChoice
 }
 
 /// How many log sectors are packed of what is carried; more than 12 are counted as 13.
-pub fn packed_count(scratch: &mut MergeScratch, active: &Active) -> u32
+pub(crate) fn packed_count(scratch: &mut MergeScratch, active: &Active) -> u32
     ensures count { result ≡ min 13 (length (packs_of active.now scratch.old.log)) }
     ensures log { scratch.new.log ≡ scratch.old.log }
 {
@@ -73,7 +73,7 @@ pub fn packed_count(scratch: &mut MergeScratch, active: &Active) -> u32
 }
 
 /// How many log sectors a merge of the unit would carry; more than 12 are counted as 13.
-pub fn count_carried<C: Chip>(
+pub(crate) fn count_carried<C: Chip>(
     chip: &mut C,
     directory: &Directory,
     overflow: &Overflow,

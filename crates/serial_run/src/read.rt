@@ -91,7 +91,7 @@ fn take_next<D: Desk>(
 }
 
 /// Reads the rest of the script, and answers its commands. The last line may lack its line feed.
-pub fn read_commands<D: Desk>(alloc: Global, desk: &mut D) -> Result<Vec<Command>, ViewStop>
+pub(crate) fn read_commands<D: Desk>(alloc: Global, desk: &mut D) -> Result<Vec<Command>, ViewStop>
     ensures reads { ReadsScript (D.told desk.old) (D.told desk.new) }
     ensures all { IfOk result (λ commands. (script : List ℕ)
         → (D.told desk.old).beside.left ≡ Some script

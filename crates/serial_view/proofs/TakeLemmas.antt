@@ -23,7 +23,7 @@ use Rattle.record_locks.specs.Locks.{refuses_begin, refuses_share, refuses_write
 use Rattle.record_locks.specs.Standing.{state_of}
 use Rattle.record_locks.proofs.SameLemmas.{refuse_as}
 use Rattle.record_locks.proofs.BatchLemmas.{batches_refuse}
-use Rattle.serial_view.specs.Running.{KeptRun, run_limits, Tracks, Follows, Takes, fill_in, after_write}
+use Rattle.serial_view.specs.Running.{KeptRun, run_limits, Tracks, Follows, TakesCommand, fill_in, after_write}
 use Rattle.serial_view.specs.Turns.{HasSlot}
 use Rattle.serial_view.proofs.StepLemmas.{step_refused, step_accepted}
 use Rattle.serial_view.proofs.TestLemmas.{all_fail, write_tests, put_tests, del_tests}
@@ -47,7 +47,7 @@ taken : (old next : KeptRun) (c : Command)
     → next.units ≡ old.units
     → ((state : State) → Tracks state old → refusal_of (run_limits old) state c ≡ None
     → Tracks (accepted state c).0 next)
-    → HasSlot c → Takes old c next true
+    → HasSlot c → TakesCommand old c next true
 taken old next c test units tracked slot = record {
   follows = record {
     units = units;
@@ -63,7 +63,7 @@ taken old next c test units tracked slot = record {
 -- and one that is refused
 pub not_taken : (old : KeptRun) (c : Command)
     → ((state : State) → Tracks state old → is_some (refusal_of (run_limits old) state c) ≡ true)
-    → Takes old c old false
+    → TakesCommand old c old false
 not_taken old c test = record {
   follows = record {
     units = refl;
@@ -81,16 +81,16 @@ by_test : (old new next : KeptRun) (c : Command) (b : Bool)
     → (b ≡ true → new ≡ next) → (b ≡ false → new ≡ old) → next.units ≡ old.units
     → ((state : State) → Tracks state old → refusal_of (run_limits old) state c ≡ None
     → Tracks (accepted state c).0 next)
-    → HasSlot c → Takes old c new b
+    → HasSlot c → TakesCommand old c new b
 by_test old new next c true test goes stays units tracked slot =
-    subst (λ (run : KeptRun). Takes old c run true) (sym (goes refl)) (taken old next c test units tracked slot)
+    subst (λ (run : KeptRun). TakesCommand old c run true) (sym (goes refl)) (taken old next c test units tracked slot)
 by_test old new next c false test goes stays units tracked slot =
-    subst (λ (run : KeptRun). Takes old c run false) (sym (stays refl)) (not_taken old c test)
+    subst (λ (run : KeptRun). TakesCommand old c run false) (sym (stays refl)) (not_taken old c test)
 
 -- a command that isn't refused
 pub by_follow : (old new : KeptRun) (c : Command) → Follows old (λ state. (accepted state c).0) new
     → ((state : State) → Tracks state old → refusal_of (run_limits old) state c ≡ None) → HasSlot c
-    → Takes old c new true
+    → TakesCommand old c new true
 by_follow old new c follows passes slot =
     taken old new c (λ state tracks. ap is_some (passes state tracks)) follows.units
     (λ state tracks none. follows.tracks state tracks) slot
@@ -102,7 +102,7 @@ by_result : (old next : KeptRun) (slots : Slots) (c : Command) (o : Option Refus
     → next ≡ record old { slots = next.slots }
     → ((state : State) → Tracks state old → refusal_of (run_limits old) state c ≡ None
     → Tracks (accepted state c).0 next)
-    → HasSlot c → Takes old c (record old { slots = slots }) (is_ok r)
+    → HasSlot c → TakesCommand old c (record old { slots = slots }) (is_ok r)
 by_result old next slots c o (Ok u) is test ok err whole tracked slot =
     by_test old (record old { slots = slots }) next c true (λ state tracks. ap is_some (test state tracks ∙ sym is))
     (λ e. ap (λ (held : Slots). record old { slots = held }) ok ∙ sym whole) (λ e. absurd (cc e))
@@ -197,7 +197,7 @@ module _ (state : State) (s n : ℕ) where
 module _ (run : KeptRun) (sound : AreSessions run.slots) (s : ℕ) (slot : s < SESSIONS) where
   pub begins : (slots : Slots) (r : Result Unit Refusal) → result_err r ≡ refuses_begin run.slots s
       → OnOk r (slots ≡ after_begin run.slots s 0) → OnErr r (slots ≡ run.slots)
-      → Takes run (command.Begin s) (record run { slots = slots }) (is_ok r)
+      → TakesCommand run (command.Begin s) (record run { slots = slots }) (is_ok r)
   begins slots r is ok err =
       by_result run (record run { slots = after_begin run.slots s 0 }) slots (command.Begin s)
       (refuses_begin run.slots s) r is (λ state tracks. begin_refused state run tracks s slot) ok err refl
@@ -207,7 +207,7 @@ module _ (run : KeptRun) (sound : AreSessions run.slots) (s : ℕ) (slot : s < S
   module _ (n : ℕ) (named : n < (run_limits run).names) where
     pub shares : (slots : Slots) (r : Result Unit Refusal) → result_err r ≡ refuses_share run.slots s n
         → OnOk r (slots ≡ after_share run.slots s n) → OnErr r (slots ≡ run.slots)
-        → Takes run (command.Share s n) (record run { slots = slots }) (is_ok r)
+        → TakesCommand run (command.Share s n) (record run { slots = slots }) (is_ok r)
     shares slots r is ok err =
         by_result run (record run { slots = after_share run.slots s n }) slots (command.Share s n)
         (refuses_share run.slots s n) r is (λ state tracks. share_refused state run tracks s slot n named) ok err refl
@@ -215,7 +215,7 @@ module _ (run : KeptRun) (sound : AreSessions run.slots) (s : ℕ) (slot : s < S
 
     pub dels : (new : KeptRun) (taken : Bool) → taken ≡ not (is_some (refuses_write run.slots s n 0))
         → (taken ≡ true → new ≡ after_write run s n 0) → (taken ≡ false → new ≡ run)
-        → Takes run (command.Del s n) new taken
+        → TakesCommand run (command.Del s n) new taken
     dels new taken test goes stays =
         by_test run new (after_write run s n 0) (command.Del s n) taken
         (λ state tracks. ap is_some (del_refused state run tracks s slot n named) ∙ sym (ap not test ∙ not_twice _))
@@ -229,7 +229,7 @@ module _ (run : KeptRun) (sound : AreSessions run.slots) (s : ℕ) (slot : s < S
         → fill_in run n (size_in_page (Some bytes)) ≤ PAGE_LEN
         → taken ≡ not (is_some (refuses_write run.slots s n (size_in_page (Some bytes))))
         → (taken ≡ true → new ≡ after_write run s n (size_in_page (Some bytes))) → (taken ≡ false → new ≡ run)
-        → Takes run (command.Put s n bytes) new taken
+        → TakesCommand run (command.Put s n bytes) new taken
     puts bytes new taken short fits test goes stays =
         by_test run new (after_write run s n (size_in_page (Some bytes))) (command.Put s n bytes) taken
         (λ state tracks.
@@ -246,7 +246,7 @@ module _ (run : KeptRun) (sound : AreSessions run.slots) (s : ℕ) (slot : s < S
 -- a put that would make its page too full
 pub overfull : (run : KeptRun) (s n : ℕ) → s < SESSIONS → n < (run_limits run).names → (bytes : List ℕ)
     → length bytes ≤ VALUE_LEN → PAGE_LEN < fill_in run n (size_in_page (Some bytes))
-    → Takes run (command.Put s n bytes) run false
+    → TakesCommand run (command.Put s n bytes) run false
 overfull run s n slot named bytes short full =
     not_taken run (command.Put s n bytes) (λ state tracks.
     put_refused state run tracks s slot n named bytes short
@@ -259,10 +259,10 @@ module _ (run new : KeptRun) (s : ℕ) (slot : s < SESSIONS) (opens : is_open (s
   end_passes state tracks =
       end_refused state run tracks s slot ∙ ap (λ (b : Bool). cond (not b) (Some NotOpen) None) opens
 
-  pub commits : Follows run (λ state. after_commit state s) new → Takes run (command.Commit s) new true
+  pub commits : Follows run (λ state. after_commit state s) new → TakesCommand run (command.Commit s) new true
   commits follows = by_follow run new (command.Commit s) follows end_passes slot
 
-  pub aborts : Follows run (λ state. after_abort state s) new → Takes run (command.Abort s) new true
+  pub aborts : Follows run (λ state. after_abort state s) new → TakesCommand run (command.Abort s) new true
   aborts follows = by_follow run new (command.Abort s) follows end_passes tt
 
 -- a batch that isn't refused names sessions in range
@@ -273,17 +273,17 @@ batch_named slots ss none =
     (none_of (refuses_batch slots ss) none)).within
 
 pub batches : (run new : KeptRun) (ss : List ℕ) → is_some (refuses_batch run.slots ss) ≡ false
-    → Follows run (λ state. after_batch state ss) new → Takes run (command.Batch ss) new true
+    → Follows run (λ state. after_batch state ss) new → TakesCommand run (command.Batch ss) new true
 batches run new ss none follows =
     by_follow run new (command.Batch ss) follows (λ state tracks.
     sym (batches_refuse run.slots (run_limits run) state refl tracks.names ss)
     ∙ none_of (refuses_batch run.slots ss) none) (batch_named run.slots ss none)
 
 pub batch_refused : (run : KeptRun) (ss : List ℕ) → is_some (refuses_batch run.slots ss) ≡ true
-    → Takes run (command.Batch ss) run false
+    → TakesCommand run (command.Batch ss) run false
 batch_refused run ss some =
     not_taken run (command.Batch ss) (λ state tracks.
     sym (ap is_some (batches_refuse run.slots (run_limits run) state refl tracks.names ss)) ∙ some)
 
-pub restarts : (run new : KeptRun) → Follows run after_restart new → Takes run command.Restart new true
+pub restarts : (run new : KeptRun) → Follows run after_restart new → TakesCommand run command.Restart new true
 restarts run new follows = by_follow run new command.Restart follows (λ state tracks. refl) tt

@@ -85,7 +85,7 @@ pub record Follows (old : KeptRun) (next : State → State) (new : KeptRun) : Ty
   pub tracks : (state : State) → Tracks state old → Tracks (next state) new
 
 -- one command's run, from whatever state: it tells whether the command is accepted
-pub record Takes (old : KeptRun) (c : Command) (new : KeptRun) (taken : Bool) : Type 0 where
+pub record TakesCommand (old : KeptRun) (c : Command) (new : KeptRun) (taken : Bool) : Type 0 where
   pub follows : Follows old (λ state. (step (run_limits old) state c).0) new
   pub tells : (state : State) → Tracks state old → taken ≡ accepts (run_limits old) state c
   pub slot : taken ≡ true → HasSlot c

@@ -6,7 +6,7 @@ ghost use Rattle.ipl_rules.specs.Operations.{after_commit, after_batch, after_ab
 ghost use Rattle.ipl_model.specs.declared.command.Command.TheVariants as command;
 ghost use Rattle.ipl_model.specs.Plain.{state_of, limits_of, limits_for};
 ghost use Rattle.record_locks.specs.Locks.{refuses_write};
-ghost use Rattle.serial_view.specs.Running.{run_of, run_limits, Tracks, Follows, Takes, Sets, room_in, fill_in, after_write};
+ghost use Rattle.serial_view.specs.Running.{run_of, run_limits, Tracks, Follows, TakesCommand, Sets, room_in, fill_in, after_write};
 
 use crate::size_table::{clear_sizes, copy_sizes, set_size, size_at, zeros};
 use ipl_base::{Geometry, Name, OutOfMemory, PAGE_LEN, SESSIONS, SLOTS, UNIT_NAMES, VALUE_LEN};
@@ -54,7 +54,7 @@ impl Running {
 
     /// Runs a command, and answers whether it isn't refused.
     pub fn take(&mut self, command: &Command) -> bool
-        ensures { Takes (run_of self.old) command.now (run_of self.new) result }
+        ensures { TakesCommand (run_of self.old) command.now (run_of self.new) result }
     {
         match command {
             Command::Begin(s) => self.begin(*s),
@@ -108,7 +108,7 @@ impl Running {
 
     /// Runs a begin, and answers whether it isn't refused. So do the functions of the other commands.
     fn begin(&mut self, s: u32) -> bool
-        ensures { Takes (run_of self.old) (command.Begin s) (run_of self.new) result }
+        ensures { TakesCommand (run_of self.old) (command.Begin s) (run_of self.new) result }
     {
         self.sessions.facts();
         if s >= SESSIONS {
@@ -119,13 +119,13 @@ impl Running {
     }
 
     fn get(&mut self, s: u32, name: u32) -> bool
-        ensures { Takes (run_of self.old) (command.Get s name) (run_of self.new) result }
+        ensures { TakesCommand (run_of self.old) (command.Get s name) (run_of self.new) result }
     {
         s < SESSIONS && self.has_name(name) && self.sessions.is_open(s)
     }
 
     fn share(&mut self, s: u32, name: u32) -> bool
-        ensures { Takes (run_of self.old) (command.Share s name) (run_of self.new) result }
+        ensures { TakesCommand (run_of self.old) (command.Share s name) (run_of self.new) result }
     {
         self.sessions.facts();
         if s >= SESSIONS || !self.has_name(name) {
@@ -151,7 +151,7 @@ impl Running {
     }
 
     fn put(&mut self, s: u32, name: u32, bytes: &[u8]) -> bool
-        ensures { Takes (run_of self.old) (command.Put s name bytes.now) (run_of self.new) result }
+        ensures { TakesCommand (run_of self.old) (command.Put s name bytes.now) (run_of self.new) result }
     {
         self.sessions.facts();
         if s >= SESSIONS || !self.has_name(name) || bytes.len() > VALUE_LEN {
@@ -167,7 +167,7 @@ impl Running {
     }
 
     fn del(&mut self, s: u32, name: u32) -> bool
-        ensures { Takes (run_of self.old) (command.Del s name) (run_of self.new) result }
+        ensures { TakesCommand (run_of self.old) (command.Del s name) (run_of self.new) result }
     {
         self.sessions.facts();
         if s >= SESSIONS || !self.has_name(name) {
@@ -217,7 +217,7 @@ impl Running {
     }
 
     fn commit(&mut self, s: u32) -> bool
-        ensures { Takes (run_of self.old) (command.Commit s) (run_of self.new) result }
+        ensures { TakesCommand (run_of self.old) (command.Commit s) (run_of self.new) result }
     {
         if s >= SESSIONS || !self.sessions.is_open(s) {
             return false;
@@ -227,7 +227,7 @@ impl Running {
     }
 
     fn batch(&mut self, sessions: &[u32]) -> bool
-        ensures { Takes (run_of self.old) (command.Batch sessions.now) (run_of self.new) result }
+        ensures { TakesCommand (run_of self.old) (command.Batch sessions.now) (run_of self.new) result }
     {
         if self.sessions.refuses_batch(sessions).is_some() {
             return false;
@@ -237,7 +237,7 @@ impl Running {
     }
 
     fn abort(&mut self, s: u32) -> bool
-        ensures { Takes (run_of self.old) (command.Abort s) (run_of self.new) result }
+        ensures { TakesCommand (run_of self.old) (command.Abort s) (run_of self.new) result }
     {
         if s >= SESSIONS || !self.sessions.is_open(s) {
             return false;
@@ -247,26 +247,26 @@ impl Running {
     }
 
     fn list(&mut self, a: u32, b: u32) -> bool
-        ensures { Takes (run_of self.old) (command.List a b) (run_of self.new) result }
+        ensures { TakesCommand (run_of self.old) (command.List a b) (run_of self.new) result }
     {
         self.has_name(a) && self.has_name(b)
     }
 
     fn merge(&mut self, unit: u32) -> bool
-        ensures { Takes (run_of self.old) (command.Merge unit) (run_of self.new) result }
+        ensures { TakesCommand (run_of self.old) (command.Merge unit) (run_of self.new) result }
     {
         unit < self.units
     }
 
     fn restart(&mut self) -> bool
-        ensures { Takes (run_of self.old) command.Restart (run_of self.new) result }
+        ensures { TakesCommand (run_of self.old) command.Restart (run_of self.new) result }
     {
         self.close_all();
         true
     }
 
     fn syntax(&mut self) -> bool
-        ensures { Takes (run_of self.old) command.Syntax (run_of self.new) result }
+        ensures { TakesCommand (run_of self.old) command.Syntax (run_of self.new) result }
     {
         true
     }

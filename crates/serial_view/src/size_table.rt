@@ -24,7 +24,7 @@ pub fn size_at(sizes: &Vec<u32>, name: u32) -> u32
 }
 
 /// Sets the size of a name in a table; past the last nothing is kept.
-pub fn set_size(sizes: &mut Vec<u32>, name: u32, size: u32)
+pub(crate) fn set_size(sizes: &mut Vec<u32>, name: u32, size: u32)
     ensures { sizes.new.items ≡ slice_set sizes.old.items name size }
 {
     if (name as usize) < sizes.len() {
@@ -33,7 +33,7 @@ pub fn set_size(sizes: &mut Vec<u32>, name: u32, size: u32)
 }
 
 /// Sets the sizes of these names to those in another table.
-pub fn copy_sizes(sizes: &mut Vec<u32>, from: &Vec<u32>, names: &[Name])
+pub(crate) fn copy_sizes(sizes: &mut Vec<u32>, from: &Vec<u32>, names: &[Name])
     ensures { Sets (map (λ n. n.0) names.now) (slice_index from.now.items) sizes.old.items
         sizes.new.items }
 {
@@ -43,7 +43,7 @@ pub fn copy_sizes(sizes: &mut Vec<u32>, from: &Vec<u32>, names: &[Name])
 }
 
 /// Sets the sizes of these names to 0.
-pub fn clear_sizes(sizes: &mut Vec<u32>, names: &[Name])
+pub(crate) fn clear_sizes(sizes: &mut Vec<u32>, names: &[Name])
     ensures { Sets (map (λ n. n.0) names.now) (λ n. 0) sizes.old.items sizes.new.items }
 {
     for name in names {

@@ -139,7 +139,7 @@ impl TurnTable {
     }
 
     /// The positions of the view.
-    pub fn into_order(self) -> Vec<usize>
+    pub(crate) fn into_order(self) -> Vec<usize>
         ensures { result.items ≡ (kept_of self).order }
     {
         self.order

@@ -14,10 +14,10 @@ use Rattle.ipl_meaning.specs.Last.{carried, carried_count}
 use Rattle.ipl_meaning.specs.Layout.{Shape, Layout, records_of}
 use Rattle.ipl_meaning.specs.Stands.{Says}
 use Rattle.ipl_meaning.specs.Tables.{Places, Tables}
-use Rattle.merge_rules.specs.Faults.{IsMergeable, FailsByChipAlone}
-use Rattle.merge_rules.specs.Packs.{among}
-use Rattle.merge_rules.proofs.FaultLemmas.{said_units_are_mergeable}
-use Rattle.opening_rules.specs.Faults.{first_fault, is_image}
+use Rattle.merge_laws.specs.Faults.{IsMergeable, FailsByChipAlone}
+use Rattle.merge_laws.specs.Packs.{among}
+use Rattle.merge_laws.proofs.FaultLemmas.{said_units_are_mergeable}
+use Rattle.opening_laws.specs.Faults.{first_fault, is_image}
 use Rattle.restart.specs.Looks.{HasCause}
 use Rattle.selective_merge.specs.Merging.{CompletesMerge}
 use Rattle.place_taking.specs.Takes.{IsNotTaken}

@@ -15,13 +15,13 @@ use Rattle.ipl_meaning.specs.Last.{carried_count}
 use Rattle.ipl_meaning.specs.Layout.{Shape, Layout, records_of}
 use Rattle.ipl_meaning.specs.Mirrors.{MirrorsStatus}
 use Rattle.ipl_meaning.specs.Tables.{IsFree, Places, Tables, Status}
-use Rattle.merge_rules.specs.Faults.{pages_fault, merge_fault, IsTheFault}
-use Rattle.merge_rules.specs.Known.{KnowsPlaces}
-use Rattle.merge_rules.specs.Merged.{source_of}
-use Rattle.merge_rules.specs.Packs.{among}
-use Rattle.merge_rules.proofs.FaultLemmas.{faults_are_of_the_place, merge_faults_are_of_the_unit}
-use Rattle.opening_rules.specs.Faults.{first_fault}
-use Rattle.opening_rules.specs.LaidOut.{layout_in}
+use Rattle.merge_laws.specs.Faults.{pages_fault, merge_fault, IsTheFault}
+use Rattle.merge_laws.specs.Known.{KnowsPlaces}
+use Rattle.merge_laws.specs.Merged.{source_of}
+use Rattle.merge_laws.specs.Packs.{among}
+use Rattle.merge_laws.proofs.FaultLemmas.{faults_are_of_the_place, merge_faults_are_of_the_unit}
+use Rattle.opening_laws.specs.Faults.{first_fault}
+use Rattle.opening_laws.specs.LaidOut.{layout_in}
 use Rattle.selective_merge.specs.Merging.{Merges, StaysMirrored, FailsAsMerge}
 use Rattle.place_taking.specs.Spending.{SparesUsed}
 use Rattle.place_taking.specs.Takes.{IsNotTaken}

@@ -15,7 +15,7 @@ use Rattle.number_set.proofs.NumberLemmas.{numbers_are_a_union, length_with_numb
 use Rattle.kept_numbers.specs.Joins.{committed_in, joined}
 use Rattle.kept_numbers.specs.Keeps.{IsLogged, KeepsBelow}
 use Rattle.kept_numbers.proofs.KeepsLemmas.{none_are_kept, units_join, joined_numbers_join}
-use Rattle.opening_rules.specs.LaidOut.{layout_in}
+use Rattle.opening_laws.specs.LaidOut.{layout_in}
 use Rattle.restart.specs.Collected.{AreCollected}
 use Rattle.unit_io.specs.Costs.{Spends}
 use Rattle.unit_io.specs.ReadsAt.{Anywhere, ReadsOnce}

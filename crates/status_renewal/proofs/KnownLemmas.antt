@@ -6,8 +6,8 @@ use Rattle.ipl_base.specs.declared.fault.ChipFault.{ChipFault}
 use Rattle.ipl_base.specs.Places.{KeepsUnits}
 use Rattle.ipl_meaning.specs.Mirrors.{AreApart}
 use Rattle.ipl_meaning.specs.Tables.{IsFree, with_erased, Places, Status, Tables, overflow_places}
-use Rattle.merge_rules.specs.Known.{IsNamed, KnowsPlaces}
-use Rattle.merge_rules.proofs.KnownLemmas.{known_places_may_be_aside}
+use Rattle.merge_laws.specs.Known.{IsNamed, KnowsPlaces}
+use Rattle.merge_laws.proofs.KnownLemmas.{known_places_may_be_aside}
 use Rattle.place_taking.specs.Takes.{IsAsideFrom, with_places}
 use Rattle.unit_directory.specs.Free.{aside}
 use Rattle.unit_directory.specs.Laws.{UsesTake, DisusesGiveBack}

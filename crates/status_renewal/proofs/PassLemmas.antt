@@ -13,8 +13,8 @@ use Rattle.ipl_meaning.specs.Mirrors.{Mirrors}
 use Rattle.ipl_meaning.specs.Stands.{Shows}
 use Rattle.ipl_meaning.specs.Steps.{AllWait, with_unit}
 use Rattle.ipl_meaning.specs.Tables.{Tables, Status}
-use Rattle.merge_rules.specs.Merged.{IsMergedUnit, merged_shape}
-use Rattle.merge_rules.specs.Packs.{packs_of, entries_from}
+use Rattle.merge_laws.specs.Merged.{IsMergedUnit, merged_shape}
+use Rattle.merge_laws.specs.Packs.{packs_of, entries_from}
 use Rattle.unit_io.specs.Charts.{Charts}
 use Rattle.kept_numbers.specs.Joins.{joined}
 use Rattle.kept_numbers.specs.Keeps.{JoinsLog}

@@ -20,14 +20,14 @@ use Rattle.ipl_meaning.proofs.MirrorLemmas.{free_places_are_idle}
 use Rattle.txn_status.specs.Adding.{HasStatus}
 use Rattle.txn_status.specs.Status.{parts_of, switched_to}
 use Rattle.txn_status.specs.Switching.{IsTaken, MayKeep, FitsHeader, IsSwitched, IsReadyToSwitch, Switched, Switches}
-use Rattle.steps.specs.Steps.{RestsAgreeing}
+use Rattle.step_laws.specs.Steps.{RestsAgreeing}
 use Rattle.unit_directory.specs.Free.{AreNext, aside}
 use Rattle.unit_directory.specs.Laws.{UsesTake, DisusesGiveBack}
 use Rattle.unit_io.specs.Charts.{Charts, IsCleared}
 use Rattle.place_taking.proofs.TurnLemmas.{given_back}
 use Rattle.place_taking.specs.Takes.{with_places}
-use Rattle.merge_rules.specs.Known.{KnowsPlaces}
-use Rattle.merge_rules.proofs.KnownLemmas.{known_places_may_be_aside}
+use Rattle.merge_laws.specs.Known.{KnowsPlaces}
+use Rattle.merge_laws.proofs.KnownLemmas.{known_places_may_be_aside}
 use Rattle.selective_merge.proofs.TakenLemmas.{aside_mirrors, cleared_mirrors}
 use Rattle.status_renewal.specs.Renewed.{HasTables, with_tables, MayRenew, Renews}
 use Rattle.status_renewal.proofs.ReadyLemmas.{resting_layouts_say}

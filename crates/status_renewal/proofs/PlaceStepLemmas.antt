@@ -12,7 +12,7 @@ use Rattle.unit_directory.specs.Free.{aside}
 use Rattle.unit_directory.specs.Laws.{UsesTake, DisusesGiveBack}
 use Rattle.unit_directory.proofs.AsideLemmas.{next_places_are_aside}
 use Rattle.unit_io.specs.Leads.{IsSteady}
-use Rattle.steps.specs.Steps.{Settled, NoOtherEnd, EndsWith, Outcome, TidyWork, RestsAgreeing}
+use Rattle.step_laws.specs.Steps.{Settled, NoOtherEnd, EndsWith, Outcome, TidyWork, RestsAgreeing}
 use Rattle.place_taking.specs.Takes.{ClearsNext, IsAsideFrom, IsTakenFrom, RestsTaken, TakesPlace, with_places}
 use Rattle.place_taking.proofs.JoinLemmas.{counted_alike, counted_used, taken_then, taken_was_free}
 use Rattle.txn_status.specs.Status.{parts_of, switched_to}

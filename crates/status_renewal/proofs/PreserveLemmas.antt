@@ -11,11 +11,11 @@ use Rattle.ipl_meaning.specs.Layout.{Layout}
 use Rattle.ipl_meaning.specs.Mirrors.{Mirrors}
 use Rattle.ipl_meaning.specs.Rests.{now, EachStands, StoryRests}
 use Rattle.ipl_meaning.specs.Tables.{Tables, IsCountedClean}
-use Rattle.steps.specs.Laws.{Preserves}
-use Rattle.steps.specs.Steps.{Settled, EndsWith, TidyWork, Steps}
-use Rattle.steps.proofs.MapLemmas.{calls_keep}
-use Rattle.steps.proofs.StepLemmas.{outcome_weaker, outcome_reads, outcome_steady}
-use Rattle.steps.proofs.TidyLemmas.{tidy_reads}
+use Rattle.step_laws.specs.Laws.{Preserves}
+use Rattle.step_laws.specs.Steps.{Settled, EndsWith, TidyWork, Steps}
+use Rattle.step_laws.proofs.MapLemmas.{calls_keep}
+use Rattle.step_laws.proofs.StepLemmas.{outcome_weaker, outcome_reads, outcome_steady}
+use Rattle.step_laws.proofs.TidyLemmas.{tidy_reads}
 use Rattle.unit_io.specs.Leads.{IsSteady}
 use Rattle.unit_io.specs.ReadsAt.{ReadsAt}
 use Rattle.unit_io.proofs.ReadsAtLemmas.{at_rests}

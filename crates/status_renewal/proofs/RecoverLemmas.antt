@@ -18,15 +18,15 @@ use Rattle.ipl_meaning.specs.Tables.{Places, OverflowLists, Status, Tables, IsCo
 use Rattle.ipl_meaning.specs.TableSteps.{without_marks}
 use Rattle.ipl_meaning.proofs.CarriedLemmas.{tidy_is_carried}
 use Rattle.ipl_meaning.proofs.MarkLemmas.{counted_follow_ends_of_marks, tables_follow_ends_of_marks}
-use Rattle.opened_tables.specs.Opened.{AreOpened, tables_of as opened_of}
-use Rattle.opening_rules.specs.Faults.{is_image, first_fault}
-use Rattle.opening_rules.specs.LaidOut.{layout_in}
+use Rattle.opening_laws.specs.Opened.{AreOpened, tables_of as opened_of}
+use Rattle.opening_laws.specs.Faults.{is_image, first_fault}
+use Rattle.opening_laws.specs.LaidOut.{layout_in}
 use Rattle.restart.specs.Looks.{OnlyReads, HasCause}
 use Rattle.chip_trait.proofs.CountsLemmas.{counts_then}
-use Rattle.steps.specs.Steps.{Settled, NoOtherEnd, EndsWith, Outcome, TidyWork, Tidies}
-use Rattle.steps.proofs.TablesLemmas.{tables_fewer}
-use Rattle.steps.proofs.StepLemmas.{outcome_then, outcome_weaker, outcome_steady, outcome_reads}
-use Rattle.steps.proofs.TidyLemmas.{tidy_reads, tidy_then}
+use Rattle.step_laws.specs.Steps.{Settled, NoOtherEnd, EndsWith, Outcome, TidyWork, Tidies}
+use Rattle.step_laws.proofs.TablesLemmas.{tables_fewer}
+use Rattle.step_laws.proofs.StepLemmas.{outcome_then, outcome_weaker, outcome_steady, outcome_reads}
+use Rattle.step_laws.proofs.TidyLemmas.{tidy_reads, tidy_then}
 use Rattle.unit_io.specs.Leads.{IsSteady, IsStopped}
 use Rattle.unit_io.specs.ReadsAt.{Anywhere}
 use Rattle.unit_io.proofs.ReadsAtLemmas.{at_rests}

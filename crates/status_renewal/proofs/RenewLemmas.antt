@@ -8,7 +8,7 @@ use Rattle.ipl_meaning.specs.Layout.{Layout}
 use Rattle.ipl_meaning.specs.Steps.{with_status}
 use Rattle.ipl_meaning.specs.Tables.{Places, Status, Tables}
 use Rattle.number_set.specs.Numbers.{among}
-use Rattle.opening_rules.proofs.PayloadLemmas.{spelled_status_passes}
+use Rattle.opening_laws.proofs.PayloadLemmas.{spelled_status_passes}
 use Rattle.place_taking.specs.Homes.{KeepsHomes}
 use Rattle.place_taking.specs.Takes.{IsAsideFrom}
 use Rattle.place_taking.proofs.HomeLemmas.{homes_same}

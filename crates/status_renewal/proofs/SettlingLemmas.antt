@@ -16,18 +16,18 @@ use Rattle.ipl_meaning.specs.Tables.{Places, Tables, counted_written, unmarked_w
 use Rattle.ipl_meaning.specs.TableSteps.{without_marks}
 use Rattle.ipl_meaning.proofs.StoryLemmas.{held_stands, barriers_rest}
 use Rattle.place_taking.specs.Homes.{KeepsHomes}
-use Rattle.merge_rules.specs.Known.{KnowsPlaces}
-use Rattle.opened_tables.specs.Opened.{AreOpened}
-use Rattle.opened_tables.proofs.SpotLemmas.{in_use_from}
-use Rattle.opening_rules.specs.Chosen.{header_at}
-use Rattle.opening_rules.specs.Faults.{holds_live}
-use Rattle.opening_rules.specs.Live.{marks_in}
+use Rattle.merge_laws.specs.Known.{KnowsPlaces}
+use Rattle.opening_laws.specs.Opened.{AreOpened}
+use Rattle.opening_laws.proofs.SpotLemmas.{in_use_from}
+use Rattle.opening_laws.specs.Chosen.{header_at}
+use Rattle.opening_laws.specs.Faults.{holds_live}
+use Rattle.opening_laws.specs.Live.{marks_in}
 use Rattle.restart.specs.Counted.{NoneKnown}
 use Rattle.restart.specs.Opened.{NoneIsClean, CountsMarked}
-use Rattle.steps.specs.Steps.{Settled, NoOtherEnd, TidyWork, Steps, Tidies}
-use Rattle.steps.proofs.StepLemmas.{outcome_none, writes_are_steps}
-use Rattle.steps.proofs.TablesLemmas.{tables_none}
-use Rattle.steps.proofs.TidyLemmas.{tidy_none}
+use Rattle.step_laws.specs.Steps.{Settled, NoOtherEnd, TidyWork, Steps, Tidies}
+use Rattle.step_laws.proofs.StepLemmas.{outcome_none, writes_are_steps}
+use Rattle.step_laws.proofs.TablesLemmas.{tables_none}
+use Rattle.step_laws.proofs.TidyLemmas.{tidy_none}
 use Rattle.unit_directory.specs.Directory.{is_known}
 use Rattle.unit_io.specs.Costs.{Costs, Spends}
 use Rattle.unit_io.specs.Leads.{IsSteady, Leads, Waited, IsStopped}

@@ -5,12 +5,12 @@ use Rattle.chip_trait.specs.Told.{Told, Counts}
 use Rattle.ipl_base.specs.declared.fault.ChipFault.{ChipFault}
 use Rattle.ipl_base.specs.declared.fault.ImageFault.{ImageFault}
 use Rattle.ipl_meaning.specs.Tables.{IsFree, Places, Status, Tables, IsCountedClean}
-use Rattle.merge_rules.specs.Known.{KnowsPlaces}
-use Rattle.merge_rules.proofs.KnownCleanLemmas.{counted_in_use, renewed_clean}
+use Rattle.merge_laws.specs.Known.{KnowsPlaces}
+use Rattle.merge_laws.proofs.KnownCleanLemmas.{counted_in_use, renewed_clean}
 use Rattle.restart.specs.Opened.{NoneIsClean}
-use Rattle.steps.specs.Steps.{Settled, TidyWork, Tidies}
-use Rattle.steps.proofs.TablesLemmas.{tables_none, tables_read, tables_then}
-use Rattle.steps.proofs.TidyLemmas.{tidy_reads, tidy_weaker}
+use Rattle.step_laws.specs.Steps.{Settled, TidyWork, Tidies}
+use Rattle.step_laws.proofs.TablesLemmas.{tables_none, tables_read, tables_then}
+use Rattle.step_laws.proofs.TidyLemmas.{tidy_reads, tidy_weaker}
 use Rattle.place_taking.specs.Spending.{WritesFree}
 use Rattle.place_taking.specs.Takes.{IsTakenFrom, with_places}
 use Rattle.place_taking.proofs.JoinLemmas.{aside_facts, counted_alike, tidy_writes}

@@ -8,8 +8,8 @@ use Rattle.ipl_meaning.specs.Last.{carried}
 use Rattle.ipl_meaning.specs.Layout.{Entry, Shape, Layout, IsEntry, records_of}
 use Rattle.ipl_meaning.specs.Steps.{AllWait}
 use Rattle.log_records.proofs.RecordsLemmas.{records_list}
-use Rattle.merge_rules.specs.Packs.{among, packs_of}
-use Rattle.merge_rules.proofs.PacksLemmas.{among_contains, carried_all, packs_join, entries_records}
+use Rattle.merge_laws.specs.Packs.{among, packs_of}
+use Rattle.merge_laws.proofs.PacksLemmas.{among_contains, carried_all, packs_join, entries_records}
 use Rattle.unit_log.specs.Kept.{kept_of, records_kept}
 use Rattle.kept_numbers.specs.Joins.{joined}
 use Rattle.status_renewal.specs.Passes.{kept_below, has_room, IsRepacked}

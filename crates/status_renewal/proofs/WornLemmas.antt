@@ -9,7 +9,7 @@ use Rattle.ipl_meaning.specs.Chart.{Chart, chart_of}
 use Rattle.ipl_meaning.specs.Tables.{Places, Tables}
 use Rattle.place_taking.specs.Homes.{LeavesPlaces}
 use Rattle.place_taking.specs.Spending.{is_worn_out, tells_worn}
-use Rattle.place_taking.specs.Wear.{ListsNoOther, Wears}
+use Rattle.place_taking.specs.Wear.{ListsNoOther, TellsOfWear}
 use Rattle.place_taking.proofs.HomeLemmas.{places_then}
 use Rattle.place_taking.proofs.WearLemmas.{failures_wear}
 use Rattle.txn_status.specs.Switching.{ListsAt}
@@ -55,7 +55,7 @@ lists_retired t after c y (head, here, exact) p (other, also, listed) =
 -- the pass ended it
 pub wears_unpassed : (t after : Tables) (n : ℕ) (e : ChipFault) (old new : Told)
     → Spends (ErasesAtMost t.places after.places n (tells_worn e)) old new
-    → Wears t after false (tells_worn e) old new
+    → TellsOfWear t after false (tells_worn e) old new
 wears_unpassed t after n e old new did =
     failures_wear t after (tells_worn e) old new
     (erases_leave_places t.places after.places n (tells_worn e) old new did)
@@ -66,7 +66,7 @@ pub wears_renewed : (t between after : Tables) (n k : ℕ) (result : Result (Uni
     → Spends (ErasesAtMost between.places after.places k (is_worn_out result)) mid new
     → GoesOnTelling (Ok tt) old mid
     → OnOk result (Charts (λ c y. ListsRetired after y) mid new)
-    → Wears t after (is_ok result) (is_worn_out result) old new
+    → TellsOfWear t after (is_ok result) (is_worn_out result) old new
 wears_renewed t between after n k result old mid new passed renewed goes_on listed = record {
   places = places_then t.places between.places after.places (is_worn_out result) old mid new
       (erases_leave_places t.places between.places n false old mid passed)

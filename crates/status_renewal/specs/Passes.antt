@@ -14,16 +14,16 @@ use Rattle.ipl_meaning.specs.Mirrors.{Mirrors}
 use Rattle.ipl_meaning.specs.Rests.{StoryRests}
 use Rattle.ipl_meaning.specs.Steps.{KeepsPages}
 use Rattle.ipl_meaning.specs.Tables.{Places, Tables}
-use Rattle.merge_rules.specs.Faults.{merge_fault, IsMergeable, FailsByChipAlone}
-use Rattle.merge_rules.specs.Known.{KnowsPlaces}
-use Rattle.merge_rules.specs.Pages.{IsBaseSpotBelow}
-use Rattle.merge_rules.specs.Packs.{among, packs_of, entries_from}
+use Rattle.merge_laws.specs.Faults.{merge_fault, IsMergeable, FailsByChipAlone}
+use Rattle.merge_laws.specs.Known.{KnowsPlaces}
+use Rattle.merge_laws.specs.Pages.{IsBaseSpotBelow}
+use Rattle.merge_laws.specs.Packs.{among, packs_of, entries_from}
 use Rattle.place_taking.specs.Homes.{LeavesPlaces}
 use Rattle.place_taking.specs.Spending.{RetiringCosts}
 use Rattle.selective_merge.specs.Homes.{WearCause}
 use Rattle.selective_merge.specs.Placing.{SaysErases}
 use Rattle.selective_merge.specs.Throughout.{ChartsThroughout}
-use Rattle.steps.specs.Laws.{Preserves}
+use Rattle.step_laws.specs.Laws.{Preserves}
 use Rattle.txn_status.specs.Status.{room_of}
 use Rattle.txn_status.specs.Switching.{ListsAt}
 use Rattle.unit_io.specs.Costs.{is_erased}

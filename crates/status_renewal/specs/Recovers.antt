@@ -17,19 +17,19 @@ use Rattle.ipl_meaning.specs.Rests.{EachStands, StoryRests}
 use Rattle.ipl_meaning.specs.Stands.{Says}
 use Rattle.ipl_meaning.specs.Steps.{KeepsPages}
 use Rattle.ipl_meaning.specs.Tables.{Places, Tables, IsCountedClean}
-use Rattle.merge_rules.specs.Faults.{unit_fault}
-use Rattle.merge_rules.specs.Known.{KnowsPlaces}
-use Rattle.opening_rules.specs.Chosen.{units_at}
-use Rattle.opening_rules.specs.Faults.{first_fault}
-use Rattle.opened_tables.specs.Opened.{IsUnused}
-use Rattle.opening_rules.specs.LaidOut.{layout_in, retired_at}
+use Rattle.merge_laws.specs.Faults.{unit_fault}
+use Rattle.merge_laws.specs.Known.{KnowsPlaces}
+use Rattle.opening_laws.specs.Chosen.{units_at}
+use Rattle.opening_laws.specs.Faults.{first_fault}
+use Rattle.opening_laws.specs.Opened.{IsUnused}
+use Rattle.opening_laws.specs.LaidOut.{layout_in, retired_at}
 use Rattle.place_taking.specs.Homes.{LeavesPlaces}
 use Rattle.place_taking.specs.Spending.{RetiringCosts, tells_worn}
 use Rattle.restart.specs.Looks.{OnlyReads}
 use Rattle.restart.specs.Opened.{NoneIsClean, CountsMarked}
 use Rattle.selective_merge.specs.Homes.{WearCause}
 use Rattle.selective_merge.specs.Placing.{SaysErases}
-use Rattle.steps.specs.Steps.{Settled, EndsWith, Outcome, TidyWork}
+use Rattle.step_laws.specs.Steps.{Settled, EndsWith, Outcome, TidyWork}
 use Rattle.txn_status.specs.Status.{room_of}
 use Rattle.unit_io.specs.Costs.{Spends}
 use Rattle.unit_io.specs.Leads.{IsSteady}

@@ -10,7 +10,7 @@ use Rattle.ipl_meaning.specs.Layout.{Layout, records_of}
 use Rattle.ipl_meaning.specs.Rests.{now, EachStands, StoryRests}
 use Rattle.ipl_meaning.specs.Tables.{Tables}
 use Rattle.number_set.specs.Numbers.{among}
-use Rattle.steps.specs.Steps.{Steps}
+use Rattle.step_laws.specs.Steps.{Steps}
 use Rattle.unit_io.specs.Accounts.{Accounts}
 use Rattle.unit_io.specs.Leads.{IsSteady}
 use Rattle.kept_numbers.specs.Keeps.{IsLoggedBelow}

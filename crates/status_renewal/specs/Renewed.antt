@@ -13,7 +13,7 @@ use Rattle.ipl_meaning.specs.Steps.{KeepsNumbers}
 use Rattle.ipl_meaning.specs.Tables.{Places, Status, Tables, with_use, with_erased}
 use Rattle.number_set.specs.Numbers.{among}
 use Rattle.txn_status.specs.Status.{switched_to}
-use Rattle.steps.specs.Steps.{Steps, RestsAgreeing}
+use Rattle.step_laws.specs.Steps.{Steps, RestsAgreeing}
 use Rattle.txn_status.specs.Switching.{MayKeep, Switched, RestsSwitched}
 use Rattle.place_taking.specs.Takes.{IsAsideFrom, IsTakenFrom}
 use Rattle.unit_directory.specs.Free.{IsNextFree}

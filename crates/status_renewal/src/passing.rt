@@ -7,11 +7,11 @@ ghost use Rattle.ipl_meaning.specs.Chart.{Chart, chart_of};
 ghost use Rattle.ipl_meaning.specs.Layout.{Layout};
 ghost use Rattle.ipl_meaning.specs.Mirrors.{Mirrors};
 ghost use Rattle.ipl_meaning.specs.Tables.{Tables};
-ghost use Rattle.merge_rules.specs.Faults.{FailsByChipAlone};
-ghost use Rattle.merge_rules.specs.Known.{KnowsPlaces};
+ghost use Rattle.merge_laws.specs.Faults.{FailsByChipAlone};
+ghost use Rattle.merge_laws.specs.Known.{KnowsPlaces};
 ghost use Rattle.place_taking.specs.Spending.{is_worn_out};
 ghost use Rattle.selective_merge.specs.Moving.{tables_of, Holds};
-ghost use Rattle.steps.specs.Steps.{Tidies};
+ghost use Rattle.step_laws.specs.Steps.{Tidies};
 ghost use Rattle.unit_io.specs.Accounts.{Accounts};
 ghost use Rattle.unit_io.specs.Costs.{Spends};
 ghost use Rattle.unit_io.specs.Unread.{ReadsNothing};
@@ -130,7 +130,7 @@ fn pass<C: Chip>(chip: &mut C, parts: &mut Parts, kept: &mut KeptNumbers) -> Res
 
 /// Finds the committed numbers that live records have by a pass, unless they are found already:
 /// then it does nothing.
-pub fn find_numbers<C: Chip>(
+pub(crate) fn find_numbers<C: Chip>(
     chip: &mut C,
     parts: &mut Parts,
     kept: &mut KeptNumbers,

@@ -2,12 +2,12 @@
 ghost use Rattle.std.specs.Prelude.{◌≡◌, ◌≤◌, ◌<◌, ◌+◌, ◌^◌, length, OnOk, IfErr, is_ok};
 ghost use Rattle.ipl_base.specs.declared.limits.TheConstants.{KEPT_NUMBERS};
 ghost use Rattle.ipl_meaning.specs.Tables.{IsFree, Tables};
-ghost use Rattle.merge_rules.specs.Known.{KnowsPlaces};
+ghost use Rattle.merge_laws.specs.Known.{KnowsPlaces};
 ghost use Rattle.number_set.specs.Numbers.{AreRising};
 ghost use Rattle.place_taking.specs.Spending.{ErasesFor, is_worn_out};
 ghost use Rattle.place_taking.specs.Takes.{IsNotTaken};
 ghost use Rattle.selective_merge.specs.Throughout.{ChartsThroughout};
-ghost use Rattle.steps.specs.Steps.{Tidies};
+ghost use Rattle.step_laws.specs.Steps.{Tidies};
 ghost use Rattle.txn_status.specs.Status.{parts_of, room_of};
 ghost use Rattle.txn_status.specs.Switching.{ListsAt};
 ghost use Rattle.unit_directory.specs.Free.{free_count, IsReadyToTake};
@@ -34,7 +34,7 @@ use unit_layout::StatusHeader;
 /// Where of the numbers in live log sectors exactly the committed ones are kept, whatever a power
 /// cut leaves at any moment stands for the map on which the story rested; and where too many places
 /// are worn, the story rests on that map.
-pub fn renew_place<C: Chip>(
+pub(crate) fn renew_place<C: Chip>(
     chip: &mut C,
     directory: &mut Directory,
     status: &mut Status,

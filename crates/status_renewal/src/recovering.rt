@@ -1,7 +1,7 @@
 //! The opening of a chip.
 ghost use Rattle.std.specs.Prelude.{◌≡◌, ◌≤◌, ◌<◌, ◌+◌, ◌^◌, [], length, OnOk};
 ghost use Rattle.ipl_meaning.specs.Chart.{chart_of};
-ghost use Rattle.opening_rules.specs.Faults.{greatest_found};
+ghost use Rattle.opening_laws.specs.Faults.{greatest_found};
 ghost use Rattle.restart.specs.Bytes.{ReadsBytes};
 ghost use Rattle.selective_merge.specs.Moving.{tables_of};
 ghost use Rattle.unit_io.specs.Accounts.{Accounts};

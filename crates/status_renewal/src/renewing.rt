@@ -1,11 +1,11 @@
 //! The renewal of the status place.
 ghost use Rattle.std.specs.Prelude.{◌≡◌, ◌<◌, ◌≤◌, ◌+◌, ◌^◌, length, true, OnOk, is_ok};
 ghost use Rattle.std.specs.Bool.{OnTrue};
-ghost use Rattle.merge_rules.specs.Known.{KnowsPlaces};
+ghost use Rattle.merge_laws.specs.Known.{KnowsPlaces};
 ghost use Rattle.place_taking.specs.Spending.{is_worn_out};
-ghost use Rattle.place_taking.specs.Wear.{Wears};
+ghost use Rattle.place_taking.specs.Wear.{TellsOfWear};
 ghost use Rattle.selective_merge.specs.Moving.{tables_of};
-ghost use Rattle.steps.specs.Steps.{Tidies};
+ghost use Rattle.step_laws.specs.Steps.{Tidies};
 ghost use Rattle.unit_io.specs.Accounts.{Accounts};
 ghost use Rattle.unit_io.specs.Costs.{Spends};
 ghost use Rattle.unit_io.specs.Unread.{ReadsNothing};
@@ -17,7 +17,7 @@ use crate::place::renew_place;
 use chip_trait::Chip;
 use ipl_base::ChipFault;
 use kept_numbers::KeptNumbers;
-use merge_rules::known_laws;
+use merge_laws::known_laws;
 use selective_merge::Parts;
 
 /// Writes a new status place as `renew` does, but without a pass where the numbers are found
@@ -52,7 +52,7 @@ pub(crate) fn renew_with<C: Chip>(
     ensures renewed { OnOk result (Spends (HasErased parts.new.status.place)
         (C.told chip.old) (C.told chip.new)) }
     // What is retired was so before, or was found worn; done, the new header lists no other place.
-    ensures wears { Wears (tables_of parts.old) (tables_of parts.new) (is_ok result)
+    ensures wears { TellsOfWear (tables_of parts.old) (tables_of parts.new) (is_ok result)
         (is_worn_out result) (C.told chip.old) (C.told chip.new) }
     ensures tidy { Tidies (tables_of parts.old) result (tables_of parts.new)
         (C.told chip.old) (C.told chip.new) }
@@ -117,7 +117,7 @@ pub fn renew<C: Chip>(
     ensures renewed { OnOk result (Spends (HasErased parts.new.status.place)
         (C.told chip.old) (C.told chip.new)) }
     // What is retired was so before, or was found worn; done, the new header lists no other place.
-    ensures wears { Wears (tables_of parts.old) (tables_of parts.new) (is_ok result)
+    ensures wears { TellsOfWear (tables_of parts.old) (tables_of parts.new) (is_ok result)
         (is_worn_out result) (C.told chip.old) (C.told chip.new) }
     // Whatever the chip holds, what it adds is lawful after any lawful events that leave clean what
     // the tables count so; and where no write failed, what they count so then is clean.

@@ -5,7 +5,7 @@ use Rattle.chip_trait.specs.Told.{History, Told}
 use Rattle.ipl_rules.specs.State.{Map}
 use Rattle.ipl_meaning.specs.Rests.{now, StoryRests}
 use Rattle.unit_io.specs.Leads.{IsSteady}
-use Rattle.opening_rules.specs.Chosen.{units_at}
+use Rattle.opening_laws.specs.Chosen.{units_at}
 
 -- no write has failed, a history that leaves what the chip holds rests on these records, and this is
 -- left of the script

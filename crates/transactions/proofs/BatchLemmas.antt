@@ -13,7 +13,7 @@ use Rattle.ipl_rules.proofs.BatchLemmas.{any_listed}
 use Rattle.record_locks.specs.Held.{Slots}
 use Rattle.record_locks.specs.Locks.{refuses_batch}
 use Rattle.record_locks.specs.Standing.{state_of}
-use Rattle.store_steps.specs.Refusals.{AreOpenSessions}
+use Rattle.store_laws.specs.Refusals.{AreOpenSessions}
 use Rattle.transactions.proofs.OpenLemmas.{is_open_then}
 
 -- none of the sessions passes the test

@@ -9,16 +9,16 @@ use Rattle.record_locks.specs.Held.{numbers_in, written_by, writer_numbers}
 use Rattle.record_locks.specs.Held.{after_batch as slots_after}
 use Rattle.ipl_meaning.specs.Tables.{Places, Status, Tables, IsCountedClean}
 use Rattle.ipl_meaning.specs.TableSteps.{after_commit as after_commit_of}
-use Rattle.merge_rules.specs.Known.{KnowsPlaces}
-use Rattle.merge_rules.proofs.KnownCleanLemmas.{commit_shrinks}
+use Rattle.merge_laws.specs.Known.{KnowsPlaces}
+use Rattle.merge_laws.proofs.KnownCleanLemmas.{commit_shrinks}
 use Rattle.place_taking.specs.Spending.{tells_worn}
-use Rattle.place_taking.specs.Wear.{Wears}
+use Rattle.place_taking.specs.Wear.{TellsOfWear}
 use Rattle.place_taking.proofs.HomeLemmas.{homes_equal}
 use Rattle.place_taking.proofs.WearLemmas.{alike_tables, failures_wear, nothing_wears, programs_leave_places, programs_wear_nothing}
 use Rattle.unit_io.specs.Costs.{ProgramsAt, Spends}
 use Rattle.unit_io.specs.Spots.{Programs, IsSpot}
-use Rattle.steps.specs.Steps.{Settled, Tidies}
-use Rattle.steps.proofs.TablesLemmas.{tables_none, tables_fewer, tables_programmed}
+use Rattle.step_laws.specs.Steps.{Settled, Tidies}
+use Rattle.step_laws.proofs.TablesLemmas.{tables_none, tables_fewer, tables_programmed}
 use Rattle.unit_io.specs.Accounts.{Accounts}
 use Rattle.unit_io.specs.Charts.{Charts}
 use Rattle.unit_io.specs.Leads.{IsStopped}
@@ -27,15 +27,15 @@ use Rattle.txn_status.specs.Status.{after_add, room_of}
 use Rattle.buffer_pool.specs.Holding.{KeepsPins}
 use Rattle.buffer_pool.specs.Pools.{PoolView}
 use Rattle.buffer_pool.proofs.HoldingLemmas.{nothing_keeps}
-use Rattle.pending_writes.specs.Frames.{EachFrameChanges}
-use Rattle.pending_writes.specs.Fits.{LocksHold}
-use Rattle.store_steps.specs.Advances.{Memory, memory_of, LeadsTo}
-use Rattle.store_steps.specs.NamedFrames.{SettleInTurn}
-use Rattle.store_steps.specs.Numbers.{IsOut, added_to, AddsNumbers, AddsNumbersInSteps}
-use Rattle.store_steps.specs.Refusals.{AreOpenSessions}
-use Rattle.store_steps.specs.SessionLaws.{with_numbers_of}
-use Rattle.store_steps.proofs.CommitLemmas.{numbers_lead, failed_numbers_lead}
-use Rattle.store_steps.proofs.SessionLemmas.{empty_commits_lead}
+use Rattle.store_laws.specs.Frames.{EachFrameChanges}
+use Rattle.store_laws.specs.Fits.{LocksHold}
+use Rattle.store_laws.specs.Advances.{Memory, memory_of, LeadsTo}
+use Rattle.store_laws.specs.NamedFrames.{SettleInTurn}
+use Rattle.store_laws.specs.Numbers.{IsOut, added_to, AddsNumbers, AddsNumbersInSteps}
+use Rattle.store_laws.specs.Refusals.{AreOpenSessions}
+use Rattle.store_laws.specs.SessionLaws.{with_numbers_of}
+use Rattle.store_laws.proofs.CommitLemmas.{numbers_lead, failed_numbers_lead}
+use Rattle.store_laws.proofs.SessionLemmas.{empty_commits_lead}
 use Rattle.frame_changes.specs.Views.{frames_of}
 use Rattle.page_frames.specs.declared.pages.Pages.{Pages}
 use Rattle.page_frames.specs.Pages.{tables_in, frames_in, PageCause, Upholds}
@@ -178,7 +178,7 @@ numbers_not_added ss tids e old new before after order are may writers steps ses
       tidy = number_tidy before.places (tables_in old.pages) (tables_in new.pages) false (Err e)
           before after order.ready.known may.room
           (λ unrisen. absurd (omega (arith, accounts.cause.1, unrisen))) programs;
-      wears = subst (λ (f : ChipFault). Wears (tables_in old.pages) (tables_in new.pages) false
+      wears = subst (λ (f : ChipFault). TellsOfWear (tables_in old.pages) (tables_in new.pages) false
           (tells_worn f) before after) (sym accounts.cause.0)
           (failures_wear (tables_in old.pages) (tables_in new.pages) false before after
           (programs_leave_places (tables_in old.pages).places (tables_in new.pages).places

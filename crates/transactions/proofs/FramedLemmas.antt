@@ -4,9 +4,9 @@ use Rattle.std.proofs.lemmas.List.{take_more}
 use Rattle.ipl_base.specs.declared.name.Name.{Name}
 use Rattle.ipl_rules.proofs.BatchLemmas.{first_in, later_in}
 use Rattle.record_locks.specs.Held.{Slots, number_of, written_of}
-use Rattle.pending_writes.specs.Frames.{Frame, Frames, ChangesSo, EachFrameChanges, IsCommittedFrame}
-use Rattle.store_steps.specs.NamedFrames.{IsSameOr, NamedFramesChange, SettleInTurn}
-use Rattle.store_steps.specs.Refusals.{IsOpenSession}
+use Rattle.store_laws.specs.Frames.{Frame, Frames, ChangesSo, EachFrameChanges, IsCommittedFrame}
+use Rattle.store_laws.specs.NamedFrames.{IsSameOr, NamedFramesChange, SettleInTurn}
+use Rattle.store_laws.specs.Refusals.{IsOpenSession}
 use Rattle.page_frames.specs.declared.pages.Pages.{Pages}
 use Rattle.page_frames.specs.Pages.{frames_in, KeepsFramed}
 use Rattle.page_frames.proofs.FramedLemmas.{pool_framed}

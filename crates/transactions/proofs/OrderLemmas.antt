@@ -5,11 +5,11 @@ use Rattle.ipl_base.specs.declared.fault.ChipFault.{ChipFault}
 use Rattle.ipl_rules.specs.State.{State}
 use Rattle.ipl_meaning.specs.Tables.{Places, Status, Tables, IsFree, overflow_places, IsCountedClean}
 use Rattle.record_locks.specs.Held.{Slots, numbers_in}
-use Rattle.merge_rules.specs.Known.{KnowsPlaces}
+use Rattle.merge_laws.specs.Known.{KnowsPlaces}
 use Rattle.buffer_pool.specs.Holding.{KeepsPins}
 use Rattle.buffer_pool.proofs.HoldingLemmas.{rest_stays}
-use Rattle.pending_writes.specs.Frames.{Frame, Frames, ChangesSo, EachFrameChanges}
-use Rattle.store_steps.specs.Advances.{Memory, memory_of, LeadsTo}
+use Rattle.store_laws.specs.Frames.{Frame, Frames, ChangesSo, EachFrameChanges}
+use Rattle.store_laws.specs.Advances.{Memory, memory_of, LeadsTo}
 use Rattle.page_frames.specs.declared.pages.Pages.{Pages}
 use Rattle.page_frames.specs.Pages.{tables_in, frames_in, IsReady}
 use Rattle.transactions.specs.declared.transactions.Transactions.{Transactions}

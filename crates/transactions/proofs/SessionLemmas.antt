@@ -9,11 +9,11 @@ use Rattle.record_locks.specs.Locks.{refuses_begin, OneWriter, FewPending, IsSiz
 use Rattle.buffer_pool.specs.Holding.{KeepsPins}
 use Rattle.buffer_pool.specs.Pools.{PoolView}
 use Rattle.buffer_pool.proofs.HoldingLemmas.{nothing_keeps}
-use Rattle.pending_writes.specs.Frames.{EachFrameChanges, IsAbortedFrame}
-use Rattle.pending_writes.specs.Fits.{LocksHold}
-use Rattle.store_steps.specs.NamedFrames.{NamedFramesChange, IsSameOr}
-use Rattle.store_steps.specs.SessionLaws.{with_numbers_of}
-use Rattle.store_steps.proofs.SessionLemmas.{begins_lead, shares_lead, aborts_lead}
+use Rattle.store_laws.specs.Frames.{EachFrameChanges, IsAbortedFrame}
+use Rattle.store_laws.specs.Fits.{LocksHold}
+use Rattle.store_laws.specs.NamedFrames.{NamedFramesChange, IsSameOr}
+use Rattle.store_laws.specs.SessionLaws.{with_numbers_of}
+use Rattle.store_laws.proofs.SessionLemmas.{begins_lead, shares_lead, aborts_lead}
 use Rattle.frame_changes.specs.Views.{frames_of}
 use Rattle.page_frames.specs.declared.pages.Pages.{Pages}
 use Rattle.page_frames.specs.Pages.{tables_in, frames_in}

@@ -6,14 +6,14 @@ use Rattle.ipl_rules.specs.State.{State}
 use Rattle.record_locks.specs.Held.{Slots, numbers_in}
 use Rattle.buffer_pool.proofs.HoldingLemmas.{both_keep}
 use Rattle.status_renewal.proofs.CauseLemmas.{accounts_then}
-use Rattle.steps.proofs.TablesLemmas.{tables_none, tables_then}
+use Rattle.step_laws.proofs.TablesLemmas.{tables_none, tables_then}
 use Rattle.place_taking.specs.Spending.{is_worn_out, tells_worn}
-use Rattle.place_taking.specs.Wear.{Wears}
+use Rattle.place_taking.specs.Wear.{TellsOfWear}
 use Rattle.place_taking.proofs.WearLemmas.{alike_tables, nothing_wears, wears_are_joined}
 use Rattle.unit_io.proofs.ReadsAtLemmas.{at_none}
-use Rattle.store_steps.specs.Advances.{memory_of, LeadsTo}
-use Rattle.store_steps.proofs.KeeperLemmas.{Nowhere, keepers_are_joined, reads_keep_states}
-use Rattle.store_steps.proofs.LeadLemmas.{keepers_then_lead, failed_keepers_lead}
+use Rattle.store_laws.specs.Advances.{memory_of, LeadsTo}
+use Rattle.store_laws.proofs.KeeperLemmas.{Nowhere, keepers_are_joined, reads_keep_states}
+use Rattle.store_laws.proofs.LeadLemmas.{keepers_then_lead, failed_keepers_lead}
 use Rattle.page_frames.specs.declared.pages.Pages.{Pages}
 use Rattle.page_frames.specs.Complete.{Completes}
 use Rattle.page_frames.specs.Faulty.{TellsFaults}
@@ -101,7 +101,7 @@ upheld_refused next n old new e before after order did same cause calm =
           (reads_keep_states Nowhere t frames (Err e) after after (at_none Nowhere after));
       tidy = tables_then {U = Unit {0}} {F = ChipFault} (Unit {0}) ChipFault (tables_in old.pages) t
           t tt (Err e) before after after did.accounts.counts did.tidy (tables_none {T = Unit {0}} {E = ChipFault} t (Err e) after);
-      wears = subst (λ (worn_out : Bool). Wears (tables_in old.pages) t false worn_out before after)
+      wears = subst (λ (worn_out : Bool). TellsOfWear (tables_in old.pages) t false worn_out before after)
           (sym calm) (wears_are_joined (tables_in old.pages) t t false false before after after did.wears
           (nothing_wears t t false after (alike_tables t t refl refl)));
       ready = did.ready;

@@ -21,19 +21,19 @@ use Rattle.selective_merge.specs.Moving.{tables_of}
 use Rattle.selective_merge.specs.Spotting.{HasHomeSpot}
 use Rattle.buffer_pool.specs.Holding.{KeepsPins}
 use Rattle.page_ops.specs.Pending.{mark_of}
-use Rattle.pending_writes.specs.Pending.{name_at}
-use Rattle.pending_writes.specs.Frames.{Frame, Frames, with_frame_at, IsWrittenFrame}
-use Rattle.pending_writes.specs.Fits.{LocksHold}
-use Rattle.pending_writes.specs.Room.{PageHasRoomFor, fill_at, marked_by}
-use Rattle.pending_writes.proofs.FullLemmas.{puts_that_pass_have_room, same_values_have_room}
-use Rattle.pending_writes.proofs.PendingRoomLemmas.{frames_keep_marks}
-use Rattle.pending_writes.proofs.MemoryLemmas.{cases_page}
-use Rattle.pending_writes.proofs.SameLemmas.{frame_here, frame_other}
+use Rattle.store_laws.specs.Pending.{name_at}
+use Rattle.store_laws.specs.Frames.{Frame, Frames, with_frame_at, IsWrittenFrame}
+use Rattle.store_laws.specs.Fits.{LocksHold}
+use Rattle.store_laws.specs.Room.{PageHasRoomFor, fill_at, marked_by}
+use Rattle.store_laws.proofs.FullLemmas.{puts_that_pass_have_room, same_values_have_room}
+use Rattle.store_laws.proofs.PendingRoomLemmas.{frames_keep_marks}
+use Rattle.store_laws.proofs.MemoryLemmas.{cases_page}
+use Rattle.store_laws.proofs.SameLemmas.{frame_here, frame_other}
 use Rattle.unit_io.specs.Costs.{Spends}
-use Rattle.steps.specs.Steps.{Tidies}
-use Rattle.steps.proofs.TablesLemmas.{tables_none}
-use Rattle.store_steps.specs.Advances.{Memory, memory_of, MemoryFits, KeepsState, LeadsTo}
-use Rattle.store_steps.proofs.SessionLemmas.{writes_lead}
+use Rattle.step_laws.specs.Steps.{Tidies}
+use Rattle.step_laws.proofs.TablesLemmas.{tables_none}
+use Rattle.store_laws.specs.Advances.{Memory, memory_of, MemoryFits, KeepsState, LeadsTo}
+use Rattle.store_laws.proofs.SessionLemmas.{writes_lead}
 use Rattle.frame_changes.specs.Changes.{FrameChanges, MayPut, PutHasRoom}
 use Rattle.frame_changes.proofs.RoomLemmas.{puts_by_marks_have_room}
 use Rattle.page_writing.specs.Spending.{ErasesAndLogs}

@@ -6,8 +6,8 @@ use Rattle.std.proofs.lemmas.List.{take_more, length-append, length-take-le, app
 use Rattle.ipl_base.specs.declared.name.Name.{Name}
 use Rattle.ipl_rules.proofs.BatchLemmas.{first_in, later_in}
 use Rattle.record_locks.specs.Held.{Slots, number_of, written_of, written_by, writer_number, writer_numbers}
-use Rattle.store_steps.specs.Refusals.{IsOpenSession}
-use Rattle.store_steps.proofs.BatchLemmas.{none_written, no_numbers}
+use Rattle.store_laws.specs.Refusals.{IsOpenSession}
+use Rattle.store_laws.proofs.BatchLemmas.{none_written, no_numbers}
 
 -- ---- one session more
 

@@ -10,7 +10,7 @@ use Rattle.unit_io.specs.Costs.{Costs, Spends}
 use Rattle.place_taking.specs.Spending.{RetiringCosts, RetiresWorn}
 use Rattle.txn_status.specs.Status.{room_of}
 use Rattle.selective_merge.specs.Spotting.{HasHomeSpot}
-use Rattle.pending_writes.specs.Frames.{Frame}
+use Rattle.store_laws.specs.Frames.{Frame}
 use Rattle.record_locks.specs.Held.{written_by}
 use Rattle.page_writing.specs.Spending.{ErasesAndLogs}
 use Rattle.page_frames.specs.declared.pages.Pages.{Pages}

@@ -12,16 +12,16 @@ use Rattle.ipl_meaning.specs.Stands.{Says}
 use Rattle.ipl_meaning.specs.Tables.{IsCountedClean}
 use Rattle.unit_io.specs.Accounts.{Accounts}
 use Rattle.unit_io.specs.Reads.{OfContents}
-use Rattle.steps.specs.Steps.{Tidies}
+use Rattle.step_laws.specs.Steps.{Tidies}
 use Rattle.place_taking.specs.Spending.{is_worn_out}
-use Rattle.place_taking.specs.Wear.{Wears}
+use Rattle.place_taking.specs.Wear.{TellsOfWear}
 use Rattle.txn_status.specs.Status.{room_of}
-use Rattle.merge_rules.specs.Faults.{FailsByChipAlone}
+use Rattle.merge_laws.specs.Faults.{FailsByChipAlone}
 use Rattle.buffer_pool.specs.Holding.{KeepsPins}
-use Rattle.pending_writes.specs.Frames.{Frame}
-use Rattle.pending_writes.specs.Room.{overfills_at}
-use Rattle.store_steps.specs.Advances.{Memory, memory_of, MemoryFits, LeadsTo}
-use Rattle.store_steps.specs.Numbers.{IsOut}
+use Rattle.store_laws.specs.Frames.{Frame}
+use Rattle.store_laws.specs.Room.{overfills_at}
+use Rattle.store_laws.specs.Advances.{Memory, memory_of, MemoryFits, LeadsTo}
+use Rattle.store_laws.specs.Numbers.{IsOut}
 use Rattle.page_frames.specs.declared.pages.Pages.{Pages}
 use Rattle.page_frames.specs.Faulty.{FailsByPage}
 use Rattle.page_frames.specs.Pages.{tables_in, frames_in, IsReady, PageCause}
@@ -71,7 +71,7 @@ pub record Turns {T : Type 0} (next : State → State) (most : ℕ) (old : Trans
     (result : Result T ChipFault) (new : Transactions) (after : Told) : Type 0 where
   pub leads : LeadsTo next (memory_in old) before result (memory_in new) after
   pub tidy : Tidies (tables_in old.pages) result (tables_in new.pages) before after
-  pub wears : Wears (tables_in old.pages) (tables_in new.pages) (is_ok result) (is_worn_out result)
+  pub wears : TellsOfWear (tables_in old.pages) (tables_in new.pages) (is_ok result) (is_worn_out result)
       before after
   pub order : IsInOrder before.places new
   pub units : length new.pages.parts.directory.current ≡ length old.pages.parts.directory.current

@@ -6,10 +6,10 @@ ghost use Rattle.place_taking.specs.Spending.{is_worn_out};
 ghost use Rattle.txn_status.specs.Status.{room_of};
 ghost use Rattle.ipl_rules.specs.Operations.{after_batch};
 ghost use Rattle.record_locks.specs.Held.{written_by, writer_numbers};
-ghost use Rattle.merge_rules.specs.Faults.{FailsByChipAlone};
+ghost use Rattle.merge_laws.specs.Faults.{FailsByChipAlone};
 ghost use Rattle.buffer_pool.specs.Holding.{KeepsPins};
-ghost use Rattle.store_steps.specs.NamedFrames.{SettleInTurn};
-ghost use Rattle.store_steps.specs.Refusals.{AreOpenSessions};
+ghost use Rattle.store_laws.specs.NamedFrames.{SettleInTurn};
+ghost use Rattle.store_laws.specs.Refusals.{AreOpenSessions};
 ghost use Rattle.page_frames.specs.Asks.{AsksToWriteNamesOut};
 ghost use Rattle.page_frames.specs.Complete.{Completes};
 ghost use Rattle.page_frames.specs.Faulty.{TellsFaults};
@@ -18,13 +18,13 @@ ghost use Rattle.transactions.specs.Turns.{IsInOrder, MayAddNumbers, Turns};
 ghost use Rattle.transactions.specs.Costs.{CommitAsks};
 
 use crate::Transactions;
+use crate::adding::add_numbers;
 use crate::numbers::writer_numbers;
 use chip_trait::Chip;
 use frame_changes::settle_names;
 use ipl_base::ChipFault;
 use selective_merge::Active;
 use status_renewal::KeptNumbers;
-use store_steps::add_numbers;
 
 impl Transactions {
     /// Writes the records of these sessions out, with a clean sector for their numbers made sure of

@@ -14,7 +14,7 @@ use record_locks::Sessions;
 use selective_merge::Active;
 
 /// The numbers of the open sessions, in the order of the sessions.
-pub fn active_numbers(sessions: &Sessions) -> Active
+pub(crate) fn active_numbers(sessions: &Sessions) -> Active
     ensures { result ≡ numbers_in sessions.now }
 {
     sessions.facts();
@@ -41,7 +41,7 @@ fn writer_number(sessions: &Sessions, s: u32) -> Option<u64>
 
 /// The numbers of those of these sessions (at most 32, each 0 to 31) that wrote something, in their
 /// order.
-pub fn writer_numbers(sessions: &Sessions, numbers: &[u32]) -> Active
+pub(crate) fn writer_numbers(sessions: &Sessions, numbers: &[u32]) -> Active
     requires low { (s : ℕ) → Contains numbers.now s → s < SESSIONS }
     requires few { length numbers.now ≤ SESSIONS }
     ensures { result ≡ writer_numbers sessions.now numbers.now }

@@ -2,9 +2,9 @@
 ghost use Rattle.std.specs.Prelude.{◌≡◌, ◌<◌, ◌+◌, ◌^◌, None};
 ghost use Rattle.ipl_base.specs.declared.limits.TheConstants.{SESSIONS};
 ghost use Rattle.ipl_rules.specs.Operations.{after_begin, after_share, after_abort};
-ghost use Rattle.pending_writes.specs.Fits.{LocksHold};
+ghost use Rattle.store_laws.specs.Fits.{LocksHold};
 ghost use Rattle.record_locks.specs.Held.{after_end, after_batch, number_of, numbers_in};
-ghost use Rattle.store_steps.specs.Refusals.{AreOpenSessions};
+ghost use Rattle.store_laws.specs.Refusals.{AreOpenSessions};
 ghost use Rattle.record_locks.specs.Locks.{refuses_begin, refuses_share, refuses_end};
 ghost use Rattle.page_frames.specs.Pages.{KeepsFramed};
 ghost use Rattle.transactions.specs.Turns.{TurnsInMemory, IsSameButActive};

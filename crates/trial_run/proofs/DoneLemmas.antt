@@ -15,7 +15,7 @@ use Rattle.store_trait.specs.declared.fault.Fault.{Fault}
 use Rattle.store_trait.specs.Keeping.{Keeping, WorkLeaves, WorksFor}
 use Rattle.store_trait.proofs.OnwardLemmas.{unrisen_later}
 use Rattle.script_run.proofs.RunLemmas.{twice_added}
-use Rattle.trial_commands.specs.Summary.{Exchange, TrialCounts, counts_of, exchanges}
+use Rattle.trial_run.specs.Summary.{Exchange, TrialCounts, counts_of, exchanges}
 use Rattle.trial_run.specs.Trial.{StandsAlong, IsDone, IsCutShort}
 use Rattle.trial_run.proofs.OrderLemmas.{order_then, order_longer, order_one}
 use Rattle.trial_run.proofs.WorkLemmas.{work_none, work_weaker, work_then}

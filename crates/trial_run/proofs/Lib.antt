@@ -1,3 +1,6 @@
+pub mod WordLemmas
+mod CountLemmas
+mod ListLemmas
 mod WorkLemmas
 mod SourceLemmas
 mod OrderLemmas

@@ -1,9 +1,9 @@
 -- The commands of a trial, as one after another is taken.
 use Rattle.std.proofs.Common.{◌≡◌, ℕ, ◌+◌, List, [], ◌∷◌, ◌++◌, sym, ◌∙◌, ap, arith, append_assoc}
 use Rattle.ipl_model.specs.declared.command.Command.{Command}
-use Rattle.trial_commands.specs.Source.{Source}
-use Rattle.trial_commands.specs.Words.{commands_from}
-use Rattle.trial_commands.proofs.WordLemmas.{commands_none}
+use Rattle.trial_run.specs.Source.{Source}
+use Rattle.trial_run.specs.Words.{commands_from}
+use Rattle.trial_run.proofs.WordLemmas.{commands_none}
 
 -- the first i commands were taken, and these are still to come
 abbrev pub GoesOn : Source → ℕ → Source → Type 0

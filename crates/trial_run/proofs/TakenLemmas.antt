@@ -13,7 +13,7 @@ use Rattle.store_trait.specs.Keeping.{Keeping, LooksUpFor}
 use Rattle.store_trait.proofs.OnwardLemmas.{unrisen_later}
 use Rattle.script_run.specs.Goes.{row_lines}
 use Rattle.script_run.proofs.RunLemmas.{twice_added}
-use Rattle.trial_commands.specs.Summary.{RecordSum, HasTaken, record_lines}
+use Rattle.trial_run.specs.Summary.{RecordSum, HasTaken, record_lines}
 use Rattle.trial_run.specs.Trial.{IsTaken, IsLost}
 use Rattle.trial_run.proofs.WorkLemmas.{work_none, work_then}
 

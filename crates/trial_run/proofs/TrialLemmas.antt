@@ -22,7 +22,7 @@ use Rattle.script_run.specs.Run.{SaysLines, IsUnsaid, IsSaidOr, SayingLeaves}
 use Rattle.script_run.specs.Goes.{Completes}
 use Rattle.script_run.proofs.CompleteLemmas.{CompletesSoFar}
 use Rattle.script_run.proofs.RunLemmas.{says_none, says_all, all_both, all_or_said, twice_added, regrouped}
-use Rattle.trial_commands.specs.Summary.{TrialCounts, RecordSum, HasTaken, counts_of, record_lines, summary_lines, trial_lines}
+use Rattle.trial_run.specs.Summary.{TrialCounts, RecordSum, HasTaken, counts_of, record_lines, summary_lines, trial_lines}
 use Rattle.trial_run.specs.Trial.{IsStoreStop, HasSaid, SaysAll, IsDone, IsCutShort, IsTaken, IsLost, StandsAlong, StandsBehind, CommandByCommand, EndsWhole, TrialEnds, TrialLeaves}
 use Rattle.trial_run.proofs.OrderLemmas.{order_stay}
 use Rattle.trial_run.proofs.DoneLemmas.{along_all}

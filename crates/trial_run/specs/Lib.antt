@@ -1,1 +1,5 @@
+pub mod Words
+pub mod Source
+pub mod Summary
+pub mod Laws
 pub mod Trial

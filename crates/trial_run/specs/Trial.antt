@@ -14,7 +14,7 @@ use Rattle.store_trait.specs.Keeping.{Keeping, AllOf, Stays, WorkLeaves}
 use Rattle.script_run.specs.declared.fault.Stop.{Stop}
 use Rattle.script_run.specs.declared.fault.Stop.TheVariants as stop
 use Rattle.script_run.specs.Run.{SaysLines, IsUnsaid, IsSaidOr}
-use Rattle.trial_commands.specs.Summary.{Exchange, TrialCounts, RecordSum, HasTaken, counts_of, exchanges, trial_lines}
+use Rattle.trial_run.specs.Summary.{Exchange, TrialCounts, RecordSum, HasTaken, counts_of, exchanges, trial_lines}
 
 -- the store's work failed
 abbrev pub IsStoreStop : Stop → Type 0

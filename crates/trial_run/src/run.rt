@@ -5,16 +5,16 @@ ghost use Rattle.chip_trait.specs.Told.{Told};
 ghost use Rattle.store_trait.specs.Onward.{Onward};
 ghost use Rattle.store_trait.specs.Keeping.{SCRIPT_DRAWS};
 ghost use Rattle.script_run.specs.Goes.{Along, CompletesOver};
-ghost use Rattle.trial_commands.specs.Words.{trial_commands};
+ghost use Rattle.trial_run.specs.Words.{trial_commands};
 ghost use Rattle.trial_run.specs.Trial.{RunsTrial, IsTrialStop};
 
 use crate::say::say_lines;
 use crate::take::take_all;
 use crate::work::do_all;
+use crate::{Records, Tally, TrialCommands, summary_lines};
 use chip_trait::Desk;
 use script_run::Stop;
 use store_trait::Store;
-use trial_commands::{Records, Tally, TrialCommands, summary_lines};
 
 /// Does the commands of a seed, so many, looks the records up, and says the summary, to its end or to
 /// the first fault. The names of the commands are made for `units` units, at most 1,024. Whatever moment

@@ -3,7 +3,7 @@ ghost use Rattle.std.specs.Prelude.{◌≡◌, ◌<◌, ◌≤◌, ℕ, List, le
 ghost use Rattle.chip_trait.specs.Told.{Told, Rose};
 ghost use Rattle.script_run.specs.declared.fault.Stop.TheVariants.{Output};
 ghost use Rattle.store_trait.specs.Onward.{Onward};
-ghost use Rattle.trial_commands.specs.Summary.{HasByte};
+ghost use Rattle.trial_run.specs.Summary.{HasByte};
 ghost use Rattle.trial_run.specs.Trial.{SaysAll};
 
 use chip_trait::Desk;
@@ -11,7 +11,7 @@ use plain_text::TextLine;
 use script_run::Stop;
 
 /// Says lines, none of them empty, one after another.
-pub fn say_lines<D: Desk>(desk: &mut D, lines: &[TextLine]) -> Result<(), Stop>
+pub(crate) fn say_lines<D: Desk>(desk: &mut D, lines: &[TextLine]) -> Result<(), Stop>
     requires { All HasByte lines.now }
     ensures says { SaysAll lines.now (D.told desk.old) result (D.told desk.new) }
     ensures onward { Onward (D.told desk.old) (D.told desk.new) }

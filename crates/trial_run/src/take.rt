@@ -6,13 +6,13 @@ ghost use Rattle.ipl_rules.specs.State.{State, Limits};
 ghost use Rattle.store_trait.specs.Onward.{Onward};
 ghost use Rattle.store_trait.specs.Keeping.{LOOK_UP_DRAWS};
 ghost use Rattle.script_run.specs.Goes.{Along, KeepsSome, Completes, CompletesOver, row_lines};
-ghost use Rattle.trial_commands.specs.Summary.{record_lines};
+ghost use Rattle.trial_run.specs.Summary.{record_lines};
 ghost use Rattle.trial_run.specs.Trial.{TakesAll, IsStoreStop};
 
+use crate::Records;
 use chip_trait::Desk;
 use script_run::Stop;
 use store_trait::Store;
-use trial_commands::Records;
 
 /// Takes the record of a name, where there is one.
 fn take_one<S: Store, D: Desk>(
@@ -72,7 +72,7 @@ fn take_below<S: Store, D: Desk>(
 }
 
 /// Takes all records, by rising names.
-pub fn take_all<S: Store, D: Desk>(
+pub(crate) fn take_all<S: Store, D: Desk>(
     store: &mut S,
     desk: &mut D,
     records: &mut Records,

@@ -4,14 +4,14 @@ ghost use Rattle.chip_trait.specs.Told.{Told};
 ghost use Rattle.store_trait.specs.Onward.{Onward};
 ghost use Rattle.store_trait.specs.Keeping.{WORK_DRAWS};
 ghost use Rattle.script_run.specs.Goes.{Along, CompletesOver};
-ghost use Rattle.trial_commands.specs.Words.{IsOfTrial, commands_from};
+ghost use Rattle.trial_run.specs.Words.{IsOfTrial, commands_from};
 ghost use Rattle.trial_run.specs.Trial.{DoesAll, IsStoreStop};
 
+use crate::{Tally, TrialCommands};
 use chip_trait::Desk;
 use ipl_model::Command;
 use script_run::Stop;
 use store_trait::Store;
-use trial_commands::{Tally, TrialCommands};
 
 /// Does the work of one command, and counts it with its reply.
 fn do_one<S: Store, D: Desk>(

@@ -34,8 +34,8 @@ use Rattle.ipl_meaning.proofs.MarkLemmas.{commits_mark_no_more}
 use Rattle.unit_io.specs.Leads.{IsStopped}
 use Rattle.unit_io.specs.Spots.{Programs, IsSpot}
 use Rattle.unit_io.specs.Charts.{Charts, Gains}
-use Rattle.steps.specs.Steps.{RestsAgreeing}
-use Rattle.steps.proofs.StepLemmas.{writes_are_steps}
+use Rattle.step_laws.specs.Steps.{RestsAgreeing}
+use Rattle.step_laws.proofs.StepLemmas.{writes_are_steps}
 use Rattle.number_set.specs.Numbers.{with_numbers, also}
 use Rattle.number_set.proofs.NumberLemmas.{numbers_are_a_union}
 use Rattle.number_set.proofs.AmongLemmas.{also_is_a_union}

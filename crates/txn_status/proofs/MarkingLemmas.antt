@@ -23,8 +23,8 @@ use Rattle.unit_io.specs.Spots.{Programs, IsSpot}
 use Rattle.sector_format.specs.declared.sector.Head.{Head}
 use Rattle.sector_format.specs.Decode.{sector_of}
 use Rattle.sector_format.specs.Written.{written_head}
-use Rattle.steps.specs.Steps.{NoOtherEnd}
-use Rattle.steps.proofs.StepLemmas.{outcome_written}
+use Rattle.step_laws.specs.Steps.{NoOtherEnd}
+use Rattle.step_laws.proofs.StepLemmas.{outcome_written}
 use Rattle.txn_status.specs.Adding.{HasStatus}
 use Rattle.txn_status.specs.Marking.{mark_sector, IsReadyToMark, MarksInSteps}
 use Rattle.txn_status.specs.Writing.{LeadsMark}

@@ -14,16 +14,16 @@ use Rattle.sector_format.specs.declared.sector.Head.{Head}
 use Rattle.sector_format.specs.Decode.{sector_of}
 use Rattle.unit_io.specs.ReadsAt.{IsCauseAt, ReadsOnce}
 use Rattle.unit_io.proofs.OnceLemmas.{once_then, once_wider}
-use Rattle.opening_rules.specs.First.{greatest_of, joined_below}
-use Rattle.opening_rules.specs.Payloads.{numbers_within}
-use Rattle.opening_rules.specs.Live.{commit_at, noted_at}
-use Rattle.opening_rules.specs.LaidOut.{numbers_of}
-use Rattle.opening_rules.specs.Faults.{noted_number, greatest_of_notes}
-use Rattle.opening_rules.specs.Marked.{serial_of}
+use Rattle.opening_laws.specs.First.{greatest_of, joined_below}
+use Rattle.opening_laws.specs.Payloads.{numbers_within}
+use Rattle.opening_laws.specs.Live.{commit_at, noted_at}
+use Rattle.opening_laws.specs.LaidOut.{numbers_of}
+use Rattle.opening_laws.specs.Faults.{noted_number, greatest_of_notes}
+use Rattle.opening_laws.specs.Marked.{serial_of}
 use Rattle.ipl_format.specs.Whole.{IsWhole}
-use Rattle.opening_rules.proofs.FirstLemmas.{greatest_step, joined_step}
-use Rattle.opening_rules.proofs.BelowLemmas.{greatest_of-push}
-use Rattle.opening_rules.proofs.LiveLemmas.{noted_commits}
+use Rattle.opening_laws.proofs.FirstLemmas.{greatest_step, joined_step}
+use Rattle.opening_laws.proofs.BelowLemmas.{greatest_of-push}
+use Rattle.opening_laws.proofs.LiveLemmas.{noted_commits}
 use Rattle.number_set.specs.Numbers.{Numbers, with_list, with_number, with_numbers}
 use Rattle.txn_status.specs.ReadingIn.{under, IsCommitSpot, IsAt, IsStatusAt}
 use Rattle.txn_status.specs.Marks.{MarksRead, with_noted, marks_below}

@@ -26,8 +26,8 @@ use Rattle.unit_io.specs.Charts.{Charts, Gains}
 use Rattle.unit_io.proofs.SectorLemmas.{untouched}
 use Rattle.unit_io.proofs.LeadsLemmas.{leads_and, leads_failed, leads_then}
 use Rattle.unit_io.proofs.SpotLemmas.{programs_then, programs_wider}
-use Rattle.steps.specs.Steps.{NoOtherEnd}
-use Rattle.steps.proofs.StepLemmas.{outcome_written}
+use Rattle.step_laws.specs.Steps.{NoOtherEnd}
+use Rattle.step_laws.proofs.StepLemmas.{outcome_written}
 use Rattle.number_set.specs.Numbers.{among}
 use Rattle.txn_status.specs.Status.{parts_of}
 use Rattle.txn_status.specs.Adding.{HasStatus}

@@ -13,7 +13,7 @@ use Rattle.ipl_meaning.specs.Tables.{Status, Tables}
 use Rattle.ipl_meaning.specs.Mirrors.{AreApart, Mirrors}
 use Rattle.ipl_meaning.specs.Agrees.{Agrees}
 use Rattle.unit_io.specs.Leads.{IsSteady}
-use Rattle.steps.specs.Steps.{NoOtherEnd, Steps, RestsAgreeing}
+use Rattle.step_laws.specs.Steps.{NoOtherEnd, Steps, RestsAgreeing}
 use Rattle.number_set.specs.Numbers.{also}
 use Rattle.txn_status.specs.Status.{after_add}
 

@@ -16,7 +16,7 @@ use Rattle.ipl_meaning.specs.Marks.{AreUnused}
 use Rattle.ipl_meaning.specs.MarkLaws.{MarksWhatIsKnown}
 use Rattle.unit_io.specs.Leads.{IsSteady, RestsAdded}
 use Rattle.unit_io.specs.Spots.{Programs, IsSpot}
-use Rattle.steps.specs.Steps.{Settled, NoOtherEnd, EndsWith, OutcomeWhere}
+use Rattle.step_laws.specs.Steps.{Settled, NoOtherEnd, EndsWith, OutcomeWhere}
 use Rattle.txn_status.specs.Adding.{HasStatus}
 
 -- a close mark of this payload, as it is written

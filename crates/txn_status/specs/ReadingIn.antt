@@ -9,10 +9,10 @@ use Rattle.ipl_format.specs.Sector.{Sector}
 use Rattle.ipl_meaning.specs.Chart.{Chart}
 use Rattle.ipl_meaning.specs.Tables.{Status}
 use Rattle.ipl_base.specs.First.{first_below}
-use Rattle.opening_rules.specs.Chosen.{Winner}
-use Rattle.opening_rules.specs.Live.{sectors}
-use Rattle.opening_rules.specs.LaidOut.{committed_numbers}
-use Rattle.opening_rules.specs.Faults.{TellsImageFault, noted_fault, greatest_of_notes}
+use Rattle.opening_laws.specs.Chosen.{Winner}
+use Rattle.opening_laws.specs.Live.{sectors}
+use Rattle.opening_laws.specs.LaidOut.{committed_numbers}
+use Rattle.opening_laws.specs.Faults.{TellsImageFault, noted_fault, greatest_of_notes}
 use Rattle.number_set.specs.Numbers.{Numbers, with_numbers}
 
 -- ---- which sectors

@@ -17,7 +17,7 @@ use Rattle.ipl_meaning.specs.Mirrors.{Mirrors}
 use Rattle.ipl_meaning.specs.Agrees.{Agrees}
 use Rattle.unit_io.specs.Leads.{IsSteady}
 use Rattle.unit_io.specs.Spots.{Programs}
-use Rattle.steps.specs.Steps.{Settled, NoOtherEnd, EndsWith, Outcome, RestsAgreeing}
+use Rattle.step_laws.specs.Steps.{Settled, NoOtherEnd, EndsWith, Outcome, RestsAgreeing}
 use Rattle.number_set.specs.Numbers.{among}
 use Rattle.unit_layout.specs.Retired.{retired_in}
 use Rattle.txn_status.specs.Commits.{commit_sector, part_of}

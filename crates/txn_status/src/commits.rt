@@ -51,7 +51,7 @@ fn commit_head(generation: u64, serial: u64) -> Head
 
 /// Programs a commit sector of these numbers, at most 60, where nothing is open, and makes sure of
 /// it.
-pub fn write_commit<C: Chip>(
+pub(crate) fn write_commit<C: Chip>(
     chip: &mut C,
     spot: Spot,
     generation: u64,
@@ -108,7 +108,7 @@ pub fn write_mark<C: Chip>(
 }
 
 /// Programs a commit sector of these numbers, at most 60, into a place without a header.
-pub fn write_part<C: Chip>(
+pub(crate) fn write_part<C: Chip>(
     chip: &mut C,
     spot: Spot,
     generation: u64,

@@ -4,7 +4,7 @@
 //! are kept. A clean close adds a close mark, which says of which units the clean log sectors are
 //! known, and an opening finds the mark that counts. It stands on `unit_io`, which writes and
 //! reads the sectors, on `place_taking` for what is written to such a place, on `number_set` for
-//! the numbers in memory, and on `opening_rules` for which commit sectors and close marks count. A
+//! the numbers in memory, and on `opening_laws` for which commit sectors and close marks count. A
 //! contract sees the `Status` of `ipl_meaning`, the committed numbers as a list in rising order.
 //!
 //! Proved, by `Status`, `status_laws`: the committed numbers: a commit sector that is added leaves

@@ -21,7 +21,7 @@ use unit_io::seal;
 use unit_layout::{StatusHeader, write_status_header};
 
 /// How many commit sectors numbers fill, at most 3,840 of them.
-pub fn part_count(numbers: &[u64]) -> u32
+pub(crate) fn part_count(numbers: &[u64]) -> u32
     requires { length numbers.now ≤ KEPT_NUMBERS }
     ensures parts { result ≡ parts_of numbers.now }
     ensures few { result ≤ 64 }
@@ -42,7 +42,7 @@ fn part_of(numbers: &[u64], i: u32) -> &[u64]
 
 /// Programs numbers, at most 3,840, into a place without a header, 60 to a commit sector, from
 /// sector 1 on, with a serial drawn for each.
-pub fn write_parts<C: Chip>(
+pub(crate) fn write_parts<C: Chip>(
     chip: &mut C,
     counter: &mut Counter,
     place: u32,
@@ -79,7 +79,7 @@ pub fn write_parts<C: Chip>(
 
 /// Puts a status header on a place, once all else is made sure of, and makes sure of it. It lists these
 /// places, at most 64, as retired; that such a chip may have retired them is a condition.
-pub fn seal_status<C: Chip>(
+pub(crate) fn seal_status<C: Chip>(
     chip: &mut C,
     place: u32,
     generation: u64,

@@ -1,8 +1,8 @@
 //! The numbers in the payload of a commit sector.
 ghost use Rattle.std.specs.Prelude.{◌≡◌, ◌≤◌, ◌+◌, ◌/◌, length};
 ghost use Rattle.ipl_format.specs.Numbers.{long_at};
-ghost use Rattle.opening_rules.specs.First.{greatest_of};
-ghost use Rattle.opening_rules.specs.Payloads.{is_commit_payload, numbers_in};
+ghost use Rattle.opening_laws.specs.First.{greatest_of};
+ghost use Rattle.opening_laws.specs.Payloads.{is_commit_payload, numbers_in};
 ghost use Rattle.number_set.specs.Numbers.{with_list, with_numbers};
 ghost use Rattle.txn_status.specs.ReadingIn.{GrowsBy};
 
@@ -10,7 +10,7 @@ use ipl_format::long_at;
 use number_set::NumberSet;
 
 /// Whether the payload is 1 to 60 numbers of eight bytes, with nothing left over.
-pub fn is_commit(payload: &[u8]) -> bool
+pub(crate) fn is_commit(payload: &[u8]) -> bool
     ensures { result ≡ is_commit_payload payload.now }
 {
     payload.len() % 8 == 0 && 1 <= payload.len() / 8 && payload.len() / 8 <= 60
@@ -25,7 +25,7 @@ fn first_number(bytes: &[u8]) -> u64
 }
 
 /// The greatest of the numbers in a payload and this one.
-pub fn greatest_number(payload: &[u8], least: u64) -> u64
+pub(crate) fn greatest_number(payload: &[u8], least: u64) -> u64
     ensures { result ≡ greatest_of least (numbers_in payload.now) }
 {
     let mut greatest = least;

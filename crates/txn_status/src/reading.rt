@@ -6,9 +6,9 @@ ghost use Rattle.ipl_meaning.specs.Chart.{chart_of};
 ghost use Rattle.unit_io.specs.Reads.{OfContents};
 ghost use Rattle.unit_io.specs.ReadsAt.{ReadsAt, ReadsOnce, IsCauseAt};
 ghost use Rattle.ipl_base.specs.First.{first_below};
-ghost use Rattle.opening_rules.specs.Live.{sectors, commit_at, noted_at};
-ghost use Rattle.opening_rules.specs.Faults.{TellsImageFault, noted_fault, noted_number, greatest_of_notes};
-ghost use Rattle.opening_rules.specs.LaidOut.{numbers_of, committed_numbers};
+ghost use Rattle.opening_laws.specs.Live.{sectors, commit_at, noted_at};
+ghost use Rattle.opening_laws.specs.Faults.{TellsImageFault, noted_fault, noted_number, greatest_of_notes};
+ghost use Rattle.opening_laws.specs.LaidOut.{numbers_of, committed_numbers};
 ghost use Rattle.ipl_format.specs.Whole.{IsWhole};
 ghost use Rattle.number_set.specs.Numbers.{with_numbers};
 ghost use Rattle.txn_status.specs.ReadingIn.{under, of_image, GrowsBy, IsCommitSpot, IsAt, IsStatusAt, IsHeadRead};
@@ -23,7 +23,7 @@ use sector_format::Head;
 use unit_io::{read_head, read_noted};
 
 /// The generation of the status header at a place. Where none stands there, sector 0 is malformed.
-pub fn read_generation<C: Chip>(chip: &mut C, place: u32) -> Result<u64, ChipFault>
+pub(crate) fn read_generation<C: Chip>(chip: &mut C, place: u32) -> Result<u64, ChipFault>
     requires { place < (C.told chip.old).places }
     ensures exact { OfContents (C.told chip.old) (λ x.
         (head : Sector) → IsStatusAt (chart_of x) place head → IsHeadRead head result) }

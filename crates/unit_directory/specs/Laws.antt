@@ -5,7 +5,7 @@ use Rattle.unit_directory.specs.Free.{free_count, IsNextFree, spares_of, put_asi
 use Rattle.unit_directory.specs.Directory.{empty_places, after_adopt, after_replace}
 
 -- the place isn't free any more, and each other is as it was; where it was free, one is free less
-pub record Takes (it after : Places) (p : ℕ) : Type 0 where
+pub record PlaceIsTaken (it after : Places) (p : ℕ) : Type 0 where
   pub free : (q : ℕ) → IsFree after q ↔ (IsFree it q × (q ≢ p))
   pub count : IsFree it p → free_count after.in_use + 1 ≡ free_count it.in_use
 
@@ -29,7 +29,7 @@ AllAreFreeAtFirst = (places units : ℕ) → (free_count (empty_places places un
 
 -- a place that is used is taken
 abbrev pub UsesTake : Type 0
-UsesTake = (it : Places) (p : ℕ) → Takes it (with_use it p true) p
+UsesTake = (it : Places) (p : ℕ) → PlaceIsTaken it (with_use it p true) p
 
 -- a place that isn't used any more is given back
 abbrev pub DisusesGiveBack : Type 0
@@ -37,7 +37,7 @@ DisusesGiveBack = (it : Places) (p : ℕ) → p < length it.in_use → GivesBack
 
 -- a place that a unit adopts is taken
 abbrev pub AdoptsTake : Type 0
-AdoptsTake = (it : Places) (u p generation : ℕ) → Takes it (after_adopt it u p generation) p
+AdoptsTake = (it : Places) (u p generation : ℕ) → PlaceIsTaken it (after_adopt it u p generation) p
 
 -- a unit whose place is replaced gives its old one back
 abbrev pub ReplacesGiveBack : Type 0

@@ -11,7 +11,7 @@ use std::alloc::{AllocError, Global};
 pub type RetiredList = ArrayVec<u32, 64>;
 
 /// Makes a list of so many times one value. It takes no memory: that there is room is a condition.
-pub fn refill<T: Copy + Drop>(list: &mut Vec<T>, count: usize, value: T)
+pub(crate) fn refill<T: Copy + Drop>(list: &mut Vec<T>, count: usize, value: T)
     requires { count ≤ vec_capacity list.old }
     ensures items { list.new.items ≡ replicate count value }
     ensures room { vec_capacity list.new ≡ vec_capacity list.old }
@@ -39,7 +39,7 @@ pub fn filled<T: Copy + Drop>(
 }
 
 /// Puts a place among others in rising order, unless it is one of them.
-pub fn insert_place(places: &mut RetiredList, place: u32)
+pub(crate) fn insert_place(places: &mut RetiredList, place: u32)
     requires rising { AllPairs IsLower places.old.items }
     requires room { length places.old.items < MOST_SPARES }
     ensures { places.new.items ≡ inserted place places.old.items }

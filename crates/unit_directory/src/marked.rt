@@ -20,7 +20,7 @@ fn unmarked(written: u32) -> u32
 }
 
 /// What is known of all units once no mark counts any more. It takes no memory.
-pub fn end_all_marks(all: &mut Vec<u32>)
+pub(crate) fn end_all_marks(all: &mut Vec<u32>)
     ensures items { all.new.items ≡ map unmarked_written all.old.items }
     ensures room { vec_capacity all.new ≡ vec_capacity all.old }
 {

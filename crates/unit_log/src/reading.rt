@@ -136,7 +136,7 @@ fn read_home<C: Chip>(
 }
 
 /// Reads these spots, at most 31.
-pub fn read_listed<C: Chip>(
+pub(crate) fn read_listed<C: Chip>(
     chip: &mut C,
     spots: &[Spot],
     unit: u32,
@@ -158,7 +158,7 @@ pub fn read_listed<C: Chip>(
 }
 
 /// Reads the sectors of a place from 241 up to this one (241 to 256), then these spots, at most 16.
-pub fn read_sectors<C: Chip>(
+pub(crate) fn read_sectors<C: Chip>(
     chip: &mut C,
     place: u32,
     end: u32,

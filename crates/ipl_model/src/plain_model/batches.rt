@@ -13,7 +13,7 @@ use std::alloc::AllocError;
 
 impl PlainModel {
     /// Closes these sessions, and their writes become records, one session after the other.
-    pub fn apply_batch(&mut self, sessions: &[u32]) -> Result<(), AllocError>
+    pub(crate) fn apply_batch(&mut self, sessions: &[u32]) -> Result<(), AllocError>
         requires { refuses_batch (limits_of self.old) (state_of self.old) sessions.now ≡ None }
         ensures ok { OnOk result (state_of self.new ≡ after_batch (state_of self.old) sessions.now) }
         ensures err { OnErr result (state_of self.new ≡ state_of self.old) }

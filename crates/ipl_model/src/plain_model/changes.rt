@@ -29,7 +29,7 @@ fn move_writes(
 
 impl PlainModel {
     /// Opens a session.
-    pub fn open_session(&mut self, s: u32)
+    pub(crate) fn open_session(&mut self, s: u32)
         requires { s < SESSIONS }
         ensures state { state_of self.new ≡ after_begin (state_of self.old) s }
         ensures units { self.new.units ≡ self.old.units }
@@ -41,7 +41,7 @@ impl PlainModel {
     }
 
     /// Adds a name to those that a session shares.
-    pub fn add_share(&mut self, s: u32, name: u32) -> Result<(), AllocError>
+    pub(crate) fn add_share(&mut self, s: u32, name: u32) -> Result<(), AllocError>
         requires { s < SESSIONS }
         ensures ok { OnOk result (state_of self.new ≡ with_share (state_of self.old) s name) }
         ensures err { OnErr result (state_of self.new ≡ state_of self.old) }
@@ -54,7 +54,12 @@ impl PlainModel {
     }
 
     /// Adds a write to those of a session.
-    pub fn add_write(&mut self, s: u32, name: u32, value: Option<Value>) -> Result<(), AllocError>
+    pub(crate) fn add_write(
+        &mut self,
+        s: u32,
+        name: u32,
+        value: Option<Value>,
+    ) -> Result<(), AllocError>
         requires { s < SESSIONS }
         ensures ok { OnOk result (
             state_of self.new ≡ after_write (state_of self.old) s (name, value)) }
@@ -68,7 +73,7 @@ impl PlainModel {
     }
 
     /// Closes a session, and its writes become records.
-    pub fn apply_writes(&mut self, s: u32) -> Result<(), AllocError>
+    pub(crate) fn apply_writes(&mut self, s: u32) -> Result<(), AllocError>
         requires { s < SESSIONS }
         ensures ok { OnOk result (state_of self.new ≡ after_commit (state_of self.old) s) }
         ensures err { OnErr result (state_of self.new ≡ state_of self.old) }
@@ -79,7 +84,7 @@ impl PlainModel {
     }
 
     /// Closes a session, and its writes are gone.
-    pub fn close_session(&mut self, s: u32)
+    pub(crate) fn close_session(&mut self, s: u32)
         requires { s < SESSIONS }
         ensures state { state_of self.new ≡ after_abort (state_of self.old) s }
         ensures units { self.new.units ≡ self.old.units }

@@ -67,7 +67,7 @@ pub fn holder(sessions: &[Option<LoggedSession>], s: u32, lock: Lock, name: u32)
 }
 
 /// Appends copies of writes.
-pub fn append_copies(all: &mut Vec<Write>, log: &[Write]) -> Result<(), AllocError>
+pub(crate) fn append_copies(all: &mut Vec<Write>, log: &[Write]) -> Result<(), AllocError>
     ensures { OnOk result (newest_first all.new.items ≡ newest_first log.now ++ newest_first all.old.items) }
 {
     for write in log {
@@ -88,7 +88,7 @@ fn append_slot(all: &mut Vec<Write>, slot: &Option<LoggedSession>) -> Result<(),
 }
 
 /// All writes of open sessions, those of the last session first.
-pub fn pending_writes(
+pub(crate) fn pending_writes(
     alloc: Global,
     sessions: &[Option<LoggedSession>],
 ) -> Result<Vec<Write>, AllocError>

@@ -28,7 +28,7 @@ impl PlainModel {
     }
 
     /// The last write of a name by a session.
-    pub fn last_write(&self, s: u32, name: u32) -> Option<Option<Value>>
+    pub(crate) fn last_write(&self, s: u32, name: u32) -> Option<Option<Value>>
         ensures { result ≡ last_write (writes_of (state_of self.now) s) name }
     {
         match self.session(s) {
@@ -276,7 +276,7 @@ impl PlainModel {
     }
 
     /// Why a list of records is refused, if it is.
-    pub fn refuses_list(&self, a: u32, b: u32) -> Option<Refusal>
+    pub(crate) fn refuses_list(&self, a: u32, b: u32) -> Option<Refusal>
         ensures { result ≡ refuses_list (limits_of self.now) a b }
     {
         if self.is_bad_name(a) || self.is_bad_name(b) {

@@ -8,7 +8,7 @@ use super::log::{Write, copied};
 use ipl_base::Value;
 
 /// The newest write of a name.
-pub fn newest(log: &[Write], name: u32) -> Option<Option<Value>>
+pub(crate) fn newest(log: &[Write], name: u32) -> Option<Option<Value>>
     ensures { result ≡ last_write (newest_first log.now) name }
 {
     let mut found = None;
@@ -28,7 +28,7 @@ pub fn is_written(log: &[Write], name: u32) -> bool
 }
 
 /// How many names are written.
-pub fn count_names(log: &[Write]) -> usize
+pub(crate) fn count_names(log: &[Write]) -> usize
     ensures names { result ≡ length (written_names (newest_first log.now)) }
     ensures few { result ≤ length log.now }
 {

@@ -1,5 +1,5 @@
 use Rattle.buffer_pool.specs.Lending.{with_frame}
-use Rattle.pending_writes.specs.Frames.{IsAbortedFrame}
+use Rattle.store_laws.specs.Frames.{IsAbortedFrame}
 use Rattle.frame_changes.specs.Views.{frames_of}
 use Rattle.frame_changes.proofs.PutLemmas.{no_frame, both_change, both_pins, both_uses, stored_then, dropped, with_frame_under, with_log_under}
 use Rattle.frame_changes.proofs.NameLemmas.{only_this, none_changes}

@@ -1,8 +1,8 @@
 use Rattle.std.proofs.Common.{refl, ◌∙◌}
-use Rattle.pending_writes.specs.Frames.{IsAbortedFrame}
+use Rattle.store_laws.specs.Frames.{IsAbortedFrame}
 use Rattle.buffer_pool.proofs.HoldingLemmas.{nothing_keeps, both_keep}
 use Rattle.frame_changes.specs.Views.{frames_of}
-use Rattle.store_steps.proofs.ChangeLemmas.{named_none, aborts_joined}
+use Rattle.store_laws.proofs.ChangeLemmas.{named_none, aborts_joined}
 use Rattle.frame_changes.proofs.NameLemmas.{names_turn, names_all}
 use Rattle.frame_changes.proofs.ends.drop_names.Goals as goal
 

@@ -1,9 +1,9 @@
 use Rattle.std.proofs.Common.{◌≡◌, take, map}
 use Rattle.buffer_pool.specs.Holding.{KeepsPins}
 use Rattle.buffer_pool.specs.Uses.{used_of}
-use Rattle.pending_writes.specs.Frames.{IsAbortedFrame}
+use Rattle.store_laws.specs.Frames.{IsAbortedFrame}
 use Rattle.frame_changes.specs.Views.{frames_of}
-use Rattle.store_steps.specs.NamedFrames.{NamedFramesChange}
+use Rattle.store_laws.specs.NamedFrames.{NamedFramesChange}
 use Rattle.frame_changes.proofs.ends.drop_names.Given as goal
 
 -- the frames of the names so far

@@ -1,4 +1,4 @@
-use Rattle.pending_writes.specs.Frames.{IsCommittedFrame}
+use Rattle.store_laws.specs.Frames.{IsCommittedFrame}
 use Rattle.frame_changes.specs.Views.{frames_of}
 use Rattle.frame_changes.proofs.PutLemmas.{no_frame, frame_changes, frame_pins, frame_uses, settled, with_frame_under}
 use Rattle.frame_changes.proofs.NameLemmas.{only_this, none_changes}

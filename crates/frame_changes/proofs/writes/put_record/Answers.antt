@@ -1,7 +1,7 @@
 use Rattle.std.proofs.Common.{true, false}
 use Rattle.log_records.specs.View.{record_of}
 use Rattle.buffer_pool.specs.Lending.{with_frame}
-use Rattle.pending_writes.specs.Frames.{IsWrittenFrame}
+use Rattle.store_laws.specs.Frames.{IsWrittenFrame}
 use Rattle.frame_changes.proofs.PutLemmas.{not_absent, room_told, both_change, both_pins, both_uses, stored_then, written}
 use Rattle.frame_changes.proofs.writes.put_record.Goals as goal
 

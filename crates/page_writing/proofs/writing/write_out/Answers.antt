@@ -13,10 +13,10 @@ use Rattle.page_writing.proofs.SpendLemmas.{unplaced_costs, placed_costs, room_c
 use Rattle.page_writing.proofs.SpotLemmas.{holds_then}
 use Rattle.page_writing.proofs.WearLemmas.{no_room_wears, room_wears}
 use Rattle.place_taking.proofs.WearLemmas.{wears_are_joined}
-use Rattle.merge_rules.proofs.FaultLemmas.{fault_as, fault_stopped}
+use Rattle.merge_laws.proofs.FaultLemmas.{fault_as, fault_stopped}
 use Rattle.selective_merge.proofs.CompleteLemmas.{fails_complete}
 use Rattle.ipl_base.specs.declared.fault.ChipFault.{ChipFault}
-use Rattle.steps.proofs.TablesLemmas.{tables_then}
+use Rattle.step_laws.proofs.TablesLemmas.{tables_then}
 use Rattle.ipl_base.specs.declared.spot.Spot.{Spot}
 use Rattle.page_writing.proofs.writing.write_out.Goals as goal
 

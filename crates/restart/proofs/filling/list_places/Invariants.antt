@@ -1,6 +1,6 @@
 use Rattle.std.proofs.Common.{◌≡◌}
-use Rattle.opening_rules.specs.First.{all_below}
-use Rattle.opened_tables.specs.Found.{overflow_at}
+use Rattle.opening_laws.specs.First.{all_below}
+use Rattle.opening_laws.specs.Found.{overflow_at}
 use Rattle.restart.specs.Shown.{is_held}
 use Rattle.restart.proofs.filling.list_places.Given as goal
 

@@ -1,5 +1,5 @@
 use Rattle.std.proofs.Common.{◌≡◌, length}
-use Rattle.opening_rules.specs.First.{at}
+use Rattle.opening_laws.specs.First.{at}
 use Rattle.txn_status.specs.Marks.{counting}
 use Rattle.restart.specs.Counted.{SameHomes, AreMarked}
 use Rattle.restart.proofs.CountedLogLemmas.{AreLater}

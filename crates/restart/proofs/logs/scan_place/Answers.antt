@@ -1,5 +1,5 @@
 use Rattle.std.proofs.Common.{◌≡◌, ◌∙◌, ◌+◌, ◌*◌, ℕ, subst, arith, length}
-use Rattle.opening_rules.specs.First.{at}
+use Rattle.opening_laws.specs.First.{at}
 use Rattle.restart.specs.Notes.{IsRoomy}
 use Rattle.restart.proofs.LookLemmas.{reads_then, looks_then}
 use Rattle.restart.specs.Counted.{AreReadLogs}

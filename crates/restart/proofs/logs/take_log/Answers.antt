@@ -2,11 +2,11 @@ use Rattle.std.proofs.Common.{◌∙◌, ◌+◌, ◌*◌, ap, sym, subst, lengt
 use Rattle.ipl_format.specs.Sector.{Sector}
 use Rattle.sector_format.specs.Decode.{sector_of}
 use Rattle.std.specs.Option.{option_map}
-use Rattle.opening_rules.specs.First.{at, with_one}
-use Rattle.opening_rules.specs.Live.{mark_of, is_overflow_place}
-use Rattle.opening_rules.specs.Faults.{TellsImageFault, log_test}
-use Rattle.opening_rules.proofs.TellsLemmas.{tells_exit}
-use Rattle.opened_tables.specs.Found.{mask_of_sector}
+use Rattle.opening_laws.specs.First.{at, with_one}
+use Rattle.opening_laws.specs.Live.{mark_of, is_overflow_place}
+use Rattle.opening_laws.specs.Faults.{TellsImageFault, log_test}
+use Rattle.opening_laws.proofs.TellsLemmas.{tells_exit}
+use Rattle.opening_laws.specs.Found.{mask_of_sector}
 use Rattle.kept_numbers.specs.Joins.{joined}
 use Rattle.restart.specs.Collected.{records_at, AreKept}
 use Rattle.restart.specs.Notes.{IsNoted}

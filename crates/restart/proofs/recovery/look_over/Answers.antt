@@ -1,8 +1,8 @@
 use Rattle.std.proofs.Common.{◌+◌, ℕ, subst}
 use Rattle.ipl_meaning.specs.Chart.{chart_of}
 use Rattle.ipl_meaning.specs.Mirrors.{Mirrors}
-use Rattle.opening_rules.specs.LaidOut.{layout_in}
-use Rattle.opened_tables.specs.Opened.{tables_of}
+use Rattle.opening_laws.specs.LaidOut.{layout_in}
+use Rattle.opening_laws.specs.Opened.{tables_of}
 use Rattle.restart.proofs.recovery.look_over.Goals as goal
 
 -- the number after the greatest is that of the chart

@@ -1,9 +1,9 @@
 use Rattle.std.proofs.Common.{ℕ, sym, subst, arith, refl}
 use Rattle.ipl_meaning.specs.Chart.{chart_of}
 use Rattle.ipl_meaning.specs.Mirrors.{Mirrors}
-use Rattle.opening_rules.specs.LaidOut.{layout_in}
-use Rattle.merge_rules.specs.Known.{KnowsPlaces}
-use Rattle.opened_tables.specs.Opened.{AreOpened, tables_of}
+use Rattle.opening_laws.specs.LaidOut.{layout_in}
+use Rattle.merge_laws.specs.Known.{KnowsPlaces}
+use Rattle.opening_laws.specs.Opened.{AreOpened, tables_of}
 use Rattle.restart.specs.Opened.{IsUnmarked, CountsMarked}
 use Rattle.restart.proofs.recovery.open.Goals as goal
 

@@ -1,9 +1,9 @@
 use Rattle.std.proofs.Common.{◌≡◌, ◌∙◌, ◌+◌, ◌*◌, ℕ, List, Some, take, get_or, refl, ap, arith, Ok, length, true, sym, subst}
 use Rattle.std.proofs.lemmas.List.{length-take-le}
 use Rattle.ipl_meaning.specs.Chart.{chart_of}
-use Rattle.opening_rules.specs.First.{at, count_below}
-use Rattle.opening_rules.proofs.TellsLemmas.{tells_again}
-use Rattle.opened_tables.proofs.OpenedLemmas.{opened_tables_mirror}
+use Rattle.opening_laws.specs.First.{at, count_below}
+use Rattle.opening_laws.proofs.TellsLemmas.{tells_again}
+use Rattle.opening_laws.proofs.OpenedLemmas.{opened_tables_mirror}
 use Rattle.unit_layout.specs.Retired.{may_be_retired}
 use Rattle.restart.specs.Kept.{retired_of}
 use Rattle.restart.specs.Shown.{is_held}
@@ -21,8 +21,8 @@ use Rattle.restart.proofs.OpenedNumbersLemmas.{all_collected}
 use Rattle.restart.proofs.CleanLemmas.{unmarked, counts_marked}
 use Rattle.restart.specs.Counted.{IsReadLog}
 use Rattle.restart.proofs.CountedLogLemmas.{read_opened}
-use Rattle.opening_rules.specs.Marked.{last_close_mark}
-use Rattle.opened_tables.specs.Opened.{IsOpenedLog}
+use Rattle.opening_laws.specs.Marked.{last_close_mark}
+use Rattle.opening_laws.specs.Opened.{IsOpenedLog}
 use Rattle.restart.proofs.OnceLemmas.{headers_alone, all_once, status_unlogged}
 use Rattle.restart.proofs.recovery.read_chip.Goals as goal
 

@@ -2,10 +2,10 @@ use Rattle.std.proofs.Common.{◌∙◌, ℕ, OnOk, IfOk, subst}
 use Rattle.ipl_meaning.specs.Chart.{chart_of}
 use Rattle.ipl_meaning.specs.Mirrors.{Mirrors}
 use Rattle.unit_io.specs.Reads.{OfContents}
-use Rattle.opening_rules.specs.Faults.{TellsImageFault, first_fault}
-use Rattle.opening_rules.specs.LaidOut.{layout_in}
-use Rattle.merge_rules.specs.Known.{KnowsPlaces}
-use Rattle.opened_tables.specs.Opened.{AreOpened, tables_of}
+use Rattle.opening_laws.specs.Faults.{TellsImageFault, first_fault}
+use Rattle.opening_laws.specs.LaidOut.{layout_in}
+use Rattle.merge_laws.specs.Known.{KnowsPlaces}
+use Rattle.opening_laws.specs.Opened.{AreOpened, tables_of}
 use Rattle.restart.specs.Bytes.{ReadsBytes}
 use Rattle.restart.specs.Collected.{AreCollected}
 use Rattle.restart.specs.Opened.{CountsMarked}

@@ -3,11 +3,11 @@ use Rattle.ipl_meaning.specs.Chart.{chart_of}
 use Rattle.ipl_meaning.specs.Layout.{Laid}
 use Rattle.ipl_meaning.specs.Mirrors.{Mirrors}
 use Rattle.unit_io.specs.Reads.{OfContents}
-use Rattle.opening_rules.specs.Faults.{TellsImageFault, shape_fault, greatest_found}
-use Rattle.opening_rules.specs.LaidOut.{layout_in}
-use Rattle.opening_rules.specs.Laws.{IsByteChart}
-use Rattle.merge_rules.specs.Known.{KnowsPlaces}
-use Rattle.opened_tables.specs.Opened.{tables_of}
+use Rattle.opening_laws.specs.Faults.{TellsImageFault, shape_fault, greatest_found}
+use Rattle.opening_laws.specs.LaidOut.{layout_in}
+use Rattle.opening_laws.specs.Laws.{IsByteChart}
+use Rattle.merge_laws.specs.Known.{KnowsPlaces}
+use Rattle.opening_laws.specs.Opened.{tables_of}
 use Rattle.restart.proofs.recovery.survey.Goals as goal
 
 pub returns-clause-fault : goal.returns-clause-fault

@@ -8,7 +8,7 @@ use Rattle.unit_io.specs.Charts.{Charts, Spares}
 use Rattle.unit_io.specs.Costs.{ProgramsAt, Spends}
 use Rattle.unit_io.specs.Leads.{IsSteady}
 use Rattle.unit_io.specs.Spots.{Programs}
-use Rattle.merge_rules.specs.Packs.{IsLogSpotBelow, HasLogs}
+use Rattle.merge_laws.specs.Packs.{IsLogSpotBelow, HasLogs}
 use Rattle.selective_merge.specs.Writing.{KeepsLogs}
 use Rattle.selective_merge.proofs.logs.write_logs.Given as goal
 

@@ -3,7 +3,7 @@ use Rattle.std.proofs.lemmas.Result.{err_from_is_err_and}
 use Rattle.std.specs.Prelude.{is_ok}
 use Rattle.selective_merge.specs.Homes.{from_home}
 use Rattle.ipl_format.specs.Record.{Record}
-use Rattle.merge_rules.specs.Packs.{packs_of}
+use Rattle.merge_laws.specs.Packs.{packs_of}
 use Rattle.overflow.specs.Lists.{spots_in}
 use Rattle.unit_log.specs.Looks.{IsLogRead}
 use Rattle.selective_merge.specs.Merging.{CarriesFew, MergesFrom, MergesFromInSteps, StaysMirrored}
@@ -13,9 +13,9 @@ use Rattle.selective_merge.proofs.FewLemmas.{few_unread}
 use Rattle.place_taking.specs.Spending.{is_worn_out, tells_worn}
 use Rattle.selective_merge.proofs.SpendLemmas.{for_read, erases_for_behind, read_not_worn}
 use Rattle.selective_merge.proofs.WholeLemmas.{merge_behind, merged_told, merge_unread, told_unread}
-use Rattle.merge_rules.proofs.FaultLemmas.{fault_unread}
+use Rattle.merge_laws.proofs.FaultLemmas.{fault_unread}
 use Rattle.selective_merge.proofs.CompleteLemmas.{merge_told, merge_completes, spared_behind}
-use Rattle.steps.proofs.TablesLemmas.{tables_read}
+use Rattle.step_laws.proofs.TablesLemmas.{tables_read}
 use Rattle.selective_merge.proofs.TidyLemmas.{tidies_behind}
 use Rattle.selective_merge.proofs.merging.merge.Goals as goal
 

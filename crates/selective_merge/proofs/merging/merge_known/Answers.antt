@@ -7,8 +7,8 @@ use Rattle.selective_merge.proofs.FewLemmas.{few_packed, too_many}
 use Rattle.selective_merge.proofs.SpendLemmas.{for_none}
 use Rattle.selective_merge.proofs.WholeLemmas.{merge_unread}
 use Rattle.ipl_base.specs.declared.fault.ChipFault.{ChipFault}
-use Rattle.merge_rules.specs.Faults.{TellsTheFault}
-use Rattle.merge_rules.proofs.FaultLemmas.{fault_with_few, fault_with_many}
+use Rattle.merge_laws.specs.Faults.{TellsTheFault}
+use Rattle.merge_laws.proofs.FaultLemmas.{fault_with_few, fault_with_many}
 use Rattle.selective_merge.specs.Homes.{from_home}
 use Rattle.selective_merge.proofs.merging.merge_known.Goals as goal
 

@@ -2,7 +2,7 @@ use Rattle.std.proofs.Common.{refl, List, length, slice_index, ℕ, subst}
 use Rattle.ipl_format.specs.Record.{Record}
 use Rattle.unit_io.specs.ReadsAt.{Anywhere}
 use Rattle.unit_io.proofs.ReadsAtLemmas.{at_none}
-use Rattle.merge_rules.specs.Packs.{packs_of}
+use Rattle.merge_laws.specs.Packs.{packs_of}
 use Rattle.selective_merge.specs.Merging.{CarriesFew}
 use Rattle.selective_merge.specs.Moving.{tables_of}
 use Rattle.selective_merge.proofs.WholeLemmas.{merge_behind, merged_told}

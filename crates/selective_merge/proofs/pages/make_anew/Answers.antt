@@ -1,6 +1,6 @@
 use Rattle.std.proofs.Common.{◌≡◌, replicate, refl, arith, rules}
 use Rattle.ipl_format.specs.Page.{value_in}
-use Rattle.merge_rules.specs.Packs.{among}
+use Rattle.merge_laws.specs.Packs.{among}
 use Rattle.page_ops.proofs.RebuildLemmas.{making_first, none_comes}
 use Rattle.selective_merge.proofs.PageLemmas.{made_all}
 use Rattle.selective_merge.proofs.pages.make_anew.Goals as goal

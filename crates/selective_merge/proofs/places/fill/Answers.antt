@@ -3,7 +3,7 @@ use Rattle.std.proofs.lemmas.Result.{err_from_is_err_and}
 use Rattle.selective_merge.specs.Homes.{from_home}
 use Rattle.selective_merge.specs.Writing.{WritesLogs}
 use Rattle.selective_merge.proofs.FillLemmas.{pages_failed, logged, logs_failed, filled_told}
-use Rattle.merge_rules.proofs.FaultLemmas.{fault_as, fault_stopped}
+use Rattle.merge_laws.proofs.FaultLemmas.{fault_as, fault_stopped}
 use Rattle.place_taking.proofs.JoinLemmas.{fills_programs, fills_then}
 use Rattle.unit_io.proofs.SparesLemmas.{spares_then}
 use Rattle.selective_merge.proofs.TidyLemmas.{tidy_paged, tidy_logged}

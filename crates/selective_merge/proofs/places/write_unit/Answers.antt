@@ -7,8 +7,8 @@ use Rattle.sector_format.specs.declared.sector.Head.{Head}
 use Rattle.unit_io.specs.Charts.{Charts}
 use Rattle.selective_merge.specs.Writing.{FillsPlace, GainsUnit, IsSealed, SealsUnit}
 use Rattle.selective_merge.proofs.SealLemmas.{unit_written, written_told, fill_failed}
-use Rattle.merge_rules.specs.Faults.{pages_fault}
-use Rattle.merge_rules.proofs.FaultLemmas.{fault_as, tells_written}
+use Rattle.merge_laws.specs.Faults.{pages_fault}
+use Rattle.merge_laws.proofs.FaultLemmas.{fault_as, tells_written}
 use Rattle.unit_io.proofs.SparesLemmas.{spares_behind}
 use Rattle.selective_merge.proofs.TidyLemmas.{tidy_sealed, tidy_unsealed}
 use Rattle.selective_merge.proofs.places.write_unit.Goals as goal

@@ -12,9 +12,9 @@ use Rattle.selective_merge.proofs.RoomLemmas.{Merged, if_ok, makes_none, told_no
 use Rattle.place_taking.specs.Spending.{is_worn_out, tells_worn}
 use Rattle.selective_merge.proofs.SpendLemmas.{erases_free_behind, frees_none, frees_read, read_not_worn}
 use Rattle.selective_merge.proofs.WholeLemmas.{told_unread}
-use Rattle.merge_rules.proofs.FaultLemmas.{fault_unread}
+use Rattle.merge_laws.proofs.FaultLemmas.{fault_unread}
 use Rattle.selective_merge.proofs.CompleteLemmas.{fails_behind, fails_complete}
-use Rattle.steps.proofs.TablesLemmas.{tables_read}
+use Rattle.step_laws.proofs.TablesLemmas.{tables_read}
 use Rattle.selective_merge.proofs.TidyLemmas.{tidies_behind}
 use Rattle.selective_merge.proofs.LearntLemmas.{counted, learnt_behind}
 use Rattle.selective_merge.proofs.placing.log_place.Goals as goal

@@ -3,7 +3,7 @@ use Rattle.place_taking.specs.Spending.{tells_worn}
 use Rattle.std.proofs.lemmas.Result.{err_from_is_err_and}
 use Rattle.selective_merge.specs.Moving.{tables_of}
 use Rattle.selective_merge.proofs.SpendLemmas.{frees_for}
-use Rattle.merge_rules.proofs.FaultLemmas.{fault_as}
+use Rattle.merge_laws.proofs.FaultLemmas.{fault_as}
 use Rattle.selective_merge.proofs.placing.merged_spot.Goals as goal
 
 pub returns-in_err-merge_learnt-clause-steps : goal.returns-in_err-merge_learnt-clause-steps

@@ -1,7 +1,7 @@
 use Rattle.std.proofs.Common.{◌∙◌, List, length, min, ap}
 use Rattle.std.proofs.lemmas.Result.{err_from_is_err_and}
 use Rattle.ipl_format.specs.Record.{Record}
-use Rattle.merge_rules.specs.Packs.{packs_of}
+use Rattle.merge_laws.specs.Packs.{packs_of}
 use Rattle.selective_merge.proofs.spots.count_carried.Goals as goal
 
 pub returns-in_err-learn-clause-exact : goal.returns-in_err-learn-clause-exact

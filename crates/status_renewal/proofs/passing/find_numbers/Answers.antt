@@ -5,7 +5,7 @@ use Rattle.ipl_meaning.specs.Chart.{chart_of}
 use Rattle.ipl_meaning.specs.Mirrors.{Mirrors}
 use Rattle.selective_merge.specs.Moving.{tables_of}
 use Rattle.place_taking.proofs.HomeLemmas.{homes_same}
-use Rattle.steps.proofs.MapLemmas.{nothing_keeps}
+use Rattle.step_laws.proofs.MapLemmas.{nothing_keeps}
 use Rattle.unit_io.specs.Costs.{Spends}
 use Rattle.unit_io.specs.Unread.{ReadsNothing}
 use Rattle.unit_io.proofs.UnreadLemmas.{unread_none}

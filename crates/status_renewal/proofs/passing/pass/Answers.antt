@@ -4,7 +4,7 @@ use Rattle.chip_trait.proofs.CountsLemmas.{counts_none, counts_then}
 use Rattle.ipl_meaning.specs.Chart.{chart_of}
 use Rattle.selective_merge.specs.Moving.{tables_of, Holds}
 use Rattle.place_taking.proofs.HomeLemmas.{homes_same, homes_then}
-use Rattle.steps.proofs.MapLemmas.{nothing_keeps}
+use Rattle.step_laws.proofs.MapLemmas.{nothing_keeps}
 use Rattle.status_renewal.specs.Passes.{HasPassed}
 use Rattle.status_renewal.proofs.CostLemmas.{erases_none, erases_more, erases_then}
 use Rattle.status_renewal.proofs.PassLemmas.{passed_none}

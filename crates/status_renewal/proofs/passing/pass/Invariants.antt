@@ -6,7 +6,7 @@ use Rattle.ipl_meaning.specs.Layout.{Layout}
 use Rattle.ipl_meaning.specs.Mirrors.{Mirrors}
 use Rattle.selective_merge.specs.Moving.{tables_of, Holds}
 use Rattle.ipl_base.specs.declared.fault.ChipFault.{ChipFault}
-use Rattle.steps.specs.Steps.{Tidies}
+use Rattle.step_laws.specs.Steps.{Tidies}
 use Rattle.unit_io.specs.Costs.{Spends}
 use Rattle.status_renewal.specs.Passes.{HasPassed, GoesOnTelling, SparesUnits, KeepsInSteps, ErasesAtMost}
 use Rattle.status_renewal.proofs.passing.pass.Given as goal

@@ -11,7 +11,7 @@ use Rattle.selective_merge.specs.Moving.{tables_of, Holds}
 use Rattle.selective_merge.proofs.HeldLemmas.{homes_used}
 use Rattle.selective_merge.specs.Throughout.{ChartsThroughout}
 use Rattle.place_taking.specs.Spending.{tells_worn}
-use Rattle.steps.specs.Steps.{RestsAgreeing}
+use Rattle.step_laws.specs.Steps.{RestsAgreeing}
 use Rattle.unit_log.specs.Kept.{records_kept}
 use Rattle.kept_numbers.specs.Joins.{joined}
 use Rattle.status_renewal.specs.Passes.{HasPassed, PassEnds}
@@ -23,7 +23,7 @@ use Rattle.status_renewal.proofs.UnitLemmas.{records_are_logged}
 use Rattle.status_renewal.proofs.PreserveLemmas.{reads_preserve, steps_preserve, read_then}
 use Rattle.status_renewal.proofs.CompleteLemmas.{merge_is_complete}
 use Rattle.status_renewal.proofs.TellingLemmas.{goes_on_same, goes_on_then, goes_on_from}
-use Rattle.merge_rules.specs.Known.{KnowsPlaces}
+use Rattle.merge_laws.specs.Known.{KnowsPlaces}
 use Rattle.selective_merge.proofs.CompleteLemmas.{merge_fails_so}
 use Rattle.status_renewal.proofs.FaultLemmas.{spared_read, spared_merged, merge_in_place, in_place_fails}
 use Rattle.status_renewal.proofs.TidyLemmas.{tidies_read, tidies_read_then}

@@ -4,8 +4,8 @@ use Rattle.std.proofs.lemmas.Result.{err_from_is_err_and}
 use Rattle.ipl_base.specs.declared.fault.ImageFault.TheVariants.{Chip}
 use Rattle.ipl_meaning.specs.Chart.{chart_of}
 use Rattle.ipl_meaning.specs.TableSteps.{without_marks}
-use Rattle.merge_rules.specs.Known.{KnowsPlaces}
-use Rattle.opening_rules.specs.LaidOut.{layout_in}
+use Rattle.merge_laws.specs.Known.{KnowsPlaces}
+use Rattle.opening_laws.specs.LaidOut.{layout_in}
 use Rattle.selective_merge.specs.Moving.{tables_of}
 use Rattle.unit_io.specs.Costs.{Spends}
 use Rattle.unit_io.specs.ReadsAt.{Anywhere}

@@ -2,11 +2,11 @@ use Rattle.std.proofs.Common.{◌≡◌, ◌+◌, ◌∙◌, ℕ, List, length, 
 use Rattle.std.proofs.lemmas.Result.{err_from_is_err_and}
 use Rattle.ipl_meaning.specs.Chart.{chart_of}
 use Rattle.ipl_meaning.specs.Rests.{now}
-use Rattle.merge_rules.specs.Known.{KnowsPlaces}
+use Rattle.merge_laws.specs.Known.{KnowsPlaces}
 use Rattle.selective_merge.specs.Moving.{tables_of}
 use Rattle.selective_merge.proofs.HeldLemmas.{homes_used}
 use Rattle.selective_merge.specs.Throughout.{ChartsThroughout}
-use Rattle.steps.specs.Steps.{RestsAgreeing}
+use Rattle.step_laws.specs.Steps.{RestsAgreeing}
 use Rattle.txn_status.specs.Switching.{RestsSwitched}
 use Rattle.status_renewal.specs.Passes.{HasPassed, ErasesAtMost}
 use Rattle.status_renewal.specs.Renewed.{with_tables, Renews, RenewsInSteps}

@@ -6,8 +6,8 @@ use Rattle.store_trait.proofs.OnwardLemmas.{further_onward}
 use Rattle.script_run.proofs.AlongLemmas.{along_more, along_then, along_stop}
 use Rattle.trial_run.proofs.SaidLemmas.{along_lines}
 use Rattle.script_run.proofs.CompleteLemmas.{completes_more, completes_then, completes_stop}
-use Rattle.trial_commands.specs.Source.{Source}
-use Rattle.trial_commands.specs.Words.{commands_from, trial_commands}
+use Rattle.trial_run.specs.Source.{Source}
+use Rattle.trial_run.specs.Words.{commands_from, trial_commands}
 use Rattle.trial_run.specs.Trial.{IsDone, IsCutShort}
 use Rattle.trial_run.proofs.TrialLemmas.{trial_cut, trial_lost, trial_ends, completes_saying}
 use Rattle.trial_run.proofs.run.run_trial.Goals as goal

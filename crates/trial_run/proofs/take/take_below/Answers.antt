@@ -6,7 +6,7 @@ use Rattle.store_trait.proofs.OnwardLemmas.{further_onward}
 use Rattle.script_run.specs.Goes.{row_lines}
 use Rattle.script_run.proofs.AlongLemmas.{along_none, along_more, along_then, along_stop}
 use Rattle.script_run.proofs.CompleteLemmas.{completes_none, completes_more, completes_then, completes_stop}
-use Rattle.trial_commands.specs.Summary.{record_lines}
+use Rattle.trial_run.specs.Summary.{record_lines}
 use Rattle.trial_run.specs.Trial.{IsTaken}
 use Rattle.trial_run.proofs.TakenLemmas.{lines_more, taken_none, taken_then, lost_then}
 use Rattle.trial_run.proofs.take.take_below.Goals as goal

@@ -5,7 +5,7 @@ use Rattle.store_trait.specs.Keeping.{LOOK_UP_DRAWS}
 use Rattle.script_run.specs.Goes.{KeepsSome}
 use Rattle.script_run.proofs.AlongLemmas.{SoFar}
 use Rattle.script_run.proofs.CompleteLemmas.{CompletesSoFar}
-use Rattle.trial_commands.specs.Summary.{record_lines}
+use Rattle.trial_run.specs.Summary.{record_lines}
 use Rattle.trial_run.specs.Trial.{IsTaken}
 use Rattle.trial_run.proofs.take.take_below.Given as goal
 

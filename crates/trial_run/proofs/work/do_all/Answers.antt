@@ -5,8 +5,8 @@ use Rattle.chip_trait.specs.Told.{adds_all}
 use Rattle.store_trait.proofs.OnwardLemmas.{further_onward}
 use Rattle.script_run.proofs.AlongLemmas.{along_none, along_more, along_then, along_stop}
 use Rattle.script_run.proofs.CompleteLemmas.{completes_none, completes_more, completes_then, completes_stop}
-use Rattle.trial_commands.specs.Words.{commands_from}
-use Rattle.trial_commands.proofs.WordLemmas.{commands_none}
+use Rattle.trial_run.specs.Words.{commands_from}
+use Rattle.trial_run.proofs.WordLemmas.{commands_none}
 use Rattle.trial_run.specs.Trial.{IsDone, IsCutShort}
 use Rattle.trial_run.proofs.SourceLemmas.{goes_none, goes_next, one_more, all_more}
 use Rattle.trial_run.proofs.DoneLemmas.{done_none, done_then, cut_then, cut_longer}

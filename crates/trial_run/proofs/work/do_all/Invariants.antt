@@ -5,7 +5,7 @@ use Rattle.store_trait.specs.Keeping.{WORK_DRAWS}
 use Rattle.script_run.specs.Goes.{KeepsSome}
 use Rattle.script_run.proofs.AlongLemmas.{SoFar}
 use Rattle.script_run.proofs.CompleteLemmas.{CompletesSoFar}
-use Rattle.trial_commands.specs.Words.{commands_from}
+use Rattle.trial_run.specs.Words.{commands_from}
 use Rattle.trial_run.specs.Trial.{IsDone}
 use Rattle.trial_run.proofs.SourceLemmas.{GoesOn}
 use Rattle.trial_run.proofs.work.do_all.Given as goal

@@ -3,12 +3,12 @@ use Rattle.std.proofs.lemmas.Result.{err_from_is_err_and}
 use Rattle.ipl_meaning.specs.Chart.{chart_of}
 use Rattle.unit_io.proofs.ReadsAtLemmas.{at_then, at_wider}
 use Rattle.ipl_base.specs.First.{first_below}
-use Rattle.opening_rules.specs.First.{joined_below}
-use Rattle.opening_rules.specs.LaidOut.{numbers_of}
-use Rattle.opening_rules.specs.Live.{sectors, commit_at}
-use Rattle.opening_rules.specs.Faults.{noted_fault, greatest_of_notes}
+use Rattle.opening_laws.specs.First.{joined_below}
+use Rattle.opening_laws.specs.LaidOut.{numbers_of}
+use Rattle.opening_laws.specs.Live.{sectors, commit_at}
+use Rattle.opening_laws.specs.Faults.{noted_fault, greatest_of_notes}
 use Rattle.ipl_base.proofs.FirstLemmas.{first_more, first_found}
-use Rattle.opening_rules.proofs.LiveLemmas.{sectors_are}
+use Rattle.opening_laws.proofs.LiveLemmas.{sectors_are}
 use Rattle.number_set.specs.Numbers.{with_numbers}
 use Rattle.txn_status.specs.ReadingIn.{under, IsAt, IsCommitSpot}
 use Rattle.txn_status.specs.Marks.{marks_below}

@@ -1,7 +1,7 @@
 use Rattle.ipl_rules.specs.Operations.{after_begin}
 use Rattle.ipl_rules.specs.Refusals.{refuses_begin}
 use Rattle.record_locks.specs.Standing.{state_of}
-use Rattle.store_steps.specs.Keeps.{limits_of}
+use Rattle.store_laws.specs.Keeps.{limits_of}
 use Rattle.ipl_store.specs.Calls.{early_fault, entry_fault}
 use Rattle.ipl_store.proofs.CallLemmas.{let_in}
 use Rattle.ipl_keys.specs.KeyState.{after_key_begin}

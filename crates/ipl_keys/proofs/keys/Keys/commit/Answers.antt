@@ -1,9 +1,9 @@
 use Rattle.std.specs.Prelude.{◌^◌}
-use Rattle.pending_writes.proofs.FitLemmas.{sessions_are_sound}
+use Rattle.store_laws.proofs.FitLemmas.{sessions_are_sound}
 use Rattle.ipl_rules.specs.Operations.{after_commit}
 use Rattle.ipl_rules.specs.Refusals.{refuses_end}
 use Rattle.record_locks.specs.Standing.{state_of}
-use Rattle.store_steps.specs.Keeps.{limits_of}
+use Rattle.store_laws.specs.Keeps.{limits_of}
 use Rattle.ipl_store.specs.Calls.{early_fault, entry_fault}
 use Rattle.ipl_store.proofs.CallLemmas.{let_in}
 use Rattle.ipl_keys.specs.KeyState.{after_key_commit}

@@ -1,6 +1,6 @@
 use Rattle.ipl_rules.specs.Refusals.{refuses_get}
 use Rattle.record_locks.specs.Standing.{state_of}
-use Rattle.store_steps.specs.Keeps.{limits_of}
+use Rattle.store_laws.specs.Keeps.{limits_of}
 use Rattle.ipl_store.specs.Calls.{early_fault, entry_fault}
 use Rattle.ipl_keys.proofs.ReadLemmas.{found_as, failed_as}
 use Rattle.ipl_keys.proofs.keys.Keys.see.Goals as goal

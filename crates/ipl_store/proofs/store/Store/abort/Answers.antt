@@ -3,7 +3,7 @@ use Rattle.std.proofs.lemmas.Result.{err_from_is_err_and}
 use Rattle.ipl_rules.specs.Operations.{after_abort}
 use Rattle.ipl_rules.specs.Refusals.{refuses_end}
 use Rattle.record_locks.specs.Standing.{state_of}
-use Rattle.store_steps.specs.Keeps.{limits_of}
+use Rattle.store_laws.specs.Keeps.{limits_of}
 use Rattle.ipl_store.specs.Calls.{early_fault, down_fault}
 use Rattle.ipl_store.proofs.CallLemmas.{let_in_down, memory_calls, calls_refused, ended_unworn}
 use Rattle.ipl_store.proofs.store.Store.abort.Goals as goal

@@ -3,8 +3,8 @@ use Rattle.std.proofs.lemmas.Result.{err_from_is_err_and}
 use Rattle.ipl_rules.specs.Operations.{after_commit}
 use Rattle.ipl_rules.specs.Refusals.{refuses_end}
 use Rattle.record_locks.specs.Standing.{state_of}
-use Rattle.store_steps.specs.Keeps.{limits_of}
-use Rattle.store_steps.proofs.RefusalLemmas.{one_is_open}
+use Rattle.store_laws.specs.Keeps.{limits_of}
+use Rattle.store_laws.proofs.RefusalLemmas.{one_is_open}
 use Rattle.ipl_store.specs.Calls.{early_fault, entry_fault}
 use Rattle.ipl_store.proofs.CallLemmas.{early_unworn, let_in, turns_move, moved_calls, kept_holds, kept_framed, ended_asks, calls_refused}
 use Rattle.transactions.specs.Costs.{CommitAsks}

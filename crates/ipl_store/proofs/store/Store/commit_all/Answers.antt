@@ -3,7 +3,7 @@ use Rattle.std.proofs.lemmas.Result.{err_from_is_err_and}
 use Rattle.ipl_rules.specs.Operations.{after_batch}
 use Rattle.ipl_rules.specs.Refusals.{refuses_batch}
 use Rattle.record_locks.specs.Standing.{state_of}
-use Rattle.store_steps.specs.Keeps.{limits_of}
+use Rattle.store_laws.specs.Keeps.{limits_of}
 use Rattle.ipl_store.specs.Calls.{early_fault, entry_fault}
 use Rattle.ipl_store.proofs.CallLemmas.{calls_refused, early_unworn, let_in, turns_move, moved_calls, kept_holds, kept_framed, ended_asks}
 use Rattle.transactions.specs.Costs.{CommitAsks}

@@ -2,8 +2,8 @@ use Rattle.std.proofs.Common.{◌≡◌, ◌∙◌, None, sym, ap, Some, Err, re
 use Rattle.std.proofs.lemmas.Result.{err_from_is_err_and}
 use Rattle.ipl_base.specs.Places.{home_of}
 use Rattle.ipl_rules.specs.Operations.{after_write}
-use Rattle.store_steps.specs.Keeps.{limits_of}
-use Rattle.store_steps.specs.Refusals.{sessions_refuse_del}
+use Rattle.store_laws.specs.Keeps.{limits_of}
+use Rattle.store_laws.specs.Refusals.{sessions_refuse_del}
 use Rattle.page_frames.proofs.UseLemmas.{none_leaves}
 use Rattle.transactions.specs.Costs.{AsksToWrite}
 use Rattle.ipl_store.specs.Calls.{early_fault, entry_fault, tells_wear}

@@ -3,10 +3,10 @@ use Rattle.std.proofs.lemmas.Result.{err_from_is_err_and}
 use Rattle.ipl_rules.specs.Refusals.{refuses_get}
 use Rattle.record_locks.specs.Held.{Slots, number_of}
 use Rattle.record_locks.specs.Standing.{state_of}
-use Rattle.store_steps.specs.Keeps.{limits_of}
+use Rattle.store_laws.specs.Keeps.{limits_of}
 use Rattle.ipl_base.specs.Places.{home_of}
 use Rattle.ipl_store.specs.Calls.{early_fault, entry_fault}
-use Rattle.store_steps.proofs.RefusalLemmas.{passed_gets}
+use Rattle.store_laws.proofs.RefusalLemmas.{passed_gets}
 use Rattle.ipl_store.proofs.CallLemmas.{early_unworn, let_in, on_ok}
 use Rattle.ipl_store.proofs.ShownLemmas.{looks_answered, let_in_fetches, refused_fetches, asks_nothing}
 use Rattle.ipl_store.proofs.store.Store.fetch.Goals as goal

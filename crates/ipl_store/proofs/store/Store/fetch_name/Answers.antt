@@ -1,6 +1,6 @@
 use Rattle.std.proofs.Common.{◌≡◌, ◌∙◌, None, Some, Err, sym, ap}
 use Rattle.std.proofs.lemmas.Result.{err_from_is_err_and}
-use Rattle.store_steps.specs.Keeps.{limits_of}
+use Rattle.store_laws.specs.Keeps.{limits_of}
 use Rattle.ipl_base.specs.Places.{home_of}
 use Rattle.ipl_store.specs.Calls.{early_fault, entry_fault, refuses_name}
 use Rattle.ipl_store.proofs.CallLemmas.{early_unworn}

@@ -5,10 +5,10 @@ use Rattle.ipl_rules.specs.Refusals.{refuses_share}
 use Rattle.record_locks.specs.Held.{Slots, number_of}
 use Rattle.record_locks.specs.Locks as locks
 use Rattle.record_locks.specs.Standing.{state_of}
-use Rattle.store_steps.specs.Keeps.{limits_of}
+use Rattle.store_laws.specs.Keeps.{limits_of}
 use Rattle.ipl_base.specs.Places.{home_of}
 use Rattle.ipl_store.specs.Calls.{early_fault, entry_fault}
-use Rattle.store_steps.proofs.RefusalLemmas.{passed_shares}
+use Rattle.store_laws.proofs.RefusalLemmas.{passed_shares}
 use Rattle.ipl_store.proofs.CallLemmas.{early_unworn, let_in}
 use Rattle.ipl_store.proofs.ShownLemmas.{looks_answered, refused_fetches, failed_fetches, shared_fetches, asks_nothing}
 use Rattle.ipl_store.proofs.store.Store.fetch_shared.Goals as goal

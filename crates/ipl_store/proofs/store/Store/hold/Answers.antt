@@ -2,7 +2,7 @@ use Rattle.std.proofs.Common.{◌≡◌, ◌∙◌, None, Ok, Err, sym, ap, subs
 use Rattle.std.proofs.lemmas.Bool.{false≢true}
 use Rattle.std.proofs.lemmas.Result.{err_from_is_err_and}
 use Rattle.buffer_pool.proofs.HoldingLemmas.{as_many}
-use Rattle.pending_writes.specs.Frames.{Frames}
+use Rattle.store_laws.specs.Frames.{Frames}
 use Rattle.ipl_store.specs.declared.store.Store.{Store}
 use Rattle.ipl_store.specs.Calls.{early_fault, entry_fault, refuses_hold, tells_wear}
 use Rattle.ipl_store.specs.Shown.{CostsOnePage}

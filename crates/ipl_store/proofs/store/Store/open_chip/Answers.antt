@@ -3,7 +3,7 @@ use Rattle.std.proofs.lemmas.Result.{err_from_is_err_and}
 use Rattle.ipl_base.specs.Places.{KeepsUnits}
 use Rattle.ipl_store.specs.declared.store.Store.{Store}
 use Rattle.ipl_store.specs.Calls.{memory_of_store, IsMade}
-use Rattle.ipl_store.specs.Openings.{IsFresh}
+use Rattle.ipl_store.specs.Openings.{IsJustOpened}
 use Rattle.ipl_store.proofs.OpeningLemmas.{recovered, made_recovered, fresh_sound, fresh_opens, fresh_restarts}
 use Rattle.ipl_store.proofs.store.Store.open_chip.Given.{Over}
 use Rattle.ipl_store.proofs.store.Store.open_chip.Goals as goal
@@ -73,7 +73,7 @@ made g c =
     (c.forget.ensures.made places c.requires.sound.made) c.recover-recovered.ensures.sized
     (counted g c)
 
-fresh : (g : Over) (c : goal.After-self-2-1 g) → IsFresh (opened g c)
+fresh : (g : Over) (c : goal.After-self-2-1 g) → IsJustOpened (opened g c)
 fresh g c = record { up = refl; unclosed = c.forget.ensures.down.1; idle = c.forget.ensures.idle; empty = c.forget.ensures.empty }
 
 pub returns-clause-sound : goal.returns-clause-sound

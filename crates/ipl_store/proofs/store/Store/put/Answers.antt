@@ -1,9 +1,9 @@
 use Rattle.std.proofs.Common.{◌≡◌, ◌∙◌, List, ℕ, Some, None, Ok, false, sym, ap, subst, Err}
 use Rattle.std.proofs.lemmas.Result.{err_from_is_err_and}
 use Rattle.record_locks.specs.Held.{Slots, marks_in}
-use Rattle.pending_writes.specs.Room.{overfills_at}
-use Rattle.store_steps.specs.Keeps.{limits_of}
-use Rattle.store_steps.specs.Refusals.{sessions_refuse_put}
+use Rattle.store_laws.specs.Room.{overfills_at}
+use Rattle.store_laws.specs.Keeps.{limits_of}
+use Rattle.store_laws.specs.Refusals.{sessions_refuse_put}
 use Rattle.ipl_store.specs.Calls.{early_fault, entry_fault}
 use Rattle.ipl_store.specs.Puts.{found_room, put_fault}
 use Rattle.ipl_store.proofs.CallLemmas.{let_in}

@@ -1,6 +1,6 @@
 use Rattle.std.proofs.Common.{◌≡◌, ◌∙◌, None, sym, ap, subst, IsSome, Some, Err, refl}
 use Rattle.std.proofs.lemmas.Result.{err_from_is_err_and}
-use Rattle.pending_writes.specs.Frames.{Frames}
+use Rattle.store_laws.specs.Frames.{Frames}
 use Rattle.ipl_store.specs.Calls.{early_fault, down_fault, refuses_release}
 use Rattle.ipl_store.proofs.CallLemmas.{let_in_down, idle_calls, calls_refused, ended_unworn}
 use Rattle.ipl_store.proofs.HoldLemmas.{repooled_calls}

@@ -1,7 +1,7 @@
 use Rattle.std.proofs.Common.{inl, inr, sym, ◌∙◌, IsSome, subst}
 use Rattle.std.proofs.lemmas.Bool.{false≢true}
 use Rattle.place_taking.specs.Spending.{is_worn_out}
-use Rattle.pending_writes.specs.Frames.{Frames}
+use Rattle.store_laws.specs.Frames.{Frames}
 use Rattle.page_frames.proofs.AskLemmas.{used_asks, brought_asks}
 use Rattle.page_frames.proofs.UseLemmas.{used_upholds, used_framed, stays_for}
 use Rattle.page_frames.proofs.pages.Pages.bring.Goals as goal

@@ -1,8 +1,8 @@
 use Rattle.std.proofs.Common.{sym, ◌∙◌, ap, subst}
 use Rattle.std.proofs.lemmas.Result.{err_from_is_err_and}
-use Rattle.pending_writes.specs.Frames.{Frames, logs_of}
+use Rattle.store_laws.specs.Frames.{Frames, logs_of}
 use Rattle.frame_changes.specs.Views.{frame_in}
-use Rattle.page_frames.specs.Frames.{IsChosen, IsUnheld, MayGive}
+use Rattle.page_frames.specs.Frames.{IsVictimFor, IsUnheld, MayGive}
 use Rattle.page_frames.specs.Pages.{frames_in}
 use Rattle.page_frames.proofs.FrameLemmas.{emptied_out, emptied_none}
 use Rattle.page_frames.proofs.HeldLemmas.{unheld_frame}
@@ -17,7 +17,7 @@ returns-in_default-clause-upholds g c =
 pub write_out-requires-clause-unit : goal.write_out-requires-clause-unit
 write_out-requires-clause-unit g c =
     let pool = c.args.self.now.pool in
-    let chosen = subst (IsChosen pool) c.in-Some.is c.requires.chosen in
+    let chosen = subst (IsVictimFor pool) c.in-Some.is c.requires.chosen in
     let unheld : IsUnheld pool c.in-Some.unit c.in-Some.page = chosen.2 in
     c.requires.ready.within c.in-Some.unit c.in-Some.page (frame_in unheld.buffer)
     (unheld_frame pool c.in-Some.unit c.in-Some.page c.facts.ensures.once unheld)
@@ -43,7 +43,7 @@ returns-clause-may g c =
     let unit = c.in-Some.unit in
     let page = c.in-Some.page in
     let is = c.in_ok-write_out.ensures in
-    let chosen = subst (IsChosen old) c.in-Some.is c.requires.chosen in
+    let chosen = subst (IsVictimFor old) c.in-Some.is c.requires.chosen in
     subst (MayGive new) (sym c.in-Some.is) (
       chosen.1,
       leaves_unheld old new unit page c.facts.ensures.once c.facts-2.ensures.once is.upholds.pins

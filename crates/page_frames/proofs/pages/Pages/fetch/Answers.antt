@@ -6,8 +6,8 @@ use Rattle.ipl_meaning.specs.Tables.{Tables}
 use Rattle.place_taking.specs.Spending.{is_worn_out}
 use Rattle.page_ops.specs.Frames.{empty_frame}
 use Rattle.buffer_pool.specs.Pools.{PoolView}
-use Rattle.pending_writes.specs.Frames.{Frames, logs_of}
-use Rattle.store_steps.specs.Views.{frame_of}
+use Rattle.store_laws.specs.Frames.{Frames, logs_of}
+use Rattle.store_laws.specs.Views.{frame_of}
 use Rattle.frame_changes.specs.Views.{frames_of}
 use Rattle.page_frames.specs.declared.pages.Pages.{Pages}
 use Rattle.page_frames.specs.Faulty.{FailsAsPage}

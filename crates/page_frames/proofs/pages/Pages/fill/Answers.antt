@@ -2,10 +2,10 @@ use Rattle.std.proofs.Common.{[], refl, ◌∙◌, ap, Ok, Err}
 use Rattle.buffer_pool.proofs.HoldingLemmas.{both_keep}
 use Rattle.buffer_pool.proofs.UseLemmas.{kept_uses_are_last, same_counts}
 use Rattle.page_ops.specs.Frames.{empty_frame}
-use Rattle.pending_writes.specs.Frames.{Frames, logs_of}
+use Rattle.store_laws.specs.Frames.{Frames, logs_of}
 use Rattle.frame_changes.specs.Views.{frames_of}
 use Rattle.unit_io.specs.ReadsAt.{Anywhere}
-use Rattle.store_steps.specs.Views.{frame_of}
+use Rattle.store_laws.specs.Views.{frame_of}
 use Rattle.page_frames.specs.Pages.{frames_in}
 use Rattle.page_frames.specs.Filling.{with_pool}
 use Rattle.page_frames.proofs.HeldLemmas.{taken_log}

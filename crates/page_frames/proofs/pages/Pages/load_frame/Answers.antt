@@ -8,8 +8,8 @@ use Rattle.ipl_format.specs.Record.{Record}
 use Rattle.buffer_pool.specs.Lending.{with_frame}
 use Rattle.frame_changes.proofs.FrameLemmas.{loans_change_a_frame}
 use Rattle.frame_changes.proofs.PutLemmas.{stored_then, frame_pins, frame_uses}
-use Rattle.pending_writes.specs.Frames.{with_frame_at}
-use Rattle.store_steps.specs.Views.{frame_of}
+use Rattle.store_laws.specs.Frames.{with_frame_at}
+use Rattle.store_laws.specs.Views.{frame_of}
 use Rattle.page_frames.specs.Pages.{tables_in, frames_in}
 use Rattle.page_frames.proofs.HeldLemmas.{unheld_page, has_log}
 use Rattle.page_frames.proofs.CompleteLemmas.{load_completes}

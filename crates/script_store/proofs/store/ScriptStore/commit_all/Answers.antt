@@ -6,7 +6,7 @@ use Rattle.ipl_rules.specs.Refusals.{refuses_batch}
 use Rattle.ipl_rules.specs.Operations.{after_batch}
 use Rattle.record_locks.specs.Standing.{state_of}
 use Rattle.store_trait.specs.declared.fault.Fault.{Fault}
-use Rattle.store_steps.specs.Keeps.{limits_of}
+use Rattle.store_laws.specs.Keeps.{limits_of}
 use Rattle.ipl_store.proofs.CallLemmas.{on_ok}
 use Rattle.script_store.specs.Keeps.{Does}
 use Rattle.script_store.proofs.WorkLemmas.{calls_do, never_down}

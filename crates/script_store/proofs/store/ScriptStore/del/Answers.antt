@@ -4,8 +4,8 @@ use Rattle.ipl_model.specs.declared.reply.Reply.{Reply}
 use Rattle.ipl_model.specs.declared.reply.Reply.TheVariants as reply
 use Rattle.ipl_rules.specs.Operations.{after_write}
 use Rattle.store_trait.specs.declared.fault.Fault.{Fault}
-use Rattle.store_steps.specs.Keeps.{limits_of}
-use Rattle.store_steps.specs.Refusals.{sessions_refuse_del}
+use Rattle.store_laws.specs.Keeps.{limits_of}
+use Rattle.store_laws.specs.Refusals.{sessions_refuse_del}
 use Rattle.ipl_store.proofs.CallLemmas.{on_ok}
 use Rattle.script_store.specs.Keeps.{Does}
 use Rattle.script_store.proofs.WorkLemmas.{calls_do}

@@ -1,5 +1,5 @@
 use Rattle.std.proofs.Common.{Bor, List, ℕ, option_map, sym, subst}
-use Rattle.store_steps.specs.Keeps.{limits_of}
+use Rattle.store_laws.specs.Keeps.{limits_of}
 use Rattle.ipl_store.specs.Calls.{early_fault, entry_fault, refuses_name}
 use Rattle.ipl_store.specs.Shown.{IsCommitted}
 use Rattle.script_store.proofs.SeeLemmas.{found_calls, failed_calls}

@@ -5,7 +5,7 @@ use Rattle.ipl_model.specs.Step.{found_reply}
 use Rattle.ipl_rules.specs.Refusals.{refuses_get}
 use Rattle.record_locks.specs.Standing.{state_of}
 use Rattle.store_trait.specs.declared.fault.Fault.{Fault}
-use Rattle.store_steps.specs.Keeps.{limits_of}
+use Rattle.store_laws.specs.Keeps.{limits_of}
 use Rattle.script_store.specs.Keeps.{Does}
 use Rattle.script_store.specs.Done.{SaysSeen}
 use Rattle.script_store.proofs.DoneLemmas.{seen_done}

@@ -4,7 +4,7 @@ use Rattle.ipl_model.specs.declared.reply.Reply.{Reply}
 use Rattle.ipl_model.specs.declared.reply.Reply.TheVariants as reply
 use Rattle.ipl_rules.specs.Refusals.{refuses_merge}
 use Rattle.store_trait.specs.declared.fault.Fault.{Fault}
-use Rattle.store_steps.specs.Keeps.{limits_of}
+use Rattle.store_laws.specs.Keeps.{limits_of}
 use Rattle.ipl_store.specs.Calls.{ends_worn_out}
 use Rattle.ipl_store.proofs.CallLemmas.{on_ok}
 use Rattle.script_store.specs.declared.store.ScriptStore.{ScriptStore}

@@ -1,6 +1,6 @@
 use Rattle.std.proofs.Common.{sym, ◌∙◌}
 use Rattle.std.proofs.lemmas.Option.{none-some}
-use Rattle.pending_writes.specs.Frames.{IsAbortedFrame}
+use Rattle.store_laws.specs.Frames.{IsAbortedFrame}
 use Rattle.transactions.proofs.FramedLemmas.{named_framed}
 use Rattle.transactions.proofs.OpenLemmas.{ends_numbered}
 use Rattle.transactions.proofs.SessionLemmas.{aborted}

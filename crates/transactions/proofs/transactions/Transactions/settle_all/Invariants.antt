@@ -1,6 +1,6 @@
 use Rattle.std.proofs.Common.{◌≡◌, take}
 use Rattle.buffer_pool.specs.Holding.{KeepsPins}
-use Rattle.store_steps.specs.NamedFrames.{SettleInTurn}
+use Rattle.store_laws.specs.NamedFrames.{SettleInTurn}
 use Rattle.page_frames.specs.Pages.{frames_in}
 use Rattle.transactions.proofs.transactions.Transactions.settle_all.Given as goal
 

@@ -11,7 +11,7 @@ use Rattle.ipl_format.specs.Record.{Record}
 use Rattle.ipl_rules.specs.Operations.{after_write}
 use Rattle.log_records.specs.View.{change_of}
 use Rattle.log_records.specs.declared.record.Change.{Change}
-use Rattle.pending_writes.specs.Frames.{IsWrittenFrame}
+use Rattle.store_laws.specs.Frames.{IsWrittenFrame}
 use Rattle.record_locks.specs.Held.{after_write as after_slots}
 use Rattle.record_locks.specs.Locks.{refuses_write}
 use Rattle.transactions.proofs.OpenLemmas.{writes_numbered, unrefused_done}

@@ -1,5 +1,0 @@
-pub mod ListLemmas
-pub mod SpotLemmas
-pub mod LogLemmas
-pub mod OpenedLemmas
-pub mod MaskLemmas

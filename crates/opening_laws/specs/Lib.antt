@@ -1,0 +1,17 @@
+pub mod First
+pub mod Payloads
+pub mod Chosen
+pub mod FirstLaws
+pub mod PayloadLaws
+pub mod ChosenLaws
+pub mod Live
+pub mod LiveLaws
+pub mod Faults
+pub mod LaidOut
+pub mod Laws
+pub mod FaultLaws
+pub mod CauseLaws
+pub mod Marked
+pub mod MarkedLaws
+pub mod Found
+pub mod Opened

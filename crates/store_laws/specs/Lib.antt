@@ -1,0 +1,16 @@
+pub mod Pending
+pub mod Room
+pub mod PendingLaws
+pub mod Frames
+pub mod FrameLaws
+pub mod Fits
+pub mod FittingLaws
+pub mod StepLaws
+pub mod Advances
+pub mod Numbers
+pub mod NamedFrames
+pub mod Views
+pub mod Laws
+pub mod SessionLaws
+pub mod Keeps
+pub mod Refusals

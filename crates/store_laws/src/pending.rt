@@ -1,0 +1,95 @@
+//! The laws of pending writes.
+ghost use Rattle.store_laws.specs.PendingLaws.{BeginsKeepPending, SharesKeepPending, WritesKeepPending, LogSectorsKeepPending, MergesKeepPending, SameLogsKeepPending, RenewalsKeepPending, CommitsKeepPending, CommitsSayWrites, BatchesKeepPending, BatchesSayWrites, AbortsKeepPending, RestartsLeaveNone, RecordsStayPending, RecordsAreWrites, ChangedPagesSuffice, RecordsWeighNoMore};
+ghost use Rattle.store_laws.specs.FrameLaws.{FramesTell, LoadsMakeFrames, BeginsKeepFrames, WritesKeepFrames, OtherWritesKeepFrames, LogSectorsKeepFrames, MergesKeepFrames, OtherStepsKeepFrames, CommitsKeepFrames, AbortsKeepFrames};
+ghost use Rattle.store_laws.specs.FittingLaws.{SparesAreFreeOrRetired, APlaceIsFree, FitsWhateverTheMap, SessionsAreSound, WrittenPagesFit, LoadedPagesFit, FramesKeepMarks, MarksTellFullPages, PutsThatPassHaveRoom, SameValuesHaveRoom, MergesAreSmall, RestingPagesSay, RestingPagesKeep, FittingFramesTell, FittingContentsTell, EmptySlotsAreAtRest, FirstStoresFit};
+ghost use Rattle.store_laws.specs.StepLaws.{BeginsFit, SharesFit, WritesFit, AbortsFit, SessionNumbersFit, LoadsFit, EvictionsFit, OpeningsFit, LogSectorsFit, MergesFit, OtherStepsFit, RenewalsFit, BatchesFit};
+
+/// After each step of a store the records on the chip and in memory say what its open sessions
+/// wrote; a commit makes of the map what the writes of its session do, and one of several sessions
+/// what theirs do one after the other; and a record of an open session weighs no more than its name.
+pub fn pending_laws()
+    ensures begins { BeginsKeepPending }
+    ensures shares { SharesKeepPending }
+    ensures writes { WritesKeepPending }
+    ensures log_sectors { LogSectorsKeepPending }
+    ensures merges { MergesKeepPending }
+    ensures same_logs { SameLogsKeepPending }
+    ensures renewals { RenewalsKeepPending }
+    ensures commits { CommitsKeepPending }
+    ensures says { CommitsSayWrites }
+    ensures batches { BatchesKeepPending }
+    ensures batches_say { BatchesSayWrites }
+    ensures aborts { AbortsKeepPending }
+    ensures restarts { RestartsLeaveNone }
+
+    // of the records in memory alone
+    ensures in_memory { RecordsStayPending }
+
+    // what follows
+    ensures written { RecordsAreWrites }
+    ensures changed { ChangedPagesSuffice }
+    ensures weighed { RecordsWeighNoMore }
+{}
+
+/// A frame tells what each session sees of its page, and each step keeps it so.
+pub fn frame_laws()
+    ensures tells { FramesTell }
+    ensures loads { LoadsMakeFrames }
+    ensures begins { BeginsKeepFrames }
+    ensures writes { WritesKeepFrames }
+    ensures other_writes { OtherWritesKeepFrames }
+    ensures log_sectors { LogSectorsKeepFrames }
+    ensures merges { MergesKeepFrames }
+    ensures other_steps { OtherStepsKeepFrames }
+    ensures commits { CommitsKeepFrames }
+    ensures aborts { AbortsKeepFrames }
+{}
+
+/// What a store gives whose memory and chip stand for a state: a free place, as long as no more are
+/// retired than are spare, one writer of each name, room in the pages that sessions wrote, also with what is pending there, whether a put
+/// finds its page full, merges that have room, pages that say the map, and frames that tell it.
+/// And that there is one.
+pub fn fitting_laws()
+    ensures spares { SparesAreFreeOrRetired }
+    ensures free { APlaceIsFree }
+    ensures any_map { FitsWhateverTheMap }
+    ensures sound { SessionsAreSound }
+    ensures small { MergesAreSmall }
+    ensures says { RestingPagesSay }
+    ensures keeps { RestingPagesKeep }
+    ensures tells { FittingFramesTell }
+    ensures contents_tell { FittingContentsTell }
+
+    // room in pages
+    ensures written { WrittenPagesFit }
+    ensures loaded { LoadedPagesFit }
+    ensures marks { FramesKeepMarks }
+    ensures full { MarksTellFullPages }
+    ensures room { PutsThatPassHaveRoom }
+    ensures same_room { SameValuesHaveRoom }
+
+    // that it can be met
+    ensures at_rest { EmptySlotsAreAtRest }
+    ensures first { FirstStoresFit }
+{}
+
+/// Memory and chip stand for the state after each step in memory.
+pub fn memory_laws()
+    ensures begins { BeginsFit }
+    ensures shares { SharesFit }
+    ensures writes { WritesFit }
+    ensures aborts { AbortsFit }
+    ensures numbers { SessionNumbersFit }
+    ensures loads { LoadsFit }
+    ensures evictions { EvictionsFit }
+    ensures openings { OpeningsFit }
+{}
+
+/// Memory and chip stand for the state after each step on the chip.
+pub fn chip_laws()
+    ensures log_sectors { LogSectorsFit }
+    ensures merges { MergesFit }
+    ensures others { OtherStepsFit }
+    ensures renewals { RenewalsFit }
+    ensures batches { BatchesFit }
+{}

@@ -1,3 +1,0 @@
-pub mod WordLemmas
-mod CountLemmas
-mod ListLemmas

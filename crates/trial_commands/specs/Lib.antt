@@ -1,4 +1,0 @@
-pub mod Words
-pub mod Source
-pub mod Summary
-pub mod Laws
