@@ -13,3 +13,7 @@ pub mod Scanned
 pub mod Filled
 pub mod Shown
 pub mod Opened
+pub mod Memory
+pub mod Rest
+pub mod Finds
+pub mod LogSpots

@@ -8,10 +8,9 @@ ghost use Rattle.opening_laws.specs.Chosen.{units_told};
 ghost use Rattle.opening_laws.specs.Live.{sectors};
 ghost use Rattle.opening_laws.specs.Faults.{TellsImageFault, noted_fault, greatest_of_notes};
 ghost use Rattle.ipl_format.specs.Whole.{IsWhole};
-ghost use Rattle.unit_io.specs.ReadsAt.{ReadsOnce};
 ghost use Rattle.txn_status.specs.ReadingIn.{status_in, IsCommitSpot};
 ghost use Rattle.txn_status.specs.Marks.{marks_in};
-ghost use Rattle.restart.specs.Looks.{OnlyLooksAt, HasCauseFor};
+ghost use Rattle.restart.specs.Looks.{LooksOnce, HasCauseFor};
 
 use crate::kept::Winner;
 use chip_trait::Chip;
@@ -43,8 +42,8 @@ pub(crate) fn read_commits<C: Chip>(
         (chart_of x) (Some winner.now)) sectors) result) }
     ensures whole { OnOk result (OfContents (C.told chip.old) (λ x.
         (s : ℕ) → 1 ≤ s → s < 256 → IsWhole (x winner.now.place s))) }
-    ensures looks { OnlyLooksAt (HasCauseFor false) result (C.told chip.old) (C.told chip.new) }
-    ensures once { ReadsOnce (IsCommitSpot winner.now.place) (C.told chip.old) (C.told chip.new) }
+    ensures looks { LooksOnce (IsCommitSpot winner.now.place) (HasCauseFor false) result
+        (C.told chip.old) (C.told chip.new) }
 {
     let units = winner.units(geometry);
     let generation = winner.header().generation();

@@ -1,32 +1,28 @@
 //! Log sectors are read where they may stand.
-ghost use Rattle.std.specs.Prelude.{◌≡◌, ◌<◌, ◌≤◌, ◌+◌, ◌*◌, ℕ, List, [], true, false, max, length, Option, Some, IfOk, IfErr, IfSome, OnOk};
-ghost use Rattle.std.specs.Option.{option_map};
+ghost use Rattle.std.specs.Prelude.{◌≡◌, ◌<◌, ◌≤◌, ◌+◌, ◌*◌, ℕ, List, [], true, false, max, length, Some, IfOk, IfErr, IfSome, OnOk};
 ghost use Rattle.ipl_base.specs.declared.limits.TheConstants.{OVERFLOW_SECTORS, PAYLOAD_LEN};
 ghost use Rattle.ipl_base.specs.Places.{KeepsUnits};
 ghost use Rattle.sector_format.specs.Decode.{sector_of};
-ghost use Rattle.ipl_format.specs.Sector.{Sector};
 ghost use Rattle.ipl_meaning.specs.Chart.{chart_of};
 ghost use Rattle.ipl_meaning.specs.Masks.{mask_of as pages_of};
-ghost use Rattle.log_records.specs.Reading.{records_of};
 ghost use Rattle.unit_io.specs.Reads.{OfContents};
 ghost use Rattle.unit_io.specs.Kinds.{sector_named};
 ghost use Rattle.unit_io.specs.Found.{checked};
 ghost use Rattle.kept_numbers.specs.Joins.{joined};
 ghost use Rattle.ipl_base.specs.First.{first_below};
-ghost use Rattle.opening_laws.specs.First.{at, with_one};
-ghost use Rattle.opening_laws.specs.Live.{kept, Mark, mark_of, is_log, is_log_spot, is_overflow_place, is_live};
+ghost use Rattle.opening_laws.specs.First.{at};
+ghost use Rattle.opening_laws.specs.Live.{kept, Mark, is_log, is_overflow_place, is_live};
 ghost use Rattle.opening_laws.specs.Payloads.{is_log_payload};
-ghost use Rattle.opening_laws.specs.Found.{mask_of_sector};
 ghost use Rattle.opening_laws.specs.Faults.{TellsImageFault, is_image, is_told, log_test, log_fault, log_number};
-ghost use Rattle.overflow.specs.Lists.{spots_in};
-ghost use Rattle.unit_io.specs.ReadsAt.{ReadsOnce};
 ghost use Rattle.txn_status.specs.ReadingIn.{IsAt};
-ghost use Rattle.restart.specs.Looks.{OnlyLooksAt, HasCauseFor, MayHoldLog};
-ghost use Rattle.restart.specs.Notes.{units_of, HasRoom, AreSized, overflow_count_of, listed, IsNoted, IsRoomy};
-ghost use Rattle.restart.specs.Masked.{SamePlaces, NoneNamed, masked, IsMasked};
+ghost use Rattle.restart.specs.Looks.{LooksOnce, HasCauseFor, MayHoldLog};
+ghost use Rattle.restart.specs.Notes.{units_of, AreSized, overflow_count_of, listed, IsNoted};
+ghost use Rattle.restart.specs.Masked.{SamePlaces, masked};
 ghost use Rattle.restart.specs.Collected.{records_at, AreKept};
 ghost use Rattle.restart.specs.Scanned.{IsScanned};
-ghost use Rattle.restart.specs.Counted.{SameHomes, StaysUnknown, AreHomes, AreReadLogs, seen_log, does_check, is_erased};
+ghost use Rattle.restart.specs.LogSpots.{MayScan, HaveRoom, KeepRoom, TakesLog, ReadsLogs};
+ghost use Rattle.restart.specs.Rest.{AreUnread};
+ghost use Rattle.restart.specs.Counted.{seen_log, does_check, is_erased};
 
 use crate::collecting::{Gathered, collect};
 use crate::kept::{Header, Winner};
@@ -119,38 +115,20 @@ fn take_log(
     payload: &[u8],
     fits: bool,
 ) -> Result<bool, ImageFault>
-    requires place { spot.place < length heads.now }
-    requires sector { spot.sector < 256 }
-    requires sized { AreSized (length current.now) (length heads.now) noted.old overflow.old }
-    requires units { length directory.old.current ≡ length current.now }
-    requires spot { is_log_spot (at heads.now) (at current.now) spot.place spot.sector ≡ true }
+    requires spot { MayScan heads.now current.now spot.place spot.sector }
+    requires room { HaveRoom heads.now current.now (spot.place * 256 + spot.sector)
+        noted.old directory.old overflow.old }
     requires fits { length payload.now ≤ PAYLOAD_LEN }
-    requires roomy { IsRoomy (at current.now) (spot.place * 256 + spot.sector)
-        noted.old overflow.old }
-    ensures fault { (marks : List Mark) → IsNoted noted.old overflow.old marks
-        → TellsImageFault (log_test (at heads.now) marks (spot.place * 256 + spot.sector)
+    ensures takes { TakesLog result heads.now current.now (spot.place * 256 + spot.sector)
         (kept (is_live (at heads.now) (at current.now) spot.place)
-        (Some (sector_of head.now payload.now)))) result }
-    ensures noted { OnOk result ((marks : List Mark) → IsNoted noted.old overflow.old marks
-        → IsNoted noted.new overflow.new (with_one marks
-        (option_map (mark_of (at heads.now) (spot.place * 256 + spot.sector))
-        (kept (is_live (at heads.now) (at current.now) spot.place)
-        (Some (sector_of head.now payload.now)))))) }
-    ensures masked { OnOk result ((found : ℕ → ℕ → ℕ)
-        → ((u : ℕ) → found u (spot.place * 256 + spot.sector) ≡ mask_of_sector u
-        (kept (is_live (at heads.now) (at current.now) spot.place)
-        (Some (sector_of head.now payload.now))))
-        → IsMasked (at heads.now) (at current.now) found (spot.place * 256 + spot.sector)
-        directory.old overflow.old
-        → IsMasked (at heads.now) (at current.now) found (spot.place * 256 + spot.sector + 1)
-        directory.new overflow.new) }
+        (Some (sector_of head.now payload.now)))
+        noted.old directory.old overflow.old noted.new directory.new overflow.new }
     ensures collected { IfOk result (λ all. (found : List ℕ) → AreKept found fits numbers.old
         → AreKept (joined status.now.numbers (records_at
         (kept (is_live (at heads.now) (at current.now) spot.place)
         (Some (sector_of head.now payload.now)))) found) all numbers.new) }
-    ensures roomy { OnOk result (IsRoomy (at current.now) (spot.place * 256 + spot.sector + 1)
-        noted.new overflow.new) }
-    ensures sized { AreSized (length current.now) (length heads.now) noted.new overflow.new }
+    ensures room { KeepRoom result heads.now current.now (spot.place * 256 + spot.sector + 1)
+        noted.new overflow.new }
     ensures places { SamePlaces directory.old directory.new }
     ensures image { IfErr result (λ e. is_told false e ≡ true) }
 {
@@ -180,31 +158,14 @@ fn take_found(
     bytes: &[u8; 512],
     gathered: Gathered,
 ) -> Result<Gathered, ImageFault>
-    requires place { spot.place < length heads.now }
-    requires sector { spot.sector < 256 }
-    requires sized { AreSized (length current.now) (length heads.now) noted.old overflow.old }
-    requires units { length directory.old.current ≡ length current.now }
-    requires spot { is_log_spot (at heads.now) (at current.now) spot.place spot.sector ≡ true }
-    requires roomy { IsRoomy (at current.now) (spot.place * 256 + spot.sector)
-        noted.old overflow.old }
+    requires spot { MayScan heads.now current.now spot.place spot.sector }
+    requires room { HaveRoom heads.now current.now (spot.place * 256 + spot.sector)
+        noted.old directory.old overflow.old }
     requires fits { IfSome found (λ it. it.1 ≤ PAYLOAD_LEN) }
-    ensures fault { (marks : List Mark) → IsNoted noted.old overflow.old marks
-        → TellsImageFault (log_test (at heads.now) marks (spot.place * 256 + spot.sector)
+    ensures takes { TakesLog result heads.now current.now (spot.place * 256 + spot.sector)
         (kept (is_live (at heads.now) (at current.now) spot.place)
-        (kept is_log (sector_named bytes.now found)))) result }
-    ensures noted { OnOk result ((marks : List Mark) → IsNoted noted.old overflow.old marks
-        → IsNoted noted.new overflow.new (with_one marks
-        (option_map (mark_of (at heads.now) (spot.place * 256 + spot.sector))
-        (kept (is_live (at heads.now) (at current.now) spot.place)
-        (kept is_log (sector_named bytes.now found)))))) }
-    ensures masked { OnOk result ((masks : ℕ → ℕ → ℕ)
-        → ((u : ℕ) → masks u (spot.place * 256 + spot.sector) ≡ mask_of_sector u
-        (kept (is_live (at heads.now) (at current.now) spot.place)
-        (kept is_log (sector_named bytes.now found))))
-        → IsMasked (at heads.now) (at current.now) masks (spot.place * 256 + spot.sector)
-        directory.old overflow.old
-        → IsMasked (at heads.now) (at current.now) masks (spot.place * 256 + spot.sector + 1)
-        directory.new overflow.new) }
+        (kept is_log (sector_named bytes.now found)))
+        noted.old directory.old overflow.old noted.new directory.new overflow.new }
     ensures number { IfOk result (λ all. all.greatest
         ≡ max gathered.greatest (log_number (kept is_log (sector_named bytes.now found)))) }
     ensures collected { IfOk result (λ all. (before : List ℕ)
@@ -212,9 +173,8 @@ fn take_found(
         → AreKept (joined status.now.numbers (records_at
         (kept (is_live (at heads.now) (at current.now) spot.place)
         (kept is_log (sector_named bytes.now found)))) before) all.fits numbers.new) }
-    ensures roomy { OnOk result (IsRoomy (at current.now) (spot.place * 256 + spot.sector + 1)
-        noted.new overflow.new) }
-    ensures sized { AreSized (length current.now) (length heads.now) noted.new overflow.new }
+    ensures room { KeepRoom result heads.now current.now (spot.place * 256 + spot.sector + 1)
+        noted.new overflow.new }
     ensures places { SamePlaces directory.old directory.new }
     ensures image { IfErr result (λ e. is_told false e ≡ true) }
 {
@@ -282,10 +242,8 @@ fn note_seen(
     spot: Spot,
     found: Found,
 )
-    requires place { spot.place < length heads.now }
-    requires sector { spot.sector < 256 }
     requires units { length directory.old.current ≡ length current.now }
-    requires spot { is_log_spot (at heads.now) (at current.now) spot.place spot.sector ≡ true }
+    requires spot { MayScan heads.now current.now spot.place spot.sector }
     ensures { directory.new ≡ seen_log (at heads.now spot.place) directory.old spot.sector
         (does_check found) (is_erased found) }
 {
@@ -315,10 +273,8 @@ fn scan_sector<C: Chip>(
     requires size { length heads.now ≡ (C.told chip.old).places }
     requires place { spot.place < length heads.now }
     requires sector { spot.sector < 256 }
-    requires sized { AreSized (length current.now) (length heads.now) noted.old overflow.old }
-    requires units { length directory.old.current ≡ length current.now }
-    requires roomy { IsRoomy (at current.now) (spot.place * 256 + spot.sector)
-        noted.old overflow.old }
+    requires room { HaveRoom heads.now current.now (spot.place * 256 + spot.sector)
+        noted.old directory.old overflow.old }
     ensures scanned { IfOk result (λ all. OfContents (C.told chip.old) (λ x. (least : ℕ)
         → IsScanned x (at heads.now) (at current.now) status.now.numbers least
         (spot.place * 256 + spot.sector) noted.old directory.old overflow.old numbers.old
@@ -333,18 +289,13 @@ fn scan_sector<C: Chip>(
         → is_image e ≡ true
         → first_below (log_fault (at heads.now) (at current.now) (chart_of x))
         (length heads.now * 256) ≡ Some e)) }
-    ensures roomy { OnOk result (IsRoomy (at current.now) (spot.place * 256 + spot.sector + 1)
-        noted.new overflow.new) }
-    ensures sized { AreSized (length current.now) (length heads.now) noted.new overflow.new }
-    ensures logs { OnOk result (OfContents (C.told chip.old) (λ x. (mark : Option Sector)
-        → AreHomes (at heads.now) (at current.now)
-        → AreReadLogs x mark (at current.now) (length current.now) (spot.place * 256 + spot.sector) directory.old
-        → AreReadLogs x mark (at current.now) (length current.now) (spot.place * 256 + spot.sector + 1) directory.new)) }
-    ensures unknown { StaysUnknown directory.old directory.new }
-    ensures places { SameHomes directory.old directory.new }
-    ensures looks { OnlyLooksAt (HasCauseFor false) result (C.told chip.old) (C.told chip.new) }
-    ensures once { ReadsOnce (λ p s. IsAt spot.place spot.sector p s
-        × MayHoldLog (at heads.now) (at current.now) p s) (C.told chip.old) (C.told chip.new) }
+    ensures room { KeepRoom result heads.now current.now (spot.place * 256 + spot.sector + 1)
+        noted.new overflow.new }
+    ensures logs { ReadsLogs result (C.told chip.old) heads.now current.now
+        (spot.place * 256 + spot.sector) (spot.place * 256 + spot.sector + 1) directory.old directory.new }
+    ensures looks { LooksOnce (λ p s. IsAt spot.place spot.sector p s
+        × MayHoldLog (at heads.now) (at current.now) p s)
+        (HasCauseFor false) result (C.told chip.old) (C.told chip.new) }
 {
     if !may_hold_log(heads, current, spot.place, spot.sector) {
         return Ok(gathered);
@@ -374,9 +325,8 @@ fn scan_place<C: Chip>(
 ) -> Result<Gathered, ImageFault>
     requires size { length heads.now ≡ (C.told chip.old).places }
     requires place { place < length heads.now }
-    requires sized { AreSized (length current.now) (length heads.now) noted.old overflow.old }
-    requires units { length directory.old.current ≡ length current.now }
-    requires roomy { IsRoomy (at current.now) (place * 256) noted.old overflow.old }
+    requires room { HaveRoom heads.now current.now (place * 256)
+        noted.old directory.old overflow.old }
     ensures scanned { IfOk result (λ all. OfContents (C.told chip.old) (λ x. (base : ℕ)
         → IsScanned x (at heads.now) (at current.now) status.now.numbers base (place * 256)
         noted.old directory.old overflow.old numbers.old before.fits before.greatest
@@ -388,18 +338,11 @@ fn scan_place<C: Chip>(
         → is_image e ≡ true
         → first_below (log_fault (at heads.now) (at current.now) (chart_of x))
         (length heads.now * 256) ≡ Some e)) }
-    ensures roomy { OnOk result (IsRoomy (at current.now) ((place + 1) * 256)
-        noted.new overflow.new) }
-    ensures sized { AreSized (length current.now) (length heads.now) noted.new overflow.new }
-    ensures logs { OnOk result (OfContents (C.told chip.old) (λ x. (mark : Option Sector)
-        → AreHomes (at heads.now) (at current.now)
-        → AreReadLogs x mark (at current.now) (length current.now) (place * 256) directory.old
-        → AreReadLogs x mark (at current.now) (length current.now) ((place + 1) * 256) directory.new)) }
-    ensures unknown { StaysUnknown directory.old directory.new }
-    ensures places { SameHomes directory.old directory.new }
-    ensures looks { OnlyLooksAt (HasCauseFor false) result (C.told chip.old) (C.told chip.new) }
-    ensures once { ReadsOnce (λ p s. (p ≡ place) × MayHoldLog (at heads.now) (at current.now) p s)
-        (C.told chip.old) (C.told chip.new) }
+    ensures room { KeepRoom result heads.now current.now ((place + 1) * 256) noted.new overflow.new }
+    ensures logs { ReadsLogs result (C.told chip.old) heads.now current.now
+        (place * 256) ((place + 1) * 256) directory.old directory.new }
+    ensures looks { LooksOnce (λ p s. (p ≡ place) × MayHoldLog (at heads.now) (at current.now) p s)
+        (HasCauseFor false) result (C.told chip.old) (C.told chip.new) }
 {
     let mut gathered = before;
     for sector in 0..256 {
@@ -430,10 +373,7 @@ pub(crate) fn scan<C: Chip>(
     requires size { geometry.places ≡ (C.told chip.old).places }
     requires heads { length heads.now ≡ geometry.places }
     requires keeps { KeepsUnits geometry.places (length current.now) }
-    requires noted { HasRoom geometry.places noted.old }
-    requires overflow { overflow.old.places ≡ geometry.places }
-    requires units { length directory.old.current ≡ length current.now }
-    requires blank { NoneNamed (length current.now) directory.old }
+    requires tables { AreUnread geometry.places (length current.now) noted.old directory.old overflow.old }
     ensures scanned { IfOk result (λ all. OfContents (C.told chip.old) (λ x.
         IsScanned x (at heads.now) (at current.now) status.now.numbers least (geometry.places * 256)
         noted.new directory.new overflow.new numbers.new all.fits all.greatest)) }
@@ -442,15 +382,10 @@ pub(crate) fn scan<C: Chip>(
         ≡ Some e)) }
     ensures none { OnOk result (overflow.new.in_use ≡ []) }
     ensures sized { AreSized (length current.now) geometry.places noted.new overflow.new }
-    ensures logs { OnOk result (OfContents (C.told chip.old) (λ x. (mark : Option Sector)
-        → AreHomes (at heads.now) (at current.now)
-        → AreReadLogs x mark (at current.now) (length current.now) (0) directory.old
-        → AreReadLogs x mark (at current.now) (length current.now) (geometry.places * 256) directory.new)) }
-    ensures unknown { StaysUnknown directory.old directory.new }
-    ensures places { SameHomes directory.old directory.new }
-    ensures looks { OnlyLooksAt (HasCauseFor false) result (C.told chip.old) (C.told chip.new) }
-    ensures once { ReadsOnce (MayHoldLog (at heads.now) (at current.now))
-        (C.told chip.old) (C.told chip.new) }
+    ensures logs { ReadsLogs result (C.told chip.old) heads.now current.now 0 (geometry.places * 256)
+        directory.old directory.new }
+    ensures looks { LooksOnce (MayHoldLog (at heads.now) (at current.now))
+        (HasCauseFor false) result (C.told chip.old) (C.told chip.new) }
 {
     noted.clear();
     overflow.set_units(current.len() as u32);

@@ -1,33 +1,28 @@
 //! The opening of a chip.
-ghost use Rattle.std.specs.Prelude.{◌≡◌, ◌≢◌, ◌<◌, ◌≤◌, ◌+◌, ◌*◌, ◌^◌, ℕ, [], true, false, length, Some, None, IfOk, IfErr, OnOk};
-ghost use Rattle.chip_trait.specs.Told.{Told};
-ghost use Rattle.ipl_base.specs.Places.{KeepsUnits, units_on};
+ghost use Rattle.std.specs.Prelude.{◌≡◌, ◌<◌, ◌≤◌, ◌+◌, ◌^◌, ℕ, true, false, length, Some, None, IfOk, IfErr, OnOk};
+ghost use Rattle.ipl_base.specs.Places.{units_on};
 ghost use Rattle.ipl_base.specs.declared.fault.ImageFault.TheVariants.{Spent};
 ghost use Rattle.ipl_meaning.specs.Chart.{chart_of};
 ghost use Rattle.ipl_meaning.specs.Layout.{Laid};
 ghost use Rattle.ipl_meaning.specs.Mirrors.{Mirrors};
 ghost use Rattle.unit_io.specs.Reads.{OfContents};
-ghost use Rattle.opening_laws.specs.First.{at, count_below};
-ghost use Rattle.opening_laws.specs.Chosen.{units_told};
-ghost use Rattle.opening_laws.specs.Live.{marks as live_marks};
+ghost use Rattle.opening_laws.specs.First.{at};
 ghost use Rattle.opening_laws.specs.Faults.{TellsImageFault, header_fault, fault_for, first_fault, shape_fault, greatest_found};
 ghost use Rattle.opening_laws.specs.Laws.{IsByteChart};
 ghost use Rattle.opening_laws.specs.LaidOut.{layout_in};
 ghost use Rattle.ipl_format.specs.Whole.{IsWhole};
 ghost use Rattle.restart.specs.Bytes.{IsRestWhole, ReadsBytes, ReadsBytesFor};
 ghost use Rattle.unit_io.specs.ReadsAt.{Anywhere, ReadsOnce};
-ghost use Rattle.restart.specs.Looks.{OnlyLooksAt, HasCause, HasCauseFor, IsHeaderSpot, IsBehindHeader, MayHoldLog};
-ghost use Rattle.txn_status.specs.ReadingIn.{status_in};
+ghost use Rattle.restart.specs.Looks.{OnlyLooksAt, LooksOnce, HasCause, HasCauseFor, IsHeaderSpot, IsBehindHeader, MayHoldLog};
+ghost use Rattle.restart.specs.Memory.{HasScratch, AreMadeFor, KeepsMemory, KeepsPlaces};
+ghost use Rattle.restart.specs.Rest.{HaveHeaders, AreUnread, FindsRest, FillsTables};
+ghost use Rattle.restart.specs.Finds.{FindsStore};
 ghost use Rattle.merge_laws.specs.Known.{KnowsPlaces};
-ghost use Rattle.opening_laws.specs.Opened.{AreOpened, tables_of};
-ghost use Rattle.restart.specs.Notes.{HasRoom, AreSized, IsNoted};
+ghost use Rattle.opening_laws.specs.Opened.{tables_of};
+ghost use Rattle.restart.specs.Notes.{HasRoom};
 ghost use Rattle.restart.specs.Kept.{counted_in};
-ghost use Rattle.restart.specs.Masked.{NoneNamed, mask_by, IsMasked};
-ghost use Rattle.restart.specs.Counted.{SameHomes, NoneKnown, AreHomes, AreReadLogs};
-ghost use Rattle.opening_laws.specs.Marked.{last_close_mark};
-ghost use Rattle.restart.specs.Shown.{ShowsHeaders, HeadersCount, is_held, number_by, fault_by};
-ghost use Rattle.restart.specs.Opened.{HasFree, IsUnmarked, CountsMarked};
-ghost use Rattle.restart.specs.Collected.{numbers_below, AreKept, AreCollected};
+ghost use Rattle.restart.specs.Counted.{NoneKnown};
+ghost use Rattle.restart.specs.Shown.{ShowsHeaders, HeadersCount, fault_by};
 
 use crate::choosing::choose;
 use crate::collecting::Gathered;
@@ -58,9 +53,7 @@ fn read_headers<C: Chip>(
     table: &mut [Option<Winner>],
     kept: &mut HeadSector,
 ) -> Result<Winner, ImageFault>
-    requires size { geometry.places ≡ (C.told chip.old).places }
-    requires heads { length heads.old ≡ geometry.places }
-    requires table { length table.old ≡ units_on geometry.places }
+    requires scratch { HasScratch geometry.places (C.told chip.old) heads.old table.old }
     ensures shown { IfOk result (λ status. OfContents (C.told chip.old) (λ x. ShowsHeaders
         (chart_of x) geometry.places heads.new (counted_in geometry.places status table.new) status)) }
     ensures counts { IfOk result (λ status.
@@ -71,8 +64,7 @@ fn read_headers<C: Chip>(
         TellsImageFault (header_fault (chart_of x) geometry.places) result) }
     ensures whole { OnOk result (OfContents (C.told chip.old) (λ x.
         (p : ℕ) → p < geometry.places → IsWhole (x p 0))) }
-    ensures looks { OnlyLooksAt (HasCauseFor false) result (C.told chip.old) (C.told chip.new) }
-    ensures once { ReadsOnce IsHeaderSpot (C.told chip.old) (C.told chip.new) }
+    ensures looks { LooksOnce IsHeaderSpot (HasCauseFor false) result (C.told chip.old) (C.told chip.new) }
     ensures size { length table.new ≡ length table.old }
 {
     let status = read_heads(chip, geometry, heads, kept)?;
@@ -100,48 +92,19 @@ fn read_rest<C: Chip>(
     marks: bool,
     draws: bool,
 ) -> Result<Gathered, ImageFault>
-    requires size { geometry.places ≡ (C.told chip.old).places }
-    requires heads { length heads.now ≡ geometry.places }
-    requires keeps { KeepsUnits geometry.places (length current.now) }
-    requires noted { HasRoom geometry.places noted.old }
-    requires overflow { overflow.old.places ≡ geometry.places }
-    requires units { length directory.old.current ≡ length current.now }
-    requires blank { NoneNamed (length current.now) directory.old }
+    requires headers { HaveHeaders geometry.places (C.told chip.old) heads.now current.now winner.now }
+    requires tables { AreUnread geometry.places (length current.now) noted.old directory.old overflow.old }
     requires unknown { NoneKnown (length current.now) directory.old }
-    requires winner { winner.now.place < geometry.places }
-    requires told { length current.now ≡ units_told geometry.places (Some winner.now) }
     ensures fault { OfContents (C.told chip.old) (λ x. TellsImageFault
         (fault_by draws (chart_of x) (at heads.now) (at current.now) (Some winner.now)
         geometry.places) result) }
-    ensures number { IfOk result (λ all. OfContents (C.told chip.old) (λ x. all.greatest
-        ≡ number_by (chart_of x) (at heads.now) (at current.now) (Some winner.now) geometry.places)) }
-    ensures collected { IfOk result (λ all. OfContents (C.told chip.old) (λ x. AreKept
-        (numbers_below status.new.numbers (at heads.now) (at current.now) (chart_of x)
-        (geometry.places * 256)) all.fits numbers.new)) }
-    ensures noted { OnOk result (OfContents (C.told chip.old) (λ x. IsNoted noted.new overflow.new
-        (live_marks (at heads.now) (at current.now) (chart_of x) (geometry.places * 256)))) }
-    ensures masked { OnOk result (OfContents (C.told chip.old) (λ x.
-        IsMasked (at heads.now) (at current.now)
-        (mask_by (at heads.now) (at current.now) (chart_of x)) (geometry.places * 256)
-        directory.new overflow.new)) }
-    ensures logs { OnOk result (OfContents (C.told chip.old) (λ x. AreHomes (at heads.now) (at current.now)
-        → AreReadLogs x (last_close_mark (chart_of x) (Some winner.now)) (at current.now)
-        (length current.now) (geometry.places * 256) directory.new)) }
-    ensures unmarked { OnOk result (marks ≡ false → NoneKnown (length current.now) directory.new) }
-    ensures places { SameHomes directory.old directory.new }
-    ensures status { OnOk result (OfContents (C.told chip.old) (λ x.
-        status.new ≡ status_in (chart_of x) winner.now.place winner.now.head.generation)) }
-    ensures placed { OnOk result (status.new.place ≡ winner.now.place) }
-    ensures unclean { OnOk result (status.new.first ≡ 256) }
-    ensures whole { OnOk result (OfContents (C.told chip.old) (λ x.
-        IsRestWhole x geometry.places heads.now current.now winner.now)) }
+    ensures found { IfOk result (λ all. FindsRest geometry.places (C.told chip.old) heads.now current.now
+        winner.now all.greatest all.fits noted.new directory.new overflow.new status.new numbers.new) }
+    ensures filled { IfOk result (λ all. FillsTables geometry.places heads.now current.now winner.now
+        marks draws all.greatest noted.new directory.new overflow.new status.new) }
     ensures spent { IfErr result (λ e. e ≡ Spent → OfContents (C.told chip.old) (λ x.
         IsRestWhole x geometry.places heads.now current.now winner.now)) }
-    ensures left { IfOk result (λ all. draws ≡ true → all.greatest < 2 ^ 63) }
-    ensures two { OnOk result (count_below (is_held heads.now noted.new) (length heads.now) ≤ 2) }
-    ensures none { OnOk result (overflow.new.in_use ≡ []) }
-    ensures sized { OnOk result (AreSized (length current.now) geometry.places noted.new overflow.new) }
-    ensures room { HasRoom geometry.places noted.new × (overflow.new.places ≡ geometry.places) }
+    ensures memory { KeepsPlaces geometry.places directory.old noted.new directory.new overflow.new }
     ensures looks { OnlyLooksAt (HasCauseFor draws) result (C.told chip.old) (C.told chip.new) }
     ensures once { ((s : ℕ) → ¬ MayHoldLog (at heads.now) (at current.now) winner.now.place s)
         → ReadsOnce IsBehindHeader (C.told chip.old) (C.told chip.new) }
@@ -173,39 +136,16 @@ fn read_chip<C: Chip>(
     marks: bool,
     draws: bool,
 ) -> Result<Gathered, ImageFault>
-    requires size { geometry.places ≡ (C.told chip.old).places }
-    requires heads { length heads.old ≡ geometry.places }
-    requires table { length table.old ≡ units_on geometry.places }
-    requires noted { HasRoom geometry.places noted.old }
-    requires overflow { overflow.old.places ≡ geometry.places }
-    requires directory { length directory.old.in_use ≡ geometry.places }
+    requires scratch { HasScratch geometry.places (C.told chip.old) heads.old table.old }
+    requires tables { AreMadeFor geometry.places noted.old directory.old overflow.old }
     ensures fault { OfContents (C.told chip.old) (λ x.
         TellsImageFault (fault_for draws (chart_of x) geometry.places) result) }
-    ensures opened { IfOk result (λ all. OfContents (C.told chip.old) (λ x.
-        AreOpened geometry.places (chart_of x)
-        (tables_of directory.new overflow.new status.new (all.greatest + 1)))) }
-    ensures laid { OnOk result (OfContents (C.told chip.old) (λ x.
-        Laid geometry.places (chart_of x) (layout_in (chart_of x) geometry.places))) }
-    ensures mirrors { IfOk result (λ all. OfContents (C.told chip.old) (λ x.
-        Mirrors geometry.places (chart_of x) (layout_in (chart_of x) geometry.places)
-        (tables_of directory.new overflow.new status.new (all.greatest + 1)))) }
-    ensures collected { IfOk result (λ all. OfContents (C.told chip.old) (λ x.
-        AreCollected geometry.places (chart_of x) all.fits numbers.new)) }
+    ensures found { IfOk result (λ all. FindsStore geometry.places (C.told chip.old) marks
+        (tables_of directory.new overflow.new status.new (all.greatest + 1)) all.fits numbers.new) }
     ensures bytes { ReadsBytesFor draws geometry.places (C.told chip.old) result }
-    ensures known { IfOk result (λ all. KnowsPlaces geometry.places
-        (tables_of directory.new overflow.new status.new (all.greatest + 1))) }
-    ensures marked { IfOk result (λ all. OfContents (C.told chip.old) (λ x.
-        CountsMarked geometry.places x
-        (tables_of directory.new overflow.new status.new (all.greatest + 1)))) }
-    ensures unmarked { IfOk result (λ all. marks ≡ false → IsUnmarked
-        (tables_of directory.new overflow.new status.new (all.greatest + 1))) }
-    ensures free { OnOk result (HasFree directory.new) }
     ensures left { IfOk result (λ all. draws ≡ true → all.greatest < 2 ^ 63) }
-    ensures size { length directory.new.in_use ≡ geometry.places }
-    ensures table { length table.new ≡ length table.old }
-    ensures room { HasRoom geometry.places noted.new × (overflow.new.places ≡ geometry.places) }
-    ensures looks { OnlyLooksAt (HasCauseFor draws) result (C.told chip.old) (C.told chip.new) }
-    ensures once { ReadsOnce Anywhere (C.told chip.old) (C.told chip.new) }
+    ensures memory { KeepsMemory geometry.places table.old table.new noted.new directory.new overflow.new }
+    ensures looks { LooksOnce Anywhere (HasCauseFor draws) result (C.told chip.old) (C.told chip.new) }
 {
     let mut kept = HeadSector::none();
     let winner = read_headers(chip, geometry, heads, table, &mut kept)?;
@@ -237,36 +177,16 @@ fn open<C: Chip>(
     numbers: &mut KeptNumbers,
     marks: bool,
 ) -> Result<bool, ImageFault>
-    requires size { geometry.places ≡ (C.told chip.old).places }
-    requires heads { length heads.old ≡ geometry.places }
-    requires table { length table.old ≡ units_on geometry.places }
-    requires noted { HasRoom geometry.places noted.old }
-    requires overflow { overflow.old.places ≡ geometry.places }
-    requires directory { length directory.old.in_use ≡ geometry.places }
+    requires scratch { HasScratch geometry.places (C.told chip.old) heads.old table.old }
+    requires tables { AreMadeFor geometry.places noted.old directory.old overflow.old }
     ensures fault { OfContents (C.told chip.old) (λ x.
         TellsImageFault (first_fault (chart_of x) geometry.places) result) }
-    ensures opened { OnOk result (OfContents (C.told chip.old) (λ x.
-        AreOpened geometry.places (chart_of x)
-        (tables_of directory.new overflow.new status.new counter.new))) }
-    ensures mirrors { OnOk result (OfContents (C.told chip.old) (λ x.
-        Mirrors geometry.places (chart_of x) (layout_in (chart_of x) geometry.places)
-        (tables_of directory.new overflow.new status.new counter.new))) }
-    ensures collected { IfOk result (λ fits. OfContents (C.told chip.old) (λ x.
-        AreCollected geometry.places (chart_of x) fits numbers.new)) }
+    ensures found { IfOk result (λ fits. FindsStore geometry.places (C.told chip.old) marks
+        (tables_of directory.new overflow.new status.new counter.new) fits numbers.new) }
     ensures bytes { ReadsBytes geometry.places (C.told chip.old) result }
-    ensures known { OnOk result (KnowsPlaces geometry.places
-        (tables_of directory.new overflow.new status.new counter.new)) }
-    ensures marked { OnOk result (OfContents (C.told chip.old) (λ x. CountsMarked geometry.places x
-        (tables_of directory.new overflow.new status.new counter.new))) }
-    ensures unmarked { OnOk result (marks ≡ false → IsUnmarked
-        (tables_of directory.new overflow.new status.new counter.new)) }
-    ensures free { OnOk result (HasFree directory.new) }
     ensures left { OnOk result (counter.new ≤ 2 ^ 63) }
-    ensures size { length directory.new.in_use ≡ geometry.places }
-    ensures table { length table.new ≡ length table.old }
-    ensures room { HasRoom geometry.places noted.new × (overflow.new.places ≡ geometry.places) }
-    ensures looks { OnlyLooksAt HasCause result (C.told chip.old) (C.told chip.new) }
-    ensures once { ReadsOnce Anywhere (C.told chip.old) (C.told chip.new) }
+    ensures memory { KeepsMemory geometry.places table.old table.new noted.new directory.new overflow.new }
+    ensures looks { LooksOnce Anywhere HasCause result (C.told chip.old) (C.told chip.new) }
 {
     match read_chip(
         chip, geometry, heads, table, noted, directory, overflow, status, numbers, marks, true,
@@ -279,7 +199,7 @@ fn open<C: Chip>(
     }
 }
 
-/// OnlyLooksAt a chip over into these tables, where no number will be drawn.
+/// Looks a chip over into these tables, where no number will be drawn.
 fn look_over<C: Chip>(
     chip: &mut C,
     geometry: Geometry,
@@ -291,12 +211,8 @@ fn look_over<C: Chip>(
     status: &mut Status,
     numbers: &mut KeptNumbers,
 ) -> Result<(), ImageFault>
-    requires size { geometry.places ≡ (C.told chip.old).places }
-    requires heads { length heads.old ≡ geometry.places }
-    requires table { length table.old ≡ units_on geometry.places }
-    requires noted { HasRoom geometry.places noted.old }
-    requires overflow { overflow.old.places ≡ geometry.places }
-    requires directory { length directory.old.in_use ≡ geometry.places }
+    requires scratch { HasScratch geometry.places (C.told chip.old) heads.old table.old }
+    requires tables { AreMadeFor geometry.places noted.old directory.old overflow.old }
     ensures fault { OfContents (C.told chip.old) (λ x.
         TellsImageFault (shape_fault (chart_of x) geometry.places) result) }
     ensures laid { OnOk result (OfContents (C.told chip.old) (λ x.
@@ -309,11 +225,8 @@ fn look_over<C: Chip>(
         IsByteChart geometry.places (chart_of x))) }
     ensures known { OnOk result ((counter : ℕ) × KnowsPlaces geometry.places
         (tables_of directory.new overflow.new status.new counter)) }
-    ensures size { length directory.new.in_use ≡ geometry.places }
-    ensures table { length table.new ≡ length table.old }
-    ensures room { HasRoom geometry.places noted.new × (overflow.new.places ≡ geometry.places) }
-    ensures looks { OnlyLooksAt (HasCauseFor false) result (C.told chip.old) (C.told chip.new) }
-    ensures once { ReadsOnce Anywhere (C.told chip.old) (C.told chip.new) }
+    ensures memory { KeepsMemory geometry.places table.old table.new noted.new directory.new overflow.new }
+    ensures looks { LooksOnce Anywhere (HasCauseFor false) result (C.told chip.old) (C.told chip.new) }
 {
     match read_chip(
         chip, geometry, heads, table, noted, directory, overflow, status, numbers, false, false,
@@ -398,40 +311,17 @@ pub fn recover<C: Chip>(
     ensures fault { OfContents (C.told chip.old) (λ x.
         TellsImageFault (first_fault (chart_of x) (C.told chip.old).places) result) }
 
-    // Else the tables say what was found; and so they mirror the contents, which are laid out rightly.
-    ensures opened { OnOk result (OfContents (C.told chip.old) (λ x.
-        AreOpened (C.told chip.old).places (chart_of x)
-        (tables_of directory.new overflow.new status.new counter.new))) }
-    ensures mirrors { OnOk result (OfContents (C.told chip.old) (λ x.
-        Mirrors (C.told chip.old).places (chart_of x)
-        (layout_in (chart_of x) (C.told chip.old).places)
-        (tables_of directory.new overflow.new status.new counter.new))) }
-
-    // The committed numbers that live log records have are kept, exactly where they are at most 3,840.
-    ensures collected { IfOk result (λ fits. OfContents (C.told chip.old) (λ x.
-        AreCollected (C.told chip.old).places (chart_of x) fits numbers.new)) }
+    // Else it finds what the chip holds, and numbers are left.
+    ensures found { IfOk result (λ fits. FindsStore (C.told chip.old).places (C.told chip.old) marks
+        (tables_of directory.new overflow.new status.new counter.new) fits numbers.new) }
+    ensures left { OnOk result (counter.new ≤ 2 ^ 63) }
 
     // What it read is bytes, also where it fails since the numbers are used up.
     ensures bytes { ReadsBytes (C.told chip.old).places (C.told chip.old) result }
 
-    // Whether the chip tells its contents or not, the tables know each of its places, a place may be
-    // taken, however many of the spare ones are worn, and numbers are left.
-    ensures known { OnOk result (KnowsPlaces (C.told chip.old).places
-        (tables_of directory.new overflow.new status.new counter.new)) }
-    ensures free { OnOk result (HasFree directory.new) }
-    ensures left { OnOk result (counter.new ≤ 2 ^ 63) }
-
-    // What they count as clean is marked; and where marks don't count, that is nothing and nothing is
-    // known, whatever the chip tells.
-    ensures marked { OnOk result (OfContents (C.told chip.old) (λ x. CountsMarked (C.told chip.old).places x
-        (tables_of directory.new overflow.new status.new counter.new))) }
-    ensures unmarked { OnOk result (marks ≡ false → IsUnmarked
-        (tables_of directory.new overflow.new status.new counter.new)) }
-
     // It only reads, each sector at most once, and fails with no other cause than a fault of the contents
     // or a failed read.
-    ensures looks { OnlyLooksAt HasCause result (C.told chip.old) (C.told chip.new) }
-    ensures once { ReadsOnce Anywhere (C.told chip.old) (C.told chip.new) }
+    ensures looks { LooksOnce Anywhere HasCause result (C.told chip.old) (C.told chip.new) }
     ensures sized { (scratch.new ≡ scratch.old)
         × (length directory.new.in_use ≡ length directory.old.in_use)
         × (overflow.new.places ≡ overflow.old.places) }
@@ -451,7 +341,7 @@ pub fn recover<C: Chip>(
     )
 }
 
-/// OnlyLooksAt a chip over, as `recover` does, and fails with the same faults but for one: it draws no
+/// Looks a chip over, as `recover` does, and fails with the same faults but for one: it draws no
 /// number, so that none are left is none. Of a chip without a fault the tables then say what was
 /// found, as after `recover`.
 pub fn survey<C: Chip>(
@@ -488,8 +378,7 @@ pub fn survey<C: Chip>(
 
     // It only reads, each sector at most once, and fails with no other cause than a fault of the contents
     // or a failed read.
-    ensures looks { OnlyLooksAt (HasCauseFor false) result (C.told chip.old) (C.told chip.new) }
-    ensures once { ReadsOnce Anywhere (C.told chip.old) (C.told chip.new) }
+    ensures looks { LooksOnce Anywhere (HasCauseFor false) result (C.told chip.old) (C.told chip.new) }
     ensures sized { (scratch.new ≡ scratch.old)
         × (length directory.new.in_use ≡ length directory.old.in_use)
         × (overflow.new.places ≡ overflow.old.places) }

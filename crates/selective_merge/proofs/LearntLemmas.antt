@@ -26,6 +26,5 @@ learnt_behind At u t old mid home log now reads same learns place few = record {
       let there : AreMirrored old.places (chart_of x) it s t.places t.overflow =
       subst (λ (n : ℕ). AreMirrored n (chart_of x) it s t.places t.overflow) reads.counts.places are in
       subst (λ (l : List Record). IsHomeOf home (it.units u) u l) (sym same) (learns x (sym reads.contents ∙ told) it s there);
-  place = place;
-  few = few;
+  stands = record { place = place; few = few };
 }

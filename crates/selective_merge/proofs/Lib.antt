@@ -10,6 +10,7 @@ mod PageMoveLemmas
 mod WriteLemmas
 mod FillLemmas
 mod SealLemmas
+mod PlaceLemmas
 mod MovingLemmas
 pub mod HeldLemmas
 pub mod TakenLemmas
@@ -19,6 +20,7 @@ mod OverflowLemmas
 mod PlacingLemmas
 mod RoomLemmas
 mod SpendLemmas
+mod LeavingLemmas
 mod FewLemmas
 pub mod TidyLemmas
 pub mod CompleteLemmas

@@ -48,11 +48,15 @@ abbrev pub Learns : Places → OverflowLists → ℕ → Told → Result Home Ch
 Learns directory overflow u told result log = OfMirrored told directory overflow
     (λ it. MatchResult result (λ home. IsHomeOf home (it.units u) u log) (λ fault. fault ≡ ReadFault))
 
+-- the tables have the unit there, and no page of it takes more than 16 sectors
+pub record IsHomeBy (t : Tables) (u : ℕ) (home : Home) : Type 0 where
+  pub place : home.place ≡ slice_index t.places.current u
+  pub few : IsFew home.pieces
+
 -- what was read of the unit is this, by tables that are still so
 pub record IsLearnt (t : Tables) (u : ℕ) (told : Told) (home : Home) (log : List Record) : Type 0 where
   pub learns : Learns t.places t.overflow u told (Ok home) log
-  pub place : home.place ≡ slice_index t.places.current u
-  pub few : IsFew home.pieces
+  pub stands : IsHomeBy t u home
 
 -- ---- causes
 

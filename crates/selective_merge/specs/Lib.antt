@@ -7,3 +7,4 @@ pub mod Writing
 pub mod Merging
 pub mod Spotting
 pub mod Placing
+pub mod Leaving

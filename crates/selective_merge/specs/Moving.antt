@@ -1,5 +1,5 @@
 -- The tables of a store, and a unit that moves.
-use Rattle.std.specs.Prelude.{ℕ, ◌≡◌, ◌≢◌, ◌⊎◌, ◌<◌, ◌≤◌, length, List, [], slice_set, Contains, Option, Some}
+use Rattle.std.specs.Prelude.{ℕ, ◌≡◌, ◌≢◌, ◌⊎◌, ◌<◌, ◌≤◌, length, List, [], slice_index, slice_set, Contains, Option, Some}
 use Rattle.ipl_meaning.specs.Tables.{Places, IsFree, Tables, overflow_places}
 use Rattle.unit_directory.specs.Directory.{after_replace}
 use Rattle.unit_directory.specs.Free.{free_count, aside}
@@ -60,3 +60,11 @@ pub record Holds (places : ℕ) (before after : Tables) : Type 0 where
   pub active : after.active ≡ before.active
   pub status : after.status ≡ before.status
   pub known : KnowsPlaces places after
+
+-- the place was taken and may become the unit's: both are of the tables, and the unit isn't there
+pub record MayTakeHome (u p : ℕ) (t : Tables) : Type 0 where
+  pub overflow : length t.overflow.spots ≡ length t.places.current
+  pub sized : t.overflow.places ≡ length t.places.in_use
+  pub unit : u < length t.places.current
+  pub place : p < length t.places.in_use
+  pub another : p ≢ slice_index t.places.current u

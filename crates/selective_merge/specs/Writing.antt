@@ -1,9 +1,10 @@
 -- What the calls leave that write a unit to a place: page by page, sector by sector, and sealed.
-use Rattle.std.specs.Prelude.{ℕ, ◌≡◌, ◌≢◌, ◌<◌, ◌≤◌, ◌+◌, List, length, None, Result}
+use Rattle.std.specs.Prelude.{ℕ, ◌≡◌, ◌≢◌, ◌<◌, ◌≤◌, ◌+◌, List, length, None, Result, is_ok, OnOk}
 use Rattle.log_records.specs.View.{Versioned}
 use Rattle.ipl_base.specs.declared.limits.TheConstants.{PAGES, PAGE_SECTORS, FIRST_LOG_SECTOR}
 use Rattle.chip_trait.specs.Chart.{with_sector}
 use Rattle.chip_trait.specs.Lawful.{Clean, age}
+use Rattle.chip_trait.specs.Story.{Story}
 use Rattle.chip_trait.specs.Told.{History, Told}
 use Rattle.ipl_base.specs.declared.fault.ChipFault.{ChipFault}
 use Rattle.ipl_format.specs.Sector.{Sector}
@@ -16,14 +17,42 @@ use Rattle.ipl_meaning.specs.Stands.{StandsBeside}
 use Rattle.ipl_meaning.specs.Tables.{Tables}
 use Rattle.ipl_meaning.specs.TableSteps.{taken}
 use Rattle.txn_status.specs.Switching.{HasCounts}
-use Rattle.unit_io.specs.Charts.{Gains}
+use Rattle.unit_io.specs.Accounts.{Accounts}
+use Rattle.unit_io.specs.Charts.{Gains, Spares}
+use Rattle.unit_io.specs.Costs.{Spends}
 use Rattle.unit_io.specs.Leads.{IsSteady, KeepsMap}
 use Rattle.unit_io.specs.Spots.{Programs, IsSpot, IsPieceSpot}
 use Rattle.merge_laws.specs.Merged.{IsUnitHead, IsToMerge, IsWritten}
 use Rattle.merge_laws.specs.Moved.{Source, MovesPage, HasMoved, IsAside}
 use Rattle.merge_laws.specs.Packs.{IsLogSpotBelow, HasLogs}
-use Rattle.merge_laws.specs.Pages.{IsBaseSpotBelow}
+use Rattle.merge_laws.specs.Pages.{IsBaseSpotBelow, IsFew}
 use Rattle.selective_merge.specs.Throughout.{KeepsThroughout}
+use Rattle.selective_merge.specs.declared.home.Home.{Home}
+
+-- ---- a place that is written
+
+-- a unit that stands there may be moved to this place: both are places of the chip and aren't one, and no
+-- page of it takes more than 16 sectors
+pub record MayMove (places : ℕ) (from : Home) (p : ℕ) : Type 0 where
+  pub home : from.place < places
+  pub few : IsFew from.pieces
+  pub place : p < places
+  pub another : from.place ≢ p
+
+-- What a call leaves that programs sectors of a place, whatever the chip tells: it spends this, and programs
+-- spots of these alone. Done, all other places have the bytes that they had; and where it failed, this is its
+-- cause.
+pub record WritesPlace {T : Type 0} (p : ℕ) (Costs : Story → Type 0) (Spot : ℕ → Type 0)
+    (Cause : ChipFault → Told → Told → Type 0) (result : Result T ChipFault) (old new : Told) : Type 0 where
+  pub spares : OnOk result (Spares p old new)
+  pub costs : Spends Costs old new
+  pub tidy : Spends (Programs p Spot (is_ok result)) old new
+  pub accounts : Accounts Cause result old new
+
+-- so many numbers were drawn where it is done, and else at most so many
+pub record DrawsSerials {T : Type 0} (n : ℕ) (result : Result T ChipFault) (before after : ℕ) : Type 0 where
+  pub drawn : OnOk result (after ≡ before + n)
+  pub draws : (before ≤ after) × (after ≤ before + n)
 
 -- ---- pages
 

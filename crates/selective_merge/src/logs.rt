@@ -7,7 +7,7 @@ ghost use Rattle.unit_io.specs.Costs.{ProgramsAt, Spends};
 ghost use Rattle.unit_io.specs.Leads.{IsStopped};
 ghost use Rattle.unit_io.specs.Spots.{Programs, IsSpot};
 ghost use Rattle.merge_laws.specs.Packs.{log_sector, IsLogSpotBelow, HasLogs};
-ghost use Rattle.selective_merge.specs.Writing.{WritesLog, WritesLogs};
+ghost use Rattle.selective_merge.specs.Writing.{DrawsSerials, WritesLog, WritesLogs, WritesPlace};
 
 use chip_trait::Chip;
 use ipl_base::{ChipFault, Counter, Spot};
@@ -63,15 +63,9 @@ pub(crate) fn write_logs<C: Chip>(
     ensures tells { OnOk result (Charts
         (HasLogs place head.now.unit head.now.generation counter.old payloads.now
         (length payloads.now)) (C.told chip.old) (C.told chip.new)) }
-    ensures spares { OnOk result (Spares place (C.told chip.old) (C.told chip.new)) }
-    ensures drawn { OnOk result (counter.new ≡ counter.old + length payloads.now) }
-    ensures draws { (counter.old ≤ counter.new)
-        × (counter.new ≤ counter.old + length payloads.now) }
-    ensures costs { Spends (ProgramsAt place (length payloads.now) 0 5)
-        (C.told chip.old) (C.told chip.new) }
-    ensures tidy { Spends (Programs place (IsLogSpotBelow (length payloads.now)) (is_ok result))
-        (C.told chip.old) (C.told chip.new) }
-    ensures accounts { Accounts IsStopped result (C.told chip.old) (C.told chip.new) }
+    ensures serials { DrawsSerials (length payloads.now) result counter.old counter.new }
+    ensures spends { WritesPlace place (ProgramsAt place (length payloads.now) 0 5)
+        (IsLogSpotBelow (length payloads.now)) IsStopped result (C.told chip.old) (C.told chip.new) }
 {
     for i in 0..payloads.len() {
         write_log(chip, place, head, i as u32, &payloads[i], counter)?;

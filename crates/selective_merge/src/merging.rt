@@ -1,23 +1,17 @@
 //! The merge.
-ghost use Rattle.std.specs.Prelude.{◌≡◌, ◌<◌, ◌≤◌, ◌+◌, ◌^◌, length, slice_index, is_ok, OnOk};
+ghost use Rattle.std.specs.Prelude.{◌≡◌, ◌<◌, ◌≤◌, ◌+◌, ◌^◌, length, slice_index};
 ghost use Rattle.ipl_base.specs.declared.limits.TheConstants.{CARRIED_SECTORS};
 ghost use Rattle.ipl_meaning.specs.Chart.{chart_of};
 ghost use Rattle.ipl_meaning.specs.Last.{carried_count};
 ghost use Rattle.ipl_meaning.specs.Layout.{Layout};
 ghost use Rattle.ipl_meaning.specs.Mirrors.{Mirrors};
-ghost use Rattle.overflow.specs.Lists.{spots_in};
-ghost use Rattle.unit_directory.specs.Free.{free_count};
-ghost use Rattle.unit_io.specs.Accounts.{Accounts};
-ghost use Rattle.unit_io.specs.Costs.{Spends};
 ghost use Rattle.unit_io.specs.Reads.{OfContents};
-ghost use Rattle.step_laws.specs.Steps.{Tidies};
-ghost use Rattle.place_taking.specs.Spending.{ErasesFor, SparesUsed, is_worn_out};
 ghost use Rattle.merge_laws.specs.Faults.{pages_fault, fault_with, TellsTheFault};
 ghost use Rattle.merge_laws.specs.Known.{KnowsPlaces};
-ghost use Rattle.merge_laws.specs.Pages.{IsFew};
 ghost use Rattle.merge_laws.specs.Packs.{among, packs_of, payloads_of};
-ghost use Rattle.selective_merge.specs.Homes.{from_home, IsLearnt, MergeCause};
-ghost use Rattle.selective_merge.specs.Moving.{tables_of, Holds};
+ghost use Rattle.selective_merge.specs.Homes.{from_home, IsHomeBy, IsLearnt};
+ghost use Rattle.selective_merge.specs.Leaving.{MovesUnit};
+ghost use Rattle.selective_merge.specs.Moving.{tables_of};
 ghost use Rattle.selective_merge.specs.Merging.{
   CarriesFew,
   Merges,
@@ -53,8 +47,7 @@ fn merge_packed<C: Chip>(
     requires known { KnowsPlaces (C.told chip.old).places (tables_of parts.old) }
     requires unit { unit < length parts.old.directory.current }
     requires left { parts.old.counter + 13 < 2 ^ 64 }
-    requires place { home.now.place ≡ slice_index parts.old.directory.current unit }
-    requires few { IsFew home.now.pieces }
+    requires stands { IsHomeBy (tables_of parts.old) unit home.now }
     requires packed { parts.old.scratch.packs.closed.items
         ≡ payloads_of (packs_of parts.old.active parts.old.scratch.log) }
     ensures steps { MergesFromInSteps (C.told chip.old).places unit
@@ -68,24 +61,8 @@ fn merge_packed<C: Chip>(
         result (C.told chip.old) (C.told chip.new) }
     ensures fault { OfContents (C.told chip.old) (λ x. TellsTheFault
         (pages_fault x (from_home home.now parts.old.status.numbers parts.old.scratch.log)) result) }
-    ensures spares { OnOk result (SparesUsed parts.old.directory
-        (C.told chip.old) (C.told chip.new)) }
     ensures few { length (packs_of parts.old.active parts.old.scratch.log) ≤ CARRIED_SECTORS }
-    ensures room { OnOk result (slice_index parts.new.directory.written unit ≤ CARRIED_SECTORS) }
-    ensures holds { Holds (C.told chip.old).places (tables_of parts.old) (tables_of parts.new) }
-    ensures free { free_count parts.old.directory.in_use + length parts.old.directory.retired
-        ≤ free_count parts.new.directory.in_use + length parts.new.directory.retired }
-    ensures drawn { OnOk result (parts.new.counter
-        ≡ parts.old.counter + 1 + slice_index parts.new.directory.written unit) }
-    ensures draws { (parts.old.counter ≤ parts.new.counter)
-        × (parts.new.counter ≤ parts.old.counter + 13) }
-    ensures costs { Spends (ErasesFor parts.old.directory parts.new.directory 3
-        (slice_index parts.new.directory.current unit) (is_ok result) (is_worn_out result))
-        (C.told chip.old) (C.told chip.new) }
-    ensures tidy { Tidies (tables_of parts.old) result (tables_of parts.new)
-        (C.told chip.old) (C.told chip.new) }
-    ensures accounts { Accounts (MergeCause parts.new.directory
-        (slice_index parts.old.directory.current unit) (spots_in parts.old.overflow unit)) result
+    ensures moves { MovesUnit unit (tables_of parts.old) (tables_of parts.new) result
         (C.told chip.old) (C.told chip.new) }
 {
     known_laws();
@@ -134,8 +111,7 @@ fn merge_known<C: Chip>(
     requires known { KnowsPlaces (C.told chip.old).places (tables_of parts.old) }
     requires unit { unit < length parts.old.directory.current }
     requires left { parts.old.counter + 13 < 2 ^ 64 }
-    requires place { home.now.place ≡ slice_index parts.old.directory.current unit }
-    requires few { IsFew home.now.pieces }
+    requires stands { IsHomeBy (tables_of parts.old) unit home.now }
     ensures steps { MergesFromInSteps (C.told chip.old).places unit
         (from_home home.now parts.old.status.numbers parts.old.scratch.log)
         (tables_of parts.old) (tables_of parts.new) (C.told chip.old) result (C.told chip.new) }
@@ -148,25 +124,9 @@ fn merge_known<C: Chip>(
     ensures fault { OfContents (C.told chip.old) (λ x. TellsTheFault
         (fault_with x (from_home home.now parts.old.status.numbers parts.old.scratch.log)
         (length (packs_of parts.old.active parts.old.scratch.log))) result) }
-    ensures spares { OnOk result (SparesUsed parts.old.directory
-        (C.told chip.old) (C.told chip.new)) }
     ensures few { CarriesFew home.now.place
         (length (packs_of parts.old.active parts.old.scratch.log)) result }
-    ensures room { OnOk result (slice_index parts.new.directory.written unit ≤ CARRIED_SECTORS) }
-    ensures holds { Holds (C.told chip.old).places (tables_of parts.old) (tables_of parts.new) }
-    ensures free { free_count parts.old.directory.in_use + length parts.old.directory.retired
-        ≤ free_count parts.new.directory.in_use + length parts.new.directory.retired }
-    ensures drawn { OnOk result (parts.new.counter
-        ≡ parts.old.counter + 1 + slice_index parts.new.directory.written unit) }
-    ensures draws { (parts.old.counter ≤ parts.new.counter)
-        × (parts.new.counter ≤ parts.old.counter + 13) }
-    ensures costs { Spends (ErasesFor parts.old.directory parts.new.directory 3
-        (slice_index parts.new.directory.current unit) (is_ok result) (is_worn_out result))
-        (C.told chip.old) (C.told chip.new) }
-    ensures tidy { Tidies (tables_of parts.old) result (tables_of parts.new)
-        (C.told chip.old) (C.told chip.new) }
-    ensures accounts { Accounts (MergeCause parts.new.directory
-        (slice_index parts.old.directory.current unit) (spots_in parts.old.overflow unit)) result
+    ensures moves { MovesUnit unit (tables_of parts.old) (tables_of parts.new) result
         (C.told chip.old) (C.told chip.new) }
 {
     let scratch = &mut parts.scratch;
@@ -204,8 +164,6 @@ pub(crate) fn merge_learnt<C: Chip>(
         → Mirrors (C.told chip.old).places (chart_of x) it (tables_of parts.old)
         → CarriesFew (slice_index parts.old.directory.current unit)
         (carried_count (among parts.old.active) (it.units unit).log) result) }
-    ensures spares { OnOk result (SparesUsed parts.old.directory
-        (C.told chip.old) (C.told chip.new)) }
 
     // Why it fails over what the chip holds: where the unit's pages show values and few log sectors
     // would be carried, only where a call of the chip failed.
@@ -214,22 +172,8 @@ pub(crate) fn merge_learnt<C: Chip>(
     ensures complete { CompletesMerge (C.told chip.old).places (tables_of parts.old) unit result
         (C.told chip.old) }
 
-    // What the tables have, whatever the chip tells.
-    ensures room { OnOk result (slice_index parts.new.directory.written unit ≤ CARRIED_SECTORS) }
-    ensures holds { Holds (C.told chip.old).places (tables_of parts.old) (tables_of parts.new) }
-    ensures free { free_count parts.old.directory.in_use + length parts.old.directory.retired
-        ≤ free_count parts.new.directory.in_use + length parts.new.directory.retired }
-    ensures drawn { OnOk result (parts.new.counter
-        ≡ parts.old.counter + 1 + slice_index parts.new.directory.written unit) }
-    ensures draws { (parts.old.counter ≤ parts.new.counter)
-        × (parts.new.counter ≤ parts.old.counter + 13) }
-    ensures costs { Spends (ErasesFor parts.old.directory parts.new.directory 3
-        (slice_index parts.new.directory.current unit) (is_ok result) (is_worn_out result))
-        (C.told chip.old) (C.told chip.new) }
-    ensures tidy { Tidies (tables_of parts.old) result (tables_of parts.new)
-        (C.told chip.old) (C.told chip.new) }
-    ensures accounts { Accounts (MergeCause parts.new.directory
-        (slice_index parts.old.directory.current unit) (spots_in parts.old.overflow unit)) result
+    // What the tables have and what is spent, whatever the chip tells.
+    ensures moves { MovesUnit unit (tables_of parts.old) (tables_of parts.new) result
         (C.told chip.old) (C.told chip.new) }
 {
     merge_known(chip, parts, unit, home)
@@ -272,8 +216,6 @@ pub fn merge<C: Chip>(chip: &mut C, parts: &mut Parts, unit: u32) -> Result<(), 
         → Mirrors (C.told chip.old).places (chart_of x) it (tables_of parts.old)
         → CarriesFew (slice_index parts.old.directory.current unit)
         (carried_count (among parts.old.active) (it.units unit).log) result) }
-    ensures spares { OnOk result (SparesUsed parts.old.directory
-        (C.told chip.old) (C.told chip.new)) }
 
     // Why it fails over what the chip holds: where the unit's pages show values and few log sectors
     // would be carried, only where a call of the chip failed.
@@ -282,22 +224,8 @@ pub fn merge<C: Chip>(chip: &mut C, parts: &mut Parts, unit: u32) -> Result<(), 
     ensures complete { CompletesMerge (C.told chip.old).places (tables_of parts.old) unit result
         (C.told chip.old) }
 
-    // What the tables have, whatever the chip tells.
-    ensures room { OnOk result (slice_index parts.new.directory.written unit ≤ CARRIED_SECTORS) }
-    ensures holds { Holds (C.told chip.old).places (tables_of parts.old) (tables_of parts.new) }
-    ensures free { free_count parts.old.directory.in_use + length parts.old.directory.retired
-        ≤ free_count parts.new.directory.in_use + length parts.new.directory.retired }
-    ensures drawn { OnOk result (parts.new.counter
-        ≡ parts.old.counter + 1 + slice_index parts.new.directory.written unit) }
-    ensures draws { (parts.old.counter ≤ parts.new.counter)
-        × (parts.new.counter ≤ parts.old.counter + 13) }
-    ensures costs { Spends (ErasesFor parts.old.directory parts.new.directory 3
-        (slice_index parts.new.directory.current unit) (is_ok result) (is_worn_out result))
-        (C.told chip.old) (C.told chip.new) }
-    ensures tidy { Tidies (tables_of parts.old) result (tables_of parts.new)
-        (C.told chip.old) (C.told chip.new) }
-    ensures accounts { Accounts (MergeCause parts.new.directory
-        (slice_index parts.old.directory.current unit) (spots_in parts.old.overflow unit)) result
+    // What the tables have and what is spent, whatever the chip tells.
+    ensures moves { MovesUnit unit (tables_of parts.old) (tables_of parts.new) result
         (C.told chip.old) (C.told chip.new) }
 {
     let home = learn(

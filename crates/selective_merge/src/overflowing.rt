@@ -1,16 +1,16 @@
 //! A new overflow place.
-ghost use Rattle.std.specs.Prelude.{◌≡◌, ◌<◌, ◌≤◌, ◌+◌, ◌^◌, length, is_ok, IfOk, OnOk};
+ghost use Rattle.std.specs.Prelude.{◌≡◌, ◌<◌, ◌+◌, ◌^◌, length, is_ok, IfOk, OnOk};
 ghost use Rattle.unit_io.specs.Accounts.{Accounts};
 ghost use Rattle.unit_io.specs.Charts.{Charts, Spares};
 ghost use Rattle.unit_io.specs.Costs.{ProgramsAt, Spends};
 ghost use Rattle.unit_io.specs.Leads.{IsStopped};
 ghost use Rattle.unit_io.specs.Spots.{Programs, IsSpot};
-ghost use Rattle.step_laws.specs.Steps.{Tidies};
-ghost use Rattle.place_taking.specs.Spending.{ErasesFree, SparesUsed, is_worn_out};
+ghost use Rattle.place_taking.specs.Spending.{ErasesFree, is_worn_out};
 ghost use Rattle.place_taking.specs.Takes.{IsNotTaken};
 ghost use Rattle.merge_laws.specs.Known.{KnowsPlaces};
+ghost use Rattle.selective_merge.specs.Leaving.{LeavesTables};
 ghost use Rattle.selective_merge.specs.Merging.{StaysMirrored};
-ghost use Rattle.selective_merge.specs.Moving.{tables_of, Holds};
+ghost use Rattle.selective_merge.specs.Moving.{tables_of};
 ghost use Rattle.selective_merge.specs.Placing.{IsOpened, OpensPlace, OpensOverflow, OpensInSteps};
 ghost use Rattle.selective_merge.specs.Spotting.{OpensNext};
 ghost use Rattle.selective_merge.specs.Throughout.{ChartsThroughout};
@@ -72,17 +72,9 @@ pub(crate) fn open_overflow<C: Chip>(chip: &mut C, parts: &mut Parts) -> Result<
     // What the tables have, whatever the chip tells.
     ensures opened { IfOk result (λ spot. (spot.sector ≡ 1)
         × OpensNext (tables_of parts.old) (tables_of parts.new) spot.place (parts.old.counter + 1)) }
-    ensures holds { Holds (C.told chip.old).places (tables_of parts.old) (tables_of parts.new) }
-    ensures draws { (parts.old.counter ≤ parts.new.counter)
-        × (parts.new.counter ≤ parts.old.counter + 1) }
-    // Each place that was in use has the bytes that it had.
-    ensures spares { OnOk result (SparesUsed parts.old.directory
-        (C.told chip.old) (C.told chip.new)) }
+    ensures leaves { LeavesTables 1 (IsNotTaken parts.new.directory) (tables_of parts.old)
+        (tables_of parts.new) result (C.told chip.old) (C.told chip.new) }
     ensures costs { Spends (ErasesFree parts.old.directory parts.new.directory 3 (is_worn_out result))
-        (C.told chip.old) (C.told chip.new) }
-    ensures tidy { Tidies (tables_of parts.old) result (tables_of parts.new)
-        (C.told chip.old) (C.told chip.new) }
-    ensures accounts { Accounts (IsNotTaken parts.new.directory) result
         (C.told chip.old) (C.told chip.new) }
 {
     known_laws();

@@ -1,15 +1,13 @@
 //! The pages of a unit, moved to another place with the committed records applied.
-ghost use Rattle.std.specs.Prelude.{◌≡◌, ◌≢◌, ◌<◌, ◌≤◌, ◌+◌, is_ok, length, take, drop, replicate, slice_index, IfOk, IfSome, OnOk};
+ghost use Rattle.std.specs.Prelude.{◌≡◌, ◌<◌, ◌≤◌, ◌+◌, length, take, drop, replicate, slice_index, IfOk, IfSome};
 ghost use Rattle.std.specs.Bool.{OnTrue, OnFalse};
 ghost use Rattle.ipl_base.specs.Sizes.{size_of_values};
 ghost use Rattle.ipl_base.specs.declared.limits.TheConstants.{LIVE_RECORDS, PAGE_LEN, PAGE_SECTORS, SLOTS, VERSION};
 ghost use Rattle.ipl_format.specs.Page.{IsPage, value_in};
 ghost use Rattle.ipl_meaning.specs.Values.{Values};
-ghost use Rattle.unit_io.specs.Accounts.{Accounts};
-ghost use Rattle.unit_io.specs.Charts.{Spares};
-ghost use Rattle.unit_io.specs.Costs.{ProgramsAt, Spends};
+ghost use Rattle.unit_io.specs.Costs.{ProgramsAt};
 ghost use Rattle.unit_io.specs.Reads.{OfContents};
-ghost use Rattle.unit_io.specs.Spots.{Programs, IsPieceSpot};
+ghost use Rattle.unit_io.specs.Spots.{IsPieceSpot};
 ghost use Rattle.page_ops.specs.Rebuilt.{with_records, AreComing, IsMaking};
 ghost use Rattle.merge_laws.specs.Faults.{page_fault_from, pages_fault, TellsTheFault};
 ghost use Rattle.merge_laws.specs.Pages.{IsBaseSpotBelow, IsFew};
@@ -18,7 +16,7 @@ ghost use Rattle.merge_laws.specs.Moved.{IsRebased, MovesPage, HasMoved, IsAside
 ghost use Rattle.selective_merge.specs.Homes.{from_home, is_counted, MoveCause};
 ghost use Rattle.selective_merge.specs.Logs.{nth_record};
 ghost use Rattle.selective_merge.specs.Throughout.{ChartsThroughout};
-ghost use Rattle.selective_merge.specs.Writing.{MovesOnePage, MovesPages};
+ghost use Rattle.selective_merge.specs.Writing.{MayMove, MovesOnePage, MovesPages, WritesPlace};
 
 use crate::home::Home;
 use crate::log::Log;
@@ -167,11 +165,8 @@ fn move_page<C: Chip>(
     ensures few { IfOk result (λ n. n ≤ PAGE_SECTORS) }
     ensures fault { OfContents (C.told chip.old) (λ x. TellsTheFault
         (page_fault_from x (from_home home.now status.now.numbers log.now) page) result) }
-    ensures spares { OnOk result (Spares place (C.told chip.old) (C.told chip.new)) }
-    ensures costs { Spends (ProgramsAt place PAGE_SECTORS 0 4) (C.told chip.old) (C.told chip.new) }
-    ensures tidy { Spends (Programs place (IsPieceSpot page PAGE_SECTORS) (is_ok result))
-        (C.told chip.old) (C.told chip.new) }
-    ensures accounts { Accounts (MoveCause home.now.place) result
+    ensures spends { WritesPlace place (ProgramsAt place PAGE_SECTORS 0 4)
+        (IsPieceSpot page PAGE_SECTORS) (MoveCause home.now.place) result
         (C.told chip.old) (C.told chip.new) }
 {
     let count = u32::from(home.pieces[page as usize]);
@@ -199,10 +194,7 @@ pub(crate) fn move_pages<C: Chip>(
     place: u32,
     head: &Head,
 ) -> Result<[u8; 15], ChipFault>
-    requires home { home.now.place < (C.told chip.old).places }
-    requires few { IsFew home.now.pieces }
-    requires place { place < (C.told chip.old).places }
-    requires another { home.now.place ≢ place }
+    requires may { MayMove (C.told chip.old).places home.now place }
     requires unit { head.now.unit ≡ home.now.head.unit }
     ensures moves { MovesPages (C.told chip.old).places
         (from_home home.now status.now.numbers log.now) place head.now.generation
@@ -214,12 +206,8 @@ pub(crate) fn move_pages<C: Chip>(
     ensures few { IfOk result IsFew }
     ensures fault { OfContents (C.told chip.old) (λ x. TellsTheFault
         (pages_fault x (from_home home.now status.now.numbers log.now)) result) }
-    ensures spares { OnOk result (Spares place (C.told chip.old) (C.told chip.new)) }
-    ensures costs { Spends (ProgramsAt place 240 0 4) (C.told chip.old) (C.told chip.new) }
-    ensures tidy { Spends (Programs place (IsBaseSpotBelow 15) (is_ok result))
-        (C.told chip.old) (C.told chip.new) }
-    ensures accounts { Accounts (MoveCause home.now.place) result
-        (C.told chip.old) (C.told chip.new) }
+    ensures spends { WritesPlace place (ProgramsAt place 240 0 4) (IsBaseSpotBelow 15)
+        (MoveCause home.now.place) result (C.told chip.old) (C.told chip.new) }
 {
     let mut pieces = [0; PAGES as usize];
     let mut slots = PageMap::empty();

@@ -5,7 +5,7 @@ ghost use Rattle.ipl_meaning.specs.Mirrors.{AreApart, NoneIsLost};
 ghost use Rattle.ipl_meaning.specs.Tables.{IsFree, overflow_places};
 ghost use Rattle.ipl_meaning.specs.TableSteps.{IsMoved};
 ghost use Rattle.unit_directory.specs.Free.{free_count};
-ghost use Rattle.selective_merge.specs.Moving.{tables_of, places_moved, Frees, NoneIsLostBut, TellsUnit};
+ghost use Rattle.selective_merge.specs.Moving.{tables_of, places_moved, Frees, MayTakeHome, NoneIsLostBut, TellsUnit};
 
 use crate::{Active, MergeScratch};
 use ipl_base::Counter;
@@ -64,11 +64,7 @@ pub(crate) fn move_unit(
     used: u32,
     masks: [u16; 15],
 )
-    requires overflow { length parts.old.overflow.spots ≡ length parts.old.directory.current }
-    requires sized { parts.old.overflow.places ≡ length parts.old.directory.in_use }
-    requires unit { unit < length parts.old.directory.current }
-    requires place { place < length parts.old.directory.in_use }
-    requires another { place ≢ slice_index parts.old.directory.current unit }
+    requires may { MayTakeHome unit place (tables_of parts.old) }
     requires few { used ≤ CARRIED_SECTORS }
     ensures moved { AllPairs AreApart (overflow_places (tables_of parts.old))
         → IsMoved (tables_of parts.old) (tables_of parts.new) unit place used }

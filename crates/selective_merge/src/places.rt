@@ -1,12 +1,11 @@
 //! A unit written to a clean place.
-ghost use Rattle.std.specs.Prelude.{◌≡◌, ◌≢◌, ◌<◌, ◌≤◌, ◌+◌, ◌^◌, length, is_ok, IfOk, OnOk};
+ghost use Rattle.std.specs.Prelude.{◌≡◌, ◌<◌, ◌≤◌, ◌+◌, ◌^◌, length, IfOk, OnOk};
 ghost use Rattle.ipl_base.specs.declared.limits.TheConstants.{CARRIED_SECTORS, VERSION};
-ghost use Rattle.unit_io.specs.Accounts.{Accounts};
-ghost use Rattle.unit_io.specs.Charts.{Charts, Spares};
-ghost use Rattle.unit_io.specs.Costs.{ProgramsAt, Spends};
+ghost use Rattle.unit_io.specs.Charts.{Charts};
+ghost use Rattle.unit_io.specs.Costs.{ProgramsAt};
 ghost use Rattle.unit_io.specs.Leads.{IsStopped};
 ghost use Rattle.unit_io.specs.Reads.{OfContents};
-ghost use Rattle.unit_io.specs.Spots.{Programs, IsSpot};
+ghost use Rattle.unit_io.specs.Spots.{IsSpot};
 ghost use Rattle.place_taking.specs.Fills.{FillsAt};
 ghost use Rattle.merge_laws.specs.Faults.{pages_fault, TellsTheFault};
 ghost use Rattle.merge_laws.specs.Pages.{IsFew};
@@ -14,14 +13,17 @@ ghost use Rattle.merge_laws.specs.Moved.{IsAside};
 ghost use Rattle.selective_merge.specs.Homes.{from_home, MoveCause};
 ghost use Rattle.selective_merge.specs.Throughout.{ChartsThroughout};
 ghost use Rattle.selective_merge.specs.Writing.{
+  DrawsSerials,
   FillsPlace,
   GainsUnit,
   IsFilledSpot,
   IsSealed,
   IsUnitSpot,
+  MayMove,
   SealsUnit,
-  WritesUnit,
   TellsWritten,
+  WritesPlace,
+  WritesUnit,
 };
 
 use crate::home::Home;
@@ -48,10 +50,7 @@ fn fill<C: Chip>(
     payloads: &[Payload],
     counter: &mut Counter,
 ) -> Result<[u8; 15], ChipFault>
-    requires home { home.now.place < (C.told chip.old).places }
-    requires few { IsFew home.now.pieces }
-    requires place { place < (C.told chip.old).places }
-    requires another { home.now.place ≢ place }
+    requires may { MayMove (C.told chip.old).places home.now place }
     requires unit { head.now.unit ≡ home.now.head.unit }
     requires twelve { length payloads.now ≤ CARRIED_SECTORS }
     requires left { counter.old + CARRIED_SECTORS < 2 ^ 64 }
@@ -64,16 +63,10 @@ fn fill<C: Chip>(
         (IsAside place) result (C.told chip.old) (C.told chip.new) }
     ensures fault { OfContents (C.told chip.old) (λ x. TellsTheFault
         (pages_fault x (from_home home.now status.now.numbers log.now)) result) }
-    ensures spares { OnOk result (Spares place (C.told chip.old) (C.told chip.new)) }
     ensures few { IfOk result IsFew }
-    ensures drawn { OnOk result (counter.new ≡ counter.old + length payloads.now) }
-    ensures draws { (counter.old ≤ counter.new)
-        × (counter.new ≤ counter.old + length payloads.now) }
-    ensures costs { Spends (FillsAt place 0) (C.told chip.old) (C.told chip.new) }
-    ensures tidy { Spends (Programs place (IsFilledSpot (length payloads.now)) (is_ok result))
-        (C.told chip.old) (C.told chip.new) }
-    ensures accounts { Accounts (MoveCause home.now.place) result
-        (C.told chip.old) (C.told chip.new) }
+    ensures serials { DrawsSerials (length payloads.now) result counter.old counter.new }
+    ensures spends { WritesPlace place (FillsAt place 0) (IsFilledSpot (length payloads.now))
+        (MoveCause home.now.place) result (C.told chip.old) (C.told chip.new) }
 {
     let pieces = move_pages(chip, home, log, status, place, head)?;
     write_logs(chip, place, head, payloads, counter)?;
@@ -100,11 +93,8 @@ fn seal_unit<C: Chip>(
     ensures tells { OnOk result (Charts
         (IsSealed place header.now.units header.now.erases head.now.unit head.now.generation
         header.now.pieces header.now.carried) (C.told chip.old) (C.told chip.new)) }
-    ensures spares { OnOk result (Spares place (C.told chip.old) (C.told chip.new)) }
-    ensures costs { Spends (ProgramsAt place 1 2 1) (C.told chip.old) (C.told chip.new) }
-    ensures tidy { Spends (Programs place (IsSpot 0) (is_ok result))
+    ensures spends { WritesPlace place (ProgramsAt place 1 2 1) (IsSpot 0) IsStopped result
         (C.told chip.old) (C.told chip.new) }
-    ensures accounts { Accounts IsStopped result (C.told chip.old) (C.told chip.new) }
 {
     let mut payload = [0; 24];
     write_data_header(header, &mut payload);
@@ -134,10 +124,7 @@ pub(crate) fn write_unit<C: Chip>(
     payloads: &[Payload],
     counter: &mut Counter,
 ) -> Result<(), ChipFault>
-    requires home { home.now.place < (C.told chip.old).places }
-    requires few { IsFew home.now.pieces }
-    requires place { place < (C.told chip.old).places }
-    requires another { home.now.place ≢ place }
+    requires may { MayMove (C.told chip.old).places home.now place }
     requires twelve { length payloads.now ≤ CARRIED_SECTORS }
     requires left { counter.old + CARRIED_SECTORS < 2 ^ 64 }
     ensures writes { WritesUnit (C.told chip.old).places units erases
@@ -149,15 +136,9 @@ pub(crate) fn write_unit<C: Chip>(
         (IsAside place) result (C.told chip.old) (C.told chip.new) }
     ensures fault { OfContents (C.told chip.old) (λ x. TellsTheFault
         (pages_fault x (from_home home.now status.now.numbers log.now)) result) }
-    ensures spares { OnOk result (Spares place (C.told chip.old) (C.told chip.new)) }
-    ensures drawn { OnOk result (counter.new ≡ counter.old + length payloads.now) }
-    ensures draws { (counter.old ≤ counter.new)
-        × (counter.new ≤ counter.old + length payloads.now) }
-    ensures costs { Spends (FillsAt place 2) (C.told chip.old) (C.told chip.new) }
-    ensures tidy { Spends (Programs place (IsUnitSpot (length payloads.now)) (is_ok result))
-        (C.told chip.old) (C.told chip.new) }
-    ensures accounts { Accounts (MoveCause home.now.place) result
-        (C.told chip.old) (C.told chip.new) }
+    ensures serials { DrawsSerials (length payloads.now) result counter.old counter.new }
+    ensures spends { WritesPlace place (FillsAt place 2) (IsUnitSpot (length payloads.now))
+        (MoveCause home.now.place) result (C.told chip.old) (C.told chip.new) }
 {
     let head = Head::written(Head::DATA_HEADER, home.head.unit, generation, generation);
     let pieces = fill(chip, home, log, status, place, &head, payloads, counter)?;

@@ -1,15 +1,11 @@
 //! Where a log sector of a unit goes: the rules.
-ghost use Rattle.std.specs.Prelude.{◌≡◌, ◌<◌, ◌≤◌, ◌+◌, ◌^◌, length, slice_index, IfOk, OnOk};
-ghost use Rattle.overflow.specs.Lists.{spots_in};
-ghost use Rattle.unit_io.specs.Accounts.{Accounts};
-ghost use Rattle.unit_io.specs.Costs.{Spends};
+ghost use Rattle.std.specs.Prelude.{◌≡◌, ◌<◌, ◌+◌, ◌^◌, length, IfOk};
 ghost use Rattle.unit_io.specs.ReadsAt.{ReadsAt};
-ghost use Rattle.step_laws.specs.Steps.{Tidies};
-ghost use Rattle.place_taking.specs.Spending.{ErasesFree, SparesUsed, is_worn_out};
 ghost use Rattle.merge_laws.specs.Known.{KnowsPlaces};
-ghost use Rattle.selective_merge.specs.Homes.{IsLearnt, MergeCause};
+ghost use Rattle.selective_merge.specs.Homes.{IsLearnt};
+ghost use Rattle.selective_merge.specs.Leaving.{FindsSpot};
 ghost use Rattle.selective_merge.specs.Merging.{Merges, StaysMirrored, MergesInSteps, FailsAsMerge, CompletesMerge};
-ghost use Rattle.selective_merge.specs.Moving.{tables_of, Holds};
+ghost use Rattle.selective_merge.specs.Moving.{tables_of};
 ghost use Rattle.selective_merge.specs.Placing.{IsElsewhere, IsPlaced, MakesRoom, MakesRoomInSteps};
 ghost use Rattle.selective_merge.specs.Spotting.{HasHomeSpot, IsHomeSpot, IsSpotFor};
 ghost use Rattle.selective_merge.specs.Throughout.{ChartsThroughout};
@@ -45,17 +41,7 @@ fn merged_spot<C: Chip>(
         (C.told chip.old) }
     ensures spot { IfOk result (λ spot.
         IsHomeSpot (tables_of parts.new) unit spot.place spot.sector) }
-    ensures holds { Holds (C.told chip.old).places (tables_of parts.old) (tables_of parts.new) }
-    ensures draws { (parts.old.counter ≤ parts.new.counter)
-        × (parts.new.counter ≤ parts.old.counter + 13) }
-    ensures spares { OnOk result (SparesUsed parts.old.directory
-        (C.told chip.old) (C.told chip.new)) }
-    ensures costs { Spends (ErasesFree parts.old.directory parts.new.directory 3 (is_worn_out result))
-        (C.told chip.old) (C.told chip.new) }
-    ensures tidy { Tidies (tables_of parts.old) result (tables_of parts.new)
-        (C.told chip.old) (C.told chip.new) }
-    ensures accounts { Accounts (MergeCause parts.new.directory
-        (slice_index parts.old.directory.current unit) (spots_in parts.old.overflow unit)) result
+    ensures finds { FindsSpot unit (tables_of parts.old) (tables_of parts.new) result
         (C.told chip.old) (C.told chip.new) }
 {
     merge_learnt(chip, parts, unit, home)?;
@@ -89,17 +75,7 @@ fn elsewhere<C: Chip>(
         (C.told chip.old) }
     ensures spot { IfOk result (λ spot.
         IsSpotFor (tables_of parts.new) unit spot.place spot.sector) }
-    ensures holds { Holds (C.told chip.old).places (tables_of parts.old) (tables_of parts.new) }
-    ensures draws { (parts.old.counter ≤ parts.new.counter)
-        × (parts.new.counter ≤ parts.old.counter + 13) }
-    ensures spares { OnOk result (SparesUsed parts.old.directory
-        (C.told chip.old) (C.told chip.new)) }
-    ensures costs { Spends (ErasesFree parts.old.directory parts.new.directory 3 (is_worn_out result))
-        (C.told chip.old) (C.told chip.new) }
-    ensures tidy { Tidies (tables_of parts.old) result (tables_of parts.new)
-        (C.told chip.old) (C.told chip.new) }
-    ensures accounts { Accounts (MergeCause parts.new.directory
-        (slice_index parts.old.directory.current unit) (spots_in parts.old.overflow unit)) result
+    ensures finds { FindsSpot unit (tables_of parts.old) (tables_of parts.new) result
         (C.told chip.old) (C.told chip.new) }
 {
     match overflow_choice(parts, unit) {
@@ -145,17 +121,7 @@ pub fn log_place<C: Chip>(chip: &mut C, parts: &mut Parts, unit: u32) -> Result<
     ensures home { HasHomeSpot (tables_of parts.old) unit
         → (tables_of parts.new ≡ tables_of parts.old)
         × ReadsAt (λ p s. ⊥) (C.told chip.old) (C.told chip.new) }
-    ensures holds { Holds (C.told chip.old).places (tables_of parts.old) (tables_of parts.new) }
-    ensures draws { (parts.old.counter ≤ parts.new.counter)
-        × (parts.new.counter ≤ parts.old.counter + 13) }
-    ensures spares { OnOk result (SparesUsed parts.old.directory
-        (C.told chip.old) (C.told chip.new)) }
-    ensures costs { Spends (ErasesFree parts.old.directory parts.new.directory 3 (is_worn_out result))
-        (C.told chip.old) (C.told chip.new) }
-    ensures tidy { Tidies (tables_of parts.old) result (tables_of parts.new)
-        (C.told chip.old) (C.told chip.new) }
-    ensures accounts { Accounts (MergeCause parts.new.directory
-        (slice_index parts.old.directory.current unit) (spots_in parts.old.overflow unit)) result
+    ensures finds { FindsSpot unit (tables_of parts.old) (tables_of parts.new) result
         (C.told chip.old) (C.told chip.new) }
 {
     if let Some(spot) = home_spot(parts, unit) {

@@ -1,22 +1,25 @@
 -- Commit sectors, one after another.
-use Rattle.std.proofs.Common.{◌≡◌, take, ◌&&◌, inl, inr, ◌≤◌, ◌<◌, ◌+◌, ◌*◌, ℕ, zero, suc, max, List, [], ◌∷◌, ◌++◌, Option, Some, None, drop, refl, sym, ◌∙◌, ap, subst, arith, add-one, nat_le}
+use Rattle.std.proofs.Common.{◌≡◌, take, ◌&&◌, inl, inr, ◌≤◌, ◌<◌, ◌+◌, ◌*◌, ℕ, zero, suc, max, List, [], ◌∷◌, ◌++◌, ◌||◌, Bool, true, false, Result, Err, IfErr, Option, Some, None, drop, refl, sym, ◌∙◌, ap, subst, arith, add-one, nat_le}
 use Rattle.std.proofs.lemmas.List.{drop-drop}
-use Rattle.std.proofs.lemmas.Bool.{cases_eq, cases_Bool}
+use Rattle.std.proofs.lemmas.Bool.{and_left, cases_eq, cases_Bool, cond-false, eqb-true, le-leb, or_cases}
 use Rattle.ipl_format.specs.Numbers.{long_at}
 use Rattle.ipl_format.specs.Sector.{Sector}
 use Rattle.chip_trait.specs.Story.{Contents}
-use Rattle.chip_trait.specs.Told.{Told}
+use Rattle.chip_trait.specs.declared.event.Event.TheVariants.{Read}
+use Rattle.chip_trait.specs.Told.{Counts, Told}
 use Rattle.ipl_base.specs.declared.fault.ChipFault.{ChipFault}
 use Rattle.ipl_base.specs.declared.fault.ChipFault.TheVariants.{ReadFault, Stopped, Damaged, Malformed, WornOut}
 use Rattle.ipl_meaning.specs.Chart.{Chart}
-use Rattle.unit_io.specs.Kinds.{of_kinds, header_only, sector_named}
+use Rattle.unit_io.specs.Kinds.{of_kinds, header_only, status_only, sector_named}
 use Rattle.sector_format.specs.declared.sector.Head.{Head}
 use Rattle.sector_format.specs.Decode.{sector_of}
-use Rattle.unit_io.specs.ReadsAt.{IsCauseAt, ReadsOnce}
-use Rattle.unit_io.proofs.OnceLemmas.{once_then, once_wider}
+use Rattle.unit_io.specs.Reads.{Asked, IsReadFault}
+use Rattle.unit_io.specs.ReadsAt.{IsCauseAt, ReadsAt, ReadsOnce}
+use Rattle.unit_io.proofs.OnceLemmas.{once_asked, once_then, once_wider}
+use Rattle.unit_io.proofs.ReadsAtLemmas.{at_asked, at_then, at_wider}
 use Rattle.opening_laws.specs.First.{greatest_of, joined_below}
 use Rattle.opening_laws.specs.Payloads.{numbers_within}
-use Rattle.opening_laws.specs.Live.{commit_at, noted_at}
+use Rattle.opening_laws.specs.Live.{kept, is_commit_sector, is_close_mark, is_noted_of, commit_at, noted_at}
 use Rattle.opening_laws.specs.LaidOut.{numbers_of}
 use Rattle.opening_laws.specs.Faults.{noted_number, greatest_of_notes}
 use Rattle.opening_laws.specs.Marked.{serial_of}
@@ -25,7 +28,7 @@ use Rattle.opening_laws.proofs.FirstLemmas.{greatest_step, joined_step}
 use Rattle.opening_laws.proofs.BelowLemmas.{greatest_of-push}
 use Rattle.opening_laws.proofs.LiveLemmas.{noted_commits}
 use Rattle.number_set.specs.Numbers.{Numbers, with_list, with_number, with_numbers}
-use Rattle.txn_status.specs.ReadingIn.{under, IsCommitSpot, IsAt, IsStatusAt}
+use Rattle.txn_status.specs.ReadingIn.{under, IsCommitSpot, IsAt, IsStatusAt, LooksOnceAt}
 use Rattle.txn_status.specs.Marks.{MarksRead, with_noted, marks_below}
 
 -- ---- the numbers of a payload
@@ -79,6 +82,22 @@ cause_wider At More (Damaged p s stored computed) old mid new more wider cause =
 cause_wider At More (Malformed p s) old mid new more wider cause = wider p s cause
 cause_wider At More (WornOut n) old mid new more wider cause = cause
 
+-- one sector was asked for, and why the call failed
+pub looks_asked : {T U : Type 0} (p s : ℕ) (asked : Result U ChipFault) (result : Result T ChipFault)
+    (old new : Told) → Asked (Read p s) asked old new → Counts old new
+    → IfErr result (λ e. IsCauseAt (IsAt p s) e old new) → LooksOnceAt (IsAt p s) result old new
+looks_asked p s asked result old new asks counts cause = record {
+  reads = at_asked (IsAt p s) p s asked old new (refl, refl) asks counts;
+  once = once_asked (IsAt p s) p s asked old new (refl, refl) asks;
+  cause = cause;
+}
+
+-- since a read failed
+pub read_failed : (At : ℕ → ℕ → Type 0) (e : ChipFault) (old new : Told) → IsReadFault e old new
+    → IsCauseAt At e old new
+read_failed At e old new failed =
+    subst (λ (f : ChipFault). IsCauseAt At f old new) (sym failed.0) failed.1
+
 pub in_place : (place sector : ℕ) → 1 ≤ sector → sector < 256 → (p s : ℕ) → IsAt place sector p s
     → IsCommitSpot place p s
 in_place place sector least most p s is = (is.0, omega (arith, is.1), omega (arith, is.1))
@@ -102,6 +121,61 @@ pub once_in_place : (place n : ℕ) (old new : Told) → ReadsOnce (IsCommitBelo
     → ReadsOnce (IsCommitSpot place) old new
 once_in_place place n old new =
     once_wider (IsCommitBelow place n) (IsCommitSpot place) old new (λ p s below. below.0)
+
+-- the same of all reads
+pub reads_more : (place sector : ℕ) (old mid new : Told) → 1 ≤ sector → sector < 256
+    → ReadsAt (IsCommitSpot place) old mid → ReadsAt (IsAt place sector) mid new
+    → ReadsAt (IsCommitSpot place) old new
+reads_more place sector old mid new least most so_far more =
+    at_then (IsCommitSpot place) old mid new so_far
+    (at_wider (IsAt place sector) (IsCommitSpot place) mid new (in_place place sector least most) more)
+
+-- one more wasn't read
+pub looks_failed : (place sector : ℕ) (e : ChipFault) (old mid new : Told) → 1 ≤ sector
+    → sector < 256 → ReadsAt (IsCommitSpot place) old mid
+    → ReadsOnce (IsCommitBelow place sector) old mid
+    → LooksOnceAt {T = ℕ} (IsAt place sector) (Err e) mid new
+    → LooksOnceAt {T = ℕ} (IsCommitSpot place) (Err e) old new
+looks_failed place sector e old mid new least most so_far once looks = record {
+  reads = reads_more place sector old mid new least most so_far looks.reads;
+  once = once_in_place place (sector + 1) old new
+      (once_more place sector old mid new least most once looks.once);
+  cause = cause_wider (IsAt place sector) (IsCommitSpot place) e old mid new so_far.counts.reads
+      (in_place place sector least most) looks.cause;
+}
+
+-- ---- what is noted
+
+-- of these kinds is what is noted
+noted_of_kinds : (generation : ℕ) (o : Option Sector)
+    → kept (is_noted_of generation) (status_only o) ≡ kept (is_noted_of generation) o
+noted_of_kinds generation None = refl
+noted_of_kinds generation (Some r) = elim (cases_Bool (nat_le 6 r.kind && nat_le r.kind 7)) [
+  | inl yes_it ↦ rw yes_it refl
+  | inr no_it ↦
+      rw no_it (sym (cond-false (is_noted_of generation r) (Some r) None (and_left _ _ (other no_it))))
+]
+  where
+    other : (nat_le 6 r.kind && nat_le r.kind 7) ≡ false
+        → (is_commit_sector r || is_close_mark r) ≡ false
+    other no_it = elim (cases_Bool (is_commit_sector r || is_close_mark r)) [
+      | inl one ↦ elim (or_cases (is_commit_sector r) (is_close_mark r) one) [
+        | inl commit ↦ absurd (let none : ◌≡◌ {A = Bool} true false =
+            subst (λ (n : ℕ). (nat_le 6 n && nat_le n 7) ≡ false) (eqb-true r.kind 6 commit) no_it in cc)
+        | inr close ↦ absurd (let none : ◌≡◌ {A = Bool} true false =
+            subst (λ (n : ℕ). (nat_le 6 n && nat_le n 7) ≡ false) (eqb-true r.kind 7 close) no_it in cc)
+      ]
+      | inr none ↦ none
+    ]
+
+-- so is what was found at a sector
+pub noted_found : (c : Chart) (p generation s : ℕ) (o : Option Sector) → 1 ≤ s
+    → o ≡ status_only (c p s)
+    → kept (is_noted_of generation) o ≡ noted_at c (under p generation) s
+noted_found c p generation s o some is =
+    let found : kept (is_noted_of generation) o ≡ kept (is_noted_of generation) (c p s) =
+    ap (kept (is_noted_of generation)) is ∙ noted_of_kinds generation (c p s) in
+    rw (le-leb 1 s some) found
 
 -- ---- the sectors of a place
 
@@ -130,12 +204,13 @@ marks_more c p generation s before after so_far more =
 pub numbers_more : (c : Chart) (p generation s : ℕ) (before after : List ℕ)
     → before ≡ with_numbers (joined_below
     (λ j. numbers_of (commit_at c (under p generation) j)) s) []
-    → after ≡ with_numbers (numbers_of (commit_at c (under p generation) s)) before
+    → after ≡ with_numbers (numbers_of (kept is_commit_sector (noted_at c (under p generation) s))) before
     → after ≡ with_numbers (joined_below (λ j. numbers_of (commit_at c (under p generation) j))
     (s + 1)) []
 numbers_more c p generation s before after so_far more =
     let f : ℕ → List ℕ = λ j. numbers_of (commit_at c (under p generation) j) in
-    more ∙ ap (with_numbers (f s)) so_far ∙ sym (with_both (joined_below f s) (f s) [])
+    more ∙ ap (λ (o : Option Sector). with_numbers (numbers_of o) before) (noted_commits c (under p generation) s)
+    ∙ ap (with_numbers (f s)) so_far ∙ sym (with_both (joined_below f s) (f s) [])
     ∙ ap (λ (l : List ℕ). with_numbers l []) (sym (joined_step f s))
 
 -- the sectors that were read are whole

@@ -1,9 +1,9 @@
 -- What a switch leaves: the parts and the header.
-use Rattle.std.proofs.Common.{◌≡◌, ◌≢◌, ℕ, ◌<◌, ◌≤◌, ◌+◌, true, false, List, ◌++◌, length, slice_index, Result, Ok, Err, IfErr, is_ok, inl, inr, sym, ◌∙◌, ap, subst, arith}
+use Rattle.std.proofs.Common.{◌≡◌, ◌≢◌, ℕ, ◌<◌, ◌≤◌, ◌+◌, true, false, List, length, slice_index, Result, Ok, Err, IfErr, is_ok, inl, inr, sym, ◌∙◌, ap, subst, arith}
 use Rattle.std.specs.Prelude.{◌⊎◌}
 use Rattle.std.specs.List.{Contains}
 use Rattle.chip_trait.specs.Chart.{with_sector}
-use Rattle.chip_trait.specs.Lawful.{Clean, age, AreClean}
+use Rattle.chip_trait.specs.Lawful.{Clean, age}
 use Rattle.chip_trait.specs.Story.{Story}
 use Rattle.chip_trait.specs.Told.{History, Told, adds_all}
 use Rattle.chip_trait.proofs.AgeLemmas.{clean_lasting}

@@ -6,4 +6,5 @@ pub mod Writing
 pub mod Laws
 pub mod ReadingIn
 pub mod Marks
+pub mod TakingIn
 pub mod Marking

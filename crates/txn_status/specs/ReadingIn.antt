@@ -1,5 +1,6 @@
 -- What the commit sectors and close marks of a place make of the status.
-use Rattle.std.specs.Prelude.{ℕ, ◌≡◌, ◌≤◌, ◌<◌, ◌+◌, true, length, [], Option, Some, None, Result, MatchResult, Ok, Err, IfOk, OnOk}
+use Rattle.std.specs.Prelude.{ℕ, ◌≡◌, ◌≤◌, ◌<◌, ◌+◌, true, length, [], Option, Some, None, Result, MatchResult, Ok, Err, IfOk, IfErr, OnOk}
+use Rattle.chip_trait.specs.Told.{Told}
 use Rattle.ipl_base.specs.declared.limits.TheConstants.{SECTORS}
 use Rattle.ipl_base.specs.declared.fault.ChipFault.{ChipFault}
 use Rattle.ipl_base.specs.declared.fault.ChipFault.TheVariants.{ReadFault}
@@ -8,6 +9,7 @@ use Rattle.ipl_base.specs.declared.fault.ImageFault.TheVariants.{Chip}
 use Rattle.ipl_format.specs.Sector.{Sector}
 use Rattle.ipl_meaning.specs.Chart.{Chart}
 use Rattle.ipl_meaning.specs.Tables.{Status}
+use Rattle.unit_io.specs.ReadsAt.{ReadsAt, ReadsOnce, IsCauseAt}
 use Rattle.ipl_base.specs.First.{first_below}
 use Rattle.opening_laws.specs.Chosen.{Winner}
 use Rattle.opening_laws.specs.Live.{sectors}
@@ -28,6 +30,14 @@ IsCommitSpot place p s = (p ≡ place) × (1 ≤ s) × (s < SECTORS)
 -- a sector of the place
 abbrev pub IsOfPlace : ℕ → ℕ → ℕ → Type 0
 IsOfPlace place p s = (p ≡ place) × (s < SECTORS)
+
+-- However the call ended, it added nothing but reads of these sectors, of each at most one. Where it
+-- failed, a read did and the count of these rose; or one of these sectors isn't what it must be.
+pub record LooksOnceAt {T : Type 0} (At : ℕ → ℕ → Type 0) (result : Result T ChipFault)
+    (old new : Told) : Type 0 where
+  pub reads : ReadsAt At old new
+  pub once : ReadsOnce At old new
+  pub cause : IfErr result (λ e. IsCauseAt At e old new)
 
 -- The commit sectors and close marks that count are those of this place with this generation. Of a
 -- header their rules look at no more.

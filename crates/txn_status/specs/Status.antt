@@ -1,6 +1,6 @@
 -- What the calls on the status make of it, and what always holds of it.
-use Rattle.std.specs.Prelude.{ℕ, ◌≤◌, ◌+◌, ◌-◌, ◌*◌, ◌/◌, List, [], length}
-use Rattle.ipl_base.specs.declared.limits.TheConstants.{SECTORS, COMMIT_NUMBERS}
+use Rattle.std.specs.Prelude.{ℕ, ◌≡◌, ◌≤◌, ◌+◌, ◌-◌, ◌*◌, ◌/◌, List, [], length, Result, OnOk, OnErr}
+use Rattle.ipl_base.specs.declared.limits.TheConstants.{SECTORS, COMMIT_NUMBERS, KEPT_NUMBERS}
 use Rattle.ipl_meaning.specs.Tables.{Status}
 use Rattle.number_set.specs.Numbers.{with_numbers, AreRising}
 
@@ -21,6 +21,18 @@ after_add it numbers =
 abbrev pub after_mark : Status → Status
 after_mark it = record it { first = it.first + 1 }
 
+-- done, the status is this one, and else it is as it was; and one number was drawn
+pub record AdvancesTo {T E : Type 0} (after : Status) (result : Result T E) (old new : Status)
+    (next then : ℕ) : Type 0 where
+  pub done : OnOk result (new ≡ after)
+  pub same : OnErr result (new ≡ old)
+  pub drawn : then ≡ next + 1
+
+-- the numbers fit a new status place: they rise, and are at most 3,840
+pub record FitStatusPlace (kept : List ℕ) : Type 0 where
+  pub rising : AreRising kept
+  pub few : length kept ≤ KEPT_NUMBERS
+
 -- how many commit sectors these numbers fill
 abbrev pub parts_of : List ℕ → ℕ
 parts_of numbers = (length numbers + (COMMIT_NUMBERS - 1)) / COMMIT_NUMBERS
@@ -29,6 +41,15 @@ parts_of numbers = (length numbers + (COMMIT_NUMBERS - 1)) / COMMIT_NUMBERS
 abbrev pub switched_to : ℕ → ℕ → List ℕ → Status
 switched_to place generation kept =
     record { place = place; generation = generation; numbers = kept; first = 1 + parts_of kept }
+
+-- Done, the status stands at the new place, and a number was drawn for each commit sector; else it is as
+-- it was. At most 64 numbers were drawn.
+pub record SwitchesTo {T E : Type 0} (place generation : ℕ) (kept : List ℕ) (result : Result T E)
+    (old new : Status) (next then : ℕ) : Type 0 where
+  pub switched : OnOk result (new ≡ switched_to place generation kept)
+  pub same : OnErr result (new ≡ old)
+  pub drawn : OnOk result (then ≡ next + parts_of kept)
+  pub draws : (next ≤ then) × (then ≤ next + 64)
 
 -- What always holds: the numbers rise, and are at most 60 for each sector of the place that is not
 -- known clean, but for its header; and the first clean one is one of 1 to 255, or there is none.

@@ -1,9 +1,10 @@
 -- What the calls leave that write one sector of a status place, or several.
-use Rattle.std.specs.Prelude.{ℕ, ◌≡◌, ◌≢◌, List, Some, None, Result}
+use Rattle.std.specs.Prelude.{ℕ, ◌≡◌, ◌≢◌, List, Some, None, Result, is_ok}
 use Rattle.chip_trait.specs.declared.event.Event.TheVariants.{Program}
 use Rattle.chip_trait.specs.Image.{IsClosed}
 use Rattle.chip_trait.specs.Lawful.{Clean, age}
 use Rattle.chip_trait.specs.Chart.{with_sector}
+use Rattle.chip_trait.specs.Story.{Story}
 use Rattle.chip_trait.specs.Told.{History, Told, adds}
 use Rattle.ipl_base.specs.declared.fault.ChipFault.{ChipFault}
 use Rattle.ipl_format.specs.Sector.{Sector, sector_in}
@@ -13,11 +14,35 @@ use Rattle.ipl_meaning.specs.Stands.{StandsBeside}
 use Rattle.ipl_meaning.specs.Rests.{now, IsUntouched, EachStands, WornAreIdle, StoryRests}
 use Rattle.ipl_meaning.specs.Tables.{Tables, IsCountedClean}
 use Rattle.ipl_meaning.specs.Marks.{AreUnused, KeepsMarks, MarksNoMore}
-use Rattle.unit_io.specs.Leads.{IsSteady, LeadsWhere, RestsAdded, KeepsMap, SwitchesMap}
+use Rattle.unit_io.specs.Accounts.{Accounts}
+use Rattle.unit_io.specs.Costs.{ProgramsAt, Spends}
+use Rattle.unit_io.specs.Leads.{IsSteady, IsStopped, LeadsWhere, RestsAdded, KeepsMap, SwitchesMap}
 use Rattle.unit_io.specs.Spots.{Programs, IsSpot}
 use Rattle.unit_io.specs.Charts.{Gains}
+use Rattle.unit_io.specs.Unread.{ReadsNothing}
 use Rattle.txn_status.specs.Status.{parts_of}
 use Rattle.txn_status.specs.Switching.{HasParts, IsPartSpot, IsStatusHead}
+
+-- ---- what is programmed
+
+-- At most one program, at this spot and of a sector of this kind, and one barrier. It fails only where a
+-- write failed.
+pub record WritesOneSector (p s kind : ℕ) (result : Result (Unit {0}) ChipFault) (old new : Told)
+    : Type 0 where
+  pub costs : Spends (ProgramsAt p 1 1 kind) old new
+  pub tidy : Spends (Programs p (IsSpot s) (is_ok result)) old new
+  pub accounts : Accounts IsStopped result old new
+
+-- Programs of this place alone, at these spots and each once, at this cost; nothing is read. It fails
+-- only where a write failed.
+pub record OnlyPrograms (Cost : Story → Type 0) (p : ℕ) (Spot : ℕ → Type 0)
+    (result : Result (Unit {0}) ChipFault) (old new : Told) : Type 0 where
+  pub costs : Spends Cost old new
+  pub tidy : Spends (Programs p Spot (is_ok result)) old new
+  pub unread : Spends ReadsNothing old new
+  pub accounts : Accounts IsStopped result old new
+
+-- ---- what a power cut leaves
 
 -- a commit sector, added where nothing is open and after which no more is marked: it switches the
 -- map to what stands with it

@@ -1,16 +1,13 @@
 //! Commit sectors and close marks, encoded and programmed.
-ghost use Rattle.std.specs.Prelude.{◌≡◌, ◌≤◌, ◌<◌, ◌+◌, ◌++◌, length, OnOk, is_ok};
+ghost use Rattle.std.specs.Prelude.{◌≡◌, ◌≤◌, ◌<◌, ◌+◌, ◌++◌, length, OnOk};
 ghost use Rattle.ipl_base.specs.declared.limits.TheConstants.{PAYLOAD_LEN};
 ghost use Rattle.ipl_format.specs.Numbers.{long};
-ghost use Rattle.unit_io.specs.Accounts.{Accounts};
-ghost use Rattle.unit_io.specs.Leads.{IsStopped};
 ghost use Rattle.unit_io.specs.Costs.{ProgramsAt, Spends};
 ghost use Rattle.unit_io.specs.Charts.{Charts, Gains};
-ghost use Rattle.unit_io.specs.Spots.{AddsSector, Programs, IsSpot};
-ghost use Rattle.unit_io.specs.Unread.{ReadsNothing};
+ghost use Rattle.unit_io.specs.Spots.{AddsSector, IsSpot};
 ghost use Rattle.txn_status.specs.Commits.{commit_bytes, commit_sector};
 ghost use Rattle.txn_status.specs.Marking.{mark_sector};
-ghost use Rattle.txn_status.specs.Writing.{LeadsCommit, LeadsMark, LeadsPart};
+ghost use Rattle.txn_status.specs.Writing.{LeadsCommit, LeadsMark, LeadsPart, OnlyPrograms, WritesOneSector};
 ghost use Rattle.sector_format.specs.Written.{written_head};
 
 use arrayvec::ArrayVec;
@@ -66,10 +63,8 @@ pub(crate) fn write_commit<C: Chip>(
     ensures tells { OnOk result (Charts
         (Gains spot.place spot.sector (commit_sector generation serial numbers.now))
         (C.told chip.old) (C.told chip.new)) }
-    ensures costs { Spends (ProgramsAt spot.place 1 1 6) (C.told chip.old) (C.told chip.new) }
-    ensures tidy { Spends (Programs spot.place (IsSpot spot.sector) (is_ok result))
+    ensures writes { WritesOneSector spot.place spot.sector 6 result
         (C.told chip.old) (C.told chip.new) }
-    ensures accounts { Accounts IsStopped result (C.told chip.old) (C.told chip.new) }
 {
     let payload = payload_of(numbers);
     add_commit(
@@ -98,10 +93,8 @@ pub fn write_mark<C: Chip>(
     ensures tells { OnOk result (Charts
         (Gains spot.place spot.sector (mark_sector generation serial payload.now))
         (C.told chip.old) (C.told chip.new)) }
-    ensures costs { Spends (ProgramsAt spot.place 1 1 7) (C.told chip.old) (C.told chip.new) }
-    ensures tidy { Spends (Programs spot.place (IsSpot spot.sector) (is_ok result))
+    ensures writes { WritesOneSector spot.place spot.sector 7 result
         (C.told chip.old) (C.told chip.new) }
-    ensures accounts { Accounts IsStopped result (C.told chip.old) (C.told chip.new) }
 {
     let head = Head::written(Head::MARK, 0, generation, serial);
     add_mark(chip, spot, &head, payload)
@@ -123,11 +116,8 @@ pub(crate) fn write_part<C: Chip>(
     ensures tells { OnOk result (Charts
         (Gains spot.place spot.sector (commit_sector generation serial numbers.now))
         (C.told chip.old) (C.told chip.new)) }
-    ensures costs { Spends (ProgramsAt spot.place 1 0 6) (C.told chip.old) (C.told chip.new) }
-    ensures tidy { Spends (Programs spot.place (IsSpot spot.sector) (is_ok result))
+    ensures writes { OnlyPrograms (ProgramsAt spot.place 1 0 6) spot.place (IsSpot spot.sector) result
         (C.told chip.old) (C.told chip.new) }
-    ensures unread { Spends ReadsNothing (C.told chip.old) (C.told chip.new) }
-    ensures accounts { Accounts IsStopped result (C.told chip.old) (C.told chip.new) }
 {
     let payload = payload_of(numbers);
     prepare_commit(

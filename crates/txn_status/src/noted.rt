@@ -1,5 +1,5 @@
 //! What is noted at a sector of a status place: a commit sector, a close mark or nothing.
-ghost use Rattle.std.specs.Prelude.{◌≡◌, ◌≤◌, ◌+◌, max, true, length, Some, IfOk, IfErr, IfSome, OnOk};
+ghost use Rattle.std.specs.Prelude.{◌≡◌, ◌≤◌, ◌+◌, true, length, Some, IfOk, IfErr, IfSome};
 ghost use Rattle.ipl_base.specs.declared.limits.TheConstants.{MOST_UNITS, PAYLOAD_LEN};
 ghost use Rattle.ipl_base.specs.declared.fault.ChipFault.TheVariants.{Malformed};
 ghost use Rattle.ipl_format.specs.Whole.{IsWhole};
@@ -11,6 +11,7 @@ ghost use Rattle.opening_laws.specs.LaidOut.{numbers_of};
 ghost use Rattle.number_set.specs.Numbers.{with_numbers};
 ghost use Rattle.txn_status.specs.ReadingIn.{of_image, GrowsBy};
 ghost use Rattle.txn_status.specs.Marks.{with_noted};
+ghost use Rattle.txn_status.specs.TakingIn.{TakesIn};
 
 use crate::last_mark::LastMark;
 use crate::payloads::{add_numbers, greatest_number, is_commit};
@@ -75,18 +76,13 @@ fn take_sector(
     requires kind { (6 ≤ head.now.kind) × (head.now.kind ≤ 7) }
     requires units { units ≤ MOST_UNITS }
     requires room { length numbers.old.list + 60 ≤ numbers.old.most }
-    ensures numbers { OnOk result (numbers.new.list ≡ with_numbers (numbers_of
-        (kept is_commit_sector
-        (kept (is_noted_of generation) (Some (sector_of head.now payload.now)))))
-        numbers.old.list) }
+    ensures takes { IfOk result (λ n. TakesIn
+        (kept (is_noted_of generation) (Some (sector_of head.now payload.now)))
+        greatest n numbers.old.list numbers.new.list mark.old mark.new) }
     ensures grows { GrowsBy 60 numbers.old numbers.new }
-    ensures marks { OnOk result (mark.new ≡ with_noted
-        (kept (is_noted_of generation) (Some (sector_of head.now payload.now))) mark.old) }
     ensures fault { TellsImageFault (noted_test units spot.place spot.sector
         (kept (is_noted_of generation) (Some (sector_of head.now payload.now))))
         (of_image result) }
-    ensures number { IfOk result (λ n. n ≡ max greatest (noted_number
-        (kept (is_noted_of generation) (Some (sector_of head.now payload.now))))) }
     ensures cause { IfErr result (λ e. e ≡ Malformed spot.place spot.sector) }
 {
     if head.generation != generation {
@@ -116,16 +112,12 @@ pub fn take_found(
     requires fits { IfSome found (λ it. it.1 ≤ PAYLOAD_LEN) }
     requires units { units ≤ MOST_UNITS }
     requires room { length numbers.old.list + 60 ≤ numbers.old.most }
-    ensures numbers { OnOk result (numbers.new.list ≡ with_numbers (numbers_of
-        (kept is_commit_sector (kept (is_noted_of generation) (sector_named bytes.now found))))
-        numbers.old.list) }
+    ensures takes { IfOk result (λ n. TakesIn
+        (kept (is_noted_of generation) (sector_named bytes.now found))
+        greatest n numbers.old.list numbers.new.list mark.old mark.new) }
     ensures grows { GrowsBy 60 numbers.old numbers.new }
-    ensures marks { OnOk result (mark.new ≡ with_noted
-        (kept (is_noted_of generation) (sector_named bytes.now found)) mark.old) }
     ensures fault { TellsImageFault (noted_test units spot.place spot.sector
         (kept (is_noted_of generation) (sector_named bytes.now found))) (of_image result) }
-    ensures number { IfOk result (λ n. n ≡ max greatest (noted_number
-        (kept (is_noted_of generation) (sector_named bytes.now found)))) }
     ensures cause { IfErr result (λ e. e ≡ Malformed spot.place spot.sector) }
     ensures whole { IsWhole bytes.now }
 {

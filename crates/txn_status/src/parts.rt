@@ -1,17 +1,14 @@
 //! Numbers and a header, put on a new status place.
-ghost use Rattle.std.specs.Prelude.{◌≡◌, ◌≤◌, ◌<◌, ◌+◌, ◌*◌, ◌^◌, length, OnOk, is_ok};
+ghost use Rattle.std.specs.Prelude.{◌≡◌, ◌≤◌, ◌<◌, ◌+◌, ◌*◌, ◌^◌, length, OnOk};
 ghost use Rattle.ipl_base.specs.declared.limits.TheConstants.{KEPT_NUMBERS, VERSION};
 ghost use Rattle.ipl_format.specs.Header.{AreRetired};
-ghost use Rattle.unit_io.specs.Accounts.{Accounts};
-ghost use Rattle.unit_io.specs.Leads.{IsStopped};
-ghost use Rattle.unit_io.specs.Costs.{ProgramsAt, Spends};
+ghost use Rattle.unit_io.specs.Costs.{ProgramsAt};
 ghost use Rattle.unit_io.specs.Charts.{Charts};
-ghost use Rattle.unit_io.specs.Spots.{Programs, IsSpot};
-ghost use Rattle.unit_io.specs.Unread.{ReadsNothing};
+ghost use Rattle.unit_io.specs.Spots.{IsSpot};
 ghost use Rattle.txn_status.specs.Commits.{part_of};
 ghost use Rattle.txn_status.specs.Status.{parts_of};
 ghost use Rattle.txn_status.specs.Switching.{HasParts, IsPartSpot};
-ghost use Rattle.txn_status.specs.Writing.{LeadsParts, LeadsHeader, IsHeaded};
+ghost use Rattle.txn_status.specs.Writing.{LeadsParts, LeadsHeader, IsHeaded, OnlyPrograms};
 
 use crate::commits::write_part;
 use chip_trait::Chip;
@@ -59,11 +56,8 @@ pub(crate) fn write_parts<C: Chip>(
         (C.told chip.old) (C.told chip.new)) }
     ensures drawn { OnOk result (counter.new ≡ counter.old + parts_of numbers.now) }
     ensures draws { (counter.old ≤ counter.new) × (counter.new ≤ counter.old + 64) }
-    ensures costs { Spends (ProgramsAt place 64 0 6) (C.told chip.old) (C.told chip.new) }
-    ensures tidy { Spends (Programs place (IsPartSpot (parts_of numbers.now)) (is_ok result))
-        (C.told chip.old) (C.told chip.new) }
-    ensures unread { Spends ReadsNothing (C.told chip.old) (C.told chip.new) }
-    ensures accounts { Accounts IsStopped result (C.told chip.old) (C.told chip.new) }
+    ensures writes { OnlyPrograms (ProgramsAt place 64 0 6) place
+        (IsPartSpot (parts_of numbers.now)) result (C.told chip.old) (C.told chip.new) }
 {
     let count = part_count(numbers);
     for i in 0..count {
@@ -94,11 +88,8 @@ pub(crate) fn seal_status<C: Chip>(
         (IsHeaded (C.told chip.old).places place header.now.units header.now.erases retired.now
         generation)
         (C.told chip.old) (C.told chip.new)) }
-    ensures costs { Spends (ProgramsAt place 1 2 2) (C.told chip.old) (C.told chip.new) }
-    ensures tidy { Spends (Programs place (IsSpot 0) (is_ok result))
+    ensures writes { OnlyPrograms (ProgramsAt place 1 2 2) place (IsSpot 0) result
         (C.told chip.old) (C.told chip.new) }
-    ensures unread { Spends ReadsNothing (C.told chip.old) (C.told chip.new) }
-    ensures accounts { Accounts IsStopped result (C.told chip.old) (C.told chip.new) }
 {
     let mut payload = [0; 265];
     let used = write_status_header(header, retired, &mut payload);

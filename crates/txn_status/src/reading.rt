@@ -1,18 +1,16 @@
 //! The commit sectors and close marks of a place are read.
-ghost use Rattle.std.specs.Prelude.{◌≡◌, ◌<◌, ◌≤◌, ◌+◌, ℕ, max, length, [], IfOk, IfErr, OnOk};
+ghost use Rattle.std.specs.Prelude.{◌≡◌, ◌<◌, ◌≤◌, ◌+◌, ℕ, length, IfOk, IfErr, OnOk};
 ghost use Rattle.ipl_base.specs.declared.limits.TheConstants.{MOST_UNITS, STATUS_NUMBERS};
 ghost use Rattle.ipl_format.specs.Sector.{Sector};
 ghost use Rattle.ipl_meaning.specs.Chart.{chart_of};
 ghost use Rattle.unit_io.specs.Reads.{OfContents};
-ghost use Rattle.unit_io.specs.ReadsAt.{ReadsAt, ReadsOnce, IsCauseAt};
+ghost use Rattle.unit_io.specs.ReadsAt.{ReadsAt, IsCauseAt};
 ghost use Rattle.ipl_base.specs.First.{first_below};
-ghost use Rattle.opening_laws.specs.Live.{sectors, commit_at, noted_at};
-ghost use Rattle.opening_laws.specs.Faults.{TellsImageFault, noted_fault, noted_number, greatest_of_notes};
-ghost use Rattle.opening_laws.specs.LaidOut.{numbers_of, committed_numbers};
+ghost use Rattle.opening_laws.specs.Live.{sectors, noted_at};
+ghost use Rattle.opening_laws.specs.Faults.{TellsImageFault, noted_fault};
 ghost use Rattle.ipl_format.specs.Whole.{IsWhole};
-ghost use Rattle.number_set.specs.Numbers.{with_numbers};
-ghost use Rattle.txn_status.specs.ReadingIn.{under, of_image, GrowsBy, IsCommitSpot, IsAt, IsStatusAt, IsHeadRead};
-ghost use Rattle.txn_status.specs.Marks.{with_noted, marks_in};
+ghost use Rattle.txn_status.specs.ReadingIn.{under, of_image, GrowsBy, IsCommitSpot, IsAt, IsStatusAt, IsHeadRead, LooksOnceAt};
+ghost use Rattle.txn_status.specs.TakingIn.{TakesIn, TakesInPlace};
 
 use crate::last_mark::LastMark;
 use crate::noted::take_found;
@@ -56,24 +54,17 @@ fn read_spot<C: Chip>(
     requires sector { spot.sector < 256 }
     requires units { units ≤ MOST_UNITS }
     requires room { length numbers.old.list + 60 ≤ numbers.old.most }
-    ensures numbers { OnOk result (OfContents (C.told chip.old) (λ x.
-        numbers.new.list ≡ with_numbers (numbers_of
-        (commit_at (chart_of x) (under spot.place generation) spot.sector)) numbers.old.list)) }
+    ensures takes { IfOk result (λ n. OfContents (C.told chip.old) (λ x.
+        TakesIn (noted_at (chart_of x) (under spot.place generation) spot.sector)
+        greatest n numbers.old.list numbers.new.list mark.old mark.new)) }
     ensures grows { GrowsBy 60 numbers.old numbers.new }
-    ensures marks { OnOk result (OfContents (C.told chip.old) (λ x. mark.new ≡ with_noted
-        (noted_at (chart_of x) (under spot.place generation) spot.sector) mark.old)) }
     ensures fault { OfContents (C.told chip.old) (λ x. TellsImageFault
         (noted_fault units (chart_of x) (under spot.place generation) spot.sector)
         (of_image result)) }
-    ensures number { IfOk result (λ n. OfContents (C.told chip.old) (λ x.
-        n ≡ max greatest (noted_number
-        (noted_at (chart_of x) (under spot.place generation) spot.sector)))) }
     ensures whole { OnOk result (OfContents (C.told chip.old) (λ x.
         IsWhole (x spot.place spot.sector))) }
-    ensures reads { ReadsAt (IsAt spot.place spot.sector) (C.told chip.old) (C.told chip.new) }
-    ensures once { ReadsOnce (IsAt spot.place spot.sector) (C.told chip.old) (C.told chip.new) }
-    ensures cause { IfErr result (λ e.
-        IsCauseAt (IsAt spot.place spot.sector) e (C.told chip.old) (C.told chip.new)) }
+    ensures looks { LooksOnceAt (IsAt spot.place spot.sector) result
+        (C.told chip.old) (C.told chip.new) }
 {
     let mut bytes = [0; 512];
     let found = read_noted(chip, spot, &mut bytes)?;
@@ -97,24 +88,16 @@ pub fn read_commits<C: Chip>(
     requires place { place < (C.told chip.old).places }
     requires units { units ≤ MOST_UNITS }
     requires room { STATUS_NUMBERS ≤ numbers.old.most }
-    ensures numbers { OnOk result (OfContents (C.told chip.old) (λ x.
-        numbers.new.list
-        ≡ with_numbers (committed_numbers (chart_of x) (under place generation)) [])) }
+    ensures takes { IfOk result (λ n. OfContents (C.told chip.old) (λ x.
+        TakesInPlace (chart_of x) place generation n numbers.new.list mark.new)) }
     ensures few { length numbers.new.list ≤ STATUS_NUMBERS }
     ensures most { numbers.new.most ≡ numbers.old.most }
-    ensures marks { OnOk result (OfContents (C.told chip.old) (λ x.
-        mark.new ≡ marks_in (chart_of x) place generation)) }
-    ensures number { IfOk result (λ n. OfContents (C.told chip.old) (λ x.
-        n ≡ greatest_of_notes 0 (chart_of x) (under place generation) sectors)) }
     ensures fault { OfContents (C.told chip.old) (λ x. TellsImageFault
         (first_below (noted_fault units (chart_of x) (under place generation)) sectors)
         (of_image result)) }
     ensures whole { OnOk result (OfContents (C.told chip.old) (λ x.
         (s : ℕ) → 1 ≤ s → s < 256 → IsWhole (x place s))) }
-    ensures reads { ReadsAt (IsCommitSpot place) (C.told chip.old) (C.told chip.new) }
-    ensures once { ReadsOnce (IsCommitSpot place) (C.told chip.old) (C.told chip.new) }
-    ensures cause { IfErr result (λ e.
-        IsCauseAt (IsCommitSpot place) e (C.told chip.old) (C.told chip.new)) }
+    ensures looks { LooksOnceAt (IsCommitSpot place) result (C.told chip.old) (C.told chip.new) }
 {
     numbers.clear();
     *mark = LastMark::none();

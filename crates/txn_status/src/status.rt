@@ -1,26 +1,23 @@
 //! The status of transactions.
-ghost use Rattle.std.specs.Prelude.{◌≡◌, ◌≤◌, ◌<◌, ◌+◌, ◌^◌, ◌↔◌, ℕ, length, Contains, IfOk, IfErr, IsTrue, OnOk, OnErr, is_ok};
-ghost use Rattle.ipl_base.specs.declared.limits.TheConstants.{KEPT_NUMBERS, MOST_UNITS, STATUS_NUMBERS, VERSION};
+ghost use Rattle.std.specs.Prelude.{◌≡◌, ◌≤◌, ◌<◌, ◌+◌, ◌^◌, ◌↔◌, ℕ, length, Contains, IfOk, IfErr, IsTrue, OnOk};
+ghost use Rattle.ipl_base.specs.declared.limits.TheConstants.{MOST_UNITS, STATUS_NUMBERS, VERSION};
 ghost use Rattle.ipl_format.specs.Header.{AreRetired};
 ghost use Rattle.ipl_format.specs.Sector.{Sector};
 ghost use Rattle.ipl_meaning.specs.Chart.{chart_of};
-ghost use Rattle.unit_io.specs.Accounts.{Accounts};
-ghost use Rattle.unit_io.specs.Leads.{IsStopped};
-ghost use Rattle.unit_io.specs.Costs.{ProgramsAt, Spends};
+ghost use Rattle.unit_io.specs.Costs.{Spends};
 ghost use Rattle.unit_io.specs.Charts.{Charts, Gains};
-ghost use Rattle.unit_io.specs.Spots.{AddsSector, Programs, IsSpot};
-ghost use Rattle.unit_io.specs.Unread.{ReadsNothing};
+ghost use Rattle.unit_io.specs.Spots.{AddsSector};
 ghost use Rattle.unit_io.specs.Reads.{OfContents};
-ghost use Rattle.unit_io.specs.ReadsAt.{ReadsAt, ReadsOnce, IsCauseAt};
+ghost use Rattle.unit_io.specs.ReadsAt.{ReadsAt, IsCauseAt};
 ghost use Rattle.ipl_format.specs.Whole.{IsWhole};
-ghost use Rattle.number_set.specs.Numbers.{AreRising};
-ghost use Rattle.txn_status.specs.ReadingIn.{IsReadIn, IsCommitSpot, IsOfPlace, IsStatusAt};
+ghost use Rattle.txn_status.specs.ReadingIn.{IsReadIn, IsCommitSpot, IsOfPlace, IsStatusAt, LooksOnceAt};
 ghost use Rattle.txn_status.specs.Marks.{marks_in};
 ghost use Rattle.txn_status.specs.Marking.{mark_sector, MarksInSteps};
-ghost use Rattle.txn_status.specs.Status.{after_mark, empty_status, room_of, after_add, parts_of, switched_to, IsSoundStatus};
+ghost use Rattle.txn_status.specs.Status.{after_mark, empty_status, room_of, after_add, parts_of, AdvancesTo, FitStatusPlace, IsSoundStatus, SwitchesTo};
 ghost use Rattle.txn_status.specs.Adding.{Adds, AddsInSteps, KeepsFirstAt};
 ghost use Rattle.place_taking.specs.Fills.{FillsAt};
 ghost use Rattle.txn_status.specs.Switching.{IsStatusSpot, ListsAt, Switches, SwitchesInSteps};
+ghost use Rattle.txn_status.specs.Writing.{OnlyPrograms, WritesOneSector};
 
 use crate::commits::{write_commit, write_mark};
 use crate::last_mark::LastMark;
@@ -150,10 +147,7 @@ impl Status {
             × (self.new.generation ≡ generation) × (self.new.first ≡ 256)) }
 
         // What it does to the chip, and why it fails.
-        ensures reads { ReadsAt (IsCommitSpot place) (C.told chip.old) (C.told chip.new) }
-        ensures once { ReadsOnce (IsCommitSpot place) (C.told chip.old) (C.told chip.new) }
-        ensures cause { IfErr result (λ e.
-            IsCauseAt (IsCommitSpot place) e (C.told chip.old) (C.told chip.new)) }
+        ensures looks { LooksOnceAt (IsCommitSpot place) result (C.told chip.old) (C.told chip.new) }
     {
         // With any numbers there is room only where no sector is known clean.
         self.first = SECTORS;
@@ -213,9 +207,8 @@ impl Status {
         requires some { 1 ≤ length tids.now }
         requires few { length tids.now ≤ 60 }
         requires left { counter.old + 1 < 2 ^ 64 }
-        ensures added { OnOk result (self.new ≡ after_add self.old tids.now) }
-        ensures same { OnErr result (self.new ≡ self.old) }
-        ensures drawn { counter.new ≡ counter.old + 1 }
+        ensures added { AdvancesTo (after_add self.old tids.now) result self.old self.new
+            counter.old counter.new }
 
         // What the chip holds then, and what a power cut leaves.
         ensures adds { OnOk result (Charts
@@ -226,13 +219,10 @@ impl Status {
             (C.told chip.old) (C.told chip.new)) }
         ensures steps { AddsInSteps (C.told chip.old).places self.old counter.old tids.now
             result (C.told chip.old) (C.told chip.new) }
-        // One program and a barrier.
-        ensures costs { Spends (ProgramsAt self.old.place 1 1 6)
+        // One program and a barrier. Whatever the chip holds, only the first sector that is known
+        // clean is programmed.
+        ensures writes { WritesOneSector self.old.place self.old.first 6 result
             (C.told chip.old) (C.told chip.new) }
-        // Whatever the chip holds, only the first sector that is known clean is programmed.
-        ensures tidy { Spends (Programs self.old.place (IsSpot self.old.first) (is_ok result))
-            (C.told chip.old) (C.told chip.new) }
-        ensures accounts { Accounts IsStopped result (C.told chip.old) (C.told chip.new) }
     {
         let serial = counter.draw();
         let spot = Spot {
@@ -263,9 +253,8 @@ impl Status {
         requires room { 0 < room_of self.old }
         requires fits { length payload.now ≤ 132 }
         requires left { counter.old + 1 < 2 ^ 64 }
-        ensures marked { OnOk result (self.new ≡ after_mark self.old) }
-        ensures same { OnErr result (self.new ≡ self.old) }
-        ensures drawn { counter.new ≡ counter.old + 1 }
+        ensures marked { AdvancesTo (after_mark self.old) result self.old self.new
+            counter.old counter.new }
 
         // What the chip holds then, and what a power cut leaves.
         // Done, that mark was programmed, and then a barrier waited for.
@@ -277,13 +266,10 @@ impl Status {
             (C.told chip.old) (C.told chip.new)) }
         ensures steps { MarksInSteps (C.told chip.old).places self.old counter.old payload.now
             result (C.told chip.old) (C.told chip.new) }
-        // One program and a barrier.
-        ensures costs { Spends (ProgramsAt self.old.place 1 1 7)
+        // One program and a barrier. Whatever the chip holds, only the first sector that is known
+        // clean is programmed.
+        ensures writes { WritesOneSector self.old.place self.old.first 7 result
             (C.told chip.old) (C.told chip.new) }
-        // Whatever the chip holds, only the first sector that is known clean is programmed.
-        ensures tidy { Spends (Programs self.old.place (IsSpot self.old.first) (is_ok result))
-            (C.told chip.old) (C.told chip.new) }
-        ensures accounts { Accounts IsStopped result (C.told chip.old) (C.told chip.new) }
     {
         let serial = counter.draw();
         let spot = Spot {
@@ -316,14 +302,11 @@ impl Status {
     ) -> Result<(), ChipFault>
         requires place { place < (C.told chip.old).places }
         requires listed { AreRetired VERSION (C.told chip.old).places header.now.units retired.now }
-        requires rising { AreRising kept.now }
-        requires few { length kept.now ≤ KEPT_NUMBERS }
+        requires fits { FitStatusPlace kept.now }
         requires last { counter.old ≡ generation + 1 }
         requires left { counter.old + 64 < 2 ^ 64 }
-        ensures switched { OnOk result (self.new ≡ switched_to place generation kept.now) }
-        ensures same { OnErr result (self.new ≡ self.old) }
-        ensures drawn { OnOk result (counter.new ≡ counter.old + parts_of kept.now) }
-        ensures draws { (counter.old ≤ counter.new) × (counter.new ≤ counter.old + 64) }
+        ensures moved { SwitchesTo place generation kept.now result self.old self.new
+            counter.old counter.new }
 
         // What the chip holds then, and what a power cut leaves.
         ensures switches { OnOk result (Charts
@@ -335,14 +318,10 @@ impl Status {
             (C.told chip.old) (C.told chip.new)) }
         ensures steps { SwitchesInSteps (C.told chip.old).places header.now.units header.now.erases
             retired.now self.old generation place kept.now result (C.told chip.old) (C.told chip.new) }
-        // Programs of the place alone, and two barriers.
-        ensures costs { Spends (FillsAt place 2) (C.told chip.old) (C.told chip.new) }
-        // Whatever the chip holds, each sector is programmed once, and none of those behind.
-        ensures tidy { Spends (Programs place (IsStatusSpot (parts_of kept.now)) (is_ok result))
+        // Programs of the place alone, and two barriers. Whatever the chip holds, each sector is
+        // programmed once, and none of those behind.
+        ensures writes { OnlyPrograms (FillsAt place 2) place (IsStatusSpot (parts_of kept.now)) result
             (C.told chip.old) (C.told chip.new) }
-        // It reads nothing.
-        ensures unread { Spends ReadsNothing (C.told chip.old) (C.told chip.new) }
-        ensures accounts { Accounts IsStopped result (C.told chip.old) (C.told chip.new) }
     {
         write_parts(chip, counter, place, generation, kept)?;
         seal_status(chip, place, generation, header, retired)?;

@@ -14,7 +14,7 @@ returns-clause-steps g c =
     let room : t.status.first < 256 = omega (arith, c.requires.room) in
     mark_closes old.places t c.mark.new.self c.mark.new.counter payload c.mark.result old new c.requires.known
     c.facts.ensures.least room c.known_units-len.ensures.spelled c.known_units-len.ensures.known
-    c.mark.ensures.marked c.mark.ensures.accounts.cause c.mark.ensures.steps
+    c.mark.ensures.marked.done c.mark.ensures.writes.accounts.cause c.mark.ensures.steps
 
 pub returns-clause-tidy : goal.returns-clause-tidy
 returns-clause-tidy g c =
@@ -23,7 +23,7 @@ returns-clause-tidy g c =
     let t = tables_of c.args.parts.now in
     let room : t.status.first < 256 = omega (arith, c.requires.room) in
     mark_tidies old.places t c.mark.new.self c.mark.new.counter c.mark.result old new c.requires.known room
-    c.mark.ensures.marked c.mark.ensures.accounts.cause c.mark.ensures.tidy
+    c.mark.ensures.marked.done c.mark.ensures.writes.accounts.cause c.mark.ensures.writes.tidy
 
 pub returns-clause-ends : goal.returns-clause-ends
 returns-clause-ends g c =

@@ -1,4 +1,4 @@
-use Rattle.std.proofs.Common.{ℕ, Result, Ok, Err, true, false, refl, ◌∙◌, ap, subst}
+use Rattle.std.proofs.Common.{ℕ, Result, Ok, Err, true, false, arith, refl, sym, ◌∙◌, ap, subst}
 use Rattle.std.proofs.lemmas.Result.{err_from_is_err_and}
 use Rattle.chip_trait.proofs.CountsLemmas.{counts_then}
 use Rattle.unit_io.specs.Charts.{Charts}
@@ -13,6 +13,7 @@ use Rattle.page_writing.proofs.SpendLemmas.{unplaced_costs, placed_costs, room_c
 use Rattle.page_writing.proofs.SpotLemmas.{holds_then}
 use Rattle.page_writing.proofs.WearLemmas.{no_room_wears, room_wears}
 use Rattle.place_taking.proofs.WearLemmas.{wears_are_joined}
+use Rattle.merge_laws.specs.Known.{KnowsPlaces}
 use Rattle.merge_laws.proofs.FaultLemmas.{fault_as, fault_stopped}
 use Rattle.selective_merge.proofs.CompleteLemmas.{fails_complete}
 use Rattle.ipl_base.specs.declared.fault.ChipFault.{ChipFault}
@@ -26,20 +27,22 @@ pub returns-in_err-at-clause-tells : goal.returns-in_err-at-clause-tells
 returns-in_err-at-clause-tells g c =
     let e = err_from_is_err_and c.from_residual.result c.from_residual.ensures.1 in
     let says = c.in_err-at.ensures in
+    let leaves = says.finds.leaves in
     let old = g.C.Chip.told c.args.chip.now in
     rw e.1 (λ soft. unplaced_told old.places c.args.unit (tables_of c.args.parts.now)
     (tables_of c.log_place.new.parts) old (g.C.Chip.told c.log_place.new.chip)
-    says.holds.known.none_lost says.holds.active (says.tells (λ same. soft (e.2 ∙ same))))
+    leaves.holds.known.none_lost leaves.holds.active (says.tells (λ same. soft (e.2 ∙ same))))
 
 pub returns-in_err-at-clause-steps : goal.returns-in_err-at-clause-steps
 returns-in_err-at-clause-steps g c =
     let e = err_from_is_err_and c.from_residual.result c.from_residual.ensures.1 in
     let says = c.in_err-at.ensures in
+    let leaves = says.finds.leaves in
     let old = g.C.Chip.told c.args.chip.now in
     rw (e.1, e.2) (λ m it records h steady rests agrees payload_of.
     unplaced_steps old.places c.args.unit (tables_of c.args.parts.now)
     (tables_of c.log_place.new.parts) old (g.C.Chip.told c.log_place.new.chip)
-    says.holds.known.none_lost says.holds.active c.in_err-at.field-0.0 says.steps m it h steady rests
+    leaves.holds.known.none_lost leaves.holds.active c.in_err-at.field-0.0 says.steps m it h steady rests
     agrees)
 
 pub returns-in_err-at-clause-costs : goal.returns-in_err-at-clause-costs
@@ -50,12 +53,12 @@ returns-in_err-at-clause-costs g c =
     c.args.unit (g.C.Chip.told c.args.chip.now) (g.C.Chip.told c.log_place.new.chip)
     (room_costs _ (tells_worn c.in_err-at.field-0.0) (tables_of c.args.parts.now) (tables_of c.log_place.new.parts) c.args.unit
     (g.C.Chip.told c.args.chip.now) (g.C.Chip.told c.log_place.new.chip)
-    c.in_err-at.ensures.home c.in_err-at.ensures.costs))
+    c.in_err-at.ensures.home c.in_err-at.ensures.finds.costs))
 
 pub returns-in_err-at-clause-accounts : goal.returns-in_err-at-clause-accounts
 returns-in_err-at-clause-accounts g c =
     let e = err_from_is_err_and c.from_residual.result c.from_residual.ensures.1 in
-    let says = c.in_err-at.ensures.accounts in
+    let says = c.in_err-at.ensures.finds.leaves.accounts in
     rw (e.1, e.2) (record { counts = says.counts; cause = says.cause })
 
 -- ---- the sector wasn't written
@@ -80,13 +83,14 @@ returns-in_err-write_log-clause-steps g c =
     let after = tables_of c.write_log.new.parts in
     let at = c.in_ok-at.at in
     let found = c.in_ok-at.ensures in
+    let leaves = found.finds.leaves in
     rw (e.1, e.2) (out_steps old.places c.args.unit at c.args.payload.now
     (tables_of c.args.parts.now) between after old mid new (Err c.in_err-write_log.field-0.0)
-    found.accounts.counts
+    leaves.accounts.counts
     (found_steps old.places c.args.unit (tables_of c.args.parts.now) between old mid
-    found.holds.known.none_lost found.holds.active at found.steps)
+    leaves.holds.known.none_lost leaves.holds.active at found.steps)
     (subst (λ (n : ℕ). WritesLogInSteps n c.args.unit at c.args.payload.now between after mid
-    (Err c.in_err-write_log.field-0.0) new) found.accounts.counts.places
+    (Err c.in_err-write_log.field-0.0) new) leaves.accounts.counts.places
     c.in_err-write_log.ensures.steps))
 
 pub returns-in_err-write_log-clause-holds : goal.returns-in_err-write_log-clause-holds
@@ -95,8 +99,9 @@ returns-in_err-write_log-clause-holds g c =
     let between = tables_of c.log_place.new.parts in
     let after = tables_of c.write_log.new.parts in
     let found = c.in_ok-at.ensures in
-    holds_then old.places (tables_of c.args.parts.now) between after found.holds
-    (subst (λ (n : ℕ). Holds n between after) found.accounts.counts.places
+    let leaves = found.finds.leaves in
+    holds_then old.places (tables_of c.args.parts.now) between after leaves.holds
+    (subst (λ (n : ℕ). Holds n between after) leaves.accounts.counts.places
     c.in_err-write_log.ensures.holds)
 
 pub returns-in_err-write_log-clause-costs : goal.returns-in_err-write_log-clause-costs
@@ -110,7 +115,7 @@ returns-in_err-write_log-clause-costs g c =
     (g.C.Chip.told c.write_log.new.chip) (ap tells_worn (e.2 ∙ says.accounts.cause.0))
     (room_costs _ false (tables_of c.args.parts.now) (tables_of c.log_place.new.parts) c.args.unit
     (g.C.Chip.told c.args.chip.now) (g.C.Chip.told c.log_place.new.chip)
-    c.in_ok-at.ensures.home c.in_ok-at.ensures.costs) says.costs says.uses)
+    c.in_ok-at.ensures.home c.in_ok-at.ensures.finds.costs) says.costs says.uses)
 
 pub returns-in_err-write_log-clause-accounts : goal.returns-in_err-write_log-clause-accounts
 returns-in_err-write_log-clause-accounts g c =
@@ -119,7 +124,7 @@ returns-in_err-write_log-clause-accounts g c =
     let old = g.C.Chip.told c.args.chip.now in
     let mid = g.C.Chip.told c.log_place.new.chip in
     let new = g.C.Chip.told c.write_log.new.chip in
-    let found = c.in_ok-at.ensures.accounts in
+    let found = c.in_ok-at.ensures.finds.leaves.accounts in
     let says = c.in_err-write_log.ensures.accounts in
     rw (e.1, e.2) (record {
       counts = counts_then old mid new found.counts says.counts;
@@ -138,12 +143,13 @@ returns-clause-tells g c =
     let after = tables_of c.write_log.new.parts in
     let at = c.in_ok-at.at in
     let found = c.in_ok-at.ensures in
+    let leaves = found.finds.leaves in
     out_told old.places c.args.unit at c.args.payload.now (tables_of c.args.parts.now) between after
     old mid new
     (found_told old.places c.args.unit (tables_of c.args.parts.now) between old mid
-    found.holds.known.none_lost found.holds.active at found.tells)
+    leaves.holds.known.none_lost leaves.holds.active at found.tells)
     (subst (λ (n : ℕ). Charts (WritesLog n c.args.unit at c.args.payload.now between after) mid new)
-    found.accounts.counts.places c.in_ok-write_log.ensures.tells)
+    leaves.accounts.counts.places c.in_ok-write_log.ensures.tells)
 
 pub returns-clause-steps : goal.returns-clause-steps
 returns-clause-steps g c =
@@ -154,12 +160,13 @@ returns-clause-steps g c =
     let after = tables_of c.write_log.new.parts in
     let at = c.in_ok-at.at in
     let found = c.in_ok-at.ensures in
+    let leaves = found.finds.leaves in
     out_steps old.places c.args.unit at c.args.payload.now (tables_of c.args.parts.now) between
-    after old mid new (Ok tt) found.accounts.counts
+    after old mid new (Ok tt) leaves.accounts.counts
     (found_steps old.places c.args.unit (tables_of c.args.parts.now) between old mid
-    found.holds.known.none_lost found.holds.active at found.steps)
+    leaves.holds.known.none_lost leaves.holds.active at found.steps)
     (subst (λ (n : ℕ). WritesLogInSteps n c.args.unit at c.args.payload.now between after mid
-    (Ok tt) new) found.accounts.counts.places c.in_ok-write_log.ensures.steps)
+    (Ok tt) new) leaves.accounts.counts.places c.in_ok-write_log.ensures.steps)
 
 pub returns-clause-holds : goal.returns-clause-holds
 returns-clause-holds g c =
@@ -167,8 +174,9 @@ returns-clause-holds g c =
     let between = tables_of c.log_place.new.parts in
     let after = tables_of c.write_log.new.parts in
     let found = c.in_ok-at.ensures in
-    holds_then old.places (tables_of c.args.parts.now) between after found.holds
-    (subst (λ (n : ℕ). Holds n between after) found.accounts.counts.places
+    let leaves = found.finds.leaves in
+    holds_then old.places (tables_of c.args.parts.now) between after leaves.holds
+    (subst (λ (n : ℕ). Holds n between after) leaves.accounts.counts.places
     c.in_ok-write_log.ensures.holds)
 
 pub returns-clause-costs : goal.returns-clause-costs
@@ -180,13 +188,13 @@ returns-clause-costs g c =
     (g.C.Chip.told c.write_log.new.chip) refl
     (room_costs _ false (tables_of c.args.parts.now) (tables_of c.log_place.new.parts) c.args.unit
     (g.C.Chip.told c.args.chip.now) (g.C.Chip.told c.log_place.new.chip)
-    c.in_ok-at.ensures.home c.in_ok-at.ensures.costs) says.costs says.uses
+    c.in_ok-at.ensures.home c.in_ok-at.ensures.finds.costs) says.costs says.uses
 
 pub returns-clause-accounts : goal.returns-clause-accounts
 returns-clause-accounts g c =
     record {
       counts = counts_then (g.C.Chip.told c.args.chip.now) (g.C.Chip.told c.log_place.new.chip)
-          (g.C.Chip.told c.write_log.new.chip) c.in_ok-at.ensures.accounts.counts
+          (g.C.Chip.told c.write_log.new.chip) c.in_ok-at.ensures.finds.leaves.accounts.counts
           c.in_ok-write_log.ensures.accounts.counts;
       cause = tt;
     }
@@ -223,21 +231,23 @@ returns-in_err-write_log-clause-tidy g c =
     let e = err_from_is_err_and c.from_residual-in_err-write_log.result
     c.from_residual-in_err-write_log.ensures.1 in
     let found = c.in_ok-at.ensures in
+    let leaves = found.finds.leaves in
     let failed : Result (Unit {0}) ChipFault = Err e.0 in
     rw e.1 (tables_then Spot ChipFault (tables_of c.args.parts.now)
     (tables_of c.log_place.new.parts) (tables_of c.write_log.new.parts) c.in_ok-at.at failed
     (g.C.Chip.told c.args.chip.now) (g.C.Chip.told c.log_place.new.chip)
-    (g.C.Chip.told c.write_log.new.chip) found.accounts.counts found.tidy
+    (g.C.Chip.told c.write_log.new.chip) leaves.accounts.counts leaves.tidy
     c.in_err-write_log.ensures.tidy)
 
 pub returns-clause-tidy : goal.returns-clause-tidy
 returns-clause-tidy g c =
     let found = c.in_ok-at.ensures in
+    let leaves = found.finds.leaves in
     let done : Result (Unit {0}) ChipFault = Ok tt in
     tables_then Spot ChipFault (tables_of c.args.parts.now) (tables_of c.log_place.new.parts)
     (tables_of c.write_log.new.parts) c.in_ok-at.at done (g.C.Chip.told c.args.chip.now)
     (g.C.Chip.told c.log_place.new.chip) (g.C.Chip.told c.write_log.new.chip)
-    found.accounts.counts found.tidy c.in_ok-write_log.ensures.tidy
+    leaves.accounts.counts leaves.tidy c.in_ok-write_log.ensures.tidy
 
 -- ---- the unit is where it was
 
@@ -265,9 +275,10 @@ returns-in_err-at-clause-wears g c =
     let e = err_from_is_err_and c.from_residual.result c.from_residual.ensures.1 in
     let old = g.C.Chip.told c.args.chip.now in
     let lost = c.in_err-at.ensures in
+    let leaves = lost.finds.leaves in
     rw (e.1, e.2) (no_room_wears old.places (tables_of c.args.parts.now) (tables_of c.log_place.new.parts)
-    (tells_worn c.in_err-at.field-0.0) old (g.C.Chip.told c.log_place.new.chip) c.requires.known lost.holds
-    lost.costs)
+    (tells_worn c.in_err-at.field-0.0) old (g.C.Chip.told c.log_place.new.chip) c.requires.known leaves.holds
+    lost.finds.costs)
 
 pub returns-in_err-write_log-clause-wears : goal.returns-in_err-write_log-clause-wears
 returns-in_err-write_log-clause-wears g c =
@@ -278,9 +289,10 @@ returns-in_err-write_log-clause-wears g c =
     let t = tables_of c.args.parts.now in
     let between = tables_of c.log_place.new.parts in
     let found = c.in_ok-at.ensures in
+    let leaves = found.finds.leaves in
     rw (e.1, e.2) (wears_are_joined t between (tables_of c.write_log.new.parts) false
     (tells_worn c.in_err-write_log.field-0.0) old mid (g.C.Chip.told c.write_log.new.chip)
-    (room_wears old.places t between old mid c.requires.known found.holds found.costs found.spares)
+    (room_wears old.places t between old mid c.requires.known leaves.holds found.finds.costs leaves.spares)
     c.in_err-write_log.ensures.wears)
 
 pub returns-clause-wears : goal.returns-clause-wears
@@ -290,7 +302,44 @@ returns-clause-wears g c =
     let t = tables_of c.args.parts.now in
     let between = tables_of c.log_place.new.parts in
     let found = c.in_ok-at.ensures in
+    let leaves = found.finds.leaves in
     wears_are_joined t between (tables_of c.write_log.new.parts) true false old mid
     (g.C.Chip.told c.write_log.new.chip)
-    (room_wears old.places t between old mid c.requires.known found.holds found.costs found.spares)
+    (room_wears old.places t between old mid c.requires.known leaves.holds found.finds.costs leaves.spares)
     c.in_ok-write_log.ensures.wears
+
+-- ---- what is left of what `log_place` leaves
+
+pub write_log-requires-clause-known : goal.write_log-requires-clause-known
+write_log-requires-clause-known g c =
+    let leaves = c.in_ok-at.ensures.finds.leaves in
+    subst (λ (n : ℕ). KnowsPlaces n (tables_of c.log_place.new.parts)) (sym leaves.accounts.counts.places)
+    leaves.holds.known
+
+pub write_log-requires-clause-unit : goal.write_log-requires-clause-unit
+write_log-requires-clause-unit g c = omega (arith, c.requires.unit, c.in_ok-at.ensures.finds.leaves.holds.units)
+
+pub write_log-requires-clause-left : goal.write_log-requires-clause-left
+write_log-requires-clause-left g c = omega (arith, c.requires.left, c.in_ok-at.ensures.finds.leaves.draws.1)
+
+pub returns-in_err-at-clause-holds : goal.returns-in_err-at-clause-holds
+returns-in_err-at-clause-holds g c = c.in_err-at.ensures.finds.leaves.holds
+
+pub returns-in_err-at-clause-draws : goal.returns-in_err-at-clause-draws
+returns-in_err-at-clause-draws g c =
+    let draws = c.in_err-at.ensures.finds.leaves.draws in (draws.0, omega (arith, draws.1))
+
+pub returns-in_err-write_log-clause-draws : goal.returns-in_err-write_log-clause-draws
+returns-in_err-write_log-clause-draws g c =
+    let draws = c.in_ok-at.ensures.finds.leaves.draws in
+    let one = c.in_err-write_log.ensures.drawn in (omega (arith, draws.0, one), omega (arith, draws.1, one))
+
+pub returns-clause-draws : goal.returns-clause-draws
+returns-clause-draws g c =
+    let draws = c.in_ok-at.ensures.finds.leaves.draws in
+    let one = c.in_ok-write_log.ensures.drawn in (omega (arith, draws.0, one), omega (arith, draws.1, one))
+
+pub returns-in_err-at-clause-tidy : goal.returns-in_err-at-clause-tidy
+returns-in_err-at-clause-tidy g c =
+    let e = err_from_is_err_and c.from_residual.result c.from_residual.ensures.1 in
+    rw e.1 c.in_err-at.ensures.finds.leaves.tidy

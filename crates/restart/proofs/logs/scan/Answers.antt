@@ -7,7 +7,7 @@ use Rattle.opening_laws.specs.First.{at}
 use Rattle.opening_laws.specs.Faults.{log_fault}
 use Rattle.restart.specs.Notes.{AreSized}
 use Rattle.restart.specs.Masked.{mask_by}
-use Rattle.restart.proofs.LookLemmas.{reads_none, reads_then, looks_then}
+use Rattle.restart.proofs.LookLemmas.{reads_none, reads_then, looks_then, looks_done}
 use Rattle.restart.specs.Counted.{AreReadLogs}
 use Rattle.restart.proofs.CountedLogLemmas.{homes_then, unknown_then}
 use Rattle.restart.proofs.LogLemmas.{at_low, respelled}
@@ -16,9 +16,6 @@ use Rattle.restart.proofs.MaskedLemmas.{masked_first}
 use Rattle.unit_io.proofs.OnceLemmas.{once_none}
 use Rattle.restart.proofs.OnceLemmas.{InPlacesBelow, one_place_more, logs_once}
 use Rattle.restart.proofs.logs.scan.Goals as goal
-
-pub returns-in_err-gathered-clause-looks : goal.returns-in_err-gathered-clause-looks
-returns-in_err-gathered-clause-looks g c = looks_then c.scan_place.result c.from_residual.result c.loop-place.invariant.reads c.scan_place.ensures.looks c.in_err-gathered.was c.from_residual.ensures.1
 
 pub loop-place-init : goal.loop-place-init
 loop-place-init g c =
@@ -30,7 +27,7 @@ loop-place-init g c =
       scanned = λ x holds. record {
         noted = grind (arith, common_steps);
         masked = masked_first heads current (mask_by heads current (chart_of x)) c.args.overflow.now.places (length c.args.current.now) (length c.args.current.now) c.args.directory.now c.set_units.new.self
-            (λ u winner is. at_low c.args.current.now u winner is) c.requires.blank c.set_units.ensures;
+            (λ u winner is. at_low c.args.current.now u winner is) c.requires.tables.blank c.set_units.ensures;
         collected = kept_first c.args.status.now.numbers heads current (chart_of x) c.clear-2.new.self c.clear-2.ensures;
         number = refl;
         fine = refl;
@@ -46,16 +43,16 @@ loop-place-init g c =
 pub loop-place-preserved : goal.loop-place-preserved
 loop-place-preserved g c =
     let same = c.loop-place.invariant.reads in record {
-      reads = reads_then same c.scan_place.ensures.looks.reads;
+      reads = reads_then same c.scan_place.ensures.looks.only.reads;
       once = one_place_more (at c.args.heads.now) (at c.args.current.now) c.loop-place.place (g.C.Chip.told c.args.chip.now) (g.C.Chip.told c.loop-place.chip) (g.C.Chip.told c.scan_place.new.chip)
-          c.loop-place.invariant.once c.scan_place.ensures.once;
+          c.loop-place.invariant.once c.scan_place.ensures.looks.once;
       scanned = λ x told. c.in_ok-gathered.ensures.scanned x (same.contents ∙ told) c.args.least (c.loop-place.invariant.scanned x told);
       logs = λ x told mark homes start.
-          c.in_ok-gathered.ensures.logs x (same.contents ∙ told) mark homes (c.loop-place.invariant.logs x told mark homes start);
-      roomy = c.in_ok-gathered.ensures.roomy;
-      sized = subst (λ (n : ℕ). AreSized (length c.args.current.now) n c.scan_place.new.noted c.scan_place.new.overflow) c.requires.heads c.scan_place.ensures.sized;
-      unknown = unknown_then c.args.directory.now c.loop-place.directory c.scan_place.new.directory c.loop-place.invariant.unknown c.scan_place.ensures.unknown;
-      places = homes_then c.loop-place.invariant.places c.scan_place.ensures.places;
+          c.in_ok-gathered.ensures.logs.logs x (same.contents ∙ told) mark homes (c.loop-place.invariant.logs x told mark homes start);
+      roomy = c.in_ok-gathered.ensures.room.roomy;
+      sized = subst (λ (n : ℕ). AreSized (length c.args.current.now) n c.scan_place.new.noted c.scan_place.new.overflow) c.requires.heads c.scan_place.ensures.room.sized;
+      unknown = unknown_then c.args.directory.now c.loop-place.directory c.scan_place.new.directory c.loop-place.invariant.unknown c.scan_place.ensures.logs.unknown;
+      places = homes_then c.loop-place.invariant.places c.scan_place.ensures.logs.places;
     }
 
 pub returns-in_err-gathered-clause-fault : goal.returns-in_err-gathered-clause-fault
@@ -70,22 +67,37 @@ returns-in_err-gathered-clause-fault g c =
 pub returns-clause-scanned : goal.returns-clause-scanned
 returns-clause-scanned g c = λ x told. respelled (c.loop-place.invariant.scanned x told) (omega arith)
 
-pub returns-in_err-gathered-clause-once : goal.returns-in_err-gathered-clause-once
-returns-in_err-gathered-clause-once g c =
-    let heads = at c.args.heads.now in
-    let current = at c.args.current.now in
-    let old = g.C.Chip.told c.args.chip.now in
-    let new = g.C.Chip.told c.scan_place.new.chip in
-    logs_once heads current (c.loop-place.place + 1) old new (one_place_more heads current c.loop-place.place
-    old (g.C.Chip.told c.loop-place.chip) new c.loop-place.invariant.once c.scan_place.ensures.once)
-
-pub returns-clause-once : goal.returns-clause-once
-returns-clause-once g c =
-    logs_once (at c.args.heads.now) (at c.args.current.now) c.loop-place.place
-    (g.C.Chip.told c.args.chip.now) (g.C.Chip.told c.loop-place.chip) c.loop-place.invariant.once
+pub returns-in_err-gathered-clause-logs : goal.returns-in_err-gathered-clause-logs
+returns-in_err-gathered-clause-logs g c = record {
+  logs = search rules;
+  unknown = unknown_then c.args.directory.now c.loop-place.directory c.scan_place.new.directory c.loop-place.invariant.unknown c.scan_place.ensures.logs.unknown;
+  places = homes_then c.loop-place.invariant.places c.scan_place.ensures.logs.places;
+}
 
 pub returns-clause-logs : goal.returns-clause-logs
-returns-clause-logs g c = λ x told mark homes start.
-    let all : c.loop-place.place * 256 ≡ c.args.geometry.places * 256 = omega arith in
-    subst (λ (k : ℕ). AreReadLogs x mark (at c.args.current.now) (length c.args.current.now) k c.loop-place.directory) all
-    (c.loop-place.invariant.logs x told mark homes start)
+returns-clause-logs g c = record {
+  logs = λ x told mark homes start.
+      let all : c.loop-place.place * 256 ≡ c.args.geometry.places * 256 = omega arith in
+      subst (λ (k : ℕ). AreReadLogs x mark (at c.args.current.now) (length c.args.current.now) k c.loop-place.directory) all
+      (c.loop-place.invariant.logs x told mark homes start);
+  unknown = c.loop-place.invariant.unknown;
+  places = c.loop-place.invariant.places;
+}
+
+pub returns-in_err-gathered-clause-looks : goal.returns-in_err-gathered-clause-looks
+returns-in_err-gathered-clause-looks g c = record {
+  only = looks_then c.scan_place.result c.from_residual.result c.loop-place.invariant.reads c.scan_place.ensures.looks.only c.in_err-gathered.was c.from_residual.ensures.1;
+  once = let heads = at c.args.heads.now in
+      let current = at c.args.current.now in
+      let old = g.C.Chip.told c.args.chip.now in
+      let new = g.C.Chip.told c.scan_place.new.chip in
+      logs_once heads current (c.loop-place.place + 1) old new (one_place_more heads current c.loop-place.place
+      old (g.C.Chip.told c.loop-place.chip) new c.loop-place.invariant.once c.scan_place.ensures.looks.once);
+}
+
+pub returns-clause-looks : goal.returns-clause-looks
+returns-clause-looks g c = record {
+  only = looks_done _ c.loop-place.invariant.reads;
+  once = logs_once (at c.args.heads.now) (at c.args.current.now) c.loop-place.place
+      (g.C.Chip.told c.args.chip.now) (g.C.Chip.told c.loop-place.chip) c.loop-place.invariant.once;
+}

@@ -1,4 +1,4 @@
-use Rattle.std.proofs.Common.{◌∙◌, ◌+◌, ◌*◌, ap, sym, subst, length, Option}
+use Rattle.std.proofs.Common.{rules, ◌∙◌, ◌+◌, ◌*◌, ap, sym, subst, length, Option}
 use Rattle.ipl_format.specs.Sector.{Sector}
 use Rattle.sector_format.specs.Decode.{sector_of}
 use Rattle.std.specs.Option.{option_map}
@@ -17,91 +17,32 @@ use Rattle.restart.proofs.logs.take_log.Goals as goal
 pub check_log-requires-clause-unit : goal.check_log-requires-clause-unit
 check_log-requires-clause-unit c =
     (unit_low (at c.args.heads.now) c.args.current.now c.args.spot.place (length c.args.heads.now) (sector_of c.args.head.now c.args.payload.now) c.args.noted.now c.args.overflow.now
-    (sym (c.is_live.ensures c.args.payload.now) ∙ c.if-is_live.true) c.requires.sized).0
+    (sym (c.is_live.ensures c.args.payload.now) ∙ c.if-is_live.true) c.requires.room.sized).0
 
 pub check_log-requires-clause-list : goal.check_log-requires-clause-list
 check_log-requires-clause-list c =
     (unit_low (at c.args.heads.now) c.args.current.now c.args.spot.place (length c.args.heads.now) (sector_of c.args.head.now c.args.payload.now) c.args.noted.now c.args.overflow.now
-    (sym (c.is_live.ensures c.args.payload.now) ∙ c.if-is_live.true) c.requires.sized).1
+    (sym (c.is_live.ensures c.args.payload.now) ∙ c.if-is_live.true) c.requires.room.sized).1
 
 pub add-requires-clause-unit : goal.add-requires-clause-unit
 add-requires-clause-unit c =
     (unit_low (at c.args.heads.now) c.args.current.now c.args.spot.place (length c.args.heads.now) (sector_of c.args.head.now c.args.payload.now) c.args.noted.now c.args.overflow.now
-    (sym (c.is_live.ensures c.args.payload.now) ∙ c.if-is_live.true) c.requires.sized).0
+    (sym (c.is_live.ensures c.args.payload.now) ∙ c.if-is_live.true) c.requires.room.sized).0
 
 pub list_log-requires-clause-unit : goal.list_log-requires-clause-unit
 list_log-requires-clause-unit c =
     (unit_low (at c.args.heads.now) c.args.current.now c.args.spot.place (length c.args.heads.now) (sector_of c.args.head.now c.args.payload.now) c.args.noted.now c.args.overflow.now
-    (sym (c.is_live.ensures c.args.payload.now) ∙ c.if-is_live.true) c.requires.sized).1
+    (sym (c.is_live.ensures c.args.payload.now) ∙ c.if-is_live.true) c.requires.room.sized).1
 
 pub add-requires-clause-few : goal.add-requires-clause-few
 add-requires-clause-few c =
-    serial_fits (at c.args.heads.now) (at c.args.current.now) c.args.spot.place c.args.spot.sector c.requires.sector (sector_of c.args.head.now c.args.payload.now) c.requires.spot
-    (sym (c.is_live.ensures c.args.payload.now) ∙ c.if-is_live.true) c.args.noted.now c.args.overflow.now c.requires.roomy c.in_ok-check_log.ensures.room
-
-pub returns-then-is_live-clause-roomy : goal.returns-then-is_live-clause-roomy
-returns-then-is_live-clause-roomy c =
-    let sector = sector_of c.args.head.now c.args.payload.now in
-    let live = sym (c.is_live.ensures c.args.payload.now) ∙ c.if-is_live.true in
-    roomy_more (at c.args.heads.now) (at c.args.current.now) c.args.spot.place c.args.spot.sector c.requires.sector sector c.requires.spot live
-    c.args.noted.now c.args.overflow.now c.requires.roomy c.in_ok-check_log.ensures.room c.add.new.self c.list_log.new.overflow c.args.head.now.serial c.args.spot.place c.pages_of-mask.result c.add.ensures
-    (unit_low (at c.args.heads.now) c.args.current.now c.args.spot.place (length c.args.heads.now) sector c.args.noted.now c.args.overflow.now live c.requires.sized).1 c.list_log.ensures.listed
-
-pub returns-then-is_live-clause-noted : goal.returns-then-is_live-clause-noted
-returns-then-is_live-clause-noted c = λ marks noted.
-    let sector = sector_of c.args.head.now c.args.payload.now in
-    let live = sym (c.is_live.ensures c.args.payload.now) ∙ c.if-is_live.true in
-    noted_live (at c.args.heads.now) (at c.args.current.now) c.args.spot.place c.args.spot.sector c.pages_of-mask.result c.requires.sector sector
-    c.args.noted.now c.add.new.self c.args.overflow.now c.list_log.new.overflow marks live
-    (unit_low (at c.args.heads.now) c.args.current.now c.args.spot.place (length c.args.heads.now) sector c.args.noted.now c.args.overflow.now live c.requires.sized).1
-    c.add.ensures c.list_log.ensures.listed noted
-
-pub returns-then-is_live-clause-sized : goal.returns-then-is_live-clause-sized
-returns-then-is_live-clause-sized c =
-    sized_more _ _ c.args.head.now.unit c.args.head.now.serial c.args.spot.place c.args.spot.place c.args.spot.sector c.pages_of-mask.result (is_overflow_place (at c.args.heads.now c.args.spot.place))
-    c.args.noted.now c.add.new.self c.args.overflow.now c.list_log.new.overflow c.add.ensures c.list_log.ensures.listed c.requires.sized
-
-pub returns-in_err-check_log-clause-fault : goal.returns-in_err-check_log-clause-fault
-returns-in_err-check_log-clause-fault c = λ marks noted.
-    subst (λ (o : Option Sector). TellsImageFault (log_test (at c.args.heads.now) marks (c.args.spot.place * 256 + c.args.spot.sector) o) c.from_residual.result)
-    (sym (some_live (at c.args.heads.now) (at c.args.current.now) c.args.spot.place (sector_of c.args.head.now c.args.payload.now) (sym (c.is_live.ensures c.args.payload.now) ∙ c.if-is_live.true)))
-    (tells_exit c.from_residual.result _ c.in_err-check_log.field-0.0 c.from_residual.ensures.1 (c.in_err-check_log.ensures.fault marks noted))
-
-pub returns-then-is_live-clause-fault : goal.returns-then-is_live-clause-fault
-returns-then-is_live-clause-fault c = λ marks noted.
-    ap (log_test (at c.args.heads.now) marks (c.args.spot.place * 256 + c.args.spot.sector))
-    (some_live (at c.args.heads.now) (at c.args.current.now) c.args.spot.place (sector_of c.args.head.now c.args.payload.now) (sym (c.is_live.ensures c.args.payload.now) ∙ c.if-is_live.true))
-    ∙ c.in_ok-check_log.ensures.fault marks noted
-
-pub returns-clause-fault : goal.returns-clause-fault
-returns-clause-fault c = λ marks noted.
-    ap (log_test (at c.args.heads.now) marks (c.args.spot.place * 256 + c.args.spot.sector))
-    (none_live (at c.args.heads.now) (at c.args.current.now) c.args.spot.place (sector_of c.args.head.now c.args.payload.now) (sym (c.is_live.ensures c.args.payload.now) ∙ c.if-is_live.false))
-
-pub returns-clause-noted : goal.returns-clause-noted
-returns-clause-noted c = λ marks noted.
-    subst (λ (o : Option Sector). IsNoted c.args.noted.now c.args.overflow.now (with_one marks (option_map (mark_of (at c.args.heads.now) (c.args.spot.place * 256 + c.args.spot.sector)) o)))
-    (sym (none_live (at c.args.heads.now) (at c.args.current.now) c.args.spot.place (sector_of c.args.head.now c.args.payload.now) (sym (c.is_live.ensures c.args.payload.now) ∙ c.if-is_live.false))) noted
+    serial_fits (at c.args.heads.now) (at c.args.current.now) c.args.spot.place c.args.spot.sector c.requires.spot.sector (sector_of c.args.head.now c.args.payload.now) c.requires.spot.spot
+    (sym (c.is_live.ensures c.args.payload.now) ∙ c.if-is_live.true) c.args.noted.now c.args.overflow.now c.requires.room.roomy c.in_ok-check_log.ensures.room
 
 pub list_log-requires-clause-home : goal.list_log-requires-clause-home
 list_log-requires-clause-home c = λ home.
-    spot_sector (at c.args.heads.now) (at c.args.current.now) c.args.spot.place c.args.spot.sector (sector_of c.args.head.now c.args.payload.now) c.requires.spot
+    spot_sector (at c.args.heads.now) (at c.args.current.now) c.args.spot.place c.args.spot.sector (sector_of c.args.head.now c.args.payload.now) c.requires.spot.spot
     (sym (c.is_live.ensures c.args.payload.now) ∙ c.if-is_live.true) home
-
-pub returns-then-is_live-clause-masked : goal.returns-then-is_live-clause-masked
-returns-then-is_live-clause-masked c = λ found is so_far.
-    let sector = sector_of c.args.head.now c.args.payload.now in
-    let live = sym (c.is_live.ensures c.args.payload.now) ∙ c.if-is_live.true in
-    masked_live (at c.args.heads.now) (at c.args.current.now) found c.args.spot.place c.args.spot.sector c.requires.sector sector c.requires.spot live
-    c.args.directory.now c.args.overflow.now (length c.args.current.now) c.pages_of-mask.result c.facts.ensures c.facts-then-is_live.ensures c.requires.units
-    c.requires.sized.listed_units (live_low (at c.args.heads.now) c.args.current.now c.args.spot.place sector live) c.pages_of-mask.ensures is so_far
-    c.list_log.new.directory c.list_log.new.overflow c.list_log.ensures.masked c.list_log.ensures.listed
-
-pub returns-clause-masked : goal.returns-clause-masked
-returns-clause-masked c = λ found is so_far.
-    let none = none_live (at c.args.heads.now) (at c.args.current.now) c.args.spot.place (sector_of c.args.head.now c.args.payload.now) (sym (c.is_live.ensures c.args.payload.now) ∙ c.if-is_live.false) in
-    masked_none (at c.args.heads.now) (at c.args.current.now) found (c.args.spot.place * 256 + c.args.spot.sector) c.args.directory.now c.args.overflow.now
-    (λ u. is u ∙ ap (mask_of_sector u) none) so_far
 
 pub returns-then-is_live-clause-collected : goal.returns-then-is_live-clause-collected
 returns-then-is_live-clause-collected c = λ found are.
@@ -113,3 +54,60 @@ pub returns-clause-collected : goal.returns-clause-collected
 returns-clause-collected c = λ found are.
     subst (λ (o : Option Sector). AreKept (joined c.args.status.now.numbers (records_at o) found) c.args.fits c.args.numbers.now)
     (sym (none_live (at c.args.heads.now) (at c.args.current.now) c.args.spot.place (sector_of c.args.head.now c.args.payload.now) (sym (c.is_live.ensures c.args.payload.now) ∙ c.if-is_live.false))) are
+
+pub returns-in_err-check_log-clause-takes : goal.returns-in_err-check_log-clause-takes
+returns-in_err-check_log-clause-takes c = record {
+  fault = λ marks noted.
+      subst (λ (o : Option Sector). TellsImageFault (log_test (at c.args.heads.now) marks (c.args.spot.place * 256 + c.args.spot.sector) o) c.from_residual.result)
+      (sym (some_live (at c.args.heads.now) (at c.args.current.now) c.args.spot.place (sector_of c.args.head.now c.args.payload.now) (sym (c.is_live.ensures c.args.payload.now) ∙ c.if-is_live.true)))
+      (tells_exit c.from_residual.result _ c.in_err-check_log.field-0.0 c.from_residual.ensures.1 (c.in_err-check_log.ensures.fault marks noted));
+  noted = search rules;
+  masked = search rules;
+}
+
+pub returns-then-is_live-clause-takes : goal.returns-then-is_live-clause-takes
+returns-then-is_live-clause-takes c = record {
+  fault = λ marks noted.
+      ap (log_test (at c.args.heads.now) marks (c.args.spot.place * 256 + c.args.spot.sector))
+      (some_live (at c.args.heads.now) (at c.args.current.now) c.args.spot.place (sector_of c.args.head.now c.args.payload.now) (sym (c.is_live.ensures c.args.payload.now) ∙ c.if-is_live.true))
+      ∙ c.in_ok-check_log.ensures.fault marks noted;
+  noted = λ marks noted.
+      let sector = sector_of c.args.head.now c.args.payload.now in
+      let live = sym (c.is_live.ensures c.args.payload.now) ∙ c.if-is_live.true in
+      noted_live (at c.args.heads.now) (at c.args.current.now) c.args.spot.place c.args.spot.sector c.pages_of-mask.result c.requires.spot.sector sector
+      c.args.noted.now c.add.new.self c.args.overflow.now c.list_log.new.overflow marks live
+      (unit_low (at c.args.heads.now) c.args.current.now c.args.spot.place (length c.args.heads.now) sector c.args.noted.now c.args.overflow.now live c.requires.room.sized).1
+      c.add.ensures c.list_log.ensures.listed noted;
+  masked = λ found is so_far.
+      let sector = sector_of c.args.head.now c.args.payload.now in
+      let live = sym (c.is_live.ensures c.args.payload.now) ∙ c.if-is_live.true in
+      masked_live (at c.args.heads.now) (at c.args.current.now) found c.args.spot.place c.args.spot.sector c.requires.spot.sector sector c.requires.spot.spot live
+      c.args.directory.now c.args.overflow.now (length c.args.current.now) c.pages_of-mask.result c.facts.ensures c.facts-then-is_live.ensures c.requires.room.units
+      c.requires.room.sized.listed_units (live_low (at c.args.heads.now) c.args.current.now c.args.spot.place sector live) c.pages_of-mask.ensures is so_far
+      c.list_log.new.directory c.list_log.new.overflow c.list_log.ensures.masked c.list_log.ensures.listed;
+}
+
+pub returns-clause-takes : goal.returns-clause-takes
+returns-clause-takes c = record {
+  fault = λ marks noted.
+      ap (log_test (at c.args.heads.now) marks (c.args.spot.place * 256 + c.args.spot.sector))
+      (none_live (at c.args.heads.now) (at c.args.current.now) c.args.spot.place (sector_of c.args.head.now c.args.payload.now) (sym (c.is_live.ensures c.args.payload.now) ∙ c.if-is_live.false));
+  noted = λ marks noted.
+      subst (λ (o : Option Sector). IsNoted c.args.noted.now c.args.overflow.now (with_one marks (option_map (mark_of (at c.args.heads.now) (c.args.spot.place * 256 + c.args.spot.sector)) o)))
+      (sym (none_live (at c.args.heads.now) (at c.args.current.now) c.args.spot.place (sector_of c.args.head.now c.args.payload.now) (sym (c.is_live.ensures c.args.payload.now) ∙ c.if-is_live.false))) noted;
+  masked = λ found is so_far.
+      let none = none_live (at c.args.heads.now) (at c.args.current.now) c.args.spot.place (sector_of c.args.head.now c.args.payload.now) (sym (c.is_live.ensures c.args.payload.now) ∙ c.if-is_live.false) in
+      masked_none (at c.args.heads.now) (at c.args.current.now) found (c.args.spot.place * 256 + c.args.spot.sector) c.args.directory.now c.args.overflow.now
+      (λ u. is u ∙ ap (mask_of_sector u) none) so_far;
+}
+
+pub returns-then-is_live-clause-room : goal.returns-then-is_live-clause-room
+returns-then-is_live-clause-room c = record {
+  roomy = let sector = sector_of c.args.head.now c.args.payload.now in
+      let live = sym (c.is_live.ensures c.args.payload.now) ∙ c.if-is_live.true in
+      roomy_more (at c.args.heads.now) (at c.args.current.now) c.args.spot.place c.args.spot.sector c.requires.spot.sector sector c.requires.spot.spot live
+      c.args.noted.now c.args.overflow.now c.requires.room.roomy c.in_ok-check_log.ensures.room c.add.new.self c.list_log.new.overflow c.args.head.now.serial c.args.spot.place c.pages_of-mask.result c.add.ensures
+      (unit_low (at c.args.heads.now) c.args.current.now c.args.spot.place (length c.args.heads.now) sector c.args.noted.now c.args.overflow.now live c.requires.room.sized).1 c.list_log.ensures.listed;
+  sized = sized_more _ _ c.args.head.now.unit c.args.head.now.serial c.args.spot.place c.args.spot.place c.args.spot.sector c.pages_of-mask.result (is_overflow_place (at c.args.heads.now c.args.spot.place))
+      c.args.noted.now c.add.new.self c.args.overflow.now c.list_log.new.overflow c.add.ensures c.list_log.ensures.listed c.requires.room.sized;
+}

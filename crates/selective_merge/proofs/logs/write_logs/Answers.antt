@@ -1,4 +1,4 @@
-use Rattle.std.proofs.Common.{◌≡◌, ◌<◌, ◌+◌, ℕ, true, false, [], length, Ok, Err, subst, arith, refl, ap}
+use Rattle.std.proofs.Common.{◌≡◌, ◌<◌, ◌+◌, ℕ, true, false, [], length, Ok, Err, subst, arith, refl, ◌∙◌, ap}
 use Rattle.std.specs.Prelude.{slice_index_or}
 use Rattle.std.proofs.lemmas.List.{get_or_read}
 use Rattle.std.proofs.lemmas.Result.{err_from_is_err_and}
@@ -102,42 +102,60 @@ returns-clause-writes g c = λ m h steady rests bare clean.
     head.generation c.args.counter.now c.args.payloads.now n m h
     (g.C.Chip.told c.args.chip.now) (Ok tt) (g.C.Chip.told c.loop-i.chip)) done (c.loop-i.invariant.keeps m h steady rests bare clean)
 
-pub returns-in_err-write_log-clause-costs : goal.returns-in_err-write_log-clause-costs
-returns-in_err-write_log-clause-costs g c =
+pub returns-in_err-write_log-clause-serials : goal.returns-in_err-write_log-clause-serials
+returns-in_err-write_log-clause-serials g c =
+    let so = c.loop-i.invariant in
+    let says = c.in_err-write_log.ensures in
+    let low : c.loop-i.i < length c.args.payloads.now = omega arith in
+    let e = err_from_is_err_and c.from_residual.result c.from_residual.ensures.1 in
+    rw e.1 (record {
+      drawn = tt;
+      draws = (omega (arith, so.drawn, says.drawn), omega (arith, so.drawn, says.drawn, low));
+    })
+
+pub returns-clause-serials : goal.returns-clause-serials
+returns-clause-serials g c =
+    let so = c.loop-i.invariant in
+    let done : c.loop-i.i ≡ length c.args.payloads.now = omega arith in record {
+      drawn = omega (arith, so.drawn, done);
+      draws = (omega (arith, so.drawn), omega (arith, so.drawn, done));
+    }
+
+pub returns-in_err-write_log-clause-spends : goal.returns-in_err-write_log-clause-spends
+returns-in_err-write_log-clause-spends g c =
     let old = g.C.Chip.told c.args.chip.now in
     let mid = g.C.Chip.told c.loop-i.chip in
     let new = g.C.Chip.told c.write_log.new.chip in
     let p = c.args.place in
+    let n = length c.args.payloads.now in
     let i = c.loop-i.i in
-    let low : i < length c.args.payloads.now = omega arith in
-    spends_at_most p (i + 1) (length c.args.payloads.now) 0 0 5 old new (omega (arith, low))
-    (omega arith) (spends_at_then p i 1 0 0 5 old mid new c.loop-i.invariant.costs
-    c.in_err-write_log.ensures.costs)
+    let so = c.loop-i.invariant in
+    let says = c.in_err-write_log.ensures in
+    let stopped = says.accounts.cause in
+    let low : i < n = omega arith in
+    let e = err_from_is_err_and c.from_residual.result c.from_residual.ensures.1 in
+    rw (e.1 ∙ ap Err e.2) (record {
+      spares = tt;
+      costs = spends_at_most p (i + 1) n 0 0 5 old new (omega (arith, low)) (omega arith)
+          (spends_at_then p i 1 0 0 5 old mid new so.costs says.costs);
+      tidy = tidy_logs p (i + 1) n false false old new (omega (arith, low))
+          (tidy_log_more p i false old mid new so.tidy says.tidy);
+      accounts = record {
+        counts = counts_then old mid new so.counts says.accounts.counts;
+        cause = (stopped.0, omega (arith, stopped.1, so.counts.writes));
+      };
+    })
 
-pub returns-clause-costs : goal.returns-clause-costs
-returns-clause-costs g c =
-    let i = c.loop-i.i in
-    let done : i ≡ length c.args.payloads.now = omega arith in
-    spends_at_most c.args.place i (length c.args.payloads.now) 0 0 5 (g.C.Chip.told c.args.chip.now)
-    (g.C.Chip.told c.loop-i.chip) (omega (arith, done)) (omega arith) c.loop-i.invariant.costs
-
-pub returns-clause-spares : goal.returns-clause-spares
-returns-clause-spares g c = c.loop-i.invariant.spares
-
-pub returns-in_err-write_log-clause-tidy : goal.returns-in_err-write_log-clause-tidy
-returns-in_err-write_log-clause-tidy g c =
+pub returns-clause-spends : goal.returns-clause-spends
+returns-clause-spends g c =
     let old = g.C.Chip.told c.args.chip.now in
-    let mid = g.C.Chip.told c.loop-i.chip in
-    let new = g.C.Chip.told c.write_log.new.chip in
-    let p = c.args.place in
+    let new = g.C.Chip.told c.loop-i.chip in
+    let n = length c.args.payloads.now in
     let i = c.loop-i.i in
-    let low : i < length c.args.payloads.now = omega arith in
-    tidy_logs p (i + 1) (length c.args.payloads.now) false _ old new (omega (arith, low))
-    (tidy_log_more p i false old mid new c.loop-i.invariant.tidy c.in_err-write_log.ensures.tidy)
-
-pub returns-clause-tidy : goal.returns-clause-tidy
-returns-clause-tidy g c =
-    let i = c.loop-i.i in
-    let done : i ≡ length c.args.payloads.now = omega arith in
-    tidy_logs c.args.place i (length c.args.payloads.now) true true (g.C.Chip.told c.args.chip.now)
-    (g.C.Chip.told c.loop-i.chip) (omega (arith, done)) c.loop-i.invariant.tidy
+    let so = c.loop-i.invariant in
+    let done : i ≡ n = omega arith in record {
+      spares = so.spares;
+      costs = spends_at_most c.args.place i n 0 0 5 old new (omega (arith, done)) (omega arith) so.costs;
+      tidy = tidy_logs c.args.place i n true true old new (omega (arith, done)) so.tidy;
+      accounts = record { counts = so.counts; cause = tt };
+    }

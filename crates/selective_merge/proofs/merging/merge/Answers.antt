@@ -1,6 +1,5 @@
-use Rattle.std.proofs.Common.{◌∙◌, refl, ap, List, length, slice_index, ℕ, subst}
+use Rattle.std.proofs.Common.{◌∙◌, refl, ap, Err, List, length, slice_index, ℕ, subst}
 use Rattle.std.proofs.lemmas.Result.{err_from_is_err_and}
-use Rattle.std.specs.Prelude.{is_ok}
 use Rattle.selective_merge.specs.Homes.{from_home}
 use Rattle.ipl_format.specs.Record.{Record}
 use Rattle.merge_laws.specs.Packs.{packs_of}
@@ -10,13 +9,10 @@ use Rattle.selective_merge.specs.Merging.{CarriesFew, MergesFrom, MergesFromInSt
 use Rattle.selective_merge.specs.Moving.{tables_of}
 use Rattle.selective_merge.specs.Throughout.{ChartsThroughout}
 use Rattle.selective_merge.proofs.FewLemmas.{few_unread}
-use Rattle.place_taking.specs.Spending.{is_worn_out, tells_worn}
-use Rattle.selective_merge.proofs.SpendLemmas.{for_read, erases_for_behind, read_not_worn}
+use Rattle.selective_merge.proofs.LeavingLemmas.{moves_behind, moves_unread}
 use Rattle.selective_merge.proofs.WholeLemmas.{merge_behind, merged_told, merge_unread, told_unread}
 use Rattle.merge_laws.proofs.FaultLemmas.{fault_unread}
-use Rattle.selective_merge.proofs.CompleteLemmas.{merge_told, merge_completes, spared_behind}
-use Rattle.step_laws.proofs.TablesLemmas.{tables_read}
-use Rattle.selective_merge.proofs.TidyLemmas.{tidies_behind}
+use Rattle.selective_merge.proofs.CompleteLemmas.{merge_told, merge_completes}
 use Rattle.selective_merge.proofs.merging.merge.Goals as goal
 
 pub returns-in_err-home-clause-steps : goal.returns-in_err-home-clause-steps
@@ -70,28 +66,6 @@ returns-clause-tells g c =
     (StaysMirrored q t after) c.merge_known.result mid new)
     looks.reads.counts.places c.merge_known.ensures.tells)
 
-pub returns-in_err-home-clause-costs : goal.returns-in_err-home-clause-costs
-returns-in_err-home-clause-costs g c =
-    let e = err_from_is_err_and c.from_residual.result c.from_residual.ensures.1 in
-    let At = IsLogRead (slice_index c.args.parts.now.directory.current c.args.unit)
-    (spots_in c.args.parts.now.overflow c.args.unit) in
-    let old = g.C.Chip.told c.args.chip.now in
-    let new = g.C.Chip.told c.learn.new.chip in
-    rw e.1 (for_read At (tables_of c.args.parts.now).places _ (tells_worn e.0) old new
-    (ap tells_worn e.2
-    ∙ read_not_worn At c.in_err-home.field-0.0 old new c.in_err-home.ensures.looks.cause)
-    c.in_err-home.ensures.looks.reads)
-
-pub returns-clause-costs : goal.returns-clause-costs
-returns-clause-costs g c =
-    erases_for_behind (IsLogRead (slice_index c.args.parts.now.directory.current c.args.unit)
-    (spots_in c.args.parts.now.overflow c.args.unit))
-    (tables_of c.args.parts.now).places (tables_of c.merge_known.new.parts).places _
-    (is_ok c.merge_known.result) (is_worn_out c.merge_known.result)
-    (g.C.Chip.told c.args.chip.now) (g.C.Chip.told c.learn.new.chip)
-    (g.C.Chip.told c.merge_known.new.chip) c.in_ok-home.ensures.looks.reads
-    c.merge_known.ensures.costs
-
 pub returns-in_err-home-clause-few : goal.returns-in_err-home-clause-few
 returns-in_err-home-clause-few g c = λ x told it mirrors.
     let e = err_from_is_err_and c.from_residual.result c.from_residual.ensures.1 in
@@ -137,23 +111,21 @@ returns-clause-complete g c =
     merge_completes old.places (tables_of c.args.parts.now) c.args.unit c.merge_known.result old
     (returns-clause-fault g c)
 
-pub returns-clause-spares : goal.returns-clause-spares
-returns-clause-spares g c =
-    spared_behind (tables_of c.args.parts.now).places (g.C.Chip.told c.args.chip.now)
-    (g.C.Chip.told c.learn.new.chip) (g.C.Chip.told c.merge_known.new.chip) c.merge_known.result
-    c.in_ok-home.ensures.looks.reads.contents c.merge_known.ensures.spares
+pub returns-in_err-home-clause-moves : goal.returns-in_err-home-clause-moves
+returns-in_err-home-clause-moves g c =
+    let e = err_from_is_err_and c.from_residual.result c.from_residual.ensures.1 in
+    let looks = c.in_err-home.ensures.looks in
+    rw (e.1 ∙ ap Err e.2) (moves_unread c.args.unit (tables_of c.args.parts.now) c.in_err-home.field-0.0
+    (g.C.Chip.told c.args.chip.now) (g.C.Chip.told c.learn.new.chip) c.requires.known looks.reads looks.cause)
 
-pub returns-in_err-home-clause-tidy : goal.returns-in_err-home-clause-tidy
-returns-in_err-home-clause-tidy g c =
-    tables_read (IsLogRead (slice_index c.args.parts.now.directory.current c.args.unit)
-    (spots_in c.args.parts.now.overflow c.args.unit)) (tables_of c.args.parts.now) _
-    (g.C.Chip.told c.args.chip.now) (g.C.Chip.told c.learn.new.chip)
-    c.in_err-home.ensures.looks.reads
-
-pub returns-clause-tidy : goal.returns-clause-tidy
-returns-clause-tidy g c =
-    tidies_behind (IsLogRead (slice_index c.args.parts.now.directory.current c.args.unit)
-    (spots_in c.args.parts.now.overflow c.args.unit)) (tables_of c.args.parts.now)
+pub returns-clause-moves : goal.returns-clause-moves
+returns-clause-moves g c =
+    moves_behind (IsLogRead (slice_index c.args.parts.now.directory.current c.args.unit)
+    (spots_in c.args.parts.now.overflow c.args.unit)) c.args.unit (tables_of c.args.parts.now)
     (tables_of c.merge_known.new.parts) c.merge_known.result (g.C.Chip.told c.args.chip.now)
-    (g.C.Chip.told c.learn.new.chip) (g.C.Chip.told c.merge_known.new.chip)
-    c.in_ok-home.ensures.looks.reads c.merge_known.ensures.tidy
+    (g.C.Chip.told c.learn.new.chip) (g.C.Chip.told c.merge_known.new.chip) c.in_ok-home.ensures.looks.reads
+    c.merge_known.ensures.moves
+
+pub merge_known-requires-clause-stands : goal.merge_known-requires-clause-stands
+merge_known-requires-clause-stands g c =
+    record { place = c.in_ok-home.ensures.place; few = c.in_ok-home.ensures.few }

@@ -1,10 +1,9 @@
-use Rattle.std.proofs.Common.{Option, refl, sym, subst}
+use Rattle.std.proofs.Common.{Option, inl, refl, sym, subst}
 use Rattle.ipl_base.specs.declared.fault.ChipFault.TheVariants.{Malformed}
 use Rattle.unit_io.proofs.ReadsAtLemmas.{at_none}
-use Rattle.place_taking.proofs.HomeLemmas.{homes_same}
 use Rattle.selective_merge.specs.Moving.{tables_of}
 use Rattle.selective_merge.proofs.FewLemmas.{few_packed, too_many}
-use Rattle.selective_merge.proofs.SpendLemmas.{for_none}
+use Rattle.selective_merge.proofs.LeavingLemmas.{moves_unread}
 use Rattle.selective_merge.proofs.WholeLemmas.{merge_unread}
 use Rattle.ipl_base.specs.declared.fault.ChipFault.{ChipFault}
 use Rattle.merge_laws.specs.Faults.{TellsTheFault}
@@ -22,20 +21,6 @@ returns-then-not-pack_carried-clause-steps g c = λ m it h steady rests agrees s
 pub returns-then-not-pack_carried-clause-tells : goal.returns-then-not-pack_carried-clause-tells
 returns-then-not-pack_carried-clause-tells g c = λ soft x told.
     (x, told, λ it mirrors. (mirrors, λ v page now low few shows. shows))
-
-pub returns-then-not-pack_carried-clause-holds : goal.returns-then-not-pack_carried-clause-holds
-returns-then-not-pack_carried-clause-holds g c =
-    let t = tables_of c.args.parts.now in record {
-      units = refl;
-      homes = homes_same t.places t.places refl refl;
-      active = refl;
-      status = refl;
-      known = c.requires.known;
-    }
-
-pub returns-then-not-pack_carried-clause-costs : goal.returns-then-not-pack_carried-clause-costs
-returns-then-not-pack_carried-clause-costs g c =
-    for_none (tables_of c.args.parts.now).places _ (g.C.Chip.told c.args.chip.now)
 
 pub returns-then-not-pack_carried-clause-few : goal.returns-then-not-pack_carried-clause-few
 returns-then-not-pack_carried-clause-few g c =
@@ -57,5 +42,11 @@ returns-clause-fault g c = λ x told.
     subst (λ (o : Option ChipFault). TellsTheFault o c.merge_packed.result)
     (sym (fault_with_few x from _ c.merge_packed.ensures.few)) (c.merge_packed.ensures.fault x told)
 
-pub returns-clause-spares : goal.returns-clause-spares
-returns-clause-spares g c = c.merge_packed.ensures.spares
+pub returns-then-not-pack_carried-clause-moves : goal.returns-then-not-pack_carried-clause-moves
+returns-then-not-pack_carried-clause-moves g c =
+    let told = g.C.Chip.told c.args.chip.now in
+    moves_unread c.args.unit (tables_of c.args.parts.now) (Malformed c.args.home.now.place 0) told told
+    c.requires.known (at_none _ told) (inl (c.requires.stands.place, refl))
+
+pub returns-clause-moves : goal.returns-clause-moves
+returns-clause-moves g c = c.merge_packed.ensures.moves

@@ -31,7 +31,7 @@ returns-clause-few g c = λ x told it mirrors.
     subst (λ (log : List Record). CarriesFew (slice_index t.places.current c.args.unit)
     (length (packs_of t.active log)) c.merge_known.result) home.log_is
     (subst (λ (p : ℕ). CarriesFew p (length (packs_of t.active c.args.parts.now.scratch.log))
-    c.merge_known.result) c.requires.learnt.place c.merge_known.ensures.few)
+    c.merge_known.result) c.requires.learnt.stands.place c.merge_known.ensures.few)
 
 pub returns-clause-fault : goal.returns-clause-fault
 returns-clause-fault g c = λ x told it mirrors.
@@ -45,3 +45,6 @@ pub returns-clause-complete : goal.returns-clause-complete
 returns-clause-complete g c =
     merge_completes (g.C.Chip.told c.args.chip.now).places (tables_of c.args.parts.now) c.args.unit c.merge_known.result
     (g.C.Chip.told c.args.chip.now) (returns-clause-fault g c)
+
+pub merge_known-requires-clause-stands : goal.merge_known-requires-clause-stands
+merge_known-requires-clause-stands g c = c.requires.learnt.stands

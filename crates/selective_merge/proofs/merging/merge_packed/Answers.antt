@@ -68,16 +68,6 @@ pub take_place-requires-clause-ready : goal.take_place-requires-clause-ready
 take_place-requires-clause-ready g c =
     c.known_laws.ensures.ready _ (tables_of c.args.parts.now) c.requires.known
 
-pub write_unit-requires-clause-home : goal.write_unit-requires-clause-home
-write_unit-requires-clause-home g c =
-    let within = c.facts.ensures.within c.args.unit c.requires.unit in
-    omega (arith, c.requires.place, within, c.requires.known.suits.all)
-
-pub write_unit-requires-clause-place : goal.write_unit-requires-clause-place
-write_unit-requires-clause-place g c =
-    let within = taken_within _ _ _ c.in_ok-place.ensures.taken in
-    omega (arith, within, c.requires.known.suits.all, c.in_ok-place.ensures.accounts.counts.places)
-
 -- the place that was taken isn't where the unit stands
 home_apart : (places : ℕ) (t : Tables) (u place p : ℕ) → KnowsPlaces places t
     → u < length t.places.current
@@ -91,65 +81,40 @@ home_at_use : (places : ℕ) (t : Tables) (u place : ℕ) → KnowsPlaces places
 home_at_use places t u place known low at free =
     home_used places t u known low (subst (IsFree t.places) at free)
 
-pub write_unit-requires-clause-another : goal.write_unit-requires-clause-another
-write_unit-requires-clause-another g c =
-    home_apart _ (tables_of c.args.parts.now) c.args.unit c.args.home.now.place c.in_ok-place.place
-    c.requires.known c.requires.unit c.requires.place
-    (taken_was_free _ _ _ c.in_ok-place.ensures.taken)
+pub write_unit-requires-clause-may : goal.write_unit-requires-clause-may
+write_unit-requires-clause-may g c =
+    let t = tables_of c.args.parts.now in
+    let taken_so = c.in_ok-place.ensures.taken in
+    let stands = c.requires.stands in
+    let low = c.facts.ensures.within c.args.unit c.requires.unit in
+    let within = taken_within _ _ _ taken_so in
+    let all = c.requires.known.suits.all in
+    let places = c.in_ok-place.ensures.accounts.counts.places in record {
+      home = omega (arith, stands.place, low, all, places);
+      few = stands.few;
+      place = omega (arith, within, all, places);
+      another = home_apart _ t c.args.unit c.args.home.now.place c.in_ok-place.place c.requires.known
+          c.requires.unit stands.place (taken_was_free _ _ _ taken_so);
+    }
 
-pub move_unit-requires-clause-unit : goal.move_unit-requires-clause-unit
-move_unit-requires-clause-unit g c =
-    let taken = c.in_ok-place.ensures.taken in
-    omega (
-      arith,
-      c.requires.unit,
-      units_aside (tables_of c.args.parts.now) taken.worn taken.in_turn,
-      ap (λ (d : Places). length d.current) taken.places_is,
-    )
-
-pub move_unit-requires-clause-place : goal.move_unit-requires-clause-place
-move_unit-requires-clause-place g c =
-    let taken = c.in_ok-place.ensures.taken in
-    omega (
-      arith,
-      taken.next.within,
-      ap (λ (d : Places). length d.in_use) taken.places_is,
-      length-set (set_aside (tables_of c.args.parts.now) taken.worn).places.in_use c.in_ok-place.place
-          true,
-    )
-
-pub move_unit-requires-clause-another : goal.move_unit-requires-clause-another
-move_unit-requires-clause-another g c = λ same.
+pub move_unit-requires-clause-may : goal.move_unit-requires-clause-may
+move_unit-requires-clause-may g c =
     let t = tables_of c.args.parts.now in
     let taken = c.in_ok-place.ensures.taken in
+    let between = set_aside t taken.worn in
     let known = known_aside _ t taken.worn c.requires.known taken.in_turn in
-    home_used _ (set_aside t taken.worn) c.args.unit known
-    (omega (arith, c.requires.unit, units_aside t taken.worn taken.in_turn))
-    (subst (IsFree (set_aside t taken.worn).places)
-    (same ∙ ap (λ (d : Places). slice_index d.current c.args.unit) taken.places_is) taken.next.free)
-
-pub move_unit-requires-clause-overflow : goal.move_unit-requires-clause-overflow
-move_unit-requires-clause-overflow g c =
-    let taken = c.in_ok-place.ensures.taken in
-    omega (
-      arith,
-      c.requires.known.suits.overflow,
-      units_aside (tables_of c.args.parts.now) taken.worn taken.in_turn,
-      ap (λ (d : Places). length d.current) taken.places_is,
-    )
-
-pub move_unit-requires-clause-sized : goal.move_unit-requires-clause-sized
-move_unit-requires-clause-sized g c =
-    let t = tables_of c.args.parts.now in
-    let taken = c.in_ok-place.ensures.taken in
-    let known = known_aside _ t taken.worn c.requires.known taken.in_turn in
-    omega (
-      arith,
-      known.suits.sized,
-      known.suits.all,
-      ap (λ (d : Places). length d.in_use) taken.places_is,
-      length-set (set_aside t taken.worn).places.in_use c.in_ok-place.place true,
-    )
+    let units = units_aside t taken.worn taken.in_turn in
+    let current = ap (λ (d : Places). length d.current) taken.places_is in
+    let in_use = ap (λ (d : Places). length d.in_use) taken.places_is in
+    let all = length-set between.places.in_use c.in_ok-place.place true in record {
+      overflow = omega (arith, c.requires.known.suits.overflow, units, current);
+      sized = omega (arith, known.suits.sized, known.suits.all, in_use, all);
+      unit = omega (arith, c.requires.unit, units, current);
+      place = omega (arith, taken.next.within, in_use, all);
+      another = λ same. home_used _ between c.args.unit known (omega (arith, c.requires.unit, units))
+          (subst (IsFree between.places)
+          (same ∙ ap (λ (d : Places). slice_index d.current c.args.unit) taken.places_is) taken.next.free);
+    }
 
 pub returns-in-Ok-clause-steps : goal.returns-in-Ok-clause-steps
 returns-in-Ok-clause-steps g c = λ m it h steady rests agrees source.
@@ -188,11 +153,11 @@ returns-in-Ok-clause-steps g c = λ m it h steady rests agrees source.
       arith,
       c.draw-generation.ensures.drawn,
       c.draw-generation.ensures.next,
-      c.in-Ok.ensures.draws.0,
+      c.in-Ok.ensures.serials.draws.0,
     )) moved)
     (tells_packs places (now h) it between _ after u p drawn serial from payloads c.masks_of-masks.result what
     c.masks_of-masks.ensures c.move_unit.ensures.told taken_so.places_is refl)
-    (omega (arith, c.in-Ok.ensures.drawn, c.move_unit.ensures.counter))
+    (omega (arith, c.in-Ok.ensures.serials.drawn, c.move_unit.ensures.counter))
     (unit_joined c.units-units.result c.erases-erases.result it t between c.take_place.new.directory u p
     drawn serial from payloads
     (has_counts between c.take_place.new.directory p c.units-units.result c.erases-erases.result
@@ -247,64 +212,15 @@ returns-in-Ok-clause-tells g c = λ x told.
             arith,
             c.draw-generation.ensures.drawn,
             c.draw-generation.ensures.next,
-            c.in-Ok.ensures.draws.0,
+            c.in-Ok.ensures.serials.draws.0,
           )) moved)
           (tells_packs places (chart_of x) it between _ after u p drawn serial from payloads c.masks_of-masks.result what
           c.masks_of-masks.ensures c.move_unit.ensures.told taken_so.places_is refl)
-          (omega (arith, c.in-Ok.ensures.drawn, c.move_unit.ensures.counter))
+          (omega (arith, c.in-Ok.ensures.serials.drawn, c.move_unit.ensures.counter))
           (written it between u
           (has_counts between c.take_place.new.directory p c.units-units.result c.erases-erases.result
           taken_so.places_is (c.units-units.ensures ∙ sym (units_aside t worn taken_so.in_turn))
           c.erases-erases.ensures) what)),
-    )
-
-pub returns-in-Ok-clause-holds : goal.returns-in-Ok-clause-holds
-returns-in-Ok-clause-holds g c =
-    let t = tables_of c.args.parts.now in
-    let after = tables_of c.move_unit.new.parts in
-    let places = (g.C.Chip.told c.args.chip.now).places in
-    let u = c.args.unit in
-    let p = c.in_ok-place.place in
-    let taken_so = c.in_ok-place.ensures.taken in
-    let worn = taken_so.worn in
-    let between = set_aside t worn in
-    let known = known_aside places t worn c.requires.known taken_so.in_turn in
-    let next = c.write_unit.new.counter in
-    let used = length c.payloads-payloads.result.now in
-    held_aside places t after worn taken_so.in_turn
-    (held_moved c.known_laws.ensures.moves places between after u p used next known
-    (omega (arith, c.requires.unit, units_aside t worn taken_so.in_turn))
-    (omega (arith, taken_so.next.within, known.suits.all)) taken_so.next.free
-    (taken_in t worn p next (λ (b : Tables). IsMoved b after u p used) c.take_place.new.directory
-    taken_so.places_is (c.move_unit.ensures.moved c.requires.known.overflows_apart))
-    (subst (λ (n : ℕ). NoneIsLostBut p n (with_next (with_places t c.take_place.new.directory) next)
-    → NoneIsLost n after)
-    (ap (λ (d : Places). length d.in_use) taken_so.places_is
-    ∙ length-set between.places.in_use p true ∙ known.suits.all) c.move_unit.ensures.lost
-    (subst (λ (d : Places). NoneIsLostBut p places (with_next (with_places t d) next))
-    (sym taken_so.places_is) (taken_but between p next places known))))
-
-pub returns-in-Ok-clause-free : goal.returns-in-Ok-clause-free
-returns-in-Ok-clause-free g c =
-    let t = tables_of c.args.parts.now in
-    let u = c.args.unit in
-    let p = c.in_ok-place.place in
-    let taken_so = c.in_ok-place.ensures.taken in
-    let worn = taken_so.worn in
-    let between = set_aside t worn in
-    let known = known_aside _ t worn c.requires.known taken_so.in_turn in
-    let more = more_free _ between (tables_of c.move_unit.new.parts).places u p known
-    (omega (arith, c.requires.unit, units_aside t worn taken_so.in_turn)) taken_so.next.free
-    c.directory_laws.ensures.takes
-    (subst (λ (d : Places). ¬ IsFree d (slice_index d.current u)
-    → free_count d.in_use + 1 ≤ free_count c.move_unit.new.parts.directory.in_use)
-    taken_so.places_is c.move_unit.ensures.free) in
-    omega (
-      arith,
-      more,
-      as_many_aside _ t worn c.requires.known taken_so.in_turn,
-      ap (λ (l : List ℕ). length l) c.move_unit.ensures.retired,
-      ap (λ (d : Places). length d.retired) taken_so.places_is,
     )
 
 pub returns-in-Err-clause-steps : goal.returns-in-Err-clause-steps
@@ -342,7 +258,7 @@ returns-in-Err-clause-steps g c = λ m it h steady rests agrees source.
       arith,
       c.draw-generation.ensures.drawn,
       c.draw-generation.ensures.next,
-      c.in-Err.ensures.draws.0,
+      c.in-Err.ensures.serials.draws.0,
     ))
     (unit_joined c.units-units.result c.erases-erases.result it t between c.take_place.new.directory u p
     drawn serial from payloads
@@ -382,87 +298,10 @@ returns-in-Err-clause-tells g c = λ soft x told.
             arith,
             c.draw-generation.ensures.drawn,
             c.draw-generation.ensures.next,
-            c.in-Err.ensures.draws.0,
+            c.in-Err.ensures.serials.draws.0,
           )) left
           (aside_mirrors _ (chart_of x) it t worn mirrors taken_so.in_turn),
     )
-
-pub returns-in-Err-clause-holds : goal.returns-in-Err-clause-holds
-returns-in-Err-clause-holds g c =
-    let t = tables_of c.args.parts.now in
-    let old = g.C.Chip.told c.args.chip.now in
-    let places = old.places in
-    let u = c.args.unit in
-    let p = c.in_ok-place.place in
-    let taken_so = c.in_ok-place.ensures.taken in
-    let worn = taken_so.worn in
-    let between = set_aside t worn in
-    let next = c.write_unit.new.counter in
-    let back : c.give_back.new.self ≡ with_erased between.places p =
-    back_is t p c.take_place.new.directory taken_so c.give_back.new.self c.give_back.ensures in
-    let is = ap (λ (d : Places). with_next (with_places t d) next) back in
-    held_aside places t _ worn taken_so.in_turn (held_back places between _ (erases_then between p) next is
-    (known_aside places t worn c.requires.known taken_so.in_turn))
-
-pub returns-in-Err-clause-free : goal.returns-in-Err-clause-free
-returns-in-Err-clause-free g c =
-    let t = tables_of c.args.parts.now in
-    let old = g.C.Chip.told c.args.chip.now in
-    let places = old.places in
-    let u = c.args.unit in
-    let p = c.in_ok-place.place in
-    let taken_so = c.in_ok-place.ensures.taken in
-    let worn = taken_so.worn in
-    let between = set_aside t worn in
-    let next = c.write_unit.new.counter in
-    let back : c.give_back.new.self ≡ with_erased between.places p =
-    back_is t p c.take_place.new.directory taken_so c.give_back.new.self c.give_back.ensures in
-    let is = ap (λ (d : Places). with_next (with_places t d) next) back in
-    omega (
-      arith,
-      ap (λ (d : Places). free_count d.in_use) back,
-      ap (λ (d : Places). length d.retired) back,
-      as_many_aside places t worn c.requires.known taken_so.in_turn,
-    )
-
-pub returns-in-Ok-clause-costs : goal.returns-in-Ok-clause-costs
-returns-in-Ok-clause-costs g c =
-    let old = g.C.Chip.told c.args.chip.now in
-    let new = g.C.Chip.told c.write_unit.new.chip in
-    let d = (tables_of c.args.parts.now).places in
-    let then = c.move_unit.new.parts.directory in
-    let p = c.in_ok-place.place in
-    for_unit d then p _ false old new c.move_unit.ensures.stands
-    (costs_of_filled d c.take_place.new.directory then p 2 true false old
-    (g.C.Chip.told c.take_place.new.chip) new c.move_unit.ensures.retired refl
-    c.in_ok-place.ensures.costs c.in-Ok.ensures.costs)
-
-pub returns-in-Err-clause-costs : goal.returns-in-Err-clause-costs
-returns-in-Err-clause-costs g c =
-    let old = g.C.Chip.told c.args.chip.now in
-    let mid = g.C.Chip.told c.take_place.new.chip in
-    let new = g.C.Chip.told c.write_unit.new.chip in
-    let d = (tables_of c.args.parts.now).places in
-    let then = c.give_back.new.self in
-    let p = c.in_ok-place.place in
-    for_nobody d then p _ (tells_worn c.in-Err.fault) old new
-    (costs_of_filled d c.take_place.new.directory then p 2 false (tells_worn c.in-Err.fault) old mid new
-    (ap (λ (e : Places). e.retired) c.give_back.ensures)
-    (move_not_worn c.args.home.now.place c.in-Err.fault mid new c.in-Err.ensures.accounts.cause)
-    c.in_ok-place.ensures.costs c.in-Err.ensures.costs)
-
-pub returns-in-Err-clause-accounts : goal.returns-in-Err-clause-accounts
-returns-in-Err-clause-accounts g c = record {
-  counts = counts_then (g.C.Chip.told c.args.chip.now) (g.C.Chip.told c.take_place.new.chip)
-      (g.C.Chip.told c.write_unit.new.chip) c.in_ok-place.ensures.accounts.counts
-      c.in-Err.ensures.accounts.counts;
-  cause = merged_not c.give_back.new.self
-      (slice_index c.args.parts.now.directory.current c.args.unit) (spots_in c.args.parts.now.overflow c.args.unit) c.in-Err.fault (g.C.Chip.told c.args.chip.now)
-      (g.C.Chip.told c.take_place.new.chip) (g.C.Chip.told c.write_unit.new.chip)
-      c.in_ok-place.ensures.accounts.counts
-      (subst (λ (q : ℕ). MoveCause q c.in-Err.fault (g.C.Chip.told c.take_place.new.chip)
-      (g.C.Chip.told c.write_unit.new.chip)) c.requires.place c.in-Err.ensures.accounts.cause);
-}
 
 pub returns-in-Ok-clause-few : goal.returns-in-Ok-clause-few
 returns-in-Ok-clause-few g c =
@@ -482,7 +321,7 @@ returns-in-Ok-clause-fault g c = λ x told.
     c.args.parts.now.scratch.log in
     let (y, told_y, same) = c.in_ok-place.ensures.spares x told in
     let used = home_at_use _ (tables_of c.args.parts.now) c.args.unit c.args.home.now.place
-    c.requires.known c.requires.unit c.requires.place in
+    c.requires.known c.requires.unit c.requires.stands.place in
     sym (all_alike x y from (λ s. same c.args.home.now.place s used))
     ∙ c.in-Ok.ensures.fault y told_y
 
@@ -492,70 +331,143 @@ returns-in-Err-clause-fault g c = λ x told.
     c.args.parts.now.scratch.log in
     let (y, told_y, same) = c.in_ok-place.ensures.spares x told in
     let used = home_at_use _ (tables_of c.args.parts.now) c.args.unit c.args.home.now.place
-    c.requires.known c.requires.unit c.requires.place in
+    c.requires.known c.requires.unit c.requires.stands.place in
     subst (λ (o : Option ChipFault). IsTheFault o c.in-Err.fault)
     (all_alike x y from (λ s. same c.args.home.now.place s used))
     (c.in-Err.ensures.fault y told_y)
 
-pub returns-in-Ok-clause-spares : goal.returns-in-Ok-clause-spares
-returns-in-Ok-clause-spares g c =
-    used_then (tables_of c.args.parts.now).places c.in_ok-place.place
-    (g.C.Chip.told c.args.chip.now) (g.C.Chip.told c.take_place.new.chip)
-    (g.C.Chip.told c.write_unit.new.chip) (taken_was_free _ _ _ c.in_ok-place.ensures.taken)
-    c.in_ok-place.ensures.spares c.in-Ok.ensures.spares
-
-pub returns-in-Ok-clause-drawn : goal.returns-in-Ok-clause-drawn
-returns-in-Ok-clause-drawn g c =
-    omega (
-      arith,
-      c.in-Ok.ensures.drawn,
-      c.draw-generation.ensures.next,
-      c.move_unit.ensures.counter,
-      c.move_unit.ensures.room,
-    )
-
-pub returns-in-Ok-clause-tidy : goal.returns-in-Ok-clause-tidy
-returns-in-Ok-clause-tidy g c =
+pub returns-in-Ok-clause-moves : goal.returns-in-Ok-clause-moves
+returns-in-Ok-clause-moves g c =
     let t = tables_of c.args.parts.now in
     let after = tables_of c.move_unit.new.parts in
-    let u = c.args.unit in
-    let p = c.in_ok-place.place in
-    let taken_so = c.in_ok-place.ensures.taken in
-    let worn = taken_so.worn in
-    let next = c.write_unit.new.counter in
-    let used = length c.payloads-payloads.result.now in
-    moves_tidily (g.C.Chip.told c.args.chip.now).places t c.requires.known worn taken_so.in_turn p
-    (Unit {0}) after u used next (Ok tt)
-    (g.C.Chip.told c.args.chip.now) (g.C.Chip.told c.write_unit.new.chip) c.requires.unit c.facts.ensures.logs
-    (taken_in t worn p next (λ (b : Tables). IsMoved b after u p used) c.take_place.new.directory
-    taken_so.places_is (c.move_unit.ensures.moved c.requires.known.overflows_apart))
-    (tidy_taken t.places p (241 + used) (IsUnitSpot used) true true (g.C.Chip.told c.args.chip.now)
-    (g.C.Chip.told c.take_place.new.chip) (g.C.Chip.told c.write_unit.new.chip)
-    (taken_was_free _ _ _ taken_so) (λ s above spot. omega (arith, above, spot))
-    c.in_ok-place.ensures.tidy c.in-Ok.ensures.tidy)
-
-pub returns-in-Err-clause-tidy : goal.returns-in-Err-clause-tidy
-returns-in-Err-clause-tidy g c =
-    let t = tables_of c.args.parts.now in
     let old = g.C.Chip.told c.args.chip.now in
+    let mid = g.C.Chip.told c.take_place.new.chip in
+    let new = g.C.Chip.told c.write_unit.new.chip in
     let places = old.places in
     let u = c.args.unit in
     let p = c.in_ok-place.place in
-    let taken_so = c.in_ok-place.ensures.taken in
+    let took = c.in_ok-place.ensures in
+    let wrote = c.in-Ok.ensures in
+    let taken_so = took.taken in
+    let worn = taken_so.worn in
+    let between = set_aside t worn in
+    let known = known_aside places t worn c.requires.known taken_so.in_turn in
+    let within : u < length between.places.current =
+    omega (arith, c.requires.unit, units_aside t worn taken_so.in_turn) in
+    let next = c.write_unit.new.counter in
+    let used = length c.payloads-payloads.result.now in
+    let moved : IsMoved (with_next (taken between p) next) after u p used =
+    taken_in t worn p next (λ (b : Tables). IsMoved b after u p used) c.take_place.new.directory
+    taken_so.places_is (c.move_unit.ensures.moved c.requires.known.overflows_apart) in
+    let more = more_free places between after.places u p known within taken_so.next.free
+    c.directory_laws.ensures.takes
+    (subst (λ (d : Places). ¬ IsFree d (slice_index d.current u)
+    → free_count d.in_use + 1 ≤ free_count c.move_unit.new.parts.directory.in_use)
+    taken_so.places_is c.move_unit.ensures.free) in record {
+      leaves = record {
+        holds = held_aside places t after worn taken_so.in_turn
+            (held_moved c.known_laws.ensures.moves places between after u p used next known within
+            (omega (arith, taken_so.next.within, known.suits.all)) taken_so.next.free moved
+            (subst (λ (n : ℕ). NoneIsLostBut p n (with_next (with_places t c.take_place.new.directory) next)
+            → NoneIsLost n after)
+            (ap (λ (d : Places). length d.in_use) taken_so.places_is
+            ∙ length-set between.places.in_use p true ∙ known.suits.all) c.move_unit.ensures.lost
+            (subst (λ (d : Places). NoneIsLostBut p places (with_next (with_places t d) next))
+            (sym taken_so.places_is) (taken_but between p next places known))));
+        draws = (
+          omega (arith, c.draw-generation.ensures.next, wrote.serials.draws.0, c.move_unit.ensures.counter),
+          omega (
+            arith,
+            c.draw-generation.ensures.next,
+            wrote.serials.draws.1,
+            c.move_unit.ensures.counter,
+            c.payloads-payloads.ensures.few,
+          ),
+        );
+        spares = used_then t.places p old mid new (taken_was_free _ _ _ taken_so) took.spares wrote.spends.spares;
+        tidy = moves_tidily places t c.requires.known worn taken_so.in_turn p (Unit {0}) after u used next
+            (Ok tt) old new c.requires.unit c.facts.ensures.logs moved
+            (tidy_taken t.places p (241 + used) (IsUnitSpot used) true true old mid new
+            (taken_was_free _ _ _ taken_so) (λ s above spot. omega (arith, above, spot)) took.tidy wrote.spends.tidy);
+        accounts = record {
+          counts = counts_then old mid new took.accounts.counts wrote.spends.accounts.counts;
+          cause = tt;
+        };
+      };
+      room = omega (arith, c.move_unit.ensures.room, c.payloads-payloads.ensures.few);
+      free = omega (
+        arith,
+        more,
+        as_many_aside places t worn c.requires.known taken_so.in_turn,
+        ap (λ (l : List ℕ). length l) c.move_unit.ensures.retired,
+        ap (λ (d : Places). length d.retired) taken_so.places_is,
+      );
+      drawn = omega (
+        arith,
+        wrote.serials.drawn,
+        c.draw-generation.ensures.next,
+        c.move_unit.ensures.counter,
+        c.move_unit.ensures.room,
+      );
+      costs = for_unit t.places after.places p _ false old new c.move_unit.ensures.stands
+          (costs_of_filled t.places c.take_place.new.directory after.places p 2 true false old mid new
+          c.move_unit.ensures.retired refl took.costs wrote.spends.costs);
+    }
+
+pub returns-in-Err-clause-moves : goal.returns-in-Err-clause-moves
+returns-in-Err-clause-moves g c =
+    let t = tables_of c.args.parts.now in
+    let old = g.C.Chip.told c.args.chip.now in
+    let mid = g.C.Chip.told c.take_place.new.chip in
+    let new = g.C.Chip.told c.write_unit.new.chip in
+    let places = old.places in
+    let u = c.args.unit in
+    let p = c.in_ok-place.place in
+    let took = c.in_ok-place.ensures in
+    let wrote = c.in-Err.ensures in
+    let taken_so = took.taken in
     let worn = taken_so.worn in
     let between = set_aside t worn in
     let next = c.write_unit.new.counter in
-    let back : c.give_back.new.self ≡ with_erased between.places p =
-    back_is t p c.take_place.new.directory taken_so c.give_back.new.self c.give_back.ensures in
+    let then = c.give_back.new.self in
+    let back : then ≡ with_erased between.places p =
+    back_is t p c.take_place.new.directory taken_so then c.give_back.ensures in
     let is = ap (λ (d : Places). with_next (with_places t d) next) back in
     let used = length c.payloads-payloads.result.now in
-    gives_back_tidily places t c.requires.known worn taken_so.in_turn p
-    (Unit {0}) _ (erases_then between p) (241 + used) next (Err c.in-Err.fault)
-    old (g.C.Chip.told c.write_unit.new.chip) is
-    (tidy_taken t.places p (241 + used) (IsUnitSpot used) false false old
-    (g.C.Chip.told c.take_place.new.chip) (g.C.Chip.told c.write_unit.new.chip)
-    (taken_was_free _ _ _ taken_so) (λ s above spot. omega (arith, above, spot))
-    c.in_ok-place.ensures.tidy c.in-Err.ensures.tidy)
+    let worn_out = tells_worn c.in-Err.fault in record {
+      leaves = record {
+        holds = held_aside places t _ worn taken_so.in_turn (held_back places between _ (erases_then between p) next is
+            (known_aside places t worn c.requires.known taken_so.in_turn));
+        draws = (
+          omega (arith, c.draw-generation.ensures.next, wrote.serials.draws.0),
+          omega (arith, c.draw-generation.ensures.next, wrote.serials.draws.1, c.payloads-payloads.ensures.few),
+        );
+        spares = tt;
+        tidy = gives_back_tidily places t c.requires.known worn taken_so.in_turn p (Unit {0}) _
+            (erases_then between p) (241 + used) next (Err c.in-Err.fault) old new is
+            (tidy_taken t.places p (241 + used) (IsUnitSpot used) false false old mid new
+            (taken_was_free _ _ _ taken_so) (λ s above spot. omega (arith, above, spot)) took.tidy wrote.spends.tidy);
+        accounts = record {
+          counts = counts_then old mid new took.accounts.counts wrote.spends.accounts.counts;
+          cause = merged_not then (slice_index t.places.current u) (spots_in t.overflow u) c.in-Err.fault old mid
+              new took.accounts.counts
+              (subst (λ (q : ℕ). MoveCause q c.in-Err.fault mid new) c.requires.stands.place wrote.spends.accounts.cause);
+        };
+      };
+      room = tt;
+      free = omega (
+        arith,
+        ap (λ (d : Places). free_count d.in_use) back,
+        ap (λ (d : Places). length d.retired) back,
+        as_many_aside places t worn c.requires.known taken_so.in_turn,
+      );
+      drawn = tt;
+      costs = for_nobody t.places then p _ worn_out old new
+          (costs_of_filled t.places c.take_place.new.directory then p 2 false worn_out old mid new
+          (ap (λ (e : Places). e.retired) c.give_back.ensures)
+          (move_not_worn c.args.home.now.place c.in-Err.fault mid new wrote.spends.accounts.cause)
+          took.costs wrote.spends.costs);
+    }
 
 -- ---- no place was taken
 
@@ -597,50 +509,44 @@ returns-in_err-place-clause-few g c =
     c.args.parts.now.scratch.packs.closed.items _ c.payloads-payloads.ensures.all c.requires.packed
     c.payloads-payloads.ensures.few
 
-pub returns-in_err-place-clause-holds : goal.returns-in_err-place-clause-holds
-returns-in_err-place-clause-holds g c =
+pub returns-in_err-place-clause-moves : goal.returns-in_err-place-clause-moves
+returns-in_err-place-clause-moves g c =
     let t = tables_of c.args.parts.now in
+    let old = g.C.Chip.told c.args.chip.now in
+    let new = g.C.Chip.told c.take_place.new.chip in
+    let u = c.args.unit in
+    let fault = c.in_err-place.field-0.0 in
     let next = c.draw-generation.new.self in
-    let aside = c.in_err-place.ensures.aside in
-    held_aside _ t _ aside.worn aside.in_turn (held_back _ (set_aside t aside.worn) _
-    (set_aside t aside.worn).places.erases next
-    (ap (λ (d : Places). with_next (with_places t d) next) aside.places_is)
-    (known_aside _ t aside.worn c.requires.known aside.in_turn))
-
-pub returns-in_err-place-clause-free : goal.returns-in_err-place-clause-free
-returns-in_err-place-clause-free g c =
-    let t = tables_of c.args.parts.now in
-    let aside = c.in_err-place.ensures.aside in
-    omega (
-      arith,
-      ap (λ (d : Places). free_count d.in_use) aside.places_is,
-      ap (λ (d : Places). length d.retired) aside.places_is,
-      as_many_aside _ t aside.worn c.requires.known aside.in_turn,
-    )
-
-pub returns-in_err-place-clause-costs : goal.returns-in_err-place-clause-costs
-returns-in_err-place-clause-costs g c =
+    let d = c.take_place.new.directory in
+    let took = c.in_err-place.ensures in
+    let aside = took.aside in
     let e = err_from_is_err_and c.from_residual.result c.from_residual.ensures.1 in
-    rw e.1 (for_untaken (tables_of c.args.parts.now).places c.take_place.new.directory _
-    c.in_err-place.field-0.0 e.0 (g.C.Chip.told c.args.chip.now)
-    (g.C.Chip.told c.take_place.new.chip) e.2 c.in_err-place.ensures.costs)
-
-pub returns-in_err-place-clause-tidy : goal.returns-in_err-place-clause-tidy
-returns-in_err-place-clause-tidy g c =
-    let t = tables_of c.args.parts.now in
-    let next = c.draw-generation.new.self in
-    let e = err_from_is_err_and c.from_residual.result c.from_residual.ensures.1 in
-    rw e.1 (untaken_tidily (g.C.Chip.told c.args.chip.now).places t c.requires.known
-    c.take_place.new.directory c.in_err-place.ensures.aside (Unit {0}) _ next c.in_err-place.field-0.0
-    (Err e.0) (g.C.Chip.told c.args.chip.now) (g.C.Chip.told c.take_place.new.chip) refl
-    c.in_err-place.ensures.tidy)
-
-pub returns-in_err-place-clause-accounts : goal.returns-in_err-place-clause-accounts
-returns-in_err-place-clause-accounts g c =
-    let e = err_from_is_err_and c.from_residual.result c.from_residual.ensures.1 in record {
-      counts = c.in_err-place.ensures.accounts.counts;
-      cause = rw e.1 (moves_not c.take_place.new.directory
-          (slice_index c.args.parts.now.directory.current c.args.unit) (spots_in c.args.parts.now.overflow c.args.unit)
-          c.in_err-place.field-0.0 e.0 (g.C.Chip.told c.args.chip.now)
-          (g.C.Chip.told c.take_place.new.chip) e.2 c.in_err-place.ensures.accounts.cause);
-    }
+    rw (e.1 ∙ ap Err e.2) (record {
+      leaves = record {
+        holds = held_aside _ t _ aside.worn aside.in_turn (held_back _ (set_aside t aside.worn) _
+            (set_aside t aside.worn).places.erases next
+            (ap (λ (d : Places). with_next (with_places t d) next) aside.places_is)
+            (known_aside _ t aside.worn c.requires.known aside.in_turn));
+        draws = (
+          omega (arith, c.draw-generation.ensures.next),
+          omega (arith, c.draw-generation.ensures.next),
+        );
+        spares = tt;
+        tidy = untaken_tidily old.places t c.requires.known d aside (Unit {0}) _ next fault (Err fault) old new refl
+            took.tidy;
+        accounts = record {
+          counts = took.accounts.counts;
+          cause = moves_not d (slice_index t.places.current u) (spots_in t.overflow u) fault fault old new refl
+              took.accounts.cause;
+        };
+      };
+      room = tt;
+      free = omega (
+        arith,
+        ap (λ (d : Places). free_count d.in_use) aside.places_is,
+        ap (λ (d : Places). length d.retired) aside.places_is,
+        as_many_aside _ t aside.worn c.requires.known aside.in_turn,
+      );
+      drawn = tt;
+      costs = for_untaken t.places d _ fault fault old new refl took.costs;
+    })

@@ -108,30 +108,6 @@ returns-in-Ok-clause-steps g c = λ m it h steady rests agrees.
     (c.units-units.ensures ∙ sym (units_aside t taken_so.worn taken_so.in_turn))
     c.erases-erases.ensures)
 
-pub returns-in-Ok-clause-holds : goal.returns-in-Ok-clause-holds
-returns-in-Ok-clause-holds g c =
-    let t = tables_of c.args.parts.now in
-    let places = (g.C.Chip.told c.args.chip.now).places in
-    let p = c.in_ok-place.place in
-    let taken_so = c.in_ok-place.ensures.taken in record {
-      units = ap (λ (d : Places). length d.current) taken_so.places_is
-          ∙ units_aside t taken_so.worn taken_so.in_turn;
-      homes = homes_then t.places (aside t.places taken_so.worn) c.take_place.new.directory
-          (homes_aside t taken_so.worn taken_so.in_turn)
-          (homes_same (aside t.places taken_so.worn) c.take_place.new.directory
-          (ap (λ (d : Places). d.current) taken_so.places_is)
-          (ap (λ (d : Places). d.written) taken_so.places_is));
-      active = refl;
-      status = refl;
-      known = subst (KnowsPlaces places)
-          (sym (tables_same t _ _ _ _ _ _ taken_so.places_is c.add_place.ensures refl))
-          (c.known_laws.ensures.overflows places (set_aside t taken_so.worn) p
-          c.draw-generation.new.self
-          (known_aside places t taken_so.worn c.requires.known taken_so.in_turn)
-          (omega (arith, taken_within _ _ _ taken_so, c.requires.known.suits.all))
-          taken_so.next.free c.requires.two);
-    }
-
 pub returns-in-Err-clause-steps : goal.returns-in-Err-clause-steps
 returns-in-Err-clause-steps g c = λ m it h steady rests agrees.
     let t = tables_of c.args.parts.now in
@@ -152,18 +128,6 @@ back_is : (d then after : Places) (p : ℕ) → (taken : IsTakenFrom d p then) �
 back_is d then after p taken is =
     is ∙ (ap (λ (e : Places). with_use e p false) taken.places_is
     ∙ given_back (aside d taken.worn) p taken.next.within taken.next.free)
-
-pub returns-in-Err-clause-holds : goal.returns-in-Err-clause-holds
-returns-in-Err-clause-holds g c =
-    let t = tables_of c.args.parts.now in
-    let p = c.in_ok-place.place in
-    let taken_so = c.in_ok-place.ensures.taken in
-    let between = set_aside t taken_so.worn in
-    let next = c.draw-generation.new.self in
-    held_aside _ t _ taken_so.worn taken_so.in_turn (held_back _ between _ (erases_then between p) next
-    (ap (λ (d : Places). with_next (with_places t d) next)
-    (back_is _ _ c.give_back.new.self p taken_so c.give_back.ensures))
-    (known_aside _ t taken_so.worn c.requires.known taken_so.in_turn))
 
 pub returns-in-Ok-clause-costs : goal.returns-in-Ok-clause-costs
 returns-in-Ok-clause-costs g c =
@@ -192,51 +156,83 @@ returns-in-Err-clause-costs g c =
     (ap tells_worn c.in-Err.ensures.accounts.cause.0)
     c.in_ok-place.ensures.costs (fills_programs p 1 2 3 mid new c.in-Err.ensures.costs))
 
-pub returns-in-Ok-clause-spares : goal.returns-in-Ok-clause-spares
-returns-in-Ok-clause-spares g c =
-    used_then (tables_of c.args.parts.now).places c.in_ok-place.place
-    (g.C.Chip.told c.args.chip.now) (g.C.Chip.told c.take_place.new.chip)
-    (g.C.Chip.told c.write_overflow.new.chip) (taken_was_free _ _ _ c.in_ok-place.ensures.taken)
-    c.in_ok-place.ensures.spares c.in-Ok.ensures.spares
-
-pub returns-in-Ok-clause-tidy : goal.returns-in-Ok-clause-tidy
-returns-in-Ok-clause-tidy g c =
+pub returns-in-Ok-clause-leaves : goal.returns-in-Ok-clause-leaves
+returns-in-Ok-clause-leaves g c =
     let old = g.C.Chip.told c.args.chip.now in
+    let mid = g.C.Chip.told c.take_place.new.chip in
     let new = g.C.Chip.told c.write_overflow.new.chip in
     let t = tables_of c.args.parts.now in
+    let places = old.places in
     let p = c.in_ok-place.place in
-    let taken_so = c.in_ok-place.ensures.taken in
-    opens_tidily old.places t c.requires.known taken_so.worn taken_so.in_turn p Spot _
-    c.draw-generation.new.self (Ok (record { place = p; sector = 1 })) old new
-    (tables_same t _ _ _ _ _ _ taken_so.places_is c.add_place.ensures refl)
-    (tidy_taken t.places p 1 (IsSpot 0) true true old (g.C.Chip.told c.take_place.new.chip) new
-    (taken_was_free _ _ _ taken_so) (λ s above spot. omega (arith, above, spot))
-    c.in_ok-place.ensures.tidy c.in-Ok.ensures.tidy)
-
-pub returns-in-Err-clause-tidy : goal.returns-in-Err-clause-tidy
-returns-in-Err-clause-tidy g c =
-    let old = g.C.Chip.told c.args.chip.now in
-    let new = g.C.Chip.told c.write_overflow.new.chip in
-    let t = tables_of c.args.parts.now in
-    let p = c.in_ok-place.place in
-    let taken_so = c.in_ok-place.ensures.taken in
-    let between = set_aside t taken_so.worn in
+    let took = c.in_ok-place.ensures in
+    let wrote = c.in-Ok.ensures in
+    let taken_so = took.taken in
+    let worn = taken_so.worn in
     let next = c.draw-generation.new.self in
-    gives_back_tidily old.places t c.requires.known taken_so.worn taken_so.in_turn p Spot _
-    (erases_then between p) 1 next (Err c.in-Err.fault) old new
-    (ap (λ (d : Places). with_next (with_places t d) next)
-    (back_is _ _ c.give_back.new.self p taken_so c.give_back.ensures))
-    (tidy_taken t.places p 1 (IsSpot 0) false false old (g.C.Chip.told c.take_place.new.chip) new
-    (taken_was_free _ _ _ taken_so) (λ s above spot. omega (arith, above, spot))
-    c.in_ok-place.ensures.tidy c.in-Err.ensures.tidy)
+    let after = tables_same t _ _ _ _ _ _ taken_so.places_is c.add_place.ensures refl in record {
+      holds = record {
+        units = ap (λ (d : Places). length d.current) taken_so.places_is ∙ units_aside t worn taken_so.in_turn;
+        homes = homes_then t.places (aside t.places worn) c.take_place.new.directory
+            (homes_aside t worn taken_so.in_turn)
+            (homes_same (aside t.places worn) c.take_place.new.directory
+            (ap (λ (d : Places). d.current) taken_so.places_is)
+            (ap (λ (d : Places). d.written) taken_so.places_is));
+        active = refl;
+        status = refl;
+        known = subst (KnowsPlaces places) (sym after)
+            (c.known_laws.ensures.overflows places (set_aside t worn) p next
+            (known_aside places t worn c.requires.known taken_so.in_turn)
+            (omega (arith, taken_within _ _ _ taken_so, c.requires.known.suits.all))
+            taken_so.next.free c.requires.two);
+      };
+      draws = (
+        omega (arith, c.draw-generation.ensures.next),
+        omega (arith, c.draw-generation.ensures.next),
+      );
+      spares = used_then t.places p old mid new (taken_was_free _ _ _ taken_so) took.spares wrote.spares;
+      tidy = opens_tidily places t c.requires.known worn taken_so.in_turn p Spot _ next
+          (Ok (record { place = p; sector = 1 })) old new after
+          (tidy_taken t.places p 1 (IsSpot 0) true true old mid new (taken_was_free _ _ _ taken_so)
+          (λ s above spot. omega (arith, above, spot)) took.tidy wrote.tidy);
+      accounts = record {
+        counts = counts_then old mid new took.accounts.counts wrote.accounts.counts;
+        cause = tt;
+      };
+    }
 
-pub returns-in-Err-clause-accounts : goal.returns-in-Err-clause-accounts
-returns-in-Err-clause-accounts g c =
-    let counts = c.in_ok-place.ensures.accounts.counts in
-    let cause = c.in-Err.ensures.accounts.cause in record {
-      counts = counts_then (g.C.Chip.told c.args.chip.now) (g.C.Chip.told c.take_place.new.chip)
-          (g.C.Chip.told c.write_overflow.new.chip) counts c.in-Err.ensures.accounts.counts;
-      cause = inl (cause.0, omega (arith, cause.1, counts.writes));
+pub returns-in-Err-clause-leaves : goal.returns-in-Err-clause-leaves
+returns-in-Err-clause-leaves g c =
+    let old = g.C.Chip.told c.args.chip.now in
+    let mid = g.C.Chip.told c.take_place.new.chip in
+    let new = g.C.Chip.told c.write_overflow.new.chip in
+    let t = tables_of c.args.parts.now in
+    let p = c.in_ok-place.place in
+    let took = c.in_ok-place.ensures in
+    let wrote = c.in-Err.ensures in
+    let taken_so = took.taken in
+    let worn = taken_so.worn in
+    let between = set_aside t worn in
+    let next = c.draw-generation.new.self in
+    let is = ap (λ (d : Places). with_next (with_places t d) next)
+    (back_is _ _ c.give_back.new.self p taken_so c.give_back.ensures) in record {
+      holds = held_aside _ t _ worn taken_so.in_turn (held_back _ between _ (erases_then between p) next is
+          (known_aside _ t worn c.requires.known taken_so.in_turn));
+      draws = (
+        omega (arith, c.draw-generation.ensures.next),
+        omega (arith, c.draw-generation.ensures.next),
+      );
+      spares = tt;
+      tidy = gives_back_tidily old.places t c.requires.known worn taken_so.in_turn p Spot _
+          (erases_then between p) 1 next (Err c.in-Err.fault) old new is
+          (tidy_taken t.places p 1 (IsSpot 0) false false old mid new (taken_was_free _ _ _ taken_so)
+          (λ s above spot. omega (arith, above, spot)) took.tidy wrote.tidy);
+      accounts = record {
+        counts = counts_then old mid new took.accounts.counts wrote.accounts.counts;
+        cause = inl (
+          wrote.accounts.cause.0,
+          omega (arith, wrote.accounts.cause.1, took.accounts.counts.writes),
+        );
+      };
     }
 
 -- ---- no place was taken
@@ -266,16 +262,6 @@ returns-in_err-place-clause-tells g c =
     (omega (arith, c.draw-generation.ensures.drawn, c.draw-generation.ensures.next))
     (c.in_err-place.ensures.tells (λ is. soft (e.2 ∙ is))))
 
-pub returns-in_err-place-clause-holds : goal.returns-in_err-place-clause-holds
-returns-in_err-place-clause-holds g c =
-    let t = tables_of c.args.parts.now in
-    let next = c.draw-generation.new.self in
-    let aside_so = c.in_err-place.ensures.aside in
-    held_aside _ t _ aside_so.worn aside_so.in_turn (held_back _ (set_aside t aside_so.worn) _
-    (set_aside t aside_so.worn).places.erases next
-    (ap (λ (d : Places). with_next (with_places t d) next) aside_so.places_is)
-    (known_aside _ t aside_so.worn c.requires.known aside_so.in_turn))
-
 pub returns-in_err-place-clause-costs : goal.returns-in_err-place-clause-costs
 returns-in_err-place-clause-costs g c =
     let e = err_from_is_err_and c.from_residual.result c.from_residual.ensures.1 in
@@ -283,12 +269,26 @@ returns-in_err-place-clause-costs g c =
     c.take_place.new.directory c.in_err-place.field-0.0 (g.C.Chip.told c.args.chip.now)
     (g.C.Chip.told c.take_place.new.chip) c.in_err-place.ensures.costs)
 
-pub returns-in_err-place-clause-tidy : goal.returns-in_err-place-clause-tidy
-returns-in_err-place-clause-tidy g c =
+pub returns-in_err-place-clause-leaves : goal.returns-in_err-place-clause-leaves
+returns-in_err-place-clause-leaves g c =
     let t = tables_of c.args.parts.now in
     let next = c.draw-generation.new.self in
+    let took = c.in_err-place.ensures in
+    let aside_so = took.aside in
+    let fault = c.in_err-place.field-0.0 in
     let e = err_from_is_err_and c.from_residual.result c.from_residual.ensures.1 in
-    rw e.1 (untaken_tidily (g.C.Chip.told c.args.chip.now).places t c.requires.known
-    c.take_place.new.directory c.in_err-place.ensures.aside Spot _ next c.in_err-place.field-0.0
-    (Err e.0) (g.C.Chip.told c.args.chip.now) (g.C.Chip.told c.take_place.new.chip) refl
-    c.in_err-place.ensures.tidy)
+    rw (e.1 ∙ ap Err e.2) (record {
+      holds = held_aside _ t _ aside_so.worn aside_so.in_turn (held_back _ (set_aside t aside_so.worn) _
+          (set_aside t aside_so.worn).places.erases next
+          (ap (λ (d : Places). with_next (with_places t d) next) aside_so.places_is)
+          (known_aside _ t aside_so.worn c.requires.known aside_so.in_turn));
+      draws = (
+        omega (arith, c.draw-generation.ensures.next),
+        omega (arith, c.draw-generation.ensures.next),
+      );
+      spares = tt;
+      tidy = untaken_tidily (g.C.Chip.told c.args.chip.now).places t c.requires.known c.take_place.new.directory
+          aside_so Spot _ next fault (Err fault) (g.C.Chip.told c.args.chip.now)
+          (g.C.Chip.told c.take_place.new.chip) refl took.tidy;
+      accounts = record { counts = took.accounts.counts; cause = took.accounts.cause };
+    })

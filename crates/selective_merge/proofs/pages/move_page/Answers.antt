@@ -1,13 +1,20 @@
-use Rattle.std.proofs.Common.{Ok, Err, ◌∙◌, arith}
+use Rattle.std.proofs.Common.{ℕ, false, Ok, Err, inr, refl, ◌∙◌, ap, arith}
 use Rattle.std.proofs.lemmas.Result.{err_from_is_err_and}
 use Rattle.ipl_meaning.specs.Chart.{chart_of}
+use Rattle.chip_trait.specs.Told.{Told}
+use Rattle.chip_trait.proofs.CountsLemmas.{counts_then}
+use Rattle.unit_io.specs.Costs.{ProgramsAt}
+use Rattle.unit_io.specs.ReadsAt.{ReadsAt}
 use Rattle.unit_io.proofs.CostLemmas.{spends_at_most}
-use Rattle.selective_merge.specs.Homes.{from_home}
+use Rattle.selective_merge.specs.Homes.{from_home, MoveCause}
+use Rattle.selective_merge.specs.Writing.{WritesPlace}
+use Rattle.selective_merge.proofs.PlaceLemmas.{page_unmoved, stopped_unmoved}
 use Rattle.selective_merge.proofs.PageMoveLemmas.{page_unread, page_moves, page_tells}
 use Rattle.selective_merge.proofs.SpendLemmas.{spends_read, programs_behind}
 use Rattle.selective_merge.proofs.ThroughoutLemmas.{page_asked_at}
 use Rattle.unit_io.proofs.SparesLemmas.{spares_none, spares_behind}
 use Rattle.merge_laws.specs.Faults.{page_fault_from}
+use Rattle.ipl_base.specs.declared.fault.ChipFault.{ChipFault}
 use Rattle.ipl_base.specs.declared.fault.ChipFault.TheVariants.{Malformed}
 use Rattle.merge_laws.proofs.FaultLemmas.{fault_as, page_told, page_fine, page_full, tells_written}
 use Rattle.selective_merge.proofs.MoveLemmas.{aside_none}
@@ -55,24 +62,6 @@ returns-clause-tells g c =
     (page_asked_at {T = Unit {0}} from.place c.args.page c.from-count.result (Ok tt) old mid read.asks
     read.accounts.counts) _ c.from-count.ensures c.args.head.now.unit c.requires.unit read.page
     c.program_page.result c.program_page.ensures.tells c.program_page.ensures.accounts.cause
-
-pub returns-in_err-read_page-clause-costs : goal.returns-in_err-read_page-clause-costs
-returns-in_err-read_page-clause-costs g c =
-    let old = g.C.Chip.told c.args.chip.now in
-    let new = g.C.Chip.told c.read_page.new.chip in
-    spends_at_most c.args.place 0 16 0 0 4 old new (omega arith) (omega arith)
-    (spends_read _ c.args.place 4 old new (page_asked_at {T = Unit {0}} c.args.home.now.place
-    c.args.page c.from-count.result (Err c.in_err-read_page.field-0.0) old new
-    c.in_err-read_page.ensures.asks c.in_err-read_page.ensures.accounts.counts))
-
-pub returns-clause-costs : goal.returns-clause-costs
-returns-clause-costs g c =
-    let old = g.C.Chip.told c.args.chip.now in
-    let mid = g.C.Chip.told c.read_page.new.chip in
-    let read = c.in_ok-read_page.ensures in
-    programs_behind _ c.args.place 16 4 old mid (g.C.Chip.told c.program_page.new.chip)
-    (page_asked_at {T = Unit {0}} c.args.home.now.place c.args.page c.from-count.result (Ok tt) old
-    mid read.asks read.accounts.counts) c.program_page.ensures.costs
 
 pub returns-in_err-read_page-clause-fault : goal.returns-in_err-read_page-clause-fault
 returns-in_err-read_page-clause-fault g c = λ x told.
@@ -123,48 +112,59 @@ returns-then-not-make_anew-clause-fault g c = λ x told alone.
     c.from-count.result c.read_page.new.into c.from-count.ensures
     (c.in_ok-read_page.ensures.page x told) c.if-not-make_anew.ensures.full
 
-pub returns-then-not-make_anew-clause-costs : goal.returns-then-not-make_anew-clause-costs
-returns-then-not-make_anew-clause-costs g c =
+-- ---- what is spent
+
+-- nothing, where the page isn't moved
+unmoved : (At : ℕ → ℕ → Type 0) (place p page : ℕ) (fault : ChipFault) (old new : Told) → ReadsAt At old new
+    → MoveCause place fault old new
+    → WritesPlace {T = ℕ} p (ProgramsAt p 16 0 4) (IsPieceSpot page 16) (MoveCause place) (Err fault) old new
+unmoved At place p page fault old new reads cause = record {
+  spares = tt;
+  costs = spends_at_most p 0 16 0 0 4 old new (omega arith) (omega arith) (spends_read At p 4 old new reads);
+  tidy = tidy_read At p (IsPieceSpot page 16) false old new reads;
+  accounts = record { counts = reads.counts; cause = cause };
+}
+
+pub returns-in_err-read_page-clause-spends : goal.returns-in_err-read_page-clause-spends
+returns-in_err-read_page-clause-spends g c =
     let old = g.C.Chip.told c.args.chip.now in
     let new = g.C.Chip.told c.read_page.new.chip in
-    let read = c.in_ok-read_page.ensures in
-    spends_at_most c.args.place 0 16 0 0 4 old new (omega arith) (omega arith)
-    (spends_read _ c.args.place 4 old new (page_asked_at {T = Unit {0}} c.args.home.now.place
-    c.args.page c.from-count.result (Ok tt) old new read.asks read.accounts.counts))
+    let home = c.args.home.now.place in
+    let fault = c.in_err-read_page.field-0.0 in
+    let unread = c.in_err-read_page.ensures in
+    let e = err_from_is_err_and c.from_residual.result c.from_residual.ensures.1 in
+    rw (e.1 ∙ ap Err e.2) (unmoved _ home c.args.place c.args.page fault old new
+    (page_asked_at {T = Unit {0}} home c.args.page c.from-count.result (Err fault) old new unread.asks
+    unread.accounts.counts)
+    (page_unmoved home c.args.page fault old new c.requires.page unread.accounts.cause))
 
-pub returns-then-not-make_anew-clause-tidy : goal.returns-then-not-make_anew-clause-tidy
-returns-then-not-make_anew-clause-tidy g c =
+pub returns-then-not-make_anew-clause-spends : goal.returns-then-not-make_anew-clause-spends
+returns-then-not-make_anew-clause-spends g c =
     let old = g.C.Chip.told c.args.chip.now in
     let new = g.C.Chip.told c.read_page.new.chip in
+    let home = c.args.home.now.place in
     let read = c.in_ok-read_page.ensures in
-    tidy_read _ c.args.place (IsPieceSpot c.args.page 16) _ old new (page_asked_at {T = Unit {0}}
-    c.args.home.now.place c.args.page c.from-count.result (Ok tt) old new read.asks
-    read.accounts.counts)
+    unmoved _ home c.args.place c.args.page (Malformed home 0) old new
+    (page_asked_at {T = Unit {0}} home c.args.page c.from-count.result (Ok tt) old new read.asks
+    read.accounts.counts) (refl, inr refl)
 
-pub returns-clause-spares : goal.returns-clause-spares
-returns-clause-spares g c =
+pub returns-clause-spends : goal.returns-clause-spends
+returns-clause-spends g c =
     let old = g.C.Chip.told c.args.chip.now in
     let mid = g.C.Chip.told c.read_page.new.chip in
+    let new = g.C.Chip.told c.program_page.new.chip in
+    let home = c.args.home.now.place in
+    let p = c.args.place in
     let read = c.in_ok-read_page.ensures in
-    spares_behind c.args.place old mid (g.C.Chip.told c.program_page.new.chip) c.program_page.result
-    (spares_none c.args.place old mid (page_asked_at {T = Unit {0}} c.args.home.now.place
-    c.args.page c.from-count.result (Ok tt) old mid read.asks read.accounts.counts).contents)
-    c.program_page.ensures.spares
-
-pub returns-in_err-read_page-clause-tidy : goal.returns-in_err-read_page-clause-tidy
-returns-in_err-read_page-clause-tidy g c =
-    let old = g.C.Chip.told c.args.chip.now in
-    let new = g.C.Chip.told c.read_page.new.chip in
-    tidy_read _ c.args.place (IsPieceSpot c.args.page 16) _ old new (page_asked_at {T = Unit {0}}
-    c.args.home.now.place c.args.page c.from-count.result (Err c.in_err-read_page.field-0.0) old new
-    c.in_err-read_page.ensures.asks c.in_err-read_page.ensures.accounts.counts)
-
-pub returns-clause-tidy : goal.returns-clause-tidy
-returns-clause-tidy g c =
-    let old = g.C.Chip.told c.args.chip.now in
-    let mid = g.C.Chip.told c.read_page.new.chip in
-    let read = c.in_ok-read_page.ensures in
-    tidy_behind _ c.args.place (IsPieceSpot c.args.page 16) _ old mid
-    (g.C.Chip.told c.program_page.new.chip)
-    (page_asked_at {T = Unit {0}} c.args.home.now.place c.args.page c.from-count.result (Ok tt) old
-    mid read.asks read.accounts.counts) c.program_page.ensures.tidy
+    let wrote = c.program_page.ensures in
+    let reads = page_asked_at {T = Unit {0}} home c.args.page c.from-count.result (Ok tt) old mid read.asks
+    read.accounts.counts in record {
+      spares = spares_behind p old mid new c.program_page.result (spares_none p old mid reads.contents)
+          wrote.spares;
+      costs = programs_behind _ p 16 4 old mid new reads wrote.costs;
+      tidy = tidy_behind _ p (IsPieceSpot c.args.page 16) _ old mid new reads wrote.tidy;
+      accounts = record {
+        counts = counts_then old mid new read.accounts.counts wrote.accounts.counts;
+        cause = stopped_unmoved home c.program_page.result old mid new read.accounts.counts wrote.accounts.cause;
+      };
+    }

@@ -9,7 +9,7 @@ free_one-requires c =
     c.drop_unit-left.result 0 _ c.facts-2.ensures c.drop_unit-left.ensures.left
     (omega (
       arith,
-      c.requires.sized,
+      c.requires.may.sized,
       in_use_moved c.args.parts.now.directory c.args.unit
           c.args.place c.args.generation c.args.used c.move_home.new.directory c.move_home.ensures,
     ))
@@ -21,7 +21,7 @@ free_one-requires-2 c =
     c.drop_unit-left.result 1 _ c.facts-2.ensures c.drop_unit-left.ensures.left
     (omega (
       arith,
-      c.requires.sized,
+      c.requires.may.sized,
       first,
       in_use_moved c.args.parts.now.directory c.args.unit
           c.args.place c.args.generation c.args.used c.move_home.new.directory c.move_home.ensures,
@@ -58,7 +58,7 @@ returns-clause-lost c = λ none q less used.
       active = refl;
       few = c.facts-3.ensures.two;
     })
-    _ c.requires.unit c.requires.place refl (omega arith) q less used none
+    _ c.requires.may.unit c.requires.may.place refl (omega arith) q less used none
 
 pub returns-clause-told : goal.returns-clause-told
 returns-clause-told c =
@@ -66,3 +66,6 @@ returns-clause-told c =
     c.free_one-2.new.directory c.args.unit c.args.place c.args.generation c.args.used c.args.masks _ _
     c.move_home.ensures c.free_one.ensures.frees c.free_one-2.ensures.frees c.free_one.ensures.masks
     c.free_one-2.ensures.masks c.set_masks.ensures c.drop_unit-left.ensures.dropped
+
+pub move_home-requires-clause-another : goal.move_home-requires-clause-another
+move_home-requires-clause-another c = c.requires.may.another

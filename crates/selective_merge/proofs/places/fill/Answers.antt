@@ -1,11 +1,13 @@
-use Rattle.std.proofs.Common.{false, true, length, ◌∙◌, ℕ, Ok, Err, subst}
+use Rattle.std.proofs.Common.{false, true, length, ◌∙◌, ℕ, Ok, Err, ap, arith, subst}
 use Rattle.std.proofs.lemmas.Result.{err_from_is_err_and}
+use Rattle.chip_trait.proofs.CountsLemmas.{counts_then}
 use Rattle.selective_merge.specs.Homes.{from_home}
 use Rattle.selective_merge.specs.Writing.{WritesLogs}
 use Rattle.selective_merge.proofs.FillLemmas.{pages_failed, logged, logs_failed, filled_told}
 use Rattle.merge_laws.proofs.FaultLemmas.{fault_as, fault_stopped}
 use Rattle.place_taking.proofs.JoinLemmas.{fills_programs, fills_then}
 use Rattle.unit_io.proofs.SparesLemmas.{spares_then}
+use Rattle.selective_merge.proofs.PlaceLemmas.{stopped_unmoved}
 use Rattle.selective_merge.proofs.TidyLemmas.{tidy_paged, tidy_logged}
 use Rattle.selective_merge.proofs.places.fill.Goals as goal
 
@@ -31,11 +33,11 @@ returns-in_err-write_logs-clause-fills g c = λ m h steady rests clean.
     let e = err_from_is_err_and c.from_residual-in_err-write_logs.result
     c.from_residual-in_err-write_logs.ensures.1 in
     rw e.1 (logs_failed old.places from c.args.place head.generation c.args.counter.now head.unit
-    c.args.payloads.now c.requires.unit m h old steady rests clean late pages.accounts.counts
+    c.args.payloads.now c.requires.unit m h old steady rests clean late pages.spends.accounts.counts
     c.in_ok-pieces.pieces pages.moves fault e.0 new
     (subst (λ (q : ℕ). WritesLogs q c.args.place head.unit head.generation c.args.counter.now
-    c.args.payloads.now late (Err fault) new) pages.accounts.counts.places
-    c.in_err-write_logs.ensures.writes) c.in_err-write_logs.ensures.accounts.cause)
+    c.args.payloads.now late (Err fault) new) pages.spends.accounts.counts.places
+    c.in_err-write_logs.ensures.writes) c.in_err-write_logs.ensures.spends.accounts.cause)
 
 pub returns-clause-fills : goal.returns-clause-fills
 returns-clause-fills g c = λ m h steady rests clean.
@@ -46,10 +48,10 @@ returns-clause-fills g c = λ m h steady rests clean.
     let head = c.args.head.now in
     let pages = c.in_ok-pieces.ensures in
     logged old.places from c.args.place head.generation c.args.counter.now head.unit
-    c.args.payloads.now c.requires.unit m h old steady rests clean late pages.accounts.counts
+    c.args.payloads.now c.requires.unit m h old steady rests clean late pages.spends.accounts.counts
     c.in_ok-pieces.pieces pages.moves new (Ok tt)
     (subst (λ (q : ℕ). WritesLogs q c.args.place head.unit head.generation c.args.counter.now
-    c.args.payloads.now late (Ok tt) new) pages.accounts.counts.places
+    c.args.payloads.now late (Ok tt) new) pages.spends.accounts.counts.places
     c.in_ok-write_logs.ensures.writes) tt
 
 pub returns-in_err-pieces-clause-tells : goal.returns-in_err-pieces-clause-tells
@@ -61,7 +63,7 @@ pub returns-in_err-write_logs-clause-tells : goal.returns-in_err-write_logs-clau
 returns-in_err-write_logs-clause-tells g c =
     let e = err_from_is_err_and c.from_residual-in_err-write_logs.result
     c.from_residual-in_err-write_logs.ensures.1 in
-    rw e.1 (λ soft. absurd (soft (e.2 ∙ c.in_err-write_logs.ensures.accounts.cause.0)))
+    rw e.1 (λ soft. absurd (soft (e.2 ∙ c.in_err-write_logs.ensures.spends.accounts.cause.0)))
 
 pub returns-clause-tells : goal.returns-clause-tells
 returns-clause-tells g c =
@@ -72,29 +74,6 @@ returns-clause-tells g c =
     (g.C.Chip.told c.move_pages.new.chip) (g.C.Chip.told c.write_logs.new.chip)
     c.in_ok-pieces.ensures.tells c.in_ok-write_logs.ensures.tells
 
-pub returns-in_err-pieces-clause-costs : goal.returns-in_err-pieces-clause-costs
-returns-in_err-pieces-clause-costs g c =
-    fills_programs c.args.place 240 0 4 (g.C.Chip.told c.args.chip.now)
-    (g.C.Chip.told c.move_pages.new.chip) c.in_err-pieces.ensures.costs
-
-pub returns-in_err-write_logs-clause-costs : goal.returns-in_err-write_logs-clause-costs
-returns-in_err-write_logs-clause-costs g c =
-    let old = g.C.Chip.told c.args.chip.now in
-    let late = g.C.Chip.told c.move_pages.new.chip in
-    let new = g.C.Chip.told c.write_logs.new.chip in
-    let p = c.args.place in
-    fills_then p 0 0 old late new (fills_programs p 240 0 4 old late c.in_ok-pieces.ensures.costs)
-    (fills_programs p (length c.args.payloads.now) 0 5 late new c.in_err-write_logs.ensures.costs)
-
-pub returns-clause-costs : goal.returns-clause-costs
-returns-clause-costs g c =
-    let old = g.C.Chip.told c.args.chip.now in
-    let late = g.C.Chip.told c.move_pages.new.chip in
-    let new = g.C.Chip.told c.write_logs.new.chip in
-    let p = c.args.place in
-    fills_then p 0 0 old late new (fills_programs p 240 0 4 old late c.in_ok-pieces.ensures.costs)
-    (fills_programs p (length c.args.payloads.now) 0 5 late new c.in_ok-write_logs.ensures.costs)
-
 pub returns-in_err-pieces-clause-fault : goal.returns-in_err-pieces-clause-fault
 returns-in_err-pieces-clause-fault g c = λ x told.
     let e = err_from_is_err_and c.from_residual.result c.from_residual.ensures.1 in
@@ -104,34 +83,82 @@ pub returns-in_err-write_logs-clause-fault : goal.returns-in_err-write_logs-clau
 returns-in_err-write_logs-clause-fault g c = λ x told.
     let e = err_from_is_err_and c.from_residual-in_err-write_logs.result
     c.from_residual-in_err-write_logs.ensures.1 in
-    rw e.1 (fault_stopped _ e.0 (e.2 ∙ c.in_err-write_logs.ensures.accounts.cause.0))
+    rw e.1 (fault_stopped _ e.0 (e.2 ∙ c.in_err-write_logs.ensures.spends.accounts.cause.0))
 
 pub returns-clause-fault : goal.returns-clause-fault
 returns-clause-fault g c = λ x told. c.in_ok-pieces.ensures.fault x told
 
-pub returns-clause-spares : goal.returns-clause-spares
-returns-clause-spares g c =
-    spares_then c.args.place (g.C.Chip.told c.args.chip.now) (g.C.Chip.told c.move_pages.new.chip)
-    (g.C.Chip.told c.write_logs.new.chip) c.in_ok-pieces.ensures.spares
-    c.in_ok-write_logs.ensures.spares
-
-pub returns-in_err-pieces-clause-tidy : goal.returns-in_err-pieces-clause-tidy
-returns-in_err-pieces-clause-tidy g c =
+pub returns-in_err-pieces-clause-spends : goal.returns-in_err-pieces-clause-spends
+returns-in_err-pieces-clause-spends g c =
+    let old = g.C.Chip.told c.args.chip.now in
+    let new = g.C.Chip.told c.move_pages.new.chip in
+    let p = c.args.place in
+    let says = c.in_err-pieces.ensures.spends in
     let e = err_from_is_err_and c.from_residual.result c.from_residual.ensures.1 in
-    rw e.1 (tidy_paged c.args.place (length c.args.payloads.now) (g.C.Chip.told c.args.chip.now)
-    (g.C.Chip.told c.move_pages.new.chip) c.in_err-pieces.ensures.tidy)
+    rw (e.1 ∙ ap Err e.2) (record {
+      spares = tt;
+      costs = fills_programs p 240 0 4 old new says.costs;
+      tidy = tidy_paged p (length c.args.payloads.now) old new says.tidy;
+      accounts = record { counts = says.accounts.counts; cause = says.accounts.cause };
+    })
 
-pub returns-in_err-write_logs-clause-tidy : goal.returns-in_err-write_logs-clause-tidy
-returns-in_err-write_logs-clause-tidy g c =
+pub returns-in_err-write_logs-clause-spends : goal.returns-in_err-write_logs-clause-spends
+returns-in_err-write_logs-clause-spends g c =
+    let old = g.C.Chip.told c.args.chip.now in
+    let late = g.C.Chip.told c.move_pages.new.chip in
+    let new = g.C.Chip.told c.write_logs.new.chip in
+    let p = c.args.place in
+    let n = length c.args.payloads.now in
+    let pages = c.in_ok-pieces.ensures.spends in
+    let logs = c.in_err-write_logs.ensures.spends in
     let e = err_from_is_err_and c.from_residual-in_err-write_logs.result
     c.from_residual-in_err-write_logs.ensures.1 in
-    rw e.1 (tidy_logged c.args.place (length c.args.payloads.now) false
-    (g.C.Chip.told c.args.chip.now) (g.C.Chip.told c.move_pages.new.chip)
-    (g.C.Chip.told c.write_logs.new.chip) c.in_ok-pieces.ensures.tidy
-    c.in_err-write_logs.ensures.tidy)
+    rw (e.1 ∙ ap Err e.2) (record {
+      spares = tt;
+      costs = fills_then p 0 0 old late new (fills_programs p 240 0 4 old late pages.costs)
+          (fills_programs p n 0 5 late new logs.costs);
+      tidy = tidy_logged p n false old late new pages.tidy logs.tidy;
+      accounts = record {
+        counts = counts_then old late new pages.accounts.counts logs.accounts.counts;
+        cause = stopped_unmoved {T = Unit {0}} c.args.home.now.place (Err c.in_err-write_logs.field-0.0) old late new
+            pages.accounts.counts logs.accounts.cause;
+      };
+    })
 
-pub returns-clause-tidy : goal.returns-clause-tidy
-returns-clause-tidy g c =
-    tidy_logged c.args.place (length c.args.payloads.now) true (g.C.Chip.told c.args.chip.now)
-    (g.C.Chip.told c.move_pages.new.chip) (g.C.Chip.told c.write_logs.new.chip)
-    c.in_ok-pieces.ensures.tidy c.in_ok-write_logs.ensures.tidy
+pub returns-clause-spends : goal.returns-clause-spends
+returns-clause-spends g c =
+    let old = g.C.Chip.told c.args.chip.now in
+    let late = g.C.Chip.told c.move_pages.new.chip in
+    let new = g.C.Chip.told c.write_logs.new.chip in
+    let p = c.args.place in
+    let n = length c.args.payloads.now in
+    let pages = c.in_ok-pieces.ensures.spends in
+    let logs = c.in_ok-write_logs.ensures.spends in record {
+      spares = spares_then p old late new pages.spares logs.spares;
+      costs = fills_then p 0 0 old late new (fills_programs p 240 0 4 old late pages.costs)
+          (fills_programs p n 0 5 late new logs.costs);
+      tidy = tidy_logged p n true old late new pages.tidy logs.tidy;
+      accounts = record {
+        counts = counts_then old late new pages.accounts.counts logs.accounts.counts;
+        cause = tt;
+      };
+    }
+
+pub returns-in_err-pieces-clause-serials : goal.returns-in_err-pieces-clause-serials
+returns-in_err-pieces-clause-serials g c =
+    let e = err_from_is_err_and c.from_residual.result c.from_residual.ensures.1 in
+    rw e.1 (record { drawn = tt; draws = (omega arith, omega arith) })
+
+pub returns-in_err-write_logs-clause-serials : goal.returns-in_err-write_logs-clause-serials
+returns-in_err-write_logs-clause-serials g c =
+    let e = err_from_is_err_and c.from_residual-in_err-write_logs.result
+    c.from_residual-in_err-write_logs.ensures.1 in
+    rw e.1 (record { drawn = tt; draws = c.in_err-write_logs.ensures.serials.draws })
+
+pub returns-clause-serials : goal.returns-clause-serials
+returns-clause-serials g c =
+    let serials = c.in_ok-write_logs.ensures.serials in record { drawn = serials.drawn; draws = serials.draws }
+
+pub write_logs-requires-clause-place : goal.write_logs-requires-clause-place
+write_logs-requires-clause-place g c =
+    omega (arith, c.requires.may.place, c.in_ok-pieces.ensures.spends.accounts.counts.places)

@@ -1,4 +1,6 @@
+use Rattle.std.proofs.Common.{ℕ, subst}
 use Rattle.sector_format.specs.Decode.{sector_of}
+use Rattle.unit_io.specs.Costs.{ProgramsAt, Spends}
 use Rattle.selective_merge.proofs.SealLemmas.{unit_head, sealed_keeps, sealed_tells}
 use Rattle.selective_merge.proofs.places.seal_unit.Goals as goal
 
@@ -24,5 +26,11 @@ returns-clause-tells g c =
     (unit_head header sealed c.requires.kind c.requires.version c.requires.serial
     c.write_data_header.ensures) c.seal.ensures.tells
 
-pub returns-clause-spares : goal.returns-clause-spares
-returns-clause-spares g c = c.seal.ensures.spares
+pub returns-clause-spends : goal.returns-clause-spends
+returns-clause-spends g c = record {
+  spares = c.seal.ensures.spares;
+  costs = subst (λ (kind : ℕ). Spends (ProgramsAt c.args.place 1 2 kind) (g.C.Chip.told c.args.chip.now)
+      (g.C.Chip.told c.seal.new.chip)) c.requires.kind c.seal.ensures.costs;
+  tidy = c.seal.ensures.tidy;
+  accounts = c.seal.ensures.accounts;
+}

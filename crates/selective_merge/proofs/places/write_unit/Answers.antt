@@ -1,6 +1,7 @@
-use Rattle.std.proofs.Common.{ℕ, length, Ok, OnOk, arith, subst}
+use Rattle.std.proofs.Common.{ℕ, length, Ok, Err, OnOk, ◌∙◌, ap, arith, subst}
 use Rattle.std.proofs.lemmas.Result.{err_from_is_err_and}
 use Rattle.std.specs.Prelude.{is_ok}
+use Rattle.chip_trait.proofs.CountsLemmas.{counts_then}
 use Rattle.place_taking.proofs.JoinLemmas.{fills_at_most, fills_programs, fills_then}
 use Rattle.selective_merge.specs.Homes.{from_home}
 use Rattle.sector_format.specs.declared.sector.Head.{Head}
@@ -10,6 +11,7 @@ use Rattle.selective_merge.proofs.SealLemmas.{unit_written, written_told, fill_f
 use Rattle.merge_laws.specs.Faults.{pages_fault}
 use Rattle.merge_laws.proofs.FaultLemmas.{fault_as, tells_written}
 use Rattle.unit_io.proofs.SparesLemmas.{spares_behind}
+use Rattle.selective_merge.proofs.PlaceLemmas.{stopped_unmoved, where_done}
 use Rattle.selective_merge.proofs.TidyLemmas.{tidy_sealed, tidy_unsealed}
 use Rattle.selective_merge.proofs.places.write_unit.Goals as goal
 
@@ -39,10 +41,10 @@ returns-clause-writes g c = λ m it t u h steady rests clean all what.
     unit_written old.places c.args.units c.args.erases c.args.place c.args.generation c.args.counter.now
     c.count_of-carried.result from c.args.payloads.now pieces filled.few
     c.count_of-carried.ensures m it t u h old mid new c.seal_unit.result all what rests clean
-    filled.accounts.counts (fills m h steady rests clean)
+    filled.spends.accounts.counts (fills m h steady rests clean)
     (subst (λ (q : ℕ). SealsUnit q c.args.place c.args.units c.args.erases from.unit c.args.generation pieces
-    c.count_of-carried.result mid c.seal_unit.result new) filled.accounts.counts.places seals)
-    c.seal_unit.ensures.accounts.cause
+    c.count_of-carried.result mid c.seal_unit.result new) filled.spends.accounts.counts.places seals)
+    c.seal_unit.ensures.spends.accounts.cause
 
 pub returns-clause-tells : goal.returns-clause-tells
 returns-clause-tells g c =
@@ -60,19 +62,7 @@ returns-clause-tells g c =
     (subst (λ (w : Head). OnOk c.seal_unit.result (Charts (IsSealed c.args.place c.args.units c.args.erases w.unit
     w.generation pieces c.count_of-carried.result) mid new)) c.written-head.ensures
     c.seal_unit.ensures.tells)
-    c.seal_unit.ensures.accounts.cause
-
-pub returns-in_err-pieces-clause-costs : goal.returns-in_err-pieces-clause-costs
-returns-in_err-pieces-clause-costs g c =
-    fills_at_most c.args.place 0 2 (g.C.Chip.told c.args.chip.now) (g.C.Chip.told c.fill.new.chip)
-    (omega arith) c.in_err-pieces.ensures.costs
-
-pub returns-clause-costs : goal.returns-clause-costs
-returns-clause-costs g c =
-    let mid = g.C.Chip.told c.fill.new.chip in
-    let new = g.C.Chip.told c.seal_unit.new.chip in
-    fills_then c.args.place 0 2 (g.C.Chip.told c.args.chip.now) mid new c.in_ok-pieces.ensures.costs
-    (fills_programs c.args.place 1 2 1 mid new c.seal_unit.ensures.costs)
+    c.seal_unit.ensures.spends.accounts.cause
 
 pub returns-in_err-pieces-clause-fault : goal.returns-in_err-pieces-clause-fault
 returns-in_err-pieces-clause-fault g c = λ x told.
@@ -84,22 +74,53 @@ returns-clause-fault g c = λ x told.
     let from = from_home c.args.home.now c.args.status.now.numbers c.args.log.now in
     tells_written (pages_fault x from) (g.C.Chip.told c.fill.new.chip)
     (g.C.Chip.told c.seal_unit.new.chip) c.seal_unit.result (c.in_ok-pieces.ensures.fault x told)
-    c.seal_unit.ensures.accounts.cause
+    c.seal_unit.ensures.spends.accounts.cause
 
-pub returns-clause-spares : goal.returns-clause-spares
-returns-clause-spares g c =
-    spares_behind c.args.place (g.C.Chip.told c.args.chip.now) (g.C.Chip.told c.fill.new.chip)
-    (g.C.Chip.told c.seal_unit.new.chip) c.seal_unit.result c.in_ok-pieces.ensures.spares
-    c.seal_unit.ensures.spares
-
-pub returns-in_err-pieces-clause-tidy : goal.returns-in_err-pieces-clause-tidy
-returns-in_err-pieces-clause-tidy g c =
+pub returns-in_err-pieces-clause-spends : goal.returns-in_err-pieces-clause-spends
+returns-in_err-pieces-clause-spends g c =
+    let old = g.C.Chip.told c.args.chip.now in
+    let new = g.C.Chip.told c.fill.new.chip in
+    let p = c.args.place in
+    let says = c.in_err-pieces.ensures.spends in
     let e = err_from_is_err_and c.from_residual.result c.from_residual.ensures.1 in
-    rw e.1 (tidy_unsealed c.args.place (length c.args.payloads.now)
-    (g.C.Chip.told c.args.chip.now) (g.C.Chip.told c.fill.new.chip) c.in_err-pieces.ensures.tidy)
+    rw (e.1 ∙ ap Err e.2) (record {
+      spares = tt;
+      costs = fills_at_most p 0 2 old new (omega arith) says.costs;
+      tidy = tidy_unsealed p (length c.args.payloads.now) old new says.tidy;
+      accounts = record { counts = says.accounts.counts; cause = says.accounts.cause };
+    })
 
-pub returns-clause-tidy : goal.returns-clause-tidy
-returns-clause-tidy g c =
-    tidy_sealed c.args.place (length c.args.payloads.now) (is_ok c.seal_unit.result)
-    (g.C.Chip.told c.args.chip.now) (g.C.Chip.told c.fill.new.chip)
-    (g.C.Chip.told c.seal_unit.new.chip) c.in_ok-pieces.ensures.tidy c.seal_unit.ensures.tidy
+pub returns-clause-spends : goal.returns-clause-spends
+returns-clause-spends g c =
+    let old = g.C.Chip.told c.args.chip.now in
+    let mid = g.C.Chip.told c.fill.new.chip in
+    let new = g.C.Chip.told c.seal_unit.new.chip in
+    let p = c.args.place in
+    let result = c.seal_unit.result in
+    let filled = c.in_ok-pieces.ensures.spends in
+    let sealed = c.seal_unit.ensures.spends in record {
+      spares = spares_behind p old mid new result filled.spares sealed.spares;
+      costs = fills_then p 0 2 old mid new filled.costs (fills_programs p 1 2 1 mid new sealed.costs);
+      tidy = tidy_sealed p (length c.args.payloads.now) (is_ok result) old mid new filled.tidy sealed.tidy;
+      accounts = record {
+        counts = counts_then old mid new filled.accounts.counts sealed.accounts.counts;
+        cause = stopped_unmoved c.args.home.now.place result old mid new filled.accounts.counts
+            sealed.accounts.cause;
+      };
+    }
+
+pub returns-in_err-pieces-clause-serials : goal.returns-in_err-pieces-clause-serials
+returns-in_err-pieces-clause-serials g c =
+    let e = err_from_is_err_and c.from_residual.result c.from_residual.ensures.1 in
+    rw e.1 (record { drawn = tt; draws = c.in_err-pieces.ensures.serials.draws })
+
+pub returns-clause-serials : goal.returns-clause-serials
+returns-clause-serials g c =
+    let serials = c.in_ok-pieces.ensures.serials in record {
+      drawn = where_done _ c.seal_unit.result serials.drawn;
+      draws = serials.draws;
+    }
+
+pub seal_unit-requires-clause-place : goal.seal_unit-requires-clause-place
+seal_unit-requires-clause-place g c =
+    omega (arith, c.requires.may.place, c.in_ok-pieces.ensures.spends.accounts.counts.places)

@@ -2,9 +2,9 @@ use Rattle.std.proofs.Common.{inr}
 use Rattle.selective_merge.specs.Moving.{tables_of}
 use Rattle.selective_merge.specs.Placing.{IsElsewhere}
 use Rattle.selective_merge.proofs.PlacingLemmas.{new_spot, elsewhere_clean, elsewhere_opened, elsewhere_merged}
-use Rattle.selective_merge.proofs.SpendLemmas.{frees_none}
+use Rattle.selective_merge.proofs.LeavingLemmas.{finds_opened, finds_there}
 use Rattle.selective_merge.proofs.RoomLemmas.{if_ok, makes_none, told_none, makes_by_merge, told_by_merge, makes_by_opening, told_by_opening}
-use Rattle.selective_merge.proofs.TakenLemmas.{opened_alone, opened_cause}
+use Rattle.selective_merge.proofs.TakenLemmas.{opened_alone}
 use Rattle.selective_merge.proofs.placing.elsewhere.Goals as goal
 
 pub returns-in-Clean-clause-steps : goal.returns-in-Clean-clause-steps
@@ -79,21 +79,24 @@ returns-in-Nothing-clause-tells g c =
     (λ spot home x y it merged. elsewhere_merged old.places x y it t after c.args.unit
     spot.place spot.sector c.in-Nothing.ensures home merged) c.merged_spot.ensures.spot)
 
-pub returns-in-Clean-clause-costs : goal.returns-in-Clean-clause-costs
-returns-in-Clean-clause-costs g c =
-    frees_none (tables_of c.args.parts.now).places (g.C.Chip.told c.args.chip.now)
-
 pub returns-in-NewPlace-clause-fault : goal.returns-in-NewPlace-clause-fault
 returns-in-NewPlace-clause-fault g c = λ x told it mirrors.
     opened_alone _ c.open_overflow.new.parts.directory (g.C.Chip.told c.args.chip.now) (g.C.Chip.told c.open_overflow.new.chip)
-    c.open_overflow.result c.open_overflow.ensures.accounts.cause
-
-pub returns-in-NewPlace-clause-accounts : goal.returns-in-NewPlace-clause-accounts
-returns-in-NewPlace-clause-accounts g c = record {
-  counts = c.open_overflow.ensures.accounts.counts;
-  cause = opened_cause c.open_overflow.new.parts.directory _ _ (g.C.Chip.told c.args.chip.now) (g.C.Chip.told c.open_overflow.new.chip)
-      c.open_overflow.result c.open_overflow.ensures.accounts.cause;
-}
+    c.open_overflow.result c.open_overflow.ensures.leaves.accounts.cause
 
 pub returns-in-Nothing-clause-fault : goal.returns-in-Nothing-clause-fault
 returns-in-Nothing-clause-fault g c = c.merged_spot.ensures.fault
+
+pub returns-in-Clean-clause-finds : goal.returns-in-Clean-clause-finds
+returns-in-Clean-clause-finds g c =
+    finds_there c.args.unit (tables_of c.args.parts.now) c.in-Clean.spot (g.C.Chip.told c.args.chip.now)
+    c.requires.known
+
+pub returns-in-NewPlace-clause-finds : goal.returns-in-NewPlace-clause-finds
+returns-in-NewPlace-clause-finds g c =
+    finds_opened c.args.unit (tables_of c.args.parts.now) (tables_of c.open_overflow.new.parts)
+    c.open_overflow.result (g.C.Chip.told c.args.chip.now) (g.C.Chip.told c.open_overflow.new.chip)
+    c.open_overflow.ensures.leaves c.open_overflow.ensures.costs
+
+pub returns-in-Nothing-clause-finds : goal.returns-in-Nothing-clause-finds
+returns-in-Nothing-clause-finds g c = c.merged_spot.ensures.finds

@@ -1,4 +1,4 @@
-use Rattle.std.proofs.Common.{slice_index, ◌<◌, ◌≤◌, ◌∙◌, ℕ, refl, ap, subst, arith}
+use Rattle.std.proofs.Common.{Err, slice_index, ◌<◌, ◌≤◌, ◌∙◌, ℕ, refl, ap, subst, arith}
 use Rattle.std.proofs.lemmas.Result.{err_from_is_err_and}
 use Rattle.overflow.specs.Lists.{spots_in}
 use Rattle.unit_log.specs.Looks.{IsLogRead}
@@ -9,13 +9,10 @@ use Rattle.selective_merge.specs.Spotting.{HasHomeSpot}
 use Rattle.selective_merge.specs.Throughout.{ChartsThroughout}
 use Rattle.selective_merge.proofs.PlacingLemmas.{placed_home, placed_few, placed_elsewhere}
 use Rattle.selective_merge.proofs.RoomLemmas.{Merged, if_ok, makes_none, told_none, makes_by_merge, told_by_merge, makes_unread, placed_behind, placed_told}
-use Rattle.place_taking.specs.Spending.{is_worn_out, tells_worn}
-use Rattle.selective_merge.proofs.SpendLemmas.{erases_free_behind, frees_none, frees_read, read_not_worn}
+use Rattle.selective_merge.proofs.LeavingLemmas.{finds_behind, finds_there, finds_unread}
 use Rattle.selective_merge.proofs.WholeLemmas.{told_unread}
 use Rattle.merge_laws.proofs.FaultLemmas.{fault_unread}
 use Rattle.selective_merge.proofs.CompleteLemmas.{fails_behind, fails_complete}
-use Rattle.step_laws.proofs.TablesLemmas.{tables_read}
-use Rattle.selective_merge.proofs.TidyLemmas.{tidies_behind}
 use Rattle.selective_merge.proofs.LearntLemmas.{counted, learnt_behind}
 use Rattle.selective_merge.proofs.placing.log_place.Goals as goal
 
@@ -153,40 +150,6 @@ returns-clause-tells g c =
     (subst (λ (q : ℕ). ChartsThroughout (MakesRoom IsElsewhere q u t after) (StaysMirrored q t after)
     c.elsewhere.result mid new) reads.counts.places c.elsewhere.ensures.tells)
 
-pub returns-in-Some-clause-costs : goal.returns-in-Some-clause-costs
-returns-in-Some-clause-costs g c =
-    frees_none (tables_of c.args.parts.now).places (g.C.Chip.told c.args.chip.now)
-
-pub returns-in_err-home-clause-costs : goal.returns-in_err-home-clause-costs
-returns-in_err-home-clause-costs g c =
-    let e = err_from_is_err_and c.from_residual.result c.from_residual.ensures.1 in
-    let At = IsLogRead (slice_index c.args.parts.now.directory.current c.args.unit)
-    (spots_in c.args.parts.now.overflow c.args.unit) in
-    let old = g.C.Chip.told c.args.chip.now in
-    let new = g.C.Chip.told c.learn.new.chip in
-    rw e.1 (frees_read At (tables_of c.args.parts.now).places (tells_worn e.0) old new
-    (ap tells_worn e.2
-    ∙ read_not_worn At c.in_err-home.field-0.0 old new c.in_err-home.ensures.looks.cause)
-    c.in_err-home.ensures.looks.reads)
-
-pub returns-then-carried-le-MERGE_THRESHOLD-clause-costs : goal.returns-then-carried-le-MERGE_THRESHOLD-clause-costs
-returns-then-carried-le-MERGE_THRESHOLD-clause-costs g c =
-    erases_free_behind (IsLogRead (slice_index c.args.parts.now.directory.current c.args.unit)
-    (spots_in c.args.parts.now.overflow c.args.unit))
-    (tables_of c.args.parts.now).places (tables_of c.merged_spot.new.parts).places
-    (is_worn_out c.merged_spot.result) (g.C.Chip.told c.args.chip.now)
-    (g.C.Chip.told c.learn.new.chip) (g.C.Chip.told c.merged_spot.new.chip)
-    c.in_ok-home.ensures.looks.reads c.merged_spot.ensures.costs
-
-pub returns-clause-costs : goal.returns-clause-costs
-returns-clause-costs g c =
-    erases_free_behind (IsLogRead (slice_index c.args.parts.now.directory.current c.args.unit)
-    (spots_in c.args.parts.now.overflow c.args.unit))
-    (tables_of c.args.parts.now).places (tables_of c.elsewhere.new.parts).places
-    (is_worn_out c.elsewhere.result) (g.C.Chip.told c.args.chip.now)
-    (g.C.Chip.told c.learn.new.chip) (g.C.Chip.told c.elsewhere.new.chip)
-    c.in_ok-home.ensures.looks.reads c.elsewhere.ensures.costs
-
 pub returns-in_err-home-clause-fault : goal.returns-in_err-home-clause-fault
 returns-in_err-home-clause-fault g c = λ x told it mirrors.
     let e = err_from_is_err_and c.from_residual.result c.from_residual.ensures.1 in
@@ -226,29 +189,6 @@ returns-clause-complete g c =
     fails_complete old.places (tables_of c.args.parts.now) c.args.unit c.elsewhere.result old
     (returns-clause-fault g c)
 
-pub returns-in_err-home-clause-tidy : goal.returns-in_err-home-clause-tidy
-returns-in_err-home-clause-tidy g c =
-    tables_read (IsLogRead (slice_index c.args.parts.now.directory.current c.args.unit)
-    (spots_in c.args.parts.now.overflow c.args.unit)) (tables_of c.args.parts.now) _
-    (g.C.Chip.told c.args.chip.now) (g.C.Chip.told c.learn.new.chip)
-    c.in_err-home.ensures.looks.reads
-
-pub returns-then-carried-le-MERGE_THRESHOLD-clause-tidy : goal.returns-then-carried-le-MERGE_THRESHOLD-clause-tidy
-returns-then-carried-le-MERGE_THRESHOLD-clause-tidy g c =
-    tidies_behind (IsLogRead (slice_index c.args.parts.now.directory.current c.args.unit)
-    (spots_in c.args.parts.now.overflow c.args.unit)) (tables_of c.args.parts.now)
-    (tables_of c.merged_spot.new.parts) c.merged_spot.result (g.C.Chip.told c.args.chip.now)
-    (g.C.Chip.told c.learn.new.chip) (g.C.Chip.told c.merged_spot.new.chip)
-    c.in_ok-home.ensures.looks.reads c.merged_spot.ensures.tidy
-
-pub returns-clause-tidy : goal.returns-clause-tidy
-returns-clause-tidy g c =
-    tidies_behind (IsLogRead (slice_index c.args.parts.now.directory.current c.args.unit)
-    (spots_in c.args.parts.now.overflow c.args.unit)) (tables_of c.args.parts.now)
-    (tables_of c.elsewhere.new.parts) c.elsewhere.result (g.C.Chip.told c.args.chip.now)
-    (g.C.Chip.told c.learn.new.chip) (g.C.Chip.told c.elsewhere.new.chip)
-    c.in_ok-home.ensures.looks.reads c.elsewhere.ensures.tidy
-
 pub merged_spot-requires-clause-learnt : goal.merged_spot-requires-clause-learnt
 merged_spot-requires-clause-learnt g c =
     learnt_behind _ c.args.unit (tables_of c.args.parts.now) (g.C.Chip.told c.args.chip.now) (g.C.Chip.told c.learn.new.chip)
@@ -260,3 +200,31 @@ elsewhere-requires-clause-learnt g c =
     learnt_behind _ c.args.unit (tables_of c.args.parts.now) (g.C.Chip.told c.args.chip.now) (g.C.Chip.told c.learn.new.chip)
     c.in_ok-home.home c.learn.new.scratch.log _ c.in_ok-home.ensures.looks.reads c.packed_count-carried.ensures.log
     c.in_ok-home.ensures.learns c.in_ok-home.ensures.place c.in_ok-home.ensures.few
+
+pub returns-in-Some-clause-finds : goal.returns-in-Some-clause-finds
+returns-in-Some-clause-finds g c =
+    finds_there c.args.unit (tables_of c.args.parts.now) c.in-Some.spot (g.C.Chip.told c.args.chip.now)
+    c.requires.known
+
+pub returns-in_err-home-clause-finds : goal.returns-in_err-home-clause-finds
+returns-in_err-home-clause-finds g c =
+    let e = err_from_is_err_and c.from_residual.result c.from_residual.ensures.1 in
+    let looks = c.in_err-home.ensures.looks in
+    rw (e.1 ∙ ap Err e.2) (finds_unread c.args.unit (tables_of c.args.parts.now) c.in_err-home.field-0.0
+    (g.C.Chip.told c.args.chip.now) (g.C.Chip.told c.learn.new.chip) c.requires.known looks.reads looks.cause)
+
+pub returns-then-carried-le-MERGE_THRESHOLD-clause-finds : goal.returns-then-carried-le-MERGE_THRESHOLD-clause-finds
+returns-then-carried-le-MERGE_THRESHOLD-clause-finds g c =
+    finds_behind (IsLogRead (slice_index c.args.parts.now.directory.current c.args.unit)
+    (spots_in c.args.parts.now.overflow c.args.unit)) c.args.unit (tables_of c.args.parts.now)
+    (tables_of c.merged_spot.new.parts) c.merged_spot.result (g.C.Chip.told c.args.chip.now)
+    (g.C.Chip.told c.learn.new.chip) (g.C.Chip.told c.merged_spot.new.chip) c.in_ok-home.ensures.looks.reads
+    c.merged_spot.ensures.finds
+
+pub returns-clause-finds : goal.returns-clause-finds
+returns-clause-finds g c =
+    finds_behind (IsLogRead (slice_index c.args.parts.now.directory.current c.args.unit)
+    (spots_in c.args.parts.now.overflow c.args.unit)) c.args.unit (tables_of c.args.parts.now)
+    (tables_of c.elsewhere.new.parts) c.elsewhere.result (g.C.Chip.told c.args.chip.now)
+    (g.C.Chip.told c.learn.new.chip) (g.C.Chip.told c.elsewhere.new.chip) c.in_ok-home.ensures.looks.reads
+    c.elsewhere.ensures.finds

@@ -164,14 +164,14 @@ returns-clause-steps g c = λ places same m it h steady rests agrees.
 pub returns-clause-holds : goal.returns-clause-holds
 returns-clause-holds g c =
     subst (λ n. Holds n (tables_of c.args.parts.now) (tables_of c.merge.new.parts))
-    c.read_live.ensures.looks.reads.counts.places c.merge.ensures.holds
+    c.read_live.ensures.looks.reads.counts.places c.merge.ensures.moves.leaves.holds
 
 pub returns-clause-accounts : goal.returns-clause-accounts
 returns-clause-accounts g c =
     accounts_then c.merge.new.parts.directory (g.C.Chip.told c.args.chip.now) (g.C.Chip.told c.read_live.new.chip)
     (g.C.Chip.told c.merge.new.chip) c.merge.result c.read_live.ensures.looks.reads.counts
     (merge_accounts c.merge.new.parts.directory _ _ (g.C.Chip.told c.read_live.new.chip) (g.C.Chip.told c.merge.new.chip)
-    c.merge.result c.merge.ensures.accounts)
+    c.merge.result c.merge.ensures.moves.leaves.accounts)
 
 pub returns-in_err-read_live-clause-costs : goal.returns-in_err-read_live-clause-costs
 returns-in_err-read_live-clause-costs g c =
@@ -197,8 +197,8 @@ returns-clause-costs g c =
     let after = c.merge.new.parts.directory in
     reads_then_erase _ before after 1 _ old mid new c.read_live.ensures.looks.reads
     (place_erases before after _ _ _ mid new
-    (homes_used old.places (tables_of c.args.parts.now) c.requires.known) c.merge.ensures.holds.homes
-    c.merge.ensures.costs)
+    (homes_used old.places (tables_of c.args.parts.now) c.requires.known) c.merge.ensures.moves.leaves.holds.homes
+    c.merge.ensures.moves.costs)
 
 pub returns-in_err-read_live-clause-complete : goal.returns-in_err-read_live-clause-complete
 returns-in_err-read_live-clause-complete g c = λ places chart it t same holds was all.
@@ -253,7 +253,7 @@ returns-clause-spares g c = λ places x it t same was spared.
     spared_merged places c.args.unit x it t c.args.kept.now (g.C.Chip.told c.args.chip.now)
     (g.C.Chip.told c.read_live.new.chip) parts
     (subst (λ n. KnowsPlaces n parts) same c.requires.known) was spared reads.contents
-    c.merge.result (g.C.Chip.told c.merge.new.chip) c.merge.ensures.spares
+    c.merge.result (g.C.Chip.told c.merge.new.chip) c.merge.ensures.moves.leaves.spares
 
 pub returns-clause-stays : goal.returns-clause-stays
 returns-clause-stays g c = λ places x it t same holds was spared.
@@ -306,4 +306,7 @@ pub returns-clause-tidy : goal.returns-clause-tidy
 returns-clause-tidy g c =
     tidies_read_then _ (tables_of c.args.parts.now) (tables_of c.merge.new.parts) c.merge.result
     (g.C.Chip.told c.args.chip.now) (g.C.Chip.told c.read_live.new.chip)
-    (g.C.Chip.told c.merge.new.chip) c.read_live.ensures.looks.reads c.merge.ensures.tidy
+    (g.C.Chip.told c.merge.new.chip) c.read_live.ensures.looks.reads c.merge.ensures.moves.leaves.tidy
+
+pub returns-clause-draws : goal.returns-clause-draws
+returns-clause-draws g c = c.merge.ensures.moves.leaves.draws

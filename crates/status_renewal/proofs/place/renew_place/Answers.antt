@@ -158,7 +158,7 @@ returns-in-Ok-clause-moved g c = record {
   place = c.in_ok-place.place;
   mid = c.take_place.new.directory;
   taken = c.in_ok-place.ensures.taken;
-  status_is = c.in-Ok.ensures.switched
+  status_is = c.in-Ok.ensures.moved.switched
       ∙ ap (λ (n : ℕ). switched_to c.in_ok-place.place n c.args.kept.now) c.draw-generation.ensures.drawn;
   places_is = c.give_back.ensures
       ∙ ap (λ (p : ℕ). with_use c.take_place.new.directory p false) c.place-old.ensures;
@@ -190,8 +190,8 @@ returns-in-Ok-clause-tells g c =
     let low : p < old.places = omega (arith, from.next.within, facts.all, c.requires.size) in
     let is = moved_to p c.place-old.result d c.take_place.new.directory after status new next drawn
     kept from.places_is c.place-old.ensures c.give_back.ensures
-    (c.in-Ok.ensures.switched ∙ ap (λ (n : ℕ). switched_to p n kept) c.draw-generation.ensures.drawn)
-    (omega (arith, c.in-Ok.ensures.drawn, c.draw-generation.ensures.next)) in
+    (c.in-Ok.ensures.moved.switched ∙ ap (λ (n : ℕ). switched_to p n kept) c.draw-generation.ensures.drawn)
+    (omega (arith, c.in-Ok.ensures.moved.drawn, c.draw-generation.ensures.next)) in
     let mid = g.C.Chip.told c.take_place.new.chip in
     let told = g.C.Chip.told c.switch.new.chip in
     renews_told c.directory_laws.ensures.takes c.directory_laws.ensures.gives_back old.places p first
@@ -211,7 +211,7 @@ returns-in-Ok-clause-lists g c =
     listed_then (IsCleared p) p c.switch.new.self.place c.retired-retired.result.now
     c.give_back.new.self.retired (g.C.Chip.told c.args.chip.now)
     (g.C.Chip.told c.take_place.new.chip) (g.C.Chip.told c.switch.new.chip)
-    (sym (ap (λ (s : Status). s.place) c.in-Ok.ensures.switched))
+    (sym (ap (λ (s : Status). s.place) c.in-Ok.ensures.moved.switched))
     (c.retired-retired.ensures ∙ sym (ap (λ (e : Places). e.retired) c.give_back.ensures))
     c.in_ok-place.ensures.tells c.in-Ok.ensures.lists
 
@@ -231,8 +231,8 @@ returns-in-Ok-clause-steps g c =
     let d = aside first from.worn in
     let is = moved_to p c.place-old.result d c.take_place.new.directory after status new next drawn
     kept from.places_is c.place-old.ensures c.give_back.ensures
-    (c.in-Ok.ensures.switched ∙ ap (λ (n : ℕ). switched_to p n kept) c.draw-generation.ensures.drawn)
-    (omega (arith, c.in-Ok.ensures.drawn, c.draw-generation.ensures.next)) in
+    (c.in-Ok.ensures.moved.switched ∙ ap (λ (n : ℕ). switched_to p n kept) c.draw-generation.ensures.drawn)
+    (omega (arith, c.in-Ok.ensures.moved.drawn, c.draw-generation.ensures.next)) in
     let mid = g.C.Chip.told c.take_place.new.chip in
     let told = g.C.Chip.told c.switch.new.chip in
     let counts = c.in_ok-place.ensures.accounts.counts in
@@ -264,8 +264,8 @@ returns-in-Ok-clause-known g c = λ t has known.
     let low : p < old.places = omega (arith, from.next.within, facts.all, c.requires.size) in
     let is = moved_to p c.place-old.result d c.take_place.new.directory after status new next drawn
     kept from.places_is c.place-old.ensures c.give_back.ensures
-    (c.in-Ok.ensures.switched ∙ ap (λ (n : ℕ). switched_to p n kept) c.draw-generation.ensures.drawn)
-    (omega (arith, c.in-Ok.ensures.drawn, c.draw-generation.ensures.next)) in
+    (c.in-Ok.ensures.moved.switched ∙ ap (λ (n : ℕ). switched_to p n kept) c.draw-generation.ensures.drawn)
+    (omega (arith, c.in-Ok.ensures.moved.drawn, c.draw-generation.ensures.next)) in
     known_renewed c.directory_laws.ensures.takes c.directory_laws.ensures.gives_back old.places p d
     status next kept (facts.all ∙ c.requires.size) from.next.free low after new drawn is
     (with_places t d) (has_between first from.worn from.in_turn status next t has)
@@ -288,8 +288,8 @@ returns-in-Ok-clause-tidy g c = λ t has known.
     let low : p < old.places = omega (arith, from.next.within, facts.all, c.requires.size) in
     let is = moved_to p c.place-old.result d c.take_place.new.directory after status new next drawn
     kept from.places_is c.place-old.ensures c.give_back.ensures
-    (c.in-Ok.ensures.switched ∙ ap (λ (n : ℕ). switched_to p n kept) c.draw-generation.ensures.drawn)
-    (omega (arith, c.in-Ok.ensures.drawn, c.draw-generation.ensures.next)) in
+    (c.in-Ok.ensures.moved.switched ∙ ap (λ (n : ℕ). switched_to p n kept) c.draw-generation.ensures.drawn)
+    (omega (arith, c.in-Ok.ensures.moved.drawn, c.draw-generation.ensures.next)) in
     let mid = g.C.Chip.told c.take_place.new.chip in
     let told = g.C.Chip.told c.switch.new.chip in
     tidy_renewed old.places first status next after new drawn t has known
@@ -297,23 +297,23 @@ returns-in-Ok-clause-tidy g c = λ t has known.
     kept c.requires.size low is old told
     (tidy_taken first p (1 + parts_of kept) (IsStatusSpot (parts_of kept)) true true old mid told
     (taken_was_free first c.take_place.new.directory p from) (λ s high spot. omega (arith, high, spot))
-    c.in_ok-place.ensures.tidy c.in-Ok.ensures.tidy)
+    c.in_ok-place.ensures.tidy c.in-Ok.ensures.writes.tidy)
 
 pub returns-in-Ok-clause-costs : goal.returns-in-Ok-clause-costs
 returns-in-Ok-clause-costs g c =
     let old = g.C.Chip.told c.args.chip.now in
     let told = g.C.Chip.told c.switch.new.chip in
     subst (λ (p : ℕ). Spends (ErasesFor c.args.directory.now c.give_back.new.self 3 p true false) old told)
-    (sym (ap (λ (s : Status). s.place) c.in-Ok.ensures.switched))
+    (sym (ap (λ (s : Status). s.place) c.in-Ok.ensures.moved.switched))
     (costs_of_filled c.args.directory.now c.take_place.new.directory c.give_back.new.self
     c.in_ok-place.place 2 true false old (g.C.Chip.told c.take_place.new.chip) told
     (ap (λ (e : Places). e.retired) c.give_back.ensures) refl c.in_ok-place.ensures.costs
-    c.in-Ok.ensures.costs)
+    c.in-Ok.ensures.writes.costs)
 
 pub returns-in-Ok-clause-unread : goal.returns-in-Ok-clause-unread
 returns-in-Ok-clause-unread g c =
     unread_then (g.C.Chip.told c.args.chip.now) (g.C.Chip.told c.take_place.new.chip)
-    (g.C.Chip.told c.switch.new.chip) c.in_ok-place.ensures.unread c.in-Ok.ensures.unread
+    (g.C.Chip.told c.switch.new.chip) c.in_ok-place.ensures.unread c.in-Ok.ensures.writes.unread
 
 -- ---- a write failed
 
@@ -337,8 +337,8 @@ pub returns-in-Err-clause-same : goal.returns-in-Err-clause-same
 returns-in-Err-clause-same g c = (
   back_again c.args.directory.now c.take_place.new.directory c.give_back-in-Err.new.self
       c.in_ok-place.place c.in-Err.fault c.in_ok-place.ensures.taken
-      c.in-Err.ensures.accounts.cause.0 c.give_back-in-Err.ensures,
-  c.in-Err.ensures.same,
+      c.in-Err.ensures.writes.accounts.cause.0 c.give_back-in-Err.ensures,
+  c.in-Err.ensures.moved.same,
 )
 
 pub returns-in-Err-clause-free : goal.returns-in-Err-clause-free
@@ -346,7 +346,7 @@ returns-in-Err-clause-free g c =
     back_as_many c.args.directory.now c.give_back-in-Err.new.self c.in-Err.fault c.requires.ready
     (back_again c.args.directory.now c.take_place.new.directory c.give_back-in-Err.new.self
     c.in_ok-place.place c.in-Err.fault c.in_ok-place.ensures.taken
-    c.in-Err.ensures.accounts.cause.0 c.give_back-in-Err.ensures)
+    c.in-Err.ensures.writes.accounts.cause.0 c.give_back-in-Err.ensures)
 
 pub returns-in-Err-clause-steps : goal.returns-in-Err-clause-steps
 returns-in-Err-clause-steps g c =
@@ -379,8 +379,8 @@ returns-in-Err-clause-known g c = λ t has known.
     (sym has.places_is)
     (back_again c.args.directory.now c.take_place.new.directory c.give_back-in-Err.new.self
     c.in_ok-place.place c.in-Err.fault c.in_ok-place.ensures.taken
-    c.in-Err.ensures.accounts.cause.0 c.give_back-in-Err.ensures))
-    (c.in-Err.ensures.same ∙ sym has.status_is) known
+    c.in-Err.ensures.writes.accounts.cause.0 c.give_back-in-Err.ensures))
+    (c.in-Err.ensures.moved.same ∙ sym has.status_is) known
 
 pub returns-in-Err-clause-tidy : goal.returns-in-Err-clause-tidy
 returns-in-Err-clause-tidy g c = λ t has known.
@@ -394,26 +394,26 @@ returns-in-Err-clause-tidy g c = λ t has known.
     c.switch.new.self c.switch.new.counter t has known p (1 + parts_of kept) c.in-Err.fault
     c.in-Err.fault old told
     (back_again first c.take_place.new.directory c.give_back-in-Err.new.self p c.in-Err.fault from
-    c.in-Err.ensures.accounts.cause.0 c.give_back-in-Err.ensures)
-    (c.in-Err.ensures.same ∙ sym has.status_is)
+    c.in-Err.ensures.writes.accounts.cause.0 c.give_back-in-Err.ensures)
+    (c.in-Err.ensures.moved.same ∙ sym has.status_is)
     (tidy_taken first p (1 + parts_of kept) (IsStatusSpot (parts_of kept)) false false old
     (g.C.Chip.told c.take_place.new.chip) told
     (taken_was_free first c.take_place.new.directory p from) (λ s high spot. omega (arith, high, spot))
-    c.in_ok-place.ensures.tidy c.in-Err.ensures.tidy)
+    c.in_ok-place.ensures.tidy c.in-Err.ensures.writes.tidy)
 
 pub returns-in-Err-clause-costs : goal.returns-in-Err-clause-costs
 returns-in-Err-clause-costs g c =
     let old = g.C.Chip.told c.args.chip.now in
     let told = g.C.Chip.told c.switch.new.chip in
-    let still : tells_worn c.in-Err.fault ≡ false = ap tells_worn c.in-Err.ensures.accounts.cause.0 in
+    let still : tells_worn c.in-Err.fault ≡ false = ap tells_worn c.in-Err.ensures.writes.accounts.cause.0 in
     back_erases c.args.directory.now c.give_back-in-Err.new.self c.in_ok-place.place
     c.switch.new.self.place (tells_worn c.in-Err.fault) old told
     (costs_of_filled c.args.directory.now c.take_place.new.directory c.give_back-in-Err.new.self
     c.in_ok-place.place 2 false (tells_worn c.in-Err.fault) old (g.C.Chip.told c.take_place.new.chip)
     told (ap (λ (e : Places). e.retired) c.give_back-in-Err.ensures) still
-    c.in_ok-place.ensures.costs c.in-Err.ensures.costs)
+    c.in_ok-place.ensures.costs c.in-Err.ensures.writes.costs)
 
 pub returns-in-Err-clause-unread : goal.returns-in-Err-clause-unread
 returns-in-Err-clause-unread g c =
     unread_then (g.C.Chip.told c.args.chip.now) (g.C.Chip.told c.take_place.new.chip)
-    (g.C.Chip.told c.switch.new.chip) c.in_ok-place.ensures.unread c.in-Err.ensures.unread
+    (g.C.Chip.told c.switch.new.chip) c.in_ok-place.ensures.unread c.in-Err.ensures.writes.unread

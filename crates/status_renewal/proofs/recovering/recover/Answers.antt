@@ -31,16 +31,16 @@ returns-in_err-found-clause-tells g c = λ x told.
     let e = err_from_is_err_and c.from_residual.result c.from_residual.ensures.1 in
     rw (e.1 ∙ ap Err e.2) (λ unfailed. opens_told old.places x
     c.in_err-found.field-0.0 old (g.C.Chip.told c.recover.new.chip)
-    (c.in_err-found.ensures.fault x told) c.in_err-found.ensures.looks.cause unfailed)
+    (c.in_err-found.ensures.fault x told) c.in_err-found.ensures.looks.only.cause unfailed)
 
 pub returns-in_err-found-clause-looks : goal.returns-in_err-found-clause-looks
 returns-in_err-found-clause-looks g c = λ x told first is.
     let old = g.C.Chip.told c.args.chip.now in
     let e = err_from_is_err_and c.from_residual.result c.from_residual.ensures.1 in
     rw (e.1 ∙ ap Err e.2) (
-      c.recover.ensures.looks.reads,
+      c.recover.ensures.looks.only.reads,
       fault_looks old.places x c.in_err-found.field-0.0 first old (g.C.Chip.told c.recover.new.chip)
-          (c.in_err-found.ensures.fault x told) c.in_err-found.ensures.looks.cause is,
+          (c.in_err-found.ensures.fault x told) c.in_err-found.ensures.looks.only.cause is,
     )
 
 pub returns-in_err-found-clause-steps : goal.returns-in_err-found-clause-steps
@@ -50,7 +50,7 @@ returns-in_err-found-clause-steps g c =
     rw (e.1 ∙ ap Err e.2) (reads_recover c.args.marks old.places old (g.C.Chip.told c.recover.new.chip)
     (of_parts c.recover.new.directory c.recover.new.overflow c.recover.new.status
     c.recover.new.counter c.args.parts.now.active) c.in_err-found.field-0.0
-    c.recover.ensures.looks.reads)
+    c.recover.ensures.looks.only.reads)
 
 pub returns-in_err-found-clause-costs : goal.returns-in_err-found-clause-costs
 returns-in_err-found-clause-costs g c =
@@ -60,14 +60,14 @@ returns-in_err-found-clause-costs g c =
     let found = forgotten after in
     let fault = c.in_err-found.field-0.0 in
     let still : tells_wear fault ≡ false =
-    reading_not_worn fault old mid c.in_err-found.ensures.looks.cause in
+    reading_not_worn fault old mid c.in_err-found.ensures.looks.only.cause in
     let e = err_from_is_err_and c.from_residual.result c.from_residual.ensures.1 in
     rw (e.1 ∙ ap Err e.2) (record {
       found = found;
       erases = subst (λ (waits : ℕ). Spends (ErasesWaiting found after (length after.current + 1) waits
           (tells_wear fault)) old mid) (sym (no_waits after))
           (waiting_alone found after (length after.current + 1) 0 (tells_wear fault) old mid refl still
-          (homes_forgotten after) (spends_reads Anywhere [] old mid c.recover.ensures.looks.reads));
+          (homes_forgotten after) (spends_reads Anywhere [] old mid c.recover.ensures.looks.only.reads));
       unmarked = λ off. unknown_logs found (none_known after);
       finds = λ is. absurd (false≢true (sym still ∙ is));
       units = λ is. absurd (false≢true (sym still ∙ is));
@@ -97,16 +97,16 @@ returns-in_err-renew_with-clause-steps g c =
     let e = err_from_is_err_and c.from_residual-in_err-renew_with.result
     c.from_residual-in_err-renew_with.ensures.1 in
     rw (e.1 ∙ ap Err e.2) (recovers_failed c.args.marks old.places t old mid settled
-    c.recover.ensures.looks.reads
+    c.recover.ensures.looks.only.reads
     (record {
-      none = λ off. (c.in_ok-found.ensures.unmarked off).none;
-      marked = c.in_ok-found.ensures.marked;
+      none = λ off. (c.in_ok-found.ensures.found.unmarked off).none;
+      marked = c.in_ok-found.ensures.found.marked;
     })
     (λ x told. opened_parts old.places (chart_of x) directory overflow status counter active
-    c.requires.active (c.in_ok-found.ensures.opened x told) (c.in_ok-found.ensures.mirrors x told))
+    c.requires.active (c.in_ok-found.ensures.found.opened x told) (c.in_ok-found.ensures.found.mirrors x told))
     c.in_ok-settle_marks.ensures.waits after new fault counts
     (subst (λ n. KeepsInSteps n t after settled (Err fault) new)
-    (counts.places ∙ c.recover.ensures.looks.reads.counts.places)
+    (counts.places ∙ c.recover.ensures.looks.only.reads.counts.places)
     c.in_err-renew_with.ensures.steps))
 
 pub returns-in_err-renew_with-clause-costs : goal.returns-in_err-renew_with-clause-costs
@@ -124,15 +124,15 @@ returns-in_err-renew_with-clause-costs g c =
       found = found;
       erases = waiting_then found after (length after.current + 1) (waits_for found)
           (tells_worn fault) old settled new
-          (reads_then_wait Anywhere (waits_for found) old mid settled c.recover.ensures.looks.reads
+          (reads_then_wait Anywhere (waits_for found) old mid settled c.recover.ensures.looks.only.reads
           (wait_costs found (Ok tt) mid settled c.in_ok-settle_marks.ensures.waits))
           (erases_more found after (length found.current + 1) (length after.current + 1)
           (tells_worn fault) settled new (omega (arith, c.renew_with.ensures.holds.units))
           c.in_err-renew_with.ensures.costs);
-      unmarked = λ off. unknown_logs found (c.in_ok-found.ensures.unmarked off).unknown;
-      finds = λ is x told. (c.in_ok-found.ensures.opened x told).directory.retired;
+      unmarked = λ off. unknown_logs found (c.in_ok-found.ensures.found.unmarked off).unknown;
+      finds = λ is x told. (c.in_ok-found.ensures.found.opened x told).directory.retired;
       units = λ is x told. c.renew_with.ensures.holds.units
-          ∙ (c.in_ok-found.ensures.mirrors x told).directory.units;
+          ∙ (c.in_ok-found.ensures.found.mirrors x told).directory.units;
     })
 
 pub returns-clause-tells : goal.returns-clause-tells
@@ -146,10 +146,10 @@ returns-clause-tells g c = λ x told.
     let t = of_parts directory c.recover.new.overflow c.recover.new.status c.recover.new.counter
     active in
     let after = tables_of c.renew_with.new.parts in
-    let reads = c.recover.ensures.looks.reads in
+    let reads = c.recover.ensures.looks.only.reads in
     let parts = opened_parts old.places (chart_of x) directory
     c.recover.new.overflow c.recover.new.status c.recover.new.counter active c.requires.active
-    (c.in_ok-found.ensures.opened x told) (c.in_ok-found.ensures.mirrors x told) in
+    (c.in_ok-found.ensures.found.opened x told) (c.in_ok-found.ensures.found.mirrors x told) in
     let renews : RenewsTold old.places t after settled (Ok tt) new =
     subst (λ n. RenewsTold n t after settled (Ok tt) new)
     (c.settle_marks.ensures.accounts.counts.places ∙ reads.counts.places)
@@ -170,7 +170,7 @@ returns-clause-looks g c =
 
 pub returns-clause-number : goal.returns-clause-number
 returns-clause-number g c = λ x told.
-    let number = (c.in_ok-found.ensures.opened x told).directory.number in
+    let number = (c.in_ok-found.ensures.found.opened x told).directory.number in
     omega (arith, number, c.renew_with.ensures.draws)
 
 pub returns-clause-steps : goal.returns-clause-steps
@@ -188,16 +188,16 @@ returns-clause-steps g c =
     let after = tables_of c.renew_with.new.parts in
     subst (λ d. RecoversInSteps c.args.marks old.places old (Ok tt)
     (of_parts d after.overflow after.status after.next after.active) new) (sym c.end_marks.ensures)
-    (recovers_done c.args.marks old.places t old mid settled c.recover.ensures.looks.reads
+    (recovers_done c.args.marks old.places t old mid settled c.recover.ensures.looks.only.reads
     (record {
-      none = λ off. (c.in_ok-found.ensures.unmarked off).none;
-      marked = c.in_ok-found.ensures.marked;
+      none = λ off. (c.in_ok-found.ensures.found.unmarked off).none;
+      marked = c.in_ok-found.ensures.found.marked;
     })
     (λ x told. opened_parts old.places (chart_of x) directory overflow status counter active
-    c.requires.active (c.in_ok-found.ensures.opened x told) (c.in_ok-found.ensures.mirrors x told))
+    c.requires.active (c.in_ok-found.ensures.found.opened x told) (c.in_ok-found.ensures.found.mirrors x told))
     c.in_ok-settle_marks.ensures.waits after new
     (subst (λ n. KeepsInSteps n t after settled (Ok tt) new)
-    (c.settle_marks.ensures.accounts.counts.places ∙ c.recover.ensures.looks.reads.counts.places)
+    (c.settle_marks.ensures.accounts.counts.places ∙ c.recover.ensures.looks.only.reads.counts.places)
     c.in_ok-renew_with.ensures.steps))
 
 pub returns-clause-costs : goal.returns-clause-costs
@@ -213,15 +213,15 @@ returns-clause-costs g c =
       found = found;
       erases = waiting_ended found after (length after.current + 1) (waits_for found) old new
           (waiting_then found after (length after.current + 1) (waits_for found) false old settled new
-          (reads_then_wait Anywhere (waits_for found) old mid settled c.recover.ensures.looks.reads
+          (reads_then_wait Anywhere (waits_for found) old mid settled c.recover.ensures.looks.only.reads
           (wait_costs found (Ok tt) mid settled c.in_ok-settle_marks.ensures.waits))
           (erases_more found after (length found.current + 1) (length after.current + 1) false settled
           new (omega (arith, c.in_ok-renew_with.ensures.holds.units))
           c.in_ok-renew_with.ensures.costs));
-      unmarked = λ off. unknown_logs found (c.in_ok-found.ensures.unmarked off).unknown;
-      finds = λ is x told. (c.in_ok-found.ensures.opened x told).directory.retired;
+      unmarked = λ off. unknown_logs found (c.in_ok-found.ensures.found.unmarked off).unknown;
+      finds = λ is x told. (c.in_ok-found.ensures.found.opened x told).directory.retired;
       units = λ is x told. c.in_ok-renew_with.ensures.holds.units
-          ∙ (c.in_ok-found.ensures.mirrors x told).directory.units;
+          ∙ (c.in_ok-found.ensures.found.mirrors x told).directory.units;
     })
 
 pub returns-clause-holds : goal.returns-clause-holds
@@ -236,7 +236,7 @@ returns-clause-holds g c =
       known = known_ended old.places after
           (subst (λ n. KnowsPlaces n after)
           (c.settle_marks.ensures.accounts.counts.places
-          ∙ c.recover.ensures.looks.reads.counts.places) holds.known);
+          ∙ c.recover.ensures.looks.only.reads.counts.places) holds.known);
       room = holds.ends;
       ended = none_marked after.places;
     })
@@ -249,7 +249,7 @@ returns-clause-renewed g c =
     let found = c.recover.new.directory in
     waiting_then_renewed (waits_for found) c.renew_with.new.parts.status.place old settled
     (g.C.Chip.told c.renew_with.new.chip)
-    (reads_then_wait Anywhere (waits_for found) old mid settled c.recover.ensures.looks.reads
+    (reads_then_wait Anywhere (waits_for found) old mid settled c.recover.ensures.looks.only.reads
     (wait_costs found (Ok tt) mid settled c.in_ok-settle_marks.ensures.waits))
     c.in_ok-renew_with.ensures.renewed
 
@@ -259,7 +259,7 @@ returns-in_err-found-clause-complete g c = λ x told m none says.
     let e = err_from_is_err_and c.from_residual.result c.from_residual.ensures.1 in
     rw (e.1 ∙ ap Err e.2) (reading_failed old.places (chart_of x) c.in_err-found.field-0.0 old
     (g.C.Chip.told c.recover.new.chip) (c.in_err-found.ensures.fault x told)
-    c.in_err-found.ensures.looks.cause none)
+    c.in_err-found.ensures.looks.only.cause none)
 
 pub returns-in_err-renew_with-clause-complete : goal.returns-in_err-renew_with-clause-complete
 returns-in_err-renew_with-clause-complete g c = λ x told m none says.
@@ -270,13 +270,13 @@ returns-in_err-renew_with-clause-complete g c = λ x told m none says.
     let t = of_parts c.recover.new.directory c.recover.new.overflow c.recover.new.status
     c.recover.new.counter active in
     let fault = c.in_err-renew_with.field-0.0 in
-    let reads = c.recover.ensures.looks.reads in
+    let reads = c.recover.ensures.looks.only.reads in
     let e = err_from_is_err_and c.from_residual-in_err-renew_with.result
     c.from_residual-in_err-renew_with.ensures.1 in
     let it = layout_in (chart_of x) old.places in
     let parts = opened_parts old.places (chart_of x) c.recover.new.directory
     c.recover.new.overflow c.recover.new.status c.recover.new.counter active c.requires.active
-    (c.in_ok-found.ensures.opened x told) (c.in_ok-found.ensures.mirrors x told) in
+    (c.in_ok-found.ensures.found.opened x told) (c.in_ok-found.ensures.found.mirrors x told) in
     rw (e.1 ∙ ap Err e.2) (call_failed fault
     (subst (λ n. CompletesRenewal n t (Err fault) settled)
     (c.settle_marks.ensures.accounts.counts.places ∙ reads.counts.places)
@@ -294,13 +294,13 @@ returns-in_err-renew_with-clause-tells g c = λ x told.
     let t = of_parts c.recover.new.directory c.recover.new.overflow c.recover.new.status
     c.recover.new.counter active in
     let fault = c.in_err-renew_with.field-0.0 in
-    let reads = c.recover.ensures.looks.reads in
+    let reads = c.recover.ensures.looks.only.reads in
     let e = err_from_is_err_and c.from_residual-in_err-renew_with.result
     c.from_residual-in_err-renew_with.ensures.1 in
     let it = layout_in (chart_of x) old.places in
     let parts = opened_parts old.places (chart_of x) c.recover.new.directory
     c.recover.new.overflow c.recover.new.status c.recover.new.counter active c.requires.active
-    (c.in_ok-found.ensures.opened x told) (c.in_ok-found.ensures.mirrors x told) in
+    (c.in_ok-found.ensures.found.opened x told) (c.in_ok-found.ensures.found.mirrors x told) in
     rw (e.1 ∙ ap Err e.2) (λ unfailed. opening_fault old.places x t fault c.requires.active
     parts.1.status (c.in_ok-found.ensures.fault x told)
     (subst (λ n. FailsAsRenewal n t (Err fault) settled)
@@ -331,7 +331,7 @@ returns-in_err-found-clause-tidy g c =
     rw (e.1 ∙ ap Err e.2) (tidies_nothing Anywhere c.args.marks old.places c.in_err-found.field-0.0
     (of_parts c.recover.new.directory c.recover.new.overflow c.recover.new.status
     c.recover.new.counter c.args.parts.now.active) old (g.C.Chip.told c.recover.new.chip)
-    c.recover.ensures.looks.reads)
+    c.recover.ensures.looks.only.reads)
 
 -- ---- the barrier failed
 
@@ -362,13 +362,13 @@ returns-in_err-settle_marks-clause-steps g c =
     c.from_residual-in_err-settle_marks.ensures.1 in
     rw (e.1 ∙ ap Err e.2) (settling_failed c.args.marks old.places t old
     (g.C.Chip.told c.recover.new.chip) (g.C.Chip.told c.settle_marks.new.chip)
-    c.recover.ensures.looks.reads
+    c.recover.ensures.looks.only.reads
     (record {
-      none = λ off. (c.in_ok-found.ensures.unmarked off).none;
-      marked = c.in_ok-found.ensures.marked;
+      none = λ off. (c.in_ok-found.ensures.found.unmarked off).none;
+      marked = c.in_ok-found.ensures.found.marked;
     })
     (λ x told. opened_parts old.places (chart_of x) directory overflow status counter active
-    c.requires.active (c.in_ok-found.ensures.opened x told) (c.in_ok-found.ensures.mirrors x told))
+    c.requires.active (c.in_ok-found.ensures.found.opened x told) (c.in_ok-found.ensures.found.mirrors x told))
     t c.in_err-settle_marks.field-0.0 c.in_err-settle_marks.ensures.waits
     c.in_err-settle_marks.ensures.accounts.cause)
 
@@ -401,9 +401,9 @@ returns-in_err-settle_marks-clause-costs g c =
       found = found;
       erases = waiting_alone found found (length found.current + 1) (waits_for found)
           (tells_worn fault) old settled refl still (homes_same found found refl refl)
-          (reads_then_wait Anywhere (waits_for found) old mid settled c.recover.ensures.looks.reads
+          (reads_then_wait Anywhere (waits_for found) old mid settled c.recover.ensures.looks.only.reads
           (wait_costs found (Err fault) mid settled c.in_err-settle_marks.ensures.waits));
-      unmarked = λ off. unknown_logs found (c.in_ok-found.ensures.unmarked off).unknown;
+      unmarked = λ off. unknown_logs found (c.in_ok-found.ensures.found.unmarked off).unknown;
       finds = λ is. absurd (false≢true (sym still ∙ is));
       units = λ is. absurd (false≢true (sym still ∙ is));
     })
@@ -421,10 +421,10 @@ returns-in_err-settle_marks-clause-tidy g c =
     rw (e.1 ∙ ap Err e.2) (tidies_opened c.args.marks old.places t t (Err fault) (Err (Chip fault))
     old settled
     (record {
-      none = λ off. (c.in_ok-found.ensures.unmarked off).none;
-      marked = c.in_ok-found.ensures.marked;
+      none = λ off. (c.in_ok-found.ensures.found.unmarked off).none;
+      marked = c.in_ok-found.ensures.found.marked;
     }) refl
-    (tidies_settled t old mid settled c.recover.ensures.looks.reads (Err fault)
+    (tidies_settled t old mid settled c.recover.ensures.looks.only.reads (Err fault)
     c.in_err-settle_marks.ensures.waits))
 
 pub returns-in_err-settle_marks-clause-once : goal.returns-in_err-settle_marks-clause-once
@@ -432,7 +432,7 @@ returns-in_err-settle_marks-clause-once g c =
     let old = g.C.Chip.told c.args.chip.now in
     let mid = g.C.Chip.told c.recover.new.chip in
     let settled = g.C.Chip.told c.settle_marks.new.chip in λ x told fit.
-    once_then_unread Anywhere old mid settled c.recover.ensures.once
+    once_then_unread Anywhere old mid settled c.recover.ensures.looks.once
     (wait_unread (knows_logs c.recover.new.directory) c.settle_marks.result mid settled
     c.settle_marks.ensures.waits)
 
@@ -453,10 +453,10 @@ returns-in_err-renew_with-clause-tidy g c =
     rw (e.1 ∙ ap Err e.2) (tidies_opened c.args.marks old.places t after (Err fault)
     (Err (Chip fault)) old new
     (record {
-      none = λ off. (c.in_ok-found.ensures.unmarked off).none;
-      marked = c.in_ok-found.ensures.marked;
+      none = λ off. (c.in_ok-found.ensures.found.unmarked off).none;
+      marked = c.in_ok-found.ensures.found.marked;
     }) refl
-    (tidies_renewed t old mid settled c.recover.ensures.looks.reads
+    (tidies_renewed t old mid settled c.recover.ensures.looks.only.reads
     c.settle_marks.ensures.accounts.counts c.in_ok-settle_marks.ensures.waits after (Err fault) new
     c.in_err-renew_with.ensures.tidy))
 
@@ -473,11 +473,11 @@ returns-clause-tidy g c =
     (of_parts d after.overflow after.status after.next after.active) new) (sym c.end_marks.ensures)
     (tidies_opened c.args.marks old.places t (without_marks after) (Ok tt) (Ok tt) old new
     (record {
-      none = λ off. (c.in_ok-found.ensures.unmarked off).none;
-      marked = c.in_ok-found.ensures.marked;
+      none = λ off. (c.in_ok-found.ensures.found.unmarked off).none;
+      marked = c.in_ok-found.ensures.found.marked;
     }) refl
     (tidies_ended t after old new
-    (tidies_renewed t old mid settled c.recover.ensures.looks.reads
+    (tidies_renewed t old mid settled c.recover.ensures.looks.only.reads
     c.settle_marks.ensures.accounts.counts c.in_ok-settle_marks.ensures.waits after (Ok tt) new
     c.in_ok-renew_with.ensures.tidy)))
 
@@ -486,7 +486,7 @@ renew_with-requires-clause-exact g c =
     let old = g.C.Chip.told c.args.chip.now in
     let mid = g.C.Chip.told c.recover.new.chip in
     let settled = g.C.Chip.told c.settle_marks.new.chip in
-    let reads = c.recover.ensures.looks.reads in
+    let reads = c.recover.ensures.looks.only.reads in
     let active = c.args.parts.now.active in
     let t = of_parts c.recover.new.directory c.recover.new.overflow c.recover.new.status
     c.recover.new.counter active in
@@ -496,15 +496,15 @@ renew_with-requires-clause-exact g c =
     (all_kept old.places t c.in_ok-found.found kept old settled
     (wait_contents (knows_logs c.recover.new.directory) mid settled
     c.in_ok-settle_marks.ensures.waits ∙ reads.contents)
-    c.in_ok-found.ensures.collected
+    c.in_ok-found.ensures.found.collected
     (λ x told. (opened_parts old.places (chart_of x) c.recover.new.directory c.recover.new.overflow
     c.recover.new.status c.recover.new.counter active c.requires.active
-    (c.in_ok-found.ensures.opened x told) (c.in_ok-found.ensures.mirrors x told)).1.laid))
+    (c.in_ok-found.ensures.found.opened x told) (c.in_ok-found.ensures.found.mirrors x told)).1.laid))
 
 pub returns-in_err-found-clause-once : goal.returns-in_err-found-clause-once
 returns-in_err-found-clause-once g c = λ x told fit.
     once_alone Anywhere (g.C.Chip.told c.args.chip.now) (g.C.Chip.told c.recover.new.chip)
-    c.recover.ensures.once
+    c.recover.ensures.looks.once
 
 pub returns-in_err-renew_with-clause-once : goal.returns-in_err-renew_with-clause-once
 returns-in_err-renew_with-clause-once g c =
@@ -513,10 +513,10 @@ returns-in_err-renew_with-clause-once g c =
     let settled = g.C.Chip.told c.settle_marks.new.chip in
     let new = g.C.Chip.told c.renew_with.new.chip in
     once_where_fit old.places c.in_ok-found.found c.recover.new.numbers old mid new
-    c.recover.ensures.once
+    c.recover.ensures.looks.once
     (unread_first c.in_ok-found.found mid settled new
     (wait_unread (knows_logs c.recover.new.directory) (Ok tt) mid settled
-    c.in_ok-settle_marks.ensures.waits) c.renew_with.ensures.unread) c.in_ok-found.ensures.collected
+    c.in_ok-settle_marks.ensures.waits) c.renew_with.ensures.unread) c.in_ok-found.ensures.found.collected
 
 pub returns-clause-once : goal.returns-clause-once
 returns-clause-once g c =
@@ -525,7 +525,7 @@ returns-clause-once g c =
     let settled = g.C.Chip.told c.settle_marks.new.chip in
     let new = g.C.Chip.told c.renew_with.new.chip in
     once_where_fit old.places c.in_ok-found.found c.recover.new.numbers old mid new
-    c.recover.ensures.once
+    c.recover.ensures.looks.once
     (unread_first c.in_ok-found.found mid settled new
     (wait_unread (knows_logs c.recover.new.directory) (Ok tt) mid settled
-    c.in_ok-settle_marks.ensures.waits) c.renew_with.ensures.unread) c.in_ok-found.ensures.collected
+    c.in_ok-settle_marks.ensures.waits) c.renew_with.ensures.unread) c.in_ok-found.ensures.found.collected

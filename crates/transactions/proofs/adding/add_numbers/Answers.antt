@@ -54,7 +54,7 @@ returns-clause-costs g c =
     let mid = g.C.Chip.told c.barrier.new.chip in
     let place = c.args.status.now.place in
     spends_at_then place 0 1 1 1 6 old mid (g.C.Chip.told c.add.new.chip)
-    (spends_barred place 6 old mid (Ok tt) c.in_ok-barrier.ensures.did) c.add.ensures.costs
+    (spends_barred place 6 old mid (Ok tt) c.in_ok-barrier.ensures.did) c.add.ensures.writes.costs
 
 pub returns-in_err-barrier-clause-tidy : goal.returns-in_err-barrier-clause-tidy
 returns-in_err-barrier-clause-tidy g c =
@@ -68,4 +68,4 @@ returns-clause-tidy g c =
     let status = c.args.status.now in
     tidy_waits_then status.place (IsSpot status.first) (is_ok c.add.result)
     (g.C.Chip.told c.args.chip.now) (g.C.Chip.told c.barrier.new.chip)
-    (g.C.Chip.told c.add.new.chip) c.in_ok-barrier.ensures.did c.add.ensures.tidy
+    (g.C.Chip.told c.add.new.chip) c.in_ok-barrier.ensures.did c.add.ensures.writes.tidy

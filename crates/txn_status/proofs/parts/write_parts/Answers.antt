@@ -65,10 +65,10 @@ loop-i-preserved g c =
       tells = told_more c.args.place c.args.generation c.args.counter.now numbers i old mid new
           so.tells (subst (λ (z : Sector). Charts (Gains c.args.place (1 + i) z) mid new) same
           w.tells);
-      costs = spends_at_then c.args.place i 1 0 0 6 old mid new so.costs w.costs;
-      tidy = tidy_parts_more c.args.place i true old mid new so.tidy w.tidy;
-      unread = unread_then old mid new so.unread w.unread;
-      counts = counts_then old mid new so.counts w.accounts.counts;
+      costs = spends_at_then c.args.place i 1 0 0 6 old mid new so.costs w.writes.costs;
+      tidy = tidy_parts_more c.args.place i true old mid new so.tidy w.writes.tidy;
+      unread = unread_then old mid new so.unread w.writes.unread;
+      counts = counts_then old mid new so.counts w.writes.accounts.counts;
       drawn = omega (arith, c.draw-serial.ensures.next, so.drawn);
     }
 
@@ -101,43 +101,39 @@ returns-clause-keeps g c = λ m h steady rests bare clean.
     c.args.generation c.args.counter.now c.args.numbers.now n m h
     (g.C.Chip.told c.args.chip.now) (Ok tt) (g.C.Chip.told c.loop-i.chip)) done (c.loop-i.invariant.keeps m h steady rests bare clean)
 
-pub returns-in_err-write_part-clause-costs : goal.returns-in_err-write_part-clause-costs
-returns-in_err-write_part-clause-costs g c =
-    let old = g.C.Chip.told c.args.chip.now in
-    let mid = g.C.Chip.told c.loop-i.chip in
-    let new = g.C.Chip.told c.write_part.new.chip in
-    let few : c.loop-i.i < 64 =
-    omega (arith, c.part_count-count.ensures.few, c.loop-i-test.true) in
-    spends_at_most c.args.place (c.loop-i.i + 1) 64 0 0 6 old new (omega (arith, few)) (omega arith)
-    (spends_at_then c.args.place c.loop-i.i 1 0 0 6 old mid new c.loop-i.invariant.costs
-    c.in_err-write_part.ensures.costs)
-
-pub returns-clause-costs : goal.returns-clause-costs
-returns-clause-costs g c =
-    spends_at_most c.args.place c.loop-i.i 64 0 0 6 _ _
-    (omega (arith, c.part_count-count.ensures.few)) (omega arith) c.loop-i.invariant.costs
-
-pub returns-in_err-write_part-clause-tidy : goal.returns-in_err-write_part-clause-tidy
-returns-in_err-write_part-clause-tidy g c =
-    let old = g.C.Chip.told c.args.chip.now in
-    let mid = g.C.Chip.told c.loop-i.chip in
-    let new = g.C.Chip.told c.write_part.new.chip in
+pub returns-in_err-write_part-clause-writes : goal.returns-in_err-write_part-clause-writes
+returns-in_err-write_part-clause-writes g c =
+    let so = c.loop-i.invariant in
+    let w = c.in_err-write_part.ensures.writes in
+    let place = c.args.place in
     let i = c.loop-i.i in
     let parts = parts_of c.args.numbers.now in
+    let old = g.C.Chip.told c.args.chip.now in
+    let mid = g.C.Chip.told c.loop-i.chip in
+    let new = g.C.Chip.told c.write_part.new.chip in
     let low : i < parts =
     omega (arith, c.part_count-count.ensures.parts, c.loop-i-test.true) in
+    let few : i < 64 = omega (arith, c.part_count-count.ensures.few, c.loop-i-test.true) in
     let e = err_from_is_err_and c.from_residual.result c.from_residual.ensures.1 in
-    rw e.1 (tidy_parts c.args.place (i + 1) parts false false old new (omega (arith, low))
-    (tidy_parts_more c.args.place i false old mid new c.loop-i.invariant.tidy
-    c.in_err-write_part.ensures.tidy))
+    rw (e.1 ∙ ap Err e.2) (record {
+      costs = spends_at_most place (i + 1) 64 0 0 6 old new (omega (arith, few)) (omega arith)
+          (spends_at_then place i 1 0 0 6 old mid new so.costs w.costs);
+      tidy = tidy_parts place (i + 1) parts false false old new (omega (arith, low))
+          (tidy_parts_more place i false old mid new so.tidy w.tidy);
+      unread = unread_then old mid new so.unread w.unread;
+      accounts = record {
+        counts = counts_then old mid new so.counts w.accounts.counts;
+        cause = (w.accounts.cause.0, omega (arith, so.counts.writes, w.accounts.cause.1));
+      };
+    })
 
-pub returns-clause-tidy : goal.returns-clause-tidy
-returns-clause-tidy g c =
-    tidy_parts c.args.place c.loop-i.i (parts_of c.args.numbers.now) true true _ _
-    (omega (arith, c.part_count-count.ensures.parts)) c.loop-i.invariant.tidy
-
-pub returns-in_err-write_part-clause-unread : goal.returns-in_err-write_part-clause-unread
-returns-in_err-write_part-clause-unread g c =
-    unread_then (g.C.Chip.told c.args.chip.now) (g.C.Chip.told c.loop-i.chip)
-    (g.C.Chip.told c.write_part.new.chip) c.loop-i.invariant.unread
-    c.in_err-write_part.ensures.unread
+pub returns-clause-writes : goal.returns-clause-writes
+returns-clause-writes g c =
+    let so = c.loop-i.invariant in record {
+      costs = spends_at_most c.args.place c.loop-i.i 64 0 0 6 _ _
+          (omega (arith, c.part_count-count.ensures.few)) (omega arith) so.costs;
+      tidy = tidy_parts c.args.place c.loop-i.i (parts_of c.args.numbers.now) true true _ _
+          (omega (arith, c.part_count-count.ensures.parts)) so.tidy;
+      unread = so.unread;
+      accounts = record { counts = so.counts; cause = tt };
+    }

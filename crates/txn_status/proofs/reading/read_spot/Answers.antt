@@ -1,47 +1,52 @@
-use Rattle.std.proofs.Common.{refl, List, ℕ, subst}
+use Rattle.std.proofs.Common.{refl, ap, ◌∙◌, ℕ, List, Option, Ok, Err, subst}
+use Rattle.std.proofs.lemmas.Result.{err_from_is_err_and}
+use Rattle.ipl_base.specs.declared.fault.ChipFault.TheVariants.{Malformed}
+use Rattle.ipl_format.specs.Sector.{Sector}
 use Rattle.ipl_format.specs.Whole.{IsWhole}
-use Rattle.unit_io.proofs.ReadsAtLemmas.{at_asked}
-use Rattle.unit_io.proofs.OnceLemmas.{once_asked}
+use Rattle.ipl_meaning.specs.Chart.{chart_of}
+use Rattle.unit_io.specs.Kinds.{sector_named}
 use Rattle.txn_status.specs.ReadingIn.{IsAt}
+use Rattle.txn_status.specs.TakingIn.{TakesIn}
+use Rattle.txn_status.proofs.ReadLemmas.{looks_asked, noted_found, read_failed}
 use Rattle.txn_status.proofs.reading.read_spot.Goals as goal
 
-pub returns-in_err-found-clause-reads : goal.returns-in_err-found-clause-reads
-returns-in_err-found-clause-reads g c =
-    at_asked (IsAt c.args.spot.place c.args.spot.sector) c.args.spot.place c.args.spot.sector
-    c.read_noted.result (g.C.Chip.told c.args.chip.now) (g.C.Chip.told c.read_noted.new.chip)
-    (refl, refl) c.read_noted.ensures.asks c.read_noted.ensures.accounts.counts
+pub returns-in_err-found-clause-looks : goal.returns-in_err-found-clause-looks
+returns-in_err-found-clause-looks g c =
+    let place = c.args.spot.place in
+    let s = c.args.spot.sector in
+    let old = g.C.Chip.told c.args.chip.now in
+    let new = g.C.Chip.told c.read_noted.new.chip in
+    let e = err_from_is_err_and c.from_residual.result c.from_residual.ensures.1 in
+    rw (e.1 ∙ ap Err e.2) (looks_asked place s c.read_noted.result (Err c.in_err-found.field-0.0) old new
+    c.read_noted.ensures.asks c.read_noted.ensures.accounts.counts
+    (read_failed (IsAt place s) c.in_err-found.field-0.0 old new c.in_err-found.ensures.accounts.cause))
 
-pub returns-in_err-greatest-clause-reads : goal.returns-in_err-greatest-clause-reads
-returns-in_err-greatest-clause-reads g c =
-    at_asked (IsAt c.args.spot.place c.args.spot.sector) c.args.spot.place c.args.spot.sector
-    c.read_noted.result (g.C.Chip.told c.args.chip.now) (g.C.Chip.told c.read_noted.new.chip)
-    (refl, refl) c.read_noted.ensures.asks c.read_noted.ensures.accounts.counts
+pub returns-in_err-greatest-clause-looks : goal.returns-in_err-greatest-clause-looks
+returns-in_err-greatest-clause-looks g c =
+    let place = c.args.spot.place in
+    let s = c.args.spot.sector in
+    let e = err_from_is_err_and c.from_residual-in_err-greatest.result
+    c.from_residual-in_err-greatest.ensures.1 in
+    rw (e.1 ∙ ap Err (e.2 ∙ c.in_err-greatest.ensures.cause))
+    (looks_asked place s c.read_noted.result (Err (Malformed place s)) (g.C.Chip.told c.args.chip.now)
+    (g.C.Chip.told c.read_noted.new.chip) c.read_noted.ensures.asks
+    c.read_noted.ensures.accounts.counts (refl, refl))
 
-pub returns-clause-reads : goal.returns-clause-reads
-returns-clause-reads g c =
-    at_asked (IsAt c.args.spot.place c.args.spot.sector) c.args.spot.place c.args.spot.sector
-    c.read_noted.result (g.C.Chip.told c.args.chip.now) (g.C.Chip.told c.read_noted.new.chip)
-    (refl, refl) c.read_noted.ensures.asks c.read_noted.ensures.accounts.counts
+pub returns-clause-looks : goal.returns-clause-looks
+returns-clause-looks g c =
+    looks_asked c.args.spot.place c.args.spot.sector c.read_noted.result
+    (Ok c.in_ok-greatest.greatest) (g.C.Chip.told c.args.chip.now) (g.C.Chip.told c.read_noted.new.chip)
+    c.read_noted.ensures.asks c.read_noted.ensures.accounts.counts tt
+
+pub returns-clause-takes : goal.returns-clause-takes
+returns-clause-takes g c = λ x told.
+    subst (λ (o : Option Sector). TakesIn o c.args.greatest c.in_ok-greatest.greatest c.args.numbers.now.list
+    c.take_found.new.numbers.list c.args.mark.now c.take_found.new.mark)
+    (noted_found (chart_of x) c.args.spot.place c.args.generation c.args.spot.sector
+    (sector_named c.read_noted.new.into c.in_ok-found.found) c.requires.first
+    (c.in_ok-found.ensures.exact x told)) c.in_ok-greatest.ensures.takes
 
 pub returns-clause-whole : goal.returns-clause-whole
 returns-clause-whole g c = λ x told.
     subst (λ (xs : List ℕ). IsWhole xs) (c.in_ok-found.ensures.bytes x told)
     c.take_found.ensures.whole
-
-pub returns-in_err-found-clause-once : goal.returns-in_err-found-clause-once
-returns-in_err-found-clause-once g c =
-    once_asked (IsAt c.args.spot.place c.args.spot.sector) c.args.spot.place c.args.spot.sector
-    c.read_noted.result (g.C.Chip.told c.args.chip.now) (g.C.Chip.told c.read_noted.new.chip)
-    (refl, refl) c.read_noted.ensures.asks
-
-pub returns-in_err-greatest-clause-once : goal.returns-in_err-greatest-clause-once
-returns-in_err-greatest-clause-once g c =
-    once_asked (IsAt c.args.spot.place c.args.spot.sector) c.args.spot.place c.args.spot.sector
-    c.read_noted.result (g.C.Chip.told c.args.chip.now) (g.C.Chip.told c.read_noted.new.chip)
-    (refl, refl) c.read_noted.ensures.asks
-
-pub returns-clause-once : goal.returns-clause-once
-returns-clause-once g c =
-    once_asked (IsAt c.args.spot.place c.args.spot.sector) c.args.spot.place c.args.spot.sector
-    c.read_noted.result (g.C.Chip.told c.args.chip.now) (g.C.Chip.told c.read_noted.new.chip)
-    (refl, refl) c.read_noted.ensures.asks

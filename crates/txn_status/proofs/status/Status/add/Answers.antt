@@ -1,4 +1,4 @@
-use Rattle.std.proofs.Common.{◌<◌, ℕ, true, false, List, Ok, Err, length, sym, ap, subst, arith}
+use Rattle.std.proofs.Common.{◌<◌, ℕ, List, Ok, Err, length, sym, ap, ◌∙◌, subst, arith}
 use Rattle.std.proofs.lemmas.Result.{err_from_is_err_and}
 use Rattle.ipl_meaning.specs.Tables.{Status}
 use Rattle.unit_io.specs.Charts.{Charts, Gains}
@@ -6,11 +6,9 @@ use Rattle.number_set.specs.Numbers.{Numbers, AreRising}
 use Rattle.number_set.proofs.NumberLemmas.{length_with_numbers, rising_with_numbers}
 use Rattle.txn_status.specs.Commits.{commit_sector}
 use Rattle.txn_status.specs.Adding.{Adds, AddsInSteps, KeepsFirstAt}
-use Rattle.txn_status.specs.Writing.{LeadsCommit}
+use Rattle.txn_status.specs.Writing.{LeadsCommit, WritesOneSector}
 use Rattle.txn_status.proofs.AddLemmas.{AreSpelled, spelled_from, added_in_steps, adds_told}
 use Rattle.txn_status.proofs.FirstLemmas.{firsts_stay}
-use Rattle.unit_io.specs.Costs.{ProgramsAt, Spends}
-use Rattle.unit_io.specs.Spots.{Programs, IsSpot}
 use Rattle.txn_status.proofs.status.Status.add.Goals as goal
 
 pub returns-in_err-write_commit-clause-steps : goal.returns-in_err-write_commit-clause-steps
@@ -38,7 +36,7 @@ returns-in_err-write_commit-clause-steps g c =
     c.self.invariant.0.least room
     (subst (λ (k : ℕ). LeadsCommit old.places inside.place inside.first
     (commit_sector inside.generation k tids) old (Err fault) new) c.draw-serial.ensures.drawn
-    c.in_err-write_commit.ensures.leads) c.in_err-write_commit.ensures.accounts.cause))
+    c.in_err-write_commit.ensures.leads) c.in_err-write_commit.ensures.writes.accounts.cause))
 
 pub invariant_of-self : goal.invariant_of-self
 invariant_of-self g c =
@@ -111,31 +109,6 @@ returns-clause-steps g c =
     (commit_sector inside.generation k tids) old (Ok tt) new) c.draw-serial.ensures.drawn
     c.in_ok-write_commit.ensures.leads) tt)
 
-pub returns-in_err-write_commit-clause-costs : goal.returns-in_err-write_commit-clause-costs
-returns-in_err-write_commit-clause-costs g c =
-    subst (λ (s : Status). Spends (ProgramsAt s.place 1 1 6)
-    (g.C.Chip.told c.args.chip.now) (g.C.Chip.told c.write_commit.new.chip)) c.self.view_is
-    c.in_err-write_commit.ensures.costs
-
-pub returns-clause-costs : goal.returns-clause-costs
-returns-clause-costs g c =
-    subst (λ (s : Status). Spends (ProgramsAt s.place 1 1 6)
-    (g.C.Chip.told c.args.chip.now) (g.C.Chip.told c.write_commit.new.chip)) c.self.view_is
-    c.in_ok-write_commit.ensures.costs
-
-pub returns-in_err-write_commit-clause-tidy : goal.returns-in_err-write_commit-clause-tidy
-returns-in_err-write_commit-clause-tidy g c =
-    let e = err_from_is_err_and c.from_residual.result c.from_residual.ensures.1 in
-    rw e.1 (subst (λ (s : Status). Spends (Programs s.place (IsSpot s.first) false)
-    (g.C.Chip.told c.args.chip.now) (g.C.Chip.told c.write_commit.new.chip)) c.self.view_is
-    c.in_err-write_commit.ensures.tidy)
-
-pub returns-clause-tidy : goal.returns-clause-tidy
-returns-clause-tidy g c =
-    subst (λ (s : Status). Spends (Programs s.place (IsSpot s.first) true)
-    (g.C.Chip.told c.args.chip.now) (g.C.Chip.told c.write_commit.new.chip)) c.self.view_is
-    c.in_ok-write_commit.ensures.tidy
-
 pub returns-clause-header : goal.returns-clause-header
 returns-clause-header g c =
     let inside = c.self.inside in
@@ -144,3 +117,16 @@ returns-clause-header g c =
     subst (λ (s : Status). Charts (KeepsFirstAt s.place) old new) c.self.view_is
     (firsts_stay inside.place inside.first (commit_sector inside.generation c.draw-serial.result c.args.tids.now) old
     new c.self.invariant.0.least c.in_ok-write_commit.ensures.tells)
+
+pub returns-in_err-write_commit-clause-writes : goal.returns-in_err-write_commit-clause-writes
+returns-in_err-write_commit-clause-writes g c =
+    let e = err_from_is_err_and c.from_residual.result c.from_residual.ensures.1 in
+    rw (e.1 ∙ ap Err e.2) (subst (λ (s : Status). WritesOneSector s.place s.first 6
+    (Err c.in_err-write_commit.field-0.0) (g.C.Chip.told c.args.chip.now)
+    (g.C.Chip.told c.write_commit.new.chip)) c.self.view_is c.in_err-write_commit.ensures.writes)
+
+pub returns-clause-writes : goal.returns-clause-writes
+returns-clause-writes g c =
+    subst (λ (s : Status). WritesOneSector s.place s.first 6 (Ok tt)
+    (g.C.Chip.told c.args.chip.now) (g.C.Chip.told c.write_commit.new.chip)) c.self.view_is
+    c.in_ok-write_commit.ensures.writes

@@ -1,11 +1,11 @@
-use Rattle.std.proofs.Common.{◌<◌, ℕ, true, false, Ok, Err, subst, ap, arith}
+use Rattle.std.proofs.Common.{◌<◌, ℕ, Ok, Err, subst, ap, ◌∙◌, arith}
 use Rattle.std.proofs.lemmas.Result.{err_from_is_err_and}
 use Rattle.ipl_meaning.specs.Tables.{Status}
 use Rattle.unit_io.specs.Charts.{Charts, Gains}
-use Rattle.unit_io.specs.Costs.{ProgramsAt, Spends}
-use Rattle.unit_io.specs.Spots.{AddsSector, Programs, IsSpot}
+use Rattle.unit_io.specs.Costs.{Spends}
+use Rattle.unit_io.specs.Spots.{AddsSector}
 use Rattle.txn_status.specs.Marking.{mark_sector, MarksInSteps}
-use Rattle.txn_status.specs.Writing.{LeadsMark}
+use Rattle.txn_status.specs.Writing.{LeadsMark, WritesOneSector}
 use Rattle.txn_status.proofs.MarkingLemmas.{marked_in_steps}
 use Rattle.txn_status.proofs.status.Status.mark.Goals as goal
 
@@ -32,7 +32,7 @@ returns-in_err-write_mark-clause-steps g c =
     c.self.invariant.0.least room
     (subst (λ (k : ℕ). LeadsMark old.places inside.place inside.first
     (mark_sector inside.generation k payload) old (Err fault) new) c.draw-serial.ensures.drawn
-    c.in_err-write_mark.ensures.leads) c.in_err-write_mark.ensures.accounts.cause))
+    c.in_err-write_mark.ensures.leads) c.in_err-write_mark.ensures.writes.accounts.cause))
 
 pub invariant_of-self : goal.invariant_of-self
 invariant_of-self g c =
@@ -82,31 +82,6 @@ returns-clause-steps g c =
     (mark_sector inside.generation k payload) old (Ok tt) new) c.draw-serial.ensures.drawn
     c.in_ok-write_mark.ensures.leads) tt)
 
-pub returns-in_err-write_mark-clause-costs : goal.returns-in_err-write_mark-clause-costs
-returns-in_err-write_mark-clause-costs g c =
-    subst (λ (s : Status). Spends (ProgramsAt s.place 1 1 7)
-    (g.C.Chip.told c.args.chip.now) (g.C.Chip.told c.write_mark.new.chip)) c.self.view_is
-    c.in_err-write_mark.ensures.costs
-
-pub returns-clause-costs : goal.returns-clause-costs
-returns-clause-costs g c =
-    subst (λ (s : Status). Spends (ProgramsAt s.place 1 1 7)
-    (g.C.Chip.told c.args.chip.now) (g.C.Chip.told c.write_mark.new.chip)) c.self.view_is
-    c.in_ok-write_mark.ensures.costs
-
-pub returns-in_err-write_mark-clause-tidy : goal.returns-in_err-write_mark-clause-tidy
-returns-in_err-write_mark-clause-tidy g c =
-    let e = err_from_is_err_and c.from_residual.result c.from_residual.ensures.1 in
-    rw e.1 (subst (λ (s : Status). Spends (Programs s.place (IsSpot s.first) false)
-    (g.C.Chip.told c.args.chip.now) (g.C.Chip.told c.write_mark.new.chip)) c.self.view_is
-    c.in_err-write_mark.ensures.tidy)
-
-pub returns-clause-tidy : goal.returns-clause-tidy
-returns-clause-tidy g c =
-    subst (λ (s : Status). Spends (Programs s.place (IsSpot s.first) true)
-    (g.C.Chip.told c.args.chip.now) (g.C.Chip.told c.write_mark.new.chip)) c.self.view_is
-    c.in_ok-write_mark.ensures.tidy
-
 pub returns-clause-adds : goal.returns-clause-adds
 returns-clause-adds g c =
     let inside = c.self.inside in
@@ -118,3 +93,16 @@ returns-clause-adds g c =
     (subst (λ (k : ℕ). Spends (AddsSector inside.place inside.first
     (mark_sector inside.generation k payload)) old new) c.draw-serial.ensures.drawn
     c.in_ok-write_mark.ensures.adds)
+
+pub returns-in_err-write_mark-clause-writes : goal.returns-in_err-write_mark-clause-writes
+returns-in_err-write_mark-clause-writes g c =
+    let e = err_from_is_err_and c.from_residual.result c.from_residual.ensures.1 in
+    rw (e.1 ∙ ap Err e.2) (subst (λ (s : Status). WritesOneSector s.place s.first 7
+    (Err c.in_err-write_mark.field-0.0) (g.C.Chip.told c.args.chip.now)
+    (g.C.Chip.told c.write_mark.new.chip)) c.self.view_is c.in_err-write_mark.ensures.writes)
+
+pub returns-clause-writes : goal.returns-clause-writes
+returns-clause-writes g c =
+    subst (λ (s : Status). WritesOneSector s.place s.first 7 (Ok tt)
+    (g.C.Chip.told c.args.chip.now) (g.C.Chip.told c.write_mark.new.chip)) c.self.view_is
+    c.in_ok-write_mark.ensures.writes

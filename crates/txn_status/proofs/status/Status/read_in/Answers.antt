@@ -19,4 +19,4 @@ returns-clause-reads g c =
     (at_wider (IsAt c.args.place 0) (IsOfPlace c.args.place) old mid
     (λ p s at. (at.0, omega (arith, at.1))) c.read_generation.ensures.reads)
     (at_wider (IsCommitSpot c.args.place) (IsOfPlace c.args.place) mid new
-    (λ p s at. (at.0, at.2)) c.read_under.ensures.reads)
+    (λ p s at. (at.0, at.2)) c.read_under.ensures.looks.reads)

@@ -1,23 +1,33 @@
-use Rattle.std.proofs.Common.{true, false, ◌≡◌, ◌^◌, ℕ, List, Result, Ok, Err, sym, ◌∙◌, ap, subst, arith}
+use Rattle.std.proofs.Common.{false, ◌≡◌, ◌^◌, ℕ, List, Result, Ok, Err, IfErr, is_ok, sym, ◌∙◌, ap, subst, arith}
 use Rattle.std.proofs.lemmas.Result.{err_from_is_err_and}
 use Rattle.std.proofs.lemmas.List.Elements.{All-from_get_or}
-use Rattle.chip_trait.specs.Told.{Told}
+use Rattle.chip_trait.specs.Told.{Counts, Told}
+use Rattle.chip_trait.proofs.CountsLemmas.{counts_then}
 use Rattle.ipl_base.specs.declared.fault.ChipFault.{ChipFault}
 use Rattle.ipl_base.specs.declared.limits.TheConstants.{VERSION}
 use Rattle.ipl_format.specs.Commit.{IsLong}
 use Rattle.ipl_format.specs.Header.{AreRetired, IsWithin}
+use Rattle.unit_io.specs.Costs.{ProgramsAt}
 use Rattle.unit_io.specs.Leads.{IsStopped}
+use Rattle.unit_io.specs.Spots.{IsSpot}
 use Rattle.unit_io.specs.Charts.{Charts}
 use Rattle.unit_io.proofs.UnreadLemmas.{unread_then}
+use Rattle.place_taking.specs.Fills.{FillsAt}
 use Rattle.place_taking.proofs.JoinLemmas.{fills_at_most, fills_programs, fills_then}
 use Rattle.txn_status.specs.Status.{parts_of}
-use Rattle.txn_status.specs.Switching.{HasParts}
-use Rattle.txn_status.specs.Writing.{LeadsParts, LeadsHeader, IsHeaded}
+use Rattle.txn_status.specs.Switching.{HasParts, IsPartSpot, IsStatusSpot}
+use Rattle.txn_status.specs.Writing.{LeadsParts, LeadsHeader, IsHeaded, OnlyPrograms}
 use Rattle.txn_status.proofs.ListedLemmas.{lists_told}
 use Rattle.txn_status.proofs.SwitchLemmas.{AreLong}
 use Rattle.txn_status.proofs.SwitchedLemmas.{parts_failed, switched_in_steps, switches_told}
 use Rattle.txn_status.proofs.TidyLemmas.{tidy_parts_only, tidy_switched}
 use Rattle.txn_status.proofs.status.Status.switch.Goals as goal
+
+-- why it failed, told from the beginning on
+stopped_then : (result : Result (Unit {0}) ChipFault) (old mid new : Told) → Counts old mid
+    → IfErr result (λ fault. IsStopped fault mid new) → IfErr result (λ fault. IsStopped fault old new)
+stopped_then (Ok done) old mid new counts cause = tt
+stopped_then (Err e) old mid new counts cause = (cause.0, omega (arith, counts.writes, cause.1))
 
 -- the clause of the header's call, at the places of the first chip
 header_leads : (places q p units erases : ℕ) (retired : List ℕ) (next : ℕ) (mid new : Told) (result : Result (Unit {0}) ChipFault)
@@ -26,11 +36,27 @@ header_leads : (places q p units erases : ℕ) (retired : List ℕ) (next : ℕ)
 header_leads places q p units erases retired next mid new result at says =
     subst (λ (z : ℕ). LeadsHeader z p units erases retired next mid result new) at says
 
+-- the parts were programmed, and the header or some of it
+programs_switched : (p n : ℕ) (result : Result (Unit {0}) ChipFault) (old mid new : Told)
+    → OnlyPrograms (ProgramsAt p 64 0 6) p (IsPartSpot n) (Ok tt) old mid
+    → OnlyPrograms (ProgramsAt p 1 2 2) p (IsSpot 0) result mid new
+    → OnlyPrograms (FillsAt p 2) p (IsStatusSpot n) result old new
+programs_switched p n result old mid new first then = record {
+  costs = fills_then p 0 2 old mid new (fills_programs p 64 0 6 old mid first.costs)
+      (fills_programs p 1 2 2 mid new then.costs);
+  tidy = tidy_switched p n (is_ok result) old mid new first.tidy then.tidy;
+  unread = unread_then old mid new first.unread then.unread;
+  accounts = record {
+    counts = counts_then old mid new first.accounts.counts then.accounts.counts;
+    cause = stopped_then result old mid new first.accounts.counts then.accounts.cause;
+  };
+}
+
 -- the chip still has as many places
 pub seal_status-requires-clause-listed : goal.seal_status-requires-clause-listed
 seal_status-requires-clause-listed g c =
     subst (λ (n : ℕ). AreRetired VERSION n c.args.header.now.units c.args.retired.now)
-    (sym c.in_ok-write_parts.ensures.accounts.counts.places) c.requires.listed
+    (sym c.in_ok-write_parts.ensures.writes.accounts.counts.places) c.requires.listed
 
 pub returns-in_err-write_parts-clause-steps : goal.returns-in_err-write_parts-clause-steps
 returns-in_err-write_parts-clause-steps g c = λ h it t after m steady has fits ready switched.
@@ -46,9 +72,9 @@ returns-in_err-write_parts-clause-steps g c = λ h it t after m steady has fits 
     c.requires.last parts.keeps in
     let e = err_from_is_err_and c.from_residual.result c.from_residual.ensures.1 in
     let stopped : IsStopped e.0 old mid =
-    (e.2 ∙ parts.accounts.cause.0, parts.accounts.cause.1) in
+    (e.2 ∙ parts.writes.accounts.cause.0, parts.writes.accounts.cause.1) in
     rw e.1 (parts_failed old.places c.args.header.now.units c.args.header.now.erases c.args.retired.now c.args.self.now next c.args.place kept
-    c.requires.place each c.requires.few old mid mid h it t after m steady has fits ready switched fault e.0 says stopped)
+    c.requires.place each c.requires.fits.few old mid mid h it t after m steady has fits ready switched fault e.0 says stopped)
 
 pub returns-in_err-seal_status-clause-steps : goal.returns-in_err-seal_status-clause-steps
 returns-in_err-seal_status-clause-steps g c = λ h it t after m steady has fits ready switched.
@@ -65,15 +91,15 @@ returns-in_err-seal_status-clause-steps g c = λ h it t after m steady has fits 
     let says = subst (λ (z : ℕ). LeadsParts old.places c.args.place next z kept old (Ok tt) mid)
     c.requires.last parts.keeps in
     let header = header_leads old.places _ c.args.place c.args.header.now.units c.args.header.now.erases c.args.retired.now next mid new (Err fault)
-    parts.accounts.counts.places seals.keeps in
+    parts.writes.accounts.counts.places seals.keeps in
     let stopped : IsStopped fault old new = (
-      seals.accounts.cause.0,
-      omega (arith, parts.accounts.counts.writes, seals.accounts.cause.1),
+      seals.writes.accounts.cause.0,
+      omega (arith, parts.writes.accounts.counts.writes, seals.writes.accounts.cause.1),
     ) in
     let e = err_from_is_err_and c.from_residual-in_err-seal_status.result
     c.from_residual-in_err-seal_status.ensures.1 in
     rw (e.1 ∙ ap Err e.2) (switched_in_steps old.places c.args.header.now.units c.args.header.now.erases c.args.retired.now c.args.self.now next
-    c.args.place kept c.requires.place each c.requires.few old mid new h it t after m steady has fits ready switched says
+    c.args.place kept c.requires.place each c.requires.fits.few old mid new h it t after m steady has fits ready switched says
     (Err fault) header stopped)
 
 pub returns-clause-steps : goal.returns-clause-steps
@@ -89,9 +115,9 @@ returns-clause-steps g c = λ h it t after m steady has fits ready switched.
     let says = subst (λ (z : ℕ). LeadsParts old.places c.args.place next z kept old (Ok tt) mid)
     c.requires.last parts.keeps in
     let header = header_leads old.places _ c.args.place c.args.header.now.units c.args.header.now.erases c.args.retired.now next mid new (Ok tt)
-    parts.accounts.counts.places c.in_ok-seal_status.ensures.keeps in
+    parts.writes.accounts.counts.places c.in_ok-seal_status.ensures.keeps in
     switched_in_steps old.places c.args.header.now.units c.args.header.now.erases c.args.retired.now c.args.self.now next c.args.place kept
-    c.requires.place each c.requires.few old mid new h it t after m steady has fits ready switched says (Ok tt) header tt
+    c.requires.place each c.requires.fits.few old mid new h it t after m steady has fits ready switched says (Ok tt) header tt
 
 pub returns-clause-switches : goal.returns-clause-switches
 returns-clause-switches g c =
@@ -107,9 +133,9 @@ returns-clause-switches g c =
     c.requires.last c.in_ok-write_parts.ensures.tells in
     let header = c.args.header.now in
     let seal = subst (λ (n : ℕ). Charts (IsHeaded n place header.units header.erases c.args.retired.now next) mid new)
-    c.in_ok-write_parts.ensures.accounts.counts.places c.in_ok-seal_status.ensures.tells in
+    c.in_ok-write_parts.ensures.writes.accounts.counts.places c.in_ok-seal_status.ensures.tells in
     switches_told old.places c.args.header.now.units c.args.header.now.erases c.args.retired.now c.args.self.now next place kept c.requires.place each
-    c.requires.few old mid new parts seal
+    c.requires.fits.few old mid new parts seal
 
 pub returns-clause-lists : goal.returns-clause-lists
 returns-clause-lists g c =
@@ -124,62 +150,33 @@ returns-clause-lists g c =
     c.args.kept.now (parts_of c.args.kept.now) old mid new small
     (_, c.in_ok-write_parts.ensures.tells) c.in_ok-seal_status.ensures.tells
 
-pub returns-in_err-write_parts-clause-costs : goal.returns-in_err-write_parts-clause-costs
-returns-in_err-write_parts-clause-costs g c =
+pub returns-in_err-write_parts-clause-writes : goal.returns-in_err-write_parts-clause-writes
+returns-in_err-write_parts-clause-writes g c =
+    let place = c.args.place in
+    let w = c.in_err-write_parts.ensures.writes in
     let old = g.C.Chip.told c.args.chip.now in
     let mid = g.C.Chip.told c.write_parts.new.chip in
-    fills_at_most c.args.place 0 2 old mid (omega arith)
-    (fills_programs c.args.place 64 0 6 old mid c.in_err-write_parts.ensures.costs)
-
-pub returns-in_err-seal_status-clause-costs : goal.returns-in_err-seal_status-clause-costs
-returns-in_err-seal_status-clause-costs g c =
-    let old = g.C.Chip.told c.args.chip.now in
-    let mid = g.C.Chip.told c.write_parts.new.chip in
-    let new = g.C.Chip.told c.seal_status.new.chip in
-    fills_then c.args.place 0 2 old mid new
-    (fills_programs c.args.place 64 0 6 old mid c.in_ok-write_parts.ensures.costs)
-    (fills_programs c.args.place 1 2 2 mid new c.in_err-seal_status.ensures.costs)
-
-pub returns-clause-costs : goal.returns-clause-costs
-returns-clause-costs g c =
-    let old = g.C.Chip.told c.args.chip.now in
-    let mid = g.C.Chip.told c.write_parts.new.chip in
-    let new = g.C.Chip.told c.seal_status.new.chip in
-    fills_then c.args.place 0 2 old mid new
-    (fills_programs c.args.place 64 0 6 old mid c.in_ok-write_parts.ensures.costs)
-    (fills_programs c.args.place 1 2 2 mid new c.in_ok-seal_status.ensures.costs)
-
-pub returns-in_err-write_parts-clause-tidy : goal.returns-in_err-write_parts-clause-tidy
-returns-in_err-write_parts-clause-tidy g c =
     let e = err_from_is_err_and c.from_residual.result c.from_residual.ensures.1 in
-    rw e.1 (tidy_parts_only c.args.place (parts_of c.args.kept.now) false false
-    (g.C.Chip.told c.args.chip.now) (g.C.Chip.told c.write_parts.new.chip)
-    c.in_err-write_parts.ensures.tidy)
+    rw (e.1 ∙ ap Err e.2) (record {
+      costs = fills_at_most place 0 2 old mid (omega arith)
+          (fills_programs place 64 0 6 old mid w.costs);
+      tidy = tidy_parts_only place (parts_of c.args.kept.now) false false old mid w.tidy;
+      unread = w.unread;
+      accounts = w.accounts;
+    })
 
-pub returns-in_err-seal_status-clause-tidy : goal.returns-in_err-seal_status-clause-tidy
-returns-in_err-seal_status-clause-tidy g c =
+pub returns-in_err-seal_status-clause-writes : goal.returns-in_err-seal_status-clause-writes
+returns-in_err-seal_status-clause-writes g c =
     let e = err_from_is_err_and c.from_residual-in_err-seal_status.result
     c.from_residual-in_err-seal_status.ensures.1 in
-    rw e.1 (tidy_switched c.args.place (parts_of c.args.kept.now) false
+    rw (e.1 ∙ ap Err e.2) (programs_switched c.args.place (parts_of c.args.kept.now)
+    (Err c.in_err-seal_status.field-0.0) (g.C.Chip.told c.args.chip.now)
+    (g.C.Chip.told c.write_parts.new.chip) (g.C.Chip.told c.seal_status.new.chip)
+    c.in_ok-write_parts.ensures.writes c.in_err-seal_status.ensures.writes)
+
+pub returns-clause-writes : goal.returns-clause-writes
+returns-clause-writes g c =
+    programs_switched c.args.place (parts_of c.args.kept.now) (Ok tt)
     (g.C.Chip.told c.args.chip.now) (g.C.Chip.told c.write_parts.new.chip)
-    (g.C.Chip.told c.seal_status.new.chip) c.in_ok-write_parts.ensures.tidy
-    c.in_err-seal_status.ensures.tidy)
-
-pub returns-clause-tidy : goal.returns-clause-tidy
-returns-clause-tidy g c =
-    tidy_switched c.args.place (parts_of c.args.kept.now) true
-    (g.C.Chip.told c.args.chip.now) (g.C.Chip.told c.write_parts.new.chip)
-    (g.C.Chip.told c.seal_status.new.chip) c.in_ok-write_parts.ensures.tidy
-    c.in_ok-seal_status.ensures.tidy
-
-pub returns-in_err-seal_status-clause-unread : goal.returns-in_err-seal_status-clause-unread
-returns-in_err-seal_status-clause-unread g c =
-    unread_then (g.C.Chip.told c.args.chip.now) (g.C.Chip.told c.write_parts.new.chip)
-    (g.C.Chip.told c.seal_status.new.chip) c.in_ok-write_parts.ensures.unread
-    c.in_err-seal_status.ensures.unread
-
-pub returns-clause-unread : goal.returns-clause-unread
-returns-clause-unread g c =
-    unread_then (g.C.Chip.told c.args.chip.now) (g.C.Chip.told c.write_parts.new.chip)
-    (g.C.Chip.told c.seal_status.new.chip) c.in_ok-write_parts.ensures.unread
-    c.in_ok-seal_status.ensures.unread
+    (g.C.Chip.told c.seal_status.new.chip)
+    c.in_ok-write_parts.ensures.writes c.in_ok-seal_status.ensures.writes

@@ -1,0 +1,45 @@
+-- What a call leaves of the tables that may take free places, whatever the chip tells.
+use Rattle.std.specs.Prelude.{ℕ, ◌≡◌, ◌≤◌, ◌+◌, length, slice_index, Result, is_ok, OnOk}
+use Rattle.ipl_base.specs.declared.fault.ChipFault.{ChipFault}
+use Rattle.ipl_base.specs.declared.limits.TheConstants.{CARRIED_SECTORS}
+use Rattle.ipl_base.specs.declared.spot.Spot.{Spot}
+use Rattle.chip_trait.specs.Told.{Told}
+use Rattle.ipl_meaning.specs.Tables.{Tables}
+use Rattle.overflow.specs.Lists.{spots_in}
+use Rattle.unit_directory.specs.Free.{free_count}
+use Rattle.unit_io.specs.Accounts.{Accounts}
+use Rattle.unit_io.specs.Costs.{Spends}
+use Rattle.step_laws.specs.Steps.{Tidies}
+use Rattle.place_taking.specs.Spending.{ErasesFor, ErasesFree, SparesUsed, is_worn_out}
+use Rattle.selective_merge.specs.Homes.{MergeCause}
+use Rattle.selective_merge.specs.Moving.{Holds}
+
+-- What a call leaves, however it ends: the tables know each place still, at most so many numbers were drawn,
+-- and what was counted as clean is erased and programmed as they say. Done, each place that was in use has
+-- the bytes that it had; and where it failed, this is its cause.
+pub record LeavesTables {T : Type 0} (n : ℕ) (Cause : ChipFault → Told → Told → Type 0) (t after : Tables)
+    (result : Result T ChipFault) (old new : Told) : Type 0 where
+  pub holds : Holds old.places t after
+  pub draws : (t.next ≤ after.next) × (after.next ≤ t.next + n)
+  pub spares : OnOk result (SparesUsed t.places old new)
+  pub tidy : Tidies t result after old new
+  pub accounts : Accounts Cause result old new
+
+-- What a merge of the unit leaves: besides, no place is lost to it. Done, at most 12 log sectors of the unit
+-- are written, a number was drawn for each and one for the unit, and its place was erased for it.
+pub record MovesUnit (u : ℕ) (t after : Tables) (result : Result (Unit {0}) ChipFault) (old new : Told) : Type 0 where
+  pub leaves : LeavesTables 13
+      (MergeCause after.places (slice_index t.places.current u) (spots_in t.overflow u)) t after result old new
+  pub room : OnOk result (slice_index after.places.written u ≤ CARRIED_SECTORS)
+  pub free : free_count t.places.in_use + length t.places.retired
+      ≤ free_count after.places.in_use + length after.places.retired
+  pub drawn : OnOk result (after.next ≡ t.next + 1 + slice_index after.places.written u)
+  pub costs : Spends (ErasesFor t.places after.places 3 (slice_index after.places.current u) (is_ok result)
+      (is_worn_out result)) old new
+
+-- What a call leaves that finds a spot for a log sector of the unit, which may take a merge: besides, at most
+-- one erase is tried and one more for each place that is retired, of free places.
+pub record FindsSpot (u : ℕ) (t after : Tables) (result : Result Spot ChipFault) (old new : Told) : Type 0 where
+  pub leaves : LeavesTables 13
+      (MergeCause after.places (slice_index t.places.current u) (spots_in t.overflow u)) t after result old new
+  pub costs : Spends (ErasesFree t.places after.places 3 (is_worn_out result)) old new
