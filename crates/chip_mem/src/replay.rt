@@ -1,6 +1,7 @@
 //! What kept events make of the sectors of a chip.
-ghost use Rattle.std.specs.Prelude.{◌≡◌, ◌<◌, ◌≤◌, ◌+◌, ◌*◌, ◌/◌, ◌∷◌, true, length, reverse};
+ghost use Rattle.std.specs.Prelude.{◌≡◌, ◌<◌, ◌≤◌, ◌+◌, ◌*◌, ◌/◌, ◌∷◌, ℕ, true, length, reverse};
 ghost use Rattle.std.specs.List.{AllPass};
+ghost use Rattle.chip_trait.specs.declared.event.Event.TheVariants.{Barrier};
 ghost use Rattle.chip_trait.specs.Story.{Story, Contents, after, held};
 ghost use Rattle.chip_trait.specs.Image.{may_tear};
 ghost use Rattle.chip_mem.specs.Sectors.{contents_of};
@@ -80,6 +81,18 @@ struct Lasting {
     worn: bool,
 }
 
+// A barrier closes each sector, and a place whose last erase was done is worn no more.
+fn after_barrier(before: Lasting) -> Lasting
+    ensures { (story : Story) (p s : ℕ) → IsLasting before.open before.sound before.worn story p s
+        → IsLasting result.open result.sound result.worn (Barrier ∷ story) p s }
+{
+    Lasting {
+        open: false,
+        worn: before.worn && !before.sound,
+        ..before
+    }
+}
+
 fn lasting_after(event: &Event, p: u32, s: u32, before: Lasting) -> Lasting
     ensures { (story : Story) → IsLasting before.open before.sound before.worn story p s
         → IsLasting result.open result.sound result.worn (event.now ∷ story) p s }
@@ -99,11 +112,7 @@ fn lasting_after(event: &Event, p: u32, s: u32, before: Lasting) -> Lasting
             worn: *q == p || before.worn,
             ..before
         },
-        Event::Barrier => Lasting {
-            open: false,
-            worn: before.worn && !before.sound,
-            ..before
-        },
+        Event::Barrier => after_barrier(before),
         Event::Read(_, _) | Event::Said(_) => before,
     }
 }

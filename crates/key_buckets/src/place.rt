@@ -26,28 +26,17 @@ pub(crate) fn span_of(bytes: &[u8], key: &[u8]) -> Span
     ensures within { result.until ≤ length bytes.now }
     ensures held { result.from < result.until → has_pair (drop result.from bytes.now) ≡ true }
 {
-    let mut at = 0;
-    while at < bytes.len() {
-        let rest = &bytes[at..];
-        let end = at + pair_len(rest);
+    let mut from = 0;
+    while from < bytes.len() {
+        let rest = &bytes[from..];
+        let until = from + pair_len(rest);
         match first_key(rest).cmp(&key) {
-            Ordering::Less => at = end,
-            Ordering::Equal => {
-                return Span {
-                    from: at,
-                    until: end,
-                };
-            }
-            Ordering::Greater => return Span {
-                from: at,
-                until: at,
-            },
+            Ordering::Less => from = until,
+            Ordering::Equal => return Span { from, until },
+            Ordering::Greater => return Span { from, until: from },
         }
     }
-    Span {
-        from: at,
-        until: at,
-    }
+    Span { from, until: from }
 }
 
 /// The value of a key (any bytes) in a bucket, where it has one.

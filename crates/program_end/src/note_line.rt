@@ -1,5 +1,6 @@
 //! The line that is noted where the program ends before its script does.
 ghost use Rattle.std.specs.Prelude.{◌≡◌, ◌≤◌, ◌+◌, ◌++◌, ℕ, List, length};
+ghost use Rattle.ipl_base.specs.declared.fault.ChipFault.TheVariants.{Damaged};
 ghost use Rattle.program_end.specs.Ends.{chip_text, end_text, fault_text, note_of, spot_text, sum_text};
 
 use crate::end::End;
@@ -64,6 +65,20 @@ fn push_spot(line: &mut TextLine, place: u32, sector: u32)
     line.push_number(sector);
 }
 
+/// Appends a damaged sector, with the sum that is stored in it and the one that is computed.
+fn push_damaged(line: &mut TextLine, place: u32, sector: u32, stored: u32, computed: u32)
+    requires { length line.old + 76 ≤ 128 }
+    ensures text { line.new ≡ line.old ++ chip_text (Damaged place sector stored computed) }
+    ensures len { length line.new ≤ length line.old + 76 }
+{
+    line.push(b"damaged ");
+    push_spot(line, place, sector);
+    line.push(b" stored ");
+    push_sum(line, stored);
+    line.push(b" computed ");
+    push_sum(line, computed);
+}
+
 /// Appends what a chip did not do, or what it held that it must not hold.
 fn push_chip_fault(line: &mut TextLine, fault: ChipFault)
     requires { length line.old + 76 ≤ 128 }
@@ -78,14 +93,7 @@ fn push_chip_fault(line: &mut TextLine, fault: ChipFault)
             sector,
             stored,
             computed,
-        } => {
-            line.push(b"damaged ");
-            push_spot(line, place, sector);
-            line.push(b" stored ");
-            push_sum(line, stored);
-            line.push(b" computed ");
-            push_sum(line, computed);
-        }
+        } => push_damaged(line, place, sector, stored, computed),
         ChipFault::Malformed { place, sector } => {
             line.push(b"malformed ");
             push_spot(line, place, sector);

@@ -2,8 +2,9 @@
 ghost use Rattle.std.specs.Prelude.{◌≡◌, ◌≤◌, length, IfSome};
 ghost use Rattle.std.specs.Option.{option_copied, option_map_or};
 ghost use Rattle.std.specs.List.{slice_split};
-ghost use Rattle.ipl_model.specs.declared.command.Command.TheVariants.{Restart, Syntax};
+ghost use Rattle.ipl_model.specs.declared.command.Command.TheVariants.{Put, Restart, Syntax};
 ghost use Rattle.ipl_model.specs.Grammar.{is_space, words_behind, one_number, two_numbers, numbers_and_value, sessions_of, commit_of, alone, command_of, line_of};
+ghost use Rattle.script_text.specs.Verbs.{without_session};
 
 use crate::word::{first_word, value};
 use ipl_model::{Command, Line, PutBytes, Sessions};
@@ -99,6 +100,33 @@ fn commit(words: Option<&[u8]>) -> Command
     }
 }
 
+/// A put of the numbers and the bytes that the words behind the verb are.
+fn put(words: Option<&[u8]>) -> Command
+    requires { IfSome words (λ words. length words.now ≤ 1024) }
+    ensures { result
+        ≡ option_map_or (λ a. Put a.0 a.1 a.2) (numbers_and_value (words_behind (option_copied words.entry))) Syntax }
+{
+    match numbers_and_value(words) {
+        Some((session, name, bytes)) => Command::Put(session, name, bytes),
+        None => Command::Syntax,
+    }
+}
+
+/// The command without a session that a verb and the words behind it are: a list, a merge or a restart.
+fn without_session(verb: &[u8], words: Option<&[u8]>) -> Command
+    ensures { result ≡ without_session verb.now (words_behind (option_copied words.entry)) }
+{
+    if verb == b"list".as_slice() {
+        two_numbers(words).map_or(Command::Syntax, |a| Command::List(a.0, a.1))
+    } else if verb == b"merge".as_slice() {
+        one_number(words).map_or(Command::Syntax, |unit| Command::Merge(unit))
+    } else if verb == b"restart".as_slice() {
+        restart(words)
+    } else {
+        Command::Syntax
+    }
+}
+
 /// The command that a line is.
 fn command(line: &[u8]) -> Command
     requires { length line.now ≤ 1024 }
@@ -112,24 +140,15 @@ fn command(line: &[u8]) -> Command
     } else if verb == b"share".as_slice() {
         two_numbers(words).map_or(Command::Syntax, |a| Command::Share(a.0, a.1))
     } else if verb == b"put".as_slice() {
-        match numbers_and_value(words) {
-            Some((session, name, bytes)) => Command::Put(session, name, bytes),
-            None => Command::Syntax,
-        }
+        put(words)
     } else if verb == b"del".as_slice() {
         two_numbers(words).map_or(Command::Syntax, |a| Command::Del(a.0, a.1))
     } else if verb == b"commit".as_slice() {
         commit(words)
     } else if verb == b"abort".as_slice() {
         one_number(words).map_or(Command::Syntax, |s| Command::Abort(s))
-    } else if verb == b"list".as_slice() {
-        two_numbers(words).map_or(Command::Syntax, |a| Command::List(a.0, a.1))
-    } else if verb == b"merge".as_slice() {
-        one_number(words).map_or(Command::Syntax, |unit| Command::Merge(unit))
-    } else if verb == b"restart".as_slice() {
-        restart(words)
     } else {
-        Command::Syntax
+        without_session(verb, words)
     }
 }
 

@@ -42,23 +42,27 @@ fn said(alloc: Global, sector: &[u8; 512]) -> Result<String> {
             Ok(format!(in alloc; "bad, stored {stored:08x} computed {computed:08x}")?)
         }
         Decoded::Strange => text_of(alloc, "strange"),
-        Decoded::Sector(head, used) => {
-            let Head {
-                kind,
-                version,
-                unit,
-                generation,
-                serial,
-            } = head;
-            let text = format!(in alloc;
-                "kind {kind} unit {unit} generation {generation} serial {serial} used {used}"
-            )?;
-            if version == 1 {
-                return Ok(text);
-            }
-            Ok(format!(in alloc; "v{version} {text}")?)
-        }
+        Decoded::Sector(head, used) => head_text(alloc, head, used),
     }
+}
+
+/// The fields of a head, and how many bytes of payload stand behind it; its version first, where
+/// that isn't 1.
+fn head_text(alloc: Global, head: Head, used: usize) -> Result<String> {
+    let Head {
+        kind,
+        version,
+        unit,
+        generation,
+        serial,
+    } = head;
+    let text = format!(in alloc;
+        "kind {kind} unit {unit} generation {generation} serial {serial} used {used}"
+    )?;
+    if version == 1 {
+        return Ok(text);
+    }
+    Ok(format!(in alloc; "v{version} {text}")?)
 }
 
 /// What comes of a row `encode KIND UNIT GENERATION SERIAL BYTES`, in a version: the head of 32

@@ -22,31 +22,34 @@ fn owned(alloc: Global, rest: &str) -> Result<Vec<String>> {
     Ok(words)
 }
 
-/// What is asked.
+/// What is asked, if anything is.
 fn asked_text(alloc: Global, asked: Option<Request>) -> Result<String> {
     match asked {
         None => text_of(alloc, "nothing"),
-        Some(Request::Format { spares }) => Ok(format!(in alloc; "format spares {spares}")?),
-        Some(Request::Serial) => text_of(alloc, "serial"),
-        Some(Request::Check) => text_of(alloc, "check"),
-        Some(
-            Request::Run {
-                frames,
-                format,
-                close,
-            },
-        ) => {
+        Some(request) => request_text(alloc, request),
+    }
+}
+
+/// What a request asks.
+fn request_text(alloc: Global, request: Request) -> Result<String> {
+    match request {
+        Request::Format { spares } => Ok(format!(in alloc; "format spares {spares}")?),
+        Request::Serial => text_of(alloc, "serial"),
+        Request::Check => text_of(alloc, "check"),
+        Request::Run {
+            frames,
+            format,
+            close,
+        } => {
             let how = if format { " format" } else { "" };
             let then = if close { " close" } else { "" };
             Ok(format!(in alloc; "run frames {frames}{how}{then}")?)
         }
-        Some(
-            Request::Trial {
-                seed,
-                count,
-                frames,
-            },
-        ) => { Ok(format!(in alloc; "trial seed {seed} count {count} frames {frames}")?) }
+        Request::Trial {
+            seed,
+            count,
+            frames,
+        } => { Ok(format!(in alloc; "trial seed {seed} count {count} frames {frames}")?) }
     }
 }
 
