@@ -14,7 +14,7 @@ from .program import Failed, make_file, run_untraced
 from .rules import RESERVED_PLACES
 from .sizes import counting_library, counts_of
 from .starts import FILLING_FRAMES
-from .timed import medians, run_timed, seconds_to_get
+from .timed import run_timed, seconds_to_get, shortest
 from .wear import asks
 from .workloads import (MOST_PENDING, SHORT_VALUE, UNIT_NAMES, Put, Transaction, Workload, value_of)
 
@@ -64,14 +64,14 @@ class Meter(NamedTuple):
     def microseconds(self, places: int, frames: int, workload: Workload,
                      count: int) -> Optional[float]:
         """User and system time of each of so many transactions, behind as many others, on a chip
-        in memory: what a run of both takes more than one of the first, by the medians of rounds."""
+        in memory: what a run of both takes more than one of the first, by the shortest of each."""
         if not self.rounds:
             return None
         words = [self.program, "run", f"ram:{places}", "--format", "--frames", str(frames)]
         first = self.script(workload(places, count), "first")
         both = self.script(workload(places, 2 * count), "both")
         runs = [(run_timed(words, first), run_timed(words, both)) for _ in range(self.rounds)]
-        less, more = [medians(list(of_script), count) for of_script in zip(*runs)]
+        less, more = [shortest(list(of_script), count) for of_script in zip(*runs)]
         return more.user + more.system - less.user - less.system
 
 

@@ -75,6 +75,12 @@ def medians(runs: List[Times], count: int) -> Times:
     return Times(*[statistics.median(each) * 1e6 / count for each in zip(*runs)])
 
 
+def shortest(runs: List[Times], count: int) -> Times:
+    """Microseconds for each of so many, by the run that took least of each: other work on the
+    machine, and of its neighbours, only adds to it."""
+    return Times(*[min(each) * 1e6 / count for each in zip(*runs)])
+
+
 def time_each(stores: List[Store], folder: str, places: int, workload: Workload,
               count: int) -> Dict[str, Times]:
     """Microseconds for each of so many transactions by each store, whose names all have a value."""
