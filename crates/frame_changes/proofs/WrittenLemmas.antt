@@ -1,33 +1,60 @@
--- Which names of a page sessions wrote: flags that are set name by name, session by session.
-use Rattle.std.proofs.Common.{◌≡◌, ◌≤◌, ◌<◌, ◌+◌, ℕ, Bool, false, List, [], length, Option, Some, None, inl, inr, refl, ap, arith}
-use Rattle.std.specs.Option.{option_map_or}
-use Rattle.std.specs.Prelude.{slice_index_or}
-use Rattle.std.proofs.lemmas.Bool.{cases_lt}
-use Rattle.std.proofs.lemmas.List.{get_or_past}
+-- Which session wrote which name of a page: sessions that are noted name by name, session by session.
+use Rattle.std.proofs.Common.{◌≡◌, ◌≤◌, ◌<◌, ◌+◌, ℕ, Bool, true, false, cond, List, replicate, length, Option, None, ◌⊎◌, ◌≢◌, inl, inr, refl, ◌∙◌, ap, arith}
+use Rattle.std.specs.Prelude.{slice_index, if◌then◌else◌}
+use Rattle.std.proofs.lemmas.Bool.{cases_Bool, cases_eq, cases_lt}
+use Rattle.std.proofs.lemmas.List.{get_or_past, get_or-replicate}
 use Rattle.ipl_base.specs.declared.limits.TheConstants.{SESSIONS, SLOTS}
 use Rattle.record_locks.specs.Held.{Held, Slots, held_at, written_of, is_among, slot_marks, marks_in}
-use Rattle.record_locks.proofs.MarkLemmas.{absent_mark, all_at_most}
+use Rattle.record_locks.proofs.MarkLemmas.{absent_slot, all_at_most}
 
 -- ---- the names of one session
 
--- a flag that isn't set was not, and its name is none of these
-abbrev pub AreNoted : List Bool → List ℕ → ℕ → List Bool → Type 0
-AreNoted old names first now = (k : ℕ) → k < SLOTS → slice_index_or now k false ≡ false
-    → (slice_index_or old k false ≡ false) × (is_among (first + k) names ≡ false)
+-- for a name that is among these the session is noted, for any other it is what it was
+abbrev pub AreNoted : ℕ → List ℕ → ℕ → List ℕ → List ℕ → Type 0
+AreNoted s names first old now = (k : ℕ) → k < SLOTS
+    → slice_index now k ≡ (if is_among (first + k) names then s else slice_index old k)
 
 -- ---- the sessions, one after the other
 
--- a flag that isn't set is of a name that none of the first s sessions wrote
-abbrev pub AreNotedSoFar : Slots → ℕ → ℕ → List Bool → Type 0
-AreNotedSoFar slots first s now = (k : ℕ) → k < SLOTS → slice_index_or now k false ≡ false
-    → (t : ℕ) → t < s → is_among (first + k) (written_of slots t) ≡ false
+-- what is noted below 32 is a session that wrote the name; where it is not, none of the first s sessions did
+pub record AreWriters (slots : Slots) (first s : ℕ) (now : List ℕ) : Type 0 where
+  pub none : (k : ℕ) → k < SLOTS → SESSIONS ≤ slice_index now k
+      → (t : ℕ) → t < s → is_among (first + k) (written_of slots t) ≡ false
+  pub wrote : (k : ℕ) → k < SLOTS → slice_index now k < SESSIONS
+      → is_among (first + k) (written_of slots (slice_index now k)) ≡ true
+
+pub writers_first : (slots : Slots) (first : ℕ) → AreWriters slots first 0 (replicate SLOTS SESSIONS)
+writers_first slots first = record {
+  none = λ k low past t before. absurd (omega (arith, before));
+  wrote = λ k low known. absurd (let is = get_or-replicate SLOTS k SESSIONS 0 low in omega (arith, is, known));
+}
+
+pub writers_more : (slots : Slots) (first s : ℕ) (now new : List ℕ) → s < SESSIONS → AreWriters slots first s now
+    → AreNoted s (written_of slots s) first now new → AreWriters slots first (s + 1) new
+writers_more slots first s now new within so noted = record {
+  none = λ k low past t before.
+      none_of k low (is_among (first + k) (written_of slots s)) refl (noted k low) past t before (cases_eq t s);
+  wrote = λ k low known. by_test k low (is_among (first + k) (written_of slots s)) refl (noted k low) known;
+}
+  where
+    none_of : (k : ℕ) → k < SLOTS → (b : Bool) → is_among (first + k) (written_of slots s) ≡ b
+        → slice_index new k ≡ cond b s (slice_index now k) → SESSIONS ≤ slice_index new k
+        → (t : ℕ) → t < s + 1 → (t ≡ s) ⊎ (t ≢ s) → is_among (first + k) (written_of slots t) ≡ false
+    none_of k low true is new_is past t before same = absurd (omega (arith, new_is, past, within))
+    none_of k low false is new_is past t before (inl same) =
+        ap (λ (j : ℕ). is_among (first + k) (written_of slots j)) same ∙ is
+    none_of k low false is new_is past t before (inr other) =
+        so.none k low (omega (arith, new_is, past)) t (omega (arith, before, other))
+
+    by_test : (k : ℕ) → k < SLOTS → (b : Bool) → is_among (first + k) (written_of slots s) ≡ b
+        → slice_index new k ≡ cond b s (slice_index now k) → slice_index new k < SESSIONS
+        → is_among (first + k) (written_of slots (slice_index new k)) ≡ true
+    by_test k low true is new_is known = ap (λ (j : ℕ). is_among (first + k) (written_of slots j)) new_is ∙ is
+    by_test k low false is new_is known =
+        ap (λ (j : ℕ). is_among (first + k) (written_of slots j)) new_is
+        ∙ so.wrote k low (omega (arith, new_is, known))
 
 -- ---- marks
-
-absent_slot : (o : Option Held) (n : ℕ) → is_among n (option_map_or (λ h. h.written) o []) ≡ false
-    → slot_marks o n ≡ 0
-absent_slot None n none = refl
-absent_slot (Some h) n none = absent_mark h.written h.sizes n none
 
 -- a name that no session wrote has no mark
 unwritten : (slots : Slots) (n : ℕ) → length slots ≡ SESSIONS
@@ -42,8 +69,8 @@ unwritten slots n all none = omega (arith, all_at_most slots n 0 each)
           omega (arith, ap (λ (o : Option Held). slot_marks o n) empty)
     ]
 
-pub noted_done : (slots : Slots) (first s : ℕ) (now : List Bool) → length slots ≡ SESSIONS → SESSIONS ≤ s
-    → AreNotedSoFar slots first s now
-    → (k : ℕ) → k < SLOTS → slice_index_or now k false ≡ false → marks_in slots (first + k) ≡ 0
-noted_done slots first s now all past so k low unset =
-    unwritten slots (first + k) all (λ t before. so k low unset t (omega (arith, before, past)))
+pub writers_done : (slots : Slots) (first s : ℕ) (now : List ℕ) → length slots ≡ SESSIONS → SESSIONS ≤ s
+    → AreWriters slots first s now
+    → (k : ℕ) → k < SLOTS → SESSIONS ≤ slice_index now k → marks_in slots (first + k) ≡ 0
+writers_done slots first s now all past so k low none =
+    unwritten slots (first + k) all (λ t before. so.none k low none t (omega (arith, before, past)))

@@ -1,11 +1,11 @@
 //! Room in a page for a put beside all that open sessions wrote there.
-ghost use Rattle.std.specs.Prelude.{◌≡◌, ◌≤◌, ◌<◌, ◌+◌, ◌-◌, ◌^◌, false, Some, None, length};
-ghost use Rattle.ipl_base.specs.declared.limits.TheConstants.{VALUE_LEN};
+ghost use Rattle.std.specs.Prelude.{◌≡◌, ◌≤◌, ◌<◌, ◌+◌, ◌-◌, ◌^◌, true, false, Some, None, length};
+ghost use Rattle.ipl_base.specs.declared.limits.TheConstants.{SESSIONS, VALUE_LEN};
 ghost use Rattle.ipl_base.specs.Places.{home_of};
 ghost use Rattle.ipl_base.specs.Sizes.{size_in_page};
 ghost use Rattle.ipl_rules.specs.Marks.{with_mark};
 ghost use Rattle.ipl_format.specs.Page.{value_in};
-ghost use Rattle.record_locks.specs.Held.{marks_in};
+ghost use Rattle.record_locks.specs.Held.{is_among, marks_in, written_of};
 ghost use Rattle.page_ops.specs.Frames.{values_in};
 ghost use Rattle.store_laws.specs.Frames.{Frame as FrameOfPage};
 ghost use Rattle.store_laws.specs.Room.{fill_at, overfills_at};
@@ -14,7 +14,7 @@ ghost use Rattle.frame_changes.specs.declared.filling.TheConstants.{HEAD};
 
 use crate::written::written_slots;
 use buffer_pool::Pool;
-use ipl_base::{Name, PAGE_LEN, SLOTS, home};
+use ipl_base::{Name, PAGE_LEN, SESSIONS, SLOTS, home};
 use page_ops::Frame;
 use page_text::PageMap;
 use record_locks::Sessions;
@@ -48,11 +48,11 @@ fn fill_with(frame: &Frame, sessions: &Sessions, name: Name, size: usize) -> usi
 {
     let first = name.0 - name.0 % SLOTS;
     let page = frame.committed();
-    let is_written = written_slots(sessions, first);
+    let writers = written_slots(sessions, first);
     let mut fill = 0;
     for slot in 0..SLOTS {
         let here = Name(first + slot);
-        let written = written_size(sessions, here, is_written[slot as usize], name, size);
+        let written = written_size(sessions, here, writers[slot as usize], name, size);
         fill += slot_size(page, slot).max(written);
     }
     fill
@@ -71,23 +71,19 @@ fn slot_size(page: &PageMap, slot: u32) -> usize
 }
 
 /// How many bytes a write of a name takes at most, of all that open sessions wrote and of one of another
-/// name, or this, that takes so many. Only where it's told that a session wrote the name, the sessions
-/// are asked for the size: few names are written, and that goes over all of them.
-fn written_size(
-    sessions: &Sessions,
-    name: Name,
-    is_written: bool,
-    other: Name,
-    size: usize,
-) -> usize
+/// name, or this, that takes so many. It's told a session that wrote the name, or 32 where none did: that
+/// session alone is asked for the size.
+fn written_size(sessions: &Sessions, name: Name, writer: u8, other: Name, size: usize) -> usize
     requires few { size ≤ HEAD + VALUE_LEN }
-    requires told { is_written ≡ false → marks_in sessions.now name.0 ≡ 0 }
+    requires none { SESSIONS ≤ writer → marks_in sessions.now name.0 ≡ 0 }
+    requires wrote { writer < SESSIONS → is_among name.0 (written_of sessions.now writer) ≡ true }
     ensures size { result ≡ with_mark (marks_in sessions.now) other.0 (1 + size) name.0 - 1 }
     ensures few { result < 2 ^ 32 }
 {
+    let s = u32::from(writer);
     let mut written = 0;
-    if is_written {
-        written = sessions.size(name) as usize;
+    if s < SESSIONS {
+        written = sessions.size_by(s, name) as usize;
     }
     if other.0 == name.0 {
         size.max(written)

@@ -1,34 +1,37 @@
-//! Which names of a page open sessions wrote.
-ghost use Rattle.std.specs.Prelude.{◌≡◌, ◌<◌, ◌+◌, ℕ, false, map, slice_index_or};
-ghost use Rattle.ipl_base.specs.declared.limits.TheConstants.{SLOTS};
-ghost use Rattle.record_locks.specs.Held.{is_among, marks_in};
+//! Which session wrote which name of a page.
+ghost use Rattle.std.specs.Prelude.{◌≡◌, ◌≤◌, ◌<◌, ◌+◌, ℕ, true, map, slice_index, if◌then◌else◌};
+ghost use Rattle.ipl_base.specs.declared.limits.TheConstants.{SESSIONS, SLOTS};
+ghost use Rattle.record_locks.specs.Held.{is_among, marks_in, written_of};
 
 use ipl_base::{Name, SESSIONS, SLOTS};
 use record_locks::Sessions;
 
-/// Which of the 64 names from this one on an open session wrote: a name that isn't told of has no mark.
-/// It goes once over the names that sessions wrote, and not once for each of the 64.
-pub(crate) fn written_slots(sessions: &Sessions, first: u32) -> [bool; 64]
-    ensures { (k : ℕ) → k < SLOTS → slice_index_or result k false ≡ false
+/// For each of the 64 names from this one on the number of a session that wrote it, or 32 where none
+/// did. It goes once over the names that sessions wrote, and not once for each of the 64.
+pub(crate) fn written_slots(sessions: &Sessions, first: u32) -> [u8; 64]
+    ensures none { (k : ℕ) → k < SLOTS → SESSIONS ≤ slice_index result k
         → marks_in sessions.now (first + k) ≡ 0 }
+    ensures wrote { (k : ℕ) → k < SLOTS → slice_index result k < SESSIONS
+        → is_among (first + k) (written_of sessions.now (slice_index result k)) ≡ true }
 {
     sessions.facts();
-    let mut written = [false; 64];
+    let mut writers = [SESSIONS as u8; 64];
     for s in 0..SESSIONS {
-        note_names(sessions.written(s), first, &mut written);
+        note_names(s as u8, sessions.written(s), first, &mut writers);
     }
-    written
+    writers
 }
 
-/// Notes those of the 64 names from this one on that are among these; what is noted stays so.
-fn note_names(names: &[Name], first: u32, written: &mut [bool; 64])
-    ensures { (k : ℕ) → k < SLOTS → slice_index_or written.new k false ≡ false
-        → (slice_index_or written.old k false ≡ false)
-        × (is_among (first + k) (map (λ n. n.0) names.now) ≡ false) }
+/// Notes a session for those of the 64 names from this one on that are among these; for the others it
+/// stays what it was.
+fn note_names(s: u8, names: &[Name], first: u32, writers: &mut [u8; 64])
+    ensures { (k : ℕ) → k < SLOTS → slice_index writers.new k
+        ≡ (if is_among (first + k) (map (λ n. n.0) names.now) then s
+        else slice_index writers.old k) }
 {
     for name in names {
         if name.0 >= first && name.0 - first < SLOTS {
-            written[(name.0 - first) as usize] = true;
+            writers[(name.0 - first) as usize] = s;
         }
     }
 }

@@ -2,6 +2,7 @@
 use Rattle.std.proofs.Common.{◌≡◌, ◌≢◌, ◌⊎◌, inl, inr, ℕ, zero, suc, ◌+◌, ◌*◌, ◌/◌, ◌≤◌, ◌==◌, max, Bool, true, false, cond, List, [], ◌∷◌, ◌++◌, length, drop, set, Option, Some, None, refl, sym, ◌∙◌, ap, ap₂, arith, length-append}
 use Rattle.std.specs.Prelude.{slice_index}
 use Rattle.std.specs.List.{All, count_by, sum_by}
+use Rattle.std.specs.Option.{option_map_or}
 use Rattle.std.proofs.Math.Nat.{le-max_left, le-max_right, max-le, max-zero, max-eq_left, max-eq_right}
 use Rattle.std.proofs.lemmas.Bool.{cases_Bool, cases_eq, cases_lt, ne_eqb, eq-eqb}
 use Rattle.std.proofs.lemmas.List.Sums.{sum_by-cons}
@@ -9,8 +10,8 @@ use Rattle.std.proofs.lemmas.List.Elements.{All-cons}
 use Rattle.ipl_rules.specs.Marks.{with_mark, weight_of_mark, weights}
 use Rattle.ipl_base.specs.declared.limits.TheConstants.{UNIT_NAMES}
 use Rattle.ipl_rules.proofs.WeightLemmas.{weights_same, weights_none, weights_joined, weights_new}
-use Rattle.record_locks.specs.Held.{Held, Slots, held_at, is_among, mark_in, raised, weight_listed, slot_marks, marks_in, slot_weight, with_written}
-use Rattle.record_locks.specs.Locks.{IsSized, total, written_in}
+use Rattle.record_locks.specs.Held.{Held, Slots, held_at, written_of, is_among, mark_in, raised, weight_listed, slot_marks, marks_in, slot_weight, with_written}
+use Rattle.record_locks.specs.Locks.{IsSized, OneWriter, total, written_in}
 use Rattle.record_locks.proofs.NameLemmas.{count_cons, counted_once}
 use Rattle.record_locks.proofs.TotalLemmas.{total_cons}
 
@@ -19,12 +20,17 @@ head_is z sizes = refl
 
 -- ---- names in a list
 
-pub absent_mark : (names sizes : List ℕ) (n : ℕ) → is_among n names ≡ false → mark_in names sizes n ≡ 0
+absent_mark : (names sizes : List ℕ) (n : ℕ) → is_among n names ≡ false → mark_in names sizes n ≡ 0
 absent_mark [] sizes n none = refl
 absent_mark (k ∷ names) sizes n none = elim (cases_Bool (k == n)) [
   | inl here ↦ absurd (let clash = rw here at none in cc clash)
   | inr other ↦ rw other (absent_mark names (drop 1 sizes) n (rw other at none))
 ]
+
+pub absent_slot : (o : Option Held) (n : ℕ) → is_among n (option_map_or (λ h. h.written) o []) ≡ false
+    → slot_marks o n ≡ 0
+absent_slot None n none = refl
+absent_slot (Some h) n none = absent_mark h.written h.sizes n none
 
 -- a name that no test counts
 uncounted : (names : List ℕ) (n : ℕ) → count_by (λ k. k == n) names ≡ 0 → is_among n names ≡ false
@@ -34,8 +40,7 @@ uncounted names n none = elim (cases_Bool (is_among n names)) [
 ]
 
 pub uncounted_mark : (o : Option Held) (n : ℕ) → written_in (λ k. k == n) o ≡ 0 → slot_marks o n ≡ 0
-uncounted_mark None n none = refl
-uncounted_mark (Some h) n none = absent_mark h.written h.sizes n (uncounted h.written n none)
+uncounted_mark o n none = absent_slot o n (uncounted (option_map_or (λ h. h.written) o []) n none)
 
 pub untotaled_mark : (slots : Slots) (n : ℕ) → total (λ k. k == n) slots ≡ 0 → marks_in slots n ≡ 0
 untotaled_mark [] n none = refl
@@ -188,6 +193,18 @@ one_of_all (o ∷ slots) (suc s) n = let rest = one_of_all slots s n in omega (a
 pub all_at_most : (slots : Slots) (n k : ℕ) → ((s : ℕ) → slot_marks (held_at slots s) n ≤ k) → marks_in slots n ≤ k
 all_at_most [] n k each = omega arith
 all_at_most (o ∷ slots) n k each = max-le (each 0) (all_at_most slots n k (λ s. each (suc s)))
+
+-- a name that one session wrote, and so no other
+pub one_is_all : (slots : Slots) (s n : ℕ) → OneWriter slots → is_among n (written_of slots s) ≡ true
+    → slot_marks (held_at slots s) n ≡ marks_in slots n
+one_is_all slots s n once wrote =
+    omega (arith, one_of_all slots s n, all_at_most slots n (slot_marks (held_at slots s) n) each)
+  where
+    each : (t : ℕ) → slot_marks (held_at slots t) n ≤ slot_marks (held_at slots s) n
+    each t = elim (cases_Bool (is_among n (written_of slots t))) [
+      | inl too ↦ omega (arith, ap (λ (k : ℕ). slot_marks (held_at slots k) n) (once s t n wrote too))
+      | inr other ↦ omega (arith, absent_slot (held_at slots t) n other)
+    ]
 
 pub set_most : (slots : Slots) (s : ℕ) (o : Option Held) (n k : ℕ) → slot_marks o n ≤ k → marks_in slots n ≤ k → marks_in (set slots s o) n ≤ k
 set_most [] s o n k new old = omega arith

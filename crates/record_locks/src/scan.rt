@@ -37,7 +37,7 @@ pub(crate) fn weigh_pending(slots: &[Option<OpenSession>], unit: u32) -> u32
 }
 
 /// The mark of a name in a slot.
-fn mark_in_slot(slot: &Option<OpenSession>, name: Name) -> u64
+pub(crate) fn mark_in_slot(slot: &Option<OpenSession>, name: Name) -> u64
     requires { IsSized slot.now }
     ensures mark { result ≡ slot_marks slot.now name.0 }
     ensures fits { result ≤ 2 ^ 32 }

@@ -1,15 +1,15 @@
 //! The open sessions of a store.
-ghost use Rattle.std.specs.Prelude.{◌≡◌, ◌≤◌, ◌<◌, ◌^◌, ◌-◌, ℕ, None, map, length, All, Contains, IfOk, OnOk, OnErr, replicate};
+ghost use Rattle.std.specs.Prelude.{◌≡◌, ◌≤◌, ◌<◌, ◌^◌, ◌-◌, ℕ, true, None, map, length, All, Contains, IfOk, OnOk, OnErr, replicate};
 ghost use Rattle.std.specs.Result.{result_err};
 ghost use Rattle.ipl_base.specs.declared.limits.TheConstants.{PENDING_WEIGHT, SESSIONS};
 ghost use Rattle.ipl_rules.specs.Marks.{weights};
-ghost use Rattle.record_locks.specs.Held.{marks_in, number_of, written_of, shared_of, after_begin, after_share, after_write, after_end, after_batch};
+ghost use Rattle.record_locks.specs.Held.{is_among, marks_in, number_of, written_of, shared_of, after_begin, after_share, after_write, after_end, after_batch};
 ghost use Rattle.record_locks.specs.Standing.{state_of};
 ghost use Rattle.record_locks.specs.Locks.{refuses_begin, refuses_share, refuses_write, refuses_end, refuses_batch, holder_of, IsSized, OneWriter, FewPending};
 
 mod refusals;
 
-use crate::scan::{fill, find_holder, mark_of, weigh_pending};
+use crate::scan::{fill, find_holder, mark_in_slot, mark_of, weigh_pending};
 use crate::session::{OpenSession, share_in, write_in};
 use ipl_base::{Name, OutOfMemory, Refusal, SESSIONS};
 use std::alloc::Global;
@@ -153,6 +153,16 @@ impl Sessions {
         ensures { result ≡ marks_in self.now name.0 - 1 }
     {
         self.mark(name).saturating_sub(1) as u32
+    }
+
+    /// The greatest size of the writes of a session on a name that it wrote. No other session wrote the
+    /// name, so it is the greatest of all, and this session alone is asked.
+    pub fn size_by(&self, s: u32, name: Name) -> u32
+        requires session { s < SESSIONS }
+        requires wrote { is_among name.0 (written_of self.now s) ≡ true }
+        ensures { result ≡ marks_in self.now name.0 - 1 }
+    {
+        mark_in_slot(&self.slots[s as usize], name).saturating_sub(1) as u32
     }
 
     /// What always holds: there are 32 slots, no name is written by two sessions, each that is written

@@ -2,6 +2,6 @@ use Rattle.std.proofs.Common.{map, take}
 use Rattle.frame_changes.proofs.WrittenLemmas.{AreNoted}
 use Rattle.frame_changes.proofs.written.note_names.Given as goal
 
--- so far the names before this one are noted
+-- so far the session is noted for the names before this one
 abbrev pub invariant-loop-name : goal.invariant-loop-name
-invariant-loop-name l = AreNoted l.initial.written (map (λ n. n.0) (take l.name-index l.names)) l.first l.written
+invariant-loop-name l = AreNoted l.s (map (λ n. n.0) (take l.name-index l.names)) l.first l.initial.writers l.writers

@@ -1,8 +1,11 @@
 use Rattle.std.proofs.Common.{arith}
-use Rattle.frame_changes.proofs.WrittenLemmas.{noted_done}
+use Rattle.frame_changes.proofs.WrittenLemmas.{writers_first, writers_done}
 use Rattle.frame_changes.proofs.written.written_slots.Goals as goal
 
-pub returns : goal.returns
-returns c =
-    noted_done c.args.sessions.now c.args.first c.loop-s.s c.loop-s.written c.facts.ensures.all
+pub loop-s-init : goal.loop-s-init
+loop-s-init c = writers_first c.args.sessions.now c.args.first
+
+pub returns-clause-none : goal.returns-clause-none
+returns-clause-none c =
+    writers_done c.args.sessions.now c.args.first c.loop-s.s c.loop-s.writers c.facts.ensures.all
     (omega (arith, c.loop-s-test.false)) c.loop-s.invariant

@@ -1,0 +1,23 @@
+use Rattle.std.proofs.Common.{◌≡◌, ◌<◌, Option, length, ◌∙◌, ap, subst, sym, arith}
+use Rattle.record_locks.specs.Held.{Held, Slots, held_at, slot_marks}
+use Rattle.record_locks.specs.Locks.{AreSoundSlots}
+use Rattle.record_locks.proofs.TotalLemmas.{one_writer}
+use Rattle.record_locks.proofs.MarkLemmas.{one_is_all}
+use Rattle.record_locks.proofs.CallLemmas.{slot_held}
+use Rattle.record_locks.proofs.sessions.Sessions.size_by.Goals as goal
+
+pub returns : goal.returns
+returns c =
+    let slots = c.self.inside.slots.items in
+    let within : c.args.s < length slots = omega arith in
+    let held : held_at c.args.self.now c.args.s ≡ c.index.result.now =
+    ap (λ (v : Slots). held_at v c.args.s) (sym c.self.view_is)
+    ∙ slot_held slots c.args.s c.index.result.now within c.index.ensures in
+    let once = one_writer c.args.self.now (subst AreSoundSlots c.self.view_is c.self.invariant) in
+    omega (
+      arith,
+      c.saturating_sub.ensures,
+      c.mark_in_slot.ensures.mark,
+      ap (λ (o : Option Held). slot_marks o c.args.name.0) held,
+      one_is_all c.args.self.now c.args.s c.args.name.0 once c.requires.wrote,
+    )
