@@ -18,8 +18,8 @@ use Rattle.frame_changes.specs.Changes.{MayPut}
 use Rattle.page_writing.specs.Spending.{ErasesAndLogs, WritingCosts}
 use Rattle.page_writing.proofs.SpendLemmas.{no_kind}
 use Rattle.page_frames.specs.declared.pages.Pages.{Pages}
-use Rattle.page_frames.specs.Pages.{tables_in, frames_in, IsFramed, HasFreeFrame}
-use Rattle.page_frames.specs.Asks.{AsksToWriteOut, AsksToBring, AsksToPrepare}
+use Rattle.page_frames.specs.Pages.{tables_in, frames_in, IsFramed}
+use Rattle.page_frames.specs.Asks.{AsksToWriteOut, AsksToFetch, AsksToBring, AsksToPrepare}
 use Rattle.page_frames.proofs.SpendLemmas.{nothing_spent, logs_of_reads}
 
 -- nothing is within one program
@@ -74,14 +74,12 @@ used_asks u page old p t uses = record {
 
 -- it is in none
 pub brought_asks : (u page : ℕ) (worn_out : Bool) (old new : Pages) (before after : Told)
-    → ¬ IsFramed old u page
-    → (HasFreeFrame old → Spends (Costs 0 0 0 []) before after)
-    → Spends (ErasesAndLogs old.parts.directory new.parts.directory worn_out) before after
+    → ¬ IsFramed old u page → AsksToFetch worn_out old new before after
     → AsksToBring u page worn_out old new before after
-brought_asks u page worn_out old new before after absent reads costs = record {
+brought_asks u page worn_out old new before after absent asks = record {
   idle = λ there. absurd (absent there);
-  free = reads;
-  costs = costs;
+  free = asks.free;
+  costs = asks.costs;
 }
 
 -- ---- a record
@@ -113,12 +111,11 @@ framed_asks u r result old used new before after same full there asks = record {
 
 -- its page is in none
 pub fetched_asks : (u : ℕ) (r : Record) (worn_out : Bool) (old new : Pages) (before after : Told)
-    → ¬ IsFramed old u r.page → (HasFreeFrame old → Spends (Costs 0 0 0 []) before after)
-    → Spends (ErasesAndLogs old.parts.directory new.parts.directory worn_out) before after
+    → ¬ IsFramed old u r.page → AsksToFetch worn_out old new before after
     → AsksToPrepare u r worn_out old new before after
-fetched_asks u r worn_out old new before after absent reads costs = record {
+fetched_asks u r worn_out old new before after absent asks = record {
   idle = λ may. absurd (absent (subst IsSome (sym may.there) refl));
-  free = λ none. reads;
+  free = λ none. asks.free;
   home = λ framed has. absurd (absent framed);
-  costs = costs;
+  costs = asks.costs;
 }

@@ -1,27 +1,22 @@
 -- A page that is in no frame is loaded into the one that it was given.
-use Rattle.std.proofs.Common.{◌≡◌, ℕ, None, Result, Ok, refl, sym, ◌∙◌, subst}
+use Rattle.std.proofs.Common.{◌≡◌, ℕ, None, Result, Ok, sym, subst}
 use Rattle.chip_trait.specs.Told.{Told}
 use Rattle.ipl_base.specs.declared.fault.ChipFault.{ChipFault}
 use Rattle.buffer_pool.specs.Pools.{PoolView, AreOnce}
 use Rattle.frame_changes.specs.Views.{frames_of}
 use Rattle.page_frames.specs.declared.pages.Pages.{Pages}
-use Rattle.page_frames.specs.Complete.{Completes}
-use Rattle.page_frames.specs.Faulty.{TellsFaults}
 use Rattle.page_frames.specs.Filling.{with_pool, Fills}
 use Rattle.page_frames.specs.Frames.{Gives, MayGive, Victim}
 use Rattle.page_frames.specs.Pages.{frames_in, IsReady, Upholds}
-use Rattle.page_frames.proofs.CompleteLemmas.{completes_then}
+use Rattle.page_frames.specs.Works.{WorksOn}
 use Rattle.page_frames.proofs.GiveLemmas.{gives_none, gives_upholds}
-use Rattle.page_frames.proofs.TellLemmas.{tells_then}
-use Rattle.page_frames.proofs.UpholdLemmas.{upholds_then}
+use Rattle.page_frames.proofs.WorkLemmas.{works_then}
 
 -- what filling leaves, from before the page was given its frame and from before a frame was emptied
 pub record IsFetched (u page : ℕ) (old between : Pages) (before late : Told)
     (result : Result (Unit {0}) ChipFault) (new : Pages) (after : Told) : Type 0 where
   pub fills : Fills u page between late result new after
-  pub upholds : Upholds 14 old before result new after
-  pub complete : Completes old result before
-  pub faults : TellsFaults old result before new
+  pub works : WorksOn 14 old before result new after
 
 pub fetched : (victim : Victim) (u page : ℕ) (old mid new : Pages) (between : PoolView)
     (result : Result (Unit {0}) ChipFault) (before late after : Told)
@@ -32,16 +27,10 @@ pub fetched : (victim : Victim) (u page : ℕ) (old mid new : Pages) (between : 
     → IsFetched u page old (with_pool mid between) before late result new after
 fetched victim u page old mid new between result before late after did once may gives none fill =
     let made = with_pool mid between in
-    let sized = did.accounts.counts.places in
-    let ready = subst (λ (n : ℕ). IsReady n mid) (sym sized) did.ready in
+    let ready = subst (λ (n : ℕ). IsReady n mid) (sym did.accounts.counts.places) did.ready in
     let given = gives_upholds victim mid between late once ready may gives in
     let fills = fill given.ready (gives_none victim mid.pool between u page gives none) in record {
       fills = fills;
-      upholds = upholds_then 14 0 old mid new result before late after did
-          (upholds_then 0 0 mid made new result late late after given fills.upholds);
-      complete = completes_then old mid result before late sized did.keeps
-          (completes_then mid made result late late refl given.keeps fills.complete);
-      faults = tells_then old mid new result before late sized
-          (fills.upholds.active ∙ given.active) did.keeps
-          (tells_then mid made new result late late refl fills.upholds.active given.keeps fills.faults);
+      works = works_then 14 0 old mid new result before late after did
+          (works_then 0 0 mid made new result late late after given fills.works);
     }

@@ -9,7 +9,6 @@ pub mod TableLemmas
 pub mod OutLemmas
 pub mod LeaveLemmas
 pub mod GiveLemmas
-pub mod FetchLemmas
 pub mod LoadLemmas
 pub mod BringLemmas
 pub mod ChangedLemmas
@@ -21,3 +20,5 @@ pub mod CompleteLemmas
 pub mod SlotMapLemmas
 pub mod FaultyLemmas
 pub mod TellLemmas
+pub mod WorkLemmas
+pub mod FetchLemmas

@@ -3,6 +3,7 @@ use Rattle.std.proofs.Common.{◌≡◌, ◌<◌, ◌++◌, ℕ, List, [], lengt
 use Rattle.std.specs.Option.{option_map_or}
 use Rattle.std.specs.Prelude.{Bool, is_ok}
 use Rattle.std.proofs.lemmas.List.{append-nil}
+use Rattle.std.proofs.lemmas.Result.{IfErr-weaker}
 use Rattle.chip_trait.specs.Told.{Told}
 use Rattle.ipl_base.specs.declared.fault.ChipFault.{ChipFault}
 use Rattle.ipl_base.specs.declared.fault.ChipFault.TheVariants.{ReadFault, Stopped, Damaged, Malformed, WornOut}
@@ -14,7 +15,7 @@ use Rattle.ipl_meaning.specs.Tables.{Places, Tables}
 use Rattle.ipl_meaning.specs.Values.{counts_for}
 use Rattle.number_set.specs.Numbers.{among}
 use Rattle.page_ops.specs.Frames.{FrameView, values_in, pending_in}
-use Rattle.page_rebuild.specs.Loaded.{IsLoaded, IsLoadCause}
+use Rattle.page_rebuild.specs.Loaded.{IsLoaded, IsLoadCause, IsLoadRead}
 use Rattle.store_laws.specs.Frames.{Frame, Frames, logs_of, with_frame_at, IsFrameOf, pending_of}
 use Rattle.place_taking.specs.Spending.{is_worn_out, tells_worn}
 use Rattle.place_taking.specs.Wear.{TellsOfWear}
@@ -27,6 +28,7 @@ use Rattle.store_laws.specs.Views.{frame_of}
 use Rattle.store_laws.proofs.KeeperLemmas.{loads_anywhere_keep_states, reads_anywhere_keep_states}
 use Rattle.unit_io.specs.Reads.{OfContents}
 use Rattle.unit_io.specs.ReadsAt.{Anywhere, ReadsAt}
+use Rattle.unit_io.proofs.ReadsAtLemmas.{at_wider}
 use Rattle.frame_changes.proofs.FrameLemmas.{put_again, put_same}
 use Rattle.unit_io.specs.Accounts.{Accounts}
 use Rattle.merge_laws.specs.Known.{KnowsPlaces}
@@ -35,10 +37,11 @@ use Rattle.buffer_pool.proofs.HoldingLemmas.{rest_stays}
 use Rattle.store_laws.proofs.MemoryLemmas.{cases_page}
 use Rattle.store_laws.proofs.SameLemmas.{frame_other}
 use Rattle.page_frames.specs.declared.pages.Pages.{Pages}
+use Rattle.page_frames.specs.Asks.{AsksToLoad}
 use Rattle.page_frames.specs.Pages.{tables_in, frames_in, IsReady, Upholds, PageCause}
 
 -- why it isn't loaded
-pub load_cause : (after : Places) (home : ℕ) (spots : List (ℕ × ℕ)) (page : ℕ) → page < 15
+load_cause : (after : Places) (home : ℕ) (spots : List (ℕ × ℕ)) (page : ℕ) → page < 15
     → (fault : ChipFault) (old new : Told) → IsLoadCause home spots page fault old new
     → RenewCause after fault old new
 load_cause after home spots page few ReadFault old new (inl rose) = rose
@@ -53,7 +56,7 @@ load_cause after home spots page few (WornOut n) old new (inl none) = absurd non
 load_cause after home spots page few (WornOut n) old new (inr none) = absurd none
 
 -- too many places were worn for no load
-pub load_unworn : (home : ℕ) (spots : List (ℕ × ℕ)) (page : ℕ) (result : Result (Unit {0}) ChipFault)
+load_unworn : (home : ℕ) (spots : List (ℕ × ℕ)) (page : ℕ) (result : Result (Unit {0}) ChipFault)
     (old new : Told) → IfErr result (λ fault. IsLoadCause home spots page fault old new)
     → is_worn_out result ≡ false
 load_unworn home spots page (Ok v) old new cause = refl
@@ -63,6 +66,23 @@ load_unworn home spots page (Err (Damaged p s stored computed)) old new cause = 
 load_unworn home spots page (Err (Malformed p s)) old new cause = refl
 load_unworn home spots page (Err (WornOut n)) old new (inl none) = absurd none
 load_unworn home spots page (Err (WornOut n)) old new (inr none) = absurd none
+
+-- what a load asks
+pub load_asks : (after : Places) (home : ℕ) (spots : List (ℕ × ℕ)) (page : ℕ)
+    (result : Result (Unit {0}) ChipFault) (old new : Told) → page < 15
+    → ReadsAt (IsLoadRead home spots page) old new
+    → IfErr result (λ fault. IsLoadCause home spots page fault old new)
+    → AsksToLoad result after old new
+load_asks after home spots page result old new few reads cause = record {
+  reads = at_wider (IsLoadRead home spots page) Anywhere old new (λ p s is. tt) reads;
+  unworn = load_unworn home spots page result old new cause;
+  accounts = record {
+    counts = reads.counts;
+    cause = IfErr-weaker result (λ fault. IsLoadCause home spots page fault old new)
+        (λ fault. RenewCause after fault old new)
+        (λ fault. load_cause after home spots page few fault old new) cause;
+  };
+}
 
 -- what is loaded is the frame of a page without records in memory
 loaded_frame : (c : Chart) (it : Layout) (frames : Frames) (active : List ℕ) (u page : ℕ)

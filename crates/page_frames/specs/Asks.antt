@@ -5,14 +5,17 @@ use Rattle.chip_trait.specs.Told.{Told}
 use Rattle.ipl_base.specs.declared.fault.ChipFault.{ChipFault}
 use Rattle.ipl_format.specs.Record.{Record}
 use Rattle.ipl_meaning.specs.Tables.{Places}
+use Rattle.unit_io.specs.Accounts.{Accounts}
 use Rattle.unit_io.specs.Costs.{Costs, Spends}
+use Rattle.unit_io.specs.ReadsAt.{Anywhere, ReadsAt}
 use Rattle.place_taking.specs.Spending.{RetiringCosts, RetiresWorn, is_worn_out}
 use Rattle.selective_merge.specs.Spotting.{HasHomeSpot}
 use Rattle.store_laws.specs.Frames.{logs_of}
 use Rattle.frame_changes.specs.Changes.{MayPut}
 use Rattle.page_writing.specs.Spending.{ErasesAndLogs, UsesHome}
 use Rattle.page_frames.specs.declared.pages.Pages.{Pages}
-use Rattle.page_frames.specs.Pages.{tables_in, frames_in, IsFramed, HasFreeFrame, OnlyUses}
+use Rattle.page_frames.specs.Pages.{tables_in, frames_in, IsFramed, HasFreeFrame, OnlyUses, PageCause}
+use Rattle.page_frames.specs.Frames.{Victim}
 use Rattle.page_frames.specs.Changed.{changed_pages, HasHomesFor}
 
 -- A page's records written out: nothing, and all stays as it is, where it has none in memory; where
@@ -27,6 +30,27 @@ pub record AsksToWriteOut (u page : ℕ) (result : Result (Unit {0}) ChipFault) 
       × UsesHome result old.parts.directory new.parts.directory u
   pub costs : Spends
       (ErasesAndLogs old.parts.directory new.parts.directory (is_worn_out result)) before after
+
+-- A page loaded into its frame: reads alone, and no place is found worn. Failed, this is its cause.
+pub record AsksToLoad {T : Type 0} (result : Result T ChipFault) (directory : Places) (before after : Told)
+    : Type 0 where
+  pub reads : ReadsAt Anywhere before after
+  pub unworn : is_worn_out result ≡ false
+  pub accounts : Accounts (PageCause directory) result before after
+
+-- A frame made free of records for another page: nothing, and all stays as it is, where a frame is free;
+-- and what writing one page out may cost in any case.
+pub record AsksToEmpty (victim : Victim) (result : Result (Unit {0}) ChipFault) (old new : Pages)
+    (before after : Told) : Type 0 where
+  pub idle : victim ≡ None → IsOk result × (new ≡ old) × (after ≡ before)
+  pub costs : Spends
+      (ErasesAndLogs old.parts.directory new.parts.directory (is_worn_out result)) before after
+
+-- A page brought into a frame that is in none: reads alone where a frame is free; and what writing one page
+-- out may cost in any case.
+pub record AsksToFetch (worn_out : Bool) (old new : Pages) (before after : Told) : Type 0 where
+  pub free : HasFreeFrame old → Spends (Costs 0 0 0 []) before after
+  pub costs : Spends (ErasesAndLogs old.parts.directory new.parts.directory worn_out) before after
 
 -- A page brought into a frame: nothing where it is in one, but that a use is counted; reads alone where
 -- a frame is free; and what writing one page out may cost in any case.

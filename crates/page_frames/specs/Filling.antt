@@ -5,9 +5,9 @@ use Rattle.ipl_base.specs.declared.fault.ChipFault.{ChipFault}
 use Rattle.buffer_pool.specs.Pools.{PoolView}
 use Rattle.buffer_pool.specs.Uses.{CountsNoOther, IsUsedLast}
 use Rattle.page_frames.specs.declared.pages.Pages.{Pages}
-use Rattle.page_frames.specs.Pages.{tables_in, frames_in, Upholds, BringsPage}
-use Rattle.page_frames.specs.Complete.{Completes}
-use Rattle.page_frames.specs.Faulty.{FailsAsPage, TellsFaults}
+use Rattle.page_frames.specs.Pages.{tables_in, frames_in, BringsPage}
+use Rattle.page_frames.specs.Faulty.{FailsAsPage}
+use Rattle.page_frames.specs.Works.{WorksOn}
 
 -- the tables with another pool
 abbrev pub with_pool : Pages → PoolView → Pages
@@ -17,9 +17,7 @@ with_pool pages pool = record { parts = pages.parts; pool = pool }
 -- failed in none.
 pub record Fills {T : Type 0} (u page : ℕ) (old : Pages) (before : Told) (result : Result T ChipFault)
     (new : Pages) (after : Told) : Type 0 where
-  pub upholds : Upholds 0 old before result new after
-  pub complete : Completes old result before
-  pub faults : TellsFaults old result before new
+  pub works : WorksOn 0 old before result new after
   pub exact : FailsAsPage (tables_in old) u page result before
   pub brings : BringsPage result u page (frames_in old) (frames_in new)
   pub others : CountsNoOther u page old.pool new.pool

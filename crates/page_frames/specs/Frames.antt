@@ -6,7 +6,7 @@ use Rattle.page_ops.specs.Frames.{empty_frame}
 use Rattle.buffer_pool.specs.declared.pool.Buffer.{Buffer}
 use Rattle.buffer_pool.specs.Pools.{PoolView}
 use Rattle.buffer_pool.specs.Holding.{KeepsPins}
-use Rattle.buffer_pool.specs.Uses.{CountsNoOther, CountsNoUse, IsUsedFirst, IsUsedLast}
+use Rattle.buffer_pool.specs.Uses.{used_of, CountsNoOther, CountsNoUse, IsUsedFirst, IsUsedLast}
 use Rattle.store_laws.specs.Frames.{logs_of, with_frame_at}
 use Rattle.store_laws.specs.Views.{frame_of}
 use Rattle.frame_changes.specs.Views.{frames_of}
@@ -35,6 +35,19 @@ pub record TakesFrame (old new : PoolView) (u page : ℕ) : Type 0 where
   pub others : CountsNoOther u page old new
   pub last : IsUsedLast new u page
   pub pins : KeepsPins old new
+
+-- ---- what stays
+
+-- the page is in its frame with no hold still, the same pages are held, and each was used when it was
+pub record KeepsUnheld (u page : ℕ) (old new : PoolView) : Type 0 where
+  pub unheld : IsUnheld new u page
+  pub pins : KeepsPins old new
+  pub uses : used_of new ≡ used_of old
+
+-- the same pages are in frames, and each was used when it was
+pub record KeepsOrder (old new : PoolView) : Type 0 where
+  pub order : new.order ≡ old.order
+  pub uses : used_of new ≡ used_of old
 
 -- ---- a frame for a page
 

@@ -39,6 +39,11 @@ frames_in pages = frames_of pages.pool
 abbrev pub IsFramed : Pages → ℕ → ℕ → Type 0
 IsFramed pages u page = IsSome (frames_in pages u page)
 
+-- a page of one of the chip's units
+pub record IsPageOf (pages : Pages) (u page : ℕ) : Type 0 where
+  pub unit : u < length pages.parts.directory.current
+  pub few : page < 15
+
 -- pages that are in frames stay in them
 abbrev pub KeepsFramed : Pages → Pages → Type 0
 KeepsFramed old new = (u page : ℕ) → IsFramed old u page → IsFramed new u page

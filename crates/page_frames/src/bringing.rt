@@ -1,37 +1,31 @@
 //! A page is brought into a frame.
-ghost use Rattle.std.specs.Prelude.{◌≡◌, ◌<◌, ◌≤◌, ◌+◌, ◌^◌, ◌⊎◌, [], ℕ, length, false, None, IsOk, OnOk};
-ghost use Rattle.unit_io.specs.Accounts.{Accounts};
+ghost use Rattle.std.specs.Prelude.{◌≡◌, ◌<◌, ◌≤◌, ◌+◌, ◌^◌, ◌⊎◌, [], ℕ, false, None, OnOk};
 ghost use Rattle.unit_io.specs.Costs.{Costs, Spends};
-ghost use Rattle.unit_io.specs.ReadsAt.{Anywhere, ReadsAt};
 ghost use Rattle.place_taking.specs.Spending.{is_worn_out};
 ghost use Rattle.merge_laws.specs.Known.{Suits};
 ghost use Rattle.buffer_pool.specs.Pools.{PoolView};
-ghost use Rattle.buffer_pool.specs.Holding.{IsAtRest, KeepsPins};
-ghost use Rattle.buffer_pool.specs.Uses.{used_of, IsUsedLast};
+ghost use Rattle.buffer_pool.specs.Holding.{IsAtRest};
+ghost use Rattle.buffer_pool.specs.Uses.{used_of};
 ghost use Rattle.store_laws.specs.Frames.{logs_of};
 ghost use Rattle.log_records.specs.View.{record_of};
-ghost use Rattle.page_writing.specs.Spending.{ErasesAndLogs};
-ghost use Rattle.frame_changes.specs.Changes.{MayPut};
 ghost use Rattle.frame_changes.specs.Views.{frames_of};
-ghost use Rattle.page_frames.specs.Asks.{AsksToBring, AsksToPrepare};
-ghost use Rattle.page_frames.specs.Frames.{IsVictimFor, IsUnheld, MayGive, TakesFrame};
-ghost use Rattle.page_frames.specs.Complete.{Completes, CompletesLoad};
-ghost use Rattle.page_frames.specs.Faulty.{FailsAsPage, TellsFaults};
+ghost use Rattle.page_frames.specs.Asks.{AsksToBring, AsksToEmpty, AsksToFetch, AsksToLoad, AsksToPrepare};
+ghost use Rattle.page_frames.specs.Frames.{IsVictimFor, IsUnheld, KeepsUnheld, MayGive, TakesFrame};
+ghost use Rattle.page_frames.specs.Complete.{CompletesLoad};
+ghost use Rattle.page_frames.specs.Faulty.{FailsAsPage};
 ghost use Rattle.page_frames.specs.Filling.{Fills, with_pool};
 ghost use Rattle.page_frames.specs.Pages.{
   tables_in,
   frames_in,
   IsFramed,
-  IsCleanFrame,
+  IsPageOf,
   HasFreeFrame,
   KeepsFramed,
   KeepsFramedFor,
-  KeepsValues,
   IsReady,
-  Upholds,
   LoadsFrame,
-  PageCause,
 };
+ghost use Rattle.page_frames.specs.Works.{ComesFresh, ComesToFrame, PreparesPage, WorksOn};
 
 use crate::Pages;
 use crate::frames::{free_frame, give_frame, is_framed, short, use_page};
@@ -66,19 +60,13 @@ impl Pages {
         requires ready { IsReady (C.told chip.old).places self.old }
         requires chosen { IsVictimFor self.old.pool victim }
         requires left { self.old.parts.counter + 14 < 2 ^ 64 }
-        ensures upholds { Upholds 14 self.old (C.told chip.old) result self.new (C.told chip.new) }
-        ensures complete { Completes self.old result (C.told chip.old) }
-        ensures faults { TellsFaults self.old result (C.told chip.old) self.new }
+        ensures works { WorksOn 14 self.old (C.told chip.old) result self.new (C.told chip.new) }
         ensures may { OnOk result (MayGive self.new.pool victim) }
         ensures absent { (u q : ℕ) → frames_in self.old u q ≡ None → frames_in self.new u q ≡ None }
         ensures framed { KeepsFramed self.old self.new }
         ensures uses { used_of self.new.pool ≡ used_of self.old.pool }
-        ensures idle { victim ≡ None
-            → IsOk result × (self.new ≡ self.old) × (C.told chip.new ≡ C.told chip.old) }
         ensures status { self.new.parts.status ≡ self.old.parts.status }
-        ensures costs { Spends (ErasesAndLogs self.old.parts.directory
-            self.new.parts.directory (is_worn_out result))
-            (C.told chip.old) (C.told chip.new) }
+        ensures asks { AsksToEmpty victim result self.old self.new (C.told chip.old) (C.told chip.new) }
     {
         let Some((unit, page)) = victim else {
             return Ok(());
@@ -92,8 +80,7 @@ impl Pages {
     /// Loads a page into its frame, where it has no records in memory.
     fn load_frame<C: Chip>(&mut self, chip: &mut C, unit: u32, page: u32) -> Result<(), ChipFault>
         requires suits { Suits (C.told chip.old).places (tables_in self.old) }
-        requires unit { unit < length self.old.parts.directory.current }
-        requires page { page < 15 }
+        requires page { IsPageOf self.old unit page }
         requires unheld { IsUnheld self.old.pool unit page }
         requires empty { logs_of (frames_in self.old) unit page ≡ [] }
         ensures loads { LoadsFrame result (C.told chip.old) (tables_in self.old) unit page
@@ -102,13 +89,8 @@ impl Pages {
             (C.told chip.old) }
         ensures exact { FailsAsPage (tables_in self.old) unit page result (C.told chip.old) }
         ensures tables { tables_in self.new ≡ tables_in self.old }
-        ensures unheld { IsUnheld self.new.pool unit page }
-        ensures pins { KeepsPins self.old.pool self.new.pool }
-        ensures uses { used_of self.new.pool ≡ used_of self.old.pool }
-        ensures reads { ReadsAt Anywhere (C.told chip.old) (C.told chip.new) }
-        ensures unworn { is_worn_out result ≡ false }
-        ensures accounts { Accounts (PageCause self.new.parts.directory) result
-            (C.told chip.old) (C.told chip.new) }
+        ensures pool { KeepsUnheld unit page self.old.pool self.new.pool }
+        ensures asks { AsksToLoad result self.new.parts.directory (C.told chip.old) (C.told chip.new) }
     {
         self.pool.facts();
         let Some(key) = self.pool.find(unit, page) else {
@@ -131,8 +113,7 @@ impl Pages {
     /// Loads a page into the frame that it was given. Where it fails, that is free again.
     fn fill<C: Chip>(&mut self, chip: &mut C, unit: u32, page: u32) -> Result<(), ChipFault>
         requires suits { Suits (C.told chip.old).places (tables_in self.old) }
-        requires unit { unit < length self.old.parts.directory.current }
-        requires page { page < 15 }
+        requires page { IsPageOf self.old unit page }
         requires unheld { IsUnheld self.old.pool unit page }
         requires empty { logs_of (frames_in self.old) unit page ≡ [] }
         ensures fills { (pool : PoolView) → IsReady (C.told chip.old).places (with_pool self.old pool)
@@ -156,23 +137,16 @@ impl Pages {
     /// Loads a page that is in no frame, for which another page may have to leave its frame.
     fn fetch<C: Chip>(&mut self, chip: &mut C, unit: u32, page: u32) -> Result<(), ChipFault>
         requires ready { IsReady (C.told chip.old).places self.old }
-        requires unit { unit < length self.old.parts.directory.current }
-        requires page { page < 15 }
+        requires page { IsPageOf self.old unit page }
         requires absent { frames_in self.old unit page ≡ None }
         requires left { self.old.parts.counter + 14 < 2 ^ 64 }
-        ensures upholds { Upholds 14 self.old (C.told chip.old) result self.new (C.told chip.new) }
-        ensures complete { Completes self.old result (C.told chip.old) }
-        ensures faults { TellsFaults self.old result (C.told chip.old) self.new }
+        ensures works { WorksOn 14 self.old (C.told chip.old) result self.new (C.told chip.new) }
         ensures exact { HasFreeFrame self.old
             → FailsAsPage (tables_in self.old) unit page result (C.told chip.old) }
-        ensures fresh { OnOk result (IsCleanFrame self.new unit page) }
-        ensures used { OnOk result (IsUsedLast self.new.pool unit page) }
+        ensures comes { ComesFresh unit page result self.new }
         ensures framed { KeepsFramedFor unit page self.old self.new }
-        ensures idle { HasFreeFrame self.old
-            → Spends (Costs 0 0 0 []) (C.told chip.old) (C.told chip.new) }
         ensures status { self.new.parts.status ≡ self.old.parts.status }
-        ensures costs { Spends (ErasesAndLogs self.old.parts.directory
-            self.new.parts.directory (is_worn_out result))
+        ensures asks { AsksToFetch (is_worn_out result) self.old self.new
             (C.told chip.old) (C.told chip.new) }
     {
         let victim = self.choose_victim();
@@ -186,18 +160,12 @@ impl Pages {
     /// It is the page used last then, and has no records in memory where it was in no frame.
     pub fn bring<C: Chip>(&mut self, chip: &mut C, unit: u32, page: u32) -> Result<(), ChipFault>
         requires ready { IsReady (C.told chip.old).places self.old }
-        requires unit { unit < length self.old.parts.directory.current }
-        requires page { page < 15 }
+        requires page { IsPageOf self.old unit page }
         requires left { self.old.parts.counter + 14 < 2 ^ 64 }
-        ensures upholds { Upholds 14 self.old (C.told chip.old) result self.new (C.told chip.new) }
-        ensures complete { Completes self.old result (C.told chip.old) }
-        ensures faults { TellsFaults self.old result (C.told chip.old) self.new }
+        ensures works { WorksOn 14 self.old (C.told chip.old) result self.new (C.told chip.new) }
         ensures exact { (IsFramed self.old unit page ⊎ HasFreeFrame self.old)
             → FailsAsPage (tables_in self.old) unit page result (C.told chip.old) }
-        ensures there { OnOk result (IsFramed self.new unit page) }
-        ensures fresh { frames_in self.old unit page ≡ None
-            → OnOk result (IsCleanFrame self.new unit page) }
-        ensures used { OnOk result (IsUsedLast self.new.pool unit page) }
+        ensures comes { ComesToFrame unit page result self.old self.new }
         ensures framed { KeepsFramedFor unit page self.old self.new }
         ensures status { self.new.parts.status ≡ self.old.parts.status }
         ensures asks { AsksToBring unit page (is_worn_out result) self.old self.new
@@ -220,17 +188,12 @@ impl Pages {
         logged: &Record,
     ) -> Result<(), ChipFault>
         requires ready { IsReady (C.told chip.old).places self.old }
-        requires unit { unit < length self.old.parts.directory.current }
-        requires page { logged.now.page < 15 }
+        requires page { IsPageOf self.old unit logged.now.page }
         requires left { self.old.parts.counter + 14 < 2 ^ 64 }
-        ensures upholds { Upholds 14 self.old (C.told chip.old) result self.new (C.told chip.new) }
-        ensures complete { Completes self.old result (C.told chip.old) }
-        ensures faults { TellsFaults self.old result (C.told chip.old) self.new }
+        ensures works { WorksOn 14 self.old (C.told chip.old) result self.new (C.told chip.new) }
         ensures exact { frames_in self.old unit logged.now.page ≡ None → HasFreeFrame self.old
             → FailsAsPage (tables_in self.old) unit logged.now.page result (C.told chip.old) }
-        ensures room { OnOk result (MayPut (frames_in self.new) unit (record_of logged.now)) }
-        ensures values { OnOk result (KeepsValues unit logged.now.page self.old self.new) }
-        ensures used { OnOk result (IsUsedLast self.new.pool unit logged.now.page) }
+        ensures prepares { PreparesPage unit (record_of logged.now) result self.old self.new }
         ensures framed { KeepsFramedFor unit logged.now.page self.old self.new }
         ensures status { self.new.parts.status ≡ self.old.parts.status }
         ensures asks { AsksToPrepare unit (record_of logged.now) (is_worn_out result) self.old self.new

@@ -5,10 +5,9 @@ ghost use Rattle.place_taking.specs.Spending.{is_worn_out};
 ghost use Rattle.record_locks.specs.Held.{written_by};
 ghost use Rattle.store_laws.specs.Numbers.{IsOut};
 ghost use Rattle.page_frames.specs.Asks.{AsksToWriteNamesOut};
-ghost use Rattle.page_frames.specs.Complete.{Completes};
-ghost use Rattle.page_frames.specs.Faulty.{TellsFaults};
-ghost use Rattle.page_frames.specs.Pages.{frames_in, KeepsFramed, IsReady, Upholds};
+ghost use Rattle.page_frames.specs.Pages.{frames_in, KeepsFramed, IsReady};
 ghost use Rattle.page_frames.specs.Changed.{is_home, is_on_page};
+ghost use Rattle.page_frames.specs.Works.{WorksOn};
 
 use crate::Pages;
 use chip_trait::Chip;
@@ -61,10 +60,8 @@ impl Pages {
         requires ready { IsReady (C.told chip.old).places self.old }
         requires low { (s : ℕ) → Contains numbers.now s → s < SESSIONS }
         requires left { self.old.parts.counter + 14 * 64 < 2 ^ 64 }
-        ensures upholds { Upholds (14 * 64) self.old (C.told chip.old)
+        ensures works { WorksOn (14 * 64) self.old (C.told chip.old)
             result self.new (C.told chip.new) }
-        ensures complete { Completes self.old result (C.told chip.old) }
-        ensures faults { TellsFaults self.old result (C.told chip.old) self.new }
         ensures out { OnOk result (All (IsOut (frames_in self.new))
             (written_by sessions.now numbers.now)) }
         ensures framed { KeepsFramed self.old self.new }

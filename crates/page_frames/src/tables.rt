@@ -8,9 +8,8 @@ ghost use Rattle.txn_status.specs.Status.{room_of};
 ghost use Rattle.selective_merge.specs.Merging.{Merges, StaysMirrored, FailsAsMerge};
 ghost use Rattle.selective_merge.specs.Throughout.{ChartsThroughout};
 ghost use Rattle.status_renewal.specs.Passes.{ErasesAtMost};
-ghost use Rattle.page_frames.specs.Complete.{Completes};
-ghost use Rattle.page_frames.specs.Faulty.{TellsFaults};
-ghost use Rattle.page_frames.specs.Pages.{tables_in, KeepsFramed, IsReady, Upholds};
+ghost use Rattle.page_frames.specs.Pages.{tables_in, KeepsFramed, IsReady};
+ghost use Rattle.page_frames.specs.Works.{WorksOn};
 
 use crate::Pages;
 use chip_trait::Chip;
@@ -27,10 +26,8 @@ impl Pages {
     ) -> Result<(), ChipFault>
         requires ready { IsReady (C.told chip.old).places self.old }
         requires left { self.old.parts.counter + 2 ^ 14 < 2 ^ 64 }
-        ensures upholds { Upholds (2 ^ 14) self.old (C.told chip.old)
+        ensures works { WorksOn (2 ^ 14) self.old (C.told chip.old)
             result self.new (C.told chip.new) }
-        ensures complete { Completes self.old result (C.told chip.old) }
-        ensures faults { TellsFaults self.old result (C.told chip.old) self.new }
         ensures room { OnOk result (0 < room_of self.new.parts.status) }
         ensures frames { self.new.pool ≡ self.old.pool }
         ensures framed { KeepsFramed self.old self.new }
@@ -51,9 +48,7 @@ impl Pages {
         requires ready { IsReady (C.told chip.old).places self.old }
         requires unit { unit < length self.old.parts.directory.current }
         requires left { self.old.parts.counter + 13 < 2 ^ 64 }
-        ensures upholds { Upholds 13 self.old (C.told chip.old) result self.new (C.told chip.new) }
-        ensures complete { Completes self.old result (C.told chip.old) }
-        ensures faults { TellsFaults self.old result (C.told chip.old) self.new }
+        ensures works { WorksOn 13 self.old (C.told chip.old) result self.new (C.told chip.new) }
         ensures exact { FailsAsMerge (C.told chip.old).places (tables_in self.old) unit result
             (C.told chip.old) }
         ensures tells { ChartsThroughout

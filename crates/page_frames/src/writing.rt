@@ -1,11 +1,10 @@
 //! The records of a page, written out from its frame.
-ghost use Rattle.std.specs.Prelude.{◌≡◌, ◌<◌, ◌≤◌, ◌+◌, ◌^◌, length};
+ghost use Rattle.std.specs.Prelude.{◌≡◌, ◌<◌, ◌≤◌, ◌+◌, ◌^◌};
 ghost use Rattle.selective_merge.specs.Merging.{FailsAsMerge};
-ghost use Rattle.buffer_pool.specs.Uses.{used_of};
 ghost use Rattle.page_frames.specs.Asks.{AsksToWriteOut};
-ghost use Rattle.page_frames.specs.Complete.{Completes};
-ghost use Rattle.page_frames.specs.Faulty.{TellsFaults};
-ghost use Rattle.page_frames.specs.Pages.{tables_in, frames_in, KeepsFramed, IsReady, Upholds, frames_after};
+ghost use Rattle.page_frames.specs.Frames.{KeepsOrder};
+ghost use Rattle.page_frames.specs.Pages.{tables_in, frames_in, IsPageOf, KeepsFramed, IsReady, frames_after};
+ghost use Rattle.page_frames.specs.Works.{WorksOn};
 
 use crate::Pages;
 use crate::frames::has_records;
@@ -25,18 +24,14 @@ impl Pages {
         page: u32,
     ) -> Result<(), ChipFault>
         requires ready { IsReady (C.told chip.old).places self.old }
-        requires unit { unit < length self.old.parts.directory.current }
-        requires page { page < 15 }
+        requires page { IsPageOf self.old unit page }
         requires left { self.old.parts.counter + 14 < 2 ^ 64 }
-        ensures upholds { Upholds 14 self.old (C.told chip.old) result self.new (C.told chip.new) }
-        ensures complete { Completes self.old result (C.told chip.old) }
-        ensures faults { TellsFaults self.old result (C.told chip.old) self.new }
+        ensures works { WorksOn 14 self.old (C.told chip.old) result self.new (C.told chip.new) }
         ensures exact { FailsAsMerge (C.told chip.old).places (tables_in self.old) unit result
             (C.told chip.old) }
         ensures frames { frames_in self.new ≡ frames_after result (frames_in self.old) unit page }
         ensures framed { KeepsFramed self.old self.new }
-        ensures order { self.new.pool.order ≡ self.old.pool.order }
-        ensures uses { used_of self.new.pool ≡ used_of self.old.pool }
+        ensures pool { KeepsOrder self.old.pool self.new.pool }
         ensures status { self.new.parts.status ≡ self.old.parts.status }
         ensures asks { AsksToWriteOut unit page result self.old self.new
             (C.told chip.old) (C.told chip.new) }

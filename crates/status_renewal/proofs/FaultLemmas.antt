@@ -10,12 +10,12 @@ use Rattle.ipl_base.specs.Calls.{IsFailedCall}
 use Rattle.ipl_base.specs.declared.fault.ChipFault.{ChipFault}
 use Rattle.ipl_base.specs.declared.fault.ChipFault.TheVariants.{Malformed}
 use Rattle.ipl_base.specs.declared.fault.ImageFault.TheVariants.{Chip}
-use Rattle.ipl_meaning.specs.Chart.{chart_of}
+use Rattle.ipl_meaning.specs.Chart.{Chart, chart_of}
 use Rattle.ipl_meaning.specs.Last.{carried_count}
 use Rattle.ipl_meaning.specs.Layout.{Shape, Layout, records_of}
-use Rattle.ipl_meaning.specs.Mirrors.{MirrorsStatus}
+use Rattle.ipl_meaning.specs.Mirrors.{Mirrors, MirrorsStatus}
 use Rattle.ipl_meaning.specs.Tables.{IsFree, Places, Tables, Status}
-use Rattle.merge_laws.specs.Faults.{pages_fault, merge_fault, IsTheFault}
+use Rattle.merge_laws.specs.Faults.{pages_fault, merge_fault, IsTheFault, FailsByChipAlone}
 use Rattle.merge_laws.specs.Known.{KnowsPlaces}
 use Rattle.merge_laws.specs.Merged.{source_of}
 use Rattle.merge_laws.specs.Packs.{among}
@@ -23,12 +23,14 @@ use Rattle.merge_laws.proofs.FaultLemmas.{faults_are_of_the_place, merge_faults_
 use Rattle.opening_laws.specs.Faults.{first_fault}
 use Rattle.opening_laws.specs.LaidOut.{layout_in}
 use Rattle.selective_merge.specs.Merging.{Merges, StaysMirrored, FailsAsMerge}
+use Rattle.selective_merge.specs.Moving.{Holds}
 use Rattle.place_taking.specs.Spending.{SparesUsed}
 use Rattle.place_taking.specs.Takes.{IsNotTaken}
 use Rattle.selective_merge.specs.Throughout.{ChartsThroughout}
 use Rattle.status_renewal.specs.InPlace.{FailsInPlace}
+use Rattle.status_renewal.specs.Leaving.{UnitFails}
 use Rattle.kept_numbers.specs.Joins.{joined}
-use Rattle.status_renewal.specs.Passes.{kept_below, has_room, HasPassed, SparesUnits, IsRenewalFault, FailsAsPass}
+use Rattle.status_renewal.specs.Passes.{kept_below, has_room, HasPassed, SparesUnits, IsRenewalFault, FailsAsPass, AreMergeable}
 use Rattle.status_renewal.specs.Recovers.{IsOpeningFault}
 use Rattle.status_renewal.proofs.CompleteLemmas.{carried_none, not_taken_failed}
 
@@ -183,3 +185,36 @@ opening_fault places x t fault none status sound is =
         page = sym (merge_faults_are_of_the_unit x it t is.unit status few) ∙ is.fault;
       },
     )
+
+-- ---- a unit of a pass
+
+-- where the unit was, and so in any case
+pub unit_fails : (unit : ℕ) (kept : List ℕ) (before after : Tables) (result : Result (Unit {0}) ChipFault)
+    (told : Told)
+    → ((places : ℕ) (x : Contents) (it : Layout) (t : Tables) → told.places ≡ places → Holds places t before
+    → HasPassed places unit (chart_of x) it t kept told before → SparesUnits unit x it told
+    → IfErr result (FailsInPlace x it t after))
+    → ((places : ℕ) (c : Chart) (it : Layout) (t : Tables) → told.places ≡ places → Holds places t before
+    → HasPassed places unit c it t kept told before → AreMergeable c it t → FailsByChipAlone result)
+    → UnitFails unit kept before after result told
+unit_fails unit kept before after result told stays complete = record {
+  fault = λ places x it t same holds was spared.
+      in_place_fails x it t after result (stays places x it t same holds was spared);
+  stays = stays;
+  complete = complete;
+}
+
+-- where it can't be read: a call of the chip failed
+pub reading_fails : (unit : ℕ) (kept : List ℕ) (t : Tables) (fault : ChipFault) (told : Told)
+    → ((x : Contents) (it : Layout) → told.contents ≡ Some x → Mirrors told.places (chart_of x) it t
+    → IsFailedCall fault)
+    → UnitFails unit kept t t (Err fault) told
+reading_fails unit kept t fault told failed =
+    let fails : (places : ℕ) (c : Chart) (it : Layout) (first : Tables) → told.places ≡ places
+    → HasPassed places unit c it first kept told t → IsFailedCall fault =
+    λ places c it first same was. failed was.contents was.now was.told
+    (subst (λ n. Mirrors n (chart_of was.contents) was.now t) (sym same) was.mirrors) in
+    unit_fails unit kept t t (Err fault) told
+    (λ places x it first same holds was spared unfailed.
+    absurd (unfailed (fails places (chart_of x) it first same was)))
+    (λ places c it first same holds was all. fails places c it first same was)

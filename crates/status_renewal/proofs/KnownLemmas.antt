@@ -9,6 +9,8 @@ use Rattle.ipl_meaning.specs.Tables.{IsFree, with_erased, Places, Status, Tables
 use Rattle.merge_laws.specs.Known.{IsNamed, KnowsPlaces}
 use Rattle.merge_laws.proofs.KnownLemmas.{known_places_may_be_aside}
 use Rattle.place_taking.specs.Takes.{IsAsideFrom, with_places}
+use Rattle.place_taking.proofs.HomeLemmas.{homes_same, homes_then}
+use Rattle.selective_merge.specs.Moving.{Holds}
 use Rattle.unit_directory.specs.Free.{aside}
 use Rattle.unit_directory.specs.Laws.{UsesTake, DisusesGiveBack}
 use Rattle.status_renewal.specs.Renewed.{HasTables, with_tables, IsGivenBack}
@@ -174,3 +176,26 @@ known_back places t after new drawn fault (inr (stopped, (mid, p, from, next_fre
     known_same places (with_tables t (with_erased mid p) t.status t.next) after new drawn erased still
     (known_erased places (with_tables t mid t.status t.next) p
     (known_aside places t mid t.status t.next from refl known))
+
+-- ---- what a call leaves of them
+
+-- tables that know each place hold
+pub held_same : (places : ℕ) (t : Tables) → KnowsPlaces places t → Holds places t t
+held_same places t known = record {
+  units = refl;
+  homes = homes_same t.places t.places refl refl;
+  active = refl;
+  status = refl;
+  known = known;
+}
+
+-- what holds after two calls
+pub held_then : (places : ℕ) (t between after : Tables) → Holds places t between
+    → Holds places between after → Holds places t after
+held_then places t between after first second = record {
+  units = second.units ∙ first.units;
+  homes = homes_then t.places between.places after.places first.homes second.homes;
+  active = second.active ∙ first.active;
+  status = second.status ∙ first.status;
+  known = second.known;
+}

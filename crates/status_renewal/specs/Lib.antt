@@ -5,4 +5,5 @@ pub mod Passes
 pub mod Renewals
 pub mod Recovers
 pub mod InPlace
+pub mod Leaving
 pub mod Settling

@@ -1,5 +1,5 @@
 -- What an opening leaves that ends with a new status place.
-use Rattle.std.specs.Prelude.{ℕ, ◌≡◌, ◌≢◌, ◌⊎◌, ◌↔◌, ◌<◌, ◌≤◌, ◌+◌, ◌*◌, ◌||◌, [], Bool, true, false, IsTrue, is_ok, List, length, Contains, Some, None, Result, Ok, Err, MatchResult, IfErr}
+use Rattle.std.specs.Prelude.{ℕ, ◌≡◌, ◌≢◌, ◌⊎◌, ◌↔◌, ◌<◌, ◌≤◌, ◌+◌, ◌*◌, ◌^◌, ◌||◌, [], Bool, true, false, IsTrue, is_ok, List, length, Contains, Some, None, Result, Ok, Err, MatchResult, OnOk, IfErr}
 use Rattle.ipl_base.specs.declared.limits.TheConstants.{KEPT_NUMBERS}
 use Rattle.chip_trait.specs.Story.{Story, Contents}
 use Rattle.chip_trait.specs.Told.{History, Told, Rose}
@@ -20,23 +20,25 @@ use Rattle.ipl_meaning.specs.Tables.{Places, Tables, IsCountedClean}
 use Rattle.merge_laws.specs.Faults.{unit_fault}
 use Rattle.merge_laws.specs.Known.{KnowsPlaces}
 use Rattle.opening_laws.specs.Chosen.{units_at}
-use Rattle.opening_laws.specs.Faults.{first_fault}
+use Rattle.opening_laws.specs.Faults.{first_fault, greatest_found}
 use Rattle.opening_laws.specs.Opened.{IsUnused}
 use Rattle.opening_laws.specs.LaidOut.{layout_in, retired_at}
 use Rattle.place_taking.specs.Homes.{LeavesPlaces}
 use Rattle.place_taking.specs.Spending.{RetiringCosts, tells_worn}
+use Rattle.restart.specs.Bytes.{ReadsBytes}
 use Rattle.restart.specs.Looks.{OnlyReads}
 use Rattle.restart.specs.Opened.{NoneIsClean, CountsMarked}
 use Rattle.selective_merge.specs.Homes.{WearCause}
 use Rattle.selective_merge.specs.Placing.{SaysErases}
 use Rattle.step_laws.specs.Steps.{Settled, EndsWith, Outcome, TidyWork}
 use Rattle.txn_status.specs.Status.{room_of}
+use Rattle.unit_io.specs.Accounts.{Accounts}
 use Rattle.unit_io.specs.Costs.{Spends}
 use Rattle.unit_io.specs.Leads.{IsSteady}
 use Rattle.unit_io.specs.Reads.{OfContents}
 use Rattle.unit_io.specs.Unread.{ReadsEachOnce}
 use Rattle.kept_numbers.specs.Keeps.{IsLoggedBelow}
-use Rattle.status_renewal.specs.Passes.{TellsChart, ListsRetired}
+use Rattle.status_renewal.specs.Passes.{HasErased, TellsChart, ListsRetired}
 use Rattle.status_renewal.specs.Settling.{knows_logs, waits_for, NoneMarked}
 
 -- ---- what the chip holds
@@ -207,3 +209,32 @@ pub record OpeningCause (after : Places) (e : ImageFault) (old new : Told) : Typ
   pub stopped : e ≡ Chip Stopped → Rose old.write_faults new.write_faults
   pub worn : (n : ℕ) → e ≡ Chip (WornOut n) → WearCause after n old new
   pub damaged : (p s stored computed : ℕ) → e ≡ Chip (Damaged p s stored computed) → stored ≢ computed
+
+-- ---- an opening, however it ends
+
+-- Why it fails over what the chip holds: a chip with a fault was only read; where it has none and its pages say a
+-- map, only since a call of the chip failed; and what it read is bytes, also where the numbers are used up.
+pub record OpeningFails (places : ℕ) (result : Result (Unit {0}) ImageFault) (old new : Told) : Type 0 where
+  pub looks : LooksAtFaults places old result new
+  pub complete : CompletesOpening places result old
+  pub bytes : ReadsBytes places old result
+
+-- What it leaves: done, the tables know each place of the chip, and few numbers were drawn after the greatest that
+-- was found, which leaves most of them. What they count as clean is clean after lawful events; and where it
+-- failed, this is its cause.
+pub record LeavesOpened (marks : Bool) (after : Tables) (result : Result (Unit {0}) ImageFault) (old new : Told)
+    : Type 0 where
+  pub holds : OnOk result (HoldsOpened old.places after)
+  pub number : OnOk result (OfContents old (λ x. after.next
+      ≤ greatest_found (chart_of x) old.places + 1 + 2 ^ 14))
+  pub left : OnOk result (after.next ≤ 2 ^ 63 + 2 ^ 14)
+  pub tidy : TidiesOpening marks old.places old result after new
+  pub accounts : Accounts (OpeningCause after.places) result old new
+
+-- What it costs: so many erases and barriers; where the numbers fit, each sector is read at most once; and done,
+-- the place that the status has then was erased.
+pub record OpeningSpends (marks : Bool) (after : Tables) (result : Result (Unit {0}) ImageFault) (old new : Told)
+    : Type 0 where
+  pub costs : ErasesOpening marks old.places result after.places old new
+  pub once : ReadsOnceWhereFit old.places old new
+  pub renewed : OnOk result (Spends (HasErased after.status.place) old new)

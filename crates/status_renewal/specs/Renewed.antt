@@ -1,5 +1,5 @@
 -- What a new status place makes of all tables.
-use Rattle.std.specs.Prelude.{ℕ, ◌≡◌, ◌⊎◌, List, false, Result}
+use Rattle.std.specs.Prelude.{ℕ, ◌≡◌, ◌⊎◌, ◌<◌, ◌≤◌, ◌+◌, List, length, false, Result, is_ok, OnOk, IfErr}
 use Rattle.chip_trait.specs.Told.{History, Told}
 use Rattle.ipl_base.specs.declared.fault.ChipFault.{ChipFault}
 use Rattle.ipl_base.specs.declared.fault.ChipFault.TheVariants.{Stopped}
@@ -10,14 +10,19 @@ use Rattle.ipl_meaning.specs.Layout.{Layout}
 use Rattle.ipl_meaning.specs.Mirrors.{Mirrors}
 use Rattle.ipl_meaning.specs.Rests.{EachStands, StoryRests}
 use Rattle.ipl_meaning.specs.Steps.{KeepsNumbers}
-use Rattle.ipl_meaning.specs.Tables.{Places, Status, Tables, with_use, with_erased}
+use Rattle.ipl_meaning.specs.Tables.{IsFree, Places, Status, Tables, with_use, with_erased}
+use Rattle.merge_laws.specs.Known.{KnowsPlaces}
 use Rattle.number_set.specs.Numbers.{among}
-use Rattle.txn_status.specs.Status.{switched_to}
-use Rattle.step_laws.specs.Steps.{Steps, RestsAgreeing}
+use Rattle.txn_status.specs.Status.{parts_of, room_of, switched_to}
+use Rattle.step_laws.specs.Steps.{Steps, RestsAgreeing, Tidies}
 use Rattle.txn_status.specs.Switching.{MayKeep, Switched, RestsSwitched}
-use Rattle.place_taking.specs.Takes.{IsAsideFrom, IsTakenFrom}
-use Rattle.unit_directory.specs.Free.{IsNextFree}
+use Rattle.place_taking.specs.Spending.{ErasesFor, is_worn_out}
+use Rattle.place_taking.specs.Takes.{IsAsideFrom, IsNotTaken, IsTakenFrom}
+use Rattle.unit_directory.specs.Free.{free_count, IsNextFree, IsReadyToTake}
+use Rattle.unit_io.specs.Accounts.{Accounts}
+use Rattle.unit_io.specs.Costs.{Spends}
 use Rattle.unit_io.specs.Leads.{IsSteady}
+use Rattle.unit_io.specs.Unread.{ReadsNothing}
 
 -- ---- tables
 
@@ -54,6 +59,43 @@ IsGivenBack before fault after = IsAsideFrom before after
 pub record MayRenew (it : Layout) (t : Tables) (kept : List ℕ) : Type 0 where
   pub keeps : KeepsNumbers it (among kept)
   pub may : MayKeep t kept
+
+-- ---- a new status place
+
+-- The status may get another place on a chip of so many: a place may be taken, and the old one is in use.
+pub record MayMoveStatus (places : ℕ) (directory : Places) (status : Status) : Type 0 where
+  pub size : length directory.in_use ≡ places
+  pub ready : IsReadyToTake directory
+  pub held : ¬ IsFree directory status.place
+  pub placed : status.place < places
+
+-- Done, the status has another place, of which at least 191 sectors are known clean; else it is as it was, and the
+-- place that was taken is given back. No place is lost to it, and the numbers that it took were drawn.
+pub record PlacesStatus (before : Places) (old : Status) (next : ℕ) (kept : List ℕ)
+    (result : Result (Unit {0}) ChipFault) (after : Places) (new : Status) (then : ℕ) : Type 0 where
+  pub moved : OnOk result (MovesStatus before old next kept after new)
+  pub same : IfErr result (λ fault. IsGivenBack before fault after × (new ≡ old))
+  pub room : OnOk result (191 ≤ room_of new)
+  pub free : free_count after.in_use + length after.retired ≡ free_count before.in_use + length before.retired
+  pub drawn : OnOk result (then ≡ next + 1 + parts_of kept)
+  pub draws : (next < then) × (then ≤ next + 65)
+
+-- Tables with that directory, status and counter that know each place of the chip know each then, and what they
+-- count as clean is erased and programmed as they say.
+pub record KeepsTables (before : Places) (old : Status) (next : ℕ) (result : Result (Unit {0}) ChipFault)
+    (after : Places) (new : Status) (then : ℕ) (chip told : Told) : Type 0 where
+  pub known : (t : Tables) → HasTables t before old next → KnowsPlaces chip.places t
+      → KnowsPlaces chip.places (with_tables t after new then)
+  pub tidy : (t : Tables) → HasTables t before old next → KnowsPlaces chip.places t
+      → Tidies t result (with_tables t after new then) chip told
+
+-- One erase more is tried than places are retired, each of the next free place in its turn, then programs of the
+-- place that is taken alone, and three barriers; nothing is read. Where it failed, this is its cause.
+pub record WritesStatus (before after : Places) (new : Status) (result : Result (Unit {0}) ChipFault)
+    (chip told : Told) : Type 0 where
+  pub costs : Spends (ErasesFor before after 3 new.place (is_ok result) (is_worn_out result)) chip told
+  pub unread : Spends ReadsNothing chip told
+  pub accounts : Accounts (IsNotTaken after) result chip told
 
 -- ---- what the chip holds
 

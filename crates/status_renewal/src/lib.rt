@@ -9,7 +9,7 @@
 //! committed that were so and that a live record has, and a unit was merged only where its numbers
 //! would have made more than 3,840; the header of the new place says how often it was erased, and lists
 //! exactly the places that are retired. Each place that is found worn is retired, and no other, whatever
-//! the chip tells (`wears`). Not done, and no write failed, all pages show what they showed and the same
+//! the chip tells (`wears` in `spends`). Not done, and no write failed, all pages show what they showed and the same
 //! numbers are committed.
 //! Over what the chip holds it fails with exactly what was wrong with a unit whose numbers don't
 //! fit, which is where it was, or where a call of the chip failed; with that alone where all units'
@@ -21,9 +21,9 @@
 //! map, only a failed call of the chip. Or tables that mirror what the chip holds then, in which all
 //! pages show what they showed; the counter is above every number found, and by how much at most; of
 //! the places that aren't used those are retired that the status header lists, and those that were
-//! found worn (`costs`). Where the numbers that are kept are at most 3,840, each sector is read at most
-//! once (`once`). At each moment of it a power cut leaves the same map, and it is lawful after any
-//! lawful events that leave clean what is marked (`tidy`): of that nothing is written before the header
+//! found worn (`costs` in `spends`). Where the numbers that are kept are at most 3,840, each sector is read at most
+//! once (`once` in `spends`). At each moment of it a power cut leaves the same map, and it is lawful after any
+//! lawful events that leave clean what is marked (`tidy` in `leaves`): of that nothing is written before the header
 //! of the new status place, which ends the marks.
 #![tactic(auto)]
 

@@ -1,5 +1,5 @@
 //! The pass over the units, which finds the numbers that a new status place keeps.
-ghost use Rattle.std.specs.Prelude.{◌≡◌, ◌<◌, ◌≤◌, ◌+◌, ◌*◌, ◌^◌, ℕ, length, Some, true, IfErr, OnOk};
+ghost use Rattle.std.specs.Prelude.{◌≡◌, ◌<◌, ◌+◌, ◌*◌, ◌^◌, ℕ, length, Some, true, OnOk};
 ghost use Rattle.std.specs.Bool.{OnTrue};
 ghost use Rattle.ipl_base.specs.declared.limits.TheConstants.{MOST_UNITS};
 ghost use Rattle.chip_trait.specs.Story.{Contents};
@@ -7,16 +7,12 @@ ghost use Rattle.ipl_meaning.specs.Chart.{Chart, chart_of};
 ghost use Rattle.ipl_meaning.specs.Layout.{Layout};
 ghost use Rattle.ipl_meaning.specs.Mirrors.{Mirrors};
 ghost use Rattle.ipl_meaning.specs.Tables.{Tables};
-ghost use Rattle.merge_laws.specs.Faults.{FailsByChipAlone};
 ghost use Rattle.merge_laws.specs.Known.{KnowsPlaces};
-ghost use Rattle.place_taking.specs.Spending.{is_worn_out};
 ghost use Rattle.selective_merge.specs.Moving.{tables_of, Holds};
-ghost use Rattle.step_laws.specs.Steps.{Tidies};
-ghost use Rattle.unit_io.specs.Accounts.{Accounts};
 ghost use Rattle.unit_io.specs.Costs.{Spends};
 ghost use Rattle.unit_io.specs.Unread.{ReadsNothing};
-ghost use Rattle.status_renewal.specs.InPlace.{FailsInPlace, RenewalFailsInPlace};
-ghost use Rattle.status_renewal.specs.Passes.{KeepsAll, HasPassed, PassEnds, GoesOnTelling, KeepsInSteps, SparesUnits, FailsAsPass, FailsAsRenewal, AreMergeable, CompletesRenewal, ErasesAtMost, RenewCause};
+ghost use Rattle.status_renewal.specs.Leaving.{LeavesPassed, RenewalFails, UnitFails};
+ghost use Rattle.status_renewal.specs.Passes.{KeepsAll, HasPassed, PassEnds, GoesOnTelling, KeepsInSteps, SparesUnits};
 
 use chip_trait::Chip;
 use ipl_base::ChipFault;
@@ -46,31 +42,12 @@ fn take_unit<C: Chip>(
         → HasPassed places unit (chart_of x) it t kept.old (C.told chip.old) (tables_of parts.old)
         → SparesUnits unit x it (C.told chip.old)
         → OnOk result (SparesUnits (unit + 1) x it (C.told chip.new)) }
-    ensures fault { (places : ℕ) (x : Contents) (it : Layout) (t : Tables)
-        → (C.told chip.old).places ≡ places → Holds places t (tables_of parts.old)
-        → HasPassed places unit (chart_of x) it t kept.old (C.told chip.old) (tables_of parts.old)
-        → SparesUnits unit x it (C.told chip.old)
-        → IfErr result (FailsAsPass x it t) }
-    ensures stays { (places : ℕ) (x : Contents) (it : Layout) (t : Tables)
-        → (C.told chip.old).places ≡ places → Holds places t (tables_of parts.old)
-        → HasPassed places unit (chart_of x) it t kept.old (C.told chip.old) (tables_of parts.old)
-        → SparesUnits unit x it (C.told chip.old)
-        → IfErr result (FailsInPlace x it t (tables_of parts.new)) }
-    ensures complete { (places : ℕ) (c : Chart) (it : Layout) (t : Tables)
-        → (C.told chip.old).places ≡ places → Holds places t (tables_of parts.old)
-        → HasPassed places unit c it t kept.old (C.told chip.old) (tables_of parts.old)
-        → AreMergeable c it t → FailsByChipAlone result }
+    ensures fails { UnitFails unit kept.old (tables_of parts.old) (tables_of parts.new) result
+        (C.told chip.old) }
     ensures steps { (places : ℕ) → (C.told chip.old).places ≡ places
         → KeepsInSteps places (tables_of parts.old) (tables_of parts.new)
         (C.told chip.old) result (C.told chip.new) }
-    ensures holds { Holds (C.told chip.old).places (tables_of parts.old) (tables_of parts.new) }
-    ensures draws { (parts.old.counter ≤ parts.new.counter)
-        × (parts.new.counter ≤ parts.old.counter + 13) }
-    ensures costs { Spends (ErasesAtMost parts.old.directory parts.new.directory 1
-        (is_worn_out result)) (C.told chip.old) (C.told chip.new) }
-    ensures tidy { Tidies (tables_of parts.old) result (tables_of parts.new)
-        (C.told chip.old) (C.told chip.new) }
-    ensures accounts { Accounts (RenewCause parts.new.directory) result
+    ensures leaves { LeavesPassed 13 1 (tables_of parts.old) (tables_of parts.new) result
         (C.told chip.old) (C.told chip.new) }
 {
     let scratch = &mut parts.scratch;
@@ -100,25 +77,13 @@ fn pass<C: Chip>(chip: &mut C, parts: &mut Parts, kept: &mut KeptNumbers) -> Res
         (HasPassed places it.count (chart_of x) it (tables_of parts.old) kept.new
         (C.told chip.new) (tables_of parts.new)) }
     ensures goes_on { GoesOnTelling result (C.told chip.old) (C.told chip.new) }
-    ensures fault { FailsAsRenewal (C.told chip.old).places (tables_of parts.old) result
-        (C.told chip.old) }
-    ensures stays { RenewalFailsInPlace (C.told chip.old).places (tables_of parts.old)
+    ensures fails { RenewalFails (C.told chip.old).places (tables_of parts.old)
         (tables_of parts.new) result (C.told chip.old) }
-    ensures complete { CompletesRenewal (C.told chip.old).places (tables_of parts.old) result
-        (C.told chip.old) }
     ensures steps { (places : ℕ) → (C.told chip.old).places ≡ places
         → KeepsInSteps places (tables_of parts.old) (tables_of parts.new)
         (C.told chip.old) result (C.told chip.new) }
-    ensures holds { Holds (C.told chip.old).places (tables_of parts.old) (tables_of parts.new) }
-    ensures draws { (parts.old.counter ≤ parts.new.counter)
-        × (parts.new.counter ≤ parts.old.counter + 13 * MOST_UNITS) }
-    ensures costs { Spends (ErasesAtMost parts.old.directory parts.new.directory
-        (length parts.old.directory.current) (is_worn_out result))
-        (C.told chip.old) (C.told chip.new) }
-    ensures tidy { Tidies (tables_of parts.old) result (tables_of parts.new)
-        (C.told chip.old) (C.told chip.new) }
-    ensures accounts { Accounts (RenewCause parts.new.directory) result
-        (C.told chip.old) (C.told chip.new) }
+    ensures leaves { LeavesPassed (13 * MOST_UNITS) (length parts.old.directory.current)
+        (tables_of parts.old) (tables_of parts.new) result (C.told chip.old) (C.told chip.new) }
 {
     parts.directory.facts();
     kept.clear();
@@ -148,25 +113,13 @@ pub(crate) fn find_numbers<C: Chip>(
         (HasPassed places it.count (chart_of x) it (tables_of parts.old) kept.new
         (C.told chip.new) (tables_of parts.new)) }
     ensures goes_on { GoesOnTelling result (C.told chip.old) (C.told chip.new) }
-    ensures fault { FailsAsRenewal (C.told chip.old).places (tables_of parts.old) result
-        (C.told chip.old) }
-    ensures stays { RenewalFailsInPlace (C.told chip.old).places (tables_of parts.old)
+    ensures fails { RenewalFails (C.told chip.old).places (tables_of parts.old)
         (tables_of parts.new) result (C.told chip.old) }
-    ensures complete { CompletesRenewal (C.told chip.old).places (tables_of parts.old) result
-        (C.told chip.old) }
     ensures steps { (places : ℕ) → (C.told chip.old).places ≡ places
         → KeepsInSteps places (tables_of parts.old) (tables_of parts.new)
         (C.told chip.old) result (C.told chip.new) }
-    ensures holds { Holds (C.told chip.old).places (tables_of parts.old) (tables_of parts.new) }
-    ensures draws { (parts.old.counter ≤ parts.new.counter)
-        × (parts.new.counter ≤ parts.old.counter + 13 * MOST_UNITS) }
-    ensures costs { Spends (ErasesAtMost parts.old.directory parts.new.directory
-        (length parts.old.directory.current) (is_worn_out result))
-        (C.told chip.old) (C.told chip.new) }
-    ensures tidy { Tidies (tables_of parts.old) result (tables_of parts.new)
-        (C.told chip.old) (C.told chip.new) }
-    ensures accounts { Accounts (RenewCause parts.new.directory) result
-        (C.told chip.old) (C.told chip.new) }
+    ensures leaves { LeavesPassed (13 * MOST_UNITS) (length parts.old.directory.current)
+        (tables_of parts.old) (tables_of parts.new) result (C.told chip.old) (C.told chip.new) }
     ensures unread { OnTrue found (Spends ReadsNothing (C.told chip.old) (C.told chip.new)) }
 {
     if found {

@@ -1,21 +1,10 @@
 //! The status place, renewed in all tables.
-ghost use Rattle.std.specs.Prelude.{◌≡◌, ◌≤◌, ◌<◌, ◌+◌, ◌^◌, length, OnOk, IfErr, is_ok};
-ghost use Rattle.ipl_base.specs.declared.limits.TheConstants.{KEPT_NUMBERS};
-ghost use Rattle.ipl_meaning.specs.Tables.{IsFree, Tables};
-ghost use Rattle.merge_laws.specs.Known.{KnowsPlaces};
-ghost use Rattle.number_set.specs.Numbers.{AreRising};
-ghost use Rattle.place_taking.specs.Spending.{ErasesFor, is_worn_out};
-ghost use Rattle.place_taking.specs.Takes.{IsNotTaken};
+ghost use Rattle.std.specs.Prelude.{◌≡◌, ◌<◌, ◌+◌, ◌^◌, length, slice_index, OnOk};
 ghost use Rattle.selective_merge.specs.Throughout.{ChartsThroughout};
-ghost use Rattle.step_laws.specs.Steps.{Tidies};
-ghost use Rattle.txn_status.specs.Status.{parts_of, room_of};
+ghost use Rattle.txn_status.specs.Status.{FitStatusPlace};
 ghost use Rattle.txn_status.specs.Switching.{ListsAt};
-ghost use Rattle.unit_directory.specs.Free.{free_count, IsReadyToTake};
-ghost use Rattle.unit_io.specs.Accounts.{Accounts};
 ghost use Rattle.unit_io.specs.Charts.{Charts};
-ghost use Rattle.unit_io.specs.Costs.{Spends};
-ghost use Rattle.unit_io.specs.Unread.{ReadsNothing};
-ghost use Rattle.status_renewal.specs.Renewed.{HasTables, with_tables, IsGivenBack, MovesStatus, Renews, RenewsInSteps};
+ghost use Rattle.status_renewal.specs.Renewed.{KeepsTables, MayMoveStatus, PlacesStatus, Renews, RenewsInSteps, WritesStatus};
 
 use chip_trait::Chip;
 use ipl_base::{ChipFault, Counter};
@@ -23,6 +12,19 @@ use place_taking::take_place;
 use txn_status::Status;
 use unit_directory::{Directory, directory_laws};
 use unit_layout::StatusHeader;
+
+/// What the header of a new status place says: how many units have a place, and how often this one was
+/// erased.
+fn header_of(directory: &Directory, place: u32) -> StatusHeader
+    requires { place < length directory.now.in_use }
+    ensures units { result.units ≡ length directory.now.current }
+    ensures erases { result.erases ≡ slice_index directory.now.erases place }
+{
+    StatusHeader {
+        units: directory.units(),
+        erases: directory.erases(place),
+    }
+}
 
 /// Makes the least worn free place the status place, the lowest on a tie, with exactly these numbers,
 /// at most 3,840 in rising order: the place is taken, erased and written, and the old status place is
@@ -41,28 +43,15 @@ pub(crate) fn renew_place<C: Chip>(
     counter: &mut Counter,
     kept: &[u64],
 ) -> Result<(), ChipFault>
-    requires size { length directory.old.in_use ≡ (C.told chip.old).places }
-    requires ready { IsReadyToTake directory.old }
-    requires held { ¬ IsFree directory.old status.old.place }
-    requires placed { status.old.place < (C.told chip.old).places }
-    requires rising { AreRising kept.now }
-    requires few { length kept.now ≤ KEPT_NUMBERS }
+    requires may { MayMoveStatus (C.told chip.old).places directory.old status.old }
+    requires fits { FitStatusPlace kept.now }
     requires left { counter.old + 65 < 2 ^ 64 }
 
     // What the tables have, whatever the chip tells.
-    ensures moved { OnOk result (MovesStatus directory.old status.old counter.old kept.now
-        directory.new status.new) }
-    ensures same { IfErr result (λ fault. IsGivenBack directory.old fault directory.new
-        × (status.new ≡ status.old)) }
-    ensures room { OnOk result (191 ≤ room_of status.new) }
-    ensures free { free_count directory.new.in_use + length directory.new.retired
-        ≡ free_count directory.old.in_use + length directory.old.retired }
-    ensures known { (t : Tables) → HasTables t directory.old status.old counter.old
-        → KnowsPlaces (C.told chip.old).places t
-        → KnowsPlaces (C.told chip.old).places
-        (with_tables t directory.new status.new counter.new) }
-    ensures drawn { OnOk result (counter.new ≡ counter.old + 1 + parts_of kept.now) }
-    ensures draws { (counter.old < counter.new) × (counter.new ≤ counter.old + 65) }
+    ensures moves { PlacesStatus directory.old status.old counter.old kept.now result
+        directory.new status.new counter.new }
+    ensures tables { KeepsTables directory.old status.old counter.old result
+        directory.new status.new counter.new (C.told chip.old) (C.told chip.new) }
 
     // What the chip holds then, and what a power cut leaves.
     ensures tells { ChartsThroughout
@@ -75,28 +64,14 @@ pub(crate) fn renew_place<C: Chip>(
         (C.told chip.old) (C.told chip.new)) }
     ensures steps { RenewsInSteps (C.told chip.old).places directory.old status.old counter.old
         kept.now directory.new status.new counter.new result (C.told chip.old) (C.told chip.new) }
-    // One erase more is tried than places are retired, each of the next free place in its turn, then
-    // programs of the place that is taken alone, and three barriers.
-    ensures costs { Spends (ErasesFor directory.old directory.new 3 status.new.place (is_ok result)
-        (is_worn_out result)) (C.told chip.old) (C.told chip.new) }
-    ensures tidy { (t : Tables) → HasTables t directory.old status.old counter.old
-        → KnowsPlaces (C.told chip.old).places t
-        → Tidies t result (with_tables t directory.new status.new counter.new)
-        (C.told chip.old) (C.told chip.new) }
-    // It reads nothing.
-    ensures unread { Spends ReadsNothing (C.told chip.old) (C.told chip.new) }
-    ensures accounts { Accounts (IsNotTaken directory.new) result
+    ensures writes { WritesStatus directory.old directory.new status.new result
         (C.told chip.old) (C.told chip.new) }
 {
     directory_laws();
-    let units = directory.units();
     let old = status.place();
     let generation = counter.draw();
     let place = take_place(chip, directory)?;
-    let header = StatusHeader {
-        units,
-        erases: directory.erases(place),
-    };
+    let header = header_of(directory, place);
     directory.facts();
     let retired = directory.retired();
     match status.switch(chip, counter, &header, retired, place, generation, kept) {

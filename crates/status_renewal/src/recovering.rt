@@ -1,14 +1,7 @@
 //! The opening of a chip.
-ghost use Rattle.std.specs.Prelude.{◌≡◌, ◌≤◌, ◌<◌, ◌+◌, ◌^◌, [], length, OnOk};
-ghost use Rattle.ipl_meaning.specs.Chart.{chart_of};
-ghost use Rattle.opening_laws.specs.Faults.{greatest_found};
-ghost use Rattle.restart.specs.Bytes.{ReadsBytes};
+ghost use Rattle.std.specs.Prelude.{◌≡◌, [], length};
 ghost use Rattle.selective_merge.specs.Moving.{tables_of};
-ghost use Rattle.unit_io.specs.Accounts.{Accounts};
-ghost use Rattle.unit_io.specs.Costs.{Spends};
-ghost use Rattle.unit_io.specs.Reads.{OfContents};
-ghost use Rattle.status_renewal.specs.Passes.{HasErased};
-ghost use Rattle.status_renewal.specs.Recovers.{CompletesOpening, ErasesOpening, RecoversTold, LooksAtFaults, ReadsOnceWhereFit, RecoversInSteps, TidiesOpening, HoldsOpened, OpeningCause};
+ghost use Rattle.status_renewal.specs.Recovers.{LeavesOpened, OpeningFails, OpeningSpends, RecoversInSteps, RecoversTold};
 
 use crate::renewing::renew_with;
 use crate::settling::settle_marks;
@@ -50,45 +43,28 @@ pub fn recover<C: Chip>(
     // What the chip holds then, and what a power cut leaves.
     ensures tells { RecoversTold (C.told chip.old).places (C.told chip.old) result
         (tables_of parts.new) (C.told chip.new) }
-    ensures looks { LooksAtFaults (C.told chip.old).places (C.told chip.old) result
-        (C.told chip.new) }
-    ensures number { OnOk result (OfContents (C.told chip.old) (λ x. parts.new.counter
-        ≤ greatest_found (chart_of x) (C.told chip.old).places + 1 + 2 ^ 14)) }
     ensures steps { RecoversInSteps marks (C.told chip.old).places (C.told chip.old) result
         (tables_of parts.new) (C.told chip.new) }
 
     // Why it fails over what the chip holds: where that has no fault and its pages say a map, only
-    // where a call of the chip failed.
-    ensures complete { CompletesOpening (C.told chip.old).places result (C.told chip.old) }
+    // where a call of the chip failed. What it read is bytes, also where it fails since the numbers are
+    // used up.
+    ensures fails { OpeningFails (C.told chip.old).places result (C.told chip.old) (C.told chip.new) }
 
-    // What it read is bytes, also where it fails since the numbers are used up.
-    ensures bytes { ReadsBytes (C.told chip.old).places (C.told chip.old) result }
-
-    // What the tables have, whatever the chip tells.
-    ensures holds { OnOk result (HoldsOpened (C.told chip.old).places (tables_of parts.new)) }
-    ensures left { OnOk result (parts.new.counter ≤ 2 ^ 63 + 2 ^ 14) }
+    // What the tables have, whatever the chip tells. Whatever the chip holds, what it adds is lawful after
+    // any lawful events that leave clean what is marked; and done, what the tables count as clean is clean.
+    // Where marks don't count, nothing has to be clean before.
+    ensures leaves { LeavesOpened marks (tables_of parts.new) result (C.told chip.old) (C.told chip.new) }
     ensures sized { (scratch.new ≡ scratch.old)
         × (length parts.new.directory.in_use ≡ (C.told chip.old).places)
         × (parts.new.overflow.places ≡ (C.told chip.old).places) }
     // At most one erase a unit, and one for the status place, and one more for each place that was found
     // worn and is retired; at most three barriers for each of these, and one for marks; the others that
     // are retired are those that the status header lists and that weren't used; and the tables have as
-    // many units as that says.
-    ensures costs { ErasesOpening marks (C.told chip.old).places result parts.new.directory
-        (C.told chip.old) (C.told chip.new) }
-    // Where the committed numbers that live records have are at most 3,840, it reads each sector at
-    // most once, from the first header to the seal of the status place.
-    ensures once { ReadsOnceWhereFit (C.told chip.old).places (C.told chip.old) (C.told chip.new) }
-    // Done, the status place is a new one, which was erased.
-    ensures renewed { OnOk result (Spends (HasErased parts.new.status.place)
-        (C.told chip.old) (C.told chip.new)) }
-    // Whatever the chip holds, what it adds is lawful after any lawful events that leave clean what is
-    // marked; and done, what the tables count as clean is clean. Where marks don't count, nothing has to
-    // be clean before.
-    ensures tidy { TidiesOpening marks (C.told chip.old).places (C.told chip.old) result
-        (tables_of parts.new) (C.told chip.new) }
-    ensures accounts { Accounts (OpeningCause parts.new.directory) result
-        (C.told chip.old) (C.told chip.new) }
+    // many units as that says. Where the committed numbers that live records have are at most 3,840, it
+    // reads each sector at most once, from the first header to the seal of the status place. Done, the
+    // status place is a new one, which was erased.
+    ensures spends { OpeningSpends marks (tables_of parts.new) result (C.told chip.old) (C.told chip.new) }
 {
     let found = restart::recover(
         chip,

@@ -1,16 +1,12 @@
 //! The renewal of the status place.
-ghost use Rattle.std.specs.Prelude.{◌≡◌, ◌<◌, ◌≤◌, ◌+◌, ◌^◌, length, true, OnOk, is_ok};
+ghost use Rattle.std.specs.Prelude.{◌≡◌, ◌<◌, ◌+◌, ◌^◌, true};
 ghost use Rattle.std.specs.Bool.{OnTrue};
 ghost use Rattle.merge_laws.specs.Known.{KnowsPlaces};
-ghost use Rattle.place_taking.specs.Spending.{is_worn_out};
-ghost use Rattle.place_taking.specs.Wear.{TellsOfWear};
 ghost use Rattle.selective_merge.specs.Moving.{tables_of};
-ghost use Rattle.step_laws.specs.Steps.{Tidies};
-ghost use Rattle.unit_io.specs.Accounts.{Accounts};
 ghost use Rattle.unit_io.specs.Costs.{Spends};
 ghost use Rattle.unit_io.specs.Unread.{ReadsNothing};
-ghost use Rattle.status_renewal.specs.InPlace.{RenewalFailsInPlace};
-ghost use Rattle.status_renewal.specs.Passes.{KeepsAll, RenewsTold, HoldsRenewed, KeepsInSteps, FailsAsRenewal, CompletesRenewal, ErasesAtMost, HasErased, RenewCause};
+ghost use Rattle.status_renewal.specs.Leaving.{LeavesRenewed, RenewalFails, RenewalSpends};
+ghost use Rattle.status_renewal.specs.Passes.{KeepsAll, RenewsTold, KeepsInSteps};
 
 use crate::passing::find_numbers;
 use crate::place::renew_place;
@@ -36,27 +32,11 @@ pub(crate) fn renew_with<C: Chip>(
         (C.told chip.old) result (C.told chip.new) }
     ensures steps { KeepsInSteps (C.told chip.old).places (tables_of parts.old)
         (tables_of parts.new) (C.told chip.old) result (C.told chip.new) }
-    ensures fault { FailsAsRenewal (C.told chip.old).places (tables_of parts.old) result
-        (C.told chip.old) }
-    ensures stays { RenewalFailsInPlace (C.told chip.old).places (tables_of parts.old)
+    ensures fails { RenewalFails (C.told chip.old).places (tables_of parts.old)
         (tables_of parts.new) result (C.told chip.old) }
-    ensures complete { CompletesRenewal (C.told chip.old).places (tables_of parts.old) result
-        (C.told chip.old) }
-    ensures holds { HoldsRenewed (C.told chip.old).places (tables_of parts.old) result
-        (tables_of parts.new) }
-    ensures draws { (parts.old.counter ≤ parts.new.counter)
-        × (parts.new.counter ≤ parts.old.counter + 2 ^ 14) }
-    ensures costs { Spends (ErasesAtMost parts.old.directory parts.new.directory
-        (length parts.old.directory.current + 1) (is_worn_out result))
+    ensures leaves { LeavesRenewed (tables_of parts.old) (tables_of parts.new) result
         (C.told chip.old) (C.told chip.new) }
-    ensures renewed { OnOk result (Spends (HasErased parts.new.status.place)
-        (C.told chip.old) (C.told chip.new)) }
-    // What is retired was so before, or was found worn; done, the new header lists no other place.
-    ensures wears { TellsOfWear (tables_of parts.old) (tables_of parts.new) (is_ok result)
-        (is_worn_out result) (C.told chip.old) (C.told chip.new) }
-    ensures tidy { Tidies (tables_of parts.old) result (tables_of parts.new)
-        (C.told chip.old) (C.told chip.new) }
-    ensures accounts { Accounts (RenewCause parts.new.directory) result
+    ensures spends { RenewalSpends (tables_of parts.old) (tables_of parts.new) result
         (C.told chip.old) (C.told chip.new) }
     ensures unread { OnTrue found (Spends ReadsNothing (C.told chip.old) (C.told chip.new)) }
 {
@@ -96,34 +76,18 @@ pub fn renew<C: Chip>(
     // Why it fails over what the chip holds: it tells what is wrong with a unit that had to be
     // merged, which is where it was; and where all units' pages read well and few log sectors of
     // each would be carried, only where a call of the chip failed.
-    ensures fault { FailsAsRenewal (C.told chip.old).places (tables_of parts.old) result
-        (C.told chip.old) }
-    ensures stays { RenewalFailsInPlace (C.told chip.old).places (tables_of parts.old)
+    ensures fails { RenewalFails (C.told chip.old).places (tables_of parts.old)
         (tables_of parts.new) result (C.told chip.old) }
-    ensures complete { CompletesRenewal (C.told chip.old).places (tables_of parts.old) result
-        (C.told chip.old) }
 
-    // What the tables have, whatever the chip tells.
-    ensures holds { HoldsRenewed (C.told chip.old).places (tables_of parts.old) result
-        (tables_of parts.new) }
-    ensures draws { (parts.old.counter ≤ parts.new.counter)
-        × (parts.new.counter ≤ parts.old.counter + 2 ^ 14) }
+    // What the tables have, whatever the chip tells. Whatever the chip holds, what it adds is lawful after
+    // any lawful events that leave clean what the tables count so; and where no write failed, what they
+    // count so then is clean.
+    ensures leaves { LeavesRenewed (tables_of parts.old) (tables_of parts.new) result
+        (C.told chip.old) (C.told chip.new) }
     // At most one erase a unit, and one for the status place, and one more for each place that was found
-    // worn and is retired.
-    ensures costs { Spends (ErasesAtMost parts.old.directory parts.new.directory
-        (length parts.old.directory.current + 1) (is_worn_out result))
-        (C.told chip.old) (C.told chip.new) }
-    // Done, the place that the status has was erased.
-    ensures renewed { OnOk result (Spends (HasErased parts.new.status.place)
-        (C.told chip.old) (C.told chip.new)) }
-    // What is retired was so before, or was found worn; done, the new header lists no other place.
-    ensures wears { TellsOfWear (tables_of parts.old) (tables_of parts.new) (is_ok result)
-        (is_worn_out result) (C.told chip.old) (C.told chip.new) }
-    // Whatever the chip holds, what it adds is lawful after any lawful events that leave clean what
-    // the tables count so; and where no write failed, what they count so then is clean.
-    ensures tidy { Tidies (tables_of parts.old) result (tables_of parts.new)
-        (C.told chip.old) (C.told chip.new) }
-    ensures accounts { Accounts (RenewCause parts.new.directory) result
+    // worn and is retired; done, the place that the status has was erased. What is retired was so before, or
+    // was found worn; done, the new header lists no other place.
+    ensures spends { RenewalSpends (tables_of parts.old) (tables_of parts.new) result
         (C.told chip.old) (C.told chip.new) }
 {
     renew_with(chip, parts, kept, false)

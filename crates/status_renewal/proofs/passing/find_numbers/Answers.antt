@@ -4,13 +4,13 @@ use Rattle.chip_trait.proofs.CountsLemmas.{counts_none}
 use Rattle.ipl_meaning.specs.Chart.{chart_of}
 use Rattle.ipl_meaning.specs.Mirrors.{Mirrors}
 use Rattle.selective_merge.specs.Moving.{tables_of}
-use Rattle.place_taking.proofs.HomeLemmas.{homes_same}
 use Rattle.step_laws.proofs.MapLemmas.{nothing_keeps}
 use Rattle.unit_io.specs.Costs.{Spends}
 use Rattle.unit_io.specs.Unread.{ReadsNothing}
 use Rattle.unit_io.proofs.UnreadLemmas.{unread_none}
 use Rattle.status_renewal.proofs.CostLemmas.{erases_none, erases_more}
 use Rattle.status_renewal.proofs.FoundLemmas.{passed_all}
+use Rattle.status_renewal.proofs.KnownLemmas.{held_same}
 use Rattle.status_renewal.proofs.TellingLemmas.{goes_on_same}
 use Rattle.status_renewal.proofs.TidyLemmas.{tidies_none}
 use Rattle.status_renewal.proofs.passing.find_numbers.Goals as goal
@@ -32,30 +32,6 @@ returns-then-found-clause-steps g c = λ places same m it h steady rests agrees.
     nothing_keeps places m (tables_of c.args.parts.now) h (g.C.Chip.told c.args.chip.now) steady
     rests
 
-pub returns-then-found-clause-holds : goal.returns-then-found-clause-holds
-returns-then-found-clause-holds g c =
-    let t = tables_of c.args.parts.now in record {
-      active = refl;
-      status = refl;
-      units = refl;
-      homes = homes_same t.places t.places refl refl;
-      known = c.requires.known;
-    }
-
-pub returns-then-found-clause-costs : goal.returns-then-found-clause-costs
-returns-then-found-clause-costs g c =
-    let told = g.C.Chip.told c.args.chip.now in
-    let d = c.args.parts.now.directory in
-    erases_more d d 0 (length d.current) false told told (omega arith) (erases_none d told)
-
-pub returns-then-found-clause-tidy : goal.returns-then-found-clause-tidy
-returns-then-found-clause-tidy g c =
-    tidies_none (tables_of c.args.parts.now) (g.C.Chip.told c.args.chip.now)
-
-pub returns-then-found-clause-accounts : goal.returns-then-found-clause-accounts
-returns-then-found-clause-accounts g c =
-    record { counts = counts_none (g.C.Chip.told c.args.chip.now); cause = tt }
-
 pub returns-then-found-clause-unread : goal.returns-then-found-clause-unread
 returns-then-found-clause-unread g c =
     let told = g.C.Chip.told c.args.chip.now in
@@ -66,3 +42,22 @@ returns-clause-unread g c =
     OnTrue_from c.args.found
     (Spends ReadsNothing (g.C.Chip.told c.args.chip.now) (g.C.Chip.told c.pass.new.chip))
     (λ is. absurd (false≢true (sym c.if-found.false ∙ is)))
+
+pub returns-then-found-clause-fails : goal.returns-then-found-clause-fails
+returns-then-found-clause-fails g c = record {
+  fault = λ x told it mirrors. tt;
+  stays = λ x told it mirrors. tt;
+  complete = λ x told it mirrors all. tt;
+}
+
+pub returns-then-found-clause-leaves : goal.returns-then-found-clause-leaves
+returns-then-found-clause-leaves g c =
+    let told = g.C.Chip.told c.args.chip.now in
+    let t = tables_of c.args.parts.now in record {
+      holds = held_same told.places t c.requires.known;
+      draws = (omega arith, omega arith);
+      costs = erases_more t.places t.places 0 (length t.places.current) false told told (omega arith)
+          (erases_none t.places told);
+      tidy = tidies_none t told;
+      accounts = record { counts = counts_none told; cause = tt };
+    }

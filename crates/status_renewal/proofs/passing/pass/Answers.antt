@@ -3,15 +3,16 @@ use Rattle.std.proofs.lemmas.Result.{err_from_is_err_and}
 use Rattle.chip_trait.proofs.CountsLemmas.{counts_none, counts_then}
 use Rattle.ipl_meaning.specs.Chart.{chart_of}
 use Rattle.selective_merge.specs.Moving.{tables_of, Holds}
-use Rattle.place_taking.proofs.HomeLemmas.{homes_same, homes_then}
 use Rattle.step_laws.proofs.MapLemmas.{nothing_keeps}
 use Rattle.status_renewal.specs.Passes.{HasPassed}
+use Rattle.status_renewal.proofs.CauseLemmas.{accounts_then}
 use Rattle.status_renewal.proofs.CostLemmas.{erases_none, erases_more, erases_then}
 use Rattle.status_renewal.proofs.PassLemmas.{passed_none}
 use Rattle.status_renewal.proofs.PreserveLemmas.{passed_then}
 use Rattle.status_renewal.proofs.TellingLemmas.{goes_on_same, goes_on_then}
 use Rattle.status_renewal.proofs.FaultLemmas.{spared_none}
 use Rattle.status_renewal.proofs.TidyLemmas.{tidies_none, tidies_then}
+use Rattle.status_renewal.proofs.KnownLemmas.{held_same, held_then}
 use Rattle.status_renewal.proofs.passing.pass.Goals as goal
 
 pub loop-unit-init : goal.loop-unit-init
@@ -19,13 +20,7 @@ loop-unit-init g c =
     let t = tables_of c.args.parts.now in
     let told = g.C.Chip.told c.args.chip.now in record {
       counts = counts_none told;
-      holds = record {
-        active = refl;
-        status = refl;
-        units = refl;
-        homes = homes_same t.places t.places refl refl;
-        known = c.requires.known;
-      };
+      holds = held_same told.places t c.requires.known;
       least = omega arith;
       most = omega arith;
       costs = erases_none c.args.parts.now.directory told;
@@ -90,22 +85,16 @@ loop-unit-preserved g c =
     let mid = g.C.Chip.told c.loop-unit.chip in
     let new = g.C.Chip.told c.take_unit.new.chip in
     let holds : Holds old.places between after =
-    subst (λ n. Holds n between after) so_far.counts.places c.take_unit.ensures.holds in
+    subst (λ n. Holds n between after) so_far.counts.places c.take_unit.ensures.leaves.holds in
     record {
-      counts = counts_then old mid new so_far.counts c.take_unit.ensures.accounts.counts;
-      holds = record {
-        active = holds.active ∙ so_far.holds.active;
-        status = holds.status ∙ so_far.holds.status;
-        units = holds.units ∙ so_far.holds.units;
-        homes = homes_then t.places between.places after.places so_far.holds.homes holds.homes;
-        known = holds.known;
-      };
-      least = omega (arith, so_far.least, c.take_unit.ensures.draws);
-      most = omega (arith, so_far.most, c.take_unit.ensures.draws);
+      counts = counts_then old mid new so_far.counts c.take_unit.ensures.leaves.accounts.counts;
+      holds = held_then old.places t between after so_far.holds holds;
+      least = omega (arith, so_far.least, c.take_unit.ensures.leaves.draws);
+      most = omega (arith, so_far.most, c.take_unit.ensures.leaves.draws);
       costs = erases_then t.places between.places after.places c.loop-unit.unit 1 false old mid new
-          so_far.costs c.in_ok-take_unit.ensures.costs;
+          so_far.costs c.in_ok-take_unit.ensures.leaves.costs;
       tidy = tidies_then t between after (Ok tt) old mid new so_far.counts
-          so_far.tidy c.in_ok-take_unit.ensures.tidy;
+          so_far.tidy c.in_ok-take_unit.ensures.leaves.tidy;
       passes = λ places x it same is mirrors. c.in_ok-take_unit.ensures.passes places (chart_of x)
           it t (so_far.counts.places ∙ same) (subst (λ n. Holds n t between) same so_far.holds)
           (so_far.passes places x it same is mirrors);
@@ -135,60 +124,80 @@ returns-clause-passes g c = λ places x it same is mirrors.
     (g.C.Chip.told c.loop-unit.chip) (tables_of c.loop-unit.parts)) all
     (c.loop-unit.invariant.passes places x it same is mirrors)
 
-pub returns-in_err-take_unit-clause-costs : goal.returns-in_err-take_unit-clause-costs
-returns-in_err-take_unit-clause-costs g c =
+pub returns-in_err-take_unit-clause-fails : goal.returns-in_err-take_unit-clause-fails
+returns-in_err-take_unit-clause-fails g c =
+    let so_far = c.loop-unit.invariant in
+    let t = tables_of c.args.parts.now in
+    let places = (g.C.Chip.told c.args.chip.now).places in
+    let fails = c.in_err-take_unit.ensures.fails in
+    let e = err_from_is_err_and c.from_residual.result c.from_residual.ensures.1 in
+    rw (e.1 ∙ ap Err e.2) (record {
+      fault = λ x told it mirrors. fails.fault places x it t so_far.counts.places so_far.holds
+          (so_far.passes places x it refl told mirrors) (so_far.spares places x it refl told mirrors);
+      stays = λ x told it mirrors. fails.stays places x it t so_far.counts.places so_far.holds
+          (so_far.passes places x it refl told mirrors) (so_far.spares places x it refl told mirrors);
+      complete = λ x told it mirrors all. fails.complete places (chart_of x) it t
+          so_far.counts.places so_far.holds (so_far.passes places x it refl told mirrors) all;
+    })
+
+pub returns-in_err-take_unit-clause-leaves : goal.returns-in_err-take_unit-clause-leaves
+returns-in_err-take_unit-clause-leaves g c =
+    let so_far = c.loop-unit.invariant in
+    let leaves = c.in_err-take_unit.ensures.leaves in
+    let t = tables_of c.args.parts.now in
+    let between = tables_of c.loop-unit.parts in
+    let after = tables_of c.take_unit.new.parts in
     let old = g.C.Chip.told c.args.chip.now in
     let mid = g.C.Chip.told c.loop-unit.chip in
     let new = g.C.Chip.told c.take_unit.new.chip in
-    let so_far = c.loop-unit.invariant in
-    let first = c.args.parts.now.directory in
-    let last = c.take_unit.new.parts.directory in
+    let fault = c.in_err-take_unit.field-0.0 in
+    let units = length t.places.current in
     let e = err_from_is_err_and c.from_residual.result c.from_residual.ensures.1 in
-    rw (e.1 ∙ ap Err e.2) (erases_more first last (c.loop-unit.unit + 1) (length first.current) _ old new
-    (omega (arith, c.loop-unit-test.true, c.loop-unit.auto.unit-end, c.units-unit-end.ensures))
-    (erases_then first c.loop-unit.parts.directory last c.loop-unit.unit 1 _ old mid new so_far.costs
-    c.in_err-take_unit.ensures.costs))
+    rw (e.1 ∙ ap Err e.2) (record {
+      holds = held_then old.places t between after so_far.holds
+          (subst (λ n. Holds n between after) so_far.counts.places leaves.holds);
+      draws = (
+        omega (arith, so_far.least, leaves.draws),
+        omega (
+          arith,
+          so_far.most,
+          leaves.draws,
+          c.loop-unit-test.true,
+          c.loop-unit.auto.unit-end,
+          c.units-unit-end.ensures,
+          c.facts.ensures.units,
+          c.facts.ensures.places,
+        ),
+      );
+      costs = erases_more t.places after.places (c.loop-unit.unit + 1) units _ old new
+          (omega (arith, c.loop-unit-test.true, c.loop-unit.auto.unit-end, c.units-unit-end.ensures))
+          (erases_then t.places between.places after.places c.loop-unit.unit 1 _ old mid new so_far.costs
+          leaves.costs);
+      tidy = tidies_then t between after (Err fault) old mid new so_far.counts so_far.tidy leaves.tidy;
+      accounts = accounts_then after.places old mid new (Err fault) so_far.counts leaves.accounts;
+    })
 
-pub returns-clause-costs : goal.returns-clause-costs
-returns-clause-costs g c =
-    erases_more c.args.parts.now.directory c.loop-unit.parts.directory c.loop-unit.unit
-    (length c.args.parts.now.directory.current) false (g.C.Chip.told c.args.chip.now) (g.C.Chip.told c.loop-unit.chip)
-    (omega (arith, c.loop-unit.auto.unit-end, c.units-unit-end.ensures))
-    c.loop-unit.invariant.costs
-
-pub returns-in_err-take_unit-clause-complete : goal.returns-in_err-take_unit-clause-complete
-returns-in_err-take_unit-clause-complete g c = λ x told it mirrors all.
+pub returns-clause-leaves : goal.returns-clause-leaves
+returns-clause-leaves g c =
     let so_far = c.loop-unit.invariant in
-    let old = g.C.Chip.told c.args.chip.now in
-    let e = err_from_is_err_and c.from_residual.result c.from_residual.ensures.1 in
-    rw (e.1 ∙ ap Err e.2) (c.in_err-take_unit.ensures.complete old.places (chart_of x) it
-    (tables_of c.args.parts.now) so_far.counts.places so_far.holds
-    (so_far.passes old.places x it refl told mirrors) all)
-
-pub returns-in_err-take_unit-clause-fault : goal.returns-in_err-take_unit-clause-fault
-returns-in_err-take_unit-clause-fault g c = λ x told it mirrors.
-    let so_far = c.loop-unit.invariant in
-    let places = (g.C.Chip.told c.args.chip.now).places in
-    let e = err_from_is_err_and c.from_residual.result c.from_residual.ensures.1 in
-    rw (e.1 ∙ ap Err e.2) (c.in_err-take_unit.ensures.fault places x it
-    (tables_of c.args.parts.now) so_far.counts.places so_far.holds
-    (so_far.passes places x it refl told mirrors) (so_far.spares places x it refl told mirrors))
-
-pub returns-in_err-take_unit-clause-tidy : goal.returns-in_err-take_unit-clause-tidy
-returns-in_err-take_unit-clause-tidy g c =
-    let so_far = c.loop-unit.invariant in
-    let e = err_from_is_err_and c.from_residual.result c.from_residual.ensures.1 in
-    rw (e.1 ∙ ap Err e.2) (tidies_then (tables_of c.args.parts.now)
-    (tables_of c.loop-unit.parts) (tables_of c.take_unit.new.parts)
-    (Err c.in_err-take_unit.field-0.0) (g.C.Chip.told c.args.chip.now)
-    (g.C.Chip.told c.loop-unit.chip) (g.C.Chip.told c.take_unit.new.chip) so_far.counts
-    so_far.tidy c.in_err-take_unit.ensures.tidy)
-
-pub returns-in_err-take_unit-clause-stays : goal.returns-in_err-take_unit-clause-stays
-returns-in_err-take_unit-clause-stays g c = λ x told it mirrors.
-    let so_far = c.loop-unit.invariant in
-    let places = (g.C.Chip.told c.args.chip.now).places in
-    let e = err_from_is_err_and c.from_residual.result c.from_residual.ensures.1 in
-    rw (e.1 ∙ ap Err e.2) (c.in_err-take_unit.ensures.stays places x it
-    (tables_of c.args.parts.now) so_far.counts.places so_far.holds
-    (so_far.passes places x it refl told mirrors) (so_far.spares places x it refl told mirrors))
+    let t = tables_of c.args.parts.now in
+    let after = tables_of c.loop-unit.parts in
+    let units = length t.places.current in record {
+      holds = so_far.holds;
+      draws = (
+        so_far.least,
+        omega (
+          arith,
+          so_far.most,
+          c.loop-unit.auto.unit-end,
+          c.units-unit-end.ensures,
+          c.facts.ensures.units,
+          c.facts.ensures.places,
+        ),
+      );
+      costs = erases_more t.places after.places c.loop-unit.unit units false
+          (g.C.Chip.told c.args.chip.now) (g.C.Chip.told c.loop-unit.chip)
+          (omega (arith, c.loop-unit.auto.unit-end, c.units-unit-end.ensures)) so_far.costs;
+      tidy = so_far.tidy;
+      accounts = record { counts = so_far.counts; cause = tt };
+    }

@@ -25,7 +25,8 @@ use Rattle.status_renewal.proofs.CompleteLemmas.{merge_is_complete}
 use Rattle.status_renewal.proofs.TellingLemmas.{goes_on_same, goes_on_then, goes_on_from}
 use Rattle.merge_laws.specs.Known.{KnowsPlaces}
 use Rattle.selective_merge.proofs.CompleteLemmas.{merge_fails_so}
-use Rattle.status_renewal.proofs.FaultLemmas.{spared_read, spared_merged, merge_in_place, in_place_fails}
+use Rattle.status_renewal.proofs.FaultLemmas.{reading_fails, spared_read, spared_merged, merge_in_place, unit_fails}
+use Rattle.status_renewal.proofs.KnownLemmas.{held_same}
 use Rattle.status_renewal.proofs.TidyLemmas.{tidies_read, tidies_read_then}
 use Rattle.status_renewal.proofs.passing.take_unit.Goals as goal
 
@@ -44,15 +45,6 @@ returns-in_err-read_live-clause-steps g c = λ places same m it h steady rests a
     rw (e.1 ∙ ap Err e.2) (reads_preserve _ places m h (tables_of c.args.parts.now)
     (Err c.in_err-read_live.field-0.0) (g.C.Chip.told c.args.chip.now)
     (g.C.Chip.told c.read_live.new.chip) steady rests c.read_live.ensures.looks.reads)
-
-pub returns-in_err-read_live-clause-accounts : goal.returns-in_err-read_live-clause-accounts
-returns-in_err-read_live-clause-accounts g c =
-    let e = err_from_is_err_and c.from_residual.result c.from_residual.ensures.1 in
-    rw (e.1 ∙ ap Err e.2) (record {
-      counts = c.read_live.ensures.looks.reads.counts;
-      cause = read_cause _ c.args.parts.now.directory c.in_err-read_live.field-0.0 (g.C.Chip.told c.args.chip.now)
-          (g.C.Chip.told c.read_live.new.chip) c.in_err-read_live.ensures.looks.cause;
-    })
 
 pub returns-in_err-read_live-clause-goes_on : goal.returns-in_err-read_live-clause-goes_on
 returns-in_err-read_live-clause-goes_on g c =
@@ -161,86 +153,6 @@ returns-clause-steps g c = λ places same m it h steady rests agrees.
     (c.read_live.ensures.looks.reads.counts.places ∙ same) c.merge.ensures.steps m it k there
     resting agreeing))
 
-pub returns-clause-holds : goal.returns-clause-holds
-returns-clause-holds g c =
-    subst (λ n. Holds n (tables_of c.args.parts.now) (tables_of c.merge.new.parts))
-    c.read_live.ensures.looks.reads.counts.places c.merge.ensures.moves.leaves.holds
-
-pub returns-clause-accounts : goal.returns-clause-accounts
-returns-clause-accounts g c =
-    accounts_then c.merge.new.parts.directory (g.C.Chip.told c.args.chip.now) (g.C.Chip.told c.read_live.new.chip)
-    (g.C.Chip.told c.merge.new.chip) c.merge.result c.read_live.ensures.looks.reads.counts
-    (merge_accounts c.merge.new.parts.directory _ _ (g.C.Chip.told c.read_live.new.chip) (g.C.Chip.told c.merge.new.chip)
-    c.merge.result c.merge.ensures.moves.leaves.accounts)
-
-pub returns-in_err-read_live-clause-costs : goal.returns-in_err-read_live-clause-costs
-returns-in_err-read_live-clause-costs g c =
-    let old = g.C.Chip.told c.args.chip.now in
-    let mid = g.C.Chip.told c.read_live.new.chip in
-    let fault = c.in_err-read_live.field-0.0 in
-    let e = err_from_is_err_and c.from_residual.result c.from_residual.ensures.1 in
-    rw (e.1 ∙ ap Err e.2) (reads_erase _ c.args.parts.now.directory 1 (tells_worn fault) old mid
-    (read_not_worn _ fault old mid c.in_err-read_live.ensures.looks.cause)
-    c.read_live.ensures.looks.reads)
-
-pub returns-then-join-clause-costs : goal.returns-then-join-clause-costs
-returns-then-join-clause-costs g c =
-    reads_erase _ c.args.parts.now.directory 1 false (g.C.Chip.told c.args.chip.now)
-    (g.C.Chip.told c.read_live.new.chip) refl c.read_live.ensures.looks.reads
-
-pub returns-clause-costs : goal.returns-clause-costs
-returns-clause-costs g c =
-    let old = g.C.Chip.told c.args.chip.now in
-    let mid = g.C.Chip.told c.read_live.new.chip in
-    let new = g.C.Chip.told c.merge.new.chip in
-    let before = c.args.parts.now.directory in
-    let after = c.merge.new.parts.directory in
-    reads_then_erase _ before after 1 _ old mid new c.read_live.ensures.looks.reads
-    (place_erases before after _ _ _ mid new
-    (homes_used old.places (tables_of c.args.parts.now) c.requires.known) c.merge.ensures.moves.leaves.holds.homes
-    c.merge.ensures.moves.costs)
-
-pub returns-in_err-read_live-clause-complete : goal.returns-in_err-read_live-clause-complete
-returns-in_err-read_live-clause-complete g c = λ places chart it t same holds was all.
-    let parts = tables_of c.args.parts.now in
-    let e = err_from_is_err_and c.from_residual.result c.from_residual.ensures.1 in
-    rw (e.1 ∙ ap Err e.2) (subst IsFailedCall (sym (c.in_err-read_live.ensures.exact was.contents
-    was.told was.now parts (record {
-      mirrors = subst (λ n. Mirrors n (chart_of was.contents) was.now parts) (sym same) was.mirrors;
-      directory_is = refl;
-      overflow_is = refl;
-    }))) tt)
-
-pub returns-clause-complete : goal.returns-clause-complete
-returns-clause-complete g c = λ places chart it t same holds was all.
-    let reads = c.read_live.ensures.looks.reads in
-    merge_is_complete places c.args.unit chart it t c.args.kept.now
-    (g.C.Chip.told c.args.chip.now) (g.C.Chip.told c.read_live.new.chip)
-    (tables_of c.args.parts.now) c.merge.result (omega (
-      arith,
-      c.requires.unit,
-      was.mirrors.directory.units,
-      was.passed.count,
-    )) holds.active
-    (reads.counts.places ∙ same) reads.contents was all c.merge.ensures.complete
-
-pub returns-in_err-read_live-clause-stays : goal.returns-in_err-read_live-clause-stays
-returns-in_err-read_live-clause-stays g c = λ places x it t same holds was spared.
-    let parts = tables_of c.args.parts.now in
-    let e = err_from_is_err_and c.from_residual.result c.from_residual.ensures.1 in
-    rw (e.1 ∙ ap Err e.2) (λ unfailed. absurd (unfailed (subst IsFailedCall
-    (sym (c.in_err-read_live.ensures.exact was.contents was.told was.now parts
-    (record {
-      mirrors = subst (λ n. Mirrors n (chart_of was.contents) was.now parts) (sym same) was.mirrors;
-      directory_is = refl;
-      overflow_is = refl;
-    }))) tt)))
-
-pub returns-in_err-read_live-clause-fault : goal.returns-in_err-read_live-clause-fault
-returns-in_err-read_live-clause-fault g c = λ places x it t same holds was spared.
-    in_place_fails x it t (tables_of c.args.parts.now) c.from_residual.result
-    (returns-in_err-read_live-clause-stays g c places x it t same holds was spared)
-
 pub returns-then-join-clause-spares : goal.returns-then-join-clause-spares
 returns-then-join-clause-spares g c = λ places x it t same was spared.
     spared_read c.args.unit x it (g.C.Chip.told c.args.chip.now)
@@ -255,12 +167,24 @@ returns-clause-spares g c = λ places x it t same was spared.
     (subst (λ n. KnowsPlaces n parts) same c.requires.known) was spared reads.contents
     c.merge.result (g.C.Chip.told c.merge.new.chip) c.merge.ensures.moves.leaves.spares
 
-pub returns-clause-stays : goal.returns-clause-stays
-returns-clause-stays g c = λ places x it t same holds was spared.
+pub returns-in_err-read_live-clause-fails : goal.returns-in_err-read_live-clause-fails
+returns-in_err-read_live-clause-fails g c =
+    let t = tables_of c.args.parts.now in
+    let e = err_from_is_err_and c.from_residual.result c.from_residual.ensures.1 in
+    rw (e.1 ∙ ap Err e.2) (reading_fails c.args.unit c.args.kept.now t c.in_err-read_live.field-0.0
+    (g.C.Chip.told c.args.chip.now)
+    (λ x it told mirrors. subst IsFailedCall (sym (c.in_err-read_live.ensures.exact x told it t
+    (record { mirrors = mirrors; directory_is = refl; overflow_is = refl }))) tt))
+
+pub returns-clause-fails : goal.returns-clause-fails
+returns-clause-fails g c =
     let parts = c.args.parts.now in
     let unit = c.args.unit in
+    let old = g.C.Chip.told c.args.chip.now in
     let mid = g.C.Chip.told c.read_live.new.chip in
     let reads = c.read_live.ensures.looks.reads in
+    unit_fails unit c.args.kept.now (tables_of parts) (tables_of c.merge.new.parts) c.merge.result old
+    (λ places x it t same holds was spared.
     let within : unit < was.now.count = omega (arith, c.requires.unit, was.mirrors.directory.units) in
     let live = c.in_ok-read_live.ensures.exact was.contents was.told was.now (tables_of parts)
     (record {
@@ -277,36 +201,72 @@ returns-clause-stays g c = λ places x it t same holds was spared.
     let many : 3840 < length (joined parts.status.numbers (records_of log) c.args.kept.now) =
     subst (λ (rs : List Record). 3840 < length (joined parts.status.numbers rs c.args.kept.now))
     records (too_many c.join.result _ c.join.ensures.fits c.if-join.false) in
-    merge_in_place places unit x it t c.args.kept.now (g.C.Chip.told c.args.chip.now) mid
+    merge_in_place places unit x it t c.args.kept.now old mid
     (tables_of parts) (subst (λ n. KnowsPlaces n (tables_of parts)) same c.requires.known) was
     spared reads.contents (omega (arith, within, was.passed.count)) holds.active holds.status c.merge.result
     (g.C.Chip.told c.merge.new.chip) (tables_of c.merge.new.parts) many
     (reads.counts.places ∙ same)
     (merge_fails_so mid.places (tables_of parts) unit c.merge.result mid c.merge.ensures.fault)
-    c.merge.ensures.tells
+    c.merge.ensures.tells)
+    (λ places chart it t same holds was all. merge_is_complete places unit chart it t c.args.kept.now
+    old mid (tables_of parts) c.merge.result (omega (
+      arith,
+      c.requires.unit,
+      was.mirrors.directory.units,
+      was.passed.count,
+    )) holds.active
+    (reads.counts.places ∙ same) reads.contents was all c.merge.ensures.complete)
 
-pub returns-clause-fault : goal.returns-clause-fault
-returns-clause-fault g c = λ places x it t same holds was spared.
-    in_place_fails x it t (tables_of c.merge.new.parts) c.merge.result
-    (returns-clause-stays g c places x it t same holds was spared)
-
-pub returns-in_err-read_live-clause-tidy : goal.returns-in_err-read_live-clause-tidy
-returns-in_err-read_live-clause-tidy g c =
+pub returns-in_err-read_live-clause-leaves : goal.returns-in_err-read_live-clause-leaves
+returns-in_err-read_live-clause-leaves g c =
+    let t = tables_of c.args.parts.now in
+    let old = g.C.Chip.told c.args.chip.now in
+    let mid = g.C.Chip.told c.read_live.new.chip in
+    let fault = c.in_err-read_live.field-0.0 in
+    let looks = c.in_err-read_live.ensures.looks in
+    let reads = c.read_live.ensures.looks.reads in
     let e = err_from_is_err_and c.from_residual.result c.from_residual.ensures.1 in
-    rw (e.1 ∙ ap Err e.2) (tidies_read _ (tables_of c.args.parts.now)
-    (Err c.in_err-read_live.field-0.0) (g.C.Chip.told c.args.chip.now)
-    (g.C.Chip.told c.read_live.new.chip) c.read_live.ensures.looks.reads)
+    rw (e.1 ∙ ap Err e.2) (record {
+      holds = held_same old.places t c.requires.known;
+      draws = (omega arith, omega arith);
+      costs = reads_erase _ t.places 1 (tells_worn fault) old mid
+          (read_not_worn _ fault old mid looks.cause) reads;
+      tidy = tidies_read _ t (Err fault) old mid reads;
+      accounts = record {
+        counts = reads.counts;
+        cause = read_cause _ t.places fault old mid looks.cause;
+      };
+    })
 
-pub returns-then-join-clause-tidy : goal.returns-then-join-clause-tidy
-returns-then-join-clause-tidy g c =
-    tidies_read _ (tables_of c.args.parts.now) (Ok tt) (g.C.Chip.told c.args.chip.now)
-    (g.C.Chip.told c.read_live.new.chip) c.read_live.ensures.looks.reads
+pub returns-then-join-clause-leaves : goal.returns-then-join-clause-leaves
+returns-then-join-clause-leaves g c =
+    let t = tables_of c.args.parts.now in
+    let old = g.C.Chip.told c.args.chip.now in
+    let mid = g.C.Chip.told c.read_live.new.chip in
+    let reads = c.read_live.ensures.looks.reads in record {
+      holds = held_same old.places t c.requires.known;
+      draws = (omega arith, omega arith);
+      costs = reads_erase _ t.places 1 false old mid refl reads;
+      tidy = tidies_read _ t (Ok tt) old mid reads;
+      accounts = record { counts = reads.counts; cause = tt };
+    }
 
-pub returns-clause-tidy : goal.returns-clause-tidy
-returns-clause-tidy g c =
-    tidies_read_then _ (tables_of c.args.parts.now) (tables_of c.merge.new.parts) c.merge.result
-    (g.C.Chip.told c.args.chip.now) (g.C.Chip.told c.read_live.new.chip)
-    (g.C.Chip.told c.merge.new.chip) c.read_live.ensures.looks.reads c.merge.ensures.moves.leaves.tidy
-
-pub returns-clause-draws : goal.returns-clause-draws
-returns-clause-draws g c = c.merge.ensures.moves.leaves.draws
+pub returns-clause-leaves : goal.returns-clause-leaves
+returns-clause-leaves g c =
+    let t = tables_of c.args.parts.now in
+    let after = tables_of c.merge.new.parts in
+    let old = g.C.Chip.told c.args.chip.now in
+    let mid = g.C.Chip.told c.read_live.new.chip in
+    let new = g.C.Chip.told c.merge.new.chip in
+    let reads = c.read_live.ensures.looks.reads in
+    let moves = c.merge.ensures.moves in
+    let leaves = moves.leaves in record {
+      holds = subst (λ n. Holds n t after) reads.counts.places leaves.holds;
+      draws = leaves.draws;
+      costs = reads_then_erase _ t.places after.places 1 _ old mid new reads
+          (place_erases t.places after.places _ _ _ mid new (homes_used old.places t c.requires.known)
+          leaves.holds.homes moves.costs);
+      tidy = tidies_read_then _ t after c.merge.result old mid new reads leaves.tidy;
+      accounts = accounts_then after.places old mid new c.merge.result reads.counts
+          (merge_accounts after.places _ _ mid new c.merge.result leaves.accounts);
+    }

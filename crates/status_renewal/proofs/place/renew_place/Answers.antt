@@ -2,6 +2,7 @@ use Rattle.std.proofs.Common.{◌≡◌, ◌<◌, ◌+◌, ◌∙◌, ℕ, List,
 use Rattle.std.proofs.lemmas.List.{length-set}
 use Rattle.std.proofs.lemmas.Result.{err_from_is_err_and}
 use Rattle.chip_trait.specs.Told.{Told}
+use Rattle.chip_trait.proofs.CountsLemmas.{counts_then}
 use Rattle.ipl_base.specs.declared.fault.ChipFault.{ChipFault}
 use Rattle.ipl_base.specs.declared.fault.ChipFault.TheVariants.{Stopped}
 use Rattle.ipl_base.specs.declared.limits.TheConstants.{VERSION}
@@ -66,17 +67,14 @@ switch-requires-clause-listed g c =
     let size : length after.in_use ≡ (g.C.Chip.told c.take_place.new.chip).places =
     omega (
       arith,
-      c.requires.size,
+      c.requires.may.size,
       c.in_ok-place.ensures.accounts.counts.places,
       (next_places_are_aside c.args.directory.now from.worn from.in_turn).all,
       ap (λ (e : Places). length e.in_use) from.places_is,
       length-set (aside c.args.directory.now from.worn).in_use c.in_ok-place.place true,
     ) in
-    let units : length after.current ≡ c.units-units.result =
-    ap (λ (e : Places). length e.current) from.places_is
-    ∙ ap (λ (l : List ℕ). length l) (next_places_are_aside c.args.directory.now from.worn from.in_turn).current
-    ∙ sym c.units-units.ensures in
-    subst (λ (l : List ℕ). AreRetired VERSION mid.places c.units-units.result l) (sym c.retired-retired.ensures)
+    let units : length after.current ≡ c.header_of-header.result.units = sym c.header_of-header.ensures.units in
+    subst (λ (l : List ℕ). AreRetired VERSION mid.places c.header_of-header.result.units l) (sym c.retired-retired.ensures)
     (subst (λ (n : ℕ). AreRetired VERSION mid.places n after.retired) units
     (subst (λ (n : ℕ). AreRetired VERSION n (length after.current) after.retired) size facts.retired))
 
@@ -87,7 +85,7 @@ switch-requires-clause-place g c =
       arith,
       taken_within c.args.directory.now c.take_place.new.directory c.in_ok-place.place
           c.in_ok-place.ensures.taken,
-      c.requires.size,
+      c.requires.may.size,
       c.in_ok-place.ensures.accounts.counts.places,
     )
 
@@ -96,8 +94,8 @@ give_back-requires g c =
     let from = c.in_ok-place.ensures.taken in
     omega (
       arith,
-      c.requires.placed,
-      c.requires.size,
+      c.requires.may.placed,
+      c.requires.may.size,
       c.place-old.ensures,
       (next_places_are_aside c.args.directory.now from.worn from.in_turn).all,
       ap (λ (e : Places). length e.in_use) from.places_is,
@@ -121,57 +119,82 @@ returns-in_err-place-clause-steps g c =
     (g.C.Chip.told c.take_place.new.chip) c.in_err-place.ensures.aside refl
     (omega (arith, c.draw-generation.ensures.next)) c.in_err-place.ensures.takes)
 
-pub returns-in_err-place-clause-free : goal.returns-in_err-place-clause-free
-returns-in_err-place-clause-free g c =
-    back_as_many c.args.directory.now c.take_place.new.directory c.in_err-place.field-0.0
-    c.requires.ready (inl c.in_err-place.ensures.aside)
-
-pub returns-in_err-place-clause-known : goal.returns-in_err-place-clause-known
-returns-in_err-place-clause-known g c = λ t has known.
-    known_back (g.C.Chip.told c.args.chip.now).places t c.take_place.new.directory c.args.status.now
-    c.draw-generation.new.self c.in_err-place.field-0.0
-    (subst (λ (b : Places). IsGivenBack b c.in_err-place.field-0.0 c.take_place.new.directory)
-    (sym has.places_is) (inl c.in_err-place.ensures.aside)) (sym has.status_is) known
-
-pub returns-in_err-place-clause-costs : goal.returns-in_err-place-clause-costs
-returns-in_err-place-clause-costs g c =
+pub returns-in_err-place-clause-moves : goal.returns-in_err-place-clause-moves
+returns-in_err-place-clause-moves g c =
     let e = err_from_is_err_and c.from_residual.result c.from_residual.ensures.1 in
-    rw (e.1 ∙ ap Err e.2) (untaken_erases c.args.directory.now c.take_place.new.directory
-    c.args.status.now.place c.in_err-place.field-0.0 (g.C.Chip.told c.args.chip.now)
-    (g.C.Chip.told c.take_place.new.chip) c.in_err-place.ensures.costs)
+    rw (e.1 ∙ ap Err e.2) (record {
+      moved = tt;
+      same = (inl c.in_err-place.ensures.aside, refl);
+      room = tt;
+      free = back_as_many c.args.directory.now c.take_place.new.directory c.in_err-place.field-0.0
+          c.requires.may.ready (inl c.in_err-place.ensures.aside);
+      drawn = tt;
+      draws = (
+        omega (arith, c.draw-generation.ensures.next),
+        omega (arith, c.draw-generation.ensures.next),
+      );
+    })
 
-pub returns-in_err-place-clause-tidy : goal.returns-in_err-place-clause-tidy
-returns-in_err-place-clause-tidy g c = λ t has known.
+pub returns-in_err-place-clause-tables : goal.returns-in_err-place-clause-tables
+returns-in_err-place-clause-tables g c =
     let old = g.C.Chip.told c.args.chip.now in
     let new = g.C.Chip.told c.take_place.new.chip in
+    let after = c.take_place.new.directory in
     let fault = c.in_err-place.field-0.0 in
     let e = err_from_is_err_and c.from_residual.result c.from_residual.ensures.1 in
-    rw e.1 (tidy_unrenewed old.places c.args.directory.now c.args.status.now c.args.counter.now
-    c.take_place.new.directory c.args.status.now c.draw-generation.new.self t has known 0 0 e.0 fault old
-    new (inl c.in_err-place.ensures.aside) (sym has.status_is)
-    (tidy_untaken c.args.directory.now 0 0 fault old new c.in_err-place.ensures.tidy))
+    rw e.1 (record {
+      known = λ t has known. known_back old.places t after c.args.status.now
+          c.draw-generation.new.self fault
+          (subst (λ (b : Places). IsGivenBack b fault after) (sym has.places_is)
+          (inl c.in_err-place.ensures.aside)) (sym has.status_is) known;
+      tidy = λ t has known. tidy_unrenewed old.places c.args.directory.now c.args.status.now
+          c.args.counter.now after c.args.status.now c.draw-generation.new.self t has known 0 0 e.0 fault
+          old new (inl c.in_err-place.ensures.aside) (sym has.status_is)
+          (tidy_untaken c.args.directory.now 0 0 fault old new c.in_err-place.ensures.tidy);
+    })
+
+pub returns-in_err-place-clause-writes : goal.returns-in_err-place-clause-writes
+returns-in_err-place-clause-writes g c =
+    let e = err_from_is_err_and c.from_residual.result c.from_residual.ensures.1 in
+    rw (e.1 ∙ ap Err e.2) (record {
+      costs = untaken_erases c.args.directory.now c.take_place.new.directory
+          c.args.status.now.place c.in_err-place.field-0.0 (g.C.Chip.told c.args.chip.now)
+          (g.C.Chip.told c.take_place.new.chip) c.in_err-place.ensures.costs;
+      unread = c.in_err-place.ensures.unread;
+      accounts = record {
+        counts = c.in_err-place.ensures.accounts.counts;
+        cause = c.in_err-place.ensures.accounts.cause;
+      };
+    })
 
 -- ---- it was written
 
-pub returns-in-Ok-clause-moved : goal.returns-in-Ok-clause-moved
-returns-in-Ok-clause-moved g c = record {
-  place = c.in_ok-place.place;
-  mid = c.take_place.new.directory;
-  taken = c.in_ok-place.ensures.taken;
-  status_is = c.in-Ok.ensures.moved.switched
-      ∙ ap (λ (n : ℕ). switched_to c.in_ok-place.place n c.args.kept.now) c.draw-generation.ensures.drawn;
-  places_is = c.give_back.ensures
-      ∙ ap (λ (p : ℕ). with_use c.take_place.new.directory p false) c.place-old.ensures;
-}
-
-pub returns-in-Ok-clause-free : goal.returns-in-Ok-clause-free
-returns-in-Ok-clause-free g c =
-    moved_as_many c.directory_laws.ensures.takes c.directory_laws.ensures.gives_back
-    c.args.directory.now c.take_place.new.directory c.give_back.new.self c.in_ok-place.place
-    c.args.status.now.place c.requires.ready c.in_ok-place.ensures.taken c.requires.held
-    (omega (arith, c.requires.placed, c.requires.size))
-    (c.give_back.ensures
-    ∙ ap (λ (p : ℕ). with_use c.take_place.new.directory p false) c.place-old.ensures)
+pub returns-in-Ok-clause-moves : goal.returns-in-Ok-clause-moves
+returns-in-Ok-clause-moves g c =
+    let placed = c.in-Ok.ensures.moved in record {
+      moved = record {
+        place = c.in_ok-place.place;
+        mid = c.take_place.new.directory;
+        taken = c.in_ok-place.ensures.taken;
+        status_is = placed.switched
+            ∙ ap (λ (n : ℕ). switched_to c.in_ok-place.place n c.args.kept.now) c.draw-generation.ensures.drawn;
+        places_is = c.give_back.ensures
+            ∙ ap (λ (p : ℕ). with_use c.take_place.new.directory p false) c.place-old.ensures;
+      };
+      same = tt;
+      room = omega (arith, ap (λ (s : Status). s.first) placed.switched, c.requires.fits.few);
+      free = moved_as_many c.directory_laws.ensures.takes c.directory_laws.ensures.gives_back
+          c.args.directory.now c.take_place.new.directory c.give_back.new.self c.in_ok-place.place
+          c.args.status.now.place c.requires.may.ready c.in_ok-place.ensures.taken c.requires.may.held
+          (omega (arith, c.requires.may.placed, c.requires.may.size))
+          (c.give_back.ensures
+          ∙ ap (λ (p : ℕ). with_use c.take_place.new.directory p false) c.place-old.ensures);
+      drawn = omega (arith, placed.drawn, c.draw-generation.ensures.next);
+      draws = (
+        omega (arith, placed.draws, c.draw-generation.ensures.next),
+        omega (arith, placed.draws, c.draw-generation.ensures.next),
+      );
+    }
 
 pub returns-in-Ok-clause-tells : goal.returns-in-Ok-clause-tells
 returns-in-Ok-clause-tells g c =
@@ -187,7 +210,7 @@ returns-in-Ok-clause-tells g c =
     let from = c.in_ok-place.ensures.taken in
     let facts = next_places_are_aside first from.worn from.in_turn in
     let d = aside first from.worn in
-    let low : p < old.places = omega (arith, from.next.within, facts.all, c.requires.size) in
+    let low : p < old.places = omega (arith, from.next.within, facts.all, c.requires.may.size) in
     let is = moved_to p c.place-old.result d c.take_place.new.directory after status new next drawn
     kept from.places_is c.place-old.ensures c.give_back.ensures
     (c.in-Ok.ensures.moved.switched ∙ ap (λ (n : ℕ). switched_to p n kept) c.draw-generation.ensures.drawn)
@@ -195,13 +218,13 @@ returns-in-Ok-clause-tells g c =
     let mid = g.C.Chip.told c.take_place.new.chip in
     let told = g.C.Chip.told c.switch.new.chip in
     renews_told c.directory_laws.ensures.takes c.directory_laws.ensures.gives_back old.places p first
-    from.worn from.in_turn status next kept (facts.all ∙ c.requires.size) from.next.free low after new
+    from.worn from.in_turn status next kept (facts.all ∙ c.requires.may.size) from.next.free low after new
     drawn is old mid told c.in_ok-place.ensures.tells
-    (switch_tells old.places mid.places (length d.current) c.units-units.result (erases_then d p)
-    c.erases.result d.retired c.retired-retired.result.now c.draw-generation.result next p status kept
+    (switch_tells old.places mid.places (length d.current) c.header_of-header.result.units (erases_then d p)
+    c.header_of-header.result.erases d.retired c.retired-retired.result.now c.draw-generation.result next p status kept
     mid told c.in_ok-place.ensures.accounts.counts.places
-    (c.units-units.ensures ∙ sym (ap (λ (l : List ℕ). length l) facts.current))
-    (c.erases.ensures ∙ ap (λ (e : Places). slice_index e.erases p) from.places_is)
+    (c.header_of-header.ensures.units ∙ ap (λ (e : Places). length e.current) from.places_is)
+    (c.header_of-header.ensures.erases ∙ ap (λ (e : Places). slice_index e.erases p) from.places_is)
     (c.retired-retired.ensures ∙ ap (λ (e : Places). e.retired) from.places_is)
     c.draw-generation.ensures.drawn c.in-Ok.ensures.switches)
 
@@ -237,18 +260,18 @@ returns-in-Ok-clause-steps g c =
     let told = g.C.Chip.told c.switch.new.chip in
     let counts = c.in_ok-place.ensures.accounts.counts in
     renews_in_steps c.directory_laws.ensures.takes c.directory_laws.ensures.gives_back p first
-    c.take_place.new.directory from status next kept old mid told c.requires.size counts
+    c.take_place.new.directory from status next kept old mid told c.requires.may.size counts
     c.in_ok-place.ensures.takes after new drawn is
-    (switch_leaves old.places mid.places (length d.current) c.units-units.result (erases_then d p)
-    c.erases.result d.retired c.retired-retired.result.now c.draw-generation.result next p status kept
+    (switch_leaves old.places mid.places (length d.current) c.header_of-header.result.units (erases_then d p)
+    c.header_of-header.result.erases d.retired c.retired-retired.result.now c.draw-generation.result next p status kept
     (Ok tt) mid told counts.places
-    (c.units-units.ensures ∙ sym (ap (λ (l : List ℕ). length l) facts.current))
-    (c.erases.ensures ∙ ap (λ (e : Places). slice_index e.erases p) from.places_is)
+    (c.header_of-header.ensures.units ∙ ap (λ (e : Places). length e.current) from.places_is)
+    (c.header_of-header.ensures.erases ∙ ap (λ (e : Places). slice_index e.erases p) from.places_is)
     (c.retired-retired.ensures ∙ ap (λ (e : Places). e.retired) from.places_is)
     c.draw-generation.ensures.drawn c.in-Ok.ensures.steps)
 
-pub returns-in-Ok-clause-known : goal.returns-in-Ok-clause-known
-returns-in-Ok-clause-known g c = λ t has known.
+pub returns-in-Ok-clause-tables : goal.returns-in-Ok-clause-tables
+returns-in-Ok-clause-tables g c =
     let p = c.in_ok-place.place in
     let first = c.args.directory.now in
     let status = c.args.status.now in
@@ -261,59 +284,43 @@ returns-in-Ok-clause-known g c = λ t has known.
     let from = c.in_ok-place.ensures.taken in
     let facts = next_places_are_aside first from.worn from.in_turn in
     let d = aside first from.worn in
-    let low : p < old.places = omega (arith, from.next.within, facts.all, c.requires.size) in
-    let is = moved_to p c.place-old.result d c.take_place.new.directory after status new next drawn
-    kept from.places_is c.place-old.ensures c.give_back.ensures
-    (c.in-Ok.ensures.moved.switched ∙ ap (λ (n : ℕ). switched_to p n kept) c.draw-generation.ensures.drawn)
-    (omega (arith, c.in-Ok.ensures.moved.drawn, c.draw-generation.ensures.next)) in
-    known_renewed c.directory_laws.ensures.takes c.directory_laws.ensures.gives_back old.places p d
-    status next kept (facts.all ∙ c.requires.size) from.next.free low after new drawn is
-    (with_places t d) (has_between first from.worn from.in_turn status next t has)
-    (known_between first from.worn from.in_turn status next t has old.places known)
-
-pub returns-in-Ok-clause-tidy : goal.returns-in-Ok-clause-tidy
-returns-in-Ok-clause-tidy g c = λ t has known.
-    let p = c.in_ok-place.place in
-    let first = c.args.directory.now in
-    let status = c.args.status.now in
-    let next = c.args.counter.now in
-    let kept = c.args.kept.now in
-    let old = g.C.Chip.told c.args.chip.now in
-    let after = c.give_back.new.self in
-    let new = c.switch.new.self in
-    let drawn = c.switch.new.counter in
-    let from = c.in_ok-place.ensures.taken in
-    let facts = next_places_are_aside first from.worn from.in_turn in
-    let d = aside first from.worn in
-    let low : p < old.places = omega (arith, from.next.within, facts.all, c.requires.size) in
+    let low : p < old.places = omega (arith, from.next.within, facts.all, c.requires.may.size) in
     let is = moved_to p c.place-old.result d c.take_place.new.directory after status new next drawn
     kept from.places_is c.place-old.ensures c.give_back.ensures
     (c.in-Ok.ensures.moved.switched ∙ ap (λ (n : ℕ). switched_to p n kept) c.draw-generation.ensures.drawn)
     (omega (arith, c.in-Ok.ensures.moved.drawn, c.draw-generation.ensures.next)) in
     let mid = g.C.Chip.told c.take_place.new.chip in
-    let told = g.C.Chip.told c.switch.new.chip in
-    tidy_renewed old.places first status next after new drawn t has known
-    c.directory_laws.ensures.takes c.directory_laws.ensures.gives_back p c.take_place.new.directory from
-    kept c.requires.size low is old told
-    (tidy_taken first p (1 + parts_of kept) (IsStatusSpot (parts_of kept)) true true old mid told
-    (taken_was_free first c.take_place.new.directory p from) (λ s high spot. omega (arith, high, spot))
-    c.in_ok-place.ensures.tidy c.in-Ok.ensures.writes.tidy)
+    let told = g.C.Chip.told c.switch.new.chip in record {
+      known = λ t has known. known_renewed c.directory_laws.ensures.takes c.directory_laws.ensures.gives_back old.places p d
+          status next kept (facts.all ∙ c.requires.may.size) from.next.free low after new drawn is
+          (with_places t d) (has_between first from.worn from.in_turn status next t has)
+          (known_between first from.worn from.in_turn status next t has old.places known);
+      tidy = λ t has known. tidy_renewed old.places first status next after new drawn t has known
+          c.directory_laws.ensures.takes c.directory_laws.ensures.gives_back p c.take_place.new.directory from
+          kept c.requires.may.size low is old told
+          (tidy_taken first p (1 + parts_of kept) (IsStatusSpot (parts_of kept)) true true old mid told
+          (taken_was_free first c.take_place.new.directory p from) (λ s high spot. omega (arith, high, spot))
+          c.in_ok-place.ensures.tidy c.in-Ok.ensures.writes.tidy);
+    }
 
-pub returns-in-Ok-clause-costs : goal.returns-in-Ok-clause-costs
-returns-in-Ok-clause-costs g c =
+pub returns-in-Ok-clause-writes : goal.returns-in-Ok-clause-writes
+returns-in-Ok-clause-writes g c =
     let old = g.C.Chip.told c.args.chip.now in
+    let mid = g.C.Chip.told c.take_place.new.chip in
     let told = g.C.Chip.told c.switch.new.chip in
-    subst (λ (p : ℕ). Spends (ErasesFor c.args.directory.now c.give_back.new.self 3 p true false) old told)
-    (sym (ap (λ (s : Status). s.place) c.in-Ok.ensures.moved.switched))
-    (costs_of_filled c.args.directory.now c.take_place.new.directory c.give_back.new.self
-    c.in_ok-place.place 2 true false old (g.C.Chip.told c.take_place.new.chip) told
-    (ap (λ (e : Places). e.retired) c.give_back.ensures) refl c.in_ok-place.ensures.costs
-    c.in-Ok.ensures.writes.costs)
-
-pub returns-in-Ok-clause-unread : goal.returns-in-Ok-clause-unread
-returns-in-Ok-clause-unread g c =
-    unread_then (g.C.Chip.told c.args.chip.now) (g.C.Chip.told c.take_place.new.chip)
-    (g.C.Chip.told c.switch.new.chip) c.in_ok-place.ensures.unread c.in-Ok.ensures.writes.unread
+    let writes = c.in-Ok.ensures.writes in record {
+      costs = subst (λ (p : ℕ). Spends (ErasesFor c.args.directory.now c.give_back.new.self 3 p true false) old told)
+          (sym (ap (λ (s : Status). s.place) c.in-Ok.ensures.moved.switched))
+          (costs_of_filled c.args.directory.now c.take_place.new.directory c.give_back.new.self
+          c.in_ok-place.place 2 true false old mid told
+          (ap (λ (e : Places). e.retired) c.give_back.ensures) refl c.in_ok-place.ensures.costs
+          writes.costs);
+      unread = unread_then old mid told c.in_ok-place.ensures.unread writes.unread;
+      accounts = record {
+        counts = counts_then old mid told c.in_ok-place.ensures.accounts.counts writes.accounts.counts;
+        cause = tt;
+      };
+    }
 
 -- ---- a write failed
 
@@ -333,20 +340,24 @@ back_again first between after p fault from stopped is =
       ),
     )
 
-pub returns-in-Err-clause-same : goal.returns-in-Err-clause-same
-returns-in-Err-clause-same g c = (
-  back_again c.args.directory.now c.take_place.new.directory c.give_back-in-Err.new.self
-      c.in_ok-place.place c.in-Err.fault c.in_ok-place.ensures.taken
-      c.in-Err.ensures.writes.accounts.cause.0 c.give_back-in-Err.ensures,
-  c.in-Err.ensures.moved.same,
-)
-
-pub returns-in-Err-clause-free : goal.returns-in-Err-clause-free
-returns-in-Err-clause-free g c =
-    back_as_many c.args.directory.now c.give_back-in-Err.new.self c.in-Err.fault c.requires.ready
-    (back_again c.args.directory.now c.take_place.new.directory c.give_back-in-Err.new.self
+pub returns-in-Err-clause-moves : goal.returns-in-Err-clause-moves
+returns-in-Err-clause-moves g c =
+    let moved = c.in-Err.ensures.moved in
+    let back : IsGivenBack c.args.directory.now c.in-Err.fault c.give_back-in-Err.new.self =
+    back_again c.args.directory.now c.take_place.new.directory c.give_back-in-Err.new.self
     c.in_ok-place.place c.in-Err.fault c.in_ok-place.ensures.taken
-    c.in-Err.ensures.writes.accounts.cause.0 c.give_back-in-Err.ensures)
+    c.in-Err.ensures.writes.accounts.cause.0 c.give_back-in-Err.ensures in record {
+      moved = tt;
+      same = (back, moved.same);
+      room = tt;
+      free = back_as_many c.args.directory.now c.give_back-in-Err.new.self c.in-Err.fault
+          c.requires.may.ready back;
+      drawn = tt;
+      draws = (
+        omega (arith, moved.draws, c.draw-generation.ensures.next),
+        omega (arith, moved.draws, c.draw-generation.ensures.next),
+      );
+    }
 
 pub returns-in-Err-clause-steps : goal.returns-in-Err-clause-steps
 returns-in-Err-clause-steps g c =
@@ -361,59 +372,63 @@ returns-in-Err-clause-steps g c =
     let counts = c.in_ok-place.ensures.accounts.counts in
     failed_in_steps c.directory_laws.ensures.takes c.directory_laws.ensures.gives_back p first
     c.take_place.new.directory from c.args.status.now c.args.counter.now c.args.kept.now old mid told
-    c.requires.size counts c.in_ok-place.ensures.takes
+    c.requires.may.size counts c.in_ok-place.ensures.takes
     c.give_back-in-Err.new.self c.switch.new.self c.switch.new.counter c.in-Err.fault c.in-Err.fault
-    (switch_leaves old.places mid.places (length d.current) c.units-units.result (erases_then d p)
-    c.erases.result d.retired c.retired-retired.result.now c.draw-generation.result c.args.counter.now p
+    (switch_leaves old.places mid.places (length d.current) c.header_of-header.result.units (erases_then d p)
+    c.header_of-header.result.erases d.retired c.retired-retired.result.now c.draw-generation.result c.args.counter.now p
     c.args.status.now c.args.kept.now (Err c.in-Err.fault) mid told counts.places
-    (c.units-units.ensures ∙ sym (ap (λ (l : List ℕ). length l) facts.current))
-    (c.erases.ensures ∙ ap (λ (e : Places). slice_index e.erases p) from.places_is)
+    (c.header_of-header.ensures.units ∙ ap (λ (e : Places). length e.current) from.places_is)
+    (c.header_of-header.ensures.erases ∙ ap (λ (e : Places). slice_index e.erases p) from.places_is)
     (c.retired-retired.ensures ∙ ap (λ (e : Places). e.retired) from.places_is)
     c.draw-generation.ensures.drawn c.in-Err.ensures.steps)
 
-pub returns-in-Err-clause-known : goal.returns-in-Err-clause-known
-returns-in-Err-clause-known g c = λ t has known.
-    known_back (g.C.Chip.told c.args.chip.now).places t c.give_back-in-Err.new.self
-    c.switch.new.self c.switch.new.counter c.in-Err.fault
-    (subst (λ (b : Places). IsGivenBack b c.in-Err.fault c.give_back-in-Err.new.self)
-    (sym has.places_is)
-    (back_again c.args.directory.now c.take_place.new.directory c.give_back-in-Err.new.self
-    c.in_ok-place.place c.in-Err.fault c.in_ok-place.ensures.taken
-    c.in-Err.ensures.writes.accounts.cause.0 c.give_back-in-Err.ensures))
-    (c.in-Err.ensures.moved.same ∙ sym has.status_is) known
-
-pub returns-in-Err-clause-tidy : goal.returns-in-Err-clause-tidy
-returns-in-Err-clause-tidy g c = λ t has known.
+pub returns-in-Err-clause-tables : goal.returns-in-Err-clause-tables
+returns-in-Err-clause-tables g c =
     let p = c.in_ok-place.place in
     let first = c.args.directory.now in
+    let after = c.give_back-in-Err.new.self in
     let kept = c.args.kept.now in
+    let fault = c.in-Err.fault in
     let old = g.C.Chip.told c.args.chip.now in
     let told = g.C.Chip.told c.switch.new.chip in
     let from = c.in_ok-place.ensures.taken in
-    tidy_unrenewed old.places first c.args.status.now c.args.counter.now c.give_back-in-Err.new.self
-    c.switch.new.self c.switch.new.counter t has known p (1 + parts_of kept) c.in-Err.fault
-    c.in-Err.fault old told
-    (back_again first c.take_place.new.directory c.give_back-in-Err.new.self p c.in-Err.fault from
-    c.in-Err.ensures.writes.accounts.cause.0 c.give_back-in-Err.ensures)
-    (c.in-Err.ensures.moved.same ∙ sym has.status_is)
-    (tidy_taken first p (1 + parts_of kept) (IsStatusSpot (parts_of kept)) false false old
-    (g.C.Chip.told c.take_place.new.chip) told
-    (taken_was_free first c.take_place.new.directory p from) (λ s high spot. omega (arith, high, spot))
-    c.in_ok-place.ensures.tidy c.in-Err.ensures.writes.tidy)
+    let same = c.in-Err.ensures.moved.same in
+    let back : IsGivenBack first fault after =
+    back_again first c.take_place.new.directory after p fault from
+    c.in-Err.ensures.writes.accounts.cause.0 c.give_back-in-Err.ensures in record {
+      known = λ t has known. known_back old.places t after c.switch.new.self c.switch.new.counter fault
+          (subst (λ (b : Places). IsGivenBack b fault after) (sym has.places_is) back)
+          (same ∙ sym has.status_is) known;
+      tidy = λ t has known. tidy_unrenewed old.places first c.args.status.now c.args.counter.now after
+          c.switch.new.self c.switch.new.counter t has known p (1 + parts_of kept) fault
+          fault old told back (same ∙ sym has.status_is)
+          (tidy_taken first p (1 + parts_of kept) (IsStatusSpot (parts_of kept)) false false old
+          (g.C.Chip.told c.take_place.new.chip) told
+          (taken_was_free first c.take_place.new.directory p from) (λ s high spot. omega (arith, high, spot))
+          c.in_ok-place.ensures.tidy c.in-Err.ensures.writes.tidy);
+    }
 
-pub returns-in-Err-clause-costs : goal.returns-in-Err-clause-costs
-returns-in-Err-clause-costs g c =
+pub returns-in-Err-clause-writes : goal.returns-in-Err-clause-writes
+returns-in-Err-clause-writes g c =
     let old = g.C.Chip.told c.args.chip.now in
+    let mid = g.C.Chip.told c.take_place.new.chip in
     let told = g.C.Chip.told c.switch.new.chip in
-    let still : tells_worn c.in-Err.fault ≡ false = ap tells_worn c.in-Err.ensures.writes.accounts.cause.0 in
-    back_erases c.args.directory.now c.give_back-in-Err.new.self c.in_ok-place.place
-    c.switch.new.self.place (tells_worn c.in-Err.fault) old told
-    (costs_of_filled c.args.directory.now c.take_place.new.directory c.give_back-in-Err.new.self
-    c.in_ok-place.place 2 false (tells_worn c.in-Err.fault) old (g.C.Chip.told c.take_place.new.chip)
-    told (ap (λ (e : Places). e.retired) c.give_back-in-Err.ensures) still
-    c.in_ok-place.ensures.costs c.in-Err.ensures.writes.costs)
-
-pub returns-in-Err-clause-unread : goal.returns-in-Err-clause-unread
-returns-in-Err-clause-unread g c =
-    unread_then (g.C.Chip.told c.args.chip.now) (g.C.Chip.told c.take_place.new.chip)
-    (g.C.Chip.told c.switch.new.chip) c.in_ok-place.ensures.unread c.in-Err.ensures.writes.unread
+    let fault = c.in-Err.fault in
+    let writes = c.in-Err.ensures.writes in
+    let first = c.in_ok-place.ensures.accounts.counts in
+    let still : tells_worn fault ≡ false = ap tells_worn writes.accounts.cause.0 in record {
+      costs = back_erases c.args.directory.now c.give_back-in-Err.new.self c.in_ok-place.place
+          c.switch.new.self.place (tells_worn fault) old told
+          (costs_of_filled c.args.directory.now c.take_place.new.directory c.give_back-in-Err.new.self
+          c.in_ok-place.place 2 false (tells_worn fault) old mid told
+          (ap (λ (e : Places). e.retired) c.give_back-in-Err.ensures) still
+          c.in_ok-place.ensures.costs writes.costs);
+      unread = unread_then old mid told c.in_ok-place.ensures.unread writes.unread;
+      accounts = record {
+        counts = counts_then old mid told first writes.accounts.counts;
+        cause = inl (
+          writes.accounts.cause.0,
+          omega (arith, first.writes, writes.accounts.cause.1),
+        );
+      };
+    }

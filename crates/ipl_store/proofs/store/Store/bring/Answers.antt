@@ -22,25 +22,25 @@ returns-clause-fetches g c =
           (record store.transactions { pages = pages }) store.kept old after c.bring-done.result
           c.end.result c.end.new.self c.requires.up c.requires.sound
           (pages_move 14 store.transactions pages old after c.bring-done.result
-          (c.requires.sound.order c.requires.up) c.bring-done.ensures.upholds
-          c.bring-done.ensures.complete
-          c.bring-done.ensures.faults) rest
+          (c.requires.sound.order c.requires.up) c.bring-done.ensures.works.upholds
+          c.bring-done.ensures.works.complete
+          c.bring-done.ensures.works.faults) rest
           c.end.ensures.ends None refl;
       holds = kept_holds store c.end.new.self (record store.transactions { pages = pages })
-          store.kept rest c.bring-done.ensures.upholds.pins;
+          store.kept rest c.bring-done.ensures.works.upholds.pins;
       names = done_ends (FramesName c.args.n store old c.end.new.self) c.bring-done.result
           store.down
           c.end.new.self.down c.end.result c.end.ensures.ends
           (names_told c.args.n store pages old after c.bring-done.result c.end.new.self
           (ap (λ (s : Store). s.transactions.pages) rest)
-          c.bring-done.ensures.upholds.keeps
+          c.bring-done.ensures.works.upholds.keeps
           (subst (λ (h : Home). OnOk c.bring-done.result (IsFramed pages h.unit h.page))
-          c.home-home.ensures.home c.bring-done.ensures.there));
+          c.home-home.ensures.home c.bring-done.ensures.comes.there));
       used = ended_used (home_of c.args.n).unit (home_of c.args.n).page store c.end.new.self
           (record store.transactions { pages = pages }) store.kept c.bring-done.result c.end.result
           rest c.end.ensures.ends
           (subst (λ (h : Home). OnOk c.bring-done.result (IsUsedLast pages.pool h.unit h.page))
-          c.home-home.ensures.home c.bring-done.ensures.used);
+          c.home-home.ensures.home c.bring-done.ensures.comes.used);
       stays = kept_for (home_of c.args.n).unit (home_of c.args.n).page store c.end.new.self
           (record store.transactions { pages = pages }) store.kept rest
           (subst (λ (h : Home). KeepsFramedFor h.unit h.page store.transactions.pages pages)
@@ -71,5 +71,5 @@ returns-clause-brought g c =
     (HasBrought h.unit h.page store old c.end.new.self after)) c.home-home.ensures.home
     (has_brought c.home-home.result.unit c.home-home.result.page store c.bring-done.new.self old
     after c.bring-done.result c.end.result c.end.new.self c.facts.ensures.once
-    c.bring-done.ensures.upholds c.bring-done.ensures.there c.bring-done.ensures.fresh
+    c.bring-done.ensures.works.upholds c.bring-done.ensures.comes.there c.bring-done.ensures.comes.fresh
     c.bring-done.ensures.asks c.end.ensures.rest c.end.ensures.ends)

@@ -11,23 +11,23 @@ returns-clause-calls g c =
     old (g.C.Chip.told c.bring-done.new.chip) c.bring-done.result c.end.result c.end.new.self
     c.requires.up c.requires.sound
     (pages_move 14 store.transactions pages old (g.C.Chip.told c.bring-done.new.chip)
-    c.bring-done.result (c.requires.sound.order c.requires.up) c.bring-done.ensures.upholds
-    c.bring-done.ensures.complete
-    c.bring-done.ensures.faults)
+    c.bring-done.result (c.requires.sound.order c.requires.up) c.bring-done.ensures.works.upholds
+    c.bring-done.ensures.works.complete
+    c.bring-done.ensures.works.faults)
     c.end.ensures.rest c.end.ensures.ends None refl
 
 pub returns-clause-holds : goal.returns-clause-holds
 returns-clause-holds g c =
     let store = c.args.self.now in
     kept_holds store c.end.new.self (record store.transactions { pages = c.bring-done.new.self })
-    store.kept c.end.ensures.rest c.bring-done.ensures.upholds.pins
+    store.kept c.end.ensures.rest c.bring-done.ensures.works.upholds.pins
 
 pub returns-clause-framed : goal.returns-clause-framed
 returns-clause-framed g c =
     let store = c.args.self.now in
     ended_framed c.args.unit c.args.page store c.end.new.self
     (record store.transactions { pages = c.bring-done.new.self }) store.kept c.bring-done.result
-    c.end.result c.end.ensures.rest c.end.ensures.ends c.bring-done.ensures.there
+    c.end.result c.end.ensures.rest c.end.ensures.ends c.bring-done.ensures.comes.there
 
 pub returns-clause-stays : goal.returns-clause-stays
 returns-clause-stays g c =
@@ -41,7 +41,7 @@ returns-clause-used g c =
     let store = c.args.self.now in
     ended_used c.args.unit c.args.page store c.end.new.self
     (record store.transactions { pages = c.bring-done.new.self }) store.kept c.bring-done.result
-    c.end.result c.end.ensures.rest c.end.ensures.ends c.bring-done.ensures.used
+    c.end.result c.end.ensures.rest c.end.ensures.ends c.bring-done.ensures.comes.used
 
 pub returns-clause-asks : goal.returns-clause-asks
 returns-clause-asks g c = record {

@@ -29,15 +29,15 @@ returns-clause-calls g c =
     c.merge-done.result
     c.end.result c.end.new.self up c.requires.sound
     (pages_move 13 store.transactions c.merge-done.new.self old after c.merge-done.result
-    (c.requires.sound.order up) c.merge-done.ensures.upholds c.merge-done.ensures.complete
-    c.merge-done.ensures.faults)
+    (c.requires.sound.order up) c.merge-done.ensures.works.upholds c.merge-done.ensures.works.complete
+    c.merge-done.ensures.works.faults)
     c.end.ensures.rest c.end.ensures.ends (early_fault (entry_fault store) refusal) none
 
 pub returns-clause-holds : goal.returns-clause-holds
 returns-clause-holds g c =
     let store = c.args.self.now in
     kept_holds store c.end.new.self (record store.transactions { pages = c.merge-done.new.self })
-    store.kept c.end.ensures.rest c.merge-done.ensures.upholds.pins
+    store.kept c.end.ensures.rest c.merge-done.ensures.works.upholds.pins
 
 pub returns-in_err-admit-clause-framed : goal.returns-in_err-admit-clause-framed
 returns-in_err-admit-clause-framed g c = λ u page is. is

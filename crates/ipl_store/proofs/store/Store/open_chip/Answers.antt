@@ -37,13 +37,13 @@ returns-in_err-recovered-clause-tries g c =
     rw (e.1, e.2) (record {
       tells = says.tells;
       steps = says.steps;
-      looks = says.looks;
-      complete = says.complete;
-      bytes = says.bytes;
-      tidy = says.tidy;
-      costs = says.costs;
-      renewed = says.renewed;
-      accounts = says.accounts;
+      looks = says.fails.looks;
+      complete = says.fails.complete;
+      bytes = says.fails.bytes;
+      tidy = says.leaves.tidy;
+      costs = says.spends.costs;
+      renewed = says.spends.renewed;
+      accounts = says.leaves.accounts;
       all = says.sized.1;
       units = subst (λ (n : ℕ). KeepsUnits n
           (length c.recover-recovered.new.parts.directory.current)) says.sized.1
@@ -79,28 +79,28 @@ fresh g c = record { up = refl; unclosed = c.forget.ensures.down.1; idle = c.for
 pub returns-clause-sound : goal.returns-clause-sound
 returns-clause-sound g c =
     fresh_sound (g.C.Chip.told c.args.chip.now).places (opened g c) (made g c) (fresh g c)
-    c.in_ok-recovered.ensures.holds (sym c.units-self.ensures)
+    c.in_ok-recovered.ensures.leaves.holds (sym c.units-self.ensures)
 
 pub returns-clause-opens : goal.returns-clause-opens
 returns-clause-opens g c =
     let old = g.C.Chip.told c.args.chip.now in
     let says = c.in_ok-recovered.ensures in
-    fresh_opens old.places (opened g c) (made g c) (fresh g c) says.holds (sym c.units-self.ensures)
+    fresh_opens old.places (opened g c) (made g c) (fresh g c) says.leaves.holds (sym c.units-self.ensures)
     c.args.marks old
-    (g.C.Chip.told c.recover-recovered.new.chip) says.tells says.steps says.number says.left
+    (g.C.Chip.told c.recover-recovered.new.chip) says.tells says.steps says.leaves.number says.leaves.left
 
 pub returns-clause-tries : goal.returns-clause-tries
 returns-clause-tries g c =
     let says = c.in_ok-recovered.ensures in record {
       tells = says.tells;
       steps = says.steps;
-      looks = says.looks;
-      complete = says.complete;
-      bytes = says.bytes;
-      tidy = says.tidy;
-      costs = says.costs;
-      renewed = says.renewed;
-      accounts = says.accounts;
+      looks = says.fails.looks;
+      complete = says.fails.complete;
+      bytes = says.fails.bytes;
+      tidy = says.leaves.tidy;
+      costs = says.spends.costs;
+      renewed = says.spends.renewed;
+      accounts = says.leaves.accounts;
       all = says.sized.1;
       units = subst (λ (n : ℕ). KeepsUnits n
           (length c.recover-recovered.new.parts.directory.current)) says.sized.1
@@ -110,7 +110,7 @@ returns-clause-tries g c =
 pub returns-clause-leads : goal.returns-clause-leads
 returns-clause-leads g c = λ unmarked.
     let old = g.C.Chip.told c.args.chip.now in
-    fresh_restarts old.places (opened g c) (made g c) (fresh g c) c.in_ok-recovered.ensures.holds
+    fresh_restarts old.places (opened g c) (made g c) (fresh g c) c.in_ok-recovered.ensures.leaves.holds
     (sym c.units-self.ensures) c.args.marks unmarked (memory_of_store c.args.self.now) old
     (g.C.Chip.told c.recover-recovered.new.chip) refl c.in_ok-recovered.ensures.tells
     c.in_ok-recovered.ensures.steps

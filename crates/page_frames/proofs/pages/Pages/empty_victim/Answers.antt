@@ -8,29 +8,29 @@ use Rattle.page_frames.proofs.FrameLemmas.{emptied_out, emptied_none}
 use Rattle.page_frames.proofs.HeldLemmas.{unheld_frame}
 use Rattle.page_frames.proofs.LeaveLemmas.{leaves_unheld}
 use Rattle.page_frames.proofs.UpholdLemmas.{upholds_none}
+use Rattle.page_frames.proofs.WorkLemmas.{works_done}
 use Rattle.page_frames.proofs.pages.Pages.empty_victim.Goals as goal
 
-pub returns-in_default-clause-upholds : goal.returns-in_default-clause-upholds
-returns-in_default-clause-upholds g c =
-    upholds_none 14 c.args.self.now (g.C.Chip.told c.args.chip.now) c.requires.ready
+pub returns-in_default-clause-works : goal.returns-in_default-clause-works
+returns-in_default-clause-works g c =
+    let old = c.args.self.now in
+    let told = g.C.Chip.told c.args.chip.now in
+    works_done 14 old old told told (upholds_none 14 old told c.requires.ready)
 
-pub write_out-requires-clause-unit : goal.write_out-requires-clause-unit
-write_out-requires-clause-unit g c =
+pub write_out-requires-clause-page : goal.write_out-requires-clause-page
+write_out-requires-clause-page g c =
     let pool = c.args.self.now.pool in
     let chosen = subst (IsVictimFor pool) c.in-Some.is c.requires.chosen in
-    let unheld : IsUnheld pool c.in-Some.unit c.in-Some.page = chosen.2 in
-    c.requires.ready.within c.in-Some.unit c.in-Some.page (frame_in unheld.buffer)
-    (unheld_frame pool c.in-Some.unit c.in-Some.page c.facts.ensures.once unheld)
+    let unheld : IsUnheld pool c.in-Some.unit c.in-Some.page = chosen.2 in record {
+      unit = c.requires.ready.within c.in-Some.unit c.in-Some.page (frame_in unheld.buffer)
+          (unheld_frame pool c.in-Some.unit c.in-Some.page c.facts.ensures.once unheld);
+      few = chosen.1;
+    }
 
-pub returns-in_err-write_out-clause-complete : goal.returns-in_err-write_out-clause-complete
-returns-in_err-write_out-clause-complete g c =
+pub returns-in_err-write_out-clause-works : goal.returns-in_err-write_out-clause-works
+returns-in_err-write_out-clause-works g c =
     let e = err_from_is_err_and c.from_residual.result c.from_residual.ensures.1 in
-    rw (e.1, e.2) c.in_err-write_out.ensures.complete
-
-pub returns-in_err-write_out-clause-faults : goal.returns-in_err-write_out-clause-faults
-returns-in_err-write_out-clause-faults g c =
-    let e = err_from_is_err_and c.from_residual.result c.from_residual.ensures.1 in
-    rw (e.1, e.2) c.in_err-write_out.ensures.faults
+    rw (e.1, e.2) c.in_err-write_out.ensures.works
 
 pub returns-in_err-write_out-clause-absent : goal.returns-in_err-write_out-clause-absent
 returns-in_err-write_out-clause-absent g c = λ u q none.
@@ -46,7 +46,7 @@ returns-clause-may g c =
     let chosen = subst (IsVictimFor old) c.in-Some.is c.requires.chosen in
     subst (MayGive new) (sym c.in-Some.is) (
       chosen.1,
-      leaves_unheld old new unit page c.facts.ensures.once c.facts-2.ensures.once is.upholds.pins
+      leaves_unheld old new unit page c.facts.ensures.once c.facts-2.ensures.once is.works.upholds.pins
           is.frames chosen.2,
       ap (λ (F : Frames). logs_of F unit page) is.frames
           ∙ emptied_out (frames_in c.args.self.now) unit page,

@@ -3,6 +3,7 @@ use Rattle.std.proofs.lemmas.Bool.{false≢true}
 use Rattle.std.proofs.lemmas.Result.{err_from_is_err_and}
 use Rattle.chip_trait.specs.Told.{Told}
 use Rattle.ipl_meaning.specs.Tables.{Tables}
+use Rattle.unit_io.specs.Costs.{Costs, Spends}
 use Rattle.place_taking.specs.Spending.{is_worn_out}
 use Rattle.page_ops.specs.Frames.{empty_frame}
 use Rattle.buffer_pool.specs.Pools.{PoolView}
@@ -27,79 +28,48 @@ fill-requires-clause-empty g c =
     ap (λ (F : Frames). logs_of F c.args.unit c.args.page) it.takes.frames
     ∙ taken_log (frames_of it.between) c.args.unit c.args.page (frame_of empty_frame []) refl
 
-pub returns-clause-upholds : goal.returns-clause-upholds
-returns-clause-upholds g c =
+pub returns-clause-works : goal.returns-clause-works
+returns-clause-works g c =
     let victim = c.choose_victim-victim.result in
     let mid = c.empty_victim.new.self in
     let it = c.give_frame.ensures in
     let did = c.in_ok-empty_victim.ensures in
     let all = fetched victim c.args.unit c.args.page c.args.self.now mid c.fill.new.self it.between
     c.fill.result (g.C.Chip.told c.args.chip.now) (g.C.Chip.told c.empty_victim.new.chip)
-    (g.C.Chip.told c.fill.new.chip) did.upholds c.facts.ensures.once did.may it.gives
+    (g.C.Chip.told c.fill.new.chip) did.works.upholds c.facts.ensures.once did.may it.gives
     (did.absent c.args.unit c.args.page c.requires.absent)
     (λ ready none. c.fill.ensures.fills it.between ready none it.takes) in
-    all.upholds
+    all.works
 
-pub returns-clause-complete : goal.returns-clause-complete
-returns-clause-complete g c =
+pub returns-clause-comes : goal.returns-clause-comes
+returns-clause-comes g c =
     let victim = c.choose_victim-victim.result in
     let mid = c.empty_victim.new.self in
     let it = c.give_frame.ensures in
     let did = c.in_ok-empty_victim.ensures in
     let all = fetched victim c.args.unit c.args.page c.args.self.now mid c.fill.new.self it.between
     c.fill.result (g.C.Chip.told c.args.chip.now) (g.C.Chip.told c.empty_victim.new.chip)
-    (g.C.Chip.told c.fill.new.chip) did.upholds c.facts.ensures.once did.may it.gives
+    (g.C.Chip.told c.fill.new.chip) did.works.upholds c.facts.ensures.once did.may it.gives
     (did.absent c.args.unit c.args.page c.requires.absent)
-    (λ ready none. c.fill.ensures.fills it.between ready none it.takes) in
-    all.complete
+    (λ ready none. c.fill.ensures.fills it.between ready none it.takes) in record {
+      fresh = brings_fresh c.fill.result c.args.unit c.args.page (with_pool mid it.between) c.fill.new.self
+          all.fills.brings;
+      used = all.fills.used;
+    }
 
-pub returns-clause-faults : goal.returns-clause-faults
-returns-clause-faults g c =
-    let victim = c.choose_victim-victim.result in
-    let mid = c.empty_victim.new.self in
-    let it = c.give_frame.ensures in
-    let did = c.in_ok-empty_victim.ensures in
-    let all = fetched victim c.args.unit c.args.page c.args.self.now mid c.fill.new.self it.between
-    c.fill.result (g.C.Chip.told c.args.chip.now) (g.C.Chip.told c.empty_victim.new.chip)
-    (g.C.Chip.told c.fill.new.chip) did.upholds c.facts.ensures.once did.may it.gives
-    (did.absent c.args.unit c.args.page c.requires.absent)
-    (λ ready none. c.fill.ensures.fills it.between ready none it.takes) in
-    all.faults
-
-pub returns-clause-fresh : goal.returns-clause-fresh
-returns-clause-fresh g c =
-    let victim = c.choose_victim-victim.result in
-    let mid = c.empty_victim.new.self in
-    let it = c.give_frame.ensures in
-    let did = c.in_ok-empty_victim.ensures in
-    let all = fetched victim c.args.unit c.args.page c.args.self.now mid c.fill.new.self it.between
-    c.fill.result (g.C.Chip.told c.args.chip.now) (g.C.Chip.told c.empty_victim.new.chip)
-    (g.C.Chip.told c.fill.new.chip) did.upholds c.facts.ensures.once did.may it.gives
-    (did.absent c.args.unit c.args.page c.requires.absent)
-    (λ ready none. c.fill.ensures.fills it.between ready none it.takes) in
-    brings_fresh c.fill.result c.args.unit c.args.page (with_pool mid it.between) c.fill.new.self
-    all.fills.brings
-
-pub returns-clause-used : goal.returns-clause-used
-returns-clause-used g c =
-    let victim = c.choose_victim-victim.result in
-    let mid = c.empty_victim.new.self in
-    let it = c.give_frame.ensures in
-    let did = c.in_ok-empty_victim.ensures in
-    let all = fetched victim c.args.unit c.args.page c.args.self.now mid c.fill.new.self it.between
-    c.fill.result (g.C.Chip.told c.args.chip.now) (g.C.Chip.told c.empty_victim.new.chip)
-    (g.C.Chip.told c.fill.new.chip) did.upholds c.facts.ensures.once did.may it.gives
-    (did.absent c.args.unit c.args.page c.requires.absent)
-    (λ ready none. c.fill.ensures.fills it.between ready none it.takes) in
-    all.fills.used
-
-pub returns-clause-costs : goal.returns-clause-costs
-returns-clause-costs g c =
-    logs_then_reads c.args.self.now.parts.directory c.empty_victim.new.self.parts.directory
-    c.fill.new.self.parts.directory (is_worn_out c.fill.result) (g.C.Chip.told c.args.chip.now)
-    (g.C.Chip.told c.empty_victim.new.chip) (g.C.Chip.told c.fill.new.chip)
-    (ap (λ (t : Tables). t.places.retired) c.fill.ensures.tables) c.fill.ensures.unworn
-    c.in_ok-empty_victim.ensures.costs c.fill.ensures.costs
+pub returns-clause-asks : goal.returns-clause-asks
+returns-clause-asks g c =
+    let told = g.C.Chip.told c.args.chip.now in
+    let mid = g.C.Chip.told c.empty_victim.new.chip in
+    let did = c.in_ok-empty_victim.ensures in record {
+      free = λ free. subst (λ (t : Told). Spends (Costs 0 0 0 []) t (g.C.Chip.told c.fill.new.chip))
+          (did.asks.idle (free_is_chosen c.choose_victim-victim.result c.args.self.now.pool
+          c.choose_victim-victim.ensures free)).2 c.fill.ensures.costs;
+      costs = logs_then_reads c.args.self.now.parts.directory c.empty_victim.new.self.parts.directory
+          c.fill.new.self.parts.directory (is_worn_out c.fill.result) told mid
+          (g.C.Chip.told c.fill.new.chip) (ap (λ (t : Tables). t.places.retired) c.fill.ensures.tables)
+          c.fill.ensures.unworn did.asks.costs c.fill.ensures.costs;
+    }
 
 pub returns-clause-exact : goal.returns-clause-exact
 returns-clause-exact g c =
@@ -109,11 +79,11 @@ returns-clause-exact g c =
     let did = c.in_ok-empty_victim.ensures in
     let all = fetched victim c.args.unit c.args.page c.args.self.now mid c.fill.new.self it.between
     c.fill.result (g.C.Chip.told c.args.chip.now) (g.C.Chip.told c.empty_victim.new.chip)
-    (g.C.Chip.told c.fill.new.chip) did.upholds c.facts.ensures.once did.may it.gives
+    (g.C.Chip.told c.fill.new.chip) did.works.upholds c.facts.ensures.once did.may it.gives
     (did.absent c.args.unit c.args.page c.requires.absent)
     (λ ready none. c.fill.ensures.fills it.between ready none it.takes) in
     λ free.
-    let same = did.idle (free_is_chosen victim c.args.self.now.pool c.choose_victim-victim.ensures free)
+    let same = did.asks.idle (free_is_chosen victim c.args.self.now.pool c.choose_victim-victim.ensures free)
     in
     subst (λ (told : Told). FailsAsPage (tables_in c.args.self.now) c.args.unit c.args.page
     c.fill.result told) same.2
@@ -128,7 +98,7 @@ returns-clause-framed g c =
     let did = c.in_ok-empty_victim.ensures in
     let all = fetched victim c.args.unit c.args.page c.args.self.now mid c.fill.new.self it.between
     c.fill.result (g.C.Chip.told c.args.chip.now) (g.C.Chip.told c.empty_victim.new.chip)
-    (g.C.Chip.told c.fill.new.chip) did.upholds c.facts.ensures.once did.may it.gives
+    (g.C.Chip.told c.fill.new.chip) did.works.upholds c.facts.ensures.once did.may it.gives
     (did.absent c.args.unit c.args.page c.requires.absent)
     (λ ready none. c.fill.ensures.fills it.between ready none it.takes) in
     let made = with_pool mid it.between in
@@ -138,7 +108,7 @@ returns-clause-framed g c =
         | inl there ↦ absurd (false≢true (subst IsSome c.requires.absent there))
         | inr free ↦
             let none = free_is_chosen victim c.args.self.now.pool c.choose_victim-victim.ensures free in
-            subst (λ (pages : Pages). KeepsFramed pages c.fill.new.self) (did.idle none).1
+            subst (λ (pages : Pages). KeepsFramed pages c.fill.new.self) (did.asks.idle none).1
             (subst (λ (p : PoolView). KeepsFramed (with_pool mid p) c.fill.new.self)
             (given_none victim mid.pool it.between none it.gives) keeps)
       ];
@@ -150,19 +120,14 @@ returns-clause-framed g c =
           (all.fills.others v q used apart now);
     }
 
-pub returns-in_err-empty_victim-clause-complete : goal.returns-in_err-empty_victim-clause-complete
-returns-in_err-empty_victim-clause-complete g c =
+pub returns-in_err-empty_victim-clause-works : goal.returns-in_err-empty_victim-clause-works
+returns-in_err-empty_victim-clause-works g c =
     let e = err_from_is_err_and c.from_residual.result c.from_residual.ensures.1 in
-    rw (e.1, e.2) c.in_err-empty_victim.ensures.complete
-
-pub returns-in_err-empty_victim-clause-faults : goal.returns-in_err-empty_victim-clause-faults
-returns-in_err-empty_victim-clause-faults g c =
-    let e = err_from_is_err_and c.from_residual.result c.from_residual.ensures.1 in
-    rw (e.1, e.2) c.in_err-empty_victim.ensures.faults
+    rw (e.1, e.2) c.in_err-empty_victim.ensures.works
 
 pub returns-in_err-empty_victim-clause-exact : goal.returns-in_err-empty_victim-clause-exact
 returns-in_err-empty_victim-clause-exact g c = λ free. absurd (false≢true
-    (c.in_err-empty_victim.ensures.idle (free_is_chosen c.choose_victim-victim.result
+    (c.in_err-empty_victim.ensures.asks.idle (free_is_chosen c.choose_victim-victim.result
     c.args.self.now.pool c.choose_victim-victim.ensures free)).0)
 
 pub returns-in_err-empty_victim-clause-framed : goal.returns-in_err-empty_victim-clause-framed

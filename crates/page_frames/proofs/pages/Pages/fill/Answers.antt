@@ -1,4 +1,4 @@
-use Rattle.std.proofs.Common.{[], refl, ◌∙◌, ap, Ok, Err}
+use Rattle.std.proofs.Common.{[], refl, ◌∙◌, ap, Err}
 use Rattle.buffer_pool.proofs.HoldingLemmas.{both_keep}
 use Rattle.buffer_pool.proofs.UseLemmas.{kept_uses_are_last, same_counts}
 use Rattle.page_ops.specs.Frames.{empty_frame}
@@ -13,6 +13,7 @@ use Rattle.page_frames.proofs.LoadLemmas.{loaded_then, freed_then, load_upholds,
 use Rattle.page_frames.proofs.SpendLemmas.{reads_alone}
 use Rattle.page_frames.proofs.CompleteLemmas.{loaded_completes}
 use Rattle.page_frames.proofs.TellLemmas.{loaded_tells}
+use Rattle.page_frames.proofs.WorkLemmas.{works_done}
 use Rattle.page_frames.proofs.pages.Pages.fill.Goals as goal
 
 pub free_frame-requires-clause-empty : goal.free_frame-requires-clause-empty
@@ -31,19 +32,16 @@ returns-in-Ok-clause-fills g c = λ pool ready absent takes.
     let told = g.C.Chip.told c.args.chip.now in
     let frames = loaded_then (frames_of pool) (frames_in c.args.self.now) (frames_in new) u q
     (frame_of empty_frame []) (frame_of is.loads.view []) takes.frames is.loads.frames in record {
-      upholds = load_upholds u q is.loads.view old new told
-          (g.C.Chip.told c.load_frame.new.chip) ready c.requires.unit c.requires.page absent
-          is.tables frames is.reads is.loads.loaded
-          (both_keep pool c.args.self.now.pool new.pool takes.pins is.pins);
-      complete = loaded_completes {T = Unit {0}} u q old (Ok (tt {0})) told c.requires.unit
-          c.requires.page is.complete;
-      faults = loaded_tells {T = Unit {0}} u q old new (Ok (tt {0})) told c.requires.unit
-          c.requires.page is.tables is.exact;
+      works = works_done 0 old new told (g.C.Chip.told c.load_frame.new.chip)
+          (load_upholds u q is.loads.view old new told
+          (g.C.Chip.told c.load_frame.new.chip) ready c.requires.page.unit c.requires.page.few absent
+          is.tables frames is.asks.reads is.loads.loaded
+          (both_keep pool c.args.self.now.pool new.pool takes.pins is.pool.pins));
       exact = is.exact;
       brings = (frame_of is.loads.view [], refl, frames);
       others = λ v r used apart now. takes.others v r used apart
-          (same_counts u q c.args.self.now.pool new.pool is.uses v r used apart now);
-      used = kept_uses_are_last c.args.self.now.pool new.pool u q is.uses takes.last;
+          (same_counts u q c.args.self.now.pool new.pool is.pool.uses v r used apart now);
+      used = kept_uses_are_last c.args.self.now.pool new.pool u q is.pool.uses takes.last;
     }
 
 pub returns-in-Err-clause-fills : goal.returns-in-Err-clause-fills
@@ -60,19 +58,21 @@ returns-in-Err-clause-fills g c = λ pool ready absent takes.
     (loaded_then (frames_of pool) (frames_in c.args.self.now) (frames_in mid) u q
     (frame_of empty_frame []) (frame_of is.loads.view []) takes.frames is.loads.frames)
     c.free_frame.ensures.frames in record {
-      upholds = fail_upholds old new c.in-Err.fault told (g.C.Chip.told c.load_frame.new.chip) ready
-          is.tables freed is.reads is.unworn
-          (both_keep pool c.args.self.now.pool c.free_frame.new.pool takes.pins
-          (both_keep c.args.self.now.pool mid.pool c.free_frame.new.pool is.pins
-          c.free_frame.ensures.pins)) is.accounts.cause;
-      complete = loaded_completes {T = Unit {0}} u q old (Err c.in-Err.fault) told c.requires.unit
-          c.requires.page is.complete;
-      faults = loaded_tells {T = Unit {0}} u q old new (Err c.in-Err.fault) told c.requires.unit
-          c.requires.page is.tables is.exact;
+      works = record {
+        upholds = fail_upholds old new c.in-Err.fault told (g.C.Chip.told c.load_frame.new.chip) ready
+            is.tables freed is.asks.reads is.asks.unworn
+            (both_keep pool c.args.self.now.pool c.free_frame.new.pool takes.pins
+            (both_keep c.args.self.now.pool mid.pool c.free_frame.new.pool is.pool.pins
+            c.free_frame.ensures.pins)) is.asks.accounts.cause;
+        complete = loaded_completes {T = Unit {0}} u q old (Err c.in-Err.fault) told c.requires.page.unit
+            c.requires.page.few is.complete;
+        faults = loaded_tells {T = Unit {0}} u q old new (Err c.in-Err.fault) told c.requires.page.unit
+            c.requires.page.few is.tables is.exact;
+      };
       exact = is.exact;
       brings = freed;
       others = λ v r used apart now. takes.others v r used apart
-          (same_counts u q c.args.self.now.pool mid.pool is.uses v r used apart
+          (same_counts u q c.args.self.now.pool mid.pool is.pool.uses v r used apart
           (c.free_frame.ensures.uses v r used now));
       used = tt;
     }
@@ -80,9 +80,9 @@ returns-in-Err-clause-fills g c = λ pool ready absent takes.
 pub returns-in-Ok-clause-costs : goal.returns-in-Ok-clause-costs
 returns-in-Ok-clause-costs g c =
     reads_alone Anywhere (g.C.Chip.told c.args.chip.now) (g.C.Chip.told c.load_frame.new.chip)
-    c.in-Ok.ensures.reads
+    c.in-Ok.ensures.asks.reads
 
 pub returns-in-Err-clause-costs : goal.returns-in-Err-clause-costs
 returns-in-Err-clause-costs g c =
     reads_alone Anywhere (g.C.Chip.told c.args.chip.now) (g.C.Chip.told c.load_frame.new.chip)
-    c.in-Err.ensures.reads
+    c.in-Err.ensures.asks.reads

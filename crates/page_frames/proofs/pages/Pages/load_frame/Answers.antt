@@ -13,7 +13,7 @@ use Rattle.store_laws.specs.Views.{frame_of}
 use Rattle.page_frames.specs.Pages.{tables_in, frames_in}
 use Rattle.page_frames.proofs.HeldLemmas.{unheld_page, has_log}
 use Rattle.page_frames.proofs.CompleteLemmas.{load_completes}
-use Rattle.page_frames.proofs.LoadLemmas.{load_unworn}
+use Rattle.page_frames.proofs.LoadLemmas.{load_asks}
 use Rattle.page_frames.proofs.TellLemmas.{load_exact}
 use Rattle.page_frames.proofs.pages.Pages.load_frame.Goals as goal
 
@@ -45,28 +45,6 @@ returns-clause-loads g c =
           }))) c.load.ensures.loads;
     }
 
-pub returns-clause-unheld : goal.returns-clause-unheld
-returns-clause-unheld g c =
-    let p = c.args.self.now.pool in
-    let is = c.requires.unheld in
-    let has = unheld_page p c.args.unit c.args.page is in
-    let same = c.facts.ensures.once c.args.unit c.args.page c.in-Some.key is.key
-    c.in-Some.ensures.found has in
-    let f = c.load.new.frame in
-    rw same (record {
-      key = is.key;
-      buffer = with_frame f is.buffer;
-      stored = stored_then p c.args.unit c.args.page is.key c.facts.ensures.once has f;
-      unit_is = is.unit_is;
-      page_is = is.page_is;
-      unpinned = is.unpinned;
-    })
-
-pub returns-clause-pins : goal.returns-clause-pins
-returns-clause-pins g c =
-    frame_pins c.args.self.now.pool c.args.unit c.args.page c.in-Some.key c.facts.ensures.once
-    c.in-Some.ensures.found c.load.new.frame
-
 pub returns-clause-complete : goal.returns-clause-complete
 returns-clause-complete g c =
     let told = g.C.Chip.told c.args.chip.now in
@@ -85,12 +63,30 @@ returns-clause-exact g c =
     TellsChipFault (load_fault x it (among l) c.args.unit c.args.page) c.load.result))
     c.as_slice.ensures.numbers c.load.ensures.fault)
 
-pub returns-clause-uses : goal.returns-clause-uses
-returns-clause-uses g c =
-    frame_uses c.args.self.now.pool c.args.unit c.args.page c.in-Some.key c.facts.ensures.once
-    c.in-Some.ensures.found c.load.new.frame
+pub returns-clause-pool : goal.returns-clause-pool
+returns-clause-pool g c =
+    let p = c.args.self.now.pool in
+    let u = c.args.unit in
+    let page = c.args.page in
+    let is = c.requires.unheld in
+    let once = c.facts.ensures.once in
+    let has = unheld_page p u page is in
+    let f = c.load.new.frame in
+    let same = once u page c.in-Some.key is.key c.in-Some.ensures.found has in record {
+      unheld = rw same (record {
+        key = is.key;
+        buffer = with_frame f is.buffer;
+        stored = stored_then p u page is.key once has f;
+        unit_is = is.unit_is;
+        page_is = is.page_is;
+        unpinned = is.unpinned;
+      });
+      pins = frame_pins p u page c.in-Some.key once c.in-Some.ensures.found f;
+      uses = frame_uses p u page c.in-Some.key once c.in-Some.ensures.found f;
+    }
 
-pub returns-clause-unworn : goal.returns-clause-unworn
-returns-clause-unworn g c =
-    load_unworn _ _ c.args.page c.load.result (g.C.Chip.told c.args.chip.now)
-    (g.C.Chip.told c.load.new.chip) c.load.ensures.cause
+pub returns-clause-asks : goal.returns-clause-asks
+returns-clause-asks g c =
+    load_asks c.args.self.now.parts.directory _ _ c.args.page c.load.result
+    (g.C.Chip.told c.args.chip.now) (g.C.Chip.told c.load.new.chip) c.requires.page.few
+    c.load.ensures.reads c.load.ensures.cause

@@ -9,41 +9,41 @@ use Rattle.page_frames.specs.declared.pages.Pages.{Pages}
 use Rattle.buffer_pool.proofs.UseLemmas.{same_counts}
 use Rattle.page_frames.proofs.AskLemmas.{fitting_asks, framed_asks, fetched_asks}
 use Rattle.page_frames.proofs.BringLemmas.{fits_fresh, out_fresh, same_values, out_values, no_values}
-use Rattle.page_frames.proofs.CompleteLemmas.{completes_then}
-use Rattle.page_frames.proofs.TellLemmas.{tells_then}
-use Rattle.page_frames.proofs.UpholdLemmas.{upholds_then}
 use Rattle.page_frames.proofs.UseLemmas.{used_upholds, used_framed, used_after, stays_for}
+use Rattle.page_frames.proofs.WorkLemmas.{works_done, works_then}
 use Rattle.page_frames.proofs.pages.Pages.prepare.Goals as goal
 
 -- ---- its page is in no frame
 
-pub returns-then-not-is_framed-clause-room : goal.returns-then-not-is_framed-clause-room
-returns-then-not-is_framed-clause-room g c =
-    on_ok_weaker c.fetch.result
-    (fits_fresh c.fetch.new.self c.args.unit (record_of c.args.logged.now) c.short.ensures)
-    c.fetch.ensures.fresh
+pub returns-then-not-is_framed-clause-prepares : goal.returns-then-not-is_framed-clause-prepares
+returns-then-not-is_framed-clause-prepares g c =
+    let new = c.fetch.new.self in
+    let is = c.fetch.ensures.comes in record {
+      room = on_ok_weaker c.fetch.result
+          (fits_fresh new c.args.unit (record_of c.args.logged.now) c.short.ensures) is.fresh;
+      values = no_values c.fetch.result c.args.unit c.args.logged.now.page c.args.self.now new
+          (λ there. false≢true (c.if-not-is_framed.ensures.1 there));
+      used = is.used;
+    }
 
 pub returns-then-not-is_framed-clause-asks : goal.returns-then-not-is_framed-clause-asks
 returns-then-not-is_framed-clause-asks g c =
     fetched_asks c.args.unit (record_of c.args.logged.now) (is_worn_out c.fetch.result) c.args.self.now c.fetch.new.self
     (g.C.Chip.told c.args.chip.now) (g.C.Chip.told c.fetch.new.chip)
-    (λ there. false≢true (c.if-not-is_framed.ensures.1 there)) c.fetch.ensures.idle
-    c.fetch.ensures.costs
-
-pub returns-then-not-is_framed-clause-values : goal.returns-then-not-is_framed-clause-values
-returns-then-not-is_framed-clause-values g c =
-    no_values c.fetch.result c.args.unit c.args.logged.now.page c.args.self.now c.fetch.new.self
-    (λ there. false≢true (c.if-not-is_framed.ensures.1 there))
+    (λ there. false≢true (c.if-not-is_framed.ensures.1 there)) c.fetch.ensures.asks
 
 -- ---- it is in one, with room for the record
 
 pub use_page-requires-clause-there : goal.use_page-requires-clause-there
 use_page-requires-clause-there g c = c.if-not-is_framed.ensures.0 refl
 
-pub returns-then-has_room-clause-upholds : goal.returns-then-has_room-clause-upholds
-returns-then-has_room-clause-upholds g c =
-    used_upholds 14 c.args.self.now c.use_page.new.pool (g.C.Chip.told c.args.chip.now)
-    c.requires.ready c.use_page.ensures.frames c.use_page.ensures.pins
+pub returns-then-has_room-clause-works : goal.returns-then-has_room-clause-works
+returns-then-has_room-clause-works g c =
+    let old = c.args.self.now in
+    let pool = c.use_page.new.pool in
+    let told = g.C.Chip.told c.args.chip.now in
+    works_done 14 old (record old { pool = pool }) told told
+    (used_upholds 14 old pool told c.requires.ready c.use_page.ensures.frames c.use_page.ensures.pins)
 
 pub returns-then-has_room-clause-framed : goal.returns-then-has_room-clause-framed
 returns-then-has_room-clause-framed g c =
@@ -57,11 +57,14 @@ returns-then-has_room-clause-asks g c =
     fitting_asks c.args.unit (record_of c.args.logged.now) c.args.self.now c.use_page.new.pool
     (g.C.Chip.told c.args.chip.now) c.use_page.ensures.uses
 
-pub returns-then-has_room-clause-values : goal.returns-then-has_room-clause-values
-returns-then-has_room-clause-values g c =
-    let old = c.args.self.now in
-    same_values c.args.unit c.args.logged.now.page old (record old { pool = c.use_page.new.pool })
-    c.use_page.ensures.frames
+pub returns-then-has_room-clause-prepares : goal.returns-then-has_room-clause-prepares
+returns-then-has_room-clause-prepares g c =
+    let old = c.args.self.now in record {
+      room = c.has_room.ensures.0 c.if-has_room.true;
+      values = same_values c.args.unit c.args.logged.now.page old
+          (record old { pool = c.use_page.new.pool }) c.use_page.ensures.frames;
+      used = c.use_page.ensures.last;
+    }
 
 -- ---- with none
 
@@ -70,59 +73,37 @@ write_out-requires-clause-ready g c =
     (used_upholds 14 c.args.self.now c.use_page.new.pool (g.C.Chip.told c.args.chip.now)
     c.requires.ready c.use_page.ensures.frames c.use_page.ensures.pins).ready
 
-pub returns-clause-upholds : goal.returns-clause-upholds
-returns-clause-upholds g c =
+pub returns-clause-works : goal.returns-clause-works
+returns-clause-works g c =
     let old = c.args.self.now in
     let told = g.C.Chip.told c.args.chip.now in
     let pool = c.use_page.new.pool in
-    upholds_then 0 14 old (record old { pool = pool }) c.write_out.new.self c.write_out.result told
+    works_then 0 14 old (record old { pool = pool }) c.write_out.new.self c.write_out.result told
     told (g.C.Chip.told c.write_out.new.chip)
     (used_upholds 0 old pool told c.requires.ready c.use_page.ensures.frames
-    c.use_page.ensures.pins) c.write_out.ensures.upholds
-
-pub returns-clause-complete : goal.returns-clause-complete
-returns-clause-complete g c =
-    let old = c.args.self.now in
-    let told = g.C.Chip.told c.args.chip.now in
-    let pool = c.use_page.new.pool in
-    completes_then old (record old { pool = pool }) c.write_out.result told told refl
-    (used_upholds 0 old pool told c.requires.ready c.use_page.ensures.frames
-    c.use_page.ensures.pins).keeps c.write_out.ensures.complete
-
-pub returns-clause-faults : goal.returns-clause-faults
-returns-clause-faults g c =
-    let old = c.args.self.now in
-    let told = g.C.Chip.told c.args.chip.now in
-    let pool = c.use_page.new.pool in
-    tells_then old (record old { pool = pool }) c.write_out.new.self c.write_out.result told told refl
-    c.write_out.ensures.upholds.active (used_upholds 0 old pool told c.requires.ready c.use_page.ensures.frames
-    c.use_page.ensures.pins).keeps c.write_out.ensures.faults
+    c.use_page.ensures.pins) c.write_out.ensures.works
 
 pub returns-clause-exact : goal.returns-clause-exact
 returns-clause-exact g c = λ none.
     absurd (false≢true (subst IsSome none (c.if-not-is_framed.ensures.0 refl)))
 
-pub returns-clause-room : goal.returns-clause-room
-returns-clause-room g c =
-    let used : Pages = record c.args.self.now { pool = c.use_page.new.pool } in
-    let page = c.args.logged.now.page in
-    on_ok_weaker c.write_out.result
-    (fits_fresh c.write_out.new.self c.args.unit (record_of c.args.logged.now) c.short.ensures)
-    (out_fresh c.write_out.result c.args.unit page used c.write_out.new.self
-    (used_framed c.args.self.now c.use_page.new.pool c.use_page.ensures.frames c.args.unit page
-    (c.if-not-is_framed.ensures.0 refl)) c.write_out.ensures.frames)
-
-pub returns-clause-values : goal.returns-clause-values
-returns-clause-values g c =
+pub returns-clause-prepares : goal.returns-clause-prepares
+returns-clause-prepares g c =
     let old = c.args.self.now in
-    out_values c.write_out.result c.args.unit c.args.logged.now.page old
-    (record old { pool = c.use_page.new.pool }) c.write_out.new.self c.use_page.ensures.frames
-    c.write_out.ensures.frames
-
-pub returns-clause-used : goal.returns-clause-used
-returns-clause-used g c =
-    used_after c.write_out.result c.use_page.new.pool c.write_out.new.self.pool c.args.unit
-    c.args.logged.now.page c.write_out.ensures.uses c.use_page.ensures.last
+    let new = c.write_out.new.self in
+    let used : Pages = record old { pool = c.use_page.new.pool } in
+    let u = c.args.unit in
+    let page = c.args.logged.now.page in record {
+      room = on_ok_weaker c.write_out.result
+          (fits_fresh new u (record_of c.args.logged.now) c.short.ensures)
+          (out_fresh c.write_out.result u page used new
+          (used_framed old used.pool c.use_page.ensures.frames u page (c.if-not-is_framed.ensures.0 refl))
+          c.write_out.ensures.frames);
+      values = out_values c.write_out.result u page old used new c.use_page.ensures.frames
+          c.write_out.ensures.frames;
+      used = used_after c.write_out.result used.pool new.pool u page c.write_out.ensures.pool.uses
+          c.use_page.ensures.last;
+    }
 
 pub returns-clause-framed : goal.returns-clause-framed
 returns-clause-framed g c =
@@ -132,7 +113,8 @@ returns-clause-framed g c =
     c.write_out.ensures.framed v q
     (used_framed c.args.self.now c.use_page.new.pool c.use_page.ensures.frames v q is))
     (λ v q used apart now. c.use_page.ensures.others v q used apart
-    (same_counts unit page c.use_page.new.pool c.write_out.new.self.pool c.write_out.ensures.uses v q
+    (same_counts unit page c.use_page.new.pool c.write_out.new.self.pool
+    c.write_out.ensures.pool.uses v q
     used apart now))
 
 pub returns-clause-asks : goal.returns-clause-asks

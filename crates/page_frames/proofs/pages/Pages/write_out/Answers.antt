@@ -9,27 +9,38 @@ use Rattle.page_frames.proofs.OutLemmas.{out_failed, cleared_frames, out_done}
 use Rattle.page_frames.proofs.UpholdLemmas.{upholds_none}
 use Rattle.page_frames.proofs.CompleteLemmas.{merge_completes}
 use Rattle.page_frames.proofs.TellLemmas.{merge_tells}
+use Rattle.page_frames.proofs.WorkLemmas.{works_done}
 use Rattle.page_frames.proofs.pages.Pages.write_out.Goals as goal
 
-pub returns-then-not-has_records-clause-upholds : goal.returns-then-not-has_records-clause-upholds
-returns-then-not-has_records-clause-upholds g c =
-    upholds_none 14 c.args.self.now (g.C.Chip.told c.args.chip.now) c.requires.ready
+pub returns-then-not-has_records-clause-works : goal.returns-then-not-has_records-clause-works
+returns-then-not-has_records-clause-works g c =
+    let old = c.args.self.now in
+    let told = g.C.Chip.told c.args.chip.now in
+    works_done 14 old old told told (upholds_none 14 old told c.requires.ready)
 
 pub returns-then-not-has_records-clause-frames : goal.returns-then-not-has_records-clause-frames
 returns-then-not-has_records-clause-frames g c =
     sym (emptied_same (frames_in c.args.self.now) c.args.unit c.args.page
     (c.if-not-has_records.ensures.none refl))
 
-pub returns-in_err-write_out-clause-upholds : goal.returns-in_err-write_out-clause-upholds
-returns-in_err-write_out-clause-upholds g c =
+pub returns-in_err-write_out-clause-works : goal.returns-in_err-write_out-clause-works
+returns-in_err-write_out-clause-works g c =
     let is = c.in_err-write_out.ensures in
+    let pages = c.args.self.now in
+    let after : Pages = record { parts = c.write_out.new.parts; pool = pages.pool } in
+    let old = g.C.Chip.told c.args.chip.now in
+    let fault = c.in_err-write_out.field-0.0 in
     let e = err_from_is_err_and c.from_residual.result c.from_residual.ensures.1 in
-    rw (e.1, e.2) (out_failed c.args.unit c.args.page
-    c.log_payload-payload.result
-    c.args.self.now (record { parts = c.write_out.new.parts; pool = c.args.self.now.pool })
-    c.in_err-write_out.field-0.0 (g.C.Chip.told c.args.chip.now) (g.C.Chip.told c.write_out.new.chip)
-    c.requires.ready refl (c.if-not-has_records.ensures.some refl) c.log_payload-payload.ensures.records is.tells
-    is.steps is.holds is.tidy is.wears is.draws is.accounts)
+    rw (e.1, e.2) (record {
+      upholds = out_failed c.args.unit c.args.page c.log_payload-payload.result pages after fault old
+          (g.C.Chip.told c.write_out.new.chip) c.requires.ready refl
+          (c.if-not-has_records.ensures.some refl) c.log_payload-payload.ensures.records is.tells is.steps
+          is.holds is.tidy is.wears is.draws is.accounts;
+      complete = merge_completes {T = Unit {0}} c.args.unit pages (Err fault) old c.requires.page.unit
+          is.complete;
+      faults = merge_tells {T = Unit {0}} c.args.unit pages after (Err fault) old c.requires.page.unit
+          is.holds.active is.fault is.stays;
+    })
 
 pub returns-then-not-has_records-clause-asks : goal.returns-then-not-has_records-clause-asks
 returns-then-not-has_records-clause-asks g c =
@@ -43,15 +54,16 @@ returns-in_err-write_out-clause-asks g c =
     (g.C.Chip.told c.args.chip.now) (g.C.Chip.told c.write_out.new.chip)
     (c.if-not-has_records.ensures.full refl) c.in_err-write_out.ensures.costs)
 
-pub returns-clause-upholds : goal.returns-clause-upholds
-returns-clause-upholds g c =
+pub returns-clause-works : goal.returns-clause-works
+returns-clause-works g c =
     let is = c.in_ok-write_out.ensures in
-    out_done c.args.unit c.args.page
-    c.log_payload-payload.result c.args.self.now
-    (record { parts = c.write_out.new.parts; pool = c.clear_log.new.pool })
-    (g.C.Chip.told c.args.chip.now) (g.C.Chip.told c.write_out.new.chip) c.requires.ready
-    c.log_payload-payload.ensures.records c.clear_log.ensures.cleared c.clear_log.ensures.pins is.tells is.steps
-    is.holds is.tidy is.wears is.draws is.accounts
+    let pages = c.args.self.now in
+    let after : Pages = record { parts = c.write_out.new.parts; pool = c.clear_log.new.pool } in
+    let old = g.C.Chip.told c.args.chip.now in
+    let new = g.C.Chip.told c.write_out.new.chip in
+    works_done 14 pages after old new (out_done c.args.unit c.args.page c.log_payload-payload.result pages
+    after old new c.requires.ready c.log_payload-payload.ensures.records c.clear_log.ensures.cleared
+    c.clear_log.ensures.pins is.tells is.steps is.holds is.tidy is.wears is.draws is.accounts)
 
 pub returns-clause-frames : goal.returns-clause-frames
 returns-clause-frames g c =
@@ -66,13 +78,6 @@ returns-clause-asks g c =
     (g.C.Chip.told c.args.chip.now) (g.C.Chip.told c.write_out.new.chip)
     (c.if-not-has_records.ensures.full refl) c.in_ok-write_out.ensures.costs
 
-pub returns-in_err-write_out-clause-complete : goal.returns-in_err-write_out-clause-complete
-returns-in_err-write_out-clause-complete g c =
-    let e = err_from_is_err_and c.from_residual.result c.from_residual.ensures.1 in
-    rw (e.1, e.2) (merge_completes {T = Unit {0}} c.args.unit c.args.self.now
-    (Err c.in_err-write_out.field-0.0) (g.C.Chip.told c.args.chip.now) c.requires.unit
-    c.in_err-write_out.ensures.complete)
-
 pub returns-then-not-has_records-clause-framed : goal.returns-then-not-has_records-clause-framed
 returns-then-not-has_records-clause-framed g c = λ u page is. is
 
@@ -85,15 +90,6 @@ returns-clause-framed g c =
     out_framed c.args.unit c.args.page c.args.self.now new
     (cleared_frames (frames_in c.args.self.now) (frames_in new) c.args.unit c.args.page
     c.clear_log.ensures.cleared)
-
-pub returns-in_err-write_out-clause-faults : goal.returns-in_err-write_out-clause-faults
-returns-in_err-write_out-clause-faults g c =
-    let e = err_from_is_err_and c.from_residual.result c.from_residual.ensures.1 in
-    let is = c.in_err-write_out.ensures in
-    rw (e.1, e.2) (merge_tells {T = Unit {0}} c.args.unit c.args.self.now
-    (record { parts = c.write_out.new.parts; pool = c.args.self.now.pool })
-    (Err c.in_err-write_out.field-0.0) (g.C.Chip.told c.args.chip.now) c.requires.unit
-    is.holds.active is.fault is.stays)
 
 pub returns-in_err-write_out-clause-exact : goal.returns-in_err-write_out-clause-exact
 returns-in_err-write_out-clause-exact g c =

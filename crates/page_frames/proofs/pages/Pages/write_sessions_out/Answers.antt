@@ -12,20 +12,35 @@ loop-i-init g c =
     none_out (written_by c.args.sessions.now c.args.numbers.now) c.args.self.now
     (g.C.Chip.told c.args.chip.now) c.requires.ready
 
-pub write_out-requires-clause-unit : goal.write_out-requires-clause-unit
-write_out-requires-clause-unit g c =
-    framed_unit (14 * c.loop-i.i) c.args.self.now c.loop-i.self (g.C.Chip.told c.args.chip.now)
-    (g.C.Chip.told c.loop-i.chip) c.page_at-unit.result.0 c.page_at-unit.result.1
-    c.loop-i.invariant.upholds c.facts.ensures.once c.page_at-unit.ensures.there
+pub write_out-requires-clause-page : goal.write_out-requires-clause-page
+write_out-requires-clause-page g c = record {
+  unit = framed_unit (14 * c.loop-i.i) c.args.self.now c.loop-i.self (g.C.Chip.told c.args.chip.now)
+      (g.C.Chip.told c.loop-i.chip) c.page_at-unit.result.0 c.page_at-unit.result.1
+      c.loop-i.invariant.upholds c.facts.ensures.once c.page_at-unit.ensures.there;
+  few = c.page_at-unit.ensures.page;
+}
 
-pub returns-in_err-write_out-clause-upholds : goal.returns-in_err-write_out-clause-upholds
-returns-in_err-write_out-clause-upholds g c =
+pub returns-in_err-write_out-clause-works : goal.returns-in_err-write_out-clause-works
+returns-in_err-write_out-clause-works g c =
+    let first = c.args.self.now in
+    let before = g.C.Chip.told c.args.chip.now in
+    let between = g.C.Chip.told c.loop-i.chip in
+    let new = c.write_out.new.self in
+    let fault = c.in_err-write_out.field-0.0 in
+    let is = c.in_err-write_out.ensures.works in
+    let done = c.loop-i.invariant.upholds in
+    let sized = done.accounts.counts.places in
     let e = err_from_is_err_and c.from_residual.result c.from_residual.ensures.1 in
-    rw (e.1, e.2) (unwritten_upholds c.loop-i.i c.len-i-end.result
-    (written_by c.args.sessions.now c.args.numbers.now) c.args.self.now
-    (g.C.Chip.told c.args.chip.now) c.loop-i.self (g.C.Chip.told c.loop-i.chip)
-    c.write_out.new.self (g.C.Chip.told c.write_out.new.chip) c.in_err-write_out.field-0.0
-    c.loop-i-test.true c.len-i-end.ensures.few c.loop-i.invariant c.in_err-write_out.ensures.upholds)
+    rw (e.1, e.2) (record {
+      upholds = unwritten_upholds c.loop-i.i c.len-i-end.result
+          (written_by c.args.sessions.now c.args.numbers.now) first before c.loop-i.self between new
+          (g.C.Chip.told c.write_out.new.chip) fault c.loop-i-test.true c.len-i-end.ensures.few
+          c.loop-i.invariant is.upholds;
+      complete = completes_then {T = Unit {0}} first c.loop-i.self (Err fault) before between sized
+          done.keeps is.complete;
+      faults = tells_then {T = Unit {0}} first c.loop-i.self new (Err fault) before between sized
+          is.upholds.active done.keeps is.faults;
+    })
 
 pub loop-i-preserved : goal.loop-i-preserved
 loop-i-preserved g c = elim c.if-has_page.branch [
@@ -40,8 +55,8 @@ loop-i-preserved g c = elim c.if-has_page.branch [
       (framed_low (14 * c.loop-i.i) c.args.self.now c.loop-i.self (g.C.Chip.told c.args.chip.now)
       (g.C.Chip.told c.loop-i.chip) c.page_at-unit.result.0 c.page_at-unit.result.1
       c.loop-i.invariant.upholds c.facts.ensures.once c.page_at-unit.ensures.there c.requires.ready)
-      c.page_at-unit.ensures.page c.page_at-unit.ensures.number c.loop-i.invariant is.upholds
-      is.frames is.order is.status is.asks)
+      c.page_at-unit.ensures.page c.page_at-unit.ensures.number c.loop-i.invariant is.works.upholds
+      is.frames is.pool.order is.status is.asks)
   | else-has_page w ↦
       rw (w.self-is, w.chip-is) (passed_out c.loop-i.i c.page_at-unit.result.0
       c.page_at-unit.result.1 (written_by c.args.sessions.now c.args.numbers.now) c.args.self.now
@@ -58,15 +73,6 @@ returns-clause-out g c =
     (omega (arith, c.loop-i-test.false, c.loop-i.auto.i-end, c.len-i-end.ensures.all))
     c.facts-2.ensures.once (λ u page few. (c.facts-2.ensures.listed u page few).1)
     c.loop-i.invariant
-
-pub returns-in_err-write_out-clause-complete : goal.returns-in_err-write_out-clause-complete
-returns-in_err-write_out-clause-complete g c =
-    let e = err_from_is_err_and c.from_residual.result c.from_residual.ensures.1 in
-    let done = c.loop-i.invariant.upholds in
-    rw (e.1, e.2) (completes_then {T = Unit {0}} c.args.self.now c.loop-i.self
-    (Err c.in_err-write_out.field-0.0) (g.C.Chip.told c.args.chip.now)
-    (g.C.Chip.told c.loop-i.chip) done.accounts.counts.places done.keeps
-    c.in_err-write_out.ensures.complete)
 
 pub returns-in_err-write_out-clause-framed : goal.returns-in_err-write_out-clause-framed
 returns-in_err-write_out-clause-framed g c = λ u page is.
@@ -93,12 +99,3 @@ pub returns-clause-asks : goal.returns-clause-asks
 returns-clause-asks g c =
     names_ask c.loop-i.i (written_by c.args.sessions.now c.args.numbers.now) c.args.self.now
     (g.C.Chip.told c.args.chip.now) c.loop-i.self (g.C.Chip.told c.loop-i.chip) c.loop-i.invariant
-
-pub returns-in_err-write_out-clause-faults : goal.returns-in_err-write_out-clause-faults
-returns-in_err-write_out-clause-faults g c =
-    let e = err_from_is_err_and c.from_residual.result c.from_residual.ensures.1 in
-    let done = c.loop-i.invariant.upholds in
-    rw (e.1, e.2) (tells_then {T = Unit {0}} c.args.self.now c.loop-i.self c.write_out.new.self
-    (Err c.in_err-write_out.field-0.0) (g.C.Chip.told c.args.chip.now)
-    (g.C.Chip.told c.loop-i.chip) done.accounts.counts.places
-    c.in_err-write_out.ensures.upholds.active done.keeps c.in_err-write_out.ensures.faults)

@@ -52,7 +52,7 @@ returns-in_err-prepare-clause-turns g c =
     (λ state. after_write state c.args.s (c.args.name.0, change_of c.args.change)) 14 old
     (record { pages = c.prepare.new.self; sessions = old.sessions })
     c.in_err-prepare.field-0.0 (g.C.Chip.told c.args.chip.now) (g.C.Chip.told c.prepare.new.chip)
-    c.requires.order c.in_err-prepare.ensures.upholds refl)
+    c.requires.order c.in_err-prepare.ensures.works.upholds refl)
 
 pub returns-clause-turns : goal.returns-clause-turns
 returns-clause-turns g c =
@@ -72,19 +72,19 @@ returns-clause-turns g c =
       sessions = c.write.new.self;
     }) c.prepare.new.self (g.C.Chip.told c.args.chip.now) (g.C.Chip.told c.prepare.new.chip)
     c.requires.order c.requires.session (sym c.number.ensures ∙ c.in-Some.is) c.requires.name
-    c.home-home.ensures.exact c.has_spelling.ensures c.in_ok-prepare.ensures.upholds
+    c.home-home.ensures.exact c.has_spelling.ensures c.in_ok-prepare.ensures.works.upholds
     (did ∙ ap (after_slots old.sessions s name) c.size_in_page.ensures)
     (locks_of c.write.new.self c.facts.ensures.all c.facts.ensures.one_writer c.facts.ensures.sized
     c.facts.ensures.few) refl put
     (page_has_room name at (record_put c.args.change at c.in-Some.tid) old c.prepare.new.self
-    put.was c.home-home.ensures.home refl refl c.requires.room c.in_ok-prepare.ensures.values put.there)
+    put.was c.home-home.ensures.home refl refl c.requires.room c.in_ok-prepare.ensures.prepares.values put.there)
     c.put_record.ensures.pins
 
 pub returns-in_err-prepare-clause-complete : goal.returns-in_err-prepare-clause-complete
 returns-in_err-prepare-clause-complete g c =
     let e = err_from_is_err_and c.from_residual.result c.from_residual.ensures.1 in
     rw (e.1, e.2) (completes_for c.args.self.now (Err c.in_err-prepare.field-0.0)
-    (g.C.Chip.told c.args.chip.now) c.in_err-prepare.ensures.complete)
+    (g.C.Chip.told c.args.chip.now) c.in_err-prepare.ensures.works.complete)
 
 pub returns-clause-framed : goal.returns-clause-framed
 returns-clause-framed g c =
@@ -121,7 +121,7 @@ returns-clause-used g c =
     let pool = c.put_record.new.pool in
     subst (λ (h : Home). IsUsedLast pool h.unit h.page) c.home-home.ensures.home
     (kept_uses_are_last c.prepare.new.self.pool pool at.unit at.page c.put_record.ensures.uses
-    c.in_ok-prepare.ensures.used)
+    c.in_ok-prepare.ensures.prepares.used)
 
 pub returns-in_err-prepare-clause-asks : goal.returns-in_err-prepare-clause-asks
 returns-in_err-prepare-clause-asks g c =
@@ -146,7 +146,7 @@ pub returns-in_err-prepare-clause-faults : goal.returns-in_err-prepare-clause-fa
 returns-in_err-prepare-clause-faults g c =
     let e = err_from_is_err_and c.from_residual.result c.from_residual.ensures.1 in
     rw (e.1, e.2) (tells_for c.args.self.now (Err c.in_err-prepare.field-0.0)
-    (g.C.Chip.told c.args.chip.now) c.prepare.new.self c.in_err-prepare.ensures.faults)
+    (g.C.Chip.told c.args.chip.now) c.prepare.new.self c.in_err-prepare.ensures.works.faults)
 
 pub returns-in_err-prepare-clause-exact : goal.returns-in_err-prepare-clause-exact
 returns-in_err-prepare-clause-exact g c =
@@ -180,14 +180,14 @@ refused : (g : Over) (c : goal.After-no_room g) → IsRefused c.home-home.result
     (record_put c.args.change c.home-home.result c.in-Some.tid) c.args.self.now c.prepare.new.self
     (g.C.Chip.told c.args.chip.now) (g.C.Chip.told c.prepare.new.chip)
 refused g c =
-    let put = c.in_ok-prepare.ensures.room in
+    let put = c.in_ok-prepare.ensures.prepares.room in
     let at = c.home-home.result in record {
       now = put.frame;
       there = put.there;
-      keeps = c.in_ok-prepare.ensures.upholds.keeps;
+      keeps = c.in_ok-prepare.ensures.works.upholds.keeps;
       room = page_has_room c.args.name.0 at (record_put c.args.change at c.in-Some.tid)
           c.args.self.now c.prepare.new.self put.frame c.home-home.ensures.home refl refl
-          c.requires.room c.in_ok-prepare.ensures.values put.there;
+          c.requires.room c.in_ok-prepare.ensures.prepares.values put.there;
       some = λ none. false≢true (sym c.if-not-put_record.true ∙ c.put_record.ensures.deletes none);
       full = λ fits. false≢true (sym c.if-not-put_record.true
           ∙ (c.put_record.ensures.room put.frame put.there).1 fits);
@@ -200,7 +200,7 @@ returns-then-not-put_record-clause-turns g c =
     let pool = c.put_record.new.pool in
     let before = g.C.Chip.told c.args.chip.now in
     let after = g.C.Chip.told c.prepare.new.chip in
-    let did = c.in_ok-prepare.ensures.upholds in
+    let did = c.in_ok-prepare.ensures.works.upholds in
     let pages : Pages = record { parts = mid.parts; pool = pool } in
     rw c.no_room.ensures (upheld_refused
     (λ state. after_write state c.args.s (c.args.name.0, change_of c.args.change)) 14 old

@@ -19,14 +19,14 @@ returns-in_err-ready_status-clause-upholds g c =
     rw (e.1, e.2)
     (upholds_weaker (2 ^ 14) (2 ^ 14 + 14 * 64) c.args.self.now.pages c.ready_status.new.self
     (Err c.in_err-ready_status.field-0.0) (g.C.Chip.told c.args.chip.now)
-    (g.C.Chip.told c.ready_status.new.chip) (omega arith) c.in_err-ready_status.ensures.upholds)
+    (g.C.Chip.told c.ready_status.new.chip) (omega arith) c.in_err-ready_status.ensures.works.upholds)
 
 pub returns-clause-upholds : goal.returns-clause-upholds
 returns-clause-upholds g c =
     upholds_then (2 ^ 14) (14 * 64) c.args.self.now.pages c.ready_status.new.self
     c.write_sessions_out.new.self c.write_sessions_out.result (g.C.Chip.told c.args.chip.now)
     (g.C.Chip.told c.ready_status.new.chip) (g.C.Chip.told c.write_sessions_out.new.chip)
-    c.in_ok-ready_status.ensures.upholds c.write_sessions_out.ensures.upholds
+    c.in_ok-ready_status.ensures.works.upholds c.write_sessions_out.ensures.works.upholds
 
 pub returns-clause-may_add : goal.returns-clause-may_add
 returns-clause-may_add g c =
@@ -38,14 +38,14 @@ returns-clause-may_add g c =
 pub returns-in_err-ready_status-clause-complete : goal.returns-in_err-ready_status-clause-complete
 returns-in_err-ready_status-clause-complete g c =
     let e = err_from_is_err_and c.from_residual.result c.from_residual.ensures.1 in
-    rw (e.1, e.2) c.in_err-ready_status.ensures.complete
+    rw (e.1, e.2) c.in_err-ready_status.ensures.works.complete
 
 pub returns-clause-complete : goal.returns-clause-complete
 returns-clause-complete g c =
-    let did = c.in_ok-ready_status.ensures.upholds in
+    let did = c.in_ok-ready_status.ensures.works.upholds in
     completes_then c.args.self.now.pages c.ready_status.new.self c.write_sessions_out.result
     (g.C.Chip.told c.args.chip.now) (g.C.Chip.told c.ready_status.new.chip)
-    did.accounts.counts.places did.keeps c.write_sessions_out.ensures.complete
+    did.accounts.counts.places did.keeps c.write_sessions_out.ensures.works.complete
 
 pub returns-in_err-ready_status-clause-framed : goal.returns-in_err-ready_status-clause-framed
 returns-in_err-ready_status-clause-framed g c = c.in_err-ready_status.ensures.framed
@@ -68,12 +68,12 @@ returns-clause-asks g c = λ room.
 pub returns-in_err-ready_status-clause-faults : goal.returns-in_err-ready_status-clause-faults
 returns-in_err-ready_status-clause-faults g c =
     let e = err_from_is_err_and c.from_residual.result c.from_residual.ensures.1 in
-    rw (e.1, e.2) c.in_err-ready_status.ensures.faults
+    rw (e.1, e.2) c.in_err-ready_status.ensures.works.faults
 
 pub returns-clause-faults : goal.returns-clause-faults
 returns-clause-faults g c =
-    let did = c.in_ok-ready_status.ensures.upholds in
+    let did = c.in_ok-ready_status.ensures.works.upholds in
     tells_then c.args.self.now.pages c.ready_status.new.self c.write_sessions_out.new.self
     c.write_sessions_out.result (g.C.Chip.told c.args.chip.now)
     (g.C.Chip.told c.ready_status.new.chip) did.accounts.counts.places
-    c.write_sessions_out.ensures.upholds.active did.keeps c.write_sessions_out.ensures.faults
+    c.write_sessions_out.ensures.works.upholds.active did.keeps c.write_sessions_out.ensures.works.faults
