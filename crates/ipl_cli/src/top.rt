@@ -9,6 +9,7 @@ ghost use Rattle.store_trait.specs.Onward.{Further};
 ghost use Rattle.script_run.specs.Goes.{ReadsAll};
 ghost use Rattle.script_store.specs.Keeps.{IsRunning, next_number};
 ghost use Rattle.ipl_store.specs.Calls.{IsSound};
+ghost use Rattle.command_line.specs.Asked.{IsInBounds};
 ghost use Rattle.command_line.specs.Choice.{requested};
 ghost use Rattle.command_line.specs.declared.asked.Request.{Request};
 ghost use Rattle.command_line.specs.declared.asked.Request.TheVariants.{Format, Run, Serial, Check, Trial};
@@ -298,6 +299,38 @@ fn say_view<D: Desk>(alloc: Global, desk: &mut D) -> Result<(), End>
     }
 }
 
+/// Does what a request asks for.
+fn run_request<D: Desk>(alloc: Global, request: Request, desk: &mut D) -> Result<(), End>
+    requires bounds { IsInBounds request }
+    ensures leaves { EndLeaves (Some request) result (D.told desk.old) (D.told desk.new) }
+    ensures framed { OnOk result (DoesAsAsked (Some request) (D.told desk.old) (D.told desk.new)) }
+    ensures closed { OnOk result (ClosesAsAsked (Some request) (D.told desk.old) (D.told desk.new)) }
+    ensures cause { EndCause (Some request) result (D.told desk.old) (D.told desk.new) }
+    ensures further { Further (D.told desk.old) (D.told desk.new) }
+    ensures lawful { AddsAsAsked (Some request) (D.told desk.old) (D.told desk.new) }
+{
+    match request {
+        Request::Format { spares } => format_chip(spares, desk),
+        Request::Run {
+            frames,
+            format: true,
+            close,
+        } => run_formatted(alloc, frames, close, desk),
+        Request::Run {
+            frames,
+            format: false,
+            close,
+        } => run_opened(alloc, frames, close, desk),
+        Request::Serial => say_view(alloc, desk),
+        Request::Check => check_chip(alloc, desk),
+        Request::Trial {
+            seed,
+            count,
+            frames,
+        } => trial(alloc, frames, seed, count, desk),
+    }
+}
+
 /// Does what the words ask for.
 fn run<D: Desk>(alloc: Global, words: &[String], desk: &mut D) -> Result<(), End>
     ensures leaves { EndLeaves (requested (map string_bytes words.now)) result (D.told desk.old) (D.told desk.new) }
@@ -312,30 +345,7 @@ fn run<D: Desk>(alloc: Global, words: &[String], desk: &mut D) -> Result<(), End
     };
     match request {
         None => Err(End::Words),
-        Some(Request::Format { spares }) => format_chip(spares, desk),
-        Some(
-            Request::Run {
-                frames,
-                format: true,
-                close,
-            },
-        ) => run_formatted(alloc, frames, close, desk),
-        Some(
-            Request::Run {
-                frames,
-                format: false,
-                close,
-            },
-        ) => run_opened(alloc, frames, close, desk),
-        Some(Request::Serial) => say_view(alloc, desk),
-        Some(Request::Check) => check_chip(alloc, desk),
-        Some(
-            Request::Trial {
-                seed,
-                count,
-                frames,
-            },
-        ) => trial(alloc, frames, seed, count, desk),
+        Some(request) => run_request(alloc, request, desk),
     }
 }
 

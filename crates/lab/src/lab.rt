@@ -204,12 +204,8 @@ impl Scenes {
             }
             "ipl" => self.run(alloc, rest),
             "then" => self.then(alloc, rest),
-            "chip" | "wear" | "pieces" | "look" | "alter" | "write" => {
+            "chip" | "next" | "stop" | "wear" | "pieces" | "look" | "alter" | "write" => {
                 self.set(alloc, verb, rest)?;
-                text_of(alloc, "")
-            }
-            "next" | "stop" => {
-                self.go_on(alloc, verb, rest)?;
                 text_of(alloc, "")
             }
             "fail" | "unheard" | "unsaid" => self.fail(alloc, verb, rest),
@@ -225,6 +221,7 @@ impl Scenes {
                 self.known = Known::nothing(0);
                 self.worn = Vec::new(alloc);
             }
+            "next" | "stop" => self.go_on(alloc, verb, rest)?,
             "wear" => self.worn = numbers_of(alloc, rest)?,
             "pieces" => self.pieces = numbers_of(alloc, rest)?,
             "look" => self.look = script_of(alloc, rest)?,
@@ -329,13 +326,8 @@ impl Scenes {
             ("fails", [first]) => fails(alloc, &tried, first_of(*first, count)?),
             ("cuts", [first, step, twice @ ..]) => {
                 let step = number(*step)? as usize;
-                cuts(
-                    alloc,
-                    &tried,
-                    first_of(*first, count)?,
-                    step,
-                    !twice.is_empty(),
-                )
+                let first = first_of(*first, count)?;
+                cuts(alloc, &tried, first, step, !twice.is_empty())
             }
             _ => bail!("no first event"),
         }

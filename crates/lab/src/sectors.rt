@@ -80,28 +80,21 @@ fn changed(bytes: &[u8; 512], index: &str, value: &str) -> Result<[u8; 512]> {
     Ok(sector)
 }
 
-/// The sector that words spell.
+/// The sector whose head and payload words spell.
+fn headed(alloc: Global, words: &[&str]) -> Result<[u8; 512]> {
+    let [kind, version, unit, generation, serial, payload] = words else {
+        bail!("no sector");
+    };
+    let head = head_of(*kind, *version, *unit, *generation, *serial)?;
+    sector_of(&head, &bytes_of(alloc, *payload)?)
+}
+
+/// The sector that words spell: all its bytes, or a head and a payload, and then a byte to change.
 fn spelled(alloc: Global, words: &[&str]) -> Result<[u8; 512]> {
     match words {
         [bytes] => whole(&bytes_of(alloc, *bytes)?),
-        [kind, version, unit, generation, serial, payload] => {
-            let head = head_of(*kind, *version, *unit, *generation, *serial)?;
-            sector_of(&head, &bytes_of(alloc, *payload)?)
-        }
-        [
-            kind,
-            version,
-            unit,
-            generation,
-            serial,
-            payload,
-            index,
-            value,
-        ] => {
-            let head = head_of(*kind, *version, *unit, *generation, *serial)?;
-            let bytes = sector_of(&head, &bytes_of(alloc, *payload)?)?;
-            changed(&bytes, *index, *value)
-        }
+        [_, _, _, _, _, _] => headed(alloc, words),
+        [unchanged @ .., index, value] => changed(&headed(alloc, unchanged)?, *index, *value),
         _ => bail!("no sector"),
     }
 }

@@ -451,7 +451,8 @@ returns-in-Err-clause-moves g c =
           counts = counts_then old mid new took.accounts.counts wrote.spends.accounts.counts;
           cause = merged_not then (slice_index t.places.current u) (spots_in t.overflow u) c.in-Err.fault old mid
               new took.accounts.counts
-              (subst (λ (q : ℕ). MoveCause q c.in-Err.fault mid new) c.requires.stands.place wrote.spends.accounts.cause);
+              (subst (λ (q : ℕ). MoveCause q c.in-Err.fault mid new) c.requires.stands.place
+              wrote.spends.accounts.cause);
         };
       };
       room = tt;

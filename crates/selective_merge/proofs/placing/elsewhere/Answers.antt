@@ -81,8 +81,8 @@ returns-in-Nothing-clause-tells g c =
 
 pub returns-in-NewPlace-clause-fault : goal.returns-in-NewPlace-clause-fault
 returns-in-NewPlace-clause-fault g c = λ x told it mirrors.
-    opened_alone _ c.open_overflow.new.parts.directory (g.C.Chip.told c.args.chip.now) (g.C.Chip.told c.open_overflow.new.chip)
-    c.open_overflow.result c.open_overflow.ensures.leaves.accounts.cause
+    opened_alone _ c.open_overflow.new.parts.directory (g.C.Chip.told c.args.chip.now)
+    (g.C.Chip.told c.open_overflow.new.chip) c.open_overflow.result c.open_overflow.ensures.leaves.accounts.cause
 
 pub returns-in-Nothing-clause-fault : goal.returns-in-Nothing-clause-fault
 returns-in-Nothing-clause-fault g c = c.merged_spot.ensures.fault
