@@ -5,7 +5,7 @@ use Rattle.slab.specs.Slab.{Slab, get}
 use Rattle.buffer_pool.specs.declared.pool.Buffer.{Buffer}
 use Rattle.buffer_pool.specs.Pools.{PoolView, HasPage, AreOnce, Changes, with_pin, without_pin}
 use Rattle.buffer_pool.specs.Laws.{SamePage}
-use Rattle.buffer_pool.specs.Holding.{is_pinned, pinned_count, IsHeld, IsAtRest, IsPage, HoldsPage, ReleasesPage}
+use Rattle.buffer_pool.specs.Holding.{is_pinned, pinned_count, IsHeld, IsAtRest, IsSamePage, PinsPage, ReleasesPage}
 use Rattle.buffer_pool.proofs.IndexLemmas.{some_is}
 use Rattle.buffer_pool.proofs.CountLemmas.{count_changed}
 
@@ -47,7 +47,7 @@ held_elsewhere old new key v q others h other = record {
 
 module _ (old new : PoolView) (unit page key : ℕ) (has : HasPage old.buffers unit page key) where
   -- what is held under the key has the page
-  is_the_page : (v q : ℕ) (h : IsHeld old.buffers v q) → h.key ≡ key → IsPage unit page v q
+  is_the_page : (v q : ℕ) (h : IsHeld old.buffers v q) → h.key ≡ key → IsSamePage unit page v q
   is_the_page v q h here =
       let one : h.buffer ≡ has.buffer =
       some_is h.buffer has.buffer (sym h.stored ∙ ap (get old.buffers) here ∙ has.stored) in (
@@ -57,7 +57,7 @@ module _ (old new : PoolView) (unit page key : ℕ) (has : HasPage old.buffers u
 
   -- and so in the new buffers, where the buffer's page stays
   is_the_new_page : (now : Buffer) → get new.buffers key ≡ Some now → SamePage now has.buffer
-      → (v q : ℕ) (h : IsHeld new.buffers v q) → h.key ≡ key → IsPage unit page v q
+      → (v q : ℕ) (h : IsHeld new.buffers v q) → h.key ≡ key → IsSamePage unit page v q
   is_the_new_page now stands same v q h here =
       let one : h.buffer ≡ now =
       some_is h.buffer now (sym h.stored ∙ ap (get new.buffers) here ∙ stands) in (
@@ -82,7 +82,7 @@ module _ (old new : PoolView) (unit page key : ℕ) (has : HasPage old.buffers u
   ]
 
   pub holds_page : (IsHeld old.buffers unit page → ⊥)
-      → Changes old.buffers new.buffers key (with_pin old.clock) → HoldsPage old new unit page
+      → Changes old.buffers new.buffers key (with_pin old.clock) → PinsPage old new unit page
   holds_page free did =
       let now = with_pin old.clock has.buffer in
       let stands = did.here has.buffer has.stored in

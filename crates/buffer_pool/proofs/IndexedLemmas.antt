@@ -5,7 +5,7 @@ use Rattle.slab.specs.Slab.{Slab, get, slab_len, Updates}
 use Rattle.buffer_pool.proofs.IndexLemmas.{some_is, no_some}
 use Rattle.buffer_pool.specs.declared.pool.Buffer.{Buffer}
 use Rattle.buffer_pool.specs.Index.{page_number, key_of, with_key}
-use Rattle.buffer_pool.specs.Pools.{HasPage, HasNumber, IsAbsent, IsIndexed, AreOnce}
+use Rattle.buffer_pool.specs.Pools.{HasPage, HasNumber, IsAbsent, ListsBuffers, AreOnce}
 
 number_of : Buffer → ℕ
 number_of b = page_number b.unit b.page
@@ -17,7 +17,7 @@ same_number a b same = ap (λ (x : Buffer). page_number x.unit x.page) same
 one_page : (u p v q : ℕ) → p < 15 → q < 15 → page_number u p ≡ page_number v q → (u ≡ v) × (p ≡ q)
 one_page u p v q low high same = (omega (arith, low, high, same), omega (arith, low, high, same))
 
-module _ (index : List (ℕ × ℕ)) (buffers : Slab Buffer) (so : IsIndexed index buffers) where
+module _ (index : List (ℕ × ℕ)) (buffers : Slab Buffer) (so : ListsBuffers index buffers) where
   -- what is found has the page
   pub found_page : (u p key : ℕ) → p < 15 → key_of index (page_number u p) ≡ Some key
       → HasPage buffers u p key
@@ -65,8 +65,8 @@ with_other keys number n o other = rw (ne_eqb number n other) refl
 
 -- a buffer is changed, and has its page still
 pub index_stays : (index : List (ℕ × ℕ)) (old new : Slab Buffer) (key : ℕ) (was now : Buffer)
-    → IsIndexed index old → get old key ≡ Some was → Updates old new key (Some now)
-    → now.unit ≡ was.unit → now.page ≡ was.page → slab_len new ≡ slab_len old → IsIndexed index new
+    → ListsBuffers index old → get old key ≡ Some was → Updates old new key (Some now)
+    → now.unit ≡ was.unit → now.page ≡ was.page → slab_len new ≡ slab_len old → ListsBuffers index new
 index_stays index old new key was now so there did unit page len = record {
   found = λ n k is.
       let has = so.found n k is in
@@ -104,7 +104,7 @@ index_stays index old new key was now so there did unit page len = record {
 -- a page is brought in
 module _ (index more : List (ℕ × ℕ)) (old new : Slab Buffer) (key u p : ℕ) (added : Buffer)
     (unit_is : added.unit ≡ u) (page_is : added.page ≡ p)
-    (so : IsIndexed index old) (low : p < 15) (absent : IsAbsent old u p)
+    (so : ListsBuffers index old) (low : p < 15) (absent : IsAbsent old u p)
     (empty : get old key ≡ None) (did : Updates old new key (Some added))
     (adds : (n : ℕ) → key_of more n ≡ with_key (key_of index) (page_number u p) (Some key) n) where
   number_added : page_number added.unit added.page ≡ page_number u p
@@ -163,7 +163,7 @@ module _ (index more : List (ℕ × ℕ)) (old new : Slab Buffer) (key u p : ℕ
   ]
 
   pub index_added : length more ≡ length index + 1 → slab_len new ≡ slab_len old + 1
-      → IsIndexed more new
+      → ListsBuffers more new
   index_added longer len = record {
     found = added_found;
     listed = added_listed;
@@ -173,7 +173,7 @@ module _ (index more : List (ℕ × ℕ)) (old new : Slab Buffer) (key u p : ℕ
 
 -- a page leaves
 module _ (index less : List (ℕ × ℕ)) (old new : Slab Buffer) (key u p : ℕ)
-    (so : IsIndexed index old) (has : HasPage old u p key) (did : Updates old new key None)
+    (so : ListsBuffers index old) (has : HasPage old u p key) (did : Updates old new key None)
     (removes : (n : ℕ) → key_of less n ≡ with_key (key_of index) (page_number u p) None n) where
   number_has : page_number has.buffer.unit has.buffer.page ≡ page_number u p
   number_has = ap₂ page_number has.unit_is has.page_is
@@ -213,7 +213,7 @@ module _ (index less : List (ℕ × ℕ)) (old new : Slab Buffer) (key u p : ℕ
       ∙ before
 
   pub index_removed : length less + 1 ≡ length index → slab_len new + 1 ≡ slab_len old
-      → IsIndexed less new
+      → ListsBuffers less new
   index_removed shorter len = record {
     found = left_found;
     listed = left_listed;

@@ -6,7 +6,7 @@ use Rattle.slab.specs.Slab.{Slab, get, slab_len, Updates}
 use Rattle.slab.proofs.SlabLemmas.{ContainsKey-within, Updates-set}
 use Rattle.buffer_pool.specs.declared.pool.Buffer.{Buffer}
 use Rattle.buffer_pool.specs.declared.pool.Pool.TheInside.{Inside}
-use Rattle.buffer_pool.specs.Index.{page_number, key_of, with_key, IsRising}
+use Rattle.buffer_pool.specs.Index.{page_number, key_of, with_key, NumbersRise}
 use Rattle.buffer_pool.specs.Pools.{PoolView, view_of, HasPage, IsAbsent, AreBefore, IsPoolSound, Changes, new_buffer}
 use Rattle.buffer_pool.specs.Passes.{LeavesFrame, Passes}
 use Rattle.buffer_pool.proofs.SoundLemmas.{has_inside, sound_added, sound_pool, sound_removed}
@@ -118,7 +118,7 @@ module _ (p : Inside) (v : PoolView) (sound : IsPoolSound p) (same : view_of p �
         (omega (arith, fewer, holds)) left.changed came adds longer (omega (arith, len, fewer)) room
         counted
 
-    pub passes : IsRising less → Passes v
+    pub passes : NumbersRise less → Passes v
         (view_of (record { buffers = new; index = more; limit = p.limit; clock = clock }))
         unit page to_unit to_page (record { key = key; unit = to_unit; page = to_page })
     passes rise = record {

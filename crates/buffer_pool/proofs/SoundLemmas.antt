@@ -5,7 +5,7 @@ use Rattle.slab.specs.Slab.{Slab, get, slab_len, with_value, Updates}
 use Rattle.slab.proofs.SlabLemmas.{ContainsKey-within, Updates-with_value}
 use Rattle.buffer_pool.specs.declared.pool.Buffer.{Buffer}
 use Rattle.buffer_pool.specs.declared.pool.Pool.TheInside.{Inside}
-use Rattle.buffer_pool.specs.Index.{page_number, key_of, with_key, number_at, IsRising}
+use Rattle.buffer_pool.specs.Index.{page_number, key_of, with_key, number_at, NumbersRise}
 use Rattle.buffer_pool.specs.Pools.{PoolView, view_of, HasPage, IsThere, IsAbsent, AreOnce, AreBefore, IsPoolSound, IsSoundPool, Changes}
 use Rattle.buffer_pool.specs.Laws.{SamePage}
 use Rattle.buffer_pool.specs.Uses.{IsUsedLast}
@@ -15,7 +15,7 @@ use Rattle.buffer_pool.proofs.UseLemmas.{before_kept, before_used, used_last}
 use Rattle.buffer_pool.proofs.IndexedLemmas.{same_number, told, are_once, found_page, page_listed, none_listed, index_stays, index_added, index_removed}
 
 module _ (p : Inside) (v : PoolView) (sound : IsPoolSound p) (same : view_of p ≡ v) where
-  pub sound_pool : IsRising p.index → IsSoundPool v
+  pub sound_pool : NumbersRise p.index → IsSoundPool v
   sound_pool rise = subst IsSoundPool same (record {
     once = are_once p.index p.buffers sound.indexed;
     pages = sound.indexed.pages;

@@ -5,10 +5,10 @@ use Rattle.std.proofs.lemmas.Bool.{cases_Bool, cases_eq, eqb-true, eq-eqb, and_p
 use Rattle.std.proofs.Math.Path.{fun_ext}
 use Rattle.slab.specs.Slab.{Slab, get, Updates}
 use Rattle.buffer_pool.specs.declared.pool.Buffer.{Buffer}
-use Rattle.buffer_pool.specs.Pools.{PoolView, HasPage, AreOnce, IsBefore, AreBefore, with_buffers, new_buffer}
+use Rattle.buffer_pool.specs.Pools.{PoolView, HasPage, AreOnce, IsUsedBefore, AreBefore, with_buffers, new_buffer}
 use Rattle.buffer_pool.specs.Lending.{changed_at}
 use Rattle.buffer_pool.specs.Laws.{buffer_of, with_buffer}
-use Rattle.buffer_pool.specs.Holding.{IsHeld, IsPage}
+use Rattle.buffer_pool.specs.Holding.{IsHeld, IsSamePage}
 use Rattle.buffer_pool.specs.Uses.{used_of, IsUsedLast, CountsNoOther, ChangesKeepUses, LoansKeepUses, BringsCountNoOther, ChangesCountNoOther, EvictionsCountNoUse, KeptUsesAreLast, VictimsAreUsedFirst}
 use Rattle.buffer_pool.proofs.IndexLemmas.{some_is, no_some}
 use Rattle.buffer_pool.proofs.BufferLemmas.{buffers_are_told, buffer_found, brings_add_a_buffer, evicts_take_a_buffer, pins_change_a_buffer, loans_change_a_buffer}
@@ -16,7 +16,7 @@ use Rattle.buffer_pool.proofs.BufferLemmas.{buffers_are_told, buffer_found, brin
 -- ---- the clock
 
 later : (used clock : ℕ) → used ≤ clock → clock ≤ 18446744073709551615
-    → IsBefore used (min (clock + 1) 18446744073709551615)
+    → IsUsedBefore used (min (clock + 1) 18446744073709551615)
 later used clock low end = record {
   past = omega (arith, low, end);
   apart = λ more. omega (arith, low, more);
@@ -24,16 +24,16 @@ later used clock low end = record {
 
 -- with one buffer written all uses are before a time
 before_at : (old new : Slab Buffer) (key now : ℕ) (slot : Option Buffer) → Updates old new key slot
-    → AreBefore old now → ((b : Buffer) → slot ≡ Some b → IsBefore b.used now) → AreBefore new now
+    → AreBefore old now → ((b : Buffer) → slot ≡ Some b → IsUsedBefore b.used now) → AreBefore new now
 before_at old new key now slot did others here k b stored = elim (cases_eq k key) [
   | inl same ↦ here b (sym did.changed ∙ ap (get new) (sym same) ∙ stored)
   | inr other ↦ others k b (sym (did.others k other) ∙ stored)
 ]
 
-before_as : (now used : ℕ) (b c : Buffer) → IsBefore used now → b.used ≡ used → Some b ≡ Some c
-    → IsBefore c.used now
+before_as : (now used : ℕ) (b c : Buffer) → IsUsedBefore used now → b.used ≡ used → Some b ≡ Some c
+    → IsUsedBefore c.used now
 before_as now used b c is same one =
-    subst (λ (u : ℕ). IsBefore u now)
+    subst (λ (u : ℕ). IsUsedBefore u now)
     (sym same ∙ ap (λ (e : Buffer). e.used) (some_is b c one)) is
 
 -- no use is counted
@@ -88,7 +88,7 @@ used_last old new unit page key clock now once before did unit_is page_is same =
 }
   where
     by_buffer : (v q other : ℕ) → ((v ≡ unit) × (q ≡ page) → ⊥) → used_of new v q ≡ Some other
-        → (o : Option Buffer) → buffer_of new.buffers v q ≡ o → IsBefore other clock
+        → (o : Option Buffer) → buffer_of new.buffers v q ≡ o → IsUsedBefore other clock
     by_buffer v q other apart is None none = absurd (used_none new v q other none is)
     by_buffer v q other apart is (Some b) found =
         let (k, stored, of_unit, of_page) =
@@ -100,7 +100,7 @@ used_last old new unit page key clock now once before did unit_is page_is same =
           sym of_unit ∙ ap (λ (e : Buffer). e.unit) (sym one) ∙ unit_is,
           sym of_page ∙ ap (λ (e : Buffer). e.page) (sym one) ∙ page_is,
         )) in
-        subst (λ (u : ℕ). IsBefore u clock) (used_is new v q other b found is)
+        subst (λ (u : ℕ). IsUsedBefore u clock) (used_is new v q other b found is)
         (before k b (sym (did.others k differs) ∙ stored))
 
 -- ---- calls that count no use
@@ -150,7 +150,7 @@ loans_keep_uses p key change once some same =
 -- where the one page's buffer is another
 used_elsewhere : (old new : PoolView) (u page : ℕ) (o : Option Buffer)
     → buffer_of new.buffers ≡ with_buffer (buffer_of old.buffers) u page o → (v q : ℕ)
-    → (IsPage u page v q → ⊥) → used_of new v q ≡ used_of old v q
+    → (IsSamePage u page v q → ⊥) → used_of new v q ≡ used_of old v q
 used_elsewhere old new u page o is v q apart =
     ap (λ (buffers : ℕ → ℕ → Option Buffer). option_map (λ (e : Buffer). e.used) (buffers v q)) is
     ∙ seen

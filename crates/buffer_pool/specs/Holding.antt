@@ -46,16 +46,16 @@ pub record KeepsPins (old new : PoolView) : Type 0 where
 -- ---- what a hold and its end do
 
 -- this is the page
-abbrev pub IsPage : ℕ → ℕ → ℕ → ℕ → Type 0
-IsPage unit page v q = (v ≡ unit) × (q ≡ page)
+abbrev pub IsSamePage : ℕ → ℕ → ℕ → ℕ → Type 0
+IsSamePage unit page v q = (v ≡ unit) × (q ≡ page)
 
 -- the page's buffer has one pin more, and it is held beside those that were
-pub record HoldsPage (old new : PoolView) (unit page : ℕ) : Type 0 where
+pub record PinsPage (old new : PoolView) (unit page : ℕ) : Type 0 where
   pub key : ℕ
   pub has : HasPage old.buffers unit page key
   pub changes : Changes old.buffers new.buffers key (with_pin old.clock)
   pub held : (v q : ℕ)
-      → IsHeld new.buffers v q ↔ (IsHeld old.buffers v q ⊎ IsPage unit page v q)
+      → IsHeld new.buffers v q ↔ (IsHeld old.buffers v q ⊎ IsSamePage unit page v q)
   pub count : pinned_count new.buffers ≡ pinned_count old.buffers + 1
 
 -- the page's buffer has one pin fewer, and the others that were held are
@@ -64,5 +64,5 @@ pub record ReleasesPage (old new : PoolView) (unit page : ℕ) : Type 0 where
   pub has : HasPage old.buffers unit page key
   pub changes : Changes old.buffers new.buffers key without_pin
   pub held : (v q : ℕ)
-      → IsHeld new.buffers v q ↔ (IsHeld old.buffers v q × ¬ IsPage unit page v q)
+      → IsHeld new.buffers v q ↔ (IsHeld old.buffers v q × ¬ IsSamePage unit page v q)
   pub count : pinned_count new.buffers + 1 ≡ pinned_count old.buffers

@@ -20,14 +20,14 @@ abbrev pub with_key : (ℕ → Option ℕ) → ℕ → Option ℕ → ℕ → Op
 with_key keys number o n = if number == n then o else keys n
 
 -- all numbers are above this one
-abbrev pub IsAbove : ℕ → List (ℕ × ℕ) → Type 0
-IsAbove low [] = Unit {0}
-IsAbove low ((number, key) ∷ rest) = (low < number) × IsAbove low rest
+abbrev pub AreNumbersAbove : ℕ → List (ℕ × ℕ) → Type 0
+AreNumbersAbove low [] = Unit {0}
+AreNumbersAbove low ((number, key) ∷ rest) = (low < number) × AreNumbersAbove low rest
 
 -- the numbers rise
-abbrev pub IsRising : List (ℕ × ℕ) → Type 0
-IsRising [] = Unit {0}
-IsRising ((number, key) ∷ rest) = IsAbove number rest × IsRising rest
+abbrev pub NumbersRise : List (ℕ × ℕ) → Type 0
+NumbersRise [] = Unit {0}
+NumbersRise ((number, key) ∷ rest) = AreNumbersAbove number rest × NumbersRise rest
 
 -- each is above the one before
 abbrev pub EachIsAboveTheLast : List ℕ → Type 0
@@ -40,7 +40,7 @@ abbrev pub number_at : List (ℕ × ℕ) → ℕ → ℕ
 number_at l i = (slice_index_or l i (0, 0)).0
 
 -- the page at place i has the number
-pub record IsAt (l : List (ℕ × ℕ)) (number i : ℕ) : Type 0 where
+pub record HasNumberAt (l : List (ℕ × ℕ)) (number i : ℕ) : Type 0 where
   pub within : i < length l
   pub number_is : number_at l i ≡ number
 

@@ -34,14 +34,14 @@ pub record CountsUse (old new : PoolView) : Type 0 where
   pub clock : new.clock ≡ min (old.clock + 1) 18446744073709551615
 
 -- a use came before this time, or the clock was at its last number, at which it stays
-pub record IsBefore (used now : ℕ) : Type 0 where
+pub record IsUsedBefore (used now : ℕ) : Type 0 where
   pub past : used ≤ now
   pub apart : now < 18446744073709551615 → used < now
 
 -- all uses of buffers did
 abbrev pub AreBefore : Slab Buffer → ℕ → Type 0
 AreBefore buffers now = (key : ℕ) (buffer : Buffer) → get buffers key ≡ Some buffer
-    → IsBefore buffer.used now
+    → IsUsedBefore buffer.used now
 
 -- ---- which buffer has a page
 
@@ -86,7 +86,7 @@ pub record HasNumber (buffers : Slab Buffer) (number key : ℕ) : Type 0 where
   pub number_is : page_number buffer.unit buffer.page ≡ number
 
 -- the index lists the page of each buffer, with the buffer's key, and nothing else
-pub record IsIndexed (index : List (ℕ × ℕ)) (buffers : Slab Buffer) : Type 0 where
+pub record ListsBuffers (index : List (ℕ × ℕ)) (buffers : Slab Buffer) : Type 0 where
   pub found : (number key : ℕ) → key_of index number ≡ Some key → HasNumber buffers number key
   pub listed : (key : ℕ) (buffer : Buffer) → get buffers key ≡ Some buffer
       → key_of index (page_number buffer.unit buffer.page) ≡ Some key
@@ -99,7 +99,7 @@ pub record IsPoolSound (p : Inside) : Type 0 where
   pub holds : slab_len p.buffers ≤ p.limit
   pub reserved : p.limit ≤ p.buffers.capacity
   pub few : p.limit ≤ FRAMES
-  pub indexed : IsIndexed p.index p.buffers
+  pub indexed : ListsBuffers p.index p.buffers
   pub counted : AreBefore p.buffers p.clock
 
 -- ---- what calls ask and do

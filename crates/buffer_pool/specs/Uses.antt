@@ -4,11 +4,11 @@ use Rattle.std.specs.Option.{option_map}
 use Rattle.slab.specs.Slab.{slab_len, get, Updates}
 use Rattle.buffer_pool.specs.declared.pool.Buffer.{Buffer}
 use Rattle.buffer_pool.specs.declared.room.Room.TheVariants.{Victim}
-use Rattle.buffer_pool.specs.Pools.{PoolView, HasPage, IsAbsent, AreOnce, Changes, CountsUse, IsBefore, new_buffer, with_buffers, with_use}
+use Rattle.buffer_pool.specs.Pools.{PoolView, HasPage, IsAbsent, AreOnce, Changes, CountsUse, IsUsedBefore, new_buffer, with_buffers, with_use}
 use Rattle.buffer_pool.specs.Rooms.{IsRoom}
 use Rattle.buffer_pool.specs.Lending.{changed_at}
 use Rattle.buffer_pool.specs.Laws.{buffer_of, SamePage}
-use Rattle.buffer_pool.specs.Holding.{IsHeld, IsPage}
+use Rattle.buffer_pool.specs.Holding.{IsHeld, IsSamePage}
 
 -- when a page was used last, if it is in a buffer
 abbrev pub used_of : PoolView → ℕ → ℕ → Option ℕ
@@ -18,8 +18,8 @@ used_of p unit page = option_map (λ b. b.used) (buffer_of p.buffers unit page)
 pub record IsUsedLast (p : PoolView) (unit page : ℕ) : Type 0 where
   pub used : ℕ
   pub there : used_of p unit page ≡ Some used
-  pub last : (v q other : ℕ) → ¬ IsPage unit page v q → used_of p v q ≡ Some other
-      → IsBefore other used
+  pub last : (v q other : ℕ) → ¬ IsSamePage unit page v q → used_of p v q ≡ Some other
+      → IsUsedBefore other used
 
 -- the page is in a buffer, nothing holds it there, and of such pages none was used longer ago
 pub record IsUsedFirst (p : PoolView) (unit page : ℕ) : Type 0 where
@@ -44,7 +44,7 @@ CountsNoUse old new = (v q used : ℕ) → used_of new v q ≡ Some used → use
 
 -- none is of another page
 abbrev pub CountsNoOther : ℕ → ℕ → PoolView → PoolView → Type 0
-CountsNoOther unit page old new = (v q used : ℕ) → ¬ IsPage unit page v q
+CountsNoOther unit page old new = (v q used : ℕ) → ¬ IsSamePage unit page v q
     → used_of new v q ≡ Some used → used_of old v q ≡ Some used
 
 -- ---- laws

@@ -3,7 +3,7 @@ ghost use Rattle.std.specs.Prelude.{◌≡◌, ◌<◌, ◌+◌, ◌↔◌, Some
 ghost use Rattle.slab.specs.Slab.{slab_len};
 ghost use Rattle.buffer_pool.specs.Pools.{IsThere, CountsUse};
 ghost use Rattle.buffer_pool.specs.Uses.{IsUsedLast};
-ghost use Rattle.buffer_pool.specs.Holding.{pinned_count, is_pinned, IsHeld, IsAtRest, HoldsPage, ReleasesPage};
+ghost use Rattle.buffer_pool.specs.Holding.{pinned_count, is_pinned, IsHeld, IsAtRest, PinsPage, ReleasesPage};
 
 use crate::pool::{Buffer, Pin, Pool, drop_pin};
 
@@ -36,7 +36,7 @@ impl Pool {
         requires page { page < 15 }
         requires there { IsThere self.old.buffers unit page }
         requires free { ¬ IsHeld self.old.buffers unit page }
-        ensures holds { HoldsPage self.old self.new unit page }
+        ensures holds { PinsPage self.old self.new unit page }
         ensures len { slab_len self.new.buffers ≡ slab_len self.old.buffers }
         ensures counts { CountsUse self.old self.new }
         ensures last { IsUsedLast self.new unit page }

@@ -1,6 +1,6 @@
 //! Which buffer has which page, by rising number of the page.
 ghost use Rattle.std.specs.Prelude.{◌≡◌, ◌<◌, ◌+◌, ◌*◌, ℕ, [], Some, None, IfOk, IfErr, IsSome, length};
-ghost use Rattle.buffer_pool.specs.Index.{key_of, number_at, page_number, with_key, IsAt, IsGapFor, IsRising};
+ghost use Rattle.buffer_pool.specs.Index.{key_of, number_at, page_number, with_key, HasNumberAt, IsGapFor, NumbersRise};
 
 use arrayvec::ArrayVec;
 use ipl_base::PAGES;
@@ -21,13 +21,13 @@ pub struct PageIndex {
 
 impl Model for PageIndex {
     ghost use Rattle.std.specs.Prelude.{ℕ, List};
-    ghost use Rattle.buffer_pool.specs.Index.{IsRising};
+    ghost use Rattle.buffer_pool.specs.Index.{NumbersRise};
 
     ghost Value = { List (ℕ × ℕ) };
 
     ghost view = { λ i. i.entries.items };
 
-    ghost invariant = { λ i. IsRising i.entries.items };
+    ghost invariant = { λ i. NumbersRise i.entries.items };
 }
 
 impl PageIndex {
@@ -49,7 +49,7 @@ impl PageIndex {
 
     /// What always holds: the numbers rise.
     pub fn facts(&self)
-        ensures { IsRising self.now }
+        ensures { NumbersRise self.now }
     {
         let _ = &self.entries;
     }
@@ -103,7 +103,7 @@ impl PageIndex {
 
     // Where the page is, or where it would go.
     fn search(&self, number: u64) -> Result<usize, usize>
-        ensures found { IfOk result (IsAt self.now number) }
+        ensures found { IfOk result (HasNumberAt self.now number) }
         ensures absent { IfErr result (IsGapFor self.now number) }
     {
         self.entries

@@ -5,14 +5,14 @@ use Rattle.std.proofs.lemmas.Bool.{cases_Bool}
 use Rattle.std.proofs.Math.Path.{fun_ext}
 use Rattle.chip_trait.specs.declared.event.Event.TheVariants.{Program, Barrier}
 use Rattle.chip_trait.specs.Story.{Story, Contents, blank, held}
-use Rattle.chip_trait.specs.Image.{is_worn, IsNoChanceImage, IsQuiet, IsClosed, IsWhole}
+use Rattle.chip_trait.specs.Image.{is_worn, IsNoChanceImage, IsQuiet, IsClosed, KeepsWorn}
 use Rattle.chip_trait.specs.Chart.{decoded, says, EachMeans, with_sector}
 use Rattle.chip_trait.proofs.ImageLemmas.{image_if_closed}
 use Rattle.chip_trait.proofs.ProgramLemmas.{EachWholeMeans, without, without_is_image, part_in_quiet, there, as_with, as_without}
 
 module _ {S : Type 0} (decode : List ℕ → Option S) where
   -- where nothing is open there is one such image
-  pub whole_if_closed : (start : Contents) (story : Story) (x : Contents) → IsClosed story → IsNoChanceImage (says decode) start story x → IsWhole start story x
+  pub whole_if_closed : (start : Contents) (story : Story) (x : Contents) → IsClosed story → IsNoChanceImage (says decode) start story x → KeepsWorn start story x
       → decoded decode x ≡ decoded decode (held start story)
   whole_if_closed start story x closed is whole = fun_ext λ p. fun_ext λ s. elim (cases_Bool (is_worn story p)) [
     | inl worn ↦ ap decode (whole p s worn)

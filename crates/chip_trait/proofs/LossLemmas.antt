@@ -3,7 +3,7 @@ use Rattle.std.proofs.Common.{◌≡◌, ◌≢◌, ◌⊎◌, ℕ, Bool, true, 
 use Rattle.std.proofs.lemmas.Bool.{cases_Bool, eq-eqb}
 use Rattle.chip_trait.specs.declared.event.Event.TheVariants.{Erase, Worn}
 use Rattle.chip_trait.specs.Story.{Story, Contents, blank, held}
-use Rattle.chip_trait.specs.Image.{is_open, is_worn, may_tear, IsNamedValue, IsNoChanceImage, IsQuiet, IsWhole}
+use Rattle.chip_trait.specs.Image.{is_open, is_worn, may_tear, IsNamedValue, IsNoChanceImage, IsQuiet, KeepsWorn}
 use Rattle.chip_trait.specs.Chart.{says, decoded, EachMeans, IsPartOf}
 use Rattle.chip_trait.proofs.ImageLemmas.{held_is_named, named_in_quiet, headers_in_quiet}
 use Rattle.chip_trait.proofs.ProgramLemmas.{EachWholeMeans, part_in_quiet, named_if_says}

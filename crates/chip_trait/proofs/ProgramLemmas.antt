@@ -4,7 +4,7 @@ use Rattle.std.proofs.lemmas.Bool.{cases_Bool, and_parts, and_from, eqb-true, eq
 use Rattle.std.proofs.Math.Path.{fun_ext}
 use Rattle.chip_trait.specs.declared.event.Event.TheVariants.{Program}
 use Rattle.chip_trait.specs.Story.{Story, Contents, blank, held}
-use Rattle.chip_trait.specs.Image.{is_open, is_worn, IsNamedValue, IsNoChanceImage, IsQuiet, IsWhole}
+use Rattle.chip_trait.specs.Image.{is_open, is_worn, IsNamedValue, IsNoChanceImage, IsQuiet, KeepsWorn}
 use Rattle.chip_trait.specs.Chart.{says, decoded, EachMeans, with_sector, IsPartOf}
 use Rattle.chip_trait.proofs.ImageLemmas.{held_is_named, named_if_closed, named_in_quiet, headers_in_quiet}
 
@@ -23,7 +23,7 @@ part_in_quiet decode silent start story x quiet is q t other told = elim (named_
 
 -- with the headers that are held, where it has lost nothing at worn places
 pub headers_there : {S : Type 0} (decode : List ℕ → Option S) (start : Contents) (story : Story) (x : Contents) → IsQuiet start story
-    → IsNoChanceImage (says decode) start story x → IsWhole start story x → (q : ℕ) → decode (x q 0) ≡ decode (held start story q 0)
+    → IsNoChanceImage (says decode) start story x → KeepsWorn start story x → (q : ℕ) → decode (x q 0) ≡ decode (held start story q 0)
 headers_there decode start story x quiet is whole q = elim (cases_Bool (is_worn story q)) [
   | inl worn ↦ ap decode (whole q 0 worn)
   | inr lasting ↦ ap decode (headers_in_quiet start story x quiet is.image q lasting)
@@ -31,7 +31,7 @@ headers_there decode start story x quiet is whole q = elim (cases_Bool (is_worn 
 
 -- whatever a power cut leaves, but by chance, that has lost nothing at worn places, has this meaning
 abbrev pub EachWholeMeans : {S : Type 0} (decode : List ℕ → Option S) → ((ℕ → ℕ → Option S) → Type 0) → Contents → Story → Type 0
-EachWholeMeans decode Means start story = (x : Contents) → IsNoChanceImage (says decode) start story x → IsWhole start story x → Means (decoded decode x)
+EachWholeMeans decode Means start story = (x : Contents) → IsNoChanceImage (says decode) start story x → KeepsWorn start story x → Means (decoded decode x)
 
 module _ {S : Type 0} (decode : List ℕ → Option S) (silent : decode blank ≡ None) (start : Contents) (story : Story) (quiet : IsQuiet start story) (p s : ℕ) (bytes : List ℕ) (sector : S)
     (closed : is_open story p s ≡ false) (was_blank : held start story p s ≡ blank) (spelled : decode bytes ≡ Some sector) where
@@ -66,7 +66,7 @@ module _ {S : Type 0} (decode : List ℕ → Option S) (silent : decode blank �
     ];
   }
 
-  pub without_is_whole : (x : Contents) → IsWhole start (Program p s bytes ∷ story) x → IsWhole start story (without x)
+  pub without_is_whole : (x : Contents) → KeepsWorn start (Program p s bytes ∷ story) x → KeepsWorn start story (without x)
   without_is_whole x whole q t worn = elim (cases_Bool (eqb p q && eqb s t)) [
     | inl here ↦
         let both = and_parts _ _ here in

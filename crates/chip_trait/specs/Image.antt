@@ -77,5 +77,5 @@ abbrev pub IsClosed : Story → Type 0
 IsClosed story = (p s : ℕ) → is_open story p s ≡ false
 
 -- the contents have at worn places what is held
-abbrev pub IsWhole : Contents → Story → Contents → Type 0
-IsWhole start story x = (p s : ℕ) → is_worn story p ≡ true → x p s ≡ held start story p s
+abbrev pub KeepsWorn : Contents → Story → Contents → Type 0
+KeepsWorn start story x = (p s : ℕ) → is_worn story p ≡ true → x p s ≡ held start story p s

@@ -146,6 +146,6 @@ Takes old new result buffer = MatchResult result
     (λ _. new ≡ record old { script_faults = new.script_faults })
 
 -- a note changes nothing but the noted bytes, which grow by it where they are told
-pub record Notes (piece : List ℕ) (old new : Told) : Type 0 where
+pub record TakesNote (piece : List ℕ) (old new : Told) : Type 0 where
   pub only : new ≡ record old { beside = record old.beside { noted = new.beside.noted } }
   pub grows : (bytes : List ℕ) → new.beside.noted ≡ Some bytes → (before : List ℕ) × (old.beside.noted ≡ Some before) × (bytes ≡ before ++ piece)

@@ -1,7 +1,7 @@
 //! A chip with a script to read and somebody to talk to.
 ghost use Rattle.std.specs.Prelude.{◌≡◌, ◌<◌, ◌≤◌, length, OnOk, OnErr, IfOk};
 ghost use Rattle.chip_trait.specs.declared.event.Event.TheVariants.{Said};
-ghost use Rattle.chip_trait.specs.Told.{Told, Appends, Rose, FailsToSay, SayCounts, IsBeside, Takes, Notes};
+ghost use Rattle.chip_trait.specs.Told.{Told, Appends, Rose, FailsToSay, SayCounts, IsBeside, Takes, TakesNote};
 
 use crate::{Chip, Failed};
 
@@ -27,5 +27,5 @@ pub trait Desk: Chip {
 
     /// Notes the text of a fault. That it can't is told to nobody.
     fn note(&mut self, piece: &[u8])
-        ensures { Notes piece.now (Self.told self.old) (Self.told self.new) };
+        ensures { TakesNote piece.now (Self.told self.old) (Self.told self.new) };
 }

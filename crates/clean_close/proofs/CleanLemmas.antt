@@ -4,7 +4,7 @@ use Rattle.chip_trait.specs.Told.{History, Told}
 use Rattle.ipl_base.specs.declared.fault.ChipFault.{ChipFault}
 use Rattle.ipl_meaning.specs.Layout.{Layout}
 use Rattle.ipl_meaning.specs.Rests.{now}
-use Rattle.ipl_meaning.specs.Tables.{Status, Tables, IsCountedClean}
+use Rattle.ipl_meaning.specs.Tables.{StatusTable, Tables, IsCountedClean}
 use Rattle.ipl_meaning.specs.Mirrors.{Mirrors}
 use Rattle.ipl_meaning.proofs.ApartLemmas.{home_not_status}
 use Rattle.unit_io.specs.Costs.{Spends}
@@ -17,7 +17,7 @@ use Rattle.merge_laws.specs.Known.{KnowsPlaces}
 use Rattle.merge_laws.proofs.KnownCleanLemmas.{commit_shrinks}
 
 -- the tables with another status and counter
-abbrev pub with_status : Tables → Status → ℕ → Tables
+abbrev pub with_status : Tables → StatusTable → ℕ → Tables
 with_status t status next = record t { status = status; next = next }
 
 -- what is counted so still was so before, and isn't the sector of the mark
@@ -25,12 +25,12 @@ abbrev pub MarkShrinks : Tables → Tables → ℕ → ℕ → Type 0
 MarkShrinks t after q s = IsCountedClean after q s
     → IsCountedClean t q s × (q ≡ t.status.place → s ≡ t.status.first → ⊥)
 
-pub mark_shrinks : {T : Type 0} (places : ℕ) (t : Tables) (status : Status) (next : ℕ) (result : Result T ChipFault)
+pub mark_shrinks : {T : Type 0} (places : ℕ) (t : Tables) (status : StatusTable) (next : ℕ) (result : Result T ChipFault)
     (old new : Told) → KnowsPlaces places t
     → OnOk result (status ≡ after_mark t.status) → IfErr result (λ fault. IsStopped fault old new)
     → Settled result old new → (q s : ℕ) → MarkShrinks t (with_status t status next) q s
 mark_shrinks places t status next (Ok v) old new known marked stopped settled q s =
-    subst (λ (w : Status). MarkShrinks t (with_status t w next) q s) (sym marked)
+    subst (λ (w : StatusTable). MarkShrinks t (with_status t w next) q s) (sym marked)
     (commit_shrinks places t known [] [] next q s)
 mark_shrinks places t status next (Err e) old new known marked stopped settled q s =
     absurd (omega (arith, stopped.1, settled))
@@ -41,7 +41,7 @@ pub spot_counted : (t : Tables) → t.status.first < 256 → (s : ℕ) → s ≡
 spot_counted t room s at = (omega (arith, room, at), inr (inr (refl, omega (arith, at))))
 
 -- one program of it
-pub mark_tidies : {T : Type 0} (places : ℕ) (t : Tables) (status : Status) (next : ℕ) (result : Result T ChipFault)
+pub mark_tidies : {T : Type 0} (places : ℕ) (t : Tables) (status : StatusTable) (next : ℕ) (result : Result T ChipFault)
     (old new : Told) → KnowsPlaces places t → t.status.first < 256
     → OnOk result (status ≡ after_mark t.status) → IfErr result (λ fault. IsStopped fault old new)
     → Spends (Programs t.status.place (IsSpot t.status.first) (is_ok result)) old new

@@ -18,7 +18,7 @@ use Rattle.ipl_meaning.specs.Marks.{IsMarked}
 use Rattle.ipl_meaning.specs.MarkLaws.{MarksWhatIsKnown}
 use Rattle.ipl_meaning.specs.Rests.{now, EachStands}
 use Rattle.ipl_meaning.specs.Steps.{MayMark}
-use Rattle.ipl_meaning.specs.Tables.{Status, Tables, IsCountedClean}
+use Rattle.ipl_meaning.specs.Tables.{StatusTable, Tables, IsCountedClean}
 use Rattle.ipl_meaning.proofs.ApartLemmas.{home_not_status}
 use Rattle.ipl_meaning.proofs.CloseLemmas.{bare_is_counted, closes_mark_what_is_clean}
 use Rattle.ipl_meaning.proofs.MarkLemmas.{marks_wait}
@@ -26,7 +26,7 @@ use Rattle.ipl_meaning.proofs.MirrorLemmas.{marks_may_go}
 use Rattle.ipl_meaning.proofs.OnceLemmas.{laid_once}
 use Rattle.unit_directory.specs.Directory.{is_known}
 use Rattle.unit_io.specs.Costs.{Spends}
-use Rattle.unit_io.specs.Leads.{IsStopped, IsAdded, RestsAdded}
+use Rattle.unit_io.specs.Leads.{IsStopped, IsSectorAdded, RestsAdded}
 use Rattle.unit_io.specs.Spots.{AddsSector, Programs, IsSpot}
 use Rattle.unit_io.proofs.CostLemmas.{spends_weaker}
 use Rattle.step_laws.specs.Steps.{Settled, NoOtherEnd, EndsWith, TidyWork}
@@ -61,14 +61,14 @@ module _ (places : ℕ) (m : Map) (h : History) (it : Layout) (t : Tables) (payl
   may_mark = marks_may_go places (now h) it t (mark_of t payload) agrees.mirrors least room refl refl spelled
 
   -- what counts is marked, and no more
-  added_marks : (k : History) (next : ℕ) → IsAdded t.status.place t.status.first (mark_of t payload) h k
+  added_marks : (k : History) (next : ℕ) → IsSectorAdded t.status.place t.status.first (mark_of t payload) h k
       → MarksWhatCounts places (with_status t (after_mark t.status) next) (held k.start k.story)
   added_marks k next added u n low =
       let after = with_status t (after_mark t.status) next in
       let mark = mark_of t payload in
       let within : u < it.count = omega (arith, low, agrees.mirrors.directory.units) in
       let home = (it.units u).home in
-      let there = subst (λ (p : ℕ). IsAdded p t.status.first mark h k) agrees.mirrors.status.place added in
+      let there = subst (λ (p : ℕ). IsSectorAdded p t.status.first mark h k) agrees.mirrors.status.place added in
       let marks = closes_mark_what_is_clean places h it t t.status.first there.bytes mark agrees may_mark (omega arith)
       (known_is_marked t payload has) there.spelled u n within in
       let same = counted_at_home places h it t (t.status.first + 1) next u n agrees.mirrors within in
@@ -78,7 +78,7 @@ module _ (places : ℕ) (m : Map) (h : History) (it : Layout) (t : Tables) (payl
       (λ is. same.0 (marks.0 is), λ counted. marks.1 (same.1 counted)))
 
   -- and where something is known of a unit, what holds FF is
-  blanks_marked : (status : Status) (next : ℕ) (bytes : List ℕ) → sector_in bytes ≡ Some (mark_of t payload)
+  blanks_marked : (status : StatusTable) (next : ℕ) (bytes : List ℕ) → sector_in bytes ≡ Some (mark_of t payload)
       → MarksUnits places (with_status t status next) (held h.start (Program it.status t.status.first bytes ∷ h.story))
   blanks_marked status next bytes spells other laid u low =
       let s = t.status.first in
@@ -104,28 +104,28 @@ module _ (places : ℕ) (m : Map) (h : History) (it : Layout) (t : Tables) (payl
             (bare_is_counted places (now h) it t agrees.mirrors u n within known least most none));
       }
 
-  added_units : (k : History) (status : Status) (next : ℕ) → IsAdded t.status.place t.status.first (mark_of t payload) h k
+  added_units : (k : History) (status : StatusTable) (next : ℕ) → IsSectorAdded t.status.place t.status.first (mark_of t payload) h k
       → MarksUnits places (with_status t status next) (held k.start k.story)
   added_units k status next added =
-      let there = subst (λ (p : ℕ). IsAdded p t.status.first (mark_of t payload) h k) agrees.mirrors.status.place added in
+      let there = subst (λ (p : ℕ). IsSectorAdded p t.status.first (mark_of t payload) h k) agrees.mirrors.status.place added in
       subst (λ (j : History). MarksUnits places (with_status t status next) (held j.start j.story)) (sym there.is)
       (blanks_marked status next there.bytes there.spelled)
 
   -- the story rests on the map, and exactly that is marked
-  rests_marked : (status : Status) (next : ℕ) (r : Result (Unit {0}) ChipFault) → OnOk r (status ≡ after_mark t.status)
+  rests_marked : (status : StatusTable) (next : ℕ) (r : Result (Unit {0}) ChipFault) → OnOk r (status ≡ after_mark t.status)
       → (k : History)
       → EndsWith r (λ done k. RestsAdded places m t.status.place t.status.first (mark_of t payload) h k) NoOtherEnd k
       → EndsWith r (λ v k. RestsMarked places m (with_status t status next) k) NoOtherEnd k
   rests_marked status next (Ok v) is k end = record {
     rests = end.rests;
-    marks = subst (λ (w : Status). MarksWhatCounts places (with_status t w next) (held k.start k.story)) (sym is)
+    marks = subst (λ (w : StatusTable). MarksWhatCounts places (with_status t w next) (held k.start k.story)) (sym is)
         (added_marks k next end.added);
     units = added_units k status next end.added;
   }
   rests_marked status next (Err e) is k end = end
 
 -- a mark of what is known, where nothing is open
-pub mark_closes : (places : ℕ) (t : Tables) (status : Status) (next : ℕ) (payload : List ℕ)
+pub mark_closes : (places : ℕ) (t : Tables) (status : StatusTable) (next : ℕ) (payload : List ℕ)
     (result : Result (Unit {0}) ChipFault) (old new : Told)
     → KnowsPlaces places t → 1 ≤ t.status.first → t.status.first < 256
     → SpellsMark (length t.places.current) payload → HasWhatIsKnown t payload

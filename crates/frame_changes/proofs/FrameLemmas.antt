@@ -8,7 +8,7 @@ use Rattle.buffer_pool.specs.Pools.{PoolView, HasPage, AreOnce, new_buffer, with
 use Rattle.buffer_pool.specs.Lending.{changed_at}
 use Rattle.buffer_pool.specs.Laws.{buffer_of, with_buffer}
 use Rattle.buffer_pool.proofs.BufferLemmas.{buffer_found, brings_add_a_buffer, evicts_take_a_buffer, pins_change_a_buffer, loans_change_a_buffer}
-use Rattle.store_laws.specs.Frames.{Frame, Frames, with_frame_at}
+use Rattle.store_laws.specs.Frames.{PageFrame, Frames, with_frame_at}
 use Rattle.frame_changes.specs.Views.{frame_in, frames_of}
 use Rattle.frame_changes.specs.Laws.{BringsAddAFrame, EvictionsTakeAFrame, PinsKeepFrames, LoansChangeAFrame}
 
@@ -17,11 +17,11 @@ use Rattle.frame_changes.specs.Laws.{BringsAddAFrame, EvictionsTakeAFrame, PinsK
 both_eqb : (v u q page : ℕ) → v ≡ u → q ≡ page → (eqb v u && eqb q page) ≡ true
 both_eqb v u q page unit of = rw (eq-eqb v u unit, eq-eqb q page of) refl
 
-pub frame_here : (frames : Frames) (u page : ℕ) (o : Option Frame)
+pub frame_here : (frames : Frames) (u page : ℕ) (o : Option PageFrame)
     → with_frame_at frames u page o u page ≡ o
 frame_here frames u page o = rw (both_eqb u u page page refl refl) refl
 
-pub frame_elsewhere : (frames : Frames) (u page v q : ℕ) (o : Option Frame)
+pub frame_elsewhere : (frames : Frames) (u page v q : ℕ) (o : Option PageFrame)
     → (v ≡ u → q ≡ page → ⊥) → with_frame_at frames u page o v q ≡ frames v q
 frame_elsewhere frames u page v q o other = elim (cases_Bool (eqb v u && eqb q page)) [
   | inl same ↦
@@ -31,7 +31,7 @@ frame_elsewhere frames u page v q o other = elim (cases_Bool (eqb v u && eqb q p
 ]
 
 -- the last one stays
-pub put_again : (frames : Frames) (u page : ℕ) (a b : Option Frame)
+pub put_again : (frames : Frames) (u page : ℕ) (a b : Option PageFrame)
     → with_frame_at (with_frame_at frames u page a) u page b ≡ with_frame_at frames u page b
 put_again frames u page a b =
     fun_ext (λ v. fun_ext (λ q. elim (cases_Bool (eqb v u && eqb q page)) [
@@ -40,7 +40,7 @@ put_again frames u page a b =
     ]))
 
 -- the frame that a page has already
-pub put_same : (frames : Frames) (u page : ℕ) (o : Option Frame) → frames u page ≡ o
+pub put_same : (frames : Frames) (u page : ℕ) (o : Option PageFrame) → frames u page ≡ o
     → with_frame_at frames u page o ≡ frames
 put_same frames u page o is =
     fun_ext (λ v. fun_ext (λ q. elim (cases_Bool (eqb v u && eqb q page)) [
@@ -96,7 +96,7 @@ pins_keep_frames old new unit page key change once has keeps did =
     (pins_change_a_buffer old.buffers new.buffers key change was once has.stored keep.page did
     ∙ of_page (buffer_of old.buffers) unit page was.unit was.page (Some (change was)) has.unit_is
     has.page_is)
-    ∙ ap (λ (f : Frame). with_frame_at (frames_of old) unit page (Some f)) keep.frame
+    ∙ ap (λ (f : PageFrame). with_frame_at (frames_of old) unit page (Some f)) keep.frame
     ∙ put_same (frames_of old) unit page (Some (frame_in was))
     (frame_found old unit page key once has)
 

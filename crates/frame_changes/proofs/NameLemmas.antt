@@ -4,7 +4,7 @@ use Rattle.std.proofs.lemmas.List.{map_more, take_all}
 use Rattle.ipl_base.specs.Places.{home_of}
 use Rattle.ipl_base.specs.declared.name.Name.{Name}
 use Rattle.ipl_base.specs.declared.spot.Home.{Home}
-use Rattle.store_laws.specs.Frames.{Frame, Frames, ChangesSo}
+use Rattle.store_laws.specs.Frames.{PageFrame, Frames, ChangesSo}
 use Rattle.store_laws.specs.NamedFrames.{NamedFramesChange}
 use Rattle.store_laws.proofs.ChangeLemmas.{AreJoined, named_more}
 use Rattle.frame_changes.specs.Changes.{FrameChanges, OnlyPageChanges}
@@ -12,14 +12,14 @@ use Rattle.frame_changes.proofs.FrameLemmas.{frame_here, frame_elsewhere}
 
 -- ---- one name
 
-changes_some : (R : Frame → Frame → Type 0) (a b : Option Frame) (was now : Frame) → a ≡ Some was
+changes_some : (R : PageFrame → PageFrame → Type 0) (a b : Option PageFrame) (was now : PageFrame) → a ≡ Some was
     → b ≡ Some now → R was now → ChangesSo R a b
 changes_some R a b was now first second did =
-    subst (λ (o : Option Frame). ChangesSo R o b) (sym first)
-    (subst (λ (o : Option Frame). ChangesSo R (Some was) o) (sym second) did)
+    subst (λ (o : Option PageFrame). ChangesSo R o b) (sym first)
+    (subst (λ (o : Option PageFrame). ChangesSo R (Some was) o) (sym second) did)
 
 -- the page of the name has a frame, which changes
-pub only_this : (R : Frame → Frame → Type 0) (old new : Frames) (n : ℕ) (at : Home)
+pub only_this : (R : PageFrame → PageFrame → Type 0) (old new : Frames) (n : ℕ) (at : Home)
     → at ≡ home_of n → FrameChanges R old new at.unit at.page → OnlyPageChanges R old new n
 only_this R old new n at same did =
     let u = (home_of n).unit in
@@ -33,17 +33,17 @@ only_this R old new n at same did =
     }
 
 -- or has none
-pub none_changes : (R : Frame → Frame → Type 0) (frames : Frames) (n : ℕ) (at : Home)
+pub none_changes : (R : PageFrame → PageFrame → Type 0) (frames : Frames) (n : ℕ) (at : Home)
     → at ≡ home_of n → frames at.unit at.page ≡ None → OnlyPageChanges R frames frames n
 none_changes R frames n at same absent =
     let none = subst (λ (h : Home). frames h.unit h.page ≡ None) same absent in record {
-      here = subst (λ (o : Option Frame). ChangesSo R o o) (sym none) tt;
+      here = subst (λ (o : Option PageFrame). ChangesSo R o o) (sym none) tt;
       others = λ v q other. refl;
     }
 
 -- ---- a list of names, up to a place
 
-module _ (R : Frame → Frame → Type 0) (names : List Name) (i : ℕ) (old now : Frames)
+module _ (R : PageFrame → PageFrame → Type 0) (names : List Name) (i : ℕ) (old now : Frames)
     (so : NamedFramesChange R (map (λ n. n.0) (take i names)) old now) where
   pub names_turn : AreJoined R → (new : Frames) (first : Name) → i < length names
       → OnlyPageChanges R now new (get_or names i first).0

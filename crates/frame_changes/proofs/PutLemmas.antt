@@ -22,7 +22,7 @@ use Rattle.buffer_pool.proofs.LentLemmas.{changed_is}
 use Rattle.buffer_pool.proofs.BufferLemmas.{changes_stay_once, buffer_absent}
 use Rattle.buffer_pool.proofs.HoldingLemmas.{both_keep, loans_keep}
 use Rattle.buffer_pool.proofs.UseLemmas.{loans_keep_uses}
-use Rattle.store_laws.specs.Frames.{Frame, Frames, logs_of, with_frame_at, IsWrittenFrame, IsCommittedFrame, IsAbortedFrame}
+use Rattle.store_laws.specs.Frames.{PageFrame, Frames, logs_of, with_frame_at, IsWrittenFrame, IsCommittedFrame, IsAbortedFrame}
 use Rattle.store_laws.specs.Views.{frame_of}
 use Rattle.store_laws.proofs.ViewLemmas.{settled_frames_are_committed, dropped_frames_are_aborted, changed_frames_are_written}
 use Rattle.frame_changes.specs.Views.{frame_in, frames_of}
@@ -35,12 +35,12 @@ pub no_frame : (p : PoolView) (u page : ℕ) → AreOnce p.buffers → IsAbsent 
 no_frame p u page once absent =
     ap (option_map frame_in) (buffer_absent p.buffers u page once absent)
 
-pub not_absent : (p : PoolView) (u page : ℕ) (f : Frame) → AreOnce p.buffers
+pub not_absent : (p : PoolView) (u page : ℕ) (f : PageFrame) → AreOnce p.buffers
     → frames_of p u page ≡ Some f → IsAbsent p.buffers u page → ⊥
 not_absent p u page f once there absent =
     some_none f (sym there ∙ no_frame p u page once absent)
   where
-    some_none : (x : Frame) → Some x ≡ None → ⊥
+    some_none : (x : PageFrame) → Some x ≡ None → ⊥
     some_none x same = absurd (cc same)
 
 pub none_there : (p : PoolView) (u page : ℕ) → AreOnce p.buffers → IsSome (frames_of p u page)
@@ -93,7 +93,7 @@ room_if p u r log fits is when =
           let own : may.frame ≡ frame_in has.buffer =
           some_is may.frame (frame_in has.buffer) (sym may.there ∙ has.frame) in
           when.1 (subst (λ (l : List Record). size_of_all l + size_of r ≤ 480)
-          (ap (λ (f : Frame). f.log) own ∙ has.log_is) may.fits),
+          (ap (λ (f : PageFrame). f.log) own ∙ has.log_is) may.fits),
     )
 
 pub no_room : (p : PoolView) (u : ℕ) (r : Record)
@@ -110,13 +110,13 @@ pub log_of_page : (p : PoolView) (u page : ℕ) (log : List Record)
     → log ≡ logs_of (frames_of p) u page
 log_of_page p u page log is =
     let has = has_log p u page log is in
-    sym has.log_is ∙ sym (ap (λ (o : Option Frame). option_map_or (λ f. f.log) o []) has.frame)
+    sym has.log_is ∙ sym (ap (λ (o : Option PageFrame). option_map_or (λ f. f.log) o []) has.frame)
 
 pub no_log_of_page : (p : PoolView) (u page : ℕ)
     → None ≡ option_map (λ b. b.log) (buffer_of p.buffers u page)
     → logs_of (frames_of p) u page ≡ []
 no_log_of_page p u page is =
-    ap (λ (o : Option Frame). option_map_or (λ f. f.log) o []) (no_log p u page is)
+    ap (λ (o : Option PageFrame). option_map_or (λ f. f.log) o []) (no_log p u page is)
 
 -- ---- one frame
 
@@ -147,7 +147,7 @@ module _ (p : PoolView) (u page key : ℕ) (once : AreOnce p.buffers)
       (changed_is p.buffers key (with_frame f) has.buffer has.stored)
 
   -- the frame is written
-  pub frame_changes : (R : Frame → Frame → Type 0) (f : FrameView)
+  pub frame_changes : (R : PageFrame → PageFrame → Type 0) (f : FrameView)
       → R (frame_in has.buffer) (frame_of f has.buffer.log)
       → FrameChanges R (frames_of p) (frames_of (with_frame_under p key f)) u page
   frame_changes R f did = record {
@@ -159,13 +159,13 @@ module _ (p : PoolView) (u page key : ℕ) (once : AreOnce p.buffers)
   }
 
   -- whether the page's frame has room for a record's change
-  pub room_told : (r : Record) (before : FrameView) (told : Bool) (f : Frame) → before ≡ has.buffer.frame
+  pub room_told : (r : Record) (before : FrameView) (told : Bool) (f : PageFrame) → before ≡ has.buffer.frame
       → (IsTrue told ↔ (fill_by (values_in before) (noted (pending_in before) r) ≤ PAGE_LEN))
       → frames_of p u page ≡ Some f → IsTrue told ↔ PutHasRoom f r
   room_told r before told f framed when there =
       let own : f ≡ frame_in has.buffer = some_is f (frame_in has.buffer)
       (sym there ∙ frame_found p u page key once has) in
-      subst (λ (g : Frame). IsTrue told ↔ PutHasRoom g r) (sym own)
+      subst (λ (g : PageFrame). IsTrue told ↔ PutHasRoom g r) (sym own)
       (subst (λ (x : FrameView). IsTrue told ↔ (fill_by (values_in x) (noted (pending_in x) r) ≤ PAGE_LEN)) framed when)
 
   pub frame_pins : (f : FrameView) → KeepsPins p (with_frame_under p key f)
@@ -177,7 +177,7 @@ module _ (p : PoolView) (u page key : ℕ) (once : AreOnce p.buffers)
       (λ b. record { page = (refl, refl); used = refl })
 
   -- the records are
-  pub log_changes : (R : Frame → Frame → Type 0) (log : List Record)
+  pub log_changes : (R : PageFrame → PageFrame → Type 0) (log : List Record)
       → R (frame_in has.buffer) (frame_of has.buffer.frame log)
       → FrameChanges R (frames_of p) (frames_of (with_log_under p key log)) u page
   log_changes R log did = record {
@@ -197,7 +197,7 @@ module _ (p : PoolView) (u page key : ℕ) (once : AreOnce p.buffers)
       (λ b. record { page = (refl, refl); used = refl })
 
   -- both are
-  pub both_change : (R : Frame → Frame → Type 0) (f : FrameView) (log : List Record)
+  pub both_change : (R : PageFrame → PageFrame → Type 0) (f : FrameView) (log : List Record)
       → R (frame_in has.buffer) (frame_of f log)
       → FrameChanges R (frames_of p) (frames_of (with_log_under (with_frame_under p key f) key log))
       u page
@@ -237,7 +237,7 @@ module _ (p : PoolView) (u page key : ℕ) (once : AreOnce p.buffers)
   -- ---- what was written
 
   -- a record came to the frame and to the records
-  pub written : (r : Record) (f before : FrameView) (log new : List Record) (pushed : Bool) (g : Frame)
+  pub written : (r : Record) (f before : FrameView) (log new : List Record) (pushed : Bool) (g : PageFrame)
       → before ≡ has.buffer.frame → f.page ≡ before.page
       → ((k : ℕ) → pending_in f k ≡ with_pending (pending_in before) r.slot (r.tid, r.change) k)
       → frames_of p u page ≡ Some g → size_of_all g.log + size_of r ≤ 480
@@ -248,7 +248,7 @@ module _ (p : PoolView) (u page key : ℕ) (once : AreOnce p.buffers)
       let b = has.buffer in
       let own : g ≡ frame_in b = some_is g (frame_in b)
       (sym there ∙ frame_found p u page key once has) in
-      let size = ap size_of_all (ap (λ (x : Frame). x.log) own ∙ sym logged) in
+      let size = ap size_of_all (ap (λ (x : PageFrame). x.log) own ∙ sym logged) in
       let added : new ≡ log ++ r ∷ [] = done_as_it_fits pushed (size_of_all log + size_of r ≤ 480)
       (new ≡ log ++ r ∷ []) when (omega (arith, fits, size)) is in
       let wrote : IsWrittenFrame r (frame_of b.frame b.log) (frame_of f (b.log ++ r ∷ [])) =

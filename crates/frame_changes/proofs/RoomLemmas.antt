@@ -12,7 +12,7 @@ use Rattle.ipl_meaning.specs.Values.{Values}
 use Rattle.page_ops.specs.Pending.{Pending, Pendings, fill_by, mark_of}
 use Rattle.store_laws.specs.Pending.{name_at}
 use Rattle.store_laws.specs.Room.{fill_at, marked_by}
-use Rattle.store_laws.specs.Frames.{Frame}
+use Rattle.store_laws.specs.Frames.{PageFrame}
 use Rattle.store_laws.proofs.RoomLemmas.{fewer_marks, one_less}
 use Rattle.frame_changes.specs.Changes.{noted}
 use Rattle.frame_changes.specs.Laws.{PutsByMarksHaveRoom}
@@ -45,7 +45,7 @@ more_mark : (b : Bool) (m k : ℕ) → k ≤ (if b then max m k else k)
 more_mark true m k = le-max_right m k
 more_mark false m k = omega arith
 
-module _ (marks : Marks) (u : ℕ) (r : Record) (f : Frame)
+module _ (marks : Marks) (u : ℕ) (r : Record) (f : PageFrame)
     (less : (slot : ℕ) → slot < SLOTS → mark_of (f.pending slot) ≤ marks (name_at u r.page slot)) where
   own_mark : (slot : ℕ) → slot ≡ r.slot → 1 + size_in_page r.change ≤ marked_by marks u r (name_at u r.page slot)
   own_mark slot same =

@@ -4,7 +4,7 @@ use Rattle.std.specs.Prelude.{slice_index, if◌then◌else◌}
 use Rattle.std.proofs.lemmas.Bool.{cases_Bool, cases_eq, cases_lt}
 use Rattle.std.proofs.lemmas.List.{get_or_past, get_or-replicate}
 use Rattle.ipl_base.specs.declared.limits.TheConstants.{SESSIONS, SLOTS}
-use Rattle.record_locks.specs.Held.{Held, Slots, held_at, written_of, is_among, slot_marks, marks_in}
+use Rattle.record_locks.specs.Held.{Held, SessionSlots, held_at, written_of, is_among, slot_marks, marks_in}
 use Rattle.record_locks.proofs.MarkLemmas.{absent_slot, all_at_most}
 
 -- ---- the names of one session
@@ -17,19 +17,19 @@ AreNoted s names first old now = (k : ℕ) → k < SLOTS
 -- ---- the sessions, one after the other
 
 -- what is noted below 32 is a session that wrote the name; where it is not, none of the first s sessions did
-pub record AreWriters (slots : Slots) (first s : ℕ) (now : List ℕ) : Type 0 where
+pub record AreWriters (slots : SessionSlots) (first s : ℕ) (now : List ℕ) : Type 0 where
   pub none : (k : ℕ) → k < SLOTS → SESSIONS ≤ slice_index now k
       → (t : ℕ) → t < s → is_among (first + k) (written_of slots t) ≡ false
   pub wrote : (k : ℕ) → k < SLOTS → slice_index now k < SESSIONS
       → is_among (first + k) (written_of slots (slice_index now k)) ≡ true
 
-pub writers_first : (slots : Slots) (first : ℕ) → AreWriters slots first 0 (replicate SLOTS SESSIONS)
+pub writers_first : (slots : SessionSlots) (first : ℕ) → AreWriters slots first 0 (replicate SLOTS SESSIONS)
 writers_first slots first = record {
   none = λ k low past t before. absurd (omega (arith, before));
   wrote = λ k low known. absurd (let is = get_or-replicate SLOTS k SESSIONS 0 low in omega (arith, is, known));
 }
 
-pub writers_more : (slots : Slots) (first s : ℕ) (now new : List ℕ) → s < SESSIONS → AreWriters slots first s now
+pub writers_more : (slots : SessionSlots) (first s : ℕ) (now new : List ℕ) → s < SESSIONS → AreWriters slots first s now
     → AreNoted s (written_of slots s) first now new → AreWriters slots first (s + 1) new
 writers_more slots first s now new within so noted = record {
   none = λ k low past t before.
@@ -57,7 +57,7 @@ writers_more slots first s now new within so noted = record {
 -- ---- marks
 
 -- a name that no session wrote has no mark
-unwritten : (slots : Slots) (n : ℕ) → length slots ≡ SESSIONS
+unwritten : (slots : SessionSlots) (n : ℕ) → length slots ≡ SESSIONS
     → ((s : ℕ) → s < SESSIONS → is_among n (written_of slots s) ≡ false) → marks_in slots n ≡ 0
 unwritten slots n all none = omega (arith, all_at_most slots n 0 each)
   where
@@ -69,7 +69,7 @@ unwritten slots n all none = omega (arith, all_at_most slots n 0 each)
           omega (arith, ap (λ (o : Option Held). slot_marks o n) empty)
     ]
 
-pub writers_done : (slots : Slots) (first s : ℕ) (now : List ℕ) → length slots ≡ SESSIONS → SESSIONS ≤ s
+pub writers_done : (slots : SessionSlots) (first s : ℕ) (now : List ℕ) → length slots ≡ SESSIONS → SESSIONS ≤ s
     → AreWriters slots first s now
     → (k : ℕ) → k < SLOTS → SESSIONS ≤ slice_index now k → marks_in slots (first + k) ≡ 0
 writers_done slots first s now all past so k low none =

@@ -12,7 +12,7 @@ use Rattle.buffer_pool.specs.Lending.{changed_at}
 use Rattle.buffer_pool.specs.Laws.{SamePage}
 use Rattle.store_laws.specs.Pending.{name_at}
 use Rattle.store_laws.specs.Room.{PageHasRoomFor}
-use Rattle.store_laws.specs.Frames.{Frame, with_frame_at}
+use Rattle.store_laws.specs.Frames.{PageFrame, with_frame_at}
 use Rattle.store_laws.specs.Views.{frame_of}
 use Rattle.frame_changes.specs.Views.{frame_in, frames_of}
 use Rattle.frame_changes.specs.Changes.{PutHasRoom}
@@ -53,6 +53,6 @@ LoansChangeAFrame = (p : PoolView) (unit page key : ℕ) (change : Buffer → Bu
 -- where what is pending in a frame takes no more than these marks, a put for which its page has room
 -- by them has room there
 abbrev pub PutsByMarksHaveRoom : Type 0
-PutsByMarksHaveRoom = (marks : Marks) (u : ℕ) (r : Record) (f : Frame) (bytes : List ℕ)
+PutsByMarksHaveRoom = (marks : Marks) (u : ℕ) (r : Record) (f : PageFrame) (bytes : List ℕ)
     → ((slot : ℕ) → slot < SLOTS → mark_of (f.pending slot) ≤ marks (name_at u r.page slot))
     → r.change ≡ Some bytes → PageHasRoomFor marks u r f.values → PutHasRoom f r

@@ -7,7 +7,7 @@ ghost use Rattle.ipl_rules.specs.Marks.{with_mark};
 ghost use Rattle.ipl_format.specs.Page.{value_in};
 ghost use Rattle.record_locks.specs.Held.{is_among, marks_in, written_of};
 ghost use Rattle.page_ops.specs.Frames.{values_in};
-ghost use Rattle.store_laws.specs.Frames.{Frame as FrameOfPage};
+ghost use Rattle.store_laws.specs.Frames.{PageFrame};
 ghost use Rattle.store_laws.specs.Room.{fill_at, overfills_at};
 ghost use Rattle.frame_changes.specs.Views.{frames_of};
 ghost use Rattle.frame_changes.specs.declared.filling.TheConstants.{HEAD};
@@ -26,7 +26,7 @@ pub(crate) const HEAD: usize = 3;
 /// has, whichever open sessions commit; false where the page is in no frame.
 pub fn overfills(pool: &Pool, sessions: &Sessions, name: Name, value: &[u8]) -> bool
     requires short { length value.now ≤ VALUE_LEN }
-    ensures exact { (f : FrameOfPage)
+    ensures exact { (f : PageFrame)
         → frames_of pool.now (home_of name.0).unit (home_of name.0).page ≡ Some f
         → result ≡ overfills_at (marks_in sessions.now) name.0 value.now f.values }
     ensures none { frames_of pool.now (home_of name.0).unit (home_of name.0).page ≡ None

@@ -3,7 +3,7 @@ ghost use Rattle.std.specs.Prelude.{◌≡◌, ◌≤◌, ◌<◌, Some, None, I
 ghost use Rattle.ipl_base.specs.declared.limits.TheConstants.{VALUE_LEN};
 ghost use Rattle.page_ops.specs.Frames.{values_in, pending_in};
 ghost use Rattle.page_ops.specs.Pending.{seen_by};
-ghost use Rattle.store_laws.specs.Frames.{Frame as FrameOfPage};
+ghost use Rattle.store_laws.specs.Frames.{PageFrame};
 ghost use Rattle.frame_changes.specs.Views.{frames_of};
 
 use buffer_pool::Pool;
@@ -14,7 +14,7 @@ use page_ops::Frame;
 pub fn committed_value(pool: &Pool, unit: u32, page: u32, slot: u32) -> Option<&[u8]>
     requires page { page < 15 }
     requires slot { slot < 64 }
-    ensures value { (f : FrameOfPage) → frames_of pool.now unit page ≡ Some f
+    ensures value { (f : PageFrame) → frames_of pool.now unit page ≡ Some f
         → option_map (λ b. b.now) result ≡ f.values slot }
     ensures none { frames_of pool.now unit page ≡ None → result ≡ None }
     ensures short { IfSome result (λ b. length b.now ≤ VALUE_LEN) }
@@ -30,7 +30,7 @@ pub fn committed_value(pool: &Pool, unit: u32, page: u32, slot: u32) -> Option<&
 pub fn seen_value(pool: &Pool, unit: u32, page: u32, slot: u32, tid: u64) -> Option<&[u8]>
     requires page { page < 15 }
     requires slot { slot < 64 }
-    ensures seen { (f : FrameOfPage) → frames_of pool.now unit page ≡ Some f
+    ensures seen { (f : PageFrame) → frames_of pool.now unit page ≡ Some f
         → option_map (λ b. b.now) result ≡ seen_by tid (f.values slot) (f.pending slot) }
     ensures none { frames_of pool.now unit page ≡ None → result ≡ None }
     ensures short { IfSome result (λ b. length b.now ≤ VALUE_LEN) }

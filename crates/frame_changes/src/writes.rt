@@ -7,7 +7,7 @@ ghost use Rattle.buffer_pool.specs.Holding.{KeepsPins};
 ghost use Rattle.buffer_pool.specs.Uses.{used_of};
 ghost use Rattle.page_ops.specs.Frames.{values_in, pending_in};
 ghost use Rattle.page_ops.specs.Pending.{fill_by};
-ghost use Rattle.store_laws.specs.Frames.{Frame as FrameOfPage, IsWrittenFrame, logs_of};
+ghost use Rattle.store_laws.specs.Frames.{PageFrame, IsWrittenFrame, logs_of};
 ghost use Rattle.frame_changes.specs.Views.{frames_of};
 ghost use Rattle.frame_changes.specs.Changes.{noted, FrameChanges, IsClearedFrame, MayPut, PutHasRoom};
 
@@ -34,7 +34,7 @@ pub fn put_record(pool: &mut Pool, unit: u32, rec: &Record) -> bool
     requires page { rec.now.page < 15 }
     requires slot { rec.now.slot < 64 }
     requires fits { MayPut (frames_of pool.old) unit (record_of rec.now) }
-    ensures room { (f : FrameOfPage) → frames_of pool.old unit rec.now.page ≡ Some f
+    ensures room { (f : PageFrame) → frames_of pool.old unit rec.now.page ≡ Some f
         → IsTrue result ↔ PutHasRoom f (record_of rec.now) }
     ensures deletes { (record_of rec.now).change ≡ None → result ≡ true }
     ensures put { OnTrue result (FrameChanges (IsWrittenFrame (record_of rec.now)) (frames_of pool.old)

@@ -11,7 +11,7 @@ use Rattle.chip_trait.specs.Told.{Told, Counts}
 use Rattle.ipl_format.specs.Page.{value_in}
 use Rattle.ipl_meaning.specs.Chart.{Chart, chart_of}
 use Rattle.ipl_meaning.specs.Layout.{Layout}
-use Rattle.ipl_meaning.specs.Tables.{Places, OverflowLists, Status, Tables}
+use Rattle.ipl_meaning.specs.Tables.{Places, OverflowLists, StatusTable, Tables}
 use Rattle.number_set.specs.Numbers.{among}
 use Rattle.opening_laws.specs.First.{count_below}
 use Rattle.unit_io.specs.Faults.{IsPageCause}
@@ -19,7 +19,7 @@ use Rattle.unit_io.specs.ReadsAt.{Anywhere, ReadsAt, IsCauseAt}
 use Rattle.unit_io.proofs.ReadsAtLemmas.{at_wider}
 use Rattle.unit_log.specs.declared.live.UnitHead.{UnitHead}
 use Rattle.unit_log.specs.declared.scratch.LogSector.{LogSector}
-use Rattle.unit_log.specs.Live.{IsLive}
+use Rattle.unit_log.specs.Live.{MatchesLayout}
 use Rattle.page_ops.specs.Frames.{FrameView, values_in}
 use Rattle.page_rebuild.specs.Loaded.{IsLoaded, AreTables, IsReadWhole, IsRebuildCause}
 use Rattle.page_rebuild.proofs.ReadLemmas.{within, home_is}
@@ -98,9 +98,9 @@ loaded_count x it u page f is =
 -- ---- a unit that was read
 
 pub whole_by : {places u : ℕ} {c : Chart} {it : Layout} {t : Tables} {directory : Places}
-    {overflow : OverflowLists} {status : Status} {head : UnitHead} {kept : List LogSector}
+    {overflow : OverflowLists} {status : StatusTable} {head : UnitHead} {kept : List LogSector}
     → AreTables places c it t directory overflow status → u < length directory.current
-    → IsLive it u head kept → IsReadWhole places c it (slice_index directory.current u) u head kept status
+    → MatchesLayout it u head kept → IsReadWhole places c it (slice_index directory.current u) u head kept status
 whole_by are low live = record {
   laid = are.mirrored.mirrors.laid;
   within = within are low;
@@ -110,13 +110,13 @@ whole_by are low live = record {
 }
 
 pub units_are : {places : ℕ} {c : Chart} {it : Layout} {t : Tables} {directory : Places} {overflow : OverflowLists}
-    {status : Status} → AreTables places c it t directory overflow status → length directory.current ≡ it.count
+    {status : StatusTable} → AreTables places c it t directory overflow status → length directory.current ≡ it.count
 units_are are =
     ap (λ (d : Places). length d.current) (sym are.mirrored.directory_is) ∙ are.mirrored.mirrors.directory.units
 
 -- the chip has as many places after reads
 pub tables_then : {old new : Told} {c : Chart} {it : Layout} {t : Tables} {directory : Places} {overflow : OverflowLists}
-    {status : Status} → Counts old new → AreTables old.places c it t directory overflow status
+    {status : StatusTable} → Counts old new → AreTables old.places c it t directory overflow status
     → AreTables new.places c it t directory overflow status
 tables_then {c = c} {it = it} {t = t} {directory = directory} {overflow = overflow} {status = status} counts are =
     subst (λ (n : ℕ). AreTables n c it t directory overflow status) (sym counts.places) are
@@ -129,7 +129,7 @@ handed_cause old mid new (Err e) counts cause = reading_then old mid new e count
 
 -- and the unit stands at this place
 pub whole_then : {old new : Told} {c : Chart} {it : Layout} {place here u : ℕ} {head : UnitHead} {kept : List LogSector}
-    {status : Status} → Counts old new → here ≡ place → IsReadWhole old.places c it place u head kept status
+    {status : StatusTable} → Counts old new → here ≡ place → IsReadWhole old.places c it place u head kept status
     → IsReadWhole new.places c it here u head kept status
 whole_then {new = new} {c = c} {it = it} {place = place} {u = u} {head = head} {kept = kept} {status = status} counts same whole =
     subst (λ (p : ℕ). IsReadWhole new.places c it p u head kept status) (sym same)

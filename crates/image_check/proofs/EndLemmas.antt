@@ -16,7 +16,7 @@ use Rattle.ipl_meaning.specs.Chart.{Chart, chart_of}
 use Rattle.ipl_meaning.specs.Layout.{Layout}
 use Rattle.ipl_meaning.specs.Mirrors.{Mirrors}
 use Rattle.ipl_meaning.specs.Stands.{Stands}
-use Rattle.ipl_meaning.specs.Tables.{Places, OverflowLists, Status, Tables}
+use Rattle.ipl_meaning.specs.Tables.{Places, OverflowLists, StatusTable, Tables}
 use Rattle.merge_laws.specs.Known.{KnowsPlaces}
 use Rattle.opening_laws.specs.Opened.{tables_of}
 use Rattle.opening_laws.specs.Chosen.{units_at}
@@ -28,16 +28,16 @@ use Rattle.opening_laws.proofs.NoFaultLemmas.{no_shape_fault_is_laid}
 use Rattle.page_rebuild.specs.Loaded.{AreTables}
 use Rattle.restart.specs.Looks.{HasCauseFor}
 use Rattle.image_check.specs.Checked.{IsReadingCause, IsCheckCause, IsUnwell, ChecksImage, check_fault, pages_fault, records_below, records_in}
-use Rattle.image_check.specs.Tables.{AreSized}
+use Rattle.image_check.specs.Tables.{AreTablesSized}
 use Rattle.image_check.proofs.CountLemmas.{reading_then}
 use Rattle.image_check.proofs.CheckLemmas.{checked_chips_stand, standing_chips_have_no_fault, records_are_counted}
 
 -- ---- the tables
 
-pub sized_by : {old new : Told} {directory : Places} {overflow : OverflowLists} {status : Status} → IsGeometry old.places
+pub sized_by : {old new : Told} {directory : Places} {overflow : OverflowLists} {status : StatusTable} → IsGeometry old.places
     → Counts old new
     → ((counter : ℕ) × KnowsPlaces old.places (tables_of directory overflow status counter))
-    → AreSized new.places directory overflow
+    → AreTablesSized new.places directory overflow
 sized_by fits counts (counter, knows) = record {
   all = knows.suits.all ∙ sym counts.places;
   few = omega (arith, knows.suits.units.1, fits.1);
@@ -45,7 +45,7 @@ sized_by fits counts (counter, knows) = record {
   sized = knows.suits.sized ∙ sym counts.places;
 }
 
-pub all_tables : {old new : Told} {c : Chart} {it : Layout} {directory : Places} {overflow : OverflowLists} {status : Status}
+pub all_tables : {old new : Told} {c : Chart} {it : Layout} {directory : Places} {overflow : OverflowLists} {status : StatusTable}
     {counter : ℕ} → Counts old new → Mirrors old.places c it (tables_of directory overflow status counter)
     → AreTables new.places c it (tables_of directory overflow status counter) directory overflow status
 all_tables {c = c} {it = it} {directory = directory} {overflow = overflow} {status = status} {counter = counter} counts mirrors = record {

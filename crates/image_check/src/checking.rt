@@ -4,7 +4,7 @@ ghost use Rattle.ipl_base.specs.Places.{IsGeometry};
 ghost use Rattle.unit_io.specs.Reads.{OfContents};
 ghost use Rattle.unit_io.specs.ReadsAt.{Anywhere, ReadsAt};
 ghost use Rattle.image_check.specs.Checked.{CheckCause, Checks, ChecksImage, IsCheckCause};
-ghost use Rattle.image_check.specs.Tables.{IsMade};
+ghost use Rattle.image_check.specs.Tables.{IsMemoryMade};
 
 use crate::CheckFault;
 use crate::counting::{Room, Tables, count_units};
@@ -30,7 +30,7 @@ pub(crate) struct Memory {
 impl Memory {
     /// Memory for a chip of this size.
     fn new(alloc: Global, geometry: Geometry) -> Result<Memory, OutOfMemory>
-        ensures { IfOk result (λ memory. IsMade geometry.places memory) }
+        ensures { IfOk result (λ memory. IsMemoryMade geometry.places memory) }
     {
         let tables = Tables {
             directory: Directory::new(alloc, geometry)?,
@@ -52,7 +52,7 @@ impl Memory {
     /// Checks a chip of the size that the memory is for.
     fn check<C: Chip>(&mut self, chip: &mut C) -> Result<u32, ImageFault>
         requires fits { IsGeometry (C.told chip.old).places }
-        requires made { IsMade (C.told chip.old).places self.old }
+        requires made { IsMemoryMade (C.told chip.old).places self.old }
         ensures checks { OfContents (C.told chip.old) (λ x. ChecksImage x (C.told chip.old).places result) }
         ensures looks { ReadsAt Anywhere (C.told chip.old) (C.told chip.new) }
         ensures cause { IfErr result (λ e. IsCheckCause e (C.told chip.old) (C.told chip.new)) }
@@ -74,7 +74,7 @@ impl Memory {
 /// What a check answers once memory is there.
 fn checked<C: Chip>(memory: &mut Memory, chip: &mut C) -> Result<u32, CheckFault>
     requires fits { IsGeometry (C.told chip.old).places }
-    requires made { IsMade (C.told chip.old).places memory.old }
+    requires made { IsMemoryMade (C.told chip.old).places memory.old }
     ensures checks { OfContents (C.told chip.old) (λ x. Checks x (C.told chip.old).places result) }
     ensures looks { ReadsAt Anywhere (C.told chip.old) (C.told chip.new) }
     ensures had { IfErr result (λ e. e ≢ CheckFault.OutOfMemory) }

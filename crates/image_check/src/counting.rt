@@ -16,7 +16,7 @@ ghost use Rattle.image_check.specs.Checked.{
   records_of_unit,
   records_on,
 };
-ghost use Rattle.image_check.specs.Tables.{AreSized, OfWhole};
+ghost use Rattle.image_check.specs.Tables.{AreTablesSized, OfWhole};
 
 use chip_trait::Chip;
 use ipl_base::ChipFault;
@@ -123,7 +123,7 @@ fn count_unit<C: Chip>(
     unit: u32,
     room: &mut Room,
 ) -> Result<u32, ChipFault>
-    requires sized { AreSized (C.told chip.old).places tables.now.directory tables.now.overflow }
+    requires sized { AreTablesSized (C.told chip.old).places tables.now.directory tables.now.overflow }
     requires unit { unit < length tables.now.directory.current }
     ensures told { OfTables (C.told chip.old) tables.now.directory tables.now.overflow tables.now.status
         (λ x it. TellsRecords (fault_of_unit x it unit) (records_of_unit x it unit) result) }
@@ -148,7 +148,7 @@ pub(crate) fn count_units<C: Chip>(
     tables: &Tables,
     room: &mut Room,
 ) -> Result<u32, ChipFault>
-    requires sized { AreSized (C.told chip.old).places tables.now.directory tables.now.overflow }
+    requires sized { AreTablesSized (C.told chip.old).places tables.now.directory tables.now.overflow }
     ensures told { OfTables (C.told chip.old) tables.now.directory tables.now.overflow tables.now.status
         (λ x it. TellsRecords (pages_fault x it) (records_below x it it.count) result) }
     ensures reads { ReadsAt Anywhere (C.told chip.old) (C.told chip.new) }

@@ -20,7 +20,7 @@ use Rattle.script_run.specs.Goes.{StopCause, LearnsAlong, CompletesOver, HasRead
 use Rattle.script_run.proofs.BehindLemmas.{runs_behind, tidy_behind, cause_behind, learns_behind, completes_behind, further_both}
 use Rattle.script_run.proofs.CompleteLemmas.{completes_more}
 use Rattle.script_store.specs.declared.store.ScriptStore.{ScriptStore}
-use Rattle.script_store.specs.Closes.{MarksRecalled, MarksSince, Closes}
+use Rattle.script_store.specs.Closes.{MarksRecalled, MarksSince, ClosesAtEnd}
 use Rattle.script_store.specs.Keeps.{KeepsScript, script_keeping, next_number}
 use Rattle.ipl_cli.specs.Top.{IsTooLong}
 use Rattle.ipl_cli.specs.Runs.{EndsClosed, MarksBehind, ClosesScript, RunsClosing, RunsOver, ending_of}
@@ -113,7 +113,7 @@ on_closed (Ok v) f a = f a
 on_closed (Err fault) f a = tt
 
 module _ (before mid then : ScriptStore) (old between new : Told) (closes : Bool) (closed : Result (Unit {0}) Fault)
-    (further : Further old between) (did : Closes mid between closed then new) where
+    (further : Further old between) (did : ClosesAtEnd mid between closed then new) where
   works : WorksBehind (script_keeping old.places) mid between closed then new
   works = subst (λ (n : ℕ). WorksBehind (script_keeping n) mid between closed then new) further.places did.works
 

@@ -57,7 +57,7 @@ use Rattle.script_store.specs.Keeps.{KeepsScript, script_keeping}
 use Rattle.script_store.proofs.RecallLemmas.{opening_recalls}
 use Rattle.program_end.specs.declared.end.End.{End}
 use Rattle.program_end.specs.declared.end.End.TheVariants.{Words, Chip, OutOfMemory, Script, Output, TooLong}
-use Rattle.ipl_cli.specs.Ending.{Ending, IsStopped, StopRose, IsLeftAlone, format_end, units_beside}
+use Rattle.ipl_cli.specs.Ending.{Ending, IsFormatStopped, StopRose, IsLeftAlone, format_end, units_beside}
 use Rattle.ipl_cli.specs.Top.{AreMarked, WereUnused, Runs, RunsOpened, RunsFormatted, IsLaidOut, LaysOut, IsAbout, StandsAbout, IsBetween, EndsBy, answers, ok_line}
 use Rattle.ipl_cli.specs.Runs.{RunsFrom, StartsOpened, IsNotOpened, WasFormatted, MarksBehind, ending_of}
 use Rattle.ipl_cli.specs.Frames.{MarksWhatWasErased}
@@ -72,7 +72,7 @@ left_counts old new counts = ap (λ (b : Beside). b.left) counts.beside
 pub stopped_early : (units : ℕ) (fault : FormatFault) (old new : Told) → Counts old new
     → StopRose fault old new
     → ((h : History) → Formats {A = Unit {0}} old.places units h old (Err fault) new)
-    → IsStopped units old new (Err (format_end fault))
+    → IsFormatStopped units old new (Err (format_end fault))
 stopped_early units fault old new counts rose formats = λ h. record {
   stopped = new;
   fault = fault;

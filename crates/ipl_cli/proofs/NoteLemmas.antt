@@ -12,7 +12,7 @@ use Rattle.command_line.specs.declared.asked.Request.{Request}
 use Rattle.command_line.specs.declared.asked.Request.TheVariants.{Format, Run, Serial, Check, Trial}
 use Rattle.program_end.specs.declared.end.End.{End}
 use Rattle.program_end.specs.declared.end.End.TheVariants.{Words, Chip, OutOfMemory, Script, Output, TooLong}
-use Rattle.ipl_cli.specs.Ending.{AskedFor, Ending, StopsEarly, IsStopped, IsLeftAlone, but_noted, note_at, status_at}
+use Rattle.ipl_cli.specs.Ending.{AskedFor, Ending, StopsEarly, IsFormatStopped, IsLeftAlone, but_noted, note_at, status_at}
 use Rattle.ipl_cli.specs.Trials.{Trials, TrialsFormatted, TrialsOrStops, TrialLeaves}
 use Rattle.ipl_cli.specs.Top.{OpenedCause, FormatCause, FormattedCause, RequestCause, EndCause, Runs, RunsOpened, RunsFormatted, RunsOrStops, IsLaidOut, LaysOut, OnlyLooks, IsRefused, OpenedRuns, FormatLeaves, FormattedLeaves, OpenedLeaves, EndLeaves, Ends, NoneFalls}
 use Rattle.ipl_cli.proofs.ViewLemmas.{serial_left}
@@ -176,8 +176,8 @@ module _ (old mid : Told) (noted : Option (List ℕ)) where
   opened_noted : {ending : Ending} → RunsOpened old mid ending → RunsOpened old then ending
   opened_noted runs = λ h script steady left m rests. runs_noted (runs h script steady left m rests)
 
-  stopped_noted : {units : ℕ} {ending : Ending} → IsStopped units old mid ending
-      → IsStopped units old then ending
+  stopped_noted : {units : ℕ} {ending : Ending} → IsFormatStopped units old mid ending
+      → IsFormatStopped units old then ending
   stopped_noted stops = λ h. stops_noted (stops h)
 
   either_noted : {ending : Ending} → RunsOrStops old mid ending → RunsOrStops old then ending

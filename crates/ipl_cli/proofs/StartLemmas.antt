@@ -50,7 +50,7 @@ use Rattle.script_run.specs.Goes.{StopCause, StopWears, LearnsAlong, KeepsSome, 
 use Rattle.page_frames.specs.Pages.{tables_in}
 use Rattle.ipl_store.specs.declared.store.Store.{Store}
 use Rattle.ipl_store.specs.Calls.{counter_of, IsSound}
-use Rattle.ipl_store.specs.Openings.{Opens, Tries}
+use Rattle.ipl_store.specs.Openings.{OpensStore, Tries}
 use Rattle.script_store.specs.declared.store.ScriptStore.{ScriptStore}
 use Rattle.script_store.specs.Keeps.{IsRunning, script_keeping, next_number}
 use Rattle.script_store.specs.Worn.{WearsOut, ChipWears, ImageWears}
@@ -61,7 +61,7 @@ use Rattle.program_end.specs.declared.end.End.TheVariants.{Words, Chip, OutOfMem
 use Rattle.command_line.specs.declared.asked.Request.TheVariants.{Run}
 use Rattle.ipl_cli.specs.Ending.{Ending, StopsEarly, StopRose, format_end}
 use Rattle.ipl_cli.specs.Top.{IsLaidWell, RestsWithNumbersLeft, IsMetLater, LaidCause, StrayCause, OpenedCause, WornOutCause, AnewCause, FormattedCause, FindsWorn, IsTooLong, RequestCause, EndCause, RunsOpened, IsRefused, OpenedRuns, FormattedLeaves, OpenedLeaves}
-use Rattle.ipl_cli.specs.Runs.{RunsFrom, ClosesFor, StartsOpened, IsNotOpened, WasFormatted, IsNotFormatted, StartsFormatted, IsNotStarted, RunsOver, end_of, ending_of}
+use Rattle.ipl_cli.specs.Runs.{RunsFrom, MakesStore, StartsOpened, IsNotOpened, WasFormatted, IsNotFormatted, StartsFormatted, IsNotStarted, RunsOver, end_of, ending_of}
 use Rattle.ipl_cli.proofs.WornLemmas.{format_finds, fresh_finds}
 use Rattle.ipl_cli.proofs.EndLemmas.{left_counts, stopped_early, units_told, opened_keeps, opened_runs, runs_opened, unopened_runs, untouched_stops, formatted_runs, fresh_story, fresh_units}
 
@@ -444,7 +444,7 @@ module _ (old mid : Told) (store : ScriptStore) (s : StartsOpened true old store
 -- ---- memory that was wanting, and other numbers of places
 
 module _ (t : Told) where
-  pub closed_left : (end : End) → ClosesFor t.places (Err end) → OpenedLeaves (Err end) t t
+  pub closed_left : (end : End) → MakesStore t.places (Err end) → OpenedLeaves (Err end) t t
   closed_left Words c = absurd c
   closed_left (Chip e) c = record {
     runs = untouched_stops t t refl e;
@@ -459,7 +459,7 @@ module _ (t : Told) where
   closed_left Output c = absurd c
   closed_left TooLong c = absurd c
 
-  pub closed_cause : (frames : ℕ) (closes : Bool) (end : End) → ClosesFor t.places (Err end)
+  pub closed_cause : (frames : ℕ) (closes : Bool) (end : End) → MakesStore t.places (Err end)
       → RequestCause (Run frames false closes) end t t
   closed_cause frames closes Words c = absurd c
   closed_cause frames closes (Chip e) c = subst (λ (f : ImageFault). OpenedCause f t t) (sym c.1)
@@ -469,7 +469,7 @@ module _ (t : Told) where
   closed_cause frames closes Output c = absurd c
   closed_cause frames closes TooLong c = absurd c
 
-  pub unmade_left : (end : End) → ClosesFor t.places (Err end) → FormattedLeaves (Err end) t t
+  pub unmade_left : (end : End) → MakesStore t.places (Err end) → FormattedLeaves (Err end) t t
   unmade_left Words c = absurd c
   unmade_left (Chip e) c = inl (c.0, c.1, refl)
   unmade_left OutOfMemory c = refl
@@ -477,7 +477,7 @@ module _ (t : Told) where
   unmade_left Output c = absurd c
   unmade_left TooLong c = absurd c
 
-  pub unmade_cause : (frames : ℕ) (closes : Bool) (end : End) → ClosesFor t.places (Err end)
+  pub unmade_cause : (frames : ℕ) (closes : Bool) (end : End) → MakesStore t.places (Err end)
       → RequestCause (Run frames true closes) end t t
   unmade_cause frames closes Words c = absurd c
   unmade_cause frames closes (Chip e) c = subst (λ (f : ImageFault). FormattedCause f t t) (sym c.1)
@@ -760,7 +760,7 @@ module _ (old new : Told) (fits : IsGeometry old.places) (counts : Counts old ne
 
 -- a chip of which a store was opened
 pub starts_over : (marks : Bool) (old new : Told) (store : Store) (s : ScriptStore) → s.store ≡ store
-    → IsSound old.places store → Opens old.places old store new
+    → IsSound old.places store → OpensStore old.places old store new
     → Tries marks old.places old (Ok tt) (tables_in store.transactions.pages) new → StartsOpened marks old s new
 starts_over marks old new store s same sound opens tries =
     let there : store ≡ s.store = sym same in record {
@@ -769,7 +769,7 @@ starts_over marks old new store s same sound opens tries =
         up = ap
             (λ (it : Store). it.down) same ∙ opens.fresh.up;
       };
-      opens = subst (λ (it : Store). Opens old.places old it new) there opens;
+      opens = subst (λ (it : Store). OpensStore old.places old it new) there opens;
       tries = subst (λ (it : Store). Tries marks old.places old (Ok tt) (tables_in it.transactions.pages)
           new) there tries;
     }

@@ -38,14 +38,14 @@ use Rattle.script_store.specs.declared.store.ScriptStore.{ScriptStore}
 use Rattle.script_store.specs.Keeps.{KeepsScript, script_keeping, next_number}
 use Rattle.store_trait.specs.Keeping.{FOUND_NUMBER}
 use Rattle.trial_run.specs.Words.{trial_commands}
-use Rattle.trial_run.specs.Trial.{StandsBehind as StandsBehindOf, TrialLeaves as LeavesOf, TrialEnds, EndsInWork, RunsTrial, IsTrialStop}
+use Rattle.trial_run.specs.Trial.{ChipStandsBehind as StandsBehindOf, TrialRuns as LeavesOf, TrialEnds, EndsInWork, RunsTrial, IsTrialStop}
 use Rattle.command_line.specs.declared.asked.Request.TheVariants.{Run, Trial}
 use Rattle.program_end.specs.declared.end.End.{End}
 use Rattle.program_end.specs.declared.end.End.TheVariants.{Words, Chip, OutOfMemory, Script, Output, TooLong}
 use Rattle.ipl_cli.specs.Ending.{Ending, StopsEarly}
 use Rattle.ipl_cli.specs.Top.{IsTooLong, RequestCause, EndCause}
-use Rattle.ipl_cli.specs.Trials.{commands_on, state_after, summary, StandsBehind, EndsAlong, EndsTrial, Trials, TrialsFormatted, TrialLeaves}
-use Rattle.ipl_cli.specs.Runs.{ClosesFor, StartsOpened, IsNotOpened, WasFormatted, StartsFormatted, IsNotStarted, TriesOver, ending_of}
+use Rattle.ipl_cli.specs.Trials.{commands_on, state_after, summary, ChipStandsBehind, EndsAlong, EndsTrial, Trials, TrialsFormatted, TrialLeaves}
+use Rattle.ipl_cli.specs.Runs.{MakesStore, StartsOpened, IsNotOpened, WasFormatted, StartsFormatted, IsNotStarted, TriesOver, ending_of}
 use Rattle.ipl_cli.proofs.EndLemmas.{Kept, kept, pieces_behind, history_behind, all_done, left_counts, units_told, opened_keeps, opened_each, took_marked, fresh_story, fresh_units, told_format, lawful_format}
 use Rattle.script_run.proofs.CompleteLemmas.{completes_more}
 use Rattle.ipl_cli.proofs.StartLemmas.{cause_anew, over_cause, not_started_cause, stopped_end}
@@ -55,7 +55,7 @@ use Rattle.ipl_cli.proofs.StartLemmas.{cause_anew, over_cause, not_started_cause
 behind : (places : ℕ) (commands : List Command) (lines : List (List ℕ)) (x : Contents)
     → StandsBehindOf (script_keeping places) (limits_of (units_on places)) (at_rest empty) commands
     lines x
-    → StandsBehind places commands lines x
+    → ChipStandsBehind places commands lines x
 behind places commands [] x (done, later, are, stands) = (done, later, are, stands)
 behind places commands (line ∷ lines) x stands = stands
 
@@ -69,13 +69,13 @@ module _ (places : ℕ) (commands : List Command) (h : History) (first : Story)
   limits = limits_of (units_on places)
 
   abbrev Found : Story → Type 0
-  Found e = Leaves (says sector_in) (StandsBehind places commands (pieces e)) h e
+  Found e = Leaves (says sector_in) (ChipStandsBehind places commands (pieces e)) h e
 
   -- at each moment of them no command is done
   near_first : AtEachMoment Found first
   near_first = λ later e is x image.
       let quiet : pieces e ≡ [] = silent-part later e (ap pieces is ∙ silent) in
-      subst (λ (lines : List (List ℕ)). StandsBehind places commands lines x) (sym quiet)
+      subst (λ (lines : List (List ℕ)). ChipStandsBehind places commands lines x) (sym quiet)
       ([], commands, refl, each later e is x image)
 
   -- they alone were done
@@ -137,7 +137,7 @@ module _ (places : ℕ) (commands : List Command) (h : History) (first : Story)
       later_found = at_weaker (λ e. Leaves (says sector_in) (StandsBehindOf (script_keeping places) limits
           (at_rest empty) commands (pieces e)) (adds_all first h) e) (λ f. Found (f ++ first))
           leaves.added (λ f found x image.
-          subst (λ (lines : List (List ℕ)). StandsBehind places commands lines x)
+          subst (λ (lines : List (List ℕ)). ChipStandsBehind places commands lines x)
           (sym (pieces_behind first f silent))
           (behind places commands (pieces f) x
           (found x (subst (λ (s : Story). IsNoChanceImage (says sector_in) h.start s x)
@@ -361,7 +361,7 @@ module _ (old mid new : Told) (f : WasFormatted old mid) (seed count : ℕ) wher
 -- ---- a trial that isn't started
 
 module _ (old new : Told) (seed count : ℕ) where
-  unmade_trial : (end : End) → ClosesFor old.places (Err end)
+  unmade_trial : (end : End) → MakesStore old.places (Err end)
       → TrialLeaves seed count (Err end) old old
   unmade_trial Words c = absurd c
   unmade_trial (Chip e) c = inl (c.0, c.1, refl)
@@ -393,7 +393,7 @@ module _ (old new : Told) (seed count : ℕ) where
 
   -- no script is read
   not_script : (end : End) → IsNotStarted end old new → end ≡ Script → ⊥
-  not_script end (inl unmade) is = subst (λ (e : End). ClosesFor old.places (Err e)) is unmade.0
+  not_script end (inl unmade) is = subst (λ (e : End). MakesStore old.places (Err e)) is unmade.0
   not_script end (inr (inl stopped)) is =
       let (e, at, cause) = stopped_end old new end stopped in
       absurd (let both : Chip e ≡ Script = sym at ∙ is in cc)
@@ -401,7 +401,7 @@ module _ (old new : Told) (seed count : ℕ) where
       n.end_is ∙ is in cc)
 
   not_long : (end : End) → IsNotStarted end old new → end ≡ TooLong → ⊥
-  not_long end (inl unmade) is = subst (λ (e : End). ClosesFor old.places (Err e)) is unmade.0
+  not_long end (inl unmade) is = subst (λ (e : End). MakesStore old.places (Err e)) is unmade.0
   not_long end (inr (inl stopped)) is =
       let (e, at, cause) = stopped_end old new end stopped in
       absurd (let both : Chip e ≡ TooLong = sym at ∙ is in cc)

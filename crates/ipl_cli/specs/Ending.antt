@@ -90,5 +90,5 @@ pub record StopsEarly (places units : ℕ) (h : History) (old new : Told) (endin
   pub noted : new ≡ but_noted stopped new.beside.noted
 
 -- a format was stopped, whatever history is looked at
-abbrev pub IsStopped : ℕ → Told → Told → Ending → Type 0
-IsStopped units old new ending = (h : History) → StopsEarly old.places units h old new ending
+abbrev pub IsFormatStopped : ℕ → Told → Told → Ending → Type 0
+IsFormatStopped units old new ending = (h : History) → StopsEarly old.places units h old new ending

@@ -24,36 +24,36 @@ use Rattle.script_run.specs.Goes.{LearnsAlong, StopCause, CompletesOver, ReadsAl
 use Rattle.page_frames.specs.Pages.{tables_in}
 use Rattle.ipl_store.specs.declared.store.Store.{Store}
 use Rattle.ipl_store.specs.Calls.{IsSound}
-use Rattle.ipl_store.specs.Openings.{Opens, Tries}
+use Rattle.ipl_store.specs.Openings.{OpensStore, Tries}
 use Rattle.script_store.specs.declared.store.ScriptStore.{ScriptStore}
 use Rattle.script_store.specs.Keeps.{IsRunning, script_keeping}
-use Rattle.script_store.specs.Closes.{MarksRecalled, Closes}
+use Rattle.script_store.specs.Closes.{MarksRecalled, ClosesAtEnd}
 use Rattle.clean_close.specs.Closing.{EndsWithMark}
 use Rattle.unit_io.specs.Costs.{Spends}
 use Rattle.trial_run.specs.Words.{trial_commands}
 use Rattle.trial_run.specs.Trial.{RunsTrial, IsTrialStop}
 use Rattle.program_end.specs.declared.end.End.{End}
 use Rattle.program_end.specs.declared.end.End.TheVariants.{Words, Chip, OutOfMemory, Script, Output, TooLong}
-use Rattle.ipl_cli.specs.Ending.{Ending, IsStopped, StopRose, format_end}
+use Rattle.ipl_cli.specs.Ending.{Ending, IsFormatStopped, StopRose, format_end}
 use Rattle.ipl_cli.specs.Top.{FindsWorn, IsTooLong, OverTold, WereUnused, Runs}
 
 -- ---- the start
 
 -- The memory of a store for so many places, whose chip isn't opened yet; or the number of places
 -- can't be used, or memory was wanting.
-abbrev pub ClosesFor : ℕ → Result Store End → Type 0
-ClosesFor places (Ok store) = IsGeometry places × IsSound places store
-ClosesFor places (Err Words) = ⊥
-ClosesFor places (Err (Chip e)) = (¬ IsGeometry places) × (e ≡ image.Geometry)
-ClosesFor places (Err OutOfMemory) = IsGeometry places
-ClosesFor places (Err Script) = ⊥
-ClosesFor places (Err Output) = ⊥
-ClosesFor places (Err TooLong) = ⊥
+abbrev pub MakesStore : ℕ → Result Store End → Type 0
+MakesStore places (Ok store) = IsGeometry places × IsSound places store
+MakesStore places (Err Words) = ⊥
+MakesStore places (Err (Chip e)) = (¬ IsGeometry places) × (e ≡ image.Geometry)
+MakesStore places (Err OutOfMemory) = IsGeometry places
+MakesStore places (Err Script) = ⊥
+MakesStore places (Err Output) = ⊥
+MakesStore places (Err TooLong) = ⊥
 
 -- The chip was opened, where a mark counts or doesn't, and the store runs over it.
 pub record StartsOpened (marks : Bool) (old : Told) (store : ScriptStore) (new : Told) : Type 0 where
   pub running : IsRunning old.places store
-  pub opens : Opens old.places old store.store new
+  pub opens : OpensStore old.places old store.store new
   pub tries : Tries marks old.places old (Ok tt) (tables_in store.store.transactions.pages) new
 
 -- the chip wasn't opened, and it ends so
@@ -86,7 +86,7 @@ pub record IsNotFormatted (end : End) (old new : Told) : Type 0 where
   pub counts : Counts old new
   pub rose : StopRose fault old new
   pub found : (p : ℕ) → fault ≡ format.Worn p → FindsWorn old new
-  pub stops : IsStopped (units_on old.places) old new (Err end)
+  pub stops : IsFormatStopped (units_on old.places) old new (Err end)
 
 -- the chip was formatted, or it wasn't
 abbrev pub FormatsFirst : Result (Unit {0}) End → Told → Told → Type 0
@@ -103,7 +103,7 @@ pub record StartsFormatted (old : Told) (store : ScriptStore) (new : Told) : Typ
 -- stopped; or the chip that was formatted wasn't opened.
 abbrev pub IsNotStarted : End → Told → Told → Type 0
 IsNotStarted end old new =
-    (ClosesFor old.places (Err end) × (new ≡ old))
+    (MakesStore old.places (Err end) × (new ≡ old))
     ⊎ IsNotFormatted end old new
     ⊎ ((formatted : Told) × WasFormatted old formatted × IsNotOpened false end formatted new)
 
@@ -151,7 +151,7 @@ pub record ClosesBehind (result : Result (Unit {0}) Stop) (before : ScriptStore)
     (new : Told) : Type 0 where
   pub closed : Result (Unit {0}) Fault
   pub result_is : result ≡ stop_of closed
-  pub closes : Closes before old closed then new
+  pub closes : ClosesAtEnd before old closed then new
 
 -- the last two events since were the program of a mark and a barrier
 abbrev pub EndsClosed : Told → Told → Type 0

@@ -36,7 +36,7 @@ use Rattle.command_line.specs.declared.asked.Request.TheVariants.{Format, Run, S
 use Rattle.program_end.specs.declared.end.End.{End}
 use Rattle.program_end.specs.declared.end.End.TheVariants.{Words, Chip, OutOfMemory, Script, Output, TooLong}
 use Rattle.program_end.specs.Ends.{fault_status}
-use Rattle.ipl_cli.specs.Ending.{AskedFor, AsksOpened, AsksAnew, Ending, StopsEarly, IsStopped, IsLeftAlone, but_noted, note_at, status_at, units_beside}
+use Rattle.ipl_cli.specs.Ending.{AskedFor, AsksOpened, AsksAnew, Ending, StopsEarly, IsFormatStopped, IsLeftAlone, but_noted, note_at, status_at, units_beside}
 use Rattle.ipl_cli.specs.Trials.{TrialLeaves}
 use Rattle.ipl_cli.specs.Views.{ViewedCause, SerialLeaves}
 use Rattle.ipl_cli.specs.Checks.{CheckedCause, CheckLeaves}
@@ -421,7 +421,7 @@ FormatLeaves spares (Ok u) old new = LaysOut spares old new true
 FormatLeaves spares (Err Words) old new = ⊥
 FormatLeaves spares (Err (Chip image.Geometry)) old new = IsLeftAlone old new
 FormatLeaves spares (Err (Chip e)) old new =
-    IsStopped (units_beside old.places spares) old new (Err (Chip e))
+    IsFormatStopped (units_beside old.places spares) old new (Err (Chip e))
 FormatLeaves spares (Err OutOfMemory) old new = IsLeftAlone old new
 FormatLeaves spares (Err Script) old new = ⊥
 FormatLeaves spares (Err Output) old new = LaysOut spares old new false

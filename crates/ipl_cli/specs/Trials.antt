@@ -40,15 +40,15 @@ summary places commands =
     trial_lines (limits_of (units_on places)) (at_rest empty) commands
 
 -- the contents stand, in all units, for the records after the first of these commands
-abbrev pub StandsAlong : ℕ → List Command → Contents → Type 0
-StandsAlong places commands x = (done : List Command) × (later : List Command)
+abbrev pub ChipStandsAlong : ℕ → List Command → Contents → Type 0
+ChipStandsAlong places commands x = (done : List Command) × (later : List Command)
     × (commands ≡ done ++ later)
     × StandsIn places (units_on places) (chart_of x) (state_after places done).map
 
 -- and where a line was said, after all of them
-abbrev pub StandsBehind : ℕ → List Command → List (List ℕ) → Contents → Type 0
-StandsBehind places commands [] x = StandsAlong places commands x
-StandsBehind places commands (piece ∷ said) x =
+abbrev pub ChipStandsBehind : ℕ → List Command → List (List ℕ) → Contents → Type 0
+ChipStandsBehind places commands [] x = ChipStandsAlong places commands x
+ChipStandsBehind places commands (piece ∷ said) x =
     StandsIn places (units_on places) (chart_of x) (state_after places commands).map
 
 -- the first of the commands are done, and nothing was said; Q is so of the state after them
@@ -86,7 +86,7 @@ pub record Trials (places : ℕ) (commands : List Command) (h : History) (first 
   pub history : new.history
       ≡ option_map (adds_all added) (option_map (adds_all first) old.history)
   pub each_moment : AtEachMoment
-      (λ e. Leaves (says sector_in) (StandsBehind places commands (pieces e)) (adds_all first h) e)
+      (λ e. Leaves (says sector_in) (ChipStandsBehind places commands (pieces e)) (adds_all first h) e)
       added
   pub lines : SaysLines (summary places commands) (pieces added)
   pub is_prefix : IsPrefix (said added) (joined (summary places commands))

@@ -182,7 +182,7 @@ impl Chip for MemDesk {
 impl Desk for MemDesk {
     ghost use Rattle.std.specs.Prelude.{◌||◌, length, OnOk, OnErr, IfSome, is_err, is_some};
     ghost use Rattle.chip_trait.specs.declared.event.Event.TheVariants.{Said};
-    ghost use Rattle.chip_trait.specs.Told.{Appends, FailsToSay, SayCounts, IsBeside, Takes, Notes, Rose};
+    ghost use Rattle.chip_trait.specs.Told.{Appends, FailsToSay, SayCounts, IsBeside, Takes, TakesNote, Rose};
     ghost use Rattle.chip_mem.specs.Plan.{counted, is_full};
     ghost use Rattle.chip_mem.specs.Views.{plan_of, told_of};
     ghost use Rattle.ipl_cli.specs.Failing.{kept_at};
@@ -245,7 +245,7 @@ impl Desk for MemDesk {
 
     /// What is noted is told while it is at most 1,024 bytes.
     fn note(&mut self, piece: &[u8])
-        ensures notes { Notes piece.now (desk_told self.old) (desk_told self.new) }
+        ensures notes { TakesNote piece.now (desk_told self.old) (desk_told self.new) }
 
         // exactly
         ensures noted { (beside_of self.new).noted ≡ noted_with (beside_of self.old).noted piece.now }

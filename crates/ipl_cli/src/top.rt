@@ -24,7 +24,7 @@ ghost use Rattle.ipl_cli.specs.Top.{EndsWithRecords, FromItsRecords, FromNoRecor
 ghost use Rattle.ipl_cli.specs.Top.{IsStray, StrayCause, SpentCause, AnewCause, LacksUnits, EndsUnfit, IsCalm, Suffices, EndsInTime, Ends, WearsAsAsked};
 ghost use Rattle.ipl_cli.specs.Survives.{Survives, SurvivesAnew};
 ghost use Rattle.ipl_cli.specs.Frames.{DoesWith, DoesAsAsked, ClosesOpened, ClosesAsAsked};
-ghost use Rattle.ipl_cli.specs.Runs.{StartsFormatted, StartsOpened, ClosesFor, FormatsFirst, OpensOver, IsNotStarted, ClosesBehind, EndsClosed, ClosesScript, RunsClosing, RunsOver, TriesOver, end_of};
+ghost use Rattle.ipl_cli.specs.Runs.{StartsFormatted, StartsOpened, MakesStore, FormatsFirst, OpensOver, IsNotStarted, ClosesBehind, EndsClosed, ClosesScript, RunsClosing, RunsOver, TriesOver, end_of};
 
 use crate::checking::check_chip;
 use chip_trait::Desk;
@@ -75,7 +75,7 @@ fn format_chip<D: Desk>(spares: u32, desk: &mut D) -> Result<(), End>
 fn closed(alloc: Global, places: u32, frames: u32) -> Result<Store, End>
     requires two { 2 ≤ frames }
     requires few { frames ≤ 64 }
-    ensures closes { ClosesFor places result }
+    ensures closes { MakesStore places result }
     ensures frames { IfOk result (λ store. store.frames ≡ frames) }
 {
     let Some(geometry) = Geometry::of(places) else {

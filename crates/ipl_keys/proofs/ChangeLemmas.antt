@@ -32,7 +32,7 @@ use Rattle.ipl_keys.specs.Records.{IsBucketOf, HasKeys}
 use Rattle.ipl_keys.specs.Sessions.{pairs_after, written, HasKeyState}
 use Rattle.ipl_keys.specs.Laws.{pairs_of}
 use Rattle.ipl_keys.specs.Keeps.{LeavesKeys, KeepsKeys}
-use Rattle.ipl_keys.specs.Calls.{early_key_fault, ReadsBucket, change_of, HandsOn, handed, PutsBytes, Writes, IsFull, IsWritten, Changes, CallsKey, IsDone, IsNoBadBucket, ServesFor, ServesKeys}
+use Rattle.ipl_keys.specs.Calls.{early_key_fault, ReadsBucket, change_of, HandsOn, handed, PutsBytes, WritesName, IsFull, IsBucketWritten, ChangesBucket, CallsKey, AnswersNothing, IsNoBadBucket, ServesFor, ServesKeys}
 use Rattle.ipl_keys.proofs.StateLemmas.{seen_holds, wrote_map, writes_keep_keys}
 use Rattle.ipl_keys.proofs.ServeLemmas.{StoreSteps, leads_steps, keeps_keys, keys_steps, leaves_keys, steps_as, nothing_serves}
 use Rattle.ipl_keys.proofs.SessionLemmas.{call_serves}
@@ -94,16 +94,16 @@ module _ (s n : ℕ) (w : KeyWrite) (a b : Store) (before after : Told) (h : His
 
       put_served : (answer : Result (Unit {0}) StoreFault)
           → StoreSteps (put_next s n bytes (found_room answer)) a before (found_room answer) b after h state
-          → ServesFor turn IsDone a before (handed answer) b after h k
+          → ServesFor turn AnswersNothing a before (handed answer) b after h k
       put_served (Ok v) did = record {
-        steps = keys_steps {T = Bool} {U = Unit {0}} (put_next s n bytes (Ok true)) turn IsDone a b before after
+        steps = keys_steps {T = Bool} {U = Unit {0}} (put_next s n bytes (Ok true)) turn AnswersNothing a b before after
             (Ok true) (handed (Ok v)) h state k has.keys then_has.keys (λ s. s)
             (λ later kept. (keeps_keys before.places a b after later (after_write state s (n, Some bytes)) (turn k) kept then_has, tt))
             did;
         buckets = tt;
       }
       put_served (Err fault) did = record {
-        steps = keys_steps {T = Bool} {U = Unit {0}} (put_next s n bytes (found_room (Err fault))) turn IsDone
+        steps = keys_steps {T = Bool} {U = Unit {0}} (put_next s n bytes (found_room (Err fault))) turn AnswersNothing
             a b before after (found_room (Err fault)) (handed (Err fault)) h state k has.keys
             (put_keys (found_room (Err fault))) (put_less fault (found_room (Err fault)))
             (put_ends fault (found_room (Err fault)) (never_room fault)) did;
@@ -111,30 +111,30 @@ module _ (s n : ℕ) (w : KeyWrite) (a b : Store) (before after : Told) (h : His
       }
 
       put_refused : (answer : Result (Unit {0}) StoreFault) (fault : StoreFault)
-          → found_room answer ≡ Err fault → ServesFor turn IsDone a before (handed answer) a before h k
+          → found_room answer ≡ Err fault → ServesFor turn AnswersNothing a before (handed answer) a before h k
       put_refused (Ok v) fault is = absurd (cc is)
-      put_refused (Err e) fault is = nothing_serves turn IsDone a before (key.Store e) h k tt own
+      put_refused (Err e) fault is = nothing_serves turn AnswersNothing a before (key.Store e) h k tt own
 
       put_serves : (answer : Result (Unit {0}) StoreFault) → PutsBytes s n bytes a before answer b after
-          → ServesFor turn IsDone a before (handed answer) b after h k
+          → ServesFor turn AnswersNothing a before (handed answer) b after h k
       put_serves answer puts = by_early (put_fault a s n bytes) refl
         where
           by_early : (o : Option StoreFault) → put_fault a s n bytes ≡ o
-              → ServesFor turn IsDone a before (handed answer) b after h k
+              → ServesFor turn AnswersNothing a before (handed answer) b after h k
           by_early None is = put_served answer
               (leads_steps (put_next s n bytes (found_room answer)) a b before after (found_room answer) h state
               (write_is_up a _ is) puts.calls.units (puts.calls.serves is).leads keeps)
           by_early (Some fault) is =
               let (answered, same, idle) = puts.calls.refuses fault is in
-              subst (λ (t : Told). ServesFor turn IsDone a before (handed answer) b t h k) (sym idle)
-              (subst (λ (x : Store). ServesFor turn IsDone a before (handed answer) x before h k) (sym same)
+              subst (λ (t : Told). ServesFor turn AnswersNothing a before (handed answer) b t h k) (sym idle)
+              (subst (λ (x : Store). ServesFor turn AnswersNothing a before (handed answer) x before h k) (sym same)
               (put_refused answer fault answered))
 
   -- a put or a delete of what is written for pairs
   writes_serve : (answer : Result (Unit {0}) StoreFault) (change : Option (List ℕ))
       → HasKeyState a.units (after_write state s (n, change)) (turn k)
-      → Writes s n change a before answer b after
-      → ServesFor turn IsDone a before (handed answer) b after h k
+      → WritesName s n change a before answer b after
+      → ServesFor turn AnswersNothing a before (handed answer) b after h k
   writes_serve answer None then_has did =
       call_serves (λ st. after_write st s (n, None)) turn a b before after h k
       (early_fault (entry_fault a) (sessions_refuse_del (limits_of a.units) a.transactions.sessions s n)) 14
@@ -171,11 +171,11 @@ module _ (s : ℕ) (w : KeyWrite) (mid b : Store) (told after : Told) (h : Histo
   abbrev WritesServe : ℕ → ℕ → Type 0
   WritesServe places units = (has : HasKeyState units state k)
       → KeepsStore places (limits_of units) (view_of mid) told h state
-      → IsWritten s (bucket_of units w.0) (pairs_after w (pairs_of has s (bucket_of units w.0))) mid told
+      → IsBucketWritten s (bucket_of units w.0) (pairs_after w (pairs_of has s (bucket_of units w.0))) mid told
       result b after
       → Steps (LeavesKeys places units k.map k.map) (tables_in mid.transactions.pages)
       (tables_in b.transactions.pages)
-      (λ v later. KeepsKeys places b after later (after_key_write k s w) × IsDone k v)
+      (λ v later. KeepsKeys places b after later (after_key_write k s w) × AnswersNothing k v)
       (λ later. KeepsKeys places b after later k) h result told after × IfErr result IsNoBadBucket
 
   at_mid : WritesServe told.places mid.units
@@ -187,7 +187,7 @@ module _ (s : ℕ) (w : KeyWrite) (mid b : Store) (told after : Told) (h : Histo
       record { bucket = wrote.bucket; home = home } in
       let (answer, is, did) = wrote.writes in
       let serves = subst (λ (q : Result (Unit {0}) KeyFault).
-      ServesFor (λ (x : KeyState). after_key_write x s w) IsDone mid told q b after h k) (sym is)
+      ServesFor (λ (x : KeyState). after_key_write x s w) AnswersNothing mid told q b after h k) (sym is)
       (writes_serve s n w mid b told after h state k keeps has answer (written (pairs_after w pairs))
       (writes_keep_keys mid.units state k s w has running bucket) did) in
       (serves.steps, serves.buckets)
@@ -203,7 +203,7 @@ module _ (s : ℕ) (w : KeyWrite) (a b : Store) (before after : Told) (result : 
     (Rest : Pairs → Store → Told → Type 0)
     (rest : (pairs : Pairs) (mid : Store) (told : Told) → Rest pairs mid told
     → IsFull (bucket_of a.units w.0) (pairs_after w pairs) mid told result b after
-    ⊎ IsWritten s (bucket_of a.units w.0) (pairs_after w pairs) mid told result b after)
+    ⊎ IsBucketWritten s (bucket_of a.units w.0) (pairs_after w pairs) mid told result b after)
   where
     abbrev name : ℕ
     name = bucket_of a.units w.0
@@ -212,7 +212,7 @@ module _ (s : ℕ) (w : KeyWrite) (a b : Store) (before after : Told) (result : 
     Turn k = after_key_write k s w
 
     abbrev Serving : Result (Unit {0}) KeyFault → Store → Told → History → KeyState → Type 0
-    Serving r store t h k = ServesFor Turn IsDone a before r store t h k
+    Serving r store t h k = ServesFor Turn AnswersNothing a before r store t h k
 
     module _ (h : History) (k : KeyState) (keeps : KeepsKeys before.places a before h k) (up : a.down ≡ false)
         (running : is_open keeps.state s ≡ true) (mid : Store) (told : Told)
@@ -235,14 +235,14 @@ module _ (s : ℕ) (w : KeyWrite) (a b : Store) (before after : Told) (result : 
       ends_there read fault good less ends did = record {
         steps = steps_weaker (EachStandsEitherIn before.places a.units keeps.state.map keeps.state.map)
             (LeavesKeys before.places a.units k.map k.map) (tables_in a.transactions.pages) (tables_in mid.transactions.pages)
-            (λ v later. KeepsKeys before.places mid told later (Turn k) × IsDone k v)
-            (λ v later. KeepsKeys before.places mid told later (Turn k) × IsDone k v)
+            (λ v later. KeepsKeys before.places mid told later (Turn k) × AnswersNothing k v)
+            (λ v later. KeepsKeys before.places mid told later (Turn k) × AnswersNothing k v)
             (λ later. KeepsKeys before.places mid told later k) (λ later. KeepsKeys before.places mid told later k) h failed before told
             (leaves_keys before.places a.units keeps.state.map keeps.state.map k.map k.map keeps.has.keys keeps.has.keys)
             (λ v later is. is) (λ later is. is)
             (steps_as (EachStandsEitherIn before.places a.units keeps.state.map keeps.state.map)
             (tables_in a.transactions.pages) (tables_in mid.transactions.pages) AtRead AtEnd
-            (λ v later. KeepsKeys before.places mid told later (Turn k) × IsDone k v)
+            (λ v later. KeepsKeys before.places mid told later (Turn k) × AnswersNothing k v)
             (λ later. KeepsKeys before.places mid told later k) h read failed before told less
             (λ later is. keeps_keys before.places a mid told later keeps.state k (ends later is) keeps.has) did);
         buckets = good;
@@ -253,20 +253,20 @@ module _ (s : ℕ) (w : KeyWrite) (a b : Store) (before after : Told) (result : 
 
       -- it goes on and writes
       goes_on : (bytes : List ℕ) (pairs : Pairs) → Reading (Ok bytes) → SpellsBucket bytes pairs
-          → IsWritten s name (pairs_after w pairs) mid told result b after → Serving result b after h k
+          → IsBucketWritten s name (pairs_after w pairs) mid told result b after → Serving result b after h k
       goes_on bytes pairs first spells wrote =
           let (kept, also) = first.ends tt in
           let same = buckets_spell_once bytes pairs (pairs_of keeps.has s name) spells also in
           let second = at_units s w mid b told after (adds_all first.added h) keeps.state k result running
           before.places a.units counts.places alike keeps.has kept
-          (subst (λ (ps : Pairs). IsWritten s name (pairs_after w ps) mid told result b after) same wrote) in
+          (subst (λ (ps : Pairs). IsBucketWritten s name (pairs_after w ps) mid told result b after) same wrote) in
           record {
             steps = steps_then (List ℕ) (Unit {0}) KeyFault KeyFault
                 (EachStandsEitherIn before.places a.units keeps.state.map keeps.state.map)
                 (LeavesKeys before.places a.units k.map k.map) (LeavesKeys before.places a.units k.map k.map)
                 (tables_in a.transactions.pages) (tables_in mid.transactions.pages)
                 (tables_in b.transactions.pages) AtRead AtEnd
-                (λ v later. KeepsKeys before.places b after later (Turn k) × IsDone k v)
+                (λ v later. KeepsKeys before.places b after later (Turn k) × AnswersNothing k v)
                 (λ later. KeepsKeys before.places b after later k) h bytes result before told after
                 (leaves_keys before.places a.units keeps.state.map keeps.state.map k.map k.map keeps.has.keys keeps.has.keys)
                 (λ later is. is) counts first second.0;
@@ -303,9 +303,9 @@ module _ (s : ℕ) (w : KeyWrite) (a b : Store) (before after : Told) (result : 
 
     pub changing_serves : (bad : Option KeyFault)
         → ((fault : KeyFault) → bad ≡ Some fault → IsNoBadBucket fault)
-        → CallsKey (early_key_fault a bad s) (Changes s name Rest a before result b after) a before result b
+        → CallsKey (early_key_fault a bad s) (ChangesBucket s name Rest a before result b after) a before result b
         after
-        → ServesKeys Turn IsDone a before result b after
+        → ServesKeys Turn AnswersNothing a before result b after
     changing_serves bad good calls h k keeps = by_early (early_key_fault a bad s) refl
       where
         by_early : (o : Option KeyFault) → early_key_fault a bad s ≡ o → Serving result b after h k
@@ -323,7 +323,7 @@ module _ (s : ℕ) (w : KeyWrite) (a b : Store) (before after : Told) (result : 
             subst (λ (t : Told). Serving result b t h k) (sym idle)
             (subst (λ (store : Store). Serving result store before h k) (sym same)
             (subst (λ (q : Result (Unit {0}) KeyFault). Serving q a before h k) (sym answer)
-            (nothing_serves Turn IsDone a before fault h k fine keeps)))
+            (nothing_serves Turn AnswersNothing a before fault h k fine keeps)))
 
 -- ---- what a put and a delete do
 
@@ -332,7 +332,7 @@ module _ (early : Option KeyFault) (s n : ℕ) (Rest : Pairs → Store → Told 
   -- the reading failed, or ended the call
   pub changes_failed : (fault : KeyFault)
       → CallsKey {T = ℕ} early (ReadsBucket s n a before (Err fault) mid told) a before (Err fault) mid told
-      → CallsKey {T = Unit {0}} early (Changes s n Rest a before (Err fault) mid told) a before (Err fault)
+      → CallsKey {T = Unit {0}} early (ChangesBucket s n Rest a before (Err fault) mid told) a before (Err fault)
       mid told
   changes_failed fault calls = record {
     refuses = λ other is.
@@ -360,7 +360,7 @@ module _ (early : Option KeyFault) (s n : ℕ) (Rest : Pairs → Store → Told 
       → CallsKey early (ReadsBucket s n a before (Ok bytes) mid told) a before (Ok len) mid told
       → SpellsBucket bytes pairs → Rest pairs mid told → IsSound told.places b → b.units ≡ mid.units
       → Counts told after
-      → CallsKey early (Changes s n Rest a before result b after) a before result b after
+      → CallsKey early (ChangesBucket s n Rest a before result b after) a before result b after
   changes_read b after result len bytes pairs calls spells rest sound units counts = record {
     refuses = λ fault is. let no : Ok len ≡ Err fault = (calls.refuses fault is).0 in absurd (cc no);
     ends = λ none. record {
@@ -384,14 +384,14 @@ module _ (early : Option KeyFault) (s n : ℕ) (Rest : Pairs → Store → Told 
 -- what was written are the bytes of these pairs
 pub pairs_written : (s n : ℕ) (bytes : List ℕ) (pairs : Pairs) (a b : Store) (before after : Told)
     (result : Result (Unit {0}) KeyFault) → SpellsBucket bytes pairs
-    → HandsOn (λ answer. Writes s n (change_of bytes) a before answer b after) result
-    → IsWritten s n pairs a before result b after
+    → HandsOn (λ answer. WritesName s n (change_of bytes) a before answer b after) result
+    → IsBucketWritten s n pairs a before result b after
 pairs_written s n bytes pairs a b before after result spells (answer, is, did) = record {
   bucket = spells.bucket;
   writes = (
     answer,
     is,
-    subst (λ (o : Option (List ℕ)). Writes s n o a before answer b after)
+    subst (λ (o : Option (List ℕ)). WritesName s n o a before answer b after)
         (written_change bytes pairs spells.text) did,
   );
 }

@@ -30,7 +30,7 @@ use Rattle.ipl_keys.specs.declared.fault.KeyFault.TheVariants as key
 use Rattle.ipl_keys.specs.KeyState.{KeyState}
 use Rattle.ipl_keys.specs.Sessions.{HasKeyState}
 use Rattle.ipl_keys.specs.Keeps.{LeavesKeys, KeepsKeys}
-use Rattle.ipl_keys.specs.Calls.{handed, HandsOn, IsDone, ServesFor}
+use Rattle.ipl_keys.specs.Calls.{handed, HandsOn, AnswersNothing, ServesFor}
 use Rattle.ipl_keys.specs.Closing.{ClosesFor, ClosesKeys}
 use Rattle.ipl_keys.proofs.ServeLemmas.{StoreSteps, leads_steps, keeps_keys, leaves_keys, nothing_serves}
 use Rattle.ipl_keys.proofs.SessionLemmas.{served}
@@ -56,7 +56,7 @@ settled_marked (Err e) r before told after is counts settled =
 
 -- it leaves as much as any call
 as_closes : (a b : Store) (before after : Told) (fault : KeyFault) (h : History) (k : KeyState)
-    → ServesFor (λ k. k) IsDone a before (Err fault) b after h k
+    → ServesFor (λ k. k) AnswersNothing a before (Err fault) b after h k
     → ClosesFor a before (Err fault) b after h k
 as_closes a b before after fault h k did = record {
   added = did.steps.added;
@@ -246,7 +246,7 @@ module _ (a c : Store) (before after : Told) (r : Result (Unit {0}) StoreFault) 
           (subst (λ (s : Store). ClosesFor a before (handed r) s before h k) (sym same)
           (subst (λ (q : Result (Unit {0}) StoreFault). ClosesFor a before (handed q) a before h k)
           (sym answer) (as_closes a a before before (key.Store fault) h k
-          (nothing_serves (λ k. k) IsDone a before (key.Store fault) h k tt keeps))))
+          (nothing_serves (λ k. k) AnswersNothing a before (key.Store fault) h k tt keeps))))
 
 pub hands_on_closes : (a c : Store) (before after : Told) (refusal : Option Refusal)
     (result : Result (Unit {0}) KeyFault)

@@ -10,7 +10,7 @@ use Rattle.ipl_base.specs.declared.fault.StoreFault.TheVariants.{Down, Spent, Re
 use Rattle.ipl_rules.specs.State.{State, Limits, is_open, holder_for_write}
 use Rattle.ipl_rules.specs.Operations.{after_write}
 use Rattle.ipl_rules.specs.Refusals.{refuses_end, conflict, writes_full}
-use Rattle.record_locks.specs.Held.{Slots}
+use Rattle.record_locks.specs.Held.{SessionSlots}
 use Rattle.record_locks.specs.Locks.{pending_full}
 use Rattle.record_locks.specs.Standing.{state_of}
 use Rattle.store_trait.specs.Keeping.{LAST_NUMBER}
@@ -25,7 +25,7 @@ use Rattle.key_buckets.specs.Home.{bucket_of}
 use Rattle.ipl_keys.specs.declared.fault.KeyFault.{KeyFault}
 use Rattle.ipl_keys.specs.declared.fault.KeyFault.TheVariants as key
 use Rattle.ipl_keys.specs.Sessions.{written}
-use Rattle.ipl_keys.specs.Calls.{is_key, bad_key, bad_pair, first_fault, early_key_fault, ReadsBucket, Gets, handed, Writes, IsFull, IsWritten, Changes, CallsKey, may_meet, IsMet}
+use Rattle.ipl_keys.specs.Calls.{is_key, bad_key, bad_pair, first_fault, early_key_fault, ReadsBucket, Gets, handed, WritesName, IsFull, IsBucketWritten, ChangesBucket, CallsKey, may_meet, IsMet}
 
 -- ---- lists of tests
 
@@ -45,7 +45,7 @@ end_met : (limits : Limits) (state : State) (s : ℕ) (r : Refusal)
 end_met limits state s r is = first_met (nat_le limits.sessions s) BadSession _ r is (λ t. refl)
     (λ later. first_met (not (is_open state s)) NotOpen None r later (λ t. refl) (no_test r))
 
-module _ (units : ℕ) (slots : Slots) (s n : ℕ) (low : n < 960 * units) where
+module _ (units : ℕ) (slots : SessionSlots) (s n : ℕ) (low : n < 960 * units) where
   high : nat_le (960 * units) n ≡ true → ⊥
   high past = grind (arith, nat_tests, past, low)
 
@@ -125,7 +125,7 @@ full_is_met (SessionsOpen s) is = refl
 module _ (s n : ℕ) (a b : Store) (before after : Told) (low : n < 960 * a.units) where
   -- a bucket was written or it wasn't
   writes_met : (change : Option (List ℕ)) → ((bytes : List ℕ) → change ≡ Some bytes → length bytes ≤ 464)
-      → (answer : Result (Unit {0}) StoreFault) → Writes s n change a before answer b after
+      → (answer : Result (Unit {0}) StoreFault) → WritesName s n change a before answer b after
       → IfErr (handed answer) IsMet
   writes_met change short (Ok v) did = tt
   writes_met change short (Err Down) did = refl
@@ -225,7 +225,7 @@ module _ (s n : ℕ) (bad : Option KeyFault) (Rest : Pairs → Store → Told �
     (before after : Told) (change : Pairs → Pairs)
     (low : n < 960 * a.units) (met : (fault : KeyFault) → bad ≡ Some fault → IsMet fault) where
   written_met : (fault : KeyFault) (pairs : Pairs) (mid : Store) (told : Told) → mid.units ≡ a.units
-      → IsWritten s n pairs mid told (Err fault) b after → IsMet fault
+      → IsBucketWritten s n pairs mid told (Err fault) b after → IsMet fault
   written_met fault pairs mid told alike wrote =
       let (answer, is, did) = wrote.writes in
       let here : n < 960 * mid.units = omega (arith, low, alike) in
@@ -241,8 +241,8 @@ module _ (s n : ℕ) (bad : Option KeyFault) (Rest : Pairs → Store → Told �
 
   module _ (fault : KeyFault) (rest : (pairs : Pairs) (mid : Store) (told : Told) → Rest pairs mid told
       → IsFull n (change pairs) mid told (Err fault) b after
-      ⊎ IsWritten s n (change pairs) mid told (Err fault) b after) where
-    by_read : (read : Result (List ℕ) KeyFault) (did : Changes s n Rest a before (Err fault) b after)
+      ⊎ IsBucketWritten s n (change pairs) mid told (Err fault) b after) where
+    by_read : (read : Result (List ℕ) KeyFault) (did : ChangesBucket s n Rest a before (Err fault) b after)
         → did.read ≡ read → IsMet fault
     by_read (Err f) did is =
         let answer = (did.fails f is).0 in
@@ -261,8 +261,8 @@ module _ (s n : ℕ) (bad : Option KeyFault) (Rest : Pairs → Store → Told �
   pub changing_met : (result : Result (Unit {0}) KeyFault)
       → ((fault : KeyFault) → result ≡ Err fault → (pairs : Pairs) (mid : Store) (told : Told)
       → Rest pairs mid told → IsFull n (change pairs) mid told (Err fault) b after
-      ⊎ IsWritten s n (change pairs) mid told (Err fault) b after)
-      → CallsKey (early_key_fault a bad s) (Changes s n Rest a before result b after) a before result b
+      ⊎ IsBucketWritten s n (change pairs) mid told (Err fault) b after)
+      → CallsKey (early_key_fault a bad s) (ChangesBucket s n Rest a before result b after) a before result b
       after
       → IfErr result IsMet
   changing_met (Ok v) rest calls = tt

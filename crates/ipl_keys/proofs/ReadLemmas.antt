@@ -32,7 +32,7 @@ use Rattle.ipl_keys.specs.Records.{bytes_of}
 use Rattle.ipl_keys.specs.Sessions.{HasKeyState}
 use Rattle.ipl_keys.specs.Laws.{pairs_of}
 use Rattle.ipl_keys.specs.Keeps.{LeavesKeys, KeepsKeys}
-use Rattle.ipl_keys.specs.Calls.{is_key, bad_key, bad_pair, first_fault, early_key_fault, LooksAt, ReadsBucket, Gets, GetsKey, CallsKey, IsNoBadBucket, ServesFor, ServesKeys}
+use Rattle.ipl_keys.specs.Calls.{is_key, bad_key, bad_pair, first_fault, early_key_fault, LooksAtName, ReadsBucket, Gets, GetsKey, CallsKey, IsNoBadBucket, ServesFor, ServesKeys}
 use Rattle.ipl_keys.proofs.NeverLemmas.{get_met}
 use Rattle.ipl_keys.proofs.StateLemmas.{seen_holds, seen_key}
 use Rattle.ipl_keys.proofs.ServeLemmas.{StoreSteps, leads_steps, keeps_keys, steps_as, leaves_keys, nothing_serves}
@@ -225,7 +225,7 @@ module _ (s n : ℕ) (a mid : Store) (before told : Told) (h : History) (state :
       let holds = seen_holds a.units state k has s n in
       record { bucket = holds.is.bucket; text = ap bytes_of same ∙ holds.text }
 
-  looked : (r : Result (Unit {0}) StoreFault) → LooksAt a before r mid told
+  looked : (r : Result (Unit {0}) StoreFault) → LooksAtName a before r mid told
       → StoreSteps (λ st. st) a before r mid told h state
   looked r looks = leads_steps (λ st. st) a mid before told r h state up alike looks.leads keeps
 
@@ -243,7 +243,7 @@ module _ (s n : ℕ) (a mid : Store) (before told : Told) (h : History) (state :
   as_read : (r : Result (Unit {0}) StoreFault) (read : Result (List ℕ) KeyFault)
       → (Settled read before told → Settled r before told)
       → ((later : History) → EndsWith r (λ v. Kept) Kept later → EndsWith read Read Kept later)
-      → LooksAt a before r mid told → ReadSteps read
+      → LooksAtName a before r mid told → ReadSteps read
   as_read r read less ends looks = steps_as (EachStandsEitherIn before.places a.units state.map state.map)
       (tables_in a.transactions.pages) (tables_in mid.transactions.pages) (λ v. Kept) Kept Read Kept h
       r read before told less ends (looked r looks)

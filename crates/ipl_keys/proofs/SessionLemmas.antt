@@ -11,7 +11,7 @@ use Rattle.ipl_keys.specs.declared.fault.KeyFault.TheVariants as key
 use Rattle.ipl_keys.specs.KeyState.{KeyState}
 use Rattle.ipl_keys.specs.Sessions.{HasKeyState}
 use Rattle.ipl_keys.specs.Keeps.{KeepsKeys}
-use Rattle.ipl_keys.specs.Calls.{handed, HandsOn, IsDone, ServesFor, ServesKeys}
+use Rattle.ipl_keys.specs.Calls.{handed, HandsOn, AnswersNothing, ServesFor, ServesKeys}
 use Rattle.ipl_keys.proofs.ServeLemmas.{StoreSteps, leads_steps, keeps_keys, keys_steps, nothing_serves}
 
 module _ (next : State → State) (turn : KeyState → KeyState) (a b : Store) (before after : Told)
@@ -19,14 +19,14 @@ module _ (next : State → State) (turn : KeyState → KeyState) (a b : Store) (
   -- a call that was let in
   pub served : (r : Result (Unit {0}) StoreFault) (state : State) → HasKeyState a.units state k
       → HasKeyState a.units (next state) (turn k) → StoreSteps next a before r b after h state
-      → ServesFor turn IsDone a before (handed r) b after h k
+      → ServesFor turn AnswersNothing a before (handed r) b after h k
   served (Ok v) state has then did = record {
-    steps = keys_steps {T = Unit {0}} {U = Unit {0}} next turn IsDone a b before after (Ok v) (handed (Ok v)) h state k has.keys then.keys (λ s. s)
+    steps = keys_steps {T = Unit {0}} {U = Unit {0}} next turn AnswersNothing a b before after (Ok v) (handed (Ok v)) h state k has.keys then.keys (λ s. s)
         (λ later keeps. (keeps_keys before.places a b after later (next state) (turn k) keeps then, tt)) did;
     buckets = tt;
   }
   served (Err fault) state has then did = record {
-    steps = keys_steps {T = Unit {0}} {U = Unit {0}} next turn IsDone a b before after (Err fault) (handed (Err fault)) h state k has.keys then.keys (λ s. s)
+    steps = keys_steps {T = Unit {0}} {U = Unit {0}} next turn AnswersNothing a b before after (Err fault) (handed (Err fault)) h state k has.keys then.keys (λ s. s)
         (λ later keeps. keeps_keys before.places a b after later state k keeps has) did;
     buckets = tt;
   }
@@ -38,11 +38,11 @@ module _ (next : State → State) (turn : KeyState → KeyState) (a b : Store) (
       → KeepsStore before.places (limits_of a.units) (view_of a) before h state
       → HasKeyState a.units state k
       → (a.down ≡ false → HasKeyState a.units (next state) (turn k))
-      → ServesFor turn IsDone a before (handed r) b after h k
+      → ServesFor turn AnswersNothing a before (handed r) b after h k
   call_serves early most r up calls state keeps has turns = by_early early refl
     where
       by_early : (o : Option StoreFault) → early ≡ o
-          → ServesFor turn IsDone a before (handed r) b after h k
+          → ServesFor turn AnswersNothing a before (handed r) b after h k
       by_early None is =
           served r state has (turns (up is))
           (leads_steps next a b before after r h state (up is) calls.units
@@ -50,10 +50,10 @@ module _ (next : State → State) (turn : KeyState → KeyState) (a b : Store) (
       by_early (Some fault) is =
           let (answer, same, idle) = calls.refuses fault is in
           let own : KeepsKeys before.places a before h k = record { state = state; keeps = keeps; has = has } in
-          subst (λ (t : Told). ServesFor turn IsDone a before (handed r) b t h k) (sym idle)
-          (subst (λ (s : Store). ServesFor turn IsDone a before (handed r) s before h k) (sym same)
-          (subst (λ (q : Result (Unit {0}) StoreFault). ServesFor turn IsDone a before (handed q) a before h k)
-          (sym answer) (nothing_serves turn IsDone a before (key.Store fault) h k tt own)))
+          subst (λ (t : Told). ServesFor turn AnswersNothing a before (handed r) b t h k) (sym idle)
+          (subst (λ (s : Store). ServesFor turn AnswersNothing a before (handed r) s before h k) (sym same)
+          (subst (λ (q : Result (Unit {0}) StoreFault). ServesFor turn AnswersNothing a before (handed q) a before h k)
+          (sym answer) (nothing_serves turn AnswersNothing a before (key.Store fault) h k tt own)))
 
 pub hands_on_serves : (next : State → State) (turn : KeyState → KeyState) (a b : Store) (before after : Told)
     (early : Option StoreFault) (most : ℕ) (result : Result (Unit {0}) KeyFault)
@@ -62,8 +62,8 @@ pub hands_on_serves : (next : State → State) (turn : KeyState → KeyState) (a
     → KeepsStore before.places (limits_of a.units) (view_of a) before h state → HasKeyState a.units state k
     → HasKeyState a.units (next state) (turn k))
     → HandsOn (λ answer. Calls early next most a before answer b after) result
-    → ServesKeys turn IsDone a before result b after
+    → ServesKeys turn AnswersNothing a before result b after
 hands_on_serves next turn a b before after early most result up turns (r, is, calls) h k keeps =
-    subst (λ (q : Result (Unit {0}) KeyFault). ServesFor turn IsDone a before q b after h k) (sym is)
+    subst (λ (q : Result (Unit {0}) KeyFault). ServesFor turn AnswersNothing a before q b after h k) (sym is)
     (call_serves next turn a b before after h k early most r up calls keeps.state keeps.keeps
     keeps.has (λ runs. turns h keeps.state k runs keeps.keeps keeps.has))

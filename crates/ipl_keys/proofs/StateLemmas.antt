@@ -18,7 +18,7 @@ use Rattle.key_buckets.proofs.ReadLemmas.{bytes_total, same_key}
 use Rattle.key_buckets.proofs.LawLemmas.{buckets_spell_once}
 use Rattle.ipl_keys.specs.KeyState.{KeyWrite, KeyState, keys_at_rest, key_writes_of, see_key, after_key_begin, after_key_write, after_key_commit, after_key_abort}
 use Rattle.ipl_keys.specs.Records.{bytes_of, IsBucketOf, HoldsPairs, HasKeys}
-use Rattle.ipl_keys.specs.Sessions.{writes_on, pairs_after, pairs_with, pairs_seen, written, Follows, HasKeyState}
+use Rattle.ipl_keys.specs.Sessions.{writes_on, pairs_after, pairs_with, pairs_seen, written, FollowsWrites, HasKeyState}
 use Rattle.ipl_keys.specs.Laws.{KeysAreOne, pairs_of, SessionsSeeKeys, RestingStatesHaveKeys, BeginsKeepKeys, WritesKeepKeys, CommitsKeepKeys, AbortsKeepKeys}
 use Rattle.ipl_keys.proofs.WriteLemmas.{written_values, get-with_key_writes, written_bytes, writes_on_here, writes_on_other}
 
@@ -52,7 +52,7 @@ key_writes_in o = option_map_or (λ writes. writes) o []
 pub record IsSession (units : ℕ) (pairs : ℕ → Pairs) (o : Option (List KeyWrite)) (p : Option Session)
     : Type 0 where
   pub opens : is_some o ≡ is_some p
-  pub follows : (n : ℕ) → Follows units n (key_writes_in o) (pairs n) (last_write (writes_in p) n)
+  pub follows : (n : ℕ) → FollowsWrites units n (key_writes_in o) (pairs n) (last_write (writes_in p) n)
 
 closed : (units : ℕ) (pairs : ℕ → Pairs) → IsSession units pairs None None
 closed units pairs = record { opens = refl; follows = λ n. refl }
@@ -75,7 +75,7 @@ module _ (units : ℕ) (state : State) (k : KeyState) (has : HasKeyState units s
   pub seen_holds : (s n : ℕ) → HoldsPairs units n (see state s n) (pairs_of has s n)
   seen_holds s n = by_last (last_write (writes_of state s) n) (has.follows s n)
     where
-      by_last : (o : Option (Option (List ℕ))) → Follows units n (key_writes_of k s) (has.keys.pairs n) o
+      by_last : (o : Option (Option (List ℕ))) → FollowsWrites units n (key_writes_of k s) (has.keys.pairs n) o
           → HoldsPairs units n (option_map_or (λ change. change) o (get state.map n)) (pairs_of has s n)
       by_last None none =
           subst (λ (ws : List KeyWrite). HoldsPairs units n (get state.map n) (pairs_with ws (has.keys.pairs n)))
@@ -154,7 +154,7 @@ module _ (units : ℕ) (state : State) (k : KeyState) (s : ℕ) (one : StateHasO
   pairs_stay t n apart wrote_it = by_last (last_write (writes_of state s) n) refl (has.follows s n)
     where
       by_last : (o : Option (Option (List ℕ))) → last_write (writes_of state s) n ≡ o
-          → Follows units n (key_writes_of k s) (has.keys.pairs n) o → pairs_of has s n ≡ has.keys.pairs n
+          → FollowsWrites units n (key_writes_of k s) (has.keys.pairs n) o → pairs_of has s n ≡ has.keys.pairs n
       by_last None is none = ap (λ (ws : List KeyWrite). pairs_with ws (has.keys.pairs n)) none
       by_last (Some change) is follows = absurd (apart (one t s n wrote_it (ap is_some is)))
 
@@ -167,16 +167,16 @@ module _ (units : ℕ) (state : State) (k : KeyState) (s : ℕ) (one : StateHasO
         (has.keys.pairs (bucket_of units key)) (has.keys.values key);
   }
 
-  follows_still : (t n : ℕ) → t ≢ s → Follows units n (key_writes_of k t) (pairs_of has s n)
+  follows_still : (t n : ℕ) → t ≢ s → FollowsWrites units n (key_writes_of k t) (pairs_of has s n)
       (last_write (writes_of state t) n)
   follows_still t n apart = by_last (last_write (writes_of state t) n) refl (has.follows t n)
     where
       by_last : (o : Option (Option (List ℕ))) → last_write (writes_of state t) n ≡ o
-          → Follows units n (key_writes_of k t) (has.keys.pairs n) o
-          → Follows units n (key_writes_of k t) (pairs_of has s n) o
+          → FollowsWrites units n (key_writes_of k t) (has.keys.pairs n) o
+          → FollowsWrites units n (key_writes_of k t) (pairs_of has s n) o
       by_last None is none = none
       by_last (Some change) is follows =
-          subst (λ (ps : Pairs). Follows units n (key_writes_of k t) ps (Some change))
+          subst (λ (ps : Pairs). FollowsWrites units n (key_writes_of k t) ps (Some change))
           (sym (pairs_stay t n apart (ap is_some is))) follows
 
   pub commit_keeps : HasKeyState units (after_commit state s) (after_key_commit k s)
@@ -244,18 +244,18 @@ module _ (units : ℕ) (state : State) (k : KeyState) (s : ℕ) (w : KeyWrite) (
   pairs_here = ap (λ (ws : List KeyWrite). pairs_with ws (has.keys.pairs n))
       (writes_on_here units n w (key_writes_of k s) (eq-eqb n n refl))
 
-  follows_at : (q : ℕ) → Follows units q (w ∷ key_writes_of k s) (has.keys.pairs q)
+  follows_at : (q : ℕ) → FollowsWrites units q (w ∷ key_writes_of k s) (has.keys.pairs q)
       (last_write ((n, change) ∷ writes_of state s) q)
   follows_at q = by_name (cases_eq n q)
     where
-      by_name : (n ≡ q) ⊎ (n ≢ q) → Follows units q (w ∷ key_writes_of k s) (has.keys.pairs q)
+      by_name : (n ≡ q) ⊎ (n ≢ q) → FollowsWrites units q (w ∷ key_writes_of k s) (has.keys.pairs q)
           (last_write ((n, change) ∷ writes_of state s) q)
-      by_name (inl here) = subst (λ (m : ℕ). Follows units m (w ∷ key_writes_of k s) (has.keys.pairs m)
+      by_name (inl here) = subst (λ (m : ℕ). FollowsWrites units m (w ∷ key_writes_of k s) (has.keys.pairs m)
           (last_write ((n, change) ∷ writes_of state s) m)) here
-          (subst (λ o. Follows units n (w ∷ key_writes_of k s) (has.keys.pairs n) o)
+          (subst (λ o. FollowsWrites units n (w ∷ key_writes_of k s) (has.keys.pairs n) o)
           (sym (last_here (n, change) (writes_of state s) n refl))
           (ap written (sym pairs_here), subst (λ (ps : Pairs). IsBucketOf units n ps) (sym pairs_here) bucket))
-      by_name (inr apart) = subst (λ o. Follows units q (w ∷ key_writes_of k s) (has.keys.pairs q) o)
+      by_name (inr apart) = subst (λ o. FollowsWrites units q (w ∷ key_writes_of k s) (has.keys.pairs q) o)
           (sym (last_before (n, change) (writes_of state s) q apart))
           (follows_before (last_write (writes_of state s) q) (has.follows s q))
         where
@@ -263,8 +263,8 @@ module _ (units : ℕ) (state : State) (k : KeyState) (s : ℕ) (w : KeyWrite) (
           on = writes_on_other units q w (key_writes_of k s) (ne_eqb n q apart)
 
           follows_before : (o : Option (Option (List ℕ)))
-              → Follows units q (key_writes_of k s) (has.keys.pairs q) o
-              → Follows units q (w ∷ key_writes_of k s) (has.keys.pairs q) o
+              → FollowsWrites units q (key_writes_of k s) (has.keys.pairs q) o
+              → FollowsWrites units q (w ∷ key_writes_of k s) (has.keys.pairs q) o
           follows_before None none = on ∙ none
           follows_before (Some c) (is, of) = (
             is ∙ ap (λ (ws : List KeyWrite). written (pairs_with ws (has.keys.pairs q))) (sym on),
@@ -292,9 +292,9 @@ module _ (units : ℕ) (state : State) (k : KeyState) (s : ℕ) (w : KeyWrite) (
           let there = wrote_here state s (n, change) running in record {
             opens = ap is_some now ∙ sym there.0;
             follows = λ q.
-                subst (λ (ws : List KeyWrite). Follows units q ws (has.keys.pairs q)
+                subst (λ (ws : List KeyWrite). FollowsWrites units q ws (has.keys.pairs q)
                 (last_write (writes_of then s) q)) (sym (ap key_writes_in now))
-                (subst (λ (ws : List Write). Follows units q (w ∷ key_writes_of k s) (has.keys.pairs q)
+                (subst (λ (ws : List Write). FollowsWrites units q (w ∷ key_writes_of k s) (has.keys.pairs q)
                 (last_write ws q)) (sym there.1) (follows_at q));
           }
 

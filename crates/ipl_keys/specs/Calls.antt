@@ -65,20 +65,20 @@ pub record Sees (s n : ℕ) (store : Store) (told : Told) (Of : List ℕ → Typ
   pub is : Of (bytes_of found)
 
 -- the store's look-up of the name, with this answer
-abbrev pub LooksAt : Store → Told → Result (Unit {0}) StoreFault → Store → Told → Type 0
-LooksAt old before result new after = Serves (λ state. state) 14 old before result new after
+abbrev pub LooksAtName : Store → Told → Result (Unit {0}) StoreFault → Store → Told → Type 0
+LooksAtName old before result new after = Serves (λ state. state) 14 old before result new after
 
 -- The bytes of the bucket of this name were read; or the store's look-up failed; or what the session
 -- sees is no bucket.
 abbrev pub ReadsBucket : ℕ → ℕ → Store → Told → Result (List ℕ) KeyFault → Store → Told → Type 0
 ReadsBucket s n old before (Ok bytes) new after = Sees s n old before (λ seen. seen ≡ bytes)
-    × IsBucketText bytes × LooksAt old before (Ok tt) new after
-ReadsBucket s n old before (Err (key.Store fault)) new after = LooksAt old before (Err fault) new after
+    × IsBucketText bytes × LooksAtName old before (Ok tt) new after
+ReadsBucket s n old before (Err (key.Store fault)) new after = LooksAtName old before (Err fault) new after
 ReadsBucket s n old before (Err key.BadKey) new after = ⊥
 ReadsBucket s n old before (Err key.LongValue) new after = ⊥
 ReadsBucket s n old before (Err (key.BucketFull m)) new after = ⊥
 ReadsBucket s n old before (Err (key.BadBucket m)) new after = (m ≡ n)
-    × Sees s n old before (λ seen. IsBucketText seen → ⊥) × LooksAt old before (Ok tt) new after
+    × Sees s n old before (λ seen. IsBucketText seen → ⊥) × LooksAtName old before (Ok tt) new after
 
 -- a length as that many bytes of these
 abbrev pub bytes_in : List ℕ → Result ℕ KeyFault → Result (List ℕ) KeyFault
@@ -122,12 +122,12 @@ change_of [] = None
 change_of (b ∷ bytes) = Some (b ∷ bytes)
 
 -- the store wrote this, or refused it
-abbrev pub Writes : ℕ → ℕ → Option (List ℕ) → Store → Told → Result (Unit {0}) StoreFault → Store
+abbrev pub WritesName : ℕ → ℕ → Option (List ℕ) → Store → Told → Result (Unit {0}) StoreFault → Store
     → Told → Type 0
-Writes s n None old before answer new after = Calls (early_fault (entry_fault old)
+WritesName s n None old before answer new after = Calls (early_fault (entry_fault old)
     (sessions_refuse_del (limits_of old.units) old.transactions.sessions s n))
     (λ state. after_write state s (n, None)) 14 old before answer new after
-Writes s n (Some bytes) old before answer new after = PutsBytes s n bytes old before answer new after
+WritesName s n (Some bytes) old before answer new after = PutsBytes s n bytes old before answer new after
 
 -- the changed pairs would pass 464 bytes, and nothing was written
 pub record IsFull (n : ℕ) (pairs : Pairs) (old : Store) (before : Told)
@@ -138,14 +138,14 @@ pub record IsFull (n : ℕ) (pairs : Pairs) (old : Store) (before : Told)
   pub idle : after ≡ before
 
 -- the changed pairs are a bucket, and were written
-pub record IsWritten (s n : ℕ) (pairs : Pairs) (old : Store) (before : Told)
+pub record IsBucketWritten (s n : ℕ) (pairs : Pairs) (old : Store) (before : Told)
     (result : Result (Unit {0}) KeyFault) (new : Store) (after : Told) : Type 0 where
   pub bucket : IsBucket pairs
-  pub writes : HandsOn (λ answer. Writes s n (written pairs) old before answer new after) result
+  pub writes : HandsOn (λ answer. WritesName s n (written pairs) old before answer new after) result
 
 -- A call that reads a bucket and changes its pairs. It fails as its reading does, or does the rest
 -- with what was read.
-pub record Changes (s n : ℕ) (Rest : Pairs → Store → Told → Type 0) (old : Store) (before : Told)
+pub record ChangesBucket (s n : ℕ) (Rest : Pairs → Store → Told → Type 0) (old : Store) (before : Told)
     (result : Result (Unit {0}) KeyFault) (new : Store) (after : Told) : Type 0 where
   pub mid : Store
   pub told : Told
@@ -162,14 +162,14 @@ pub record Changes (s n : ℕ) (Rest : Pairs → Store → Told → Type 0) (old
 -- a put writes the bucket with the pair, or finds it full
 abbrev pub Puts : ℕ → ℕ → List ℕ → List ℕ → Store → Told → Result (Unit {0}) KeyFault → Store → Told
     → Type 0
-Puts s n bytes value old before result new after = Changes s n (λ pairs mid told.
+Puts s n bytes value old before result new after = ChangesBucket s n (λ pairs mid told.
     IsFull n (set_pair bytes value pairs) mid told result new after
-    ⊎ IsWritten s n (set_pair bytes value pairs) mid told result new after) old before result new after
+    ⊎ IsBucketWritten s n (set_pair bytes value pairs) mid told result new after) old before result new after
 
 -- a delete writes the bucket without the key
 abbrev pub Dels : ℕ → ℕ → List ℕ → Store → Told → Result (Unit {0}) KeyFault → Store → Told → Type 0
-Dels s n bytes old before result new after = Changes s n (λ pairs mid told.
-    IsWritten s n (remove_pair bytes pairs) mid told result new after) old before result new after
+Dels s n bytes old before result new after = ChangesBucket s n (λ pairs mid told.
+    IsBucketWritten s n (remove_pair bytes pairs) mid told result new after) old before result new after
 
 -- ---- calls
 
@@ -243,8 +243,8 @@ ServesKeys next Answers old before result new after = (h : History) (k : KeyStat
     → KeepsKeys before.places old before h k → ServesFor next Answers old before result new after h k
 
 -- nothing is answered
-abbrev pub IsDone : KeyState → Unit {0} → Type 0
-IsDone k v = Unit {0}
+abbrev pub AnswersNothing : KeyState → Unit {0} → Type 0
+AnswersNothing k v = Unit {0}
 
 -- what a get leaves, when what it lends is given back
 pub record GetsKey (s : ℕ) (bytes : List ℕ) (old : Store) (before : Told)

@@ -41,9 +41,9 @@ written (p ∷ pairs) = Some (bucket_bytes (p ∷ pairs))
 
 -- A session's last write on a name, by its writes on keys. Where it has one, that is what is written
 -- for the bucket's committed pairs with its writes there; else it wrote no key there.
-abbrev pub Follows : ℕ → ℕ → List KeyWrite → Pairs → Option (Option (List ℕ)) → Type 0
-Follows units n writes pairs None = writes_on units n writes ≡ []
-Follows units n writes pairs (Some change) = (change ≡ written (pairs_seen units n writes pairs))
+abbrev pub FollowsWrites : ℕ → ℕ → List KeyWrite → Pairs → Option (Option (List ℕ)) → Type 0
+FollowsWrites units n writes pairs None = writes_on units n writes ≡ []
+FollowsWrites units n writes pairs (Some change) = (change ≡ written (pairs_seen units n writes pairs))
     × IsBucketOf units n (pairs_seen units n writes pairs)
 
 -- The state has this key state: its records have the keys, the same sessions are open, and what each
@@ -51,5 +51,5 @@ Follows units n writes pairs (Some change) = (change ≡ written (pairs_seen uni
 pub record HasKeyState (units : ℕ) (state : State) (k : KeyState) : Type 0 where
   pub keys : HasKeys units state.map k.map
   pub opens : (s : ℕ) → is_some (get k.sessions s) ≡ is_open state s
-  pub follows : (s n : ℕ) → Follows units n (key_writes_of k s) (keys.pairs n)
+  pub follows : (s n : ℕ) → FollowsWrites units n (key_writes_of k s) (keys.pairs n)
       (last_write (writes_of state s) n)

@@ -9,11 +9,11 @@ ghost use Rattle.ipl_keys.specs.Calls.{
   CallsKey,
   Dels,
   HandsOn,
-  IsDone,
+  AnswersNothing,
   IsMet,
   Puts,
   ServesKeys,
-  Writes,
+  WritesName,
   bad_key,
   bad_pair,
   change_of,
@@ -42,7 +42,7 @@ impl Keys {
     /// none.
     fn write<C: Chip>(&mut self, chip: &mut C, s: u32, n: u32, bytes: &[u8]) -> Result<(), KeyFault>
         requires sound { IsSound (C.told chip.old).places self.old.store }
-        ensures writes { HandsOn (λ answer. Writes s n (change_of bytes.now) self.old.store
+        ensures writes { HandsOn (λ answer. WritesName s n (change_of bytes.now) self.old.store
             (C.told chip.old) answer self.new.store (C.told chip.new)) result }
         ensures sound { IsSound (C.told chip.old).places self.new.store }
         ensures units { self.new.store.units ≡ self.old.store.units }
@@ -68,7 +68,7 @@ impl Keys {
             (Puts s (bucket_of self.old.store.units key.now) key.now value.now self.old.store
             (C.told chip.old) result self.new.store (C.told chip.new))
             self.old.store (C.told chip.old) result self.new.store (C.told chip.new) }
-        ensures serves { ServesKeys (λ k. after_key_write k s (key.now, Some value.now)) IsDone
+        ensures serves { ServesKeys (λ k. after_key_write k s (key.now, Some value.now)) AnswersNothing
             self.old.store (C.told chip.old) result self.new.store (C.told chip.new) }
         ensures met { IfErr result (λ fault. IsMet fault) }
     {
@@ -88,7 +88,7 @@ impl Keys {
             (Dels s (bucket_of self.old.store.units key.now) key.now self.old.store
             (C.told chip.old) result self.new.store (C.told chip.new))
             self.old.store (C.told chip.old) result self.new.store (C.told chip.new) }
-        ensures serves { ServesKeys (λ k. after_key_write k s (key.now, None)) IsDone
+        ensures serves { ServesKeys (λ k. after_key_write k s (key.now, None)) AnswersNothing
             self.old.store (C.told chip.old) result self.new.store (C.told chip.new) }
         ensures met { IfErr result (λ fault. IsMet fault) }
     {

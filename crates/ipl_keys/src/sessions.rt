@@ -6,7 +6,7 @@ ghost use Rattle.record_locks.specs.Standing.{state_of};
 ghost use Rattle.store_laws.specs.Keeps.{limits_of};
 ghost use Rattle.ipl_store.specs.Calls.{Calls, IsSound, down_fault, early_fault, entry_fault};
 ghost use Rattle.ipl_keys.specs.KeyState.{after_key_begin, after_key_commit, after_key_abort};
-ghost use Rattle.ipl_keys.specs.Calls.{HandsOn, IsDone, ServesKeys};
+ghost use Rattle.ipl_keys.specs.Calls.{HandsOn, AnswersNothing, ServesKeys};
 
 use crate::changing::handed;
 use crate::{KeyFault, Keys};
@@ -20,7 +20,7 @@ impl Keys {
             (refuses_begin (limits_of self.old.store.units)
             (state_of self.old.store.transactions.sessions) s)) (λ state. after_begin state s) 1
             self.old.store (C.told chip.old) answer self.new.store (C.told chip.new)) result }
-        ensures serves { ServesKeys (λ k. after_key_begin k s) IsDone
+        ensures serves { ServesKeys (λ k. after_key_begin k s) AnswersNothing
             self.old.store (C.told chip.old) result self.new.store (C.told chip.new) }
     {
         handed(self.store.begin(chip, s))
@@ -35,7 +35,7 @@ impl Keys {
             (state_of self.old.store.transactions.sessions) s)) (λ state. after_commit state s)
             (2 ^ 15)
             self.old.store (C.told chip.old) answer self.new.store (C.told chip.new)) result }
-        ensures serves { ServesKeys (λ k. after_key_commit k s) IsDone
+        ensures serves { ServesKeys (λ k. after_key_commit k s) AnswersNothing
             self.old.store (C.told chip.old) result self.new.store (C.told chip.new) }
     {
         handed(self.store.commit(chip, s))
@@ -48,7 +48,7 @@ impl Keys {
             (refuses_end (limits_of self.old.store.units)
             (state_of self.old.store.transactions.sessions) s)) (λ state. after_abort state s) 0
             self.old.store (C.told chip.old) answer self.new.store (C.told chip.new)) result }
-        ensures serves { ServesKeys (λ k. after_key_abort k s) IsDone
+        ensures serves { ServesKeys (λ k. after_key_abort k s) AnswersNothing
             self.old.store (C.told chip.old) result self.new.store (C.told chip.new) }
     {
         handed(self.store.abort(chip, s))

@@ -8,7 +8,7 @@ use Rattle.ipl_base.specs.declared.limits.TheConstants.{VERSION}
 use Rattle.ipl_format.specs.Record.{Record, IsRecord}
 use Rattle.ipl_meaning.specs.Values.{counts_for, after_records}
 use Rattle.ipl_meaning.specs.Last.{last_that, has_room, size_of, pack_after, applied, is_number}
-use Rattle.ipl_meaning.specs.RecordLaws.{TheLastGivesTheValue, MergesCarryTheLast, CommitsApplyTheLast, PacksAreTheList, IsWithin, PacksFit}
+use Rattle.ipl_meaning.specs.RecordLaws.{TheLastGivesTheValue, MergesCarryTheLast, CommitsApplyTheLast, PacksAreTheList, FitsSector, PacksFit}
 
 abbrev joined : List (List Record) → List Record
 joined sectors = flat_map (λ (s : List Record). s) sectors
@@ -26,19 +26,19 @@ packs_are_the_list [] = refl
 packs_are_the_list (r ∷ records) = joined-pack_after (r ∷ []) records
 
 -- each sector is within its 480 bytes
-fits-pack_after : (full records : List Record) → IsWithin full → All (IsRecord VERSION) records
-    → All IsWithin (pack_after full records)
-fits-pack_after full [] small each = All-cons IsWithin full [] small (All-nil IsWithin)
+fits-pack_after : (full records : List Record) → FitsSector full → All (IsRecord VERSION) records
+    → All FitsSector (pack_after full records)
+fits-pack_after full [] small each = All-cons FitsSector full [] small (All-nil FitsSector)
 fits-pack_after full (r ∷ records) small each =
     let later : All (IsRecord VERSION) records = λ k d low. each (suc k) d (omega (arith, low)) in
     elim (cases_Bool (has_room full r)) [
       | inl fits ↦ rw fits (fits-pack_after (full ++ r ∷ []) records (omega (arith, leb-true _ _ fits, sum_by-append size_of full (r ∷ []))) later)
-      | inr over ↦ rw over (All-cons IsWithin full (pack_after (r ∷ []) records) small
+      | inr over ↦ rw over (All-cons FitsSector full (pack_after (r ∷ []) records) small
           (fits-pack_after (r ∷ []) records (let short = (each 0 r (omega arith)).value in omega (arith, short)) later))
     ]
 
 pub packs_fit : PacksFit
-packs_fit [] each = All-nil IsWithin
+packs_fit [] each = All-nil FitsSector
 packs_fit (r ∷ records) each = fits-pack_after (r ∷ []) records (let short = (each 0 r (omega arith)).value in omega (arith, short)) (λ k d low. each (suc k) d (omega (arith, low)))
 
 -- applying the records in order leaves what the last one that counts says

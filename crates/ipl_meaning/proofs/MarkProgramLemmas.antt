@@ -3,7 +3,7 @@ use Rattle.std.proofs.Common.{◌≡◌, ◌≢◌, ◌⊎◌, ℕ, ◌<◌, ◌
 use Rattle.std.proofs.lemmas.Bool.{cases_Bool, false_from_ne_true, and_parts, eqb-true, eq-eqb, ne_eqb}
 use Rattle.chip_trait.specs.declared.event.Event.TheVariants.{Program}
 use Rattle.chip_trait.specs.Story.{Story, Contents, held}
-use Rattle.chip_trait.specs.Image.{is_worn, IsNoChanceImage, IsQuiet, IsClosed, IsWhole}
+use Rattle.chip_trait.specs.Image.{is_worn, IsNoChanceImage, IsQuiet, IsClosed, KeepsWorn}
 use Rattle.chip_trait.specs.Lawful.{Used, age}
 use Rattle.chip_trait.specs.Chart.{says, with_sector}
 use Rattle.chip_trait.specs.Told.{History, adds}
@@ -104,7 +104,7 @@ module _ (places : ℕ) (m : Map) (h : History) (it : Layout) (u p s : ℕ) (byt
     (rests : StoryRests places m h) (untouched : IsUntouched h p s) (spelled : sector_in bytes ≡ Some sector) (laid : Laid places (now h) it)
     (may : MayLog places (now h) it u p s sector records) (unused : MarksAreUnused places h)
     (x : Contents) (image : IsNoChanceImage (says sector_in) h.start (Program p s bytes ∷ h.story) x)
-    (whole : IsWhole h.start (Program p s bytes ∷ h.story) x) (q n : ℕ) (marked : IsMarked places x q n) where
+    (whole : KeepsWorn h.start (Program p s bytes ∷ h.story) x) (q n : ℕ) (marked : IsMarked places x q n) where
   abbrev z : Contents
   z = before places m h p s bytes sector rests untouched spelled x image
 

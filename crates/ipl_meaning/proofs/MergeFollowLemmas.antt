@@ -10,7 +10,7 @@ use Rattle.ipl_meaning.specs.Chart.{Chart, IsOverflow, IsLive}
 use Rattle.ipl_meaning.specs.Layout.{Entry, Shape, Layout, IsMark, IsLiveIn}
 use Rattle.ipl_meaning.specs.Steps.{with_unit, NoMarkHas, MaySeal}
 use Rattle.ipl_meaning.specs.Found.{MentionsBelow, IsPlaceBelow}
-use Rattle.ipl_meaning.specs.Tables.{IsFree, Status, Tables, spots_of, overflow_places, place_of, written_of, IsCountedClean}
+use Rattle.ipl_meaning.specs.Tables.{IsFree, StatusTable, Tables, spots_of, overflow_places, place_of, written_of, IsCountedClean}
 use Rattle.ipl_meaning.specs.Mirrors.{MirrorsPlaces, MirrorsOverflow, MirrorsMasks, MirrorsLogs, Mirrors}
 use Rattle.ipl_meaning.specs.TableSteps.{IsReady, IsMoved, TellsShape}
 use Rattle.ipl_meaning.specs.MovingLaws.{CountedFollowMerges, TablesFollowMerges}
@@ -207,7 +207,7 @@ module _ (places : ℕ) (c : Chart) (it : Layout) (t after : Tables) (u p used :
   )
   merge_counted q n (small, inr (inr (is, above))) = (
     inl (small, inr (inr (rw moved.status at is, rw moved.status at above))),
-    λ at _. bare_not_status (sym at ∙ is ∙ ap (λ (s : Status). s.place) moved.status ∙ mirrors.status.place),
+    λ at _. bare_not_status (sym at ∙ is ∙ ap (λ (s : StatusTable). s.place) moved.status ∙ mirrors.status.place),
   )
 
   -- nothing was put where a sector is counted as clean
@@ -264,8 +264,8 @@ module _ (places : ℕ) (c : Chart) (it : Layout) (t after : Tables) (u p used :
     directory = directory told;
     overflow = overflow_there;
     status = let was = mirrors.status in record {
-      place = ap (λ (s : Status). s.place) moved.status ∙ was.place;
-      generation = ap (λ (s : Status). s.generation) moved.status ∙ was.generation;
+      place = ap (λ (s : StatusTable). s.place) moved.status ∙ was.place;
+      generation = ap (λ (s : StatusTable). s.generation) moved.status ∙ was.generation;
       numbers = rw moved.status was.numbers;
     };
     numbers = let was = mirrors.numbers in record {

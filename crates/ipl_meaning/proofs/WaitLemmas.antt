@@ -11,7 +11,7 @@ use Rattle.ipl_format.specs.Record.{Record}
 use Rattle.ipl_format.specs.Page.{value_in}
 use Rattle.ipl_meaning.specs.Chart.{Chart, IsDataHeader, IsStatusHeader}
 use Rattle.ipl_meaning.specs.Values.{counts_for, after_records}
-use Rattle.ipl_meaning.specs.Layout.{Shape, Entry, IsEntry, IsListed, IsInOverflow, IsBelow, IsUnit, Layout, Laid, records_of}
+use Rattle.ipl_meaning.specs.Layout.{Shape, Entry, IsEntry, IsHomeOrListed, IsInOverflow, IsBelow, IsUnit, Layout, Laid, records_of}
 use Rattle.ipl_meaning.specs.Stands.{Shows}
 use Rattle.ipl_meaning.specs.Steps.{with_log, grown, KeepsPages, MayLog}
 use Rattle.ipl_meaning.specs.Laws.{LogSectorsWait}
@@ -62,7 +62,7 @@ module _ (places : ℕ) (c : Chart) (it : Layout) (u p s : ℕ) (sector : Sector
     records = may.spelled;
   }
 
-  listed_still : All (IsListed may.spots was.home) was.log
+  listed_still : All (IsHomeOrListed may.spots was.home) was.log
   listed_still k none low away = may.listed _ _ _ (old.log.each k none low).live away
 
   -- the unit with the new sector
@@ -81,7 +81,7 @@ module _ (places : ℕ) (c : Chart) (it : Layout) (u p s : ℕ) (sector : Sector
       rising = all_pairs_push IsBelow was.log entry old.log.rising (λ k none low. may.last _ _ _ (old.log.each k none low).live);
       spots = may.spots;
       few = may.few;
-      listed = All-push (IsListed may.spots was.home) was.log entry listed_still may.listed_here;
+      listed = All-push (IsHomeOrListed may.spots was.home) was.log entry listed_still may.listed_here;
     };
   }
 

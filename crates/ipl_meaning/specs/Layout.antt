@@ -53,8 +53,8 @@ pub record IsEntry (c : Chart) (places u home generation : ℕ) (e : Entry) : Ty
   pub records : SpellsLog e.sector.version e.sector.payload e.records
 
 -- the entry stands at home, or at one of these spots
-abbrev pub IsListed : List (ℕ × ℕ) → ℕ → Entry → Type 0
-IsListed spots home e = e.place ≢ home → Contains spots (e.place, e.number)
+abbrev pub IsHomeOrListed : List (ℕ × ℕ) → ℕ → Entry → Type 0
+IsHomeOrListed spots home e = e.place ≢ home → Contains spots (e.place, e.number)
 
 -- the entry stands at home, or in one of these places
 abbrev pub IsInOverflow : List ℕ → ℕ → Entry → Type 0
@@ -69,7 +69,7 @@ pub record IsLog (c : Chart) (places u home generation : ℕ) (log : List Entry)
   -- at most 16 of them stand elsewhere: these spots are all of theirs
   pub spots : List (ℕ × ℕ)
   pub few : length spots ≤ OVERFLOW_SECTORS
-  pub listed : All (IsListed spots home) log
+  pub listed : All (IsHomeOrListed spots home) log
 
 -- the header of the unit that counts stands at its home and says that there are so many units, and
 -- the log is its log

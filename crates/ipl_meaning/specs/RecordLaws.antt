@@ -38,12 +38,12 @@ abbrev pub PacksAreTheList : Type 0
 PacksAreTheList = (records : List Record) → flat_map (λ sector. sector) (pack records) ≡ records
 
 -- the records of a sector have room there
-abbrev pub IsWithin : List Record → Type 0
-IsWithin sector = size_of_all sector ≤ PAYLOAD_LEN
+abbrev pub FitsSector : List Record → Type 0
+FitsSector sector = size_of_all sector ≤ PAYLOAD_LEN
 
 -- each sector of a pack is within its 480 bytes
 abbrev pub PacksFit : Type 0
-PacksFit = (records : List Record) → All (IsRecord VERSION) records → All IsWithin (pack records)
+PacksFit = (records : List Record) → All (IsRecord VERSION) records → All FitsSector (pack records)
 
 -- where the weights of a unit's 960 names sum to at most 48, and each record of an active number weighs at most what its
 -- name does, a merge carries at most 12 sectors

@@ -2,7 +2,7 @@
 use Rattle.std.specs.Prelude.{ℕ, ◌≡◌, ◌≢◌, ◌<◌, ◌∷◌, List, Bool, Some, None, true, false}
 use Rattle.chip_trait.specs.declared.event.Event.TheVariants.{Read, Program, Erase, Worn, Barrier, Said}
 use Rattle.chip_trait.specs.Story.{Story, Contents, held}
-use Rattle.chip_trait.specs.Image.{is_worn, IsNoChanceImage, IsQuiet, IsClosed, IsWhole}
+use Rattle.chip_trait.specs.Image.{is_worn, IsNoChanceImage, IsQuiet, IsClosed, KeepsWorn}
 use Rattle.chip_trait.specs.Chart.{with_sector, says}
 use Rattle.chip_trait.specs.Moment.{AtEachMoment}
 use Rattle.chip_trait.specs.Told.{History, Told, adds, adds_all}
@@ -19,7 +19,7 @@ use Rattle.ipl_meaning.specs.Steps.{IsPart, IsIdle, MayLog, MayCommit, MayMark, 
 -- places
 abbrev pub QuietImagesAreParts : Type 0
 QuietImagesAreParts = (h : History) (x : Contents) → IsQuiet h.start h.story
-    → IsNoChanceImage (says sector_in) h.start h.story x → IsWhole h.start h.story x → IsPart (chart_of x) (now h)
+    → IsNoChanceImage (says sector_in) h.start h.story x → KeepsWorn h.start h.story x → IsPart (chart_of x) (now h)
 
 -- what is held stands for what all images stand for
 abbrev pub HeldStands : Type 0

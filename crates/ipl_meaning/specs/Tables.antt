@@ -89,7 +89,7 @@ pub record OverflowLists : Type 0 where
   pub in_use : List (ℕ × ℕ)
 
 -- the status place: its generation, its numbers
-pub record Status : Type 0 where
+pub record StatusTable : Type 0 where
   pub place : ℕ
   pub generation : ℕ
   pub numbers : List ℕ
@@ -100,7 +100,7 @@ pub record Status : Type 0 where
 pub record Tables : Type 0 where
   pub places : Places
   pub overflow : OverflowLists
-  pub status : Status
+  pub status : StatusTable
   pub next : ℕ
   pub active : List ℕ
 

@@ -11,8 +11,8 @@ use Rattle.place_taking.specs.Spending.{is_worn_out}
 use Rattle.page_rebuild.specs.Loaded.{load_fault}
 use Rattle.buffer_pool.specs.Pools.{AreOnce, with_use}
 use Rattle.frame_changes.proofs.FrameLemmas.{pins_keep_frames}
-use Rattle.record_locks.specs.Held.{Slots}
-use Rattle.store_laws.specs.Frames.{Frame}
+use Rattle.record_locks.specs.Held.{SessionSlots}
+use Rattle.store_laws.specs.Frames.{PageFrame}
 use Rattle.store_laws.specs.Advances.{memory_of, MemoryFits}
 use Rattle.store_laws.proofs.KeepLemmas.{says_next}
 use Rattle.page_frames.specs.declared.pages.Pages.{Pages}
@@ -43,11 +43,11 @@ abbrev with_pages : Store → Pages → Store
 with_pages store pages =
     record store { transactions = record store.transactions { pages = pages } }
 
-fresh_frame : (u page : ℕ) (pages : Pages) (f : Frame) → frames_in pages u page ≡ Some f
+fresh_frame : (u page : ℕ) (pages : Pages) (f : PageFrame) → frames_in pages u page ≡ Some f
     → IsCleanFrame pages u page → f.log ≡ []
 fresh_frame u page pages f there (g, is, empty) =
     let one : Some g ≡ Some f = sym is ∙ there in
-    let which : g ≡ f = cc one in ap (λ (h : Frame). h.log) (sym which) ∙ empty
+    let which : g ≡ f = cc one in ap (λ (h : PageFrame). h.log) (sym which) ∙ empty
 
 pub has_brought : (u page : ℕ) (old : Store) (pages : Pages) (before after : Told)
     (done : Result (Unit {0}) ChipFault) (result : Result (Unit {0}) StoreFault) (new : Store)
@@ -88,7 +88,7 @@ module _ (old mid : Transactions) (before between : Told) (n : ℕ)
       let sized = sym did.accounts.counts.places in
       complete y now on.layout state
       (subst (λ (k : ℕ). MemoryFits k (chart_of y) on.layout (memory_in mid) state) sized
-      (subst (λ (slots : Slots). MemoryFits before.places (chart_of y) on.layout
+      (subst (λ (slots : SessionSlots). MemoryFits before.places (chart_of y) on.layout
       (memory_of (tables_in mid.pages) (frames_in mid.pages) slots) state) (sym same) on.fits))
       (subst (λ (k : ℕ). Says k (chart_of y) on.layout state.map) sized
       (says_next before.places (chart_of x) (chart_of y) layout on.layout state state on.shows says))
@@ -107,7 +107,7 @@ then_tells old mid before between n did same (Err e) last alike tells x told lay
     let sized = did.accounts.counts.places in
     let is = tells y now on.layout state
     (subst (λ (k : ℕ). MemoryFits k (chart_of y) on.layout (memory_in mid) state) (sym sized)
-    (subst (λ (slots : Slots). MemoryFits before.places (chart_of y) on.layout
+    (subst (λ (slots : SessionSlots). MemoryFits before.places (chart_of y) on.layout
     (memory_of (tables_in mid.pages) (frames_in mid.pages) slots) state) (sym same) on.fits))
     fine in
     let low : is.unit < layout.count = omega (arith, is.low, on.shows.count) in

@@ -34,7 +34,7 @@ use Rattle.store_laws.proofs.KeeperLemmas.{nothing_keeps_states}
 use Rattle.store_laws.proofs.LeadLemmas.{keepers_lead_still}
 use Rattle.page_writing.specs.Spending.{ErasesAndLogs}
 use Rattle.page_frames.specs.declared.pages.Pages.{Pages}
-use Rattle.page_frames.specs.Complete.{Completes}
+use Rattle.page_frames.specs.Complete.{FailsByChip}
 use Rattle.page_frames.specs.Faulty.{FailsByPage, TellsFaults}
 use Rattle.page_frames.specs.Pages.{tables_in, IsFramed, KeepsFramed, KeepsFramedFor, PageCause, Upholds}
 use Rattle.transactions.specs.declared.transactions.Transactions.{Transactions}
@@ -161,7 +161,7 @@ writes_move next most old new before after done did complete faults = record {
 
 pub turns_move : (next : State → State) (most : ℕ) (old new : Transactions) (before after : Told)
     (done : Result (Unit {0}) ChipFault) → Turns next most old before done new after
-    → Completes old.pages done before → TellsFaults old.pages done before new.pages
+    → FailsByChip old.pages done before → TellsFaults old.pages done before new.pages
     → Moves next most old before done new after
 turns_move next most old new before after done did complete faults =
     writes_move next most old new before after done did (completes_for old done before complete)
@@ -192,7 +192,7 @@ memory_moves next most old new told did order least drawn = record {
 -- one that knows the pages alone
 pub pages_move : (most : ℕ) (old : Transactions) (pages : Pages) (before after : Told)
     (result : Result (Unit {0}) ChipFault) → IsInOrder before.places old
-    → Upholds most old.pages before result pages after → Completes old.pages result before
+    → Upholds most old.pages before result pages after → FailsByChip old.pages result before
     → TellsFaults old.pages result before pages
     → Moves (λ state. state) most old before result (record old { pages = pages }) after
 pages_move most old pages before after result order did complete faults = record {

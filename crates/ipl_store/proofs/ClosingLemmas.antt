@@ -14,7 +14,7 @@ use Rattle.selective_merge.specs.Moving.{tables_of}
 use Rattle.selective_merge.specs.declared.parts.Parts.{Parts}
 use Rattle.clean_close.specs.Closing.{ClosesInSteps, EndsWithMark}
 use Rattle.page_frames.specs.declared.pages.Pages.{Pages}
-use Rattle.page_frames.specs.Complete.{Completes}
+use Rattle.page_frames.specs.Complete.{FailsByChip}
 use Rattle.page_frames.specs.Faulty.{TellsFaults}
 use Rattle.page_frames.specs.Pages.{tables_in, Upholds}
 use Rattle.ipl_store.specs.declared.store.Store.{Store}
@@ -103,7 +103,7 @@ module _ (store : Store) (pages : Pages) (kept : List ℕ) (before told : Told)
     (done : Result (Unit {0}) ChipFault) (readied : Result (Unit {0}) StoreFault) (mid : Store)
     (up : store.down ≡ false) (sound : IsSound before.places store)
     (upholds : Upholds (2 ^ 14) store.transactions.pages before done pages told)
-    (complete : Completes store.transactions.pages done before)
+    (complete : FailsByChip store.transactions.pages done before)
     (faults : TellsFaults store.transactions.pages done before pages)
     (rest : mid ≡ record store {
       transactions = record store.transactions { pages = pages };

@@ -48,7 +48,7 @@ use Rattle.frame_changes.specs.Views.{frame_in}
 use Rattle.page_frames.specs.Pages.{tables_in, frames_in}
 use Rattle.ipl_store.specs.declared.store.Store.{Store}
 use Rattle.ipl_store.specs.Calls.{memory_of_store, view_of, counter_of, IsMade, IsSound}
-use Rattle.ipl_store.specs.Openings.{IsJustOpened, Opens, Restarts}
+use Rattle.ipl_store.specs.Openings.{IsJustOpened, OpensStore, Restarts}
 
 -- ---- pages
 
@@ -255,7 +255,7 @@ module _ (places : ℕ) (store : Store) (made : IsMade places store) (fresh : Is
       → RecoversTold places old (Ok tt) (tables_in store.transactions.pages) new
       → RecoversInSteps marks places old (Ok tt) (tables_in store.transactions.pages) new
       → OfContents old (λ x. counter_of store ≤ greatest_found (chart_of x) places + 1 + 2 ^ 14)
-      → counter_of store ≤ 2 ^ 63 + 2 ^ 14 → Opens places old store new
+      → counter_of store ≤ 2 ^ 63 + 2 ^ 14 → OpensStore places old store new
   fresh_opens marks old new tells steps number left = record {
     fresh = fresh;
     units = opened_counts marks places store.units t old new tells steps holds many;

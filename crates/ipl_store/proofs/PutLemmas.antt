@@ -12,7 +12,7 @@ use Rattle.ipl_format.specs.Record.{Change}
 use Rattle.ipl_meaning.specs.Last.{size_of_all}
 use Rattle.ipl_rules.specs.Operations.{after_write}
 use Rattle.ipl_rules.specs.State.{State}
-use Rattle.record_locks.specs.Held.{Slots, marks_in, numbers_in}
+use Rattle.record_locks.specs.Held.{SessionSlots, marks_in, numbers_in}
 use Rattle.unit_io.specs.Costs.{Costs, Spends}
 use Rattle.buffer_pool.specs.Holding.{KeepsPins}
 use Rattle.buffer_pool.specs.Uses.{IsUsedLast}
@@ -22,7 +22,7 @@ use Rattle.selective_merge.specs.declared.parts.Parts.{Parts}
 use Rattle.selective_merge.specs.Moving.{tables_of}
 use Rattle.selective_merge.specs.Spotting.{HasHomeSpot}
 use Rattle.page_writing.specs.Spending.{ErasesAndLogs}
-use Rattle.store_laws.specs.Frames.{Frame, Frames}
+use Rattle.store_laws.specs.Frames.{PageFrame, Frames}
 use Rattle.store_laws.specs.Room.{overfills_at}
 use Rattle.store_laws.specs.Advances.{memory_of, LeadsTo}
 use Rattle.store_laws.specs.Keeps.{limits_of}
@@ -193,7 +193,7 @@ module _ (s n : ℕ) (bytes : List ℕ) (old : Store) (before : Told) (mid : Sto
   few_drawn : t.pages.parts.counter ≤ counter_of old + 14
   few_drawn = by_frame (frames_in old.transactions.pages (home_of n).unit (home_of n).page) refl
     where
-      by_frame : (o : Option Frame)
+      by_frame : (o : Option PageFrame)
           → frames_in old.transactions.pages (home_of n).unit (home_of n).page ≡ o
           → t.pages.parts.counter ≤ counter_of old + 14
       by_frame None none = omega (
@@ -210,7 +210,7 @@ module _ (s n : ℕ) (bytes : List ℕ) (old : Store) (before : Told) (mid : Sto
       after
   joined_asks = by_frame (frames_in old.transactions.pages (home_of n).unit (home_of n).page) refl
     where
-      by_frame : (o : Option Frame)
+      by_frame : (o : Option PageFrame)
           → frames_in old.transactions.pages (home_of n).unit (home_of n).page ≡ o
           → AsksToWrite n (Some bytes) (is_worn_out done) old.transactions.pages t.pages before after
       by_frame None none =
@@ -333,7 +333,7 @@ written_put s n bytes old before mid between (Ok v) t after result new none up s
         leads = subst (λ (it : Transactions). LeadsTo {T = Unit {0}} {E = ChipFault} next
             (memory_of (tables_in mid.transactions.pages) (frames_in mid.transactions.pages)
             old.transactions.sessions) between (Ok tt) (memory_in it) after) (sym moved)
-            (subst (λ (slots : Slots). LeadsTo {T = Unit {0}} {E = ChipFault} next
+            (subst (λ (slots : SessionSlots). LeadsTo {T = Unit {0}} {E = ChipFault} next
             (memory_of (tables_in mid.transactions.pages) (frames_in mid.transactions.pages) slots)
             between (Ok tt) (memory_in t) after) sessions wrote.turns.leads);
       };

@@ -14,14 +14,14 @@ use Rattle.ipl_rules.specs.Marks.{overfills}
 use Rattle.ipl_base.specs.Sizes.{size_in_page}
 use Rattle.ipl_rules.specs.Refusals.{Test, first_of, bad_session, bad_name, too_long, not_open, conflict, writes_full}
 use Rattle.ipl_rules.specs.State.{State, Limits, holder_for_write}
-use Rattle.record_locks.specs.Held.{Slots, marks_in}
+use Rattle.record_locks.specs.Held.{SessionSlots, marks_in}
 use Rattle.record_locks.specs.Locks.{pending_full}
 use Rattle.record_locks.specs.Standing.{state_of}
 use Rattle.ipl_meaning.specs.Chart.{chart_of}
 use Rattle.ipl_meaning.specs.Tables.{Tables}
 use Rattle.unit_io.specs.Reads.{OfContents}
 use Rattle.store_trait.specs.Keeping.{LAST_NUMBER}
-use Rattle.store_laws.specs.Frames.{Frame, Frames}
+use Rattle.store_laws.specs.Frames.{PageFrame, Frames}
 use Rattle.store_laws.specs.Room.{overfills_at}
 use Rattle.store_laws.specs.Advances.{memory_of}
 use Rattle.store_laws.specs.Keeps.{ShowsState, limits_of}
@@ -55,7 +55,7 @@ none_full (t ∷ tests) r is all =
     by_test t.0 t (first_of tests) r is other (λ later. none_full tests r later others)
 
 -- the tests of a put before its page is looked at
-abbrev put_tests : Limits → Slots → ℕ → ℕ → List ℕ → List Test
+abbrev put_tests : Limits → SessionSlots → ℕ → ℕ → List ℕ → List Test
 put_tests limits slots s n bytes = bad_session limits s ∷ bad_name limits n ∷ too_long bytes
     ∷ not_open (state_of slots) s ∷ conflict (holder_for_write (state_of slots) s n)
     ∷ writes_full (state_of slots) s n ∷ pending_full slots n (size_in_page (Some bytes)) ∷ []
@@ -92,7 +92,7 @@ chip_found fault e is = subst (λ (f : StoreFault). found_room (Err f) ≡ Err f
 -- ---- what the frame tells
 
 pub full_told : (n : ℕ) (bytes : List ℕ) (old : Store) (before : Told) (t : Tables)
-    (frames : Frames) (f : Frame) (after : Told)
+    (frames : Frames) (f : PageFrame) (after : Told)
     → BringsPageOf n old before t frames f after → (full : Bool)
     → overfills_at (marks_in old.transactions.sessions) n bytes f.values ≡ full
     → OfContents before (λ x. (state : State) → ShowsState before.places (view_of old) state x

@@ -13,7 +13,7 @@ use Rattle.ipl_meaning.specs.Tables.{Tables}
 use Rattle.unit_io.specs.Costs.{Spends}
 use Rattle.unit_io.specs.Reads.{OfContents}
 use Rattle.store_laws.specs.Pending.{name_at}
-use Rattle.store_laws.specs.Frames.{Frame, Frames}
+use Rattle.store_laws.specs.Frames.{PageFrame, Frames}
 use Rattle.store_laws.specs.Advances.{KeepsState}
 use Rattle.store_laws.specs.Keeps.{View, ShowsState, TellsName}
 use Rattle.store_laws.proofs.ViewLemmas.{frames_tell_state}
@@ -33,7 +33,7 @@ use Rattle.transactions.specs.Turns.{TurnsInMemory}
 use Rattle.ipl_store.specs.declared.store.Store.{Store}
 use Rattle.ipl_store.specs.Calls.{view_of, tells_wear, IsSound}
 use Rattle.ipl_store.proofs.CallLemmas.{calls_refused, let_in_calls, calls_as, calls_fail_as, failed_calls, calls_joined}
-use Rattle.ipl_store.specs.Shown.{ShowsName, FramesName, IsSeen, IsCommitted, Fetches, answered, AsksLittle, CostsOnePage, Looks}
+use Rattle.ipl_store.specs.Shown.{ShowsName, FramesName, IsSeen, HasCommitted, Fetches, answered, AsksLittle, CostsOnePage, LooksAtStore}
 
 name_of_home : (n : ℕ) → name_at (home_of n).unit (home_of n).page (home_of n).slot ≡ n
 name_of_home n = omega arith
@@ -50,7 +50,7 @@ name_shown places store state n x shown = record {
 }
 
 pub shown_frames_tell : {T E : Type 0} (v : T) (n : ℕ) (store : View) (t : Tables)
-    (later : Frames) (f : Frame) (old new : Told)
+    (later : Frames) (f : PageFrame) (old new : Told)
     → KeepsState {T = T} {E = E} store.memory.tables store.memory.frames old (Ok v) t later new
     → later (home_of n).unit (home_of n).page ≡ Some f
     → (state : State) → OfContents old (λ x. ShowsName old.places store state n x
@@ -98,7 +98,7 @@ names_told n old pages before after (Err e) new is keeps framed = tt
 pub looks_as : {U : Type 0} (early : Option StoreFault) (next : State → State) (n : ℕ)
     (old : Store) (before : Told) (v : U) (new : Store) (after : Told)
     → Fetches early next n old before (Ok tt) new after
-    → Looks early next n old before (Ok v) new after
+    → LooksAtStore early next n old before (Ok v) new after
 looks_as early next n old before v new after did = record {
   calls = calls_as early next 14 old before tt v new after did.calls;
   holds = did.holds;
@@ -111,7 +111,7 @@ looks_as early next n old before v new after did = record {
 looks_fail : {U : Type 0} (early : Option StoreFault) (next : State → State) (n : ℕ)
     (old : Store) (before : Told) (fault : StoreFault) (new : Store) (after : Told)
     → Fetches early next n old before (Err fault) new after
-    → Looks {T = U} early next n old before (Err fault) new after
+    → LooksAtStore {T = U} early next n old before (Err fault) new after
 looks_fail {U} early next n old before fault new after did = record {
   calls = calls_fail_as early next 14 old before fault new after did.calls;
   holds = did.holds;
@@ -124,7 +124,7 @@ looks_fail {U} early next n old before fault new after did = record {
 pub looks_answered : {U : Type 0} (early : Option StoreFault) (next : State → State) (n : ℕ)
     (old : Store) (before : Told) (result : Result (Unit {0}) StoreFault) (new : Store)
     (after : Told) → Fetches early next n old before result new after → (found : U)
-    → Looks early next n old before (answered result found) new after
+    → LooksAtStore early next n old before (answered result found) new after
 looks_answered early next n old before (Ok v) new after did found =
     looks_as early next n old before found new after did
 looks_answered early next n old before (Err e) new after did found =
@@ -196,7 +196,7 @@ seen_told s n tid old before new found names mine is state x told shown =
 
 pub committed_told : (n : ℕ) (old : Store) (before : Told) (new : Store)
     (found : Option (List ℕ)) (names : FramesName n old before new)
-    → found ≡ names.frame.values (home_of n).slot → IsCommitted n old before found
+    → found ≡ names.frame.values (home_of n).slot → HasCommitted n old before found
 committed_told n old before new found names is state x told shown =
     is ∙ (names.tells state x told shown).committed
 

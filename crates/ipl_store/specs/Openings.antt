@@ -51,7 +51,7 @@ pub record FitsAnew (places : ℕ) (store : Store) (y : Chart) : Type 0 where
 -- that tells what it holds its memory fits that, whatever the pages say. Where the
 -- contents before stood for a map, its memory and the contents then show that map; and it keeps it over
 -- each history then that rests on it, and leaves clean what the tables count as clean.
-pub record Opens (places : ℕ) (old : Told) (store : Store) (new : Told) : Type 0 where
+pub record OpensStore (places : ℕ) (old : Told) (store : Store) (new : Told) : Type 0 where
   pub fresh : IsJustOpened store
   pub units : OfContents old (λ x. store.units ≡ units_at (chart_of x) places)
   pub anew : Charts (λ c y. FitsAnew places store y) old new
@@ -92,7 +92,7 @@ pub record Tries (marks : Bool) (places : ℕ) (old : Told) (result : Result (Un
 -- a chip was opened again; or it wasn't, and the store is down then and has the units that it had
 abbrev pub Reopens : ℕ → Store → Told → Result (Unit {0}) ImageFault → Store → Told → Type 0
 Reopens places before old result store new = MatchResult result
-    (λ done. Opens places old store new)
+    (λ done. OpensStore places old store new)
     (λ e. (store.down ≡ true) × (store.units ≡ before.units))
 
 -- the chip's number of places can't be used, and it wasn't asked anything else; or it failed
@@ -103,7 +103,7 @@ FailsToOpen places old e new =
 
 -- a chip was opened, or wasn't; it wasn't asked where memory was wanting
 abbrev pub OpensAs : ℕ → Told → Result Store OpenFault → Told → Type 0
-OpensAs places old (Ok store) new = IsSound places store × Opens places old store new
+OpensAs places old (Ok store) new = IsSound places store × OpensStore places old store new
     × Tries true places old (Ok tt) (tables_in store.transactions.pages) new
 OpensAs places old (Err (Image e)) new = FailsToOpen places old e new
 OpensAs places old (Err OutOfMemory) new = new ≡ old

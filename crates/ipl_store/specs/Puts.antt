@@ -14,7 +14,7 @@ use Rattle.ipl_rules.specs.State.{State}
 use Rattle.record_locks.specs.Held.{marks_in}
 use Rattle.ipl_meaning.specs.Tables.{Tables}
 use Rattle.unit_io.specs.Reads.{OfContents}
-use Rattle.store_laws.specs.Frames.{Frame, Frames}
+use Rattle.store_laws.specs.Frames.{PageFrame, Frames}
 use Rattle.store_laws.specs.Room.{overfills_at}
 use Rattle.store_laws.specs.Advances.{memory_of, KeepsState, LeadsTo}
 use Rattle.store_laws.specs.Keeps.{ShowsState, limits_of}
@@ -76,7 +76,7 @@ TellsRoom n bytes old before found = IfOk found (λ room. OfContents before (λ 
 -- before; and where it was in one, all frames are as they were.
 pub record HasBrought (u page : ℕ) (old : Store) (before : Told) (new : Store) (after : Told)
     : Type 0 where
-  pub frame : Frame
+  pub frame : PageFrame
   pub there : frames_in new.transactions.pages u page ≡ Some frame
   pub upholds : Upholds {T = Unit {0}} 14 old.transactions.pages before (Ok tt)
       new.transactions.pages after
@@ -89,7 +89,7 @@ pub record HasBrought (u page : ℕ) (old : Store) (before : Told) (new : Store)
 
 -- a call that keeps each state, and was done, brought the page of the name into this frame
 pub record BringsPageOf (n : ℕ) (old : Store) (before : Told) (t : Tables) (frames : Frames)
-    (f : Frame) (after : Told) : Type 0 where
+    (f : PageFrame) (after : Told) : Type 0 where
   pub keeps : KeepsState {T = Unit {0}} {E = ChipFault} (tables_in old.transactions.pages)
       (frames_in old.transactions.pages) before (Ok tt) t frames after
   pub there : frames (home_of n).unit (home_of n).page ≡ Some f
@@ -98,7 +98,7 @@ pub record BringsPageOf (n : ℕ) (old : Store) (before : Told) (t : Tables) (fr
 -- the page was full, and nothing was written
 pub record FindsFull (n : ℕ) (bytes : List ℕ) (old : Store) (before : Told) (new : Store)
     (after : Told) : Type 0 where
-  pub frame : Frame
+  pub frame : PageFrame
   pub brings : BringsPageOf n old before (tables_in new.transactions.pages)
       (frames_in new.transactions.pages) frame after
   pub full : overfills_at (marks_in old.transactions.sessions) n bytes frame.values ≡ true
@@ -109,7 +109,7 @@ pub record WritesInRoom (s n : ℕ) (bytes : List ℕ) (old : Store) (before : T
     (after : Told) : Type 0 where
   pub tables : Tables
   pub frames : Frames
-  pub frame : Frame
+  pub frame : PageFrame
   pub mid : Told
   pub brings : BringsPageOf n old before tables frames frame mid
   pub room : overfills_at (marks_in old.transactions.sessions) n bytes frame.values ≡ false

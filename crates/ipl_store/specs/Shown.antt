@@ -11,9 +11,9 @@ use Rattle.ipl_meaning.specs.Layout.{Layout}
 use Rattle.ipl_meaning.specs.Stands.{Shows, page_in}
 use Rattle.unit_io.specs.Costs.{Costs, Spends}
 use Rattle.unit_io.specs.Reads.{OfContents}
-use Rattle.store_laws.specs.Frames.{Frame}
+use Rattle.store_laws.specs.Frames.{PageFrame}
 use Rattle.buffer_pool.specs.Pools.{PoolView}
-use Rattle.buffer_pool.specs.Holding.{IsHeld, IsPage, IsAtRest}
+use Rattle.buffer_pool.specs.Holding.{IsHeld, IsSamePage, IsAtRest}
 use Rattle.buffer_pool.specs.Uses.{IsUsedLast, UsesPage}
 use Rattle.store_laws.specs.Advances.{MemoryFits}
 use Rattle.store_laws.specs.Keeps.{View, TellsName}
@@ -39,7 +39,7 @@ pub record ShowsName (places : ℕ) (store : View) (state : State) (n : ℕ) (x 
 -- The page of the name is in a frame. That tells the name as each state has it that the store
 -- before and the page in the chip's contents showed.
 pub record FramesName (n : ℕ) (old : Store) (before : Told) (new : Store) : Type 0 where
-  pub frame : Frame
+  pub frame : PageFrame
   pub there : frames_in new.transactions.pages (home_of n).unit (home_of n).page ≡ Some frame
   pub tells : (state : State) → OfContents before (λ x.
       ShowsName before.places (view_of old) state n x
@@ -53,8 +53,8 @@ IsSeen s n store told found = (state : State)
     → found ≡ see state s n)
 
 -- the record of a name, likewise
-abbrev pub IsCommitted : ℕ → Store → Told → Option (List ℕ) → Type 0
-IsCommitted n store told found = (state : State)
+abbrev pub HasCommitted : ℕ → Store → Told → Option (List ℕ) → Type 0
+HasCommitted n store told found = (state : State)
     → OfContents told (λ x. ShowsName told.places (view_of store) state n x
     → found ≡ get state.map n)
 
@@ -63,12 +63,12 @@ IsCommitted n store told found = (state : State)
 -- the pages that were held are, and this one
 abbrev pub HoldsAlso : Store → ℕ → ℕ → Store → Type 0
 HoldsAlso old u page new = (v q : ℕ) → IsHeld new.transactions.pages.pool.buffers v q
-    ↔ (IsHeld old.transactions.pages.pool.buffers v q ⊎ IsPage u page v q)
+    ↔ (IsHeld old.transactions.pages.pool.buffers v q ⊎ IsSamePage u page v q)
 
 -- the pages that were held are, but not this one
 abbrev pub HoldsBut : Store → ℕ → ℕ → Store → Type 0
 HoldsBut old u page new = (v q : ℕ) → IsHeld new.transactions.pages.pool.buffers v q
-    ↔ (IsHeld old.transactions.pages.pool.buffers v q × ¬ IsPage u page v q)
+    ↔ (IsHeld old.transactions.pages.pool.buffers v q × ¬ IsSamePage u page v q)
 
 -- the store with another pool
 abbrev pub with_pool : Store → PoolView → Store
@@ -135,7 +135,7 @@ answered (Err e) found = Err e
 -- A call that lends what the frame has of the name; done, the page is in a frame and the one used
 -- last, and no other page leaves one where it was there before or a frame was free. It costs at most to
 -- write one page out.
-pub record Looks {T : Type 0} (early : Option StoreFault) (next : State → State) (n : ℕ)
+pub record LooksAtStore {T : Type 0} (early : Option StoreFault) (next : State → State) (n : ℕ)
     (old : Store) (before : Told) (result : Result T StoreFault) (new : Store) (after : Told)
     : Type 0 where
   pub calls : Calls early next 14 old before result new after

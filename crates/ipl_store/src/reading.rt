@@ -12,7 +12,7 @@ ghost use Rattle.store_trait.specs.Keeping.{LAST_NUMBER};
 ghost use Rattle.store_laws.specs.Keeps.{limits_of};
 ghost use Rattle.store_laws.specs.Refusals.{IsOpenSession};
 ghost use Rattle.page_ops.specs.Pending.{seen_by};
-ghost use Rattle.store_laws.specs.Frames.{Frame};
+ghost use Rattle.store_laws.specs.Frames.{PageFrame};
 ghost use Rattle.page_frames.specs.Pages.{frames_in};
 ghost use Rattle.ipl_store.specs.contracts.store.Store.{the_row};
 ghost use Rattle.ipl_store.specs.Calls.{
@@ -23,7 +23,7 @@ ghost use Rattle.ipl_store.specs.Calls.{
   refuses_name,
 };
 ghost use Rattle.ipl_store.specs.Puts.{HasBrought};
-ghost use Rattle.ipl_store.specs.Shown.{answered, AsksFor, Fetches, IsSeen, IsCommitted, Looks};
+ghost use Rattle.ipl_store.specs.Shown.{answered, AsksFor, Fetches, IsSeen, HasCommitted, LooksAtStore};
 
 use crate::Store;
 use chip_trait::Chip;
@@ -55,7 +55,7 @@ impl Store {
     /// What a session (0 to 31) sees of a name whose page is in a frame, at most 464 bytes.
     fn seen(&self, s: u32, n: u32) -> Option<&[u8]>
         requires session { s < SESSIONS }
-        ensures seen { (f : Frame) (tid : ℕ) → number_of self.now.transactions.sessions s ≡ Some tid
+        ensures seen { (f : PageFrame) (tid : ℕ) → number_of self.now.transactions.sessions s ≡ Some tid
             → frames_in self.now.transactions.pages (home_of n).unit (home_of n).page ≡ Some f
             → option_map (λ b. b.now) result
             ≡ seen_by tid (f.values (home_of n).slot) (f.pending (home_of n).slot) }
@@ -79,7 +79,7 @@ impl Store {
             (refuses_get (limits_of self.old.units) (state_of self.old.transactions.sessions) s n))
             (λ state. state) n
             self.old (C.told chip.old) result self.new (C.told chip.new) }
-        ensures looks { (found : Option (Bor (List ℕ))) → Looks (early_fault (entry_fault self.old)
+        ensures looks { (found : Option (Bor (List ℕ))) → LooksAtStore (early_fault (entry_fault self.old)
             (refuses_get (limits_of self.old.units) (state_of self.old.transactions.sessions) s n))
             (λ state. state) n
             self.old (C.told chip.old) (answered result found) self.new (C.told chip.new) }
@@ -103,7 +103,7 @@ impl Store {
     ) -> Result<Option<&[u8]>, StoreFault>
         requires sound { IsSound (C.told chip.old).places self.old }
         ensures* looks { sem 𝓛 (Rests the_row self.entry (λ new.
-            Looks (early_fault (entry_fault self.old) (refuses_get (limits_of self.old.units)
+            LooksAtStore (early_fault (entry_fault self.old) (refuses_get (limits_of self.old.units)
             (state_of self.old.transactions.sessions) s n)) (λ state. state) n
             self.old (C.told chip.old) result new (C.told chip.new))) }
         ensures seen { IfOk result (λ found. IsSeen s n self.old (C.told chip.old)
@@ -124,7 +124,7 @@ impl Store {
             (refuses_share (limits_of self.old.units) (state_of self.old.transactions.sessions)
             s n)) (λ state. after_share state s n) n
             self.old (C.told chip.old) result self.new (C.told chip.new) }
-        ensures looks { (found : Option (Bor (List ℕ))) → Looks (early_fault (entry_fault self.old)
+        ensures looks { (found : Option (Bor (List ℕ))) → LooksAtStore (early_fault (entry_fault self.old)
             (refuses_share (limits_of self.old.units) (state_of self.old.transactions.sessions)
             s n)) (λ state. after_share state s n) n
             self.old (C.told chip.old) (answered result found) self.new (C.told chip.new) }
@@ -150,7 +150,7 @@ impl Store {
     ) -> Result<Option<&[u8]>, StoreFault>
         requires sound { IsSound (C.told chip.old).places self.old }
         ensures* looks { sem 𝓛 (Rests the_row self.entry (λ new.
-            Looks (early_fault (entry_fault self.old) (refuses_share (limits_of self.old.units)
+            LooksAtStore (early_fault (entry_fault self.old) (refuses_share (limits_of self.old.units)
             (state_of self.old.transactions.sessions) s n)) (λ state. after_share state s n) n
             self.old (C.told chip.old) result new (C.told chip.new))) }
         ensures seen { IfOk result (λ found. IsSeen s n self.old (C.told chip.old)
@@ -168,7 +168,7 @@ impl Store {
         ensures fetches { Fetches (early_fault (entry_fault self.old)
             (refuses_name (limits_of self.old.units) n)) (λ state. state) n
             self.old (C.told chip.old) result self.new (C.told chip.new) }
-        ensures looks { (found : Option (Bor (List ℕ))) → Looks (early_fault (entry_fault self.old)
+        ensures looks { (found : Option (Bor (List ℕ))) → LooksAtStore (early_fault (entry_fault self.old)
             (refuses_name (limits_of self.old.units) n)) (λ state. state) n
             self.old (C.told chip.old) (answered result found) self.new (C.told chip.new) }
         ensures asks { AsksFor n self.old (C.told chip.old) (C.told chip.new) }
@@ -179,7 +179,7 @@ impl Store {
 
     /// The committed record of a name whose page is in a frame.
     fn committed_in(&self, n: u32) -> Option<&[u8]>
-        ensures committed { (f : Frame)
+        ensures committed { (f : PageFrame)
             → frames_in self.now.transactions.pages (home_of n).unit (home_of n).page ≡ Some f
             → option_map (λ b. b.now) result ≡ f.values (home_of n).slot }
         ensures short { IfSome result (λ b. length b.now ≤ VALUE_LEN) }
@@ -198,10 +198,10 @@ impl Store {
     pub fn committed<C: Chip>(&mut self, chip: &mut C, n: u32) -> Result<Option<&[u8]>, StoreFault>
         requires sound { IsSound (C.told chip.old).places self.old }
         ensures* looks { sem 𝓛 (Rests the_row self.entry (λ new.
-            Looks (early_fault (entry_fault self.old) (refuses_name (limits_of self.old.units) n))
+            LooksAtStore (early_fault (entry_fault self.old) (refuses_name (limits_of self.old.units) n))
             (λ state. state) n
             self.old (C.told chip.old) result new (C.told chip.new))) }
-        ensures committed { IfOk result (λ found. IsCommitted n self.old (C.told chip.old)
+        ensures committed { IfOk result (λ found. HasCommitted n self.old (C.told chip.old)
             (option_map (λ b. b.now) found)) }
         ensures short { IfOk result (λ found. IfSome found (λ b. length b.now ≤ VALUE_LEN)) }
         ensures asks { AsksFor n self.old (C.told chip.old) (C.told chip.new) }

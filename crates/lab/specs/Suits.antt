@@ -5,5 +5,5 @@ use Rattle.ipl_store.specs.declared.store.Store.{Store}
 use Rattle.ipl_store.specs.Calls.{IsSound}
 
 -- The store is sound for the desk's chip. It stays closed, so that what only hands it on is proved at once.
-unfoldable pub Suits : MemDesk → Store → Type 0
-Suits desk store = IsSound (desk_told desk).places store
+unfoldable pub SuitsDesk : MemDesk → Store → Type 0
+SuitsDesk desk store = IsSound (desk_told desk).places store

@@ -2,7 +2,7 @@
 ghost use Rattle.std.specs.Prelude.{◌≡◌, IfOk};
 ghost use Rattle.ipl_cli.specs.MemDesk.{desk_told};
 ghost use Rattle.ipl_store.specs.Calls.{IsSound};
-ghost use Rattle.lab.specs.Suits.{Suits};
+ghost use Rattle.lab.specs.Suits.{SuitsDesk};
 
 use crate::answers::{READ_FAILED, WRITE_FAILED, done_line, found_line, opened_line, say};
 use crate::words::{number, parted, words_of};
@@ -90,8 +90,8 @@ fn answer(alloc: Global, store: &mut Store, desk: &mut MemDesk, call: &Call) -> 
 
 /// Makes a call, says its line and answers it.
 fn called(alloc: Global, store: &mut Store, desk: &mut MemDesk, call: &Call) -> Result<String>
-    requires { Suits desk.old store.old }
-    ensures { Suits desk.new store.new }
+    requires { SuitsDesk desk.old store.old }
+    ensures { SuitsDesk desk.new store.new }
 {
     let line = answer(alloc, store, desk, call)?;
     say(desk, line.as_str())?;
@@ -100,8 +100,8 @@ fn called(alloc: Global, store: &mut Store, desk: &mut MemDesk, call: &Call) -> 
 
 /// Makes a call, once more where a read of the chip failed in it; whether a write failed.
 fn serve(alloc: Global, store: &mut Store, desk: &mut MemDesk, call: &Call) -> Result<bool>
-    requires { Suits desk.old store.old }
-    ensures { Suits desk.new store.new }
+    requires { SuitsDesk desk.old store.old }
+    ensures { SuitsDesk desk.new store.new }
 {
     let mut line = called(alloc, store, desk, call)?;
     if line.as_str() == READ_FAILED {
@@ -112,8 +112,8 @@ fn serve(alloc: Global, store: &mut Store, desk: &mut MemDesk, call: &Call) -> R
 
 /// Opens the chip again, says what came and answers it.
 fn opened(alloc: Global, store: Store, desk: &mut MemDesk) -> Result<(Store, String)>
-    requires { Suits desk.old store }
-    ensures { IfOk result (λ made. Suits desk.new made.0) }
+    requires { SuitsDesk desk.old store }
+    ensures { IfOk result (λ made. SuitsDesk desk.new made.0) }
 {
     let (again, opens) = store.reopen(desk);
     let line = opened_line(alloc, opens)?;
@@ -123,8 +123,8 @@ fn opened(alloc: Global, store: Store, desk: &mut MemDesk) -> Result<(Store, Str
 
 /// Opens the chip again, once more where a read of it failed; whether a write failed.
 fn reopened(alloc: Global, store: Store, desk: &mut MemDesk) -> Result<(Store, bool)>
-    requires { Suits desk.old store }
-    ensures { IfOk result (λ made. Suits desk.new made.0) }
+    requires { SuitsDesk desk.old store }
+    ensures { IfOk result (λ made. SuitsDesk desk.new made.0) }
 {
     let (again, line) = opened(alloc, store, desk)?;
     if line.as_str() != READ_FAILED {
@@ -136,8 +136,8 @@ fn reopened(alloc: Global, store: Store, desk: &mut MemDesk) -> Result<(Store, b
 
 /// Makes the call of a line; whether a write failed in it.
 fn turn(alloc: Global, mut store: Store, desk: &mut MemDesk, line: &str) -> Result<(Store, bool)>
-    requires { Suits desk.old store }
-    ensures { IfOk result (λ made. Suits desk.new made.0) }
+    requires { SuitsDesk desk.old store }
+    ensures { IfOk result (λ made. SuitsDesk desk.new made.0) }
 {
     let call = call_of(alloc, line)?;
     if matches!(call, Call::Command(Command::Restart)) {
@@ -149,7 +149,7 @@ fn turn(alloc: Global, mut store: Store, desk: &mut MemDesk, line: &str) -> Resu
 
 /// The store of a desk's chip, which is opened with so many frames.
 fn store_of(alloc: Global, frames: u32, desk: &mut MemDesk) -> Result<Store>
-    ensures { IfOk result (λ store. Suits desk.new store) }
+    ensures { IfOk result (λ store. SuitsDesk desk.new store) }
 {
     ensure!(2 <= frames && frames <= 64, "no frames");
     Ok(Store::open(alloc, desk, frames)?)

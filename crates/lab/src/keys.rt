@@ -2,7 +2,7 @@
 ghost use Rattle.std.specs.Prelude.{◌≡◌, IfOk};
 ghost use Rattle.ipl_cli.specs.MemDesk.{desk_told};
 ghost use Rattle.ipl_store.specs.Calls.{IsSound};
-ghost use Rattle.lab.specs.Suits.{Suits};
+ghost use Rattle.lab.specs.Suits.{SuitsDesk};
 
 use crate::answers::{bytes_line, key_line, say};
 use crate::sectors::bytes_of;
@@ -80,8 +80,8 @@ fn answer(alloc: Global, keys: &mut Keys, desk: &mut MemDesk, call: &Call) -> Re
 
 /// Makes the call of a line, and says what it answers.
 fn serve(alloc: Global, keys: &mut Keys, desk: &mut MemDesk, line: &str) -> Result<()>
-    requires { Suits desk.old keys.old.store }
-    ensures { Suits desk.new keys.new.store }
+    requires { SuitsDesk desk.old keys.old.store }
+    ensures { SuitsDesk desk.new keys.new.store }
 {
     let call = call_of(alloc, line)?;
     let answer = answer(alloc, keys, desk, &call)?;
@@ -90,7 +90,7 @@ fn serve(alloc: Global, keys: &mut Keys, desk: &mut MemDesk, line: &str) -> Resu
 
 /// The keys of a desk's chip, which is opened with so many frames.
 fn keys_of(alloc: Global, frames: u32, desk: &mut MemDesk) -> Result<Keys>
-    ensures { IfOk result (λ keys. Suits desk.new keys.store) }
+    ensures { IfOk result (λ keys. SuitsDesk desk.new keys.store) }
 {
     ensure!(2 <= frames && frames <= 64, "no frames");
     Ok(Keys::open(alloc, desk, frames)?)

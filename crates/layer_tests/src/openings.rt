@@ -9,7 +9,7 @@ use chip_trait::Chip;
 use ipl_base::{Counter, Geometry, VERSION};
 use kept_numbers::KeptNumbers;
 use overflow::Overflow;
-use restart::{Scratch, format, recover};
+use restart::{Scratch, format, read_tables};
 use sector_format::Head;
 use std::alloc::Global;
 use std::process::Abort;
@@ -162,7 +162,7 @@ fn opened(rt: &impl Abort, alloc: Global, chip: &mut MemChip) -> Result<Tables, 
     let mut status = Status::new(alloc, geometry)?;
     let mut counter = Counter::at(0);
     let mut kept = KeptNumbers::new(alloc)?;
-    let fits = recover(
+    let fits = read_tables(
         chip,
         &mut scratch,
         &mut directory,

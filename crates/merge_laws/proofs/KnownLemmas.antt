@@ -6,7 +6,7 @@ use Rattle.std.proofs.lemmas.List.{get_or-set_same, get_or-set_other, get_or_pas
 use Rattle.std.proofs.lemmas.List.Elements.{Contains-get_or}
 use Rattle.ipl_base.specs.Places.{KeepsUnits}
 use Rattle.ipl_meaning.specs.Mirrors.{AreApart, NoneIsLost}
-use Rattle.ipl_meaning.specs.Tables.{IsFree, Status, Tables, overflow_places, place_of}
+use Rattle.ipl_meaning.specs.Tables.{IsFree, StatusTable, Tables, overflow_places, place_of}
 use Rattle.ipl_meaning.specs.TableSteps.{IsMoved, taken, with_next, without_worn}
 use Rattle.unit_directory.proofs.AsideLemmas.{free_but, free_still}
 use Rattle.unit_directory.proofs.RetiredLemmas.{inserted_from, inserted_has, inserted_keeps}
@@ -159,7 +159,7 @@ module _ (places : ℕ) (t after : Tables) (u p used next : ℕ) (known : KnowsP
       set_has t.places.current u p q (subst (λ (l : List ℕ). Contains l q) moved.current has)
 
   status_then : after.status.place ≡ t.status.place
-  status_then = ap (λ (s : Status). s.place) moved.status
+  status_then = ap (λ (s : StatusTable). s.place) moved.status
 
   overflow_then : (q : ℕ) → Contains (overflow_places after) q → Contains (overflow_places t) q
   overflow_then q has = places_stay t.overflow.in_use after.overflow.in_use q moved.some has

@@ -6,7 +6,7 @@ use Rattle.ipl_format.specs.Record.{Record}
 use Rattle.ipl_meaning.specs.Chart.{Chart}
 use Rattle.ipl_meaning.specs.Steps.{SameBut}
 use Rattle.ipl_meaning.specs.Values.{after_records}
-use Rattle.unit_io.specs.Charts.{HasPage}
+use Rattle.unit_io.specs.Charts.{HasPageSectors}
 use Rattle.unit_io.specs.Faults.{HoldsPage}
 use Rattle.merge_laws.specs.Pages.{HasPages}
 
@@ -27,7 +27,7 @@ pub record Source : Type 0 where
   pub records : List Record
 
 -- the page read well there, and the slots have its values with the records applied
-pub record IsFrom (from : Source) (page : ℕ) (c : Chart) (new : Slots) : Type 0 where
+pub record IsMadeFrom (from : Source) (page : ℕ) (c : Chart) (new : Slots) : Type 0 where
   pub base : Slots
   pub held : HoldsPage c from.place from.version from.unit from.generation page
       (slice_index from.pieces page) base
@@ -37,14 +37,14 @@ pub record IsFrom (from : Source) (page : ℕ) (c : Chart) (new : Slots) : Type 
 pub record MovesPage (from : Source) (p generation page n : ℕ) (c y : Chart) : Type 0 where
   pub new : Slots
   pub fits : IsPage VERSION new
-  pub of : IsFrom from page c new
-  pub has : HasPage p from.unit generation page new n c y
+  pub of : IsMadeFrom from page c new
+  pub has : HasPageSectors p from.unit generation page new n c y
 
 -- the first n pages stand there
 pub record HasMoved (from : Source) (p generation : ℕ) (pieces : List ℕ) (n : ℕ)
     (c y : Chart) : Type 0 where
   pub slots : ℕ → Slots
-  pub of : (page : ℕ) → page < n → IsFrom from page c (slots page)
+  pub of : (page : ℕ) → page < n → IsMadeFrom from page c (slots page)
   pub has : HasPages p from.unit generation slots pieces n c y
 
 -- the header of the place is as it was, and elsewhere the chart is

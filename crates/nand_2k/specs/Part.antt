@@ -30,7 +30,7 @@ abbrev pub with_request : Event → Option Story → Option Story
 with_request e asked = option_map (λ story. e ∷ story) asked
 
 -- a program or an erase was asked for, and this is said of it
-pub record Asks (answer : Status) (e : Event) (old new : PartTold) : Type 0 where
+pub record AsksPart (answer : Status) (e : Event) (old new : PartTold) : Type 0 where
   pub blocks : new.blocks ≡ old.blocks
   pub status : new.status ≡ answer
   pub asked : new.asked ≡ with_request e old.asked
@@ -38,5 +38,5 @@ pub record Asks (answer : Status) (e : Event) (old new : PartTold) : Type 0 wher
 
 -- and an erase that failed left all as it was
 pub record AsksErase (answer : Status) (e : Event) (old new : PartTold) : Type 0 where
-  pub asks : Asks answer e old new
+  pub asks : AsksPart answer e old new
   pub failed : answer ≡ Failed → new.contents ≡ old.contents

@@ -34,7 +34,7 @@ impl Part for MemPart {
     ghost use Rattle.std.specs.Prelude.{◌<◌, ◌+◌, ◌*◌};
     ghost use Rattle.chip_trait.specs.declared.event.Event.TheVariants.{Program, Erase};
     ghost use Rattle.nand_2k.specs.declared.part.Status.TheVariants.{Passed};
-    ghost use Rattle.nand_2k.specs.Part.{IsPageOf, Asks, AsksErase};
+    ghost use Rattle.nand_2k.specs.Part.{IsPageOf, AsksPart, AsksErase};
     ghost use Rattle.nand_2k.specs.Views.{mem_told_of};
 
     ghost told = { mem_told_of };
@@ -64,7 +64,7 @@ impl Part for MemPart {
         requires block { block < (mem_told_of self.old).blocks }
         requires page { page < 64 }
         requires quarter { quarter < 4 }
-        ensures asks { Asks result (Program block (page * 4 + quarter) from.now)
+        ensures asks { AsksPart result (Program block (page * 4 + quarter) from.now)
             (mem_told_of self.old) (mem_told_of self.new) }
         ensures passed { result ≡ Passed }
     {

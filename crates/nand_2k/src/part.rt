@@ -2,7 +2,7 @@
 ghost use Rattle.std.specs.Prelude.{◌≡◌, ◌<◌, ◌+◌, ◌*◌};
 ghost use Rattle.chip_trait.specs.declared.event.Event.TheVariants.{Program, Erase};
 ghost use Rattle.nand_2k.specs.declared.part.Status.TheVariants.{Passed};
-ghost use Rattle.nand_2k.specs.Part.{PartTold, IsPageOf, Asks, AsksErase};
+ghost use Rattle.nand_2k.specs.Part.{PartTold, IsPageOf, AsksPart, AsksErase};
 
 /// What a part says of a call, once it is ready again.
 #[derive(Clone, Copy, Debug, PartialEq, Eq)]
@@ -42,7 +42,7 @@ pub trait Part {
         requires block { block < (told self.old).blocks }
         requires page { page < 64 }
         requires quarter { quarter < 4 }
-        ensures { Asks result (Program block (page * 4 + quarter) from.now)
+        ensures { AsksPart result (Program block (page * 4 + quarter) from.now)
             (told self.old) (told self.new) };
 
     /// Erases a block: each of its bytes is FF. `Failed` says that the block holds what it held, as

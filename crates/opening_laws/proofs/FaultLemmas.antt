@@ -15,7 +15,7 @@ use Rattle.opening_laws.specs.Payloads.{is_log_payload}
 use Rattle.opening_laws.specs.Chosen.{KeptHeader, Winner, header_at, units_told, current_at, status_at, units_at}
 use Rattle.opening_laws.specs.Live.{sectors, noted_at, live_at, Mark, mark_of, mark_at, marks}
 use Rattle.opening_laws.specs.Faults.{malformed, size_fault, not_formatted, keeps_units, status_geometry, says_other, other_geometry, missing, bad_header, header_fault, is_noted_payload, noted_test, noted_fault, first_noted_fault, clashes, shares_overflow, is_full, is_log_well, log_test, log_fault, first_log_fault, greatest_found, spent, overflows_found, no_spare, first_fault}
-use Rattle.opening_laws.specs.FaultLaws.{well_at, is_overflow_of, HasCause, NotFormattedIsExact, MissingIsLeast, BadLogsAreFirst}
+use Rattle.opening_laws.specs.FaultLaws.{well_at, is_overflow_of, HasLogCause, NotFormattedIsExact, MissingIsLeast, BadLogsAreFirst}
 use Rattle.opening_laws.proofs.FirstLemmas.{first_is_first}
 use Rattle.opening_laws.proofs.HeaderLemmas.{currents_are_chosen, none_is_current, statuses_are_chosen, none_is_status}
 use Rattle.opening_laws.proofs.BelowLemmas.{any_there, count_all}
@@ -251,7 +251,7 @@ well_here heads earlier k o sector is e =
     if_none (is_log_well (mark_of heads k sector) earlier sector.version sector.payload) (malformed (k / 256) (k % 256)) (ap (log_test heads earlier k) (sym is) ∙ e)
 
 -- why a log sector is not well
-cause_of : (c : Chart) (places k : ℕ) (sector : Sector) → well_at c places k sector ≡ false → HasCause c places k sector
+cause_of : (c : Chart) (places k : ℕ) (sector : Sector) → well_at c places k sector ≡ false → HasLogCause c places k sector
 cause_of c places k sector bad =
     let mark : Mark = mark_of (header_at c places) k sector in
     let earlier : List Mark = marks (header_at c places) (current_at c places) c k in

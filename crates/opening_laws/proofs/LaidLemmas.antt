@@ -11,7 +11,7 @@ use Rattle.ipl_base.specs.Places.{KeepsUnits}
 use Rattle.ipl_format.specs.Record.{SpellsLog}
 use Rattle.ipl_format.specs.Sector.{Sector}
 use Rattle.ipl_meaning.specs.Chart.{Chart, IsLive, IsOverflow}
-use Rattle.ipl_meaning.specs.Layout.{Entry, AllRise, IsEntry, IsListed, IsInOverflow, Layout, Laid, IsLiveIn}
+use Rattle.ipl_meaning.specs.Layout.{Entry, AllRise, IsEntry, IsHomeOrListed, IsInOverflow, Layout, Laid, IsLiveIn}
 use Rattle.ipl_meaning.specs.Found.{IsAbove}
 use Rattle.unit_layout.specs.Mark.{is_mark_payload}
 use Rattle.opening_laws.specs.First.{passes, count_below}
@@ -19,7 +19,7 @@ use Rattle.opening_laws.specs.Payloads.{said_in, is_data_payload, is_status_payl
 use Rattle.opening_laws.specs.Chosen.{KeptHeader, Winner, head_of, header_at, units_told, current_at, status_at, units_at, is_head_payload}
 use Rattle.opening_laws.specs.Live.{sectors, is_commit_sector, noted_at, is_overflow_place, live_at, Mark, mark_of, mark_at, marks}
 use Rattle.opening_laws.specs.Faults.{malformed, not_formatted, keeps_units, status_geometry, says_other, other_geometry, missing, bad_header, is_noted_payload, noted_test, noted_fault, clashes, shares_overflow, is_full, is_log_well, log_test, greatest_found, is_in, holds_live, overflows_found}
-use Rattle.opening_laws.specs.LiveLaws.{IsNoted}
+use Rattle.opening_laws.specs.LiveLaws.{IsStatusNote}
 use Rattle.opening_laws.specs.Laws.{IsByteChart, LaidHasNoFault, LaidHasNoShapeFault, LaidIsFineOrSpent, LaidSaysItsUnits}
 use Rattle.unit_layout.proofs.MarkLemmas.{mark_passes}
 use Rattle.opening_laws.proofs.PayloadLemmas.{spelled_data_passes, spelled_status_passes, spelled_commits_pass, spelled_logs_pass}
@@ -195,7 +195,7 @@ module _ (c : Chart) (places : ℕ) (it : Layout) (laid : Laid places c it) wher
         let unit : from.sector.unit ≡ sector.unit = ap (λ (m : Mark). m.unit) from.is ∙ eqb-true _ _ same.1 in
         let theirs = listed sector.unit j from.sector from.live unit in
         let log = (laid.each sector.unit mine.low).log in
-        let spot = All-contains (IsListed log.spots (it.units sector.unit).home) (it.units sector.unit).log theirs.entry log.listed theirs.has
+        let spot = All-contains (IsHomeOrListed log.spots (it.units sector.unit).home) (it.units sector.unit).log theirs.entry log.listed theirs.has
         (λ at_home. away sector.unit (j / 256) mine.low in_overflow (sym theirs.place ∙ at_home)) in
         spot_listed log.spots theirs.entry.place theirs.entry.number j spot (omega (arith, theirs.place, theirs.number))
 
@@ -265,7 +265,7 @@ module _ (c : Chart) (places : ℕ) (it : Layout) (laid : Laid places c it) wher
       (ap (λ (kind : ℕ). is_head_payload (it.units u).head.version places kind (it.units u).head.payload) (laid.each u (unit_low u low)).chosen.fits.0 ∙ (data_passes u low).0)
 
   -- a commit sector spells its numbers, and a close mark its units
-  noted_passes : (s : ℕ) (sector : Sector) → IsNoted c status s sector → is_noted_payload units sector ≡ true
+  noted_passes : (s : ℕ) (sector : Sector) → IsStatusNote c status s sector → is_noted_payload units sector ≡ true
   noted_passes s sector (inl commit) =
       let spelled = laid.commits.spelled s sector commit in
       cond-true (is_commit_sector sector) (is_commit_payload sector.payload) (is_mark_payload units sector.payload) (eq-eqb sector.kind 6 commit.kind)

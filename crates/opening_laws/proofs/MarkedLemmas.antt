@@ -9,7 +9,7 @@ use Rattle.ipl_meaning.specs.Layout.{Layout, Laid, IsMark}
 use Rattle.ipl_meaning.specs.Marks.{IsLastMark, IsMarkedUnit}
 use Rattle.opening_laws.specs.Chosen.{Winner, head_of, current_at, status_at}
 use Rattle.opening_laws.specs.Live.{sectors, is_close_mark, commit_at, noted_at}
-use Rattle.opening_laws.specs.LiveLaws.{IsNoted}
+use Rattle.opening_laws.specs.LiveLaws.{IsStatusNote}
 use Rattle.opening_laws.specs.Marked.{close_mark_at, later_close_mark, best_below, best_close_mark, serial_of, commit_serial, is_no_older, last_close_mark, is_marked_by}
 use Rattle.opening_laws.specs.MarkedLaws.{LastMarksAreTold, MarkedUnitsAreTold}
 use Rattle.opening_laws.proofs.FirstLemmas.{greatest_step}
@@ -143,7 +143,7 @@ close_from c status s mark low is =
     let parts = kept_from is_close_mark (noted_at c (Some status) s) mark is in
     go (note_from c status s mark low parts.0) (eqb-true mark.kind 7 parts.1)
   where
-    go : IsNoted c status s mark → mark.kind ≡ 7 → IsMark c status.place status.head.generation s mark
+    go : IsStatusNote c status s mark → mark.kind ≡ 7 → IsMark c status.place status.head.generation s mark
     go (inl commit) kind = absurd (omega (arith, kind, commit.kind))
     go (inr close) kind = close
 

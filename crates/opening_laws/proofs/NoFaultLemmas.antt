@@ -17,7 +17,7 @@ use Rattle.ipl_format.specs.Sector.{Sector}
 use Rattle.log_records.specs.Reading.{records_of}
 use Rattle.ipl_meaning.specs.Chart.{Chart, IsLive}
 use Rattle.ipl_meaning.specs.Last.{is_number}
-use Rattle.ipl_meaning.specs.Layout.{Entry, Shape, IsEntry, IsListed, IsInOverflow, IsLog, IsUnit, IsCommitSector, IsCommitted, IsStatus, IsMark, AreMarks, Layout, Laid}
+use Rattle.ipl_meaning.specs.Layout.{Entry, Shape, IsEntry, IsHomeOrListed, IsInOverflow, IsLog, IsUnit, IsCommitSector, IsCommitted, IsStatus, IsMark, AreMarks, Layout, Laid}
 use Rattle.unit_layout.specs.Mark.{is_mark_payload}
 use Rattle.opening_laws.specs.First.{passes, count_below, joined_below}
 use Rattle.opening_laws.specs.Payloads.{is_log_payload, pieces_in, numbers_in, is_data_payload, is_status_payload, is_commit_payload}
@@ -25,7 +25,7 @@ use Rattle.opening_laws.specs.Chosen.{KeptHeader, Winner, header_at, units_told,
 use Rattle.opening_laws.specs.Live.{is_at, sectors, is_commit_sector, commit_at, noted_at, is_overflow_place, live_at, Mark, mark_of, mark_at, marks}
 use Rattle.opening_laws.specs.Faults.{malformed, not_formatted, status_geometry, says_other, other_geometry, missing, bad_header, is_noted_payload, noted_fault, clashes, shares_overflow, is_full, is_log_well, log_test, is_in, holds_live, fault_for}
 use Rattle.opening_laws.specs.LaidOut.{numbers_of, committed_in, entry_of, entry_at, log_in, no_sector, place_of, sector_of, shape_in, layout_in}
-use Rattle.opening_laws.specs.LiveLaws.{IsNoted}
+use Rattle.opening_laws.specs.LiveLaws.{IsStatusNote}
 use Rattle.opening_laws.specs.Laws.{IsByteChart, NoFaultIsLaid, NoFaultIsFresh, NoShapeFaultIsLaid}
 use Rattle.unit_layout.proofs.MarkLemmas.{mark_told}
 use Rattle.opening_laws.proofs.PayloadLemmas.{data_payloads_are_spelled, data_says, status_payloads_are_spelled, status_says, commit_payloads_are_spelled, spelled_commits_pass, log_payloads_are_spelled}
@@ -227,7 +227,7 @@ module _ (c : Chart) (places : ℕ) (bytes : IsByteChart places c) (formed : IsF
     few zero low = omega arith
     few (suc k) low = few_of k (live k) refl (omega arith) (few k (omega arith))
 
-    listed_at : (k : ℕ) (e : Entry) → k < places * 256 → entry_at c places u k ≡ Some e → IsListed (map spot_of (passing overflow_at (places * 256))) winner.place e
+    listed_at : (k : ℕ) (e : Entry) → k < places * 256 → entry_at c places u k ≡ Some e → IsHomeOrListed (map spot_of (passing overflow_at (places * 256))) winner.place e
     listed_at k e low at away =
         let of_it = entry_from u k (live k) e at in
         let live_it = (entry_is k e low at).live in
@@ -243,7 +243,7 @@ module _ (c : Chart) (places : ℕ) (bytes : IsByteChart places c) (formed : IsF
       spots = map spot_of (passing overflow_at (places * 256));
       few = let count = few (places * 256) (omega arith) in
           omega (arith, length-map (passing overflow_at (places * 256)) spot_of, passing_count overflow_at (places * 256), count);
-      listed = sorted_all (entry_at c places u) (places * 256) (IsListed (map spot_of (passing overflow_at (places * 256))) winner.place) listed_at;
+      listed = sorted_all (entry_at c places u) (places * 256) (IsHomeOrListed (map spot_of (passing overflow_at (places * 256))) winner.place) listed_at;
     }
 
     -- an entry that doesn't stand at home stands on a overflow
@@ -315,7 +315,7 @@ module _ (c : Chart) (places : ℕ) (bytes : IsByteChart places c) (formed : IsF
     has_bytes s sector low here =
         bytes winner.place s sector (statuses_are_chosen c places winner is).counts.within low (inr (inl at_status)) here
 
-    note_passes : (s : ℕ) (sector : Sector) → s < 256 → IsNoted c winner s sector → is_noted_payload units sector ≡ true
+    note_passes : (s : ℕ) (sector : Sector) → s < 256 → IsStatusNote c winner s sector → is_noted_payload units sector ≡ true
     note_passes s sector low it =
         note_well units winner.place s (noted_at c (Some winner) s) sector (note_to c winner s sector it)
         (ap (λ (o : Option Winner). noted_fault units c o s) (sym is) ∙ formed.notes s (omega (arith, low, sectors_are)))

@@ -16,7 +16,7 @@ use Rattle.ipl_meaning.specs.Found.{IsLogSpot, IsRead, Mentions, IsFoundNumber}
 use Rattle.opening_laws.specs.Payloads.{numbers_in, is_commit_payload, is_log_payload, numbers_told, tid_of, tids_told}
 use Rattle.opening_laws.specs.Chosen.{KeptHeader, Winner, head_of, header_at, units_told, current_at, status_at, units_at}
 use Rattle.opening_laws.specs.Live.{sectors, is_commit_sector, noted_at, seen, seen_at}
-use Rattle.opening_laws.specs.LiveLaws.{IsNoted}
+use Rattle.opening_laws.specs.LiveLaws.{IsStatusNote}
 use Rattle.opening_laws.specs.Faults.{head_number, numbers_noted, noted_number, log_number, greatest_of_heads, greatest_of_notes, greatest_found}
 use Rattle.opening_laws.specs.Laws.{IsByteChart, GreatestIsAbove, GreatestIsFound}
 use Rattle.opening_laws.proofs.PayloadLemmas.{spelled_status_passes, spelled_commits_pass, spelled_logs_pass, log_payloads_are_spelled}
@@ -144,11 +144,11 @@ module _ (c : Chart) (places : ℕ) (it : Layout) (laid : Laid places c it) wher
       omega (arith, own, same, among, heads-le)
 
   -- a commit sector or a close mark is of a kind above the log sectors', and stands in its place
-  noted_kind : (s : ℕ) (sector : Sector) → IsNoted c status s sector → (6 ≤ sector.kind) × (s < 256)
+  noted_kind : (s : ℕ) (sector : Sector) → IsStatusNote c status s sector → (6 ≤ sector.kind) × (s < 256)
   noted_kind s sector (inl commit) = (omega (arith, commit.kind), commit.where_it_is.1)
   noted_kind s sector (inr close) = (omega (arith, close.kind), close.where_it_is.1)
 
-  note_below : (s : ℕ) (sector : Sector) (n : ℕ) → IsNoted c status s sector → Mentions sector n → n ≤ greatest_found c places
+  note_below : (s : ℕ) (sector : Sector) (n : ℕ) → IsStatusNote c status s sector → Mentions sector n → n ≤ greatest_found c places
   note_below s sector n is mentions =
       let (kind, low) = noted_kind s sector is in
       let kept : noted_at c (status_at c places) s ≡ Some sector = ap (λ (o : Option Winner). noted_at c o s) status_is ∙ note_to c status s sector is in
@@ -207,7 +207,7 @@ module _ (c : Chart) (places : ℕ) (it : Layout) (laid : Laid places c it) wher
       inr (subst (λ (h : KeptHeader). IsFoundNumber places c it (max h.generation h.serial)) there.kept (own_found p 0 there.sector read))
 
   -- a number of its payload is a commit sector's
-  told_found : (s : ℕ) (sector : Sector) (n : ℕ) → IsNoted c status s sector → Contains (numbers_noted sector) n → IsFoundNumber places c it n
+  told_found : (s : ℕ) (sector : Sector) (n : ℕ) → IsStatusNote c status s sector → Contains (numbers_noted sector) n → IsFoundNumber places c it n
   told_found s sector n (inl commit) told =
       let spelled = laid.commits.spelled s sector commit in
       let has : Contains spelled.0 n = subst (λ (xs : List ℕ). Contains xs n) (noted_has sector spelled.0 commit.kind spelled.1) told in

@@ -8,7 +8,7 @@ use Rattle.std.proofs.lemmas.Bool.{eq-eqb, and_parts, and_from}
 use Rattle.std.proofs.lemmas.Option.{same_Some}
 use Rattle.ipl_format.specs.Sector.{Sector}
 use Rattle.ipl_meaning.specs.Chart.{Chart, IsLive, IsOverflow}
-use Rattle.ipl_meaning.specs.Layout.{Layout, Laid, IsListed, IsLiveIn}
+use Rattle.ipl_meaning.specs.Layout.{Layout, Laid, IsHomeOrListed, IsLiveIn}
 use Rattle.ipl_meaning.specs.Found.{IsAbove}
 use Rattle.ipl_meaning.specs.Tables.{Tables, IsFree, spots_of, overflow_places, written_of, IsCountedClean}
 use Rattle.ipl_meaning.specs.Mirrors.{MirrorsMasks, MirrorsLogs, Mirrors, AreApart}
@@ -174,7 +174,7 @@ module _ (places : ℕ) (c : Chart) (t : Tables) (it : AreOpened places c t) (la
       let there = passes_from any (spots u k) is in
       let (away, sector, live) = spot_live u there.0.0 there.0.1 k low there.1 in
       let (e, has, place, number) = log.all there.0.0 there.0.1 sector live in
-      let spot = All-contains (IsListed log.spots (lay.units u).home) (lay.units u).log e log.listed has
+      let spot = All-contains (IsHomeOrListed log.spots (lay.units u).home) (lay.units u).log e log.listed has
       (λ at. away (sym place ∙ at)) in
       spot_listed log.spots e.place e.number k spot
       (omega (arith, place, number, number_from u there.0.0 there.0.1 k there.1))) in

@@ -55,8 +55,8 @@ pub record IsBeyond16 (c : Chart) (places k : ℕ) (sector : Sector) : Type 0 wh
   pub many : OVERFLOW_SECTORS ≤ count_below (is_overflow_of c places sector.unit) k
 
 -- why a live log sector is at fault: it holds no list of records, has a serial again, or is the 17th in overflow places
-abbrev pub HasCause : Chart → ℕ → ℕ → Sector → Type 0
-HasCause c places k sector =
+abbrev pub HasLogCause : Chart → ℕ → ℕ → Sector → Type 0
+HasLogCause c places k sector =
     (is_log_payload sector.version sector.payload ≡ false) ⊎ HasTwin c places k sector ⊎ IsBeyond16 c places k sector
 
 -- the live log sector at this number is at fault, and all before it are well
@@ -64,7 +64,7 @@ pub record IsFirstBadLog (c : Chart) (places k : ℕ) (fault : ImageFault) : Typ
   pub low : k < places * SECTORS
   pub sector : Sector
   pub live : live_in c places k ≡ Some sector
-  pub cause : HasCause c places k sector
+  pub cause : HasLogCause c places k sector
   pub named : fault ≡ malformed (k / SECTORS) (k % SECTORS)
   pub earlier : (j : ℕ) (other : Sector) → j < k → live_in c places j ≡ Some other
       → well_at c places j other ≡ true

@@ -24,20 +24,20 @@ CommitsAreFound =
     → IsCommitSector c status.place status.head.generation s sector → commit_at c (Some status) s ≡ Some sector
 
 -- it is a commit sector or a close mark of the status place, and of its header's generation
-abbrev pub IsNoted : Chart → Winner → ℕ → Sector → Type 0
-IsNoted c status s sector =
+abbrev pub IsStatusNote : Chart → Winner → ℕ → Sector → Type 0
+IsStatusNote c status s sector =
     IsCommitSector c status.place status.head.generation s sector ⊎ IsMark c status.place status.head.generation s sector
 
 -- what is noted is one
 abbrev pub FoundNotesCount : Type 0
 FoundNotesCount =
     (c : Chart) (status : Winner) (s : ℕ) (sector : Sector) → s < SECTORS → noted_at c (Some status) s ≡ Some sector
-    → IsNoted c status s sector
+    → IsStatusNote c status s sector
 
 -- each is noted
 abbrev pub NotesAreFound : Type 0
 NotesAreFound =
-    (c : Chart) (status : Winner) (s : ℕ) (sector : Sector) → IsNoted c status s sector → noted_at c (Some status) s ≡ Some sector
+    (c : Chart) (status : Winner) (s : ℕ) (sector : Sector) → IsStatusNote c status s sector → noted_at c (Some status) s ≡ Some sector
 
 -- of those that are noted, the commit sectors are those that count
 abbrev pub NotedCommitsCount : Type 0

@@ -4,7 +4,7 @@ use Rattle.ipl_base.specs.declared.limits.TheConstants.{SECTORS, FIRST_LOG_SECTO
 use Rattle.ipl_format.specs.Header.{erases_said}
 use Rattle.ipl_meaning.specs.Chart.{Chart}
 use Rattle.ipl_meaning.specs.Layout.{Laid}
-use Rattle.ipl_meaning.specs.Tables.{UNKNOWN_LOGS, MARKED_LOGS, Places, masks_in, IsFree, OverflowLists, Status, Tables}
+use Rattle.ipl_meaning.specs.Tables.{UNKNOWN_LOGS, MARKED_LOGS, Places, masks_in, IsFree, OverflowLists, StatusTable, Tables}
 use Rattle.ipl_meaning.specs.Mirrors.{Mirrors}
 use Rattle.opening_laws.specs.Chosen.{Winner, header_at, current_at, status_at, units_at}
 use Rattle.opening_laws.specs.Live.{marks_in}
@@ -78,7 +78,7 @@ pub record AreOpenedMasks (places : ℕ) (c : Chart) (directory : Places) (overf
       → slice_index_or overflow.masks u [] ≡ map (λ spot. mask_found c places u (spot.0 * SECTORS + spot.1)) (spots_in c places u)
 
 -- the status has the status place, its generation and its numbers, and no sector of it counts as clean
-pub record IsOpenedStatus (places : ℕ) (c : Chart) (status : Status) : Type 0 where
+pub record IsOpenedStatus (places : ℕ) (c : Chart) (status : StatusTable) : Type 0 where
   pub place_is : status.place ≡ (layout_in c places).status
   pub generation_is : status.generation ≡ (layout_in c places).head.generation
   pub numbers_are : (tid : ℕ)
@@ -86,7 +86,7 @@ pub record IsOpenedStatus (places : ℕ) (c : Chart) (status : Status) : Type 0 
   pub first_is : status.first ≡ SECTORS
 
 -- the tables with these parts, while no session is open
-abbrev pub tables_of : Places → OverflowLists → Status → ℕ → Tables
+abbrev pub tables_of : Places → OverflowLists → StatusTable → ℕ → Tables
 tables_of directory overflow status counter =
     record { places = directory; overflow = overflow; status = status; next = counter; active = [] }
 

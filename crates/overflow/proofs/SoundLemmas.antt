@@ -7,9 +7,9 @@ use Rattle.std.proofs.lemmas.List.Elements.{All-nil, All-push, All-get_or, All-s
 use Rattle.std.proofs.lemmas.List.Sums.{length-filter, count_by-le-length}
 use Rattle.ipl_base.specs.Places.{KeepsUnits}
 use Rattle.ipl_meaning.specs.Tables.{OverflowLists}
-use Rattle.overflow.specs.Lists.{IsSoundOverflow, IsFirst, AreFew, IsWithin, AreWithin, IsPlaceOf, clean_behind, after_add, after_drop, is_kept, spots_in, masks_at, without_unit}
+use Rattle.overflow.specs.Lists.{IsSoundOverflow, IsFirstClean, AreFew, IsSpotWithin, AreWithin, IsPlaceOf, clean_behind, after_add, after_drop, is_kept, spots_in, masks_at, without_unit}
 
-first_still : (p s : ℕ) → s < 256 → (o : ℕ × ℕ) → IsFirst o → IsFirst (clean_behind p s o)
+first_still : (p s : ℕ) → s < 256 → (o : ℕ × ℕ) → IsFirstClean o → IsFirstClean (clean_behind p s o)
 first_still p s low o (least, most) = elim (cases_Bool (eqb o.0 p)) [
   | inl here ↦ rw here (omega arith, omega arith)
   | inr apart ↦ rw apart (least, most)
@@ -31,11 +31,11 @@ sound_added it u p s mask sound unit few place low = record {
   few = All-set AreFew it.spots u (spots_in it u ++ (p, s) ∷ [])
       (omega (arith, length_push (spots_in it u) (p, s))) sound.few;
   two = omega (arith, sound.two, length-map it.in_use (clean_behind p s));
-  firsts = All-map IsFirst (clean_behind p s) it.in_use
-      (All-weaker IsFirst (λ o. IsFirst (clean_behind p s o))
+  firsts = All-map IsFirstClean (clean_behind p s) it.in_use
+      (All-weaker IsFirstClean (λ o. IsFirstClean (clean_behind p s o))
       (first_still p s low) it.in_use sound.firsts);
   within = All-set (AreWithin it.places) it.spots u (spots_in it u ++ (p, s) ∷ [])
-      (All-push (IsWithin it.places) (spots_in it u) (p, s)
+      (All-push (IsSpotWithin it.places) (spots_in it u) (p, s)
       (All-get_or (AreWithin it.places) it.spots u [] unit sound.within)
       (place, low)) sound.within;
   placed = All-map (IsPlaceOf it.places) (clean_behind p s) it.in_use
@@ -64,8 +64,8 @@ sound_dropped it u sound = record {
     length-filter (is_kept (without_unit it u)) it.in_use,
     count_by-le-length (is_kept (without_unit it u)) it.in_use,
   );
-  firsts = All-filter (is_kept (without_unit it u)) IsFirst it.in_use sound.firsts;
-  within = All-set (AreWithin it.places) it.spots u [] (All-nil (IsWithin it.places)) sound.within;
+  firsts = All-filter (is_kept (without_unit it u)) IsFirstClean it.in_use sound.firsts;
+  within = All-set (AreWithin it.places) it.spots u [] (All-nil (IsSpotWithin it.places)) sound.within;
   placed = All-filter (is_kept (without_unit it u)) (IsPlaceOf it.places) it.in_use sound.placed;
   lists = length-set it.masks u [] ∙ sound.lists ∙ sym (length-set it.spots u []);
   each = λ v. elim (cases_eq v u) [

@@ -5,7 +5,7 @@ use Rattle.std.proofs.lemmas.Bool.{cases_Bool, leb-true}
 use Rattle.std.proofs.lemmas.List.Elements.{All-contains}
 use Rattle.std.specs.Option.{option_map, IfSome, IfNone}
 use Rattle.ipl_base.specs.declared.spot.Spot.{Spot}
-use Rattle.overflow.specs.Lists.{pair_of, IsFirst, lower_spot, first_spot, IsPlaceOf}
+use Rattle.overflow.specs.Lists.{pair_of, IsFirstClean, lower_spot, first_spot, IsPlaceOf}
 use Rattle.overflow.specs.Laws.{OffersSpots}
 use Rattle.overflow.proofs.ElementLemmas.{contains_cons, contains_here, contains_there, contains_nil, leb_false}
 
@@ -165,13 +165,13 @@ spot_stands places None is = tt
 spot_stands places (Some spot) is =
     ((spots_are_clean_ones places).some spot.place spot.sector (sym is)).0
 
-pub spot_in_range : (places : List (ℕ × ℕ)) (r : Option Spot) → All IsFirst places
+pub spot_in_range : (places : List (ℕ × ℕ)) (r : Option Spot) → All IsFirstClean places
     → option_map pair_of r ≡ first_spot None places
     → IfSome r (λ spot. (1 ≤ spot.sector) × (spot.sector < 256))
 spot_in_range places None firsts is = tt
 spot_in_range places (Some spot) firsts is =
     let (there, low) = (spots_are_clean_ones places).some spot.place spot.sector (sym is) in
-    ((All-contains IsFirst places (spot.place, spot.sector) firsts there).0, low)
+    ((All-contains IsFirstClean places (spot.place, spot.sector) firsts there).0, low)
 
 pub spot_placed : (places : List (ℕ × ℕ)) (all : ℕ) (r : Option Spot) → All (IsPlaceOf all) places
     → option_map pair_of r ≡ first_spot None places

@@ -115,19 +115,19 @@ first_spot best (place ∷ places) = first_spot (lower_spot best place) places
 -- ---- what always holds
 
 -- a place's first clean sector is one of 1 to 255, or 256 where it has none
-abbrev pub IsFirst : ℕ × ℕ → Type 0
-IsFirst place = (1 ≤ place.1) × (place.1 ≤ SECTORS)
+abbrev pub IsFirstClean : ℕ × ℕ → Type 0
+IsFirstClean place = (1 ≤ place.1) × (place.1 ≤ SECTORS)
 
 -- a unit has so few spots
 abbrev pub AreFew : List (ℕ × ℕ) → Type 0
 AreFew spots = length spots ≤ OVERFLOW_SECTORS
 
 -- a sector of a chip with so many places
-abbrev pub IsWithin : ℕ → ℕ × ℕ → Type 0
-IsWithin places spot = (spot.0 < places) × (spot.1 < SECTORS)
+abbrev pub IsSpotWithin : ℕ → ℕ × ℕ → Type 0
+IsSpotWithin places spot = (spot.0 < places) × (spot.1 < SECTORS)
 
 abbrev pub AreWithin : ℕ → List (ℕ × ℕ) → Type 0
-AreWithin places spots = All (IsWithin places) spots
+AreWithin places spots = All (IsSpotWithin places) spots
 
 -- it is a place of a chip with so many
 abbrev pub IsPlaceOf : ℕ → ℕ × ℕ → Type 0
@@ -140,7 +140,7 @@ pub record IsSoundOverflow (it : OverflowLists) : Type 0 where
   pub units : KeepsUnits it.places (length it.spots)
   pub few : All AreFew it.spots
   pub two : length it.in_use ≤ OVERFLOW_PLACES
-  pub firsts : All IsFirst it.in_use
+  pub firsts : All IsFirstClean it.in_use
   pub within : All (AreWithin it.places) it.spots
   pub placed : All (IsPlaceOf it.places) it.in_use
   pub lists : length it.masks ≡ length it.spots

@@ -3,7 +3,7 @@ ghost use Rattle.std.specs.Prelude.{◌≡◌, ◌≤◌, ◌<◌, [], ℕ, map,
 ghost use Rattle.std.specs.Option.{option_map};
 ghost use Rattle.ipl_base.specs.declared.limits.TheConstants.{OVERFLOW_SECTORS};
 ghost use Rattle.ipl_base.specs.Places.{KeepsUnits};
-ghost use Rattle.overflow.specs.Room.{HasRoom};
+ghost use Rattle.ipl_base.specs.Places.{HasUnitRoom};
 ghost use Rattle.overflow.specs.Lists.{pair_of, spots_in, masks_at, empty_lists, with_place, after_add, after_drop, places_left, listed, first_spot, AreWithin, IsSoundOverflow};
 
 use crate::places::{PlaceInUse, first_spot, keep_named, places_left, use_spot};
@@ -31,7 +31,7 @@ impl Model for Overflow {
     ghost use Rattle.std.specs.Prelude.{map};
     ghost use Rattle.ipl_meaning.specs.Tables.{OverflowLists};
     ghost use Rattle.overflow.specs.Lists.{first_of, IsSoundOverflow};
-    ghost use Rattle.overflow.specs.Room.{HasRoom};
+    ghost use Rattle.ipl_base.specs.Places.{HasUnitRoom};
 
     ghost Value = { OverflowLists };
 
@@ -48,8 +48,8 @@ impl Model for Overflow {
       masks = o.masks.items;
       in_use = map first_of o.in_use.items;
     })
-        × HasRoom o.places o.spots
-        × HasRoom o.places o.masks };
+        × HasUnitRoom o.places o.spots
+        × HasUnitRoom o.places o.masks };
 }
 
 impl Overflow {

@@ -7,7 +7,7 @@ use Rattle.ipl_base.specs.declared.fault.ChipFault.{ChipFault}
 use Rattle.ipl_base.specs.declared.fault.ChipFault.TheVariants.{ReadFault, Stopped}
 use Rattle.ipl_base.specs.declared.limits.TheConstants.{PAGE_LEN}
 use Rattle.ipl_rules.specs.State.{State}
-use Rattle.record_locks.specs.Held.{Slots}
+use Rattle.record_locks.specs.Held.{SessionSlots}
 use Rattle.ipl_meaning.specs.Chart.{Chart, chart_of}
 use Rattle.ipl_meaning.specs.Layout.{Layout}
 use Rattle.ipl_meaning.specs.Stands.{Shows, Says, page_in}
@@ -29,13 +29,13 @@ use Rattle.store_laws.specs.Advances.{memory_of, MemoryFits, KeepsState}
 use Rattle.store_laws.proofs.KeepLemmas.{says_next}
 use Rattle.page_frames.specs.declared.pages.Pages.{Pages}
 use Rattle.page_frames.specs.Pages.{tables_in, frames_in}
-use Rattle.page_frames.specs.Complete.{Completes, CompletesLoad}
+use Rattle.page_frames.specs.Complete.{FailsByChip, CompletesLoad}
 
 -- ---- merges
 
 -- where a state is stood for, each unit may be merged
 all_mergeable : (places : ℕ) (c : Chart) (it : Layout) (t : Tables) (frames : Frames)
-    (slots : Slots) (state : State) (u : ℕ)
+    (slots : SessionSlots) (state : State) (u : ℕ)
     → MemoryFits places c it (memory_of t frames slots) state → Says places c it state.map
     → u < it.count → IsMergeable c it.committed t (it.units u) u
 all_mergeable places c it t frames slots state u fits says low =
@@ -44,14 +44,14 @@ all_mergeable places c it t frames slots state u fits says low =
 
 pub merge_completes : {T : Type 0} (u : ℕ) (pages : Pages) (result : Result T ChipFault)
     (told : Told) → u < length pages.parts.directory.current
-    → CompletesMerge told.places (tables_in pages) u result told → Completes pages result told
+    → CompletesMerge told.places (tables_in pages) u result told → FailsByChip pages result told
 merge_completes u pages result told low complete x there slots it state fits says =
     complete x there it fits.mirrors
     (all_mergeable told.places (chart_of x) it (tables_in pages) (frames_in pages) slots state u fits
     says (omega (arith, low, fits.mirrors.directory.units)))
 
 pub renew_completes : (pages : Pages) (result : Result (Unit {0}) ChipFault) (told : Told)
-    → CompletesRenewal told.places (tables_in pages) result told → Completes pages result told
+    → CompletesRenewal told.places (tables_in pages) result told → FailsByChip pages result told
 renew_completes pages result told complete x there slots it state fits says =
     complete x there it fits.mirrors (λ u low.
     all_mergeable told.places (chart_of x) it (tables_in pages) (frames_in pages) slots state u fits
@@ -94,7 +94,7 @@ load_completes t u page result told tells x there it now mirrors shows room =
 -- where a state is stood for, the page shows its values, and has room for what is pending
 pub loaded_completes : {T : Type 0} (u page : ℕ) (pages : Pages) (result : Result T ChipFault)
     (told : Told) → u < length pages.parts.directory.current → page < 15
-    → CompletesLoad (tables_in pages) u page result told → Completes pages result told
+    → CompletesLoad (tables_in pages) u page result told → FailsByChip pages result told
 loaded_completes u page pages result told low few complete x there slots it state fits says =
     let below : u < it.count = omega (arith, low, fits.mirrors.directory.units) in
     let values = page_in state.map u page in
@@ -110,7 +110,7 @@ pub completes_then : {T : Type 0} (first between : Pages) (result : Result T Chi
     (old mid : Told) → mid.places ≡ old.places
     → KeepsState {T = Unit {0}} {E = ChipFault} (tables_in first) (frames_in first) old (Ok tt)
     (tables_in between) (frames_in between) mid
-    → Completes between result mid → Completes first result old
+    → FailsByChip between result mid → FailsByChip first result old
 completes_then first between result old mid sized keeps complete x there slots it state fits says =
     let (y, now, had) = (keeps slots).fits old.places refl tt x there in
     let on = had it state fits in

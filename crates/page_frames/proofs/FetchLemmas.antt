@@ -7,7 +7,7 @@ use Rattle.frame_changes.specs.Views.{frames_of}
 use Rattle.page_frames.specs.declared.pages.Pages.{Pages}
 use Rattle.page_frames.specs.Filling.{with_pool, Fills}
 use Rattle.page_frames.specs.Frames.{Gives, MayGive, Victim}
-use Rattle.page_frames.specs.Pages.{frames_in, IsReady, Upholds}
+use Rattle.page_frames.specs.Pages.{frames_in, ArePagesReady, Upholds}
 use Rattle.page_frames.specs.Works.{WorksOn}
 use Rattle.page_frames.proofs.GiveLemmas.{gives_none, gives_upholds}
 use Rattle.page_frames.proofs.WorkLemmas.{works_then}
@@ -22,12 +22,12 @@ pub fetched : (victim : Victim) (u page : ℕ) (old mid new : Pages) (between : 
     (result : Result (Unit {0}) ChipFault) (before late after : Told)
     → Upholds 14 old before (Ok (tt {0})) mid late → AreOnce mid.pool.buffers
     → MayGive mid.pool victim → Gives victim mid.pool between → frames_in mid u page ≡ None
-    → (IsReady late.places (with_pool mid between) → frames_of between u page ≡ None
+    → (ArePagesReady late.places (with_pool mid between) → frames_of between u page ≡ None
     → Fills u page (with_pool mid between) late result new after)
     → IsFetched u page old (with_pool mid between) before late result new after
 fetched victim u page old mid new between result before late after did once may gives none fill =
     let made = with_pool mid between in
-    let ready = subst (λ (n : ℕ). IsReady n mid) (sym did.accounts.counts.places) did.ready in
+    let ready = subst (λ (n : ℕ). ArePagesReady n mid) (sym did.accounts.counts.places) did.ready in
     let given = gives_upholds victim mid between late once ready may gives in
     let fills = fill given.ready (gives_none victim mid.pool between u page gives none) in record {
       fills = fills;

@@ -1,13 +1,13 @@
 -- Frames after a page's records were written out, and after it left its frame.
 use Rattle.std.proofs.Common.{◌≡◌, ℕ, [], Option, Some, None, inl, inr, refl, sym, ◌∙◌, ap}
 use Rattle.std.specs.Option.{option_map, option_map_or}
-use Rattle.store_laws.specs.Frames.{Frame, Frames, logs_of, with_frame_at, with_frame_log}
+use Rattle.store_laws.specs.Frames.{PageFrame, Frames, logs_of, with_frame_at, with_frame_log}
 use Rattle.store_laws.proofs.MemoryLemmas.{cases_page}
 use Rattle.store_laws.proofs.SameLemmas.{frame_here, frame_other}
 use Rattle.page_frames.specs.Pages.{emptied}
 
 -- a page that has no frame, or no records there, has none to be written out
-nothing_out : (o : Option Frame) → option_map_or (λ f. f.log) o [] ≡ []
+nothing_out : (o : Option PageFrame) → option_map_or (λ f. f.log) o [] ≡ []
     → option_map (λ f. with_frame_log f []) o ≡ o
 nothing_out None none = refl
 nothing_out (Some f) none = ap (λ l. Some (with_frame_log f l)) (sym none)
@@ -35,11 +35,11 @@ emptied_none frames u page v q none = elim (cases_page u page v q) [
 ]
 
 -- a page that is in a frame then was in one
-pub emptied_there : (frames : Frames) (u page v q : ℕ) (f : Frame)
-    → emptied frames u page v q ≡ Some f → (g : Frame) × (frames v q ≡ Some g)
+pub emptied_there : (frames : Frames) (u page v q : ℕ) (f : PageFrame)
+    → emptied frames u page v q ≡ Some f → (g : PageFrame) × (frames v q ≡ Some g)
 emptied_there frames u page v q f there = by_frame (frames v q) refl
   where
-    by_frame : (o : Option Frame) → frames v q ≡ o → (g : Frame) × (frames v q ≡ Some g)
+    by_frame : (o : Option PageFrame) → frames v q ≡ o → (g : PageFrame) × (frames v q ≡ Some g)
     by_frame (Some g) is = (g, is)
     by_frame None none =
         absurd (let clash = sym (emptied_none frames u page v q none) ∙ there in cc clash)
@@ -47,10 +47,10 @@ emptied_there frames u page v q f there = by_frame (frames v q) refl
 -- the page itself has no records in memory
 pub emptied_out : (frames : Frames) (u page : ℕ) → logs_of (emptied frames u page) u page ≡ []
 emptied_out frames u page =
-    ap (λ (o : Option Frame). option_map_or (λ f. f.log) o [])
+    ap (λ (o : Option PageFrame). option_map_or (λ f. f.log) o [])
     (frame_here frames u page _ u page refl refl) ∙ no_records (frames u page)
   where
-    no_records : (o : Option Frame)
+    no_records : (o : Option PageFrame)
         → option_map_or (λ f. f.log) (option_map (λ f. with_frame_log f []) o) [] ≡ []
     no_records None = refl
     no_records (Some f) = refl

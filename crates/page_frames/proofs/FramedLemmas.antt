@@ -5,7 +5,7 @@ use Rattle.std.specs.Option.{option_map}
 use Rattle.ipl_base.specs.declared.fault.ChipFault.{ChipFault}
 use Rattle.buffer_pool.specs.Pools.{PoolView}
 use Rattle.frame_changes.specs.Views.{frames_of}
-use Rattle.store_laws.specs.Frames.{Frame, Frames, with_frame_at, with_frame_log}
+use Rattle.store_laws.specs.Frames.{PageFrame, Frames, with_frame_at, with_frame_log}
 use Rattle.store_laws.proofs.MemoryLemmas.{cases_page}
 use Rattle.store_laws.proofs.SameLemmas.{frame_here, frame_other}
 use Rattle.page_frames.specs.declared.pages.Pages.{Pages}
@@ -26,7 +26,7 @@ emptied_framed frames u page v q is = elim (cases_page u page v q) [
   | inr apart ↦ subst IsSome (sym (frame_other frames u page _ v q apart)) is
 ]
   where
-    mapped : (o : Option Frame) → IsSome o → IsSome (option_map (λ f. with_frame_log f []) o)
+    mapped : (o : Option PageFrame) → IsSome o → IsSome (option_map (λ f. with_frame_log f []) o)
     mapped None none = none
     mapped (Some f) some = refl
 
@@ -37,7 +37,7 @@ out_framed u page old new is v q there =
     (emptied_framed (frames_in old) u page v q there)
 
 -- a page that is in a frame then, whatever was there, and all others
-pub set_framed : (u page : ℕ) (f : Frame) (old new : Pages)
+pub set_framed : (u page : ℕ) (f : PageFrame) (old new : Pages)
     → frames_in new ≡ with_frame_at (frames_in old) u page (Some f) → KeepsFramed old new
 set_framed u page f old new is v q there =
     subst (λ (frames : Frames). IsSome (frames v q)) (sym is) (elim (cases_page u page v q) [

@@ -13,7 +13,7 @@ use Rattle.frame_changes.proofs.FrameLemmas.{brings_add_a_frame, evictions_take_
 use Rattle.store_laws.specs.Frames.{Frames, logs_of}
 use Rattle.page_frames.specs.declared.pages.Pages.{Pages}
 use Rattle.page_frames.specs.Frames.{FreesFrame, Gives, IsVictimFor, IsUnheld, MayGive, TakesFrame, Victim}
-use Rattle.page_frames.specs.Pages.{IsReady, Upholds}
+use Rattle.page_frames.specs.Pages.{ArePagesReady, Upholds}
 use Rattle.page_frames.specs.Filling.{with_pool}
 use Rattle.page_frames.proofs.FrameLemmas.{evicted_none}
 use Rattle.page_frames.proofs.HeldLemmas.{absent_in, unheld_frame, unheld_log, unheld_may_leave}
@@ -81,7 +81,7 @@ none_between old new u page v q did none =
 
 -- the page that gives its frame leaves each state as it was
 pub gives_upholds : (victim : Victim) (mid : Pages) (between : PoolView) (t : Told)
-    → AreOnce mid.pool.buffers → IsReady t.places mid → MayGive mid.pool victim
+    → AreOnce mid.pool.buffers → ArePagesReady t.places mid → MayGive mid.pool victim
     → Gives victim mid.pool between
     → Upholds {T = Unit {0}} 0 mid t (Ok tt) (with_pool mid between) t
 gives_upholds None mid between t once ready may gives =

@@ -11,7 +11,7 @@ use Rattle.buffer_pool.specs.Laws.{buffer_of}
 use Rattle.buffer_pool.proofs.BufferLemmas.{buffers_are_told}
 use Rattle.buffer_pool.proofs.CallerLemmas.{may_leave}
 use Rattle.buffer_pool.proofs.IndexLemmas.{some_is}
-use Rattle.store_laws.specs.Frames.{Frame, Frames, logs_of, with_frame_at}
+use Rattle.store_laws.specs.Frames.{PageFrame, Frames, logs_of, with_frame_at}
 use Rattle.frame_changes.specs.Views.{frame_in, frames_of}
 use Rattle.frame_changes.proofs.FrameLemmas.{frame_here, frame_found}
 use Rattle.page_frames.specs.Frames.{IsUnheld}
@@ -64,7 +64,7 @@ unheld_frame p u page once is = frame_found p u page is.key once (unheld_page p 
 pub unheld_log : (p : PoolView) (u page : ℕ) → AreOnce p.buffers → (is : IsUnheld p u page)
     → logs_of (frames_of p) u page ≡ is.buffer.log
 unheld_log p u page once is =
-    ap (λ (o : Option Frame). option_map_or (λ f. f.log) o []) (unheld_frame p u page once is)
+    ap (λ (o : Option PageFrame). option_map_or (λ f. f.log) o []) (unheld_frame p u page once is)
 
 -- where it has none it may leave
 pub unheld_may_leave : (p : PoolView) (u page : ℕ) → AreOnce p.buffers → IsUnheld p u page
@@ -76,7 +76,7 @@ unheld_may_leave p u page once is empty =
 -- ---- what calls keep
 
 -- a page that nothing held isn't held after a call that keeps the pins and its frame
-pub still_unheld : (old new : PoolView) (u page : ℕ) (f : Frame) → AreOnce old.buffers
+pub still_unheld : (old new : PoolView) (u page : ℕ) (f : PageFrame) → AreOnce old.buffers
     → AreOnce new.buffers → KeepsPins old new → frames_of new u page ≡ Some f → IsUnheld old u page
     → IsUnheld new u page
 still_unheld old new u page f once then_once pins there is =
@@ -119,12 +119,12 @@ pub has_log : (p : PoolView) (u page key : ℕ) → AreOnce p.buffers
     → (has : HasPage p.buffers u page key) → logs_of (frames_of p) u page ≡ []
     → has.buffer.log ≡ []
 has_log p u page key once has empty =
-    sym (ap (λ (o : Option Frame). option_map_or (λ f. f.log) o [])
+    sym (ap (λ (o : Option PageFrame). option_map_or (λ f. f.log) o [])
     (frame_found p u page key once has)) ∙ empty
 
 -- after it was taken for a page that was in none, the frame has no records
-pub taken_log : (old : Frames) (u page : ℕ) (f : Frame) → f.log ≡ []
+pub taken_log : (old : Frames) (u page : ℕ) (f : PageFrame) → f.log ≡ []
     → logs_of (with_frame_at old u page (Some f)) u page ≡ []
 taken_log old u page f empty =
-    ap (λ (o : Option Frame). option_map_or (λ g. g.log) o []) (frame_here old u page (Some f))
+    ap (λ (o : Option PageFrame). option_map_or (λ g. g.log) o []) (frame_here old u page (Some f))
     ∙ empty

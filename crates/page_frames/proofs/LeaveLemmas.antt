@@ -7,7 +7,7 @@ use Rattle.ipl_base.specs.declared.fault.ChipFault.{ChipFault}
 use Rattle.buffer_pool.specs.Pools.{PoolView, AreOnce}
 use Rattle.buffer_pool.specs.Holding.{KeepsPins}
 use Rattle.buffer_pool.proofs.HoldingLemmas.{rest_stays}
-use Rattle.store_laws.specs.Frames.{Frame, Frames, with_frame_at, with_frame_log}
+use Rattle.store_laws.specs.Frames.{PageFrame, Frames, with_frame_at, with_frame_log}
 use Rattle.store_laws.proofs.MemoryLemmas.{cases_page}
 use Rattle.store_laws.proofs.SameLemmas.{frame_here, frame_other}
 use Rattle.step_laws.specs.Steps.{Tidies}
@@ -20,11 +20,11 @@ use Rattle.store_laws.proofs.KeeperLemmas.{evictions_keep_states}
 use Rattle.frame_changes.specs.Views.{frame_in, frames_of}
 use Rattle.page_frames.specs.declared.pages.Pages.{Pages}
 use Rattle.page_frames.specs.Frames.{IsUnheld}
-use Rattle.page_frames.specs.Pages.{tables_in, frames_in, IsReady, Upholds, emptied}
+use Rattle.page_frames.specs.Pages.{tables_in, frames_in, ArePagesReady, Upholds, emptied}
 use Rattle.page_frames.proofs.HeldLemmas.{unheld_frame, still_unheld}
 
 -- the frame of the page has no records then
-emptied_frame : (frames : Frames) (u page : ℕ) (f : Frame) → frames u page ≡ Some f
+emptied_frame : (frames : Frames) (u page : ℕ) (f : PageFrame) → frames u page ≡ Some f
     → emptied frames u page u page ≡ Some (with_frame_log f [])
 emptied_frame frames u page f there =
     frame_here frames u page _ u page refl refl ∙ ap (option_map (λ g. with_frame_log g [])) there
@@ -40,7 +40,7 @@ leaves_unheld old new u page once then_once pins is unheld =
     (unheld_frame old u page once unheld)) unheld
 
 -- it leaves
-pub gone_upholds : (u page : ℕ) (f : Frame) (old new : Pages) (t : Told) → IsReady t.places old
+pub gone_upholds : (u page : ℕ) (f : PageFrame) (old new : Pages) (t : Told) → ArePagesReady t.places old
     → new.parts ≡ old.parts → frames_in old u page ≡ Some f → f.log ≡ []
     → frames_in new ≡ with_frame_at (frames_in old) u page None → KeepsPins old.pool new.pool
     → Upholds {T = Unit {0}} 0 old t (Ok tt) new t
@@ -70,7 +70,7 @@ gone_upholds u page f old new t ready same there empty is pins = record {
   accounts = record { counts = counts_none t; cause = tt };
 }
   where
-    left_there : (v q : ℕ) (g : Frame) → with_frame_at (frames_in old) u page None v q ≡ Some g
+    left_there : (v q : ℕ) (g : PageFrame) → with_frame_at (frames_in old) u page None v q ≡ Some g
         → frames_in old v q ≡ Some g
     left_there v q g found = elim (cases_page u page v q) [
       | inl here ↦ absurd (let clash = sym (frame_here (frames_in old) u page None v q here.0 here.1)

@@ -16,7 +16,7 @@ use Rattle.ipl_meaning.specs.Values.{counts_for}
 use Rattle.number_set.specs.Numbers.{among}
 use Rattle.page_ops.specs.Frames.{FrameView, values_in, pending_in}
 use Rattle.page_rebuild.specs.Loaded.{IsLoaded, IsLoadCause, IsLoadRead}
-use Rattle.store_laws.specs.Frames.{Frame, Frames, logs_of, with_frame_at, IsFrameOf, pending_of}
+use Rattle.store_laws.specs.Frames.{PageFrame, Frames, logs_of, with_frame_at, IsFrameOf, pending_of}
 use Rattle.place_taking.specs.Spending.{is_worn_out, tells_worn}
 use Rattle.place_taking.specs.Wear.{TellsOfWear}
 use Rattle.place_taking.proofs.WearLemmas.{alike_tables, reads_wear_at}
@@ -38,7 +38,7 @@ use Rattle.store_laws.proofs.MemoryLemmas.{cases_page}
 use Rattle.store_laws.proofs.SameLemmas.{frame_other}
 use Rattle.page_frames.specs.declared.pages.Pages.{Pages}
 use Rattle.page_frames.specs.Asks.{AsksToLoad}
-use Rattle.page_frames.specs.Pages.{tables_in, frames_in, IsReady, Upholds, PageCause}
+use Rattle.page_frames.specs.Pages.{tables_in, frames_in, ArePagesReady, Upholds, PageCause}
 
 -- why it isn't loaded
 load_cause : (after : Places) (home : ℕ) (spots : List (ℕ × ℕ)) (page : ℕ) → page < 15
@@ -98,7 +98,7 @@ loaded_frame c it frames active u page view none is = record {
 -- ---- the frames
 
 -- a frame was taken, and written
-pub loaded_then : (frames middle later : Frames) (u page : ℕ) (empty f : Frame)
+pub loaded_then : (frames middle later : Frames) (u page : ℕ) (empty f : PageFrame)
     → middle ≡ with_frame_at frames u page (Some empty)
     → later ≡ with_frame_at middle u page (Some f) → later ≡ with_frame_at frames u page (Some f)
 loaded_then frames middle later u page empty f one two =
@@ -106,7 +106,7 @@ loaded_then frames middle later u page empty f one two =
     ∙ put_again frames u page (Some empty) (Some f))
 
 -- and freed again
-pub freed_then : (frames later last : Frames) (u page : ℕ) (f : Frame) → frames u page ≡ None
+pub freed_then : (frames later last : Frames) (u page : ℕ) (f : PageFrame) → frames u page ≡ None
     → later ≡ with_frame_at frames u page (Some f) → last ≡ with_frame_at later u page None
     → last ≡ frames
 freed_then frames later last u page f none one two =
@@ -126,13 +126,13 @@ load_keeps t frames u page view old new low few none reads loaded =
     loads_anywhere_keep_states t frames u page (frame_of view []) old new reads low few none refl
     (λ x told it mirrors.
     loaded_frame (chart_of x) it frames t.active u page view
-    (ap (λ (o : Option Frame). option_map_or (λ f. f.log) o []) none) (loaded x told it mirrors))
+    (ap (λ (o : Option PageFrame). option_map_or (λ f. f.log) o []) none) (loaded x told it mirrors))
 
 -- calls that leave the tables
 frames_uphold : (old new : Pages) (later : Frames) (result : Result (Unit {0}) ChipFault)
-    (before after : Told) → IsReady before.places old → tables_in new ≡ tables_in old
+    (before after : Told) → ArePagesReady before.places old → tables_in new ≡ tables_in old
     → frames_in new ≡ later
-    → ((v q : ℕ) (g : Frame) → later v q ≡ Some g → v < length old.parts.directory.current)
+    → ((v q : ℕ) (g : PageFrame) → later v q ≡ Some g → v < length old.parts.directory.current)
     → KeepsState (tables_in old) (frames_in old) before result (tables_in old) later after
     → ReadsAt Anywhere before after → is_worn_out result ≡ false
     → KeepsPins old.pool new.pool → Accounts (PageCause new.parts.directory) result before after
@@ -165,7 +165,7 @@ frames_uphold old new later result before after ready tables is within keeps rea
 
 -- done
 pub load_upholds : (u page : ℕ) (view : FrameView) (old new : Pages) (before after : Told)
-    → IsReady before.places old → u < length old.parts.directory.current → page < 15
+    → ArePagesReady before.places old → u < length old.parts.directory.current → page < 15
     → frames_in old u page ≡ None → tables_in new ≡ tables_in old
     → frames_in new ≡ with_frame_at (frames_in old) u page (Some (frame_of view []))
     → ReadsAt Anywhere before after
@@ -178,7 +178,7 @@ load_upholds u page view old new before after ready low few none tables is reads
     (load_keeps (tables_in old) (frames_in old) u page view before after low few none reads loaded)
     reads refl pins (record { counts = reads.counts; cause = tt })
   where
-    within : (v q : ℕ) (g : Frame)
+    within : (v q : ℕ) (g : PageFrame)
         → with_frame_at (frames_in old) u page (Some (frame_of view [])) v q ≡ Some g
         → v < length old.parts.directory.current
     within v q g there = elim (cases_page u page v q) [
@@ -188,7 +188,7 @@ load_upholds u page view old new before after ready low few none tables is reads
     ]
 
 -- not done
-pub fail_upholds : (old new : Pages) (e : ChipFault) (before after : Told) → IsReady before.places old
+pub fail_upholds : (old new : Pages) (e : ChipFault) (before after : Told) → ArePagesReady before.places old
     → tables_in new ≡ tables_in old → frames_in new ≡ frames_in old → ReadsAt Anywhere before after
     → tells_worn e ≡ false → KeepsPins old.pool new.pool
     → RenewCause new.parts.directory e before after

@@ -9,7 +9,7 @@ use Rattle.ipl_base.specs.declared.fault.ChipFault.{ChipFault}
 use Rattle.place_taking.specs.Spending.{is_worn_out, tells_worn}
 use Rattle.buffer_pool.specs.Pools.{PoolView, IsThere, AreOnce}
 use Rattle.buffer_pool.specs.Index.{page_number}
-use Rattle.store_laws.specs.Frames.{Frame, Frames, logs_of}
+use Rattle.store_laws.specs.Frames.{PageFrame, Frames, logs_of}
 use Rattle.store_laws.proofs.MemoryLemmas.{cases_page}
 use Rattle.store_laws.proofs.SameLemmas.{frame_other}
 use Rattle.store_laws.specs.Numbers.{IsOut}
@@ -20,7 +20,7 @@ use Rattle.frame_changes.specs.Views.{frame_in, frames_of}
 use Rattle.frame_changes.proofs.FrameLemmas.{frame_found}
 use Rattle.page_frames.proofs.HeldLemmas.{none_some}
 use Rattle.page_frames.specs.declared.pages.Pages.{Pages}
-use Rattle.page_frames.specs.Pages.{frames_in, KeepsFramed, IsReady, Upholds, emptied}
+use Rattle.page_frames.specs.Pages.{frames_in, KeepsFramed, ArePagesReady, Upholds, emptied}
 use Rattle.page_frames.specs.Asks.{AsksToWriteOut, AsksToWriteNamesOut}
 use Rattle.page_frames.specs.Changed.{is_home, is_on_page, changed_pages, HasHomesFor}
 use Rattle.page_frames.proofs.HomesLemmas.{SpendsHome, WroteAtHome, none_at_home, home_all, passed_at_home, written_at_home}
@@ -49,7 +49,7 @@ pub record IsOutBelow (n : ℕ) (names : List ℕ) (first : Pages) (before : Tol
       first.parts.directory now.parts.directory false before after
   pub homes : HasHomesFor first names → WroteAtHome n names first before now after
 
-pub none_out : (names : List ℕ) (first : Pages) (before : Told) → IsReady before.places first
+pub none_out : (names : List ℕ) (first : Pages) (before : Told) → ArePagesReady before.places first
     → IsOutBelow 0 names first before first before
 none_out names first before ready = record {
   upholds = upholds_none 0 first before ready;
@@ -84,7 +84,7 @@ still_out frames u page v q none = elim (cases_page u page v q) [
       ap (λ w. logs_of (emptied frames u page) w q) here.0
       ∙ ap (logs_of (emptied frames u page) u) here.1 in
       same ∙ emptied_out frames u page
-  | inr apart ↦ ap (λ (o : Option Frame). option_map_or (λ f. f.log) o [])
+  | inr apart ↦ ap (λ (o : Option PageFrame). option_map_or (λ f. f.log) o [])
       (frame_other frames u page _ v q apart) ∙ none
 ]
 
@@ -240,14 +240,14 @@ framed_unit most first now before after u page did once there =
 -- so it is of those that they had at first
 pub framed_low : (most : ℕ) (first now : Pages) (before after : Told) (u page : ℕ)
     → Upholds {T = Unit {0}} most first before (Ok tt) now after → AreOnce now.pool.buffers
-    → IsThere now.pool.buffers u page → IsReady before.places first
+    → IsThere now.pool.buffers u page → ArePagesReady before.places first
     → u < length first.parts.directory.current
 framed_low most first now before after u page did once there ready =
     let low = framed_unit most first now before after u page did once there in
     omega (arith, low, did.units)
 
 -- one that has a frame is in a buffer
-framed_there : (p : PoolView) (u page : ℕ) (f : Frame) → AreOnce p.buffers
+framed_there : (p : PoolView) (u page : ℕ) (f : PageFrame) → AreOnce p.buffers
     → frames_of p u page ≡ Some f → IsThere p.buffers u page
 framed_there p u page f once there = by_buffer (buffer_of p.buffers u page) refl
   where
@@ -291,10 +291,10 @@ pub names_out : (count : ℕ) (names : List ℕ) (first : Pages) (before : Told)
 names_out count names first before now after all once listed done i d within =
     by_frame (frames_in now (home_of (get_or names i d)).unit (home_of (get_or names i d)).page) refl
   where
-    by_frame : (o : Option Frame)
+    by_frame : (o : Option PageFrame)
         → frames_in now (home_of (get_or names i d)).unit (home_of (get_or names i d)).page ≡ o
         → IsOut (frames_in now) (get_or names i d)
-    by_frame None none = ap (λ (o : Option Frame). option_map_or (λ f. f.log) o []) none
+    by_frame None none = ap (λ (o : Option PageFrame). option_map_or (λ f. f.log) o []) none
     by_frame (Some f) there =
         let n : ℕ = get_or names i d in
         let is = framed_there now.pool (home_of n).unit (home_of n).page f once there in

@@ -12,7 +12,7 @@ use Rattle.selective_merge.specs.Moving.{Holds}
 use Rattle.status_renewal.specs.Passes.{RenewCause}
 use Rattle.buffer_pool.specs.Holding.{KeepsPins}
 use Rattle.buffer_pool.proofs.HoldingLemmas.{rest_stays}
-use Rattle.store_laws.specs.Frames.{Frame, Frames, logs_of, with_frame_at, with_frame_log}
+use Rattle.store_laws.specs.Frames.{PageFrame, Frames, logs_of, with_frame_at, with_frame_log}
 use Rattle.step_laws.specs.Steps.{Tidies}
 use Rattle.place_taking.specs.Spending.{tells_worn}
 use Rattle.place_taking.specs.Wear.{TellsOfWear}
@@ -23,7 +23,7 @@ use Rattle.page_writing.specs.Writing.{WritesOut, WritesOutInSteps}
 use Rattle.page_writing.proofs.KeepLemmas.{writings_keep_states}
 use Rattle.frame_changes.specs.Changes.{FrameChanges, IsClearedFrame}
 use Rattle.page_frames.specs.declared.pages.Pages.{Pages}
-use Rattle.page_frames.specs.Pages.{tables_in, frames_in, IsReady, Upholds, PageCause, emptied, frames_after}
+use Rattle.page_frames.specs.Pages.{tables_in, frames_in, ArePagesReady, Upholds, PageCause, emptied, frames_after}
 use Rattle.page_frames.proofs.FrameLemmas.{emptied_there}
 use Rattle.page_frames.proofs.HeldLemmas.{some_of}
 use Rattle.page_frames.proofs.TableLemmas.{tables_uphold}
@@ -47,7 +47,7 @@ out_accounts after t u (Err e) old new did =
 
 -- ---- the state is kept
 
-frames_then : {T E : Type 0} (result : Result T E) (frames : Frames) (u page : ℕ) (f : Frame)
+frames_then : {T E : Type 0} (result : Result T E) (frames : Frames) (u page : ℕ) (f : PageFrame)
     → frames u page ≡ Some f → frames_out result frames u page f ≡ frames_after result frames u page
 frames_then (Ok v) frames u page f there =
     ap (with_frame_at frames u page) (sym (ap (option_map (λ g. with_frame_log g [])) there))
@@ -65,13 +65,13 @@ out_keeps t after frames u page payload old new result there spelled tells steps
     subst (λ (later : Frames). KeepsState t frames old result after later new)
     (frames_then result frames u page f is)
     (writings_keep_states t after frames u page f payload old new result is
-    (subst (Spells payload) (ap (λ (o : Option Frame). option_map_or (λ g. g.log) o []) is) spelled)
+    (subst (Spells payload) (ap (λ (o : Option PageFrame). option_map_or (λ g. g.log) o []) is) spelled)
     tells steps accounts.cause)
 
 -- ---- not done
 
 pub out_failed : (u page : ℕ) (payload : Versioned) (old new : Pages) (e : ChipFault)
-    (before after : Told) → IsReady before.places old → new.pool ≡ old.pool
+    (before after : Told) → ArePagesReady before.places old → new.pool ≡ old.pool
     → IsSome (frames_in old u page) → Spells payload (logs_of (frames_in old) u page)
     → WritesOut before.places u payload (tables_in old) (tables_in new) before (Err e) after
     → WritesOutInSteps before.places payload (tables_in old) (tables_in new) before (Err e) after
@@ -98,7 +98,7 @@ cleared_frames old new u page did =
     ∙ sym (ap (option_map (λ g. with_frame_log g [])) did.there))
 
 pub out_done : (u page : ℕ) (payload : Versioned) (old new : Pages) (before after : Told)
-    → IsReady before.places old → Spells payload (logs_of (frames_in old) u page)
+    → ArePagesReady before.places old → Spells payload (logs_of (frames_in old) u page)
     → FrameChanges IsClearedFrame (frames_in old) (frames_in new) u page → KeepsPins old.pool new.pool
     → WritesOut before.places u payload (tables_in old) (tables_in new) before (Ok tt) after
     → WritesOutInSteps before.places payload (tables_in old) (tables_in new) before (Ok tt) after

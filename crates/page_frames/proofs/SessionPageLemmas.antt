@@ -2,10 +2,10 @@
 use Rattle.std.proofs.Common.{◌≡◌, ℕ, ◌+◌, ◌<◌, ◌||◌, Bool, true, false, List, drop, length, get_or, ◌∙◌, ap}
 use Rattle.std.proofs.lemmas.List.{drop_more}
 use Rattle.std.proofs.lemmas.List.Folds.{list_any-append}
-use Rattle.record_locks.specs.Held.{Slots, written_of, written_by}
+use Rattle.record_locks.specs.Held.{SessionSlots, written_of, written_by}
 use Rattle.page_frames.specs.Changed.{is_home, is_on_page}
 
-module _ (slots : Slots) (ss : List ℕ) (i u page : ℕ) (within : i < length ss) where
+module _ (slots : SessionSlots) (ss : List ℕ) (i u page : ℕ) (within : i < length ss) where
   -- the names of the next session, and then those of the others
   next_parts : is_on_page (written_by slots (drop i ss)) u page
       ≡ (is_on_page (written_of slots (get_or ss i 0)) u page

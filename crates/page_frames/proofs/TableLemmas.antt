@@ -7,7 +7,7 @@ use Rattle.ipl_base.specs.declared.fault.ChipFault.{ChipFault}
 use Rattle.ipl_base.specs.declared.fault.ChipFault.TheVariants.{Stopped}
 use Rattle.ipl_meaning.specs.Chart.{chart_of}
 use Rattle.ipl_meaning.specs.Rests.{now, EachStands, StoryRests}
-use Rattle.ipl_meaning.specs.Tables.{Places, Status, Tables}
+use Rattle.ipl_meaning.specs.Tables.{Places, StatusTable, Tables}
 use Rattle.unit_io.specs.Accounts.{Accounts}
 use Rattle.unit_io.specs.Charts.{Charts}
 use Rattle.unit_io.specs.Costs.{Spends}
@@ -37,7 +37,7 @@ use Rattle.status_renewal.proofs.CauseLemmas.{merge_accounts}
 use Rattle.frame_changes.specs.Views.{frames_of}
 use Rattle.page_frames.proofs.RenewLemmas.{renew_keeps}
 use Rattle.page_frames.specs.declared.pages.Pages.{Pages}
-use Rattle.page_frames.specs.Pages.{tables_in, frames_in, IsReady, Upholds, PageCause}
+use Rattle.page_frames.specs.Pages.{tables_in, frames_in, ArePagesReady, Upholds, PageCause}
 
 -- a merge that failed and left the write count as it was wasn't stopped
 unstopped : (then : Places) (place : ℕ) (spots : List (ℕ × ℕ)) (e : ChipFault) (old new : Told)
@@ -98,7 +98,7 @@ pub merge_wears : (places place : ℕ) (t after : Tables) (result : Result (Unit
     → TellsOfWear t after (is_ok result) (is_worn_out result) old new
 merge_wears places place t after result old new known holds spares costs =
     spared_places_wear t after (is_ok result) (is_worn_out result) old new
-    (known.used t.status.place (inr (inl refl))) (ap (λ (it : Status). it.place) holds.status)
+    (known.used t.status.place (inr (inl refl))) (ap (λ (it : StatusTable). it.place) holds.status)
     (spends_weaker (ErasesFor t.places after.places 3 place (is_ok result) (is_worn_out result))
     (LeavesPlaces t.places after.places (is_worn_out result)) old new
     (λ added does. erases_leave t.places after.places 3 (is_worn_out result) added
@@ -113,7 +113,7 @@ merge_wears places place t after result old new known holds spares costs =
 
 -- they are ready still, in the same frames
 pub tables_uphold : (most : ℕ) (old new : Pages) (result : Result (Unit {0}) ChipFault)
-    (before after : Told) → IsReady before.places old → new.pool ≡ old.pool
+    (before after : Told) → ArePagesReady before.places old → new.pool ≡ old.pool
     → KnowsPlaces before.places (tables_in new)
     → length new.parts.directory.current ≡ length old.parts.directory.current
     → new.parts.active ≡ old.parts.active
@@ -147,7 +147,7 @@ tables_uphold most old new result before after ready same known units active kee
 
 -- a merge
 pub merge_upholds : (u : ℕ) (old new : Pages) (result : Result (Unit {0}) ChipFault)
-    (before after : Told) → IsReady before.places old → new.pool ≡ old.pool
+    (before after : Told) → ArePagesReady before.places old → new.pool ≡ old.pool
     → Holds before.places (tables_in old) (tables_in new)
     → ChartsThroughout (λ done. Merges before.places u (tables_in old) (tables_in new))
     (StaysMirrored before.places (tables_in old) (tables_in new)) result before after
@@ -167,7 +167,7 @@ merge_upholds u old new result before after ready same holds tells steps tidy we
 
 -- a renewal
 pub renew_upholds : (old new : Pages) (result : Result (Unit {0}) ChipFault) (before after : Told)
-    → IsReady before.places old → new.pool ≡ old.pool
+    → ArePagesReady before.places old → new.pool ≡ old.pool
     → HoldsRenewed before.places (tables_in old) result (tables_in new)
     → RenewsTold before.places (tables_in old) (tables_in new) before result after
     → KeepsInSteps before.places (tables_in old) (tables_in new) before result after

@@ -5,7 +5,7 @@ use Rattle.chip_trait.specs.Told.{Told}
 use Rattle.ipl_base.specs.declared.fault.ChipFault.{ChipFault}
 use Rattle.ipl_base.specs.declared.fault.ChipFault.TheVariants.{ReadFault}
 use Rattle.ipl_rules.specs.State.{State}
-use Rattle.record_locks.specs.Held.{Slots}
+use Rattle.record_locks.specs.Held.{SessionSlots}
 use Rattle.ipl_meaning.specs.Chart.{chart_of}
 use Rattle.ipl_meaning.specs.Layout.{Layout}
 use Rattle.ipl_meaning.specs.Tables.{Tables}
@@ -32,7 +32,7 @@ use Rattle.page_frames.proofs.FaultyLemmas.{first_some, moved_fault, names_page,
 
 -- what is wrong with a unit that is to be merged is what is wrong with a page of it
 unit_names : (places : ℕ) (x : Contents) (it : Layout) (old : Pages) (after : Tables)
-    (slots : Slots) (state : State) (u : ℕ) (e : ChipFault) → u < it.count
+    (slots : SessionSlots) (state : State) (u : ℕ) (e : ChipFault) → u < it.count
     → MemoryFits places (chart_of x) it (memory_of (tables_in old) (frames_in old) slots) state
     → after.active ≡ (tables_in old).active
     → slice_index after.places.current u ≡ slice_index (tables_in old).places.current u

@@ -11,9 +11,9 @@ use Rattle.status_renewal.proofs.CauseLemmas.{accounts_then}
 use Rattle.step_laws.proofs.TablesLemmas.{tables_none, tables_then}
 use Rattle.store_laws.proofs.KeeperLemmas.{nothing_keeps_states, keepers_are_joined}
 use Rattle.page_frames.specs.declared.pages.Pages.{Pages}
-use Rattle.page_frames.specs.Pages.{tables_in, frames_in, IsReady, Upholds}
+use Rattle.page_frames.specs.Pages.{tables_in, frames_in, ArePagesReady, Upholds}
 
-pub upholds_none : (most : ℕ) (pages : Pages) (t : Told) → IsReady t.places pages
+pub upholds_none : (most : ℕ) (pages : Pages) (t : Told) → ArePagesReady t.places pages
     → Upholds most pages t (Ok (tt {0})) pages t
 upholds_none most pages t ready = record {
   keeps = nothing_keeps_states (tables_in pages) (frames_in pages) t;
@@ -42,7 +42,7 @@ upholds_then n m first between last result old mid new one two = record {
       result old mid new one.accounts.counts one.tidy two.tidy;
   wears = wears_are_joined (tables_in first) (tables_in between) (tables_in last) (is_ok result)
       (is_worn_out result) old mid new one.wears two.wears;
-  ready = subst (λ (k : ℕ). IsReady k last) one.accounts.counts.places two.ready;
+  ready = subst (λ (k : ℕ). ArePagesReady k last) one.accounts.counts.places two.ready;
   units = two.units ∙ one.units;
   active = two.active ∙ one.active;
   pins = both_keep first.pool between.pool last.pool one.pins two.pins;

@@ -5,7 +5,7 @@ use Rattle.chip_trait.specs.Told.{Told}
 use Rattle.chip_trait.proofs.CountsLemmas.{counts_none}
 use Rattle.ipl_base.specs.declared.fault.ChipFault.{ChipFault}
 use Rattle.buffer_pool.specs.Pools.{PoolView}
-use Rattle.buffer_pool.specs.Holding.{IsPage, KeepsPins}
+use Rattle.buffer_pool.specs.Holding.{IsSamePage, KeepsPins}
 use Rattle.buffer_pool.specs.Uses.{used_of, CountsNoOther, IsUsedLast}
 use Rattle.buffer_pool.proofs.HoldingLemmas.{rest_stays}
 use Rattle.buffer_pool.proofs.UseLemmas.{kept_uses_are_last}
@@ -18,12 +18,12 @@ use Rattle.store_laws.specs.Advances.{KeepsState}
 use Rattle.store_laws.proofs.KeeperLemmas.{nothing_keeps_states}
 use Rattle.frame_changes.specs.Views.{frames_of}
 use Rattle.page_frames.specs.declared.pages.Pages.{Pages}
-use Rattle.page_frames.specs.Pages.{tables_in, frames_in, KeepsFramed, KeepsFramedFor, IsReady, Upholds}
+use Rattle.page_frames.specs.Pages.{tables_in, frames_in, KeepsFramed, KeepsFramedFor, ArePagesReady, Upholds}
 
 -- ---- a use that is counted
 
 -- it keeps each state
-pub used_upholds : (most : ℕ) (old : Pages) (p : PoolView) (t : Told) → IsReady t.places old
+pub used_upholds : (most : ℕ) (old : Pages) (p : PoolView) (t : Told) → ArePagesReady t.places old
     → frames_of p ≡ frames_in old → KeepsPins old.pool p
     → Upholds {T = Unit {0}} most old t (Ok tt) (record old { pool = p }) t
 used_upholds most old p t ready same pins = record {
@@ -83,7 +83,7 @@ framed_then u page old mid new first keeps uses = record {
 
 -- one whose frame is freed, and no other
 pub freed_page : (frames last : Frames) (u page v q : ℕ) → last ≡ with_frame_at frames u page None
-    → IsSome (frames v q) → (IsSome (last v q) → ⊥) → IsPage u page v q
+    → IsSome (frames v q) → (IsSome (last v q) → ⊥) → IsSamePage u page v q
 freed_page frames last u page v q is there gone = elim (cases_page u page v q) [
   | inl here ↦ (here.0, here.1)
   | inr apart ↦

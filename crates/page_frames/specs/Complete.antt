@@ -4,7 +4,7 @@ use Rattle.ipl_base.specs.declared.limits.TheConstants.{PAGE_LEN}
 use Rattle.chip_trait.specs.Told.{Told}
 use Rattle.ipl_base.specs.declared.fault.ChipFault.{ChipFault}
 use Rattle.ipl_rules.specs.State.{State}
-use Rattle.record_locks.specs.Held.{Slots}
+use Rattle.record_locks.specs.Held.{SessionSlots}
 use Rattle.ipl_meaning.specs.Chart.{chart_of}
 use Rattle.ipl_meaning.specs.Layout.{Layout}
 use Rattle.ipl_meaning.specs.Mirrors.{Mirrors}
@@ -22,8 +22,8 @@ use Rattle.page_frames.specs.Pages.{tables_in, frames_in}
 
 -- Where the chip tells what it holds, and that with the tables, the frames and whatever sessions
 -- stands for a state, the call fails only where a call of the chip failed.
-abbrev pub Completes : {T : Type 0} → Pages → Result T ChipFault → Told → Type 0
-Completes pages result told = OfContents told (λ x. (slots : Slots) (it : Layout) (state : State)
+abbrev pub FailsByChip : {T : Type 0} → Pages → Result T ChipFault → Told → Type 0
+FailsByChip pages result told = OfContents told (λ x. (slots : SessionSlots) (it : Layout) (state : State)
     → MemoryFits told.places (chart_of x) it
     (memory_of (tables_in pages) (frames_in pages) slots) state
     → Says told.places (chart_of x) it state.map → FailsByChipAlone result)

@@ -7,7 +7,7 @@ use Rattle.ipl_base.specs.Calls.{IsFailedCall}
 use Rattle.ipl_base.specs.declared.fault.ChipFault.{ChipFault}
 use Rattle.ipl_base.specs.declared.fault.ChipFault.TheVariants.{ReadFault, Stopped, Damaged, Malformed, WornOut}
 use Rattle.ipl_rules.specs.State.{State}
-use Rattle.record_locks.specs.Held.{Slots}
+use Rattle.record_locks.specs.Held.{SessionSlots}
 use Rattle.ipl_meaning.specs.Chart.{chart_of}
 use Rattle.ipl_meaning.specs.Layout.{Layout}
 use Rattle.ipl_meaning.specs.Mirrors.{Mirrors}
@@ -61,7 +61,7 @@ FailsByPage x it after e = ¬ IsFailedCall e → NamesBadPage x it after e
 -- stands for a state, the call fails by a page that didn't read well or had no room for its values with
 -- what is pending, or where a call of the chip failed. Nothing is asked of what the pages say.
 abbrev pub TellsFaults : {T : Type 0} → Pages → Result T ChipFault → Told → Pages → Type 0
-TellsFaults old result told new = OfContents told (λ x. (slots : Slots) (it : Layout)
+TellsFaults old result told new = OfContents told (λ x. (slots : SessionSlots) (it : Layout)
     (state : State) → MemoryFits told.places (chart_of x) it
     (memory_of (tables_in old) (frames_in old) slots) state
     → IfErr result (FailsByPage x it (tables_in new)))

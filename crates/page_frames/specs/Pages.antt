@@ -19,7 +19,7 @@ use Rattle.status_renewal.specs.Passes.{RenewCause}
 use Rattle.unit_io.specs.Accounts.{Accounts}
 use Rattle.step_laws.specs.Steps.{Tidies}
 use Rattle.store_laws.specs.Advances.{KeepsState}
-use Rattle.store_laws.specs.Frames.{Frame, Frames, with_frame_at, with_frame_log}
+use Rattle.store_laws.specs.Frames.{PageFrame, Frames, with_frame_at, with_frame_log}
 use Rattle.number_set.specs.Numbers.{among}
 use Rattle.page_ops.specs.Frames.{FrameView}
 use Rattle.page_rebuild.specs.Loaded.{IsLoaded}
@@ -67,20 +67,20 @@ pub record OnlyUses (u page : ℕ) (old new : Pages) : Type 0 where
 
 -- the page is in a frame, with no records in memory
 abbrev pub IsCleanFrame : Pages → ℕ → ℕ → Type 0
-IsCleanFrame pages u page = (f : Frame) × (frames_in pages u page ≡ Some f) × (f.log ≡ [])
+IsCleanFrame pages u page = (f : PageFrame) × (frames_in pages u page ≡ Some f) × (f.log ≡ [])
 
 -- the page's frame, where it had one, has the same values
 abbrev pub KeepsValues : ℕ → ℕ → Pages → Pages → Type 0
-KeepsValues u page old new = (f : Frame) → frames_in old u page ≡ Some f
-    → (g : Frame) × (frames_in new u page ≡ Some g) × (g.values ≡ f.values)
+KeepsValues u page old new = (f : PageFrame) → frames_in old u page ≡ Some f
+    → (g : PageFrame) × (frames_in new u page ≡ Some g) × (g.values ≡ f.values)
 
 -- ---- what always holds between calls
 
 -- The tables know each place, pages in frames are of their units, and fewer pages are held than
 -- there are frames.
-pub record IsReady (places : ℕ) (pages : Pages) : Type 0 where
+pub record ArePagesReady (places : ℕ) (pages : Pages) : Type 0 where
   pub known : KnowsPlaces places (tables_in pages)
-  pub within : (u page : ℕ) (f : Frame) → frames_in pages u page ≡ Some f
+  pub within : (u page : ℕ) (f : PageFrame) → frames_in pages u page ≡ Some f
       → u < length pages.parts.directory.current
   pub rest : IsAtRest pages.pool
 
@@ -104,7 +104,7 @@ pub record Upholds {T : Type 0} (most : ℕ) (old : Pages) (before : Told) (resu
       (tables_in new) (frames_in new) after
   pub tidy : Tidies (tables_in old) result (tables_in new) before after
   pub wears : TellsOfWear (tables_in old) (tables_in new) (is_ok result) (is_worn_out result) before after
-  pub ready : IsReady before.places new
+  pub ready : ArePagesReady before.places new
   pub units : length new.parts.directory.current ≡ length old.parts.directory.current
   pub active : new.parts.active ≡ old.parts.active
   pub pins : KeepsPins old.pool new.pool
@@ -137,5 +137,5 @@ pub record LoadsFrame {T E : Type 0} (result : Result T E) (told : Told) (t : Ta
 -- where the call failed
 abbrev pub BringsPage : {T E : Type 0} → Result T E → ℕ → ℕ → Frames → Frames → Type 0
 BringsPage (Ok v) u page old new =
-    (f : Frame) × (f.log ≡ []) × (new ≡ with_frame_at old u page (Some f))
+    (f : PageFrame) × (f.log ≡ []) × (new ≡ with_frame_at old u page (Some f))
 BringsPage (Err e) u page old new = new ≡ old

@@ -7,7 +7,7 @@ use Rattle.buffer_pool.specs.Uses.{IsUsedLast}
 use Rattle.frame_changes.specs.Changes.{MayPut}
 use Rattle.page_frames.specs.declared.pages.Pages.{Pages}
 use Rattle.page_frames.specs.Pages.{frames_in, IsFramed, IsCleanFrame, KeepsValues, Upholds}
-use Rattle.page_frames.specs.Complete.{Completes}
+use Rattle.page_frames.specs.Complete.{FailsByChip}
 use Rattle.page_frames.specs.Faulty.{TellsFaults}
 
 -- What each call does, however it ends: it keeps each state, at most so many numbers being drawn; and over
@@ -15,7 +15,7 @@ use Rattle.page_frames.specs.Faulty.{TellsFaults}
 pub record WorksOn {T : Type 0} (most : ℕ) (old : Pages) (before : Told) (result : Result T ChipFault)
     (new : Pages) (after : Told) : Type 0 where
   pub upholds : Upholds most old before result new after
-  pub complete : Completes old result before
+  pub complete : FailsByChip old result before
   pub faults : TellsFaults old result before new
 
 -- A page that was in no frame: done, it is in one with no records in memory, and is the page used last.

@@ -22,7 +22,7 @@ ghost use Rattle.page_frames.specs.Pages.{
   HasFreeFrame,
   KeepsFramed,
   KeepsFramedFor,
-  IsReady,
+  ArePagesReady,
   LoadsFrame,
 };
 ghost use Rattle.page_frames.specs.Works.{ComesFresh, ComesToFrame, PreparesPage, WorksOn};
@@ -57,7 +57,7 @@ impl Pages {
         chip: &mut C,
         victim: Option<(u32, u32)>,
     ) -> Result<(), ChipFault>
-        requires ready { IsReady (C.told chip.old).places self.old }
+        requires ready { ArePagesReady (C.told chip.old).places self.old }
         requires chosen { IsVictimFor self.old.pool victim }
         requires left { self.old.parts.counter + 14 < 2 ^ 64 }
         ensures works { WorksOn 14 self.old (C.told chip.old) result self.new (C.told chip.new) }
@@ -116,7 +116,7 @@ impl Pages {
         requires page { IsPageOf self.old unit page }
         requires unheld { IsUnheld self.old.pool unit page }
         requires empty { logs_of (frames_in self.old) unit page ≡ [] }
-        ensures fills { (pool : PoolView) → IsReady (C.told chip.old).places (with_pool self.old pool)
+        ensures fills { (pool : PoolView) → ArePagesReady (C.told chip.old).places (with_pool self.old pool)
             → frames_of pool unit page ≡ None → TakesFrame pool self.old.pool unit page
             → Fills unit page (with_pool self.old pool) (C.told chip.old) result self.new
             (C.told chip.new) }
@@ -136,7 +136,7 @@ impl Pages {
 
     /// Loads a page that is in no frame, for which another page may have to leave its frame.
     fn fetch<C: Chip>(&mut self, chip: &mut C, unit: u32, page: u32) -> Result<(), ChipFault>
-        requires ready { IsReady (C.told chip.old).places self.old }
+        requires ready { ArePagesReady (C.told chip.old).places self.old }
         requires page { IsPageOf self.old unit page }
         requires absent { frames_in self.old unit page ≡ None }
         requires left { self.old.parts.counter + 14 < 2 ^ 64 }
@@ -159,7 +159,7 @@ impl Pages {
     /// Brings a page into a frame, where it is in none; another page may have to leave its frame then.
     /// It is the page used last then, and has no records in memory where it was in no frame.
     pub fn bring<C: Chip>(&mut self, chip: &mut C, unit: u32, page: u32) -> Result<(), ChipFault>
-        requires ready { IsReady (C.told chip.old).places self.old }
+        requires ready { ArePagesReady (C.told chip.old).places self.old }
         requires page { IsPageOf self.old unit page }
         requires left { self.old.parts.counter + 14 < 2 ^ 64 }
         ensures works { WorksOn 14 self.old (C.told chip.old) result self.new (C.told chip.new) }
@@ -187,7 +187,7 @@ impl Pages {
         unit: u32,
         logged: &Record,
     ) -> Result<(), ChipFault>
-        requires ready { IsReady (C.told chip.old).places self.old }
+        requires ready { ArePagesReady (C.told chip.old).places self.old }
         requires page { IsPageOf self.old unit logged.now.page }
         requires left { self.old.parts.counter + 14 < 2 ^ 64 }
         ensures works { WorksOn 14 self.old (C.told chip.old) result self.new (C.told chip.new) }

@@ -5,7 +5,7 @@ ghost use Rattle.place_taking.specs.Spending.{is_worn_out};
 ghost use Rattle.record_locks.specs.Held.{written_by};
 ghost use Rattle.store_laws.specs.Numbers.{IsOut};
 ghost use Rattle.page_frames.specs.Asks.{AsksToWriteNamesOut};
-ghost use Rattle.page_frames.specs.Pages.{frames_in, KeepsFramed, IsReady};
+ghost use Rattle.page_frames.specs.Pages.{frames_in, KeepsFramed, ArePagesReady};
 ghost use Rattle.page_frames.specs.Changed.{is_home, is_on_page};
 ghost use Rattle.page_frames.specs.Works.{WorksOn};
 
@@ -57,7 +57,7 @@ impl Pages {
         sessions: &Sessions,
         numbers: &[u32],
     ) -> Result<(), ChipFault>
-        requires ready { IsReady (C.told chip.old).places self.old }
+        requires ready { ArePagesReady (C.told chip.old).places self.old }
         requires low { (s : ℕ) → Contains numbers.now s → s < SESSIONS }
         requires left { self.old.parts.counter + 14 * 64 < 2 ^ 64 }
         ensures works { WorksOn (14 * 64) self.old (C.told chip.old)

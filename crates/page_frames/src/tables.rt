@@ -8,7 +8,7 @@ ghost use Rattle.txn_status.specs.Status.{room_of};
 ghost use Rattle.selective_merge.specs.Merging.{Merges, StaysMirrored, FailsAsMerge};
 ghost use Rattle.selective_merge.specs.Throughout.{ChartsThroughout};
 ghost use Rattle.status_renewal.specs.Passes.{ErasesAtMost};
-ghost use Rattle.page_frames.specs.Pages.{tables_in, KeepsFramed, IsReady};
+ghost use Rattle.page_frames.specs.Pages.{tables_in, KeepsFramed, ArePagesReady};
 ghost use Rattle.page_frames.specs.Works.{WorksOn};
 
 use crate::Pages;
@@ -24,7 +24,7 @@ impl Pages {
         chip: &mut C,
         kept: &mut KeptNumbers,
     ) -> Result<(), ChipFault>
-        requires ready { IsReady (C.told chip.old).places self.old }
+        requires ready { ArePagesReady (C.told chip.old).places self.old }
         requires left { self.old.parts.counter + 2 ^ 14 < 2 ^ 64 }
         ensures works { WorksOn (2 ^ 14) self.old (C.told chip.old)
             result self.new (C.told chip.new) }
@@ -45,7 +45,7 @@ impl Pages {
 
     /// Merges a unit, whatever is carried.
     pub fn merge<C: Chip>(&mut self, chip: &mut C, unit: u32) -> Result<(), ChipFault>
-        requires ready { IsReady (C.told chip.old).places self.old }
+        requires ready { ArePagesReady (C.told chip.old).places self.old }
         requires unit { unit < length self.old.parts.directory.current }
         requires left { self.old.parts.counter + 13 < 2 ^ 64 }
         ensures works { WorksOn 13 self.old (C.told chip.old) result self.new (C.told chip.new) }

@@ -3,7 +3,7 @@ ghost use Rattle.std.specs.Prelude.{◌≡◌, ◌<◌, ◌≤◌, ◌+◌, ◌^
 ghost use Rattle.selective_merge.specs.Merging.{FailsAsMerge};
 ghost use Rattle.page_frames.specs.Asks.{AsksToWriteOut};
 ghost use Rattle.page_frames.specs.Frames.{KeepsOrder};
-ghost use Rattle.page_frames.specs.Pages.{tables_in, frames_in, IsPageOf, KeepsFramed, IsReady, frames_after};
+ghost use Rattle.page_frames.specs.Pages.{tables_in, frames_in, IsPageOf, KeepsFramed, ArePagesReady, frames_after};
 ghost use Rattle.page_frames.specs.Works.{WorksOn};
 
 use crate::Pages;
@@ -11,7 +11,7 @@ use crate::frames::has_records;
 use chip_trait::Chip;
 use frame_changes::{clear_log, log_payload};
 use ipl_base::ChipFault;
-use page_writing::write_out;
+use page_writing::write_records;
 
 impl Pages {
     /// Writes the records out that a page has in memory, where it is in a frame and has some. It stays
@@ -23,7 +23,7 @@ impl Pages {
         unit: u32,
         page: u32,
     ) -> Result<(), ChipFault>
-        requires ready { IsReady (C.told chip.old).places self.old }
+        requires ready { ArePagesReady (C.told chip.old).places self.old }
         requires page { IsPageOf self.old unit page }
         requires left { self.old.parts.counter + 14 < 2 ^ 64 }
         ensures works { WorksOn 14 self.old (C.told chip.old) result self.new (C.told chip.new) }
@@ -40,7 +40,7 @@ impl Pages {
             return Ok(());
         }
         let mut payload = log_payload(&self.pool, unit, page);
-        write_out(chip, &mut self.parts, unit, &mut payload)?;
+        write_records(chip, &mut self.parts, unit, &mut payload)?;
         clear_log(&mut self.pool, unit, page);
         Ok(())
     }

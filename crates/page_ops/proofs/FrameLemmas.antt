@@ -12,7 +12,7 @@ use Rattle.ipl_format.specs.Page.{Slots, IsPage, empty_page, value_in}
 use Rattle.ipl_meaning.specs.Values.{Values}
 use Rattle.ipl_meaning.proofs.SizeLemmas.{texts_have_sizes}
 use Rattle.page_ops.specs.Pending.{Pending, Pendings, mark_of, fill_by, with_pending}
-use Rattle.page_ops.specs.Frames.{FrameView, AreOfPending, IsFrame, IsIdle, IsRoomy, empty_frame, values_in, pending_in, pending_of, pendings_of}
+use Rattle.page_ops.specs.Frames.{FrameView, AreOfPending, IsFrame, HasNonePending, IsRoomy, empty_frame, values_in, pending_in, pending_of, pendings_of}
 use Rattle.page_ops.proofs.SlotLemmas.{pending_slot, none_pending, none_tidy, none_in_all, changed_here, changed_others, own_changed, noted}
 use Rattle.page_ops.proofs.FillLemmas.{fills_less, fills_same, room_in_fill, unmarked_fill}
 
@@ -26,7 +26,7 @@ set_most (x ∷ xs) (suc i) v = set_most xs i v
 -- ---- frames
 
 -- a frame of which nothing is pending
-pub idle_roomy : (f : FrameView) → IsIdle f → IsRoomy f
+pub idle_roomy : (f : FrameView) → HasNonePending f → IsRoomy f
 idle_roomy f idle is =
     let fits = is.fits in
     let less = unmarked_fill (λ slot. mark_of (pending_in f slot)) (values_in f)
@@ -34,7 +34,7 @@ idle_roomy f idle is =
     omega (arith, fits, less, texts_have_sizes f.page is.slots)
 
 -- of an empty frame nothing is
-pub empty_idle : IsIdle empty_frame
+pub empty_idle : HasNonePending empty_frame
 empty_idle slot low = none_in_all slot 64
 
 -- an empty one

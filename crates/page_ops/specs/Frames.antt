@@ -54,8 +54,8 @@ pub record IsFrame (page : Slots) (numbers : List (Option ℕ)) (values : Slots)
   pub room : IsRoomy (record { page = page; pending = pendings_of numbers values })
 
 -- no slot has a pending change
-abbrev pub IsIdle : FrameView → Type 0
-IsIdle f = (slot : ℕ) → slot < SLOTS → pending_in f slot ≡ None
+abbrev pub HasNonePending : FrameView → Type 0
+HasNonePending f = (slot : ℕ) → slot < SLOTS → pending_in f slot ≡ None
 
 -- an empty page, of which nothing is pending
 abbrev pub empty_frame : FrameView

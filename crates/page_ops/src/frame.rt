@@ -8,7 +8,7 @@ ghost use Rattle.ipl_base.specs.Sizes.{size_of_values};
 ghost use Rattle.ipl_format.specs.Page.{IsPage, value_in};
 ghost use Rattle.log_records.specs.View.{change_of};
 ghost use Rattle.page_ops.specs.Pending.{fill_by, seen_by, without_pending, with_pending};
-ghost use Rattle.page_ops.specs.Frames.{empty_frame, frame_fill, values_in, pending_in, IsIdle, IsSettled, IsDropped};
+ghost use Rattle.page_ops.specs.Frames.{empty_frame, frame_fill, values_in, pending_in, HasNonePending, IsSettled, IsDropped};
 ghost use Rattle.page_ops.specs.Lending.{LendsPage};
 
 use crate::applying::change_slot;
@@ -75,7 +75,7 @@ impl Frame {
 
     /// The committed page, for writing, while nothing is pending.
     pub fn committed_mut(&mut self) -> &mut PageMap
-        requires { IsIdle self.old }
+        requires { HasNonePending self.old }
         ensures* lends { sem 𝓛 (LendsPage self.entry result) }
         ensures value { result.now ≡ self.old.page }
     {

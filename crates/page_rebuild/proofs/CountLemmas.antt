@@ -13,7 +13,7 @@ use Rattle.ipl_meaning.specs.Values.{counts_for}
 use Rattle.unit_log.specs.declared.scratch.LogSector.{LogSector}
 use Rattle.unit_log.specs.Kept.{records_kept}
 use Rattle.page_ops.proofs.RebuildLemmas.{count_both}
-use Rattle.page_rebuild.specs.Taken.{AreCounted}
+use Rattle.page_rebuild.specs.Taken.{AreCountedBySlot}
 
 -- ---- one part after the other
 
@@ -36,7 +36,7 @@ module _ (numbers : ℕ → Bool) (page : ℕ) where
   module _ {left all : List Record} {counts first_counts : List ℕ}
       (so_far : AreLeft numbers page left all counts first_counts) where
     pub left_part : (part after : List Record) (later : List ℕ) → left ≡ part ++ after
-        → AreCounted numbers page part counts later
+        → AreCountedBySlot numbers page part counts later
         → AreLeft numbers page after all later first_counts
     left_part part after later step counted = record {
       counted = λ slot low.
@@ -68,7 +68,7 @@ module _ (numbers : ℕ → Bool) (page : ℕ) where
 
   -- how many are counted at most
   pub counted_few : (records : List Record) (counts later : List ℕ) (most : ℕ)
-      → AreCounted numbers page records counts later → length records ≤ 40
+      → AreCountedBySlot numbers page records counts later → length records ≤ 40
       → ((slot : ℕ) → slot < 64 → slice_index counts slot ≤ 40 * most)
       → (slot : ℕ) → slot < 64 → slice_index later slot ≤ 40 * (most + 1)
   counted_few records counts later most counted few so_far slot low =

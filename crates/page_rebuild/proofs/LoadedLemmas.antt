@@ -18,7 +18,7 @@ use Rattle.ipl_meaning.specs.Chart.{Chart, chart_of}
 use Rattle.ipl_meaning.specs.Values.{Values, after_records}
 use Rattle.ipl_meaning.specs.Layout.{Entry, Shape, Layout, Laid, IsEntry, ReadsWell, records_of as log_records_of}
 use Rattle.ipl_meaning.specs.Stands.{Shows, Stands, page_in}
-use Rattle.ipl_meaning.specs.Tables.{Places, OverflowLists, Status, Tables}
+use Rattle.ipl_meaning.specs.Tables.{Places, OverflowLists, StatusTable, Tables}
 use Rattle.ipl_meaning.proofs.OnceLemmas.{laid_once, shows_once}
 use Rattle.ipl_meaning.proofs.RoomLemmas.{same_sizes}
 use Rattle.ipl_meaning.proofs.SwitchLemmas.{same_applied}
@@ -174,15 +174,15 @@ sound_pages_show_values x it active u page = (shown, λ (now, shows, room). soun
 
 -- by tables that mirror the chart, which numbers are committed
 pub numbers_are : {places : ℕ} {c : Chart} {it : Layout} {t : Tables} {directory : Places} {overflow : OverflowLists}
-    {status : Status} → AreTables places c it t directory overflow status
+    {status : StatusTable} → AreTables places c it t directory overflow status
     → (tid : ℕ) → it.committed tid ≡ among status.numbers tid
 numbers_are {it = it} {t = t} are tid =
     among_from t.status.numbers tid (it.committed tid) (are.mirrored.mirrors.status.numbers tid)
-    ∙ ap (λ (s : Status). among s.numbers tid) are.status_is
+    ∙ ap (λ (s : StatusTable). among s.numbers tid) are.status_is
 
 -- and what is known of a page whose log was read
 module _ {places u place : ℕ} {c : Chart} {it : Layout} {t : Tables} {directory : Places}
-    {overflow : OverflowLists} {status : Status} {head : UnitHead} {kept : List LogSector}
+    {overflow : OverflowLists} {status : StatusTable} {head : UnitHead} {kept : List LogSector}
     (are : AreTables places c it t directory overflow status)
     (low : u < length directory.current) (here : place ≡ slice_index directory.current u)
     (page : ℕ) (live : IsLiveOf it u page head kept) where
@@ -219,7 +219,7 @@ module _ {places u place : ℕ} {c : Chart} {it : Layout} {t : Tables} {director
   }
 
 -- by the log sectors that are the same
-pub known_as : {it : Layout} {place u page : ℕ} {head : UnitHead} {kept same : List LogSector} {status : Status}
+pub known_as : {it : Layout} {place u page : ℕ} {head : UnitHead} {kept same : List LogSector} {status : StatusTable}
     → same ≡ kept → IsKnown it place u page head kept status → IsKnown it place u page head same status
 known_as {it} {place} {u} {page} {head} {kept} {same} {status} is known =
     subst (λ (l : List LogSector). IsKnown it place u page head l status) (sym is) known
@@ -245,14 +245,14 @@ whole_units_are_known places c it place u head kept status whole page =
 
 -- ---- a frame that was loaded
 
-module _ {u place page : ℕ} {it : Layout} {status : Status} {head : UnitHead}
+module _ {u place page : ℕ} {it : Layout} {status : StatusTable} {head : UnitHead}
     {kept : List LogSector} (known : IsKnown it place u page head kept status) where
   pub fault_is : (x : Contents)
       → page_fault x place head.version u head.generation page (slice_index head.pieces page)
       ≡ base_fault x it u page
   fault_is x = rw (known.place_is, known.version, known.generation, known.pieces) refl
 
-module _ {u place page : ℕ} {c : Chart} {it : Layout} {status : Status} {head : UnitHead}
+module _ {u place page : ℕ} {c : Chart} {it : Layout} {status : StatusTable} {head : UnitHead}
     {kept : List LogSector} (known : IsKnown it place u page head kept status) where
   reads_well : (base : Slots)
       → HoldsPage c place head.version u head.generation page (slice_index head.pieces page) base

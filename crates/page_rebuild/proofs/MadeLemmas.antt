@@ -9,16 +9,16 @@ use Rattle.ipl_format.specs.Record.{Record}
 use Rattle.ipl_format.specs.Page.{Slots, IsPage, value_in}
 use Rattle.page_ops.specs.Frames.{with_record}
 use Rattle.page_ops.proofs.RebuildLemmas.{on_own, of_another_page, of_no_number, making_past, making_earlier, making_last, making_full}
-use Rattle.page_rebuild.specs.Made.{ArePassed}
+use Rattle.page_rebuild.specs.Made.{AreRecordsPassed}
 
 module _ (committed : ℕ → Bool) (page : ℕ) (r : Record) (counts : List ℕ) (now : Slots) where
   pub passed_other_page : r.page ≢ page
-      → ArePassed committed page (r ∷ []) counts now counts now true
+      → AreRecordsPassed committed page (r ∷ []) counts now counts now true
   passed_other_page other = λ all rest base so.
       making_past committed page so (λ slot low. of_another_page committed page r slot other)
 
   pub passed_other_number : committed r.tid ≡ false
-      → ArePassed committed page (r ∷ []) counts now counts now true
+      → AreRecordsPassed committed page (r ∷ []) counts now counts now true
   passed_other_number other = λ all rest base so.
       making_past committed page so (λ slot low. of_no_number committed page r slot other)
 
@@ -26,7 +26,7 @@ module _ (committed : ℕ → Bool) (page : ℕ) (r : Record) (counts : List ℕ
     module _ (later : List ℕ) (long : length later ≡ 64)
         (taken : later ≡ slice_set counts r.slot (slice_index counts r.slot - 1)) where
       pub passed_earlier : false ≡ (slice_index later r.slot == 0)
-          → ArePassed committed page (r ∷ []) counts now later now true
+          → AreRecordsPassed committed page (r ∷ []) counts now later now true
       passed_earlier more = λ all rest base so.
           making_earlier committed page so low (on_own committed page r here done) long taken
           (sym more)
@@ -36,7 +36,7 @@ module _ (committed : ℕ → Bool) (page : ℕ) (r : Record) (counts : List ℕ
           → IsPage VERSION next → OnTrue room (next ≡ with_record now r)
           → OnFalse room (PAGE_LEN < size_of_values (value_in (with_record now r)))
           → OnFalse room (next ≡ now)
-          → ArePassed committed page (r ∷ []) counts now later next room
+          → AreRecordsPassed committed page (r ∷ []) counts now later next room
       passed_last last true next is put full kept = λ all rest base so.
           making_last committed page so low (on_own committed page r here done) long taken
           (sym last) count put

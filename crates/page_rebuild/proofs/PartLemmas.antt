@@ -1,7 +1,7 @@
 -- Records passed one part after the other.
 use Rattle.std.proofs.Common.{◌≡◌, ℕ, List, ◌++◌, ◌∙◌, ap, subst, append_assoc}
 use Rattle.ipl_format.specs.Record.{Record}
-use Rattle.page_rebuild.specs.Parts.{Progress, AreNext}
+use Rattle.page_rebuild.specs.Parts.{Progress, ComeNext}
 
 module _ {B X : Type 0} (Going : Progress B X) where
   -- what went so far when all these records came next is so far now, when these are left
@@ -26,7 +26,7 @@ module _ {B X : Type 0} (Going : Progress B X) where
         (ap (λ (l : List Record). l ++ rest) step ∙ append_assoc part after rest)
         (so_far all rest base so)
 
-    pub next_part : AreNext Going whole first_counts first → AreNext Going part counts now
+    pub next_part : ComeNext Going whole first_counts first → ComeNext Going part counts now
     next_part next = record {
       all = next.all;
       rest = after ++ next.rest;

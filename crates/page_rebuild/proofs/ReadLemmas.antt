@@ -13,7 +13,7 @@ use Rattle.ipl_format.specs.Place.{base_sector_of}
 use Rattle.ipl_meaning.specs.Chart.{Chart}
 use Rattle.ipl_meaning.specs.Layout.{Layout}
 use Rattle.ipl_meaning.specs.Allowed.{IsAllowed}
-use Rattle.ipl_meaning.specs.Tables.{Places, OverflowLists, Status, Tables}
+use Rattle.ipl_meaning.specs.Tables.{Places, OverflowLists, StatusTable, Tables}
 use Rattle.unit_io.specs.Reads.{Reads, PageAsked, page_reads}
 use Rattle.unit_io.specs.Faults.{IsPageCause}
 use Rattle.unit_io.specs.ReadsAt.{IsReadAt, IsCauseAt, ReadsAt}
@@ -100,7 +100,7 @@ both_read {home} {place} {pieces} {old} {mid} {new} spots page here few log base
 -- ---- the allowed sectors
 
 module _ {places u : ℕ} {c : Chart} {it : Layout} {t : Tables} {directory : Places}
-    {overflow : OverflowLists} {status : Status}
+    {overflow : OverflowLists} {status : StatusTable}
     (are : AreTables places c it t directory overflow status)
     (low : u < length directory.current) where
   pub within : u < it.count

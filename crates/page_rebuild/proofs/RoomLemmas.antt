@@ -8,7 +8,7 @@ use Rattle.ipl_base.specs.Sizes.{size_in_page, size_of_values}
 use Rattle.ipl_rules.proofs.MarkLemmas.{le_trans}
 use Rattle.ipl_meaning.specs.Values.{Values}
 use Rattle.page_ops.specs.Pending.{Pending, Pendings, fill_by, mark_of}
-use Rattle.page_ops.specs.Frames.{FrameView, IsIdle, empty_frame, pending_in}
+use Rattle.page_ops.specs.Frames.{FrameView, HasNonePending, empty_frame, pending_in}
 use Rattle.page_ops.proofs.FillLemmas.{fills_same, room_in_fill}
 use Rattle.page_ops.proofs.FrameLemmas.{empty_idle, fills_by_less}
 
@@ -50,10 +50,10 @@ over_from n tells = elim (cases_lt PAGE_LEN n) [
 ]
 
 -- in a frame that was reset nothing is pending, and later where that stays as it was
-pub idle_from : (f : FrameView) → f ≡ empty_frame → IsIdle f
+pub idle_from : (f : FrameView) → f ≡ empty_frame → HasNonePending f
 idle_from f same slot low =
     ap (λ (g : FrameView). pending_in g slot) same ∙ empty_idle slot low
 
-pub idle_still : (f g : FrameView) → g.pending ≡ f.pending → IsIdle f → IsIdle g
+pub idle_still : (f g : FrameView) → g.pending ≡ f.pending → HasNonePending f → HasNonePending g
 idle_still f g same idle slot low =
     ap (λ (l : List (Option Pending)). slice_index_or l slot None) same ∙ idle slot low

@@ -8,11 +8,11 @@ use Rattle.ipl_base.specs.declared.limits.TheConstants.{PAGE_LEN}
 use Rattle.ipl_format.specs.Record.{Record}
 use Rattle.ipl_format.specs.Page.{Slots, value_in}
 use Rattle.page_ops.specs.Pending.{fill_by}
-use Rattle.page_ops.specs.Frames.{FrameView, frame_fill, values_in, pending_in, IsIdle}
+use Rattle.page_ops.specs.Frames.{FrameView, frame_fill, values_in, pending_in, HasNonePending}
 use Rattle.page_ops.specs.Rebuilt.{AreComing, IsMaking, with_records}
 use Rattle.page_ops.proofs.RebuildLemmas.{making_first, making_done}
-use Rattle.page_rebuild.specs.Taken.{last_changes, AreCounted, AreTaken}
-use Rattle.page_rebuild.specs.Made.{AreAhead, ArePassed}
+use Rattle.page_rebuild.specs.Taken.{last_changes, AreCountedBySlot, AreTaken}
+use Rattle.page_rebuild.specs.Made.{AreAhead, AreRecordsPassed}
 use Rattle.page_rebuild.specs.Pended.{IsSetting, AreToSet, AreSet}
 use Rattle.page_rebuild.proofs.PendedLemmas.{setting_first}
 use Rattle.page_rebuild.proofs.RoomLemmas.{same_fills, values_in_fill}
@@ -20,7 +20,7 @@ use Rattle.page_rebuild.proofs.RoomLemmas.{same_fills, values_in_fill}
 module _ (page : ℕ) (records : List Record) where
   -- all that were counted are to come
   all_come : (numbers : ℕ → Bool) (counts : List ℕ)
-      → AreCounted numbers page records (replicate 64 0) counts
+      → AreCountedBySlot numbers page records (replicate 64 0) counts
       → AreComing numbers page records counts
   all_come numbers counts counted slot low =
       omega (arith, counted slot low, get_or-replicate {A = ℕ} 64 slot 0 0 low)
@@ -29,7 +29,7 @@ module _ (page : ℕ) (records : List Record) where
 
   -- each slot of the page was emptied for which a record is to come
   module _ (committed : ℕ → Bool) (counts : List ℕ) (old : FrameView) (held now first : Slots)
-      (counted : AreCounted committed page records (replicate 64 0) counts)
+      (counted : AreCountedBySlot committed page records (replicate 64 0) counts)
       (held_is : held ≡ old.page)
       (cleared : (slot : ℕ) → slot < 64 → value_in now slot
       ≡ (if slice_index counts slot == 0 then value_in held slot else None))
@@ -50,7 +50,7 @@ module _ (page : ℕ) (records : List Record) where
 
     -- then they were passed
     module _ (later : List ℕ) (new : Slots) where
-      pub values_made : ArePassed committed page records counts first later new true
+      pub values_made : AreRecordsPassed committed page records counts first later new true
           → (slot : ℕ) → slot < 64
           → value_in new slot ≡ with_records committed page records (values_in old) slot
       values_made passed slot low =
@@ -58,7 +58,7 @@ module _ (page : ℕ) (records : List Record) where
 
       -- or a page has no room for the values, and so none with what is pending
       pub values_over : (active : ℕ → Bool)
-          → ArePassed committed page records counts first later new false
+          → AreRecordsPassed committed page records counts first later new false
           → IsTrue false ↔ (fill_by (with_records committed page records (values_in old))
           (last_changes active page records) ≤ PAGE_LEN)
       values_over active passed = (
@@ -76,7 +76,7 @@ module _ (page : ℕ) (records : List Record) where
   -- ---- what is pending
 
   module _ (active : ℕ → Bool) (counts : List ℕ) (frame : FrameView)
-      (counted : AreCounted active page records (replicate 64 0) counts) (idle : IsIdle frame) where
+      (counted : AreCountedBySlot active page records (replicate 64 0) counts) (idle : HasNonePending frame) where
     start_set : IsSetting active page records (records ++ []) frame.page counts frame
     start_set =
         subst (λ (l : List Record). IsSetting active page records l frame.page counts frame)

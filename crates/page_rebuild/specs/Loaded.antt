@@ -12,7 +12,7 @@ use Rattle.ipl_meaning.specs.Values.{Values, after_records}
 use Rattle.ipl_meaning.specs.Layout.{Layout, Laid, records_of}
 use Rattle.number_set.specs.Numbers.{among}
 use Rattle.ipl_meaning.specs.Stands.{Shows, page_in}
-use Rattle.ipl_meaning.specs.Tables.{Places, OverflowLists, Status, Tables}
+use Rattle.ipl_meaning.specs.Tables.{Places, OverflowLists, StatusTable, Tables}
 use Rattle.unit_io.specs.Faults.{page_fault, text_below, IsPageCause}
 use Rattle.unit_io.specs.Reads.{OfContents}
 use Rattle.unit_io.specs.ReadsAt.{IsCauseAt}
@@ -20,7 +20,7 @@ use Rattle.unit_io.specs.Spots.{IsPieceSpot}
 use Rattle.unit_log.specs.declared.live.UnitHead.{UnitHead}
 use Rattle.unit_log.specs.declared.scratch.LogSector.{LogSector}
 use Rattle.unit_log.specs.Kept.{records_kept}
-use Rattle.unit_log.specs.Live.{IsLive, AreMirrored}
+use Rattle.unit_log.specs.Live.{MatchesLayout, AreMirrored}
 use Rattle.unit_log.specs.Paged.{IsPageLogRead}
 use Rattle.page_ops.specs.Pending.{Pendings, fill_by}
 use Rattle.page_ops.specs.Frames.{FrameView, values_in, pending_in}
@@ -50,19 +50,19 @@ HasPageOf m u page f = (slot : ℕ) → slot < SLOTS → values_in f slot ≡ pa
 
 -- tables with this directory, these overflow lists and this status mirror the chart
 pub record AreTables (places : ℕ) (c : Chart) (it : Layout) (t : Tables)
-    (directory : Places) (overflow : OverflowLists) (status : Status) : Type 0 where
+    (directory : Places) (overflow : OverflowLists) (status : StatusTable) : Type 0 where
   pub mirrored : AreMirrored places c it t directory overflow
   pub status_is : t.status ≡ status
 
 -- where the chip tells what it holds and such tables mirror it, this is so of it and of the layout
-abbrev pub OfTables : Told → Places → OverflowLists → Status → (Contents → Layout → Type 0) → Type 0
+abbrev pub OfTables : Told → Places → OverflowLists → StatusTable → (Contents → Layout → Type 0) → Type 0
 OfTables told directory overflow status P = OfContents told (λ x. (it : Layout) (t : Tables)
     → AreTables told.places (chart_of x) it t directory overflow status → P x it)
 
 -- What is known of a unit of which a page is made anew: its place, its header, and the records of log
 -- sectors, which do to this page what all of the unit's log does. These numbers are committed.
 pub record IsKnown (it : Layout) (place u page : ℕ) (head : UnitHead) (kept : List LogSector)
-    (status : Status) : Type 0 where
+    (status : StatusTable) : Type 0 where
   pub place_is : place ≡ (it.units u).home
   pub version : head.version ≡ (it.units u).head.version
   pub generation : head.generation ≡ (it.units u).head.generation
@@ -74,7 +74,7 @@ pub record IsKnown (it : Layout) (place u page : ℕ) (head : UnitHead) (kept : 
       → last_changes active page (records_kept kept) slot ≡ loaded_pending it active u page slot
 
 -- where the chip tells what it holds, this is so of it and of each layout of which this is known
-abbrev pub OfKnown : Told → ℕ → ℕ → ℕ → UnitHead → List LogSector → Status
+abbrev pub OfKnown : Told → ℕ → ℕ → ℕ → UnitHead → List LogSector → StatusTable
     → (Contents → Layout → Type 0) → Type 0
 OfKnown told place u page head kept status P = OfContents told (λ x. (it : Layout)
     → IsKnown it place u page head kept status → P x it)
@@ -82,17 +82,17 @@ OfKnown told place u page head kept status P = OfContents told (λ x. (it : Layo
 -- A unit that was read whole: the chart is laid out so, and these are its place, its header, its log
 -- and the committed numbers.
 pub record IsReadWhole (places : ℕ) (c : Chart) (it : Layout) (place u : ℕ) (head : UnitHead)
-    (kept : List LogSector) (status : Status) : Type 0 where
+    (kept : List LogSector) (status : StatusTable) : Type 0 where
   pub laid : Laid places c it
   pub within : u < it.count
   pub place_is : place ≡ (it.units u).home
-  pub live : IsLive it u head kept
+  pub live : MatchesLayout it u head kept
   pub numbers : (tid : ℕ) → it.committed tid ≡ among status.numbers tid
 
 -- then it is known, of each page
 abbrev pub WholeUnitsAreKnown : Type 0
 WholeUnitsAreKnown = (places : ℕ) (c : Chart) (it : Layout) (place u : ℕ) (head : UnitHead)
-    (kept : List LogSector) (status : Status) → IsReadWhole places c it place u head kept status
+    (kept : List LogSector) (status : StatusTable) → IsReadWhole places c it place u head kept status
     → (page : ℕ) → IsKnown it place u page head kept status
 
 -- what is wrong with the base page, where the layout has it

@@ -9,7 +9,7 @@ abbrev pub Progress : Type 0 → Type 0 → Type 1
 Progress B X = List Record → List Record → B → List ℕ → X → Type 0
 
 -- these records come next
-pub record AreNext {B X : Type 0} (Going : Progress B X) (next : List Record) (counts : List ℕ)
+pub record ComeNext {B X : Type 0} (Going : Progress B X) (next : List Record) (counts : List ℕ)
     (now : X) : Type 0 where
   pub all : List Record
   pub rest : List Record

@@ -8,7 +8,7 @@ use Rattle.ipl_meaning.specs.Values.{counts_for}
 use Rattle.page_ops.specs.Pending.{Pendings, fill_by}
 use Rattle.page_ops.specs.Frames.{FrameView, pending_in}
 use Rattle.page_ops.specs.Rebuilt.{AreComing}
-use Rattle.page_rebuild.specs.Parts.{AreNext, ArePassedOn}
+use Rattle.page_rebuild.specs.Parts.{ComeNext, ArePassedOn}
 use Rattle.page_rebuild.specs.Taken.{last_changes}
 
 -- So far they are set: a slot for which a record is still to come has nothing pending, each other has
@@ -34,7 +34,7 @@ IsTooFull active page all held = PAGE_LEN < fill_by (value_in held) (last_change
 
 -- of those that are set these records come next
 abbrev pub AreToSet : (ℕ → Bool) → ℕ → List Record → List ℕ → FrameView → Type 0
-AreToSet active page next counts now = AreNext (IsSetting active page) next counts now
+AreToSet active page next counts now = ComeNext (IsSetting active page) next counts now
 
 -- These records were passed: they are set so far; or a page hasn't room for all.
 abbrev pub AreSet : (ℕ → Bool) → ℕ → List Record → List ℕ → FrameView → List ℕ → FrameView → Bool

@@ -20,8 +20,8 @@ last_changes active page records slot =
     pending_of (last_that (counts_for active page slot) records None)
 
 -- so many more are counted on each slot as there are records on it of these numbers
-abbrev pub AreCounted : (ℕ → Bool) → ℕ → List Record → List ℕ → List ℕ → Type 0
-AreCounted numbers page records counts later = (slot : ℕ) → slot < SLOTS
+abbrev pub AreCountedBySlot : (ℕ → Bool) → ℕ → List Record → List ℕ → List ℕ → Type 0
+AreCountedBySlot numbers page records counts later = (slot : ℕ) → slot < SLOTS
     → slice_index later slot
     ≡ slice_index counts slot + count_by (counts_for numbers page slot) records
 

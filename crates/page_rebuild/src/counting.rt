@@ -8,7 +8,7 @@ ghost use Rattle.log_records.specs.Reading.{records_of};
 ghost use Rattle.log_records.specs.View.{record_of};
 ghost use Rattle.number_set.specs.Numbers.{among};
 ghost use Rattle.unit_log.specs.Kept.{records_kept};
-ghost use Rattle.page_rebuild.specs.Taken.{AreCounted};
+ghost use Rattle.page_rebuild.specs.Taken.{AreCountedBySlot};
 
 use crate::making::is_committed;
 use crate::pending::is_among;
@@ -23,7 +23,7 @@ fn count_value(values: &mut Coming, page: u32, logged: &Record, status: &Status)
     requires room { slice_index values.old logged.now.slot
         + count_by (counts_for (among status.now.numbers) page logged.now.slot)
         (record_of logged.now ∷ []) ≤ LIVE_RECORDS }
-    ensures { AreCounted (among status.now.numbers) page (record_of logged.now ∷ [])
+    ensures { AreCountedBySlot (among status.now.numbers) page (record_of logged.now ∷ [])
         values.old values.new }
 {
     if logged.page != page {
@@ -40,7 +40,7 @@ fn count_change(changes: &mut Coming, page: u32, logged: &Record, active: &[u64]
     requires room { slice_index changes.old logged.now.slot
         + count_by (counts_for (among active.now) page logged.now.slot)
         (record_of logged.now ∷ []) ≤ LIVE_RECORDS }
-    ensures { AreCounted (among active.now) page (record_of logged.now ∷ [])
+    ensures { AreCountedBySlot (among active.now) page (record_of logged.now ∷ [])
         changes.old changes.new }
 {
     if logged.page != page {
@@ -63,9 +63,9 @@ fn count_payload(
 )
     requires few_values { (slot : ℕ) → slot < SLOTS → slice_index values.old slot ≤ 1200 }
     requires few_changes { (slot : ℕ) → slot < SLOTS → slice_index changes.old slot ≤ 1200 }
-    ensures values { AreCounted (among status.now.numbers) page
+    ensures values { AreCountedBySlot (among status.now.numbers) page
         (records_of payload.now.version payload.now.bytes) values.old values.new }
-    ensures changes { AreCounted (among active.now) page
+    ensures changes { AreCountedBySlot (among active.now) page
         (records_of payload.now.version payload.now.bytes) changes.old changes.new }
     ensures few { length (records_of payload.now.version payload.now.bytes) ≤ 40 }
 {
@@ -89,9 +89,9 @@ pub(crate) fn count_sectors(
     requires few { length sectors.now ≤ LIVE_SECTORS }
     requires no_values { values.old ≡ replicate SLOTS 0 }
     requires no_changes { changes.old ≡ replicate SLOTS 0 }
-    ensures values { AreCounted (among status.now.numbers) page (records_kept sectors.now)
+    ensures values { AreCountedBySlot (among status.now.numbers) page (records_kept sectors.now)
         (replicate SLOTS 0) values.new }
-    ensures changes { AreCounted (among active.now) page (records_kept sectors.now)
+    ensures changes { AreCountedBySlot (among active.now) page (records_kept sectors.now)
         (replicate SLOTS 0) changes.new }
 {
     for sector in sectors {

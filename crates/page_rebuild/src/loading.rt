@@ -13,7 +13,7 @@ ghost use Rattle.unit_io.specs.Faults.{page_fault, TellsChipFault, HoldsPage, Is
 ghost use Rattle.unit_io.specs.Reads.{OfContents};
 ghost use Rattle.unit_io.specs.ReadsAt.{ReadsAt};
 ghost use Rattle.unit_log.specs.Paged.{page_spots, AddsAtMost};
-ghost use Rattle.page_ops.specs.Frames.{empty_frame, IsIdle};
+ghost use Rattle.page_ops.specs.Frames.{empty_frame, HasNonePending};
 ghost use Rattle.page_rebuild.specs.Loaded.{IsLoaded, OfKnown, OfTables, HasPageOf, IsBaseRead, IsLoadRead, IsLoadCause, IsRebuildCause, load_fault};
 ghost use Rattle.page_rebuild.specs.Keeps.{KeepsWhatRests};
 
@@ -41,7 +41,7 @@ fn read_base<C: Chip>(
     requires place { place < (C.told chip.old).places }
     requires few { All (λ n. n ≤ PAGE_SECTORS) header.now.pieces }
     requires page { page < 15 }
-    requires idle { IsIdle frame.old }
+    requires idle { HasNonePending frame.old }
     ensures exact { OfContents (C.told chip.old) (λ x. TellsChipFault
         (page_fault x place header.now.version unit header.now.generation page
         (slice_index header.now.pieces page)) result) }

@@ -7,7 +7,7 @@ ghost use Rattle.log_records.specs.Reading.{records_of};
 ghost use Rattle.log_records.specs.View.{record_of};
 ghost use Rattle.number_set.specs.Numbers.{among};
 ghost use Rattle.unit_log.specs.Kept.{records_kept};
-ghost use Rattle.page_rebuild.specs.Made.{AreAhead, ArePassed};
+ghost use Rattle.page_rebuild.specs.Made.{AreAhead, AreRecordsPassed};
 
 use log_records::{Payload, Record, records};
 use page_ops::{Coming, apply_where_room};
@@ -34,7 +34,7 @@ fn pass_record(
     requires slot { logged.now.slot < 64 }
     requires ahead { AreAhead (among status.now.numbers) page (record_of logged.now ∷ [])
         coming.old map.old }
-    ensures { ArePassed (among status.now.numbers) page (record_of logged.now ∷ [])
+    ensures { AreRecordsPassed (among status.now.numbers) page (record_of logged.now ∷ [])
         coming.old map.old coming.new map.new result }
 {
     if logged.page != page {
@@ -59,7 +59,7 @@ fn pass_payload(
 ) -> bool
     requires { AreAhead (among status.now.numbers) page
         (records_of payload.now.version payload.now.bytes) coming.old map.old }
-    ensures { ArePassed (among status.now.numbers) page
+    ensures { AreRecordsPassed (among status.now.numbers) page
         (records_of payload.now.version payload.now.bytes)
         coming.old map.old coming.new map.new result }
 {
@@ -83,7 +83,7 @@ pub(crate) fn pass_sectors(
 ) -> bool
     requires { AreAhead (among status.now.numbers) page (records_kept sectors.now)
         coming.old map.old }
-    ensures passed { ArePassed (among status.now.numbers) page (records_kept sectors.now)
+    ensures passed { AreRecordsPassed (among status.now.numbers) page (records_kept sectors.now)
         coming.old map.old coming.new map.new result }
     ensures page { OnTrue result (IsPage VERSION map.new) }
 {

@@ -5,7 +5,7 @@ ghost use Rattle.std.specs.Bool.{OnTrue};
 ghost use Rattle.ipl_base.specs.declared.limits.TheConstants.{LIVE_SECTORS, PAGE_LEN};
 ghost use Rattle.number_set.specs.Numbers.{among};
 ghost use Rattle.unit_log.specs.Kept.{records_kept};
-ghost use Rattle.page_ops.specs.Frames.{values_in, IsIdle};
+ghost use Rattle.page_ops.specs.Frames.{values_in, HasNonePending};
 ghost use Rattle.page_ops.specs.Pending.{fill_by};
 ghost use Rattle.page_ops.specs.Rebuilt.{with_records};
 ghost use Rattle.page_rebuild.specs.Taken.{last_changes, AreTaken};
@@ -27,7 +27,7 @@ pub(crate) fn take_sectors(
     status: &Status,
     active: &[u64],
 ) -> bool
-    requires idle { IsIdle frame.old }
+    requires idle { HasNonePending frame.old }
     requires few { length sectors.now ≤ LIVE_SECTORS }
     ensures room { IsTrue result ↔ (fill_by
         (with_records (among status.now.numbers) page (records_kept sectors.now)

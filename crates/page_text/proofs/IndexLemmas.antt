@@ -8,7 +8,7 @@ use Rattle.std.proofs.lemmas.List.{append-nil, length-take-le, get_or-set_other,
 use Rattle.ipl_format.proofs.PageLemmas.{later_pages_are_alike}
 use Rattle.ipl_format.specs.Page.{Slots, IsShort, SpellsPage, IsPageText, slot_bytes, text_from}
 use Rattle.ipl_format.specs.Numbers.{IsBytes, half_at}
-use Rattle.page_text.specs.Texts.{size_below, HasPlaces, BeginsWith, EndsAt, has_record}
+use Rattle.page_text.specs.Texts.{size_below, HasPlaces, BeginsWith, RecordEndsAt, has_record}
 use Rattle.page_text.proofs.PushLemmas.{text_push, below_push, all_push, short_push}
 use Rattle.page_text.proofs.RecordLemmas.{same_rest, behind_record, fits_whole, slot_and_more, first_byte, left_size, has_facts, has_so, value_size, record_there, said_here}
 use Rattle.ipl_base.specs.declared.limits.TheConstants.{PAGE_LEN, VALUE_LEN, VERSION}
@@ -144,7 +144,7 @@ some_more bytes until slot bounds at next h fits below begins test next_is =
 
 pub slot_more : (bytes : List ℕ) (until slot : ℕ) (bounds : List ℕ) (at next : ℕ)
     → Indexing bytes until slot bounds at → until ≤ length bytes → slot < 64
-    → EndsAt bytes at until slot next → Indexing bytes until (slot + 1) (set bounds slot at) next
+    → RecordEndsAt bytes at until slot next → Indexing bytes until (slot + 1) (set bounds slot at) next
 slot_more bytes until slot bounds at next h fits below (inl none) =
     subst (Indexing bytes until (slot + 1) (set bounds slot at)) (sym none.1)
     (none_more bytes until slot bounds at h fits below none.0)

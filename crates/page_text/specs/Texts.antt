@@ -68,8 +68,8 @@ abbrev pub BeginsWith : List ℕ → ℕ → ℕ → ℕ → Type 0
 BeginsWith bytes at until slot = (at < until) × (slice_index bytes at ≡ slot)
 
 -- the record of a slot that may stand here ends there
-abbrev pub EndsAt : List ℕ → ℕ → ℕ → ℕ → ℕ → Type 0
-EndsAt bytes at until slot next =
+abbrev pub RecordEndsAt : List ℕ → ℕ → ℕ → ℕ → ℕ → Type 0
+RecordEndsAt bytes at until slot next =
     ((BeginsWith bytes at until slot → ⊥) × (next ≡ at))
     ⊎ (BeginsWith bytes at until slot × (has_record bytes at until ≡ true)
     × (next ≡ at + HEAD + half_at (at + 1) bytes))

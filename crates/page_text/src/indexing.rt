@@ -4,7 +4,7 @@ ghost use Rattle.std.specs.Bool.{OnTrue};
 ghost use Rattle.ipl_base.specs.declared.limits.TheConstants.{PAGE_LEN, VERSION};
 ghost use Rattle.ipl_format.specs.Numbers.{half_at};
 ghost use Rattle.ipl_format.specs.Page.{IsPageText};
-ghost use Rattle.page_text.specs.Texts.{BeginsWith, EndsAt, HasPlaces, has_record};
+ghost use Rattle.page_text.specs.Texts.{BeginsWith, RecordEndsAt, HasPlaces, has_record};
 
 use crate::moving::HEAD;
 use ipl_base::{PAGE_LEN, VALUE_LEN};
@@ -32,7 +32,7 @@ fn has_record(bytes: &[u8; PAGE_LEN], at: usize, end: usize) -> bool
 // one that isn't whole.
 fn record_end(bytes: &[u8; PAGE_LEN], at: usize, end: usize, slot: u8) -> Option<usize>
     requires { end ≤ PAGE_LEN }
-    ensures some { IfSome result (λ next. EndsAt bytes.now at end slot next) }
+    ensures some { IfSome result (λ next. RecordEndsAt bytes.now at end slot next) }
     ensures none { IfNone result (BeginsWith bytes.now at end slot × (has_record bytes.now at end ≡ false)) }
 {
     if at >= end || bytes[at] != slot {

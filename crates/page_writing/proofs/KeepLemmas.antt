@@ -14,12 +14,12 @@ use Rattle.ipl_meaning.specs.Rests.{now}
 use Rattle.ipl_meaning.specs.Stands.{page_in}
 use Rattle.ipl_meaning.specs.Steps.{KeepsPages, with_log}
 use Rattle.ipl_meaning.specs.Tables.{Places, Tables}
-use Rattle.record_locks.specs.Held.{Slots, number_of}
+use Rattle.record_locks.specs.Held.{SessionSlots, number_of}
 use Rattle.unit_io.specs.Charts.{Charts}
 use Rattle.step_laws.specs.Steps.{Settled}
 use Rattle.merge_laws.specs.Merged.{merged_shape}
 use Rattle.store_laws.specs.Pending.{IsPending}
-use Rattle.store_laws.specs.Frames.{Frame, Frames, with_frame_at, with_frame_log}
+use Rattle.store_laws.specs.Frames.{PageFrame, Frames, with_frame_at, with_frame_log}
 use Rattle.store_laws.specs.Fits.{Fits}
 use Rattle.store_laws.proofs.ActiveLemmas.{is_listed}
 use Rattle.store_laws.proofs.ChipFitLemmas.{log_sectors_fit, merges_fit, other_steps_fit}
@@ -27,7 +27,7 @@ use Rattle.store_laws.proofs.SameLemmas.{log_in}
 use Rattle.store_laws.specs.Advances.{memory_of, MemoryFits, FitsOn, TurnsTables}
 use Rattle.store_laws.proofs.KeeperLemmas.{table_calls_keep_states}
 use Rattle.page_writing.specs.Rooms.{IsMergedOrSame}
-use Rattle.page_writing.specs.Writing.{IsPayloadOf, IsWrittenOut, WritesOutInSteps}
+use Rattle.page_writing.specs.Writing.{IsPayloadOf, AreRecordsWritten, WritesOutInSteps}
 use Rattle.page_writing.specs.Laws.{WritingsKeepStates}
 use Rattle.page_writing.specs.Causes.{WritingCause}
 use Rattle.page_writing.proofs.CauseLemmas.{writing_rose}
@@ -37,7 +37,7 @@ use Rattle.page_writing.proofs.RoomLemmas.{merged_records}
 
 -- its records are of open sessions
 payload_of_frame : (places : ℕ) (c : Chart) (it : Layout) (t : Tables) (frames : Frames)
-    (slots : Slots) (state : State) (u page : ℕ) (f : Frame) (payload : Versioned)
+    (slots : SessionSlots) (state : State) (u page : ℕ) (f : PageFrame) (payload : Versioned)
     → Fits places c it t frames slots state → frames u page ≡ Some f → Spells payload f.log
     → IsPayloadOf t payload f.log
 payload_of_frame places c it t frames slots state u page f payload fits there spelled = record {
@@ -52,7 +52,7 @@ payload_of_frame places c it t frames slots state u page f payload fits there sp
 
 -- the memory fits, where the unit may have been merged
 unit_fits : (places : ℕ) (c y : Chart) (it : Layout) (t : Tables) (u : ℕ) (after : Tables)
-    (frames : Frames) (slots : Slots) (state : State) (new : Layout)
+    (frames : Frames) (slots : SessionSlots) (state : State) (new : Layout)
     → Fits places c it t frames slots state → IsMergedOrSame places c y it t u after new
     → Mirrors places y new after → NoneIsLost places after → after.active ≡ t.active
     → KeepsPages places c it y new → Fits places y new after frames slots state
@@ -70,9 +70,9 @@ unit_fits places c y it t u after frames slots state new fits (inr (is, same)) m
     is.keeps)
 
 out_fits : (places : ℕ) (c y : Chart) (it : Layout) (t after : Tables) (frames : Frames)
-    (slots : Slots) (state : State) (u page : ℕ) (f : Frame) (payload : Versioned)
+    (slots : SessionSlots) (state : State) (u page : ℕ) (f : PageFrame) (payload : Versioned)
     → Fits places c it t frames slots state → frames u page ≡ Some f
-    → IsWrittenOut places c it t u payload f.log y after
+    → AreRecordsWritten places c it t u payload f.log y after
     → FitsOn places c it state.map y
     (memory_of after (with_frame_at frames u page (Some (with_frame_log f []))) slots) state
 out_fits places c y it t after frames slots state u page f payload fits there out =
@@ -100,7 +100,7 @@ abbrev unsettled : Told → Told
 unsettled t = record t { settled = false }
 
 unwritten_fits : (t after : Tables) (frames : Frames) (e : ChipFault) (old new : Told)
-    (slots : Slots) (places : ℕ) → Settled {T = Unit {0}} (Err e) old new → old.places ≡ places
+    (slots : SessionSlots) (places : ℕ) → Settled {T = Unit {0}} (Err e) old new → old.places ≡ places
     → Charts (TurnsTables places t after) old new
     → Charts (λ c y. (it : Layout) (state : State)
     → MemoryFits places c it (memory_of t frames slots) state

@@ -4,7 +4,7 @@ use Rattle.std.proofs.lemmas.Bool.{cases_Bool, and_parts, eqb-true}
 use Rattle.chip_trait.specs.Told.{Told}
 use Rattle.ipl_format.specs.Sector.{Sector}
 use Rattle.ipl_meaning.specs.Chart.{Chart, chart_of}
-use Rattle.ipl_meaning.specs.Tables.{Places, Status, Tables}
+use Rattle.ipl_meaning.specs.Tables.{Places, StatusTable, Tables}
 use Rattle.unit_io.specs.Charts.{Charts, Gains}
 use Rattle.unit_io.specs.Costs.{ProgramsAt, Spends}
 use Rattle.unit_io.proofs.CostLemmas.{spends_weaker}
@@ -72,7 +72,7 @@ logs_wear_nothing t after u p s mask next sector old new is =
     (spot_behind t u p s (spot_of_log t after u p s mask next is)) (record {
       retired = log_retired t after u p s mask next is;
       homes = log_homes t after u p s mask next is;
-      status = ap (λ (it : Status). it.place) (log_status t after u p s mask next is);
+      status = ap (λ (it : StatusTable). it.place) (log_status t after u p s mask next is);
     })
 
 -- ---- room for it
@@ -83,7 +83,7 @@ pub room_wears : (places : ℕ) (t after : Tables) (old new : Told) → KnowsPla
     → SparesUsed t.places old new → TellsOfWear t after true false old new
 room_wears places t after old new known holds costs spares =
     spared_places_wear t after true false old new (known.used t.status.place (inr (inl refl)))
-    (ap (λ (it : Status). it.place) holds.status)
+    (ap (λ (it : StatusTable). it.place) holds.status)
     (spends_weaker (ErasesFree t.places after.places 3 false)
     (LeavesPlaces t.places after.places false) old new
     (λ added. erases_leave t.places after.places 3 false added (homes_used places t known) holds.homes)

@@ -24,7 +24,7 @@ use Rattle.step_laws.specs.Laws.{Preserves}
 use Rattle.selective_merge.specs.Spotting.{IsHomeSpot, IsOverflowSpot}
 use Rattle.selective_merge.specs.Throughout.{ChartsThroughout}
 use Rattle.store_laws.specs.Advances.{TurnsTables}
-use Rattle.store_laws.specs.Laws.{IsLogged}
+use Rattle.store_laws.specs.Laws.{StandsInLog}
 use Rattle.page_writing.specs.Rooms.{HasLogRoom}
 
 -- ---- one log sector
@@ -68,7 +68,7 @@ pub record HasLogSector (places : ℕ) (c : Chart) (it : Layout) (t : Tables) (u
   pub is : IsLogOf u (slice_index t.places.generations u) t.next payload sector
   pub gains : Gains at.place at.sector sector c y
   pub tables : IsAfterLog t after u at.place at.sector (mask_by payload) (t.next + 1)
-  pub logged : IsLogged places c it t u records y after
+  pub logged : StandsInLog places c it t u records y after
   pub entry_is : logged.entry ≡ entry_at at.place at.sector sector records
 
 -- whatever layout and records it was to be
@@ -92,7 +92,7 @@ WritesLogInSteps places u at payload t after old result new =
 
 -- There was room, perhaps behind a merge or with a new overflow place; and then the records came to
 -- the chip, as one log sector of the unit.
-pub record IsWrittenOut (places : ℕ) (c : Chart) (it : Layout) (t : Tables) (u : ℕ)
+pub record AreRecordsWritten (places : ℕ) (c : Chart) (it : Layout) (t : Tables) (u : ℕ)
     (payload : Versioned) (records : List Record) (y : Chart) (after : Tables) : Type 0 where
   pub middle : Chart
   pub between : Tables
@@ -104,7 +104,7 @@ pub record IsWrittenOut (places : ℕ) (c : Chart) (it : Layout) (t : Tables) (u
 abbrev pub WritesRecords : ℕ → ℕ → Versioned → Tables → Tables → Chart → Chart → Type 0
 WritesRecords places u payload t after c y = (it : Layout) (records : List Record)
     → Mirrors places c it t → IsPayloadOf t payload records
-    → IsWrittenOut places c it t u payload records y after
+    → AreRecordsWritten places c it t u payload records y after
 
 -- Over what the chip holds: done, the records were written out; and where no write failed, the tables
 -- turned so that all is as before, but that a unit may have been merged.

@@ -4,7 +4,7 @@
 //! never sees a page or a frame: a unit, and the records as a payload. A contract sees the tables as
 //! one record (`tables_of`); a law says what a store with frames keeps so (`store_laws`).
 //!
-//! Proved, by `write_out`, `writing_laws`: a page's records written out: done, the unit's log has
+//! Proved, by `write_records`, `writing_laws`: a page's records written out: done, the unit's log has
 //! one entry more, with exactly these records, behind nothing, a new overflow place or a merge, by
 //! the rules; where it failed and no write did, the state is kept. At each moment a power cut
 //! leaves the same map. At most one place is erased, the least worn free one that isn't found worn then, and
@@ -20,4 +20,4 @@ mod laws;
 mod writing;
 
 pub use laws::writing_laws;
-pub use writing::write_out;
+pub use writing::write_records;

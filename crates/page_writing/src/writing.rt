@@ -114,7 +114,7 @@ fn write_log<C: Chip>(
 ///
 /// It fails as `log_place` does, also where more places are worn than are spare, or where a write
 /// failed.
-pub fn write_out<C: Chip>(
+pub fn write_records<C: Chip>(
     chip: &mut C,
     parts: &mut Parts,
     unit: u32,

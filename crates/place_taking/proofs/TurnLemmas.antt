@@ -45,7 +45,7 @@ use Rattle.step_laws.specs.Steps.{Settled, EndsWith, Outcome, RestsAgreeing}
 use Rattle.step_laws.proofs.StepLemmas.{failures_settle, outcome_then, outcome_weaker}
 use Rattle.place_taking.specs.Spending.{ErasesFree, FindsOneMore, IsFreshFrom, RetiresWorn, SparesClean, SparesUsed, is_found_worn, tells_worn}
 use Rattle.place_taking.specs.Takes.{ClearsNext, ErasesNext, IsAsideFrom, IsNotTaken, IsTakenFrom, RestsTaken, TakesFree, TakesPlace, TellsTaking, with_places}
-use Rattle.place_taking.specs.Turns.{FindsWorn}
+use Rattle.place_taking.specs.Turns.{FindsNextWorn}
 use Rattle.place_taking.proofs.SpendingLemmas.{all_apart, found_later, found_earlier, found_either, or_either, or_left, retires_none, tried_either}
 
 -- ---- the directory
@@ -313,7 +313,7 @@ module _ (d : Places) (p : ℕ) (next : IsNextFree d p) where
 -- ---- a place that is worn
 
 module _ (d between : Places) (p : ℕ) (old mid : Told) (within : p < old.places)
-    (finds : FindsWorn d old p between mid) (ready : IsReadyToTake d) where
+    (finds : FindsNextWorn d old p between mid) (ready : IsReadyToTake d) where
   worn_leads : (m : Map) (it : Layout) (t : Tables) (h : History) → IsSteady h old
       → (same : t.places ≡ d) → RestsAgreeing old.places m it t h
       → Leads {T = Wear} {E = ChipFault} (EachStands old.places m) (λ ok. Clears p false)
@@ -632,7 +632,7 @@ pub record AreTried (first d : Places) (old t : Told) (retired spares : ℕ) : T
 
 -- one more is worn
 pub tried_more : (first d between then : Places) (p : ℕ) (old t mid : Told) (retired spares : ℕ)
-    → AreTried first d old t retired spares → FindsWorn d t p between mid
+    → AreTried first d old t retired spares → FindsNextWorn d t p between mid
     → then ≡ with_retired between p → AreTried first then old mid (retired + 1) spares
 tried_more first d between then p old t mid retired spares tried finds is =
     subst (λ (e : Places). AreTried first e old mid (retired + 1) spares)

@@ -10,7 +10,7 @@ use Rattle.place_taking.specs.declared.taking.Tried.TheVariants.{Erased, Worn as
 use Rattle.place_taking.specs.Takes.{TakesFree}
 
 -- the next free place was found worn, and is in use
-pub record FindsWorn (before : Places) (old : Told) (p : ℕ) (after : Places) (new : Told) : Type 0 where
+pub record FindsNextWorn (before : Places) (old : Told) (p : ℕ) (after : Places) (new : Told) : Type 0 where
   pub next : IsNextFree before p
   pub places_is : after ≡ with_use before p true
   pub worn : Appends (Worn p) old new
@@ -20,5 +20,5 @@ pub record FindsWorn (before : Places) (old : Told) (p : ℕ) (after : Places) (
 -- the next free place was erased, or found worn
 abbrev pub TriesNext : Places → Told → Result Tried ChipFault → Places → Told → Type 0
 TriesNext before old (Ok (Erased p)) after new = TakesFree before old (Ok p) after new
-TriesNext before old (Ok (FoundWorn p)) after new = FindsWorn before old p after new
+TriesNext before old (Ok (FoundWorn p)) after new = FindsNextWorn before old p after new
 TriesNext before old (Err fault) after new = TakesFree before old (Err fault) after new

@@ -10,14 +10,14 @@ use Rattle.unit_layout.specs.Retired.{retired_in}
 use Rattle.place_taking.specs.Homes.{LeavesPlaces}
 
 -- the header of the status place lists this place as retired
-abbrev pub IsListed : Tables → Chart → ℕ → Type 0
-IsListed t c p = (head : Sector) × (c t.status.place 0 ≡ Some head)
+abbrev pub IsListedRetired : Tables → Chart → ℕ → Type 0
+IsListedRetired t c p = (head : Sector) × (c t.status.place 0 ≡ Some head)
     × Contains (retired_in head.version head.payload) p
 
 -- the header of the status place then lists no others than that before did, and what is retired then
 abbrev pub ListsNoOther : Tables → Tables → Chart → Chart → Type 0
-ListsNoOther t after c y = (p : ℕ) → IsListed after y p
-    → IsListed t c p ⊎ Contains after.places.retired p
+ListsNoOther t after c y = (p : ℕ) → IsListedRetired after y p
+    → IsListedRetired t c p ⊎ Contains after.places.retired p
 
 -- What a call leaves of worn places, whatever the chip tells. What was retired is so still, and what is
 -- retired besides was found worn in it. A unit of which nothing is known then has the place that it had,

@@ -29,7 +29,7 @@ pub enum Tried {
     Worn(u32),
 }
 
-/// TakesFree the next free place and erases it, or finds it worn: it is in use then. Where a write failed
+/// Takes the next free place and erases it, or finds it worn: it is in use then. Where a write failed
 /// it is free again.
 fn take_next<C: Chip>(chip: &mut C, directory: &mut Directory) -> Result<Tried, ChipFault>
     requires places { length directory.old.in_use ≡ (C.told chip.old).places }
@@ -50,7 +50,7 @@ fn take_next<C: Chip>(chip: &mut C, directory: &mut Directory) -> Result<Tried, 
     }
 }
 
-/// TakesFree a place where as many are retired as are spare: where it is worn none may be taken any more.
+/// Takes a place where as many are retired as are spare: where it is worn none may be taken any more.
 fn take_last<C: Chip>(chip: &mut C, directory: &mut Directory) -> Result<u32, ChipFault>
     requires places { length directory.old.in_use ≡ (C.told chip.old).places }
     requires ready { IsReadyToTake directory.old }
@@ -84,7 +84,7 @@ fn take_in_turn<C: Chip>(chip: &mut C, directory: &mut Directory) -> Result<u32,
     take_last(chip, directory)
 }
 
-/// TakesFree the least worn free place, the lowest on a tie, and erases it, so that each of its sectors is
+/// Takes the least worn free place, the lowest on a tie, and erases it, so that each of its sectors is
 /// clean: one erase more counts for it then. A place that is found worn is retired, and the next one is
 /// taken. That one place more is free or retired than are spare is a condition. `Stopped` where a write
 /// failed, and `WornOut` where so many places are worn: as many are retired as are spare, and one more

@@ -8,7 +8,7 @@ use Rattle.ipl_rules.specs.State.{is_open}
 use Rattle.ipl_rules.specs.Refusals.{first_of, is_twice, twice}
 use Rattle.ipl_rules.specs.Operations as rules
 use Rattle.ipl_rules.proofs.BatchLemmas.{first_in, later_in, any_alike}
-use Rattle.record_locks.specs.Held.{Slots, after_end, after_batch}
+use Rattle.record_locks.specs.Held.{SessionSlots, after_end, after_batch}
 use Rattle.record_locks.specs.Standing.{state_of}
 use Rattle.record_locks.specs.Names.{BatchesRefuseAsStates, BatchesKeepNames, BatchesKeepMarks}
 use Rattle.record_locks.proofs.SameLemmas.{alike}
@@ -37,6 +37,6 @@ batches_keep_marks slots state (s ∷ ss) within same =
     (commits_mark slots state s (within s (first_in s ss)) same)
 
 -- the number of slots stays
-pub batch_slots : (slots : Slots) (ss : List ℕ) → length (after_batch slots ss) ≡ length slots
+pub batch_slots : (slots : SessionSlots) (ss : List ℕ) → length (after_batch slots ss) ≡ length slots
 batch_slots slots [] = refl
 batch_slots slots (s ∷ ss) = batch_slots (after_end slots s) ss ∙ length-set slots s None

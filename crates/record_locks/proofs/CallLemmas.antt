@@ -7,7 +7,7 @@ use Rattle.std.proofs.lemmas.Bool.Decides.{nat_tests}
 use Rattle.std.proofs.lemmas.List.{get_or_read}
 use Rattle.ipl_rules.specs.State as rules
 use Rattle.ipl_rules.specs.Refusals as tests
-use Rattle.record_locks.specs.Held.{Held, Slots, held_at, written_of, is_among, raised, slot_marks, marks_in, with_written, with_shared}
+use Rattle.record_locks.specs.Held.{Held, SessionSlots, held_at, written_of, is_among, raised, slot_marks, marks_in, with_written, with_shared}
 use Rattle.ipl_rules.specs.Slots.{open_from}
 use Rattle.record_locks.specs.Standing.{state_of, slot_of, keeps_from}
 use Rattle.record_locks.specs.Locks.{AreSoundSlots, IsSized, total, written_in, pending_full, refuses_share, refuses_write, holder_of}
@@ -18,7 +18,7 @@ use Rattle.record_locks.proofs.MarkLemmas.{written_marks, written_sized, sized_a
 use Rattle.record_locks.proofs.SoundLemmas.{sound_less, sound_more, once_more}
 use Rattle.ipl_rules.specs.Marks.{with_mark, overloads}
 
-pub holder_at : (slots : Slots) (s n : ℕ) (for_write : Bool)
+pub holder_at : (slots : SessionSlots) (s n : ℕ) (for_write : Bool)
     → option_map (λ e. e.0) (find (λ e. not (e.0 == s) && keeps_from for_write n e.1) (open_from 0 (map slot_of slots))) ≡ holder_of slots s n for_write
 unfolding state_of
 holder_at slots s n true = ap (λ (es : List (ℕ × rules.Session)). option_map (λ e. e.0) (find (λ e. not (e.0 == s) && keeps_from true n e.1) es)) (sym (entries-opened (map slot_of slots)))
@@ -41,7 +41,7 @@ has_room : (new full : Bool) → (new && full) ≡ false → new ≡ true → fu
 has_room true full is new_is = is
 has_room false full is new_is = absurd (cc new_is)
 
-pub share_room : (slots : Slots) (s n : ℕ) (h : Held) → refuses_share slots s n ≡ None → held_at slots s ≡ Some h
+pub share_room : (slots : SessionSlots) (s n : ℕ) (h : Held) → refuses_share slots s n ≡ None → held_at slots s ≡ Some h
     → is_among n h.written ≡ false → is_among n h.shared ≡ false → length h.shared < 256
 share_room slots s n h none is new_write new_share =
     let state = state_of slots in
@@ -58,23 +58,23 @@ share_room slots s n h none is new_write new_share =
     grind (arith, nat_tests)
 
 -- what a share needs of the slot
-pub share_may : (slots : Slots) (s n : ℕ) (o : Option Held) → refuses_share slots s n ≡ None → held_at slots s ≡ o
+pub share_may : (slots : SessionSlots) (s n : ℕ) (o : Option Held) → refuses_share slots s n ≡ None → held_at slots s ≡ o
     → IfSome o (λ h. is_among n h.written ≡ false → is_among n h.shared ≡ false → length h.shared < 256)
 share_may slots s n None none is = tt
 share_may slots s n (Some h) none is = share_room slots s n h none is
 
 -- a new name is nobody's, and there is room for it
-pub record MayWrite (slots : Slots) (s n : ℕ) (h : Held) : Type 0 where
+pub record MayWrite (slots : SessionSlots) (s n : ℕ) (h : Held) : Type 0 where
   pub few : length h.written < 256
   pub new : total (λ k. k == n) slots ≡ 0
 
 -- what a write that isn't refused has passed
-record Passed (slots : Slots) (s n size : ℕ) : Type 0 where
+record Passed (slots : SessionSlots) (s n size : ℕ) : Type 0 where
   nobody : rules.holder_for_write (state_of slots) s n ≡ None
   not_full : (tests.writes_full (state_of slots) s n).0 ≡ false
   light : overloads (marks_in slots) n (1 + size) ≡ false
 
-write_passes : (slots : Slots) (s n size : ℕ) → refuses_write slots s n size ≡ None → Passed slots s n size
+write_passes : (slots : SessionSlots) (s n size : ℕ) → refuses_write slots s n size ≡ None → Passed slots s n size
 write_passes slots s n size none =
     let state = state_of slots in
     let conflict = tests.conflict (rules.holder_for_write state s n) in
@@ -86,7 +86,7 @@ write_passes slots s n size none =
     let unit_is = passed full [] full_is.1 in
     record { nobody = no_holder (rules.holder_for_write state s n) held_is.0; not_full = full_is.0; light = unit_is.0 }
 
-pub write_room : (slots : Slots) (s n size : ℕ) (h : Held) → AreSoundSlots slots → refuses_write slots s n size ≡ None → held_at slots s ≡ Some h → is_among n h.written ≡ false → MayWrite slots s n h
+pub write_room : (slots : SessionSlots) (s n size : ℕ) (h : Held) → AreSoundSlots slots → refuses_write slots s n size ≡ None → held_at slots s ≡ Some h → is_among n h.written ≡ false → MayWrite slots s n h
 write_room slots s n size h sound none is new_write =
     let state = state_of slots in
     let went = write_passes slots s n size none in
@@ -101,16 +101,16 @@ write_room slots s n size h sound none is new_write =
     }
 
 -- what a write needs of the slot
-pub write_may : (slots : Slots) (s n size : ℕ) (o : Option Held) → AreSoundSlots slots → refuses_write slots s n size ≡ None → held_at slots s ≡ o
+pub write_may : (slots : SessionSlots) (s n size : ℕ) (o : Option Held) → AreSoundSlots slots → refuses_write slots s n size ≡ None → held_at slots s ≡ o
     → IfSome o (λ h. is_among n h.written ≡ false → length h.written < 256)
 write_may slots s n size None sound none is = tt
 write_may slots s n size (Some h) sound none is = λ new. (write_room slots s n size h sound none is new).few
 
-pub slot_sized : (slots : Slots) (s : ℕ) (o : Option Held) → AreSoundSlots slots → held_at slots s ≡ o → IfSome o (λ h. length h.sizes ≡ length h.written)
+pub slot_sized : (slots : SessionSlots) (s : ℕ) (o : Option Held) → AreSoundSlots slots → held_at slots s ≡ o → IfSome o (λ h. length h.sizes ≡ length h.written)
 slot_sized slots s None sound is = tt
 slot_sized slots s (Some h) sound is = subst IsSized is (sized_at slots s sound.sized)
 
-pub sound_written : (slots : Slots) (s n size : ℕ) (o : Option Held) → AreSoundSlots slots → s < length slots → refuses_write slots s n size ≡ None → get_or slots s None ≡ o → AreSoundSlots (set slots s (option_map (with_written n size) o))
+pub sound_written : (slots : SessionSlots) (s n size : ℕ) (o : Option Held) → AreSoundSlots slots → s < length slots → refuses_write slots s n size ≡ None → get_or slots s None ≡ o → AreSoundSlots (set slots s (option_map (with_written n size) o))
 sound_written slots s n size None sound within none is = sound_less slots s None sound within (λ p. omega arith) refl (λ q. omega arith)
 sound_written slots s n size (Some h) sound within none is =
     sound_more slots s n (1 + size) (Some (with_written n size h)) sound within (once (is_among n h.written) refl) (written_sized n size h sized)
@@ -130,7 +130,7 @@ sound_written slots s n size (Some h) sound within none is =
         ap (λ (t : Bool). (cond t (record h { sizes = raised h.written h.sizes n size }) (record h { written = h.written ++ n ∷ []; sizes = h.sizes ++ size ∷ [] })).written) new in
         once_more slots s n h (with_written n size h) sound within is (write_room slots s n size h sound none is new).new names k
 
-pub sound_shared : (slots : Slots) (s n : ℕ) (o : Option Held) → AreSoundSlots slots → s < length slots → get_or slots s None ≡ o → AreSoundSlots (set slots s (option_map (with_shared n) o))
+pub sound_shared : (slots : SessionSlots) (s n : ℕ) (o : Option Held) → AreSoundSlots slots → s < length slots → get_or slots s None ≡ o → AreSoundSlots (set slots s (option_map (with_shared n) o))
 sound_shared slots s n None sound within is = sound_less slots s None sound within (λ p. omega arith) refl (λ q. omega arith)
 sound_shared slots s n (Some h) sound within is =
     sound_less slots s (Some (with_shared n h)) sound within (λ p. omega (arith, ap (written_in p) is, same p (is_among n h.written) (is_among n h.shared)))
@@ -153,5 +153,5 @@ sound_shared slots s n (Some h) sound within is =
     marks_same q false false = refl
 
 -- what is read of a slot is what it holds
-pub slot_held : (slots : Slots) (s : ℕ) (o : Option Held) → s < length slots → o ≡ get_or slots s o → held_at slots s ≡ o
+pub slot_held : (slots : SessionSlots) (s : ℕ) (o : Option Held) → s < length slots → o ≡ get_or slots s o → held_at slots s ≡ o
 slot_held slots s o within is = sym (get_or_read slots s o within is None)

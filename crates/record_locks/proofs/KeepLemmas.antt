@@ -10,9 +10,9 @@ use Rattle.std.proofs.lemmas.List.{reverse-append}
 use Rattle.ipl_rules.specs.State.{State, Session, Write, last_write, written_names}
 use Rattle.ipl_rules.specs.Refusals.{is_new_share}
 use Rattle.ipl_rules.specs.Operations as rules
-use Rattle.record_locks.specs.Held.{Held, Slots, held_at, is_among, raised, slot_marks, with_written, with_shared, new_held, after_share, after_write, after_end}
+use Rattle.record_locks.specs.Held.{Held, SessionSlots, held_at, is_among, raised, slot_marks, with_written, with_shared, new_held, after_share, after_write, after_end}
 use Rattle.record_locks.specs.Standing.{state_of, slot_of, session_of, write_of}
-use Rattle.record_locks.specs.Names.{names_of, SameNames, SameMarks, KeepsNames, KeepsMarks, CallsKeepNames, CallsKeepMarks}
+use Rattle.record_locks.specs.Names.{names_of, SameNames, SameMarks, KeepsNames, KeepsNameMarks, CallsKeepNames, CallsKeepMarks}
 use Rattle.record_locks.specs.Locks.{IsSized}
 use Rattle.ipl_base.specs.Sizes.{size_in_page}
 use Rattle.ipl_rules.specs.Marks.{marks_of}
@@ -27,7 +27,7 @@ abbrev Names : Type 0
 Names = List ℕ × List ℕ
 
 -- a state that differs in one session, and slots that differ there likewise
-keep : (slots : Slots) (state later : State) (s : ℕ) (o : Option Held) (x : Option Session) → s < length slots → SameNames (state_of slots) state
+keep : (slots : SessionSlots) (state later : State) (s : ℕ) (o : Option Held) (x : Option Session) → s < length slots → SameNames (state_of slots) state
     → ((q : ℕ) → get later.sessions q ≡ cond (eq_by_cmp nat_cmp q s) x (get state.sessions q)) → option_map names_of (slot_of o) ≡ option_map names_of x
     → SameNames (state_of (set slots s o)) later
 keep slots state later s o x within same gets names q =
@@ -122,7 +122,7 @@ none_of zero q = refl
 none_of (suc k) zero = refl
 none_of (suc k) (suc q) = none_of k q
 
-module _ (slots : Slots) (state : State) (s : ℕ) (within : s < length slots) (same : SameNames (state_of slots) state) where
+module _ (slots : SessionSlots) (state : State) (s : ℕ) (within : s < length slots) (same : SameNames (state_of slots) state) where
   -- the session in the slot, and the state's
   here : option_map names_of (slot_of (held_at slots s)) ≡ option_map names_of (get state.sessions s)
   here = ap (option_map names_of) (sym (session_at slots s)) ∙ same s
@@ -178,7 +178,7 @@ keeps_names slots state s within same = keeps slots state s within same
 abbrev marks_in_state : Option Session → ℕ → ℕ
 marks_in_state o n = marks_of (option_map_or (λ x. x.writes) o []) n
 
-keep_marks : (slots : Slots) (state later : State) (s : ℕ) (o : Option Held) (x : Option Session) → s < length slots → SameMarks slots state
+keep_marks : (slots : SessionSlots) (state later : State) (s : ℕ) (o : Option Held) (x : Option Session) → s < length slots → SameMarks slots state
     → ((q : ℕ) → get later.sessions q ≡ cond (eq_by_cmp nat_cmp q s) x (get state.sessions q)) → ((n : ℕ) → slot_marks o n ≡ marks_in_state x n)
     → SameMarks (set slots s o) later
 keep_marks slots state later s o x within same gets marks q n =
@@ -188,10 +188,10 @@ keep_marks slots state later s o x within same gets marks q n =
     by_key true = marks n
     by_key false = same q n
 
-pub commits_mark : (slots : Slots) (state : State) (s : ℕ) → s < length slots → SameMarks slots state → SameMarks (after_end slots s) (rules.after_commit state s)
+pub commits_mark : (slots : SessionSlots) (state : State) (s : ℕ) → s < length slots → SameMarks slots state → SameMarks (after_end slots s) (rules.after_commit state s)
 commits_mark slots state s within same = keep_marks slots state (rules.after_commit state s) s None None within same (get-remove nat_cmp_total state.sessions s) (λ n. refl)
 
-module _ (slots : Slots) (state : State) (s : ℕ) (within : s < length slots) (sized : All IsSized slots) (names : SameNames (state_of slots) state) (same : SameMarks slots state) where
+module _ (slots : SessionSlots) (state : State) (s : ℕ) (within : s < length slots) (sized : All IsSized slots) (names : SameNames (state_of slots) state) (same : SameMarks slots state) where
   -- the session is open in both, or in neither
   both_open : option_map names_of (slot_of (held_at slots s)) ≡ option_map names_of (get state.sessions s)
   both_open = here slots state s within names
@@ -226,7 +226,7 @@ module _ (slots : Slots) (state : State) (s : ℕ) (within : s < length slots) (
       by_slot (Some h) None is marks sized q = absurd (cc is)
       by_slot (Some h) (Some x) is marks sized q = written_marks n (size_in_page change) h q sized ∙ ap (λ (k : ℕ). cond (n == q) (max (1 + size_in_page change) k) k) (marks q)
 
-  marks_kept : KeepsMarks slots state s
+  marks_kept : KeepsNameMarks slots state s
   marks_kept = record {
     begins = λ number. keep_marks slots state (rules.after_begin state s) s (Some (new_held number)) (Some rules.new_session) within same (get-insert nat_cmp_total state.sessions s rules.new_session) (λ n. refl);
     shares = shares_mark;

@@ -10,7 +10,7 @@ use Rattle.std.proofs.lemmas.List.Elements.{All-cons}
 use Rattle.ipl_rules.specs.Marks.{with_mark, weight_of_mark, weights}
 use Rattle.ipl_base.specs.declared.limits.TheConstants.{UNIT_NAMES}
 use Rattle.ipl_rules.proofs.WeightLemmas.{weights_same, weights_none, weights_joined, weights_new}
-use Rattle.record_locks.specs.Held.{Held, Slots, held_at, written_of, is_among, mark_in, raised, weight_listed, slot_marks, marks_in, slot_weight, with_written}
+use Rattle.record_locks.specs.Held.{Held, SessionSlots, held_at, written_of, is_among, mark_in, raised, weight_listed, slot_marks, marks_in, slot_weight, with_written}
 use Rattle.record_locks.specs.Locks.{IsSized, OneWriter, total, written_in}
 use Rattle.record_locks.proofs.NameLemmas.{count_cons, counted_once}
 use Rattle.record_locks.proofs.TotalLemmas.{total_cons}
@@ -42,7 +42,7 @@ uncounted names n none = elim (cases_Bool (is_among n names)) [
 pub uncounted_mark : (o : Option Held) (n : ℕ) → written_in (λ k. k == n) o ≡ 0 → slot_marks o n ≡ 0
 uncounted_mark o n none = absent_slot o n (uncounted (option_map_or (λ h. h.written) o []) n none)
 
-pub untotaled_mark : (slots : Slots) (n : ℕ) → total (λ k. k == n) slots ≡ 0 → marks_in slots n ≡ 0
+pub untotaled_mark : (slots : SessionSlots) (n : ℕ) → total (λ k. k == n) slots ≡ 0 → marks_in slots n ≡ 0
 untotaled_mark [] n none = refl
 untotaled_mark (o ∷ slots) n none =
     let one = uncounted_mark o n (omega (arith, none, total_cons (λ k. k == n) o slots)) in
@@ -83,7 +83,7 @@ slot_weighs : (o : Option Held) (unit : ℕ) → ((n : ℕ) → written_in (λ k
 slot_weighs None unit once = weights_none unit
 slot_weighs (Some h) unit once = list_weighs h.written h.sizes unit once
 
-pub slots_weigh : (slots : Slots) (unit : ℕ) → ((n : ℕ) → total (λ k. k == n) slots ≤ 1) → weights (marks_in slots) unit ≡ sum_by (λ o. slot_weight o unit) slots
+pub slots_weigh : (slots : SessionSlots) (unit : ℕ) → ((n : ℕ) → total (λ k. k == n) slots ≤ 1) → weights (marks_in slots) unit ≡ sum_by (λ o. slot_weight o unit) slots
 slots_weigh [] unit once = weights_none unit
 slots_weigh (o ∷ slots) unit once =
     let rest = slots_weigh slots unit (λ n. omega (arith, once n, total_cons (λ k. k == n) o slots)) in
@@ -185,17 +185,17 @@ written_sized n size h sized = elim (cases_Bool (is_among n h.written)) [
 
 -- ---- one slot of all
 
-pub one_of_all : (slots : Slots) (s n : ℕ) → slot_marks (held_at slots s) n ≤ marks_in slots n
+pub one_of_all : (slots : SessionSlots) (s n : ℕ) → slot_marks (held_at slots s) n ≤ marks_in slots n
 one_of_all [] s n = omega arith
 one_of_all (o ∷ slots) zero n = le-max_left (slot_marks o n) (marks_in slots n)
 one_of_all (o ∷ slots) (suc s) n = let rest = one_of_all slots s n in omega (arith, rest, le-max_right (slot_marks o n) (marks_in slots n))
 
-pub all_at_most : (slots : Slots) (n k : ℕ) → ((s : ℕ) → slot_marks (held_at slots s) n ≤ k) → marks_in slots n ≤ k
+pub all_at_most : (slots : SessionSlots) (n k : ℕ) → ((s : ℕ) → slot_marks (held_at slots s) n ≤ k) → marks_in slots n ≤ k
 all_at_most [] n k each = omega arith
 all_at_most (o ∷ slots) n k each = max-le (each 0) (all_at_most slots n k (λ s. each (suc s)))
 
 -- a name that one session wrote, and so no other
-pub one_is_all : (slots : Slots) (s n : ℕ) → OneWriter slots → is_among n (written_of slots s) ≡ true
+pub one_is_all : (slots : SessionSlots) (s n : ℕ) → OneWriter slots → is_among n (written_of slots s) ≡ true
     → slot_marks (held_at slots s) n ≡ marks_in slots n
 one_is_all slots s n once wrote =
     omega (arith, one_of_all slots s n, all_at_most slots n (slot_marks (held_at slots s) n) each)
@@ -206,18 +206,18 @@ one_is_all slots s n once wrote =
       | inr other ↦ omega (arith, absent_slot (held_at slots t) n other)
     ]
 
-pub set_most : (slots : Slots) (s : ℕ) (o : Option Held) (n k : ℕ) → slot_marks o n ≤ k → marks_in slots n ≤ k → marks_in (set slots s o) n ≤ k
+pub set_most : (slots : SessionSlots) (s : ℕ) (o : Option Held) (n k : ℕ) → slot_marks o n ≤ k → marks_in slots n ≤ k → marks_in (set slots s o) n ≤ k
 set_most [] s o n k new old = omega arith
 set_most (x ∷ slots) zero o n k new old = max-le new (omega (arith, old, le-max_right (slot_marks x n) (marks_in slots n)))
 set_most (x ∷ slots) (suc s) o n k new old =
     max-le (omega (arith, old, le-max_left (slot_marks x n) (marks_in slots n)))
     (set_most slots s o n k new (omega (arith, old, le-max_right (slot_marks x n) (marks_in slots n))))
 
-pub set_less : (slots : Slots) (s : ℕ) (o : Option Held) (n : ℕ) → slot_marks o n ≤ slot_marks (held_at slots s) n → marks_in (set slots s o) n ≤ marks_in slots n
+pub set_less : (slots : SessionSlots) (s : ℕ) (o : Option Held) (n : ℕ) → slot_marks o n ≤ slot_marks (held_at slots s) n → marks_in (set slots s o) n ≤ marks_in slots n
 set_less slots s o n less = set_most slots s o n (marks_in slots n) (omega (arith, less, one_of_all slots s n)) (omega arith)
 
 -- a slot with one more write
-pub set_written : (slots : Slots) (s n m : ℕ) (o : Option Held) (q : ℕ) → slot_marks o q ≡ with_mark (slot_marks (held_at slots s)) n m q
+pub set_written : (slots : SessionSlots) (s n m : ℕ) (o : Option Held) (q : ℕ) → slot_marks o q ≡ with_mark (slot_marks (held_at slots s)) n m q
     → marks_in (set slots s o) q ≤ with_mark (marks_in slots) n m q
 set_written slots s n m o q is = elim (cases_Bool (n == q)) [
   | inl at ↦
@@ -229,12 +229,12 @@ set_written slots s n m o q is = elim (cases_Bool (n == q)) [
       rw away (set_less slots s o q (omega (arith, old)))
 ]
 
-pub all_sized_set : (slots : Slots) (s : ℕ) (o : Option Held) → All IsSized slots → IsSized o → All IsSized (set slots s o)
+pub all_sized_set : (slots : SessionSlots) (s : ℕ) (o : Option Held) → All IsSized slots → IsSized o → All IsSized (set slots s o)
 all_sized_set [] s o each is = each
 all_sized_set (x ∷ slots) zero o each is = All-cons IsSized o slots is (λ k d low. each (suc k) d (omega (arith, low)))
 all_sized_set (x ∷ slots) (suc s) o each is = All-cons IsSized x (set slots s o) (each 0 x (omega arith)) (all_sized_set slots s o (λ k d low. each (suc k) d (omega (arith, low))) is)
 
-pub sized_at : (slots : Slots) (s : ℕ) → All IsSized slots → IsSized (held_at slots s)
+pub sized_at : (slots : SessionSlots) (s : ℕ) → All IsSized slots → IsSized (held_at slots s)
 sized_at [] s each = refl
 sized_at (x ∷ slots) zero each = each 0 x (omega arith)
 sized_at (x ∷ slots) (suc s) each = sized_at slots s (λ k d low. each (suc k) d (omega (arith, low)))

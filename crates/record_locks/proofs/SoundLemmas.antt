@@ -9,13 +9,13 @@ use Rattle.ipl_rules.specs.Marks.{weights, with_mark, overloads}
 use Rattle.ipl_base.specs.declared.limits.TheConstants.{PENDING_WEIGHT, SESSIONS, UNIT_NAMES}
 use Rattle.ipl_rules.proofs.MarkLemmas.{le_trans}
 use Rattle.ipl_rules.proofs.WeightLemmas.{weights_same, weights_none, weights_less, weights_elsewhere}
-use Rattle.record_locks.specs.Held.{Held, Slots, held_at, slot_marks, marks_in}
+use Rattle.record_locks.specs.Held.{Held, SessionSlots, held_at, slot_marks, marks_in}
 use Rattle.record_locks.specs.Locks.{AreSoundSlots, IsSized, total, written_in}
 use Rattle.record_locks.proofs.TotalLemmas.{total_set, total_cons, one_more}
 use Rattle.record_locks.proofs.MarkLemmas.{set_less, set_written, all_sized_set}
 
 -- a slot in which no more names pass, and whose marks are no greater, keeps all sound
-pub sound_less : (slots : Slots) (s : ℕ) (o : Option Held) → AreSoundSlots slots → s < length slots → ((p : ℕ → Bool) → written_in p o ≤ written_in p (get_or slots s None))
+pub sound_less : (slots : SessionSlots) (s : ℕ) (o : Option Held) → AreSoundSlots slots → s < length slots → ((p : ℕ → Bool) → written_in p o ≤ written_in p (get_or slots s None))
     → IsSized o → ((n : ℕ) → slot_marks o n ≤ slot_marks (held_at slots s) n) → AreSoundSlots (set slots s o)
 sound_less slots s o sound within less sized marks = record {
   all = length-set slots s o ∙ sound.all;
@@ -25,7 +25,7 @@ sound_less slots s o sound within less sized marks = record {
 }
 
 -- a slot with a write that isn't refused
-pub sound_more : (slots : Slots) (s n m : ℕ) (o : Option Held) → AreSoundSlots slots → s < length slots → ((k : ℕ) → total (λ j. j == k) (set slots s o) ≤ 1)
+pub sound_more : (slots : SessionSlots) (s n m : ℕ) (o : Option Held) → AreSoundSlots slots → s < length slots → ((k : ℕ) → total (λ j. j == k) (set slots s o) ≤ 1)
     → IsSized o → ((q : ℕ) → slot_marks o q ≡ with_mark (slot_marks (held_at slots s)) n m q) → overloads (marks_in slots) n m ≡ false → AreSoundSlots (set slots s o)
 sound_more slots s n m o sound within once sized marks room = record {
   all = length-set slots s o ∙ sound.all;
@@ -42,7 +42,7 @@ sound_more slots s n m o sound within once sized marks room = record {
     by_unit unit (inr other) = subst (λ (k : ℕ). k ≤ PENDING_WEIGHT) (sym (weights_elsewhere (marks_in slots) n m unit other)) (sound.few unit)
 
 -- no name is written twice where a new one is added that nobody wrote
-pub once_more : (slots : Slots) (s n : ℕ) (h new : Held) → AreSoundSlots slots → s < length slots → get_or slots s None ≡ Some h
+pub once_more : (slots : SessionSlots) (s n : ℕ) (h new : Held) → AreSoundSlots slots → s < length slots → get_or slots s None ≡ Some h
     → total (λ k. k == n) slots ≡ 0 → new.written ≡ h.written ++ n ∷ [] → (k : ℕ) → total (λ j. j == k) (set slots s (Some new)) ≤ 1
 once_more slots s n h new sound within is none names k = by_name (cases_eq k n)
   where

@@ -8,7 +8,7 @@ use Rattle.std.proofs.lemmas.Bool.Decides.{nat_tests}
 use Rattle.std.proofs.lemmas.List.{map-append, length-reverse, get_or_past}
 use Rattle.std.proofs.lemmas.List.Sums.{sum_by-set, sum_by-append, get_or-le-sum_by}
 use Rattle.ipl_rules.specs.State as rules
-use Rattle.record_locks.specs.Held.{Held, Slots, held_at, written_of, is_among}
+use Rattle.record_locks.specs.Held.{Held, SessionSlots, held_at, written_of, is_among}
 use Rattle.ipl_rules.specs.Slots.{open_from}
 use Rattle.record_locks.specs.Standing.{state_of, slot_of, session_of, write_of}
 use Rattle.record_locks.specs.Locks.{AreSoundSlots, OneWriter, total, written_in}
@@ -16,7 +16,7 @@ use Rattle.record_locks.proofs.NameLemmas.{count_of_reversed, written_once, coun
 use Rattle.ipl_rules.proofs.SlotLemmas.{entries-opened}
 use Rattle.record_locks.proofs.StandingLemmas.{writes_at}
 
-pub total_set : (p : ℕ → Bool) (slots : Slots) (s : ℕ) (o : Option Held) → s < length slots → total p (set slots s o) + written_in p (get_or slots s None) ≡ total p slots + written_in p o
+pub total_set : (p : ℕ → Bool) (slots : SessionSlots) (s : ℕ) (o : Option Held) → s < length slots → total p (set slots s o) + written_in p (get_or slots s None) ≡ total p slots + written_in p o
 total_set p slots s o within = sum_by-set (written_in p) slots s o None within
 
 -- ---- a name more
@@ -28,23 +28,23 @@ one_more p names n =
 
 -- ---- all names that are written
 
-pub total_cons : (p : ℕ → Bool) (o : Option Held) (slots : Slots) → total p (o ∷ slots) ≡ written_in p o + total p slots
+pub total_cons : (p : ℕ → Bool) (o : Option Held) (slots : SessionSlots) → total p (o ∷ slots) ≡ written_in p o + total p slots
 total_cons p o slots =
     let one : sum_by (written_in p) (o ∷ []) ≡ written_in p o = omega arith in
     sum_by-append (written_in p) (o ∷ []) slots ∙ omega (arith, one)
 
-all_names : Slots → List ℕ
+all_names : SessionSlots → List ℕ
 all_names [] = []
 all_names (o ∷ slots) = reverse (option_map_or (λ h. h.written) o []) ++ all_names slots
 
-writes_all : (i : ℕ) (slots : Slots) → flat_map (λ e. e.1.writes) (open_from i (map slot_of slots)) ≡ map write_of (all_names slots)
+writes_all : (i : ℕ) (slots : SessionSlots) → flat_map (λ e. e.1.writes) (open_from i (map slot_of slots)) ≡ map write_of (all_names slots)
 unfolding all_names
 writes_all i [] = refl
 writes_all i (None ∷ slots) = writes_all (suc i) slots
 writes_all i (Some h ∷ slots) =
     ap (λ (ws : List rules.Write). map write_of (reverse h.written) ++ ws) (writes_all (suc i) slots) ∙ sym (map-append write_of (reverse h.written) (all_names slots))
 
-count_all : (p : ℕ → Bool) (slots : Slots) → count_by p (all_names slots) ≡ total p slots
+count_all : (p : ℕ → Bool) (slots : SessionSlots) → count_by p (all_names slots) ≡ total p slots
 unfolding all_names
 count_all p [] = refl
 count_all p (o ∷ slots) =
@@ -53,7 +53,7 @@ count_all p (o ∷ slots) =
     ∙ sym (total_cons p o slots)
 
 -- no session wrote more names that pass than all together
-pub part_of_total : (p : ℕ → Bool) (slots : Slots) (s : ℕ) → written_in p (held_at slots s) ≤ total p slots
+pub part_of_total : (p : ℕ → Bool) (slots : SessionSlots) (s : ℕ) → written_in p (held_at slots s) ≤ total p slots
 part_of_total p slots s = elim (cases_lt s (length slots)) [
   | inl within ↦ get_or-le-sum_by (written_in p) slots s None within
   | inr past ↦
@@ -62,7 +62,7 @@ part_of_total p slots s = elim (cases_lt s (length slots)) [
 ]
 
 -- how many names a session wrote
-pub names_counted : (slots : Slots) (s : ℕ) → AreSoundSlots slots → length (rules.written_names (rules.writes_of (state_of slots) s)) ≡ length (written_of slots s)
+pub names_counted : (slots : SessionSlots) (s : ℕ) → AreSoundSlots slots → length (rules.written_names (rules.writes_of (state_of slots) s)) ≡ length (written_of slots s)
 names_counted slots s sound =
     ap (λ (ws : List rules.Write). length (rules.written_names ws)) (writes_at slots s)
     ∙ ap length (written_once (reverse (written_of slots s)) once)
@@ -82,7 +82,7 @@ either : (a b : Bool) → (a || b) ≡ false → a ≡ false
 either true b is = is
 either false b is = refl
 
-others_clear : (s n i : ℕ) (slots : Slots) → find (λ e. not (e.0 == s) && (rules.has_written e.1 n || rules.has_shared e.1 n)) (open_from i (map slot_of slots)) ≡ None
+others_clear : (s n i : ℕ) (slots : SessionSlots) → find (λ e. not (e.0 == s) && (rules.has_written e.1 n || rules.has_shared e.1 n)) (open_from i (map slot_of slots)) ≡ None
     → ((j : ℕ) → i + j ≡ s → is_among n (written_of slots j) ≡ false) → total (λ k. k == n) slots ≡ 0
 others_clear s n i [] none own = refl
 others_clear s n i (None ∷ slots) none own =
@@ -101,7 +101,7 @@ others_clear s n i (Some h ∷ slots) none own =
         let tests = ap (λ (b : Bool). not b && (rules.has_written (session_of h) n || rules.has_shared (session_of h) n)) no in
         sym (among_reversed h.written n) ∙ either (rules.has_written (session_of h) n) (rules.has_shared (session_of h) n) (sym tests ∙ fails)
 
-pub nobody_wrote : (slots : Slots) (s n : ℕ) → rules.holder_for_write (state_of slots) s n ≡ None → is_among n (written_of slots s) ≡ false → total (λ k. k == n) slots ≡ 0
+pub nobody_wrote : (slots : SessionSlots) (s n : ℕ) → rules.holder_for_write (state_of slots) s n ≡ None → is_among n (written_of slots s) ≡ false → total (λ k. k == n) slots ≡ 0
 unfolding state_of
 nobody_wrote slots s n none new =
     others_clear s n 0 slots
@@ -115,7 +115,7 @@ nobody_wrote slots s n none new =
 
 -- ---- what callers may know
 
-pub one_writer : (slots : Slots) → AreSoundSlots slots → OneWriter slots
+pub one_writer : (slots : SessionSlots) → AreSoundSlots slots → OneWriter slots
 one_writer slots sound s t n by_s by_t = by_order (cases_eq s t)
   where
     counted_s : 1 ≤ written_in (λ k. k == n) (held_at slots s)

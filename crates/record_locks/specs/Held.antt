@@ -14,23 +14,23 @@ pub record Held : Type 0 where
   pub shared : List ℕ
 
 -- for each number, an open session or none
-abbrev pub Slots : Type 0
-Slots = List (Option Held)
+abbrev pub SessionSlots : Type 0
+SessionSlots = List (Option Held)
 
 -- what a slot holds, none past the last
-abbrev pub held_at : Slots → ℕ → Option Held
+abbrev pub held_at : SessionSlots → ℕ → Option Held
 held_at slots s = slice_index_or slots s None
 
 -- the transaction number of a session, where it is open
-abbrev pub number_of : Slots → ℕ → Option ℕ
+abbrev pub number_of : SessionSlots → ℕ → Option ℕ
 number_of slots s = option_map (λ h. h.number) (held_at slots s)
 
 -- the names that a session wrote, none where it isn't open
-abbrev pub written_of : Slots → ℕ → List ℕ
+abbrev pub written_of : SessionSlots → ℕ → List ℕ
 written_of slots s = option_map_or (λ h. h.written) (held_at slots s) []
 
 -- the names that a session shares, none where it isn't open
-abbrev pub shared_of : Slots → ℕ → List ℕ
+abbrev pub shared_of : SessionSlots → ℕ → List ℕ
 shared_of slots s = option_map_or (λ h. h.shared) (held_at slots s) []
 
 -- the name is among these
@@ -38,7 +38,7 @@ abbrev pub is_among : ℕ → List ℕ → Bool
 is_among n names = list_any (λ k. k == n) names
 
 -- the names that these sessions wrote, one session after the other
-abbrev pub written_by : Slots → List ℕ → List ℕ
+abbrev pub written_by : SessionSlots → List ℕ → List ℕ
 written_by slots [] = []
 written_by slots (s ∷ ss) = written_of slots s ++ written_by slots ss
 
@@ -49,12 +49,12 @@ writer_number (n ∷ names) None = []
 writer_number (n ∷ names) (Some number) = number ∷ []
 
 -- the numbers of those of these sessions that wrote something, in their order
-abbrev pub writer_numbers : Slots → List ℕ → List ℕ
+abbrev pub writer_numbers : SessionSlots → List ℕ → List ℕ
 writer_numbers slots [] = []
 writer_numbers slots (s ∷ ss) = writer_number (written_of slots s) (number_of slots s) ++ writer_numbers slots ss
 
 -- the transaction numbers of the open sessions, in the order of their slots
-abbrev pub numbers_in : Slots → List ℕ
+abbrev pub numbers_in : SessionSlots → List ℕ
 numbers_in [] = []
 numbers_in (None ∷ slots) = numbers_in slots
 numbers_in (Some h ∷ slots) = h.number ∷ numbers_in slots
@@ -94,7 +94,7 @@ slot_marks None n = 0
 slot_marks (Some h) n = mark_in h.written h.sizes n
 
 -- those of all sessions
-abbrev pub marks_in : Slots → Marks
+abbrev pub marks_in : SessionSlots → Marks
 marks_in [] n = 0
 marks_in (o ∷ slots) n = max (slot_marks o n) (marks_in slots n)
 
@@ -114,22 +114,22 @@ abbrev pub with_shared : ℕ → Held → Held
 with_shared n h = if is_among n h.written then h else if is_among n h.shared then h else record h { shared = h.shared ++ n ∷ [] }
 
 -- the session is opened
-abbrev pub after_begin : Slots → ℕ → ℕ → Slots
+abbrev pub after_begin : SessionSlots → ℕ → ℕ → SessionSlots
 after_begin slots s number = slice_set slots s (Some (new_held number))
 
 -- the session, where it is open, shares the name
-abbrev pub after_share : Slots → ℕ → ℕ → Slots
+abbrev pub after_share : SessionSlots → ℕ → ℕ → SessionSlots
 after_share slots s n = slice_set slots s (option_map (with_shared n) (held_at slots s))
 
 -- the session, where it is open, wrote the name
-abbrev pub after_write : Slots → ℕ → ℕ → ℕ → Slots
+abbrev pub after_write : SessionSlots → ℕ → ℕ → ℕ → SessionSlots
 after_write slots s n size = slice_set slots s (option_map (with_written n size) (held_at slots s))
 
 -- the session is closed
-abbrev pub after_end : Slots → ℕ → Slots
+abbrev pub after_end : SessionSlots → ℕ → SessionSlots
 after_end slots s = slice_set slots s None
 
 -- these sessions are closed
-abbrev pub after_batch : Slots → List ℕ → Slots
+abbrev pub after_batch : SessionSlots → List ℕ → SessionSlots
 after_batch slots [] = slots
 after_batch slots (s ∷ ss) = after_batch (after_end slots s) ss

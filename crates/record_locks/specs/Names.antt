@@ -9,7 +9,7 @@ use Rattle.ipl_rules.specs.Marks.{marks_of, marks}
 use Rattle.ipl_rules.specs.Refusals as refusals
 use Rattle.ipl_rules.specs.Refusals.{first_of, already_open, not_open, conflict, writes_full, shares_full, pending_full}
 use Rattle.ipl_rules.specs.Operations as rules
-use Rattle.record_locks.specs.Held.{Slots, held_at, slot_marks, marks_in, after_begin, after_share, after_write, after_end, after_batch}
+use Rattle.record_locks.specs.Held.{SessionSlots, held_at, slot_marks, marks_in, after_begin, after_share, after_write, after_end, after_batch}
 use Rattle.record_locks.specs.Standing.{state_of}
 use Rattle.record_locks.specs.Locks.{IsSized, refuses_begin, refuses_share, refuses_write, refuses_end, refuses_batch}
 
@@ -30,19 +30,19 @@ pub record TestsAlike (a b : State) (s n : ℕ) : Type 0 where
   pub full_shares : shares_full a s n ≡ shares_full b s n
 
 -- each session's writes have the marks of the state's
-abbrev pub SameMarks : Slots → State → Type 0
+abbrev pub SameMarks : SessionSlots → State → Type 0
 SameMarks slots state = (s n : ℕ) → slot_marks (held_at slots s) n ≡ marks_of (writes_of state s) n
 
 -- so all together have
 abbrev pub MarksAreTheStates : Type 0
-MarksAreTheStates = (slots : Slots) (state : State) → SameMarks slots state → (n : ℕ) → marks_in slots n ≡ marks state n
+MarksAreTheStates = (slots : SessionSlots) (state : State) → SameMarks slots state → (n : ℕ) → marks_in slots n ≡ marks state n
 
 -- the tests look at names alone
 abbrev pub LocksLookAtNames : Type 0
 LocksLookAtNames = (a b : State) → SameNames a b → (s n : ℕ) → TestsAlike a b s n
 
 -- the calls on sessions are refused as the operations on the state are
-pub record RefusesAs (slots : Slots) (state : State) (s n : ℕ) : Type 0 where
+pub record RefusesAs (slots : SessionSlots) (state : State) (s n : ℕ) : Type 0 where
   pub begins : refuses_begin slots s ≡ first_of (already_open state s ∷ [])
   pub shares : refuses_share slots s n ≡ first_of (not_open state s ∷ conflict (holder_for_share state s n) ∷ shares_full state s n ∷ [])
   pub writes : (change : Option (List ℕ)) → refuses_write slots s n (size_in_page change) ≡ first_of (not_open state s
@@ -51,10 +51,10 @@ pub record RefusesAs (slots : Slots) (state : State) (s n : ℕ) : Type 0 where
 
 -- sessions that have the names and marks of a state refuse as that state does
 abbrev pub SessionsRefuseAsStates : Type 0
-SessionsRefuseAsStates = (slots : Slots) (state : State) → SameNames (state_of slots) state → SameMarks slots state → (s n : ℕ) → RefusesAs slots state s n
+SessionsRefuseAsStates = (slots : SessionSlots) (state : State) → SameNames (state_of slots) state → SameMarks slots state → (s n : ℕ) → RefusesAs slots state s n
 
 -- where sessions have the names of a state, they have them after each call and its operation, whatever is put
-pub record KeepsNames (slots : Slots) (state : State) (s : ℕ) : Type 0 where
+pub record KeepsNames (slots : SessionSlots) (state : State) (s : ℕ) : Type 0 where
   pub begins : (number : ℕ) → SameNames (state_of (after_begin slots s number)) (rules.after_begin state s)
   pub shares : (n : ℕ) → SameNames (state_of (after_share slots s n)) (rules.after_share state s n)
   pub writes : (n size : ℕ) (change : Option (List ℕ)) → SameNames (state_of (after_write slots s n size)) (rules.after_write state s (n, change))
@@ -64,10 +64,10 @@ pub record KeepsNames (slots : Slots) (state : State) (s : ℕ) : Type 0 where
 
 -- the change of a call and that of its operation keep the names the same
 abbrev pub CallsKeepNames : Type 0
-CallsKeepNames = (slots : Slots) (state : State) (s : ℕ) → s < length slots → SameNames (state_of slots) state → KeepsNames slots state s
+CallsKeepNames = (slots : SessionSlots) (state : State) (s : ℕ) → s < length slots → SameNames (state_of slots) state → KeepsNames slots state s
 
 -- and the marks
-pub record KeepsMarks (slots : Slots) (state : State) (s : ℕ) : Type 0 where
+pub record KeepsNameMarks (slots : SessionSlots) (state : State) (s : ℕ) : Type 0 where
   pub begins : (number : ℕ) → SameMarks (after_begin slots s number) (rules.after_begin state s)
   pub shares : (n : ℕ) → SameMarks (after_share slots s n) (rules.after_share state s n)
   pub writes : (n : ℕ) (change : Option (List ℕ)) → SameMarks (after_write slots s n (size_in_page change)) (rules.after_write state s (n, change))
@@ -76,22 +76,22 @@ pub record KeepsMarks (slots : Slots) (state : State) (s : ℕ) : Type 0 where
   pub restarts : SameMarks (replicate SESSIONS None) (rules.after_restart state)
 
 abbrev pub CallsKeepMarks : Type 0
-CallsKeepMarks = (slots : Slots) (state : State) (s : ℕ) → s < length slots → All IsSized slots → SameNames (state_of slots) state
-    → SameMarks slots state → KeepsMarks slots state s
+CallsKeepMarks = (slots : SessionSlots) (state : State) (s : ℕ) → s < length slots → All IsSized slots → SameNames (state_of slots) state
+    → SameMarks slots state → KeepsNameMarks slots state s
 
 -- ---- commits of several sessions
 
 -- sessions that have the names of a state refuse a batch as that state does
 abbrev pub BatchesRefuseAsStates : Type 0
-BatchesRefuseAsStates = (slots : Slots) (limits : Limits) (state : State) → limits.sessions ≡ SESSIONS → SameNames (state_of slots) state
+BatchesRefuseAsStates = (slots : SessionSlots) (limits : Limits) (state : State) → limits.sessions ≡ SESSIONS → SameNames (state_of slots) state
     → (ss : List ℕ) → refuses_batch slots ss ≡ refusals.refuses_batch limits state ss
 
 -- and they have its names after it
 abbrev pub BatchesKeepNames : Type 0
-BatchesKeepNames = (slots : Slots) (state : State) (ss : List ℕ) → ((s : ℕ) → Contains ss s → s < length slots)
+BatchesKeepNames = (slots : SessionSlots) (state : State) (ss : List ℕ) → ((s : ℕ) → Contains ss s → s < length slots)
     → SameNames (state_of slots) state → SameNames (state_of (after_batch slots ss)) (rules.after_batch state ss)
 
 -- and its marks
 abbrev pub BatchesKeepMarks : Type 0
-BatchesKeepMarks = (slots : Slots) (state : State) (ss : List ℕ) → ((s : ℕ) → Contains ss s → s < length slots)
+BatchesKeepMarks = (slots : SessionSlots) (state : State) (ss : List ℕ) → ((s : ℕ) → Contains ss s → s < length slots)
     → SameMarks slots state → SameMarks (after_batch slots ss) (rules.after_batch state ss)

@@ -5,7 +5,7 @@ use Rattle.std.specs.Option.{option_map}
 use Rattle.std.specs.FinMap.{empty}
 use Rattle.ipl_rules.specs.Slots.{open_from, opened}
 use Rattle.ipl_rules.specs.State.{Write, Session, State, has_written, has_shared}
-use Rattle.record_locks.specs.Held.{Held, Slots}
+use Rattle.record_locks.specs.Held.{Held, SessionSlots}
 
 -- a write of a name, as the rules have it
 abbrev pub write_of : ℕ → Write
@@ -20,7 +20,7 @@ abbrev pub slot_of : Option Held → Option Session
 slot_of slot = option_map session_of slot
 
 -- no record, and the open sessions
-unfoldable pub state_of : Slots → State
+unfoldable pub state_of : SessionSlots → State
 state_of slots = record { map = empty; sessions = opened (map slot_of slots) }
 
 -- a session keeps others from writing a name, or from sharing it

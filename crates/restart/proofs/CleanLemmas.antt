@@ -4,7 +4,7 @@ use Rattle.std.proofs.lemmas.Bool.{lt-ltb, le-ltb}
 use Rattle.chip_trait.specs.Story.{Contents}
 use Rattle.ipl_meaning.specs.Chart.{chart_of}
 use Rattle.ipl_meaning.specs.Layout.{Laid}
-use Rattle.ipl_meaning.specs.Tables.{Places, OverflowLists, Status, counted_written}
+use Rattle.ipl_meaning.specs.Tables.{Places, OverflowLists, StatusTable, counted_written}
 use Rattle.opening_laws.specs.First.{at, all_below}
 use Rattle.opening_laws.specs.Chosen.{Winner, KeptHeader, units_at, status_at}
 use Rattle.opening_laws.specs.LaidOut.{place_of, layout_in}
@@ -19,7 +19,7 @@ use Rattle.restart.specs.Shown.{ShowsHeaders}
 
 -- where nothing is known of the units' log sectors, none counts as clean: no overflow place that was listed has a clean sector,
 -- nor has the status place
-none_clean : (d : Places) (lists : OverflowLists) (status : Status) (next : ℕ) (holds : ℕ → Bool) (n : ℕ)
+none_clean : (d : Places) (lists : OverflowLists) (status : StatusTable) (next : ℕ) (holds : ℕ → Bool) (n : ℕ)
     → NoneKnown (length d.current) d → lists.in_use ≡ all_below (overflow_at holds) n → status.first ≡ 256
     → NoneIsClean (tables_of d lists status next)
 none_clean d lists status next holds n unknown in_use none p s (small, inl (u, less, is, high)) =
@@ -29,7 +29,7 @@ none_clean d lists status next holds n unknown in_use none p s (small, inr (inl 
     omega (arith, small, high, listed.1)
 none_clean d lists status next holds n unknown in_use none p s (small, inr (inr (is, high))) = omega (arith, small, high, none)
 
-pub unmarked : (d : Places) (lists : OverflowLists) (status : Status) (next : ℕ) (holds : ℕ → Bool) (n : ℕ)
+pub unmarked : (d : Places) (lists : OverflowLists) (status : StatusTable) (next : ℕ) (holds : ℕ → Bool) (n : ℕ)
     → NoneKnown (length d.current) d → lists.in_use ≡ all_below (overflow_at holds) n → status.first ≡ 256
     → IsUnmarked (tables_of d lists status next)
 unmarked d lists status next holds n unknown in_use none = record {
@@ -42,7 +42,7 @@ counted_marked : (count : ℕ) → count ≤ 15 → counted_written (16 + count)
 counted_marked count few = rw (le-ltb (16 + count) 16 (omega arith), lt-ltb (16 + count) 32 (omega (arith, few))) (omega arith)
 
 -- and a log sector that counts as clean was found blank, and its unit is marked
-pub counts_marked : (x : Contents) (places : ℕ) (heads : List (Option KeptHeader)) (current : List (Option Winner)) (status : Winner) (d : Places) (lists : OverflowLists) (table : Status) (next : ℕ)
+pub counts_marked : (x : Contents) (places : ℕ) (heads : List (Option KeptHeader)) (current : List (Option Winner)) (status : Winner) (d : Places) (lists : OverflowLists) (table : StatusTable) (next : ℕ)
     → ShowsHeaders (chart_of x) places heads current status → Laid places (chart_of x) (layout_in (chart_of x) places)
     → AreReadLogs x (last_close_mark (chart_of x) (Some status)) (at current) (length current) (places * 256) d
     → ((u : ℕ) → u < length current → get_or d.current u 0 ≡ place_of (at current u)) → length d.current ≡ length current

@@ -11,7 +11,7 @@ use Rattle.ipl_base.specs.declared.fault.ImageFault.{ImageFault}
 use Rattle.ipl_base.specs.declared.fault.ImageFault.TheVariants.{Chip}
 use Rattle.ipl_meaning.specs.Chart.{Chart}
 use Rattle.ipl_meaning.specs.Layout.{Laid}
-use Rattle.ipl_meaning.specs.Tables.{Status}
+use Rattle.ipl_meaning.specs.Tables.{StatusTable}
 use Rattle.unit_io.specs.ReadsAt.{Anywhere, ReadsAt, IsCauseAt}
 use Rattle.ipl_base.specs.First.{first_below}
 use Rattle.opening_laws.specs.First.{greatest_below}
@@ -82,12 +82,12 @@ module _ (c : Chart) (winner : Winner) (p generation : ℕ) (at : p ≡ winner.p
   pub marks_told : (mark : MarksRead) → mark ≡ marks_in c p generation → mark ≡ marks_in c winner.place winner.head.generation
   marks_told mark is = rw (← at, ← of_it) is
 
-  pub status_told : (status : Status) → status ≡ status_in c p generation
+  pub status_told : (status : StatusTable) → status ≡ status_in c p generation
       → status ≡ status_in c winner.place winner.head.generation
   status_told status is = rw (← at, ← of_it) is
 
 -- the status, as an opening finds it
-pub opened_status : (c : Chart) (places : ℕ) (winner : Winner) (status : Status) → Some winner ≡ status_at c places
+pub opened_status : (c : Chart) (places : ℕ) (winner : Winner) (status : StatusTable) → Some winner ≡ status_at c places
     → Laid places c (layout_in c places) → status ≡ status_in c winner.place winner.head.generation
     → IsOpenedStatus places c status
 opened_status c places winner status is laid found =
@@ -96,10 +96,10 @@ opened_status c places winner status is laid found =
     let one : winner ≡ own = same_Some winner own (is ∙ chosen_are_status c places lay.status lay.head laid.chosen) in
     let numbers : List ℕ = committed_numbers c (status_at c places) in
     let same : status.numbers ≡ with_numbers numbers [] =
-    ap (λ (t : Status). t.numbers) found ∙ ap (λ (o : Option Winner). with_numbers (committed_numbers c o) []) is in
+    ap (λ (t : StatusTable). t.numbers) found ∙ ap (λ (o : Option Winner). with_numbers (committed_numbers c o) []) is in
     record {
-      place_is = ap (λ (t : Status). t.place) found ∙ ap (λ (x : Winner). x.place) one;
-      generation_is = ap (λ (t : Status). t.generation) found ∙ ap (λ (x : Winner). x.head.generation) one;
+      place_is = ap (λ (t : StatusTable). t.place) found ∙ ap (λ (x : Winner). x.place) one;
+      generation_is = ap (λ (t : StatusTable). t.generation) found ∙ ap (λ (x : Winner). x.head.generation) one;
       numbers_are = λ tid. (
         λ has. elim ((numbers_are_a_union numbers [] tid).0 (subst (λ (xs : List ℕ). Contains xs tid) same has)) [
           | inl one_of ↦ one_of
@@ -108,5 +108,5 @@ opened_status c places winner status is laid found =
         λ has. subst (λ (xs : List ℕ). Contains xs tid) (sym same)
             ((numbers_are_a_union numbers [] tid).1 (inl has)),
       );
-      first_is = ap (λ (t : Status). t.first) found;
+      first_is = ap (λ (t : StatusTable). t.first) found;
     }

@@ -10,7 +10,7 @@ use Rattle.ipl_meaning.specs.Chart.{Chart, chart_of}
 use Rattle.ipl_meaning.specs.Tables.{Places}
 use Rattle.opening_laws.specs.First.{at}
 use Rattle.opening_laws.specs.Chosen.{KeptHeader, header_in, header_at}
-use Rattle.restart.specs.Filled.{erases_by, AreCounted}
+use Rattle.restart.specs.Filled.{erases_by, AreErasedAsTold}
 
 -- one place more is counted
 pub counts_more : (heads : List (Option KeptHeader)) (n erases : ℕ) (counts : List ℕ) → n < length counts
@@ -23,8 +23,8 @@ counts_more heads n erases counts within so_far is p low = elim (cases_eq p n) [
 ]
 
 -- as many places are counted
-pub counted_of : {heads : ℕ → Option KeptHeader} {m n : ℕ} {it : Places} → m ≡ n → AreCounted heads m it → AreCounted heads n it
-counted_of {heads} {m} {n} {it} same counted = subst (λ (k : ℕ). AreCounted heads k it) same counted
+pub counted_of : {heads : ℕ → Option KeptHeader} {m n : ℕ} {it : Places} → m ≡ n → AreErasedAsTold heads m it → AreErasedAsTold heads n it
+counted_of {heads} {m} {n} {it} same counted = subst (λ (k : ℕ). AreErasedAsTold heads k it) same counted
 
 -- how often a place was erased, by what is kept of its header
 said_by : (places : ℕ) (o : Option Sector) → ((s : Sector) → o ≡ Some s → 1 ≤ s.kind) → erases_by (header_in places o) ≡ erases_said o

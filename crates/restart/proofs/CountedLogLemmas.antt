@@ -20,7 +20,7 @@ use Rattle.unit_io.specs.Found.{checked}
 use Rattle.unit_io.specs.declared.reading.Found.{Found}
 use Rattle.unit_io.specs.declared.reading.Found.TheVariants.{Erased, Bad, Sector as Checks}
 use Rattle.restart.specs.Masked.{IsMasked, SamePlaces}
-use Rattle.restart.specs.Counted.{SameHomes, StaysUnknown, NoneKnown, first_known, AreMarked, KnowsRead, IsReadLog, AreReadLogs, AreHomes, seen_log, does_check, is_erased}
+use Rattle.restart.specs.Counted.{SameHomes, StaysUnknown, NoneKnown, first_known, AreUnitsMarked, KnowsRead, IsReadLog, AreReadLogs, AreHomes, seen_log, does_check, is_erased}
 
 -- ---- the same homes
 
@@ -85,7 +85,7 @@ none_marked None u = refl
 none_marked (Some sector) u = refl
 
 pub logs_first : (x : Contents) (mark : Option Sector) (current : ℕ → Option Winner) (units : ℕ) (it : Places)
-    → AreMarked mark current units it → AreReadLogs x mark current units 0 it
+    → AreUnitsMarked mark current units it → AreReadLogs x mark current units 0 it
 logs_first x mark current units it are u low = first (current u) (are u low)
   where
     first : (home : Option Winner) → get_or it.written u 0 ≡ first_known mark u home → IsReadLog x mark u home 0 (get_or it.written u 0)
@@ -108,10 +108,10 @@ logs_first x mark current units it are u low = first (current u) (are u low)
 
 -- where marks don't count, nothing is known before
 pub unknown_first : (marks : Bool) (mark now : MarksRead) (current : ℕ → Option Winner) (units : ℕ) (it : Places)
-    → now ≡ cond marks mark none_read → marks ≡ false → AreMarked (counting now) current units it → NoneKnown units it
+    → now ≡ cond marks mark none_read → marks ≡ false → AreUnitsMarked (counting now) current units it → NoneKnown units it
 unknown_first marks mark now current units it is off are =
     let none : now ≡ none_read = is ∙ rw off refl in
-    subst (λ (n : MarksRead). AreMarked (counting n) current units it) none are
+    subst (λ (n : MarksRead). AreUnitsMarked (counting n) current units it) none are
 
 -- where nothing is known, it is what is read
 pub logs_unknown : (x : Contents) (mark : Option Sector) (current : ℕ → Option Winner) (units k : ℕ) (it : Places)
@@ -289,7 +289,7 @@ AreLater n units it = (u : ℕ) → n ≤ u → u < units → get_or it.written 
 
 -- one more of them that it has
 pub marks_one : (mark : Option Sector) (current : ℕ → Option Winner) (n units : ℕ) (it now : Places) → n < units → is_marked_by mark n (current n) ≡ true
-    → now ≡ with_marked it n 0 → AreMarked mark current n it → AreLater n units it → AreMarked mark current (n + 1) now × AreLater (n + 1) units now
+    → now ≡ with_marked it n 0 → AreUnitsMarked mark current n it → AreLater n units it → AreUnitsMarked mark current (n + 1) now × AreLater (n + 1) units now
 marks_one mark current n units it now low marked is so_far later =
     let there : n < length it.written = elim (cases_lt n (length it.written)) [
       | inl within ↦ within
@@ -306,7 +306,7 @@ marks_one mark current n units it now low marked is so_far later =
 
 -- one more that it hasn't
 pub marks_none : (mark : Option Sector) (current : ℕ → Option Winner) (n units : ℕ) (it : Places) → n < units → is_marked_by mark n (current n) ≡ false
-    → AreMarked mark current n it → AreLater n units it → AreMarked mark current (n + 1) it × AreLater (n + 1) units it
+    → AreUnitsMarked mark current n it → AreLater n units it → AreUnitsMarked mark current (n + 1) it × AreLater (n + 1) units it
 marks_none mark current n units it low other so_far later = (
   λ u below. elim (cases_eq u n) [
     | inl same ↦ subst (λ (v : ℕ). get_or it.written v 0 ≡ first_known mark v (current v)) (sym same) (later n (omega arith) low ∙ rw other refl)

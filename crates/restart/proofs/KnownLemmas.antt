@@ -6,7 +6,7 @@ use Rattle.std.proofs.lemmas.List.{get_or_default}
 use Rattle.std.proofs.lemmas.Option.{same_Some}
 use Rattle.ipl_base.specs.Places.{KeepsUnits}
 use Rattle.ipl_meaning.specs.Mirrors.{AreApart}
-use Rattle.ipl_meaning.specs.Tables.{Places, OverflowLists, Status, IsFree, place_of as place_in}
+use Rattle.ipl_meaning.specs.Tables.{Places, OverflowLists, StatusTable, IsFree, place_of as place_in}
 use Rattle.opening_laws.specs.First.{at, all_below, count_below}
 use Rattle.opening_laws.specs.Chosen.{KeptHeader, Winner, is_status, is_data_of, units_in, chosen as all_of}
 use Rattle.opening_laws.specs.Live.{is_at, is_overflow_place}
@@ -79,7 +79,7 @@ module _ (heads : List (Option KeptHeader)) (current : List (Option Winner)) (wi
   status_best = chosen_is_best is_status (at heads) (length heads) winner (sym chosen.status_is)
 
   module _ (places : ℕ) (sized : length heads ≡ places) (notes : Notes) (d : Places) (lists : OverflowLists)
-      (status : Status) (most next : ℕ) (keeps : KeepsUnits places (length current))
+      (status : StatusTable) (most next : ℕ) (keeps : KeepsUnits places (length current))
       (used : AreUsed (is_used (at current) (length current) winner.place (is_held heads notes)) places most d.in_use)
       (adopted : AreAdopted (at current) (length current) (length current) d)
       (spots : length lists.spots ≡ length current)

@@ -7,9 +7,9 @@ use Rattle.chip_trait.specs.Told.{Told}
 use Rattle.opening_laws.specs.Chosen.{KeptHeader, Winner, is_status, is_overflow, status_in}
 use Rattle.opening_laws.specs.Live.{is_at, is_log_spot_of}
 use Rattle.opening_laws.proofs.ChosenLemmas.{chosen_is_best}
-use Rattle.unit_io.specs.ReadsAt.{Anywhere, ReadsOnce}
+use Rattle.unit_io.specs.ReadsAt.{IsAt, Anywhere, ReadsOnce}
 use Rattle.unit_io.proofs.OnceLemmas.{once_then, once_wider}
-use Rattle.txn_status.specs.ReadingIn.{IsAt, IsCommitSpot}
+use Rattle.txn_status.specs.ReadingIn.{IsCommitSpot}
 use Rattle.restart.specs.Looks.{IsHeaderSpot, IsBehindHeader, MayHoldLog}
 
 -- ---- where log sectors may stand

@@ -38,7 +38,7 @@ use Rattle.restart.specs.Bytes.{IsRestWhole}
 use Rattle.restart.specs.Looks.{IsMissed}
 use Rattle.restart.specs.Notes.{Notes, IsNoted}
 use Rattle.opening_laws.specs.Found.{generation_of}
-use Rattle.restart.specs.Filled.{is_home, is_used, erases_by, with_all_aside, AreUsed, AreCounted, AreAdopted}
+use Rattle.restart.specs.Filled.{is_home, is_used, erases_by, with_all_aside, AreUsed, AreErasedAsTold, AreAdopted}
 use Rattle.restart.specs.Kept.{counted_in, retired_of}
 use Rattle.restart.specs.Shown.{ShowsHeaders, AreChosen, HeadersCount, current_tests, is_held, number_by, fault_by}
 use Rattle.opening_laws.specs.Opened.{IsUnused, IsOpened, IsOpenedLog}
@@ -287,7 +287,7 @@ module _ (c : Chart) (places : ℕ) (heads : List (Option KeptHeader)) (current 
   -- the directory, once the places are retired that the status header lists
   pub opened : (notes : Notes) (lists : OverflowLists) → IsNoted notes lists (marks (at heads) (at current) c (places * 256)) → (filled d : Places) (listed : List ℕ) (sector : Option Sector) (most counter greatest : ℕ)
       → AreUsed (is_used (at current) (length current) status.place (is_held heads notes)) places most filled.in_use → AreAdopted (at current) (length current) (length current) filled
-      → AreCounted (at heads) places filled → filled.retired ≡ [] → ((p : ℕ) (s : Sector) → c p 0 ≡ Some s → 1 ≤ s.kind)
+      → AreErasedAsTold (at heads) places filled → filled.retired ≡ [] → ((p : ℕ) (s : Sector) → c p 0 ≡ Some s → 1 ≤ s.kind)
       → d ≡ with_all_aside filled listed → listed ≡ retired_of sector → sector ≡ c status.place 0 → All (IsWithin places) listed
       → greatest ≡ number_by c (at heads) (at current) (Some status) places → counter ≡ greatest + 1 → ((u : ℕ) → u < units_at c places → IsOpenedLog places c u (get_or filled.written u 0))
       → IsOpened places c d counter

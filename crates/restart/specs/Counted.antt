@@ -32,8 +32,8 @@ abbrev pub first_known : Option Sector → ℕ → Option Winner → ℕ
 first_known mark u home = if is_marked_by mark u home then MARKED_LOGS else UNKNOWN_LOGS
 
 -- so it is of the first n units
-abbrev pub AreMarked : Option Sector → (ℕ → Option Winner) → ℕ → Places → Type 0
-AreMarked mark current n it = (u : ℕ) → u < n → slice_index it.written u ≡ first_known mark u (current u)
+abbrev pub AreUnitsMarked : Option Sector → (ℕ → Option Winner) → ℕ → Places → Type 0
+AreUnitsMarked mark current n it = (u : ℕ) → u < n → slice_index it.written u ≡ first_known mark u (current u)
 
 -- Of the log sectors at this place so many, the first, check, and those of the others below the number k are blank.
 pub record KnowsRead (x : Contents) (home k written : ℕ) : Type 0 where

@@ -28,7 +28,7 @@ erases_by None = 1
 erases_by (Some head) = head.erases
 
 -- each of these places was erased as often as its header says
-pub record AreCounted (heads : ℕ → Option KeptHeader) (places : ℕ) (it : Places) : Type 0 where
+pub record AreErasedAsTold (heads : ℕ → Option KeptHeader) (places : ℕ) (it : Places) : Type 0 where
   pub counts : length it.erases ≡ places
   pub erases_are : (p : ℕ) → p < places → slice_index it.erases p ≡ erases_by (heads p)
 

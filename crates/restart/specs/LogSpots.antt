@@ -11,7 +11,7 @@ use Rattle.opening_laws.specs.Chosen.{KeptHeader, Winner}
 use Rattle.opening_laws.specs.Live.{Mark, mark_of, is_log_spot}
 use Rattle.opening_laws.specs.Found.{mask_of_sector}
 use Rattle.opening_laws.specs.Faults.{TellsImageFault, log_test}
-use Rattle.restart.specs.Notes.{Notes, AreSized, IsNoted, IsRoomy}
+use Rattle.restart.specs.Notes.{Notes, AreSized, IsNoted, FitsNotes}
 use Rattle.restart.specs.Masked.{IsMasked}
 use Rattle.restart.specs.Counted.{SameHomes, StaysUnknown, AreHomes, AreReadLogs}
 
@@ -27,12 +27,12 @@ pub record HaveRoom (heads : List (Option KeptHeader)) (current : List (Option W
     (it : Places) (lists : OverflowLists) : Type 0 where
   pub sized : AreSized (length current) (length heads) notes lists
   pub units : length it.current ≡ length current
-  pub roomy : IsRoomy (at current) k notes lists
+  pub roomy : FitsNotes (at current) k notes lists
 
 -- they are of these places and units still; and where it is done, with room from the number k on
 pub record KeepRoom {T E : Type 0} (result : Result T E) (heads : List (Option KeptHeader))
     (current : List (Option Winner)) (k : ℕ) (notes : Notes) (lists : OverflowLists) : Type 0 where
-  pub roomy : OnOk result (IsRoomy (at current) k notes lists)
+  pub roomy : OnOk result (FitsNotes (at current) k notes lists)
   pub sized : AreSized (length current) (length heads) notes lists
 
 -- what was found at the number k, a live log sector or none, is tested, and then noted and listed, with the pages that

@@ -4,7 +4,7 @@ use Rattle.chip_trait.specs.Told.{Told}
 use Rattle.ipl_base.specs.Places.{units_on}
 use Rattle.ipl_meaning.specs.Tables.{Places, OverflowLists}
 use Rattle.opening_laws.specs.Chosen.{KeptHeader, Winner}
-use Rattle.restart.specs.Notes.{Notes, HasRoom}
+use Rattle.restart.specs.Notes.{Notes, NotesHaveRoom}
 use Rattle.restart.specs.Counted.{SameHomes}
 
 -- of a chip of so many places the header of each place is kept, and that of each unit that counts
@@ -16,7 +16,7 @@ pub record HasScratch (places : ℕ) (told : Told) (headers : List (Option KeptH
 
 -- what is noted, and the tables, are made for so many places
 pub record AreMadeFor (places : ℕ) (notes : Notes) (it : Places) (lists : OverflowLists) : Type 0 where
-  pub noted : HasRoom places notes
+  pub noted : NotesHaveRoom places notes
   pub overflow : lists.places ≡ places
   pub directory : length it.in_use ≡ places
 
@@ -25,9 +25,9 @@ pub record KeepsMemory (places : ℕ) (old new : List (Option Winner)) (notes : 
     (lists : OverflowLists) : Type 0 where
   pub size : length it.in_use ≡ places
   pub table : length new ≡ length old
-  pub room : HasRoom places notes × (lists.places ≡ places)
+  pub room : NotesHaveRoom places notes × (lists.places ≡ places)
 
 -- each unit has the place that it had, and what is noted and listed is of so many places still
 pub record KeepsPlaces (places : ℕ) (old : Places) (notes : Notes) (new : Places) (lists : OverflowLists) : Type 0 where
   pub homes : SameHomes old new
-  pub room : HasRoom places notes × (lists.places ≡ places)
+  pub room : NotesHaveRoom places notes × (lists.places ≡ places)

@@ -3,7 +3,7 @@ use Rattle.std.specs.Prelude.{ℕ, ◌≡◌, ◌<◌, ◌≤◌, ◌*◌, ◌^�
 use Rattle.chip_trait.specs.Told.{Told}
 use Rattle.ipl_base.specs.Places.{KeepsUnits}
 use Rattle.ipl_meaning.specs.Chart.{chart_of}
-use Rattle.ipl_meaning.specs.Tables.{Places, OverflowLists, Status}
+use Rattle.ipl_meaning.specs.Tables.{Places, OverflowLists, StatusTable}
 use Rattle.unit_io.specs.Reads.{OfContents}
 use Rattle.txn_status.specs.ReadingIn.{status_in}
 use Rattle.opening_laws.specs.First.{at, count_below}
@@ -11,7 +11,7 @@ use Rattle.opening_laws.specs.Chosen.{KeptHeader, Winner, units_told}
 use Rattle.opening_laws.specs.Live.{marks as live_marks}
 use Rattle.opening_laws.specs.Marked.{last_close_mark}
 use Rattle.restart.specs.Bytes.{IsRestWhole}
-use Rattle.restart.specs.Notes.{Notes, HasRoom, AreSized, IsNoted}
+use Rattle.restart.specs.Notes.{Notes, NotesHaveRoom, AreSized, IsNoted}
 use Rattle.restart.specs.Masked.{NoneNamed, mask_by, IsMasked}
 use Rattle.restart.specs.Collected.{numbers_below, AreKept}
 use Rattle.restart.specs.Counted.{NoneKnown, AreHomes, AreReadLogs}
@@ -30,7 +30,7 @@ pub record HaveHeaders (places : ℕ) (told : Told) (headers : List (Option Kept
 -- before log sectors are read: there is room for what is noted and listed, the directory has so many units, and no log
 -- sector at home names a page
 pub record AreUnread (places count : ℕ) (notes : Notes) (it : Places) (lists : OverflowLists) : Type 0 where
-  pub noted : HasRoom places notes
+  pub noted : NotesHaveRoom places notes
   pub overflow : lists.places ≡ places
   pub units : length it.current ≡ count
   pub blank : NoneNamed count it
@@ -38,7 +38,7 @@ pub record AreUnread (places count : ℕ) (notes : Notes) (it : Places) (lists :
 -- Of what the chip holds: the greatest number, the committed numbers, the live log sectors with the pages that they
 -- name, what the close mark says of log sectors, and the status are found, and what was read is whole.
 pub record FindsRest (places : ℕ) (told : Told) (heads : List (Option KeptHeader)) (current : List (Option Winner))
-    (winner : Winner) (greatest : ℕ) (fits : Bool) (notes : Notes) (it : Places) (lists : OverflowLists) (now : Status)
+    (winner : Winner) (greatest : ℕ) (fits : Bool) (notes : Notes) (it : Places) (lists : OverflowLists) (now : StatusTable)
     (numbers : List ℕ) : Type 0 where
   pub number : OfContents told (λ x. greatest ≡ number_by (chart_of x) (at heads) (at current) (Some winner) places)
   pub collected : OfContents told (λ x. AreKept
@@ -57,7 +57,7 @@ pub record FindsRest (places : ℕ) (told : Told) (heads : List (Option KeptHead
 -- in use yet, and all is of so many places.
 pub record FillsTables (places : ℕ) (heads : List (Option KeptHeader)) (current : List (Option Winner))
     (winner : Winner) (marks draws : Bool) (greatest : ℕ) (notes : Notes) (it : Places) (lists : OverflowLists)
-    (now : Status) : Type 0 where
+    (now : StatusTable) : Type 0 where
   pub unmarked : marks ≡ false → NoneKnown (length current) it
   pub placed : now.place ≡ winner.place
   pub unclean : now.first ≡ 256

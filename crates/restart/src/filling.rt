@@ -11,9 +11,9 @@ ghost use Rattle.restart.specs.Shown.{is_held as is_held_place};
 ghost use Rattle.unit_layout.specs.Retired.{may_be_retired};
 ghost use Rattle.unit_directory.specs.Free.{spares_of};
 ghost use Rattle.restart.specs.Kept.{retired_of};
-ghost use Rattle.restart.specs.Filled.{is_home, is_used, erases_by, with_counts, with_aside, with_all_aside, AreUsed, AreCounted, SameUnits, AreAdopted};
+ghost use Rattle.restart.specs.Filled.{is_home, is_used, erases_by, with_counts, with_aside, with_all_aside, AreUsed, AreErasedAsTold, SameUnits, AreAdopted};
 ghost use Rattle.restart.specs.Masked.{NoneNamed};
-ghost use Rattle.restart.specs.Counted.{NoneKnown, SameHomes, AreMarked};
+ghost use Rattle.restart.specs.Counted.{NoneKnown, SameHomes, AreUnitsMarked};
 ghost use Rattle.txn_status.specs.Marks.{counting, none_read};
 ghost use Rattle.opening_laws.specs.Marked.{is_marked_by};
 
@@ -72,7 +72,7 @@ fn is_marked(mark: &LastMark, unit: u32, home: Option<Winner>) -> bool
 pub(crate) fn mark_units(directory: &mut Directory, current: &[Option<Winner>], mark: &LastMark)
     requires units { length directory.old.current ≡ length current.now }
     requires unknown { NoneKnown (length current.now) directory.old }
-    ensures marked { AreMarked (counting mark.now) (at current.now) (length current.now) directory.new }
+    ensures marked { AreUnitsMarked (counting mark.now) (at current.now) (length current.now) directory.new }
     ensures homes { SameHomes directory.old directory.new }
     ensures masks { directory.new.masks ≡ directory.old.masks }
 {
@@ -126,7 +126,7 @@ fn erases_of(header: Option<Header>) -> u32
 fn count_erases(directory: &mut Directory, heads: &[Option<Header>])
     requires small { length heads.now ≤ MOST_PLACES }
     requires places { length heads.now ≡ length directory.old.in_use }
-    ensures counted { AreCounted (at heads.now) (length heads.now) directory.new }
+    ensures counted { AreErasedAsTold (at heads.now) (length heads.now) directory.new }
     ensures same { directory.new ≡ with_counts directory.old directory.new.erases }
 {
     directory.facts();
@@ -153,7 +153,7 @@ pub(crate) fn fill_places(
         → AreUsed (is_used current units status.now.place (is_held_place heads.now noted.now))
         (length heads.now) (units + 1 + count_below (is_held_place heads.now noted.now) (length heads.now))
         directory.new.in_use }
-    ensures counted { AreCounted (at heads.now) (length heads.now) directory.new }
+    ensures counted { AreErasedAsTold (at heads.now) (length heads.now) directory.new }
     ensures same { SameUnits directory.old directory.new }
 {
     directory.take(status.place());

@@ -14,7 +14,7 @@ ghost use Rattle.opening_laws.specs.First.{at};
 ghost use Rattle.opening_laws.specs.Live.{kept, Mark, is_log, is_overflow_place, is_live};
 ghost use Rattle.opening_laws.specs.Payloads.{is_log_payload};
 ghost use Rattle.opening_laws.specs.Faults.{TellsImageFault, is_image, is_told, log_test, log_fault, log_number};
-ghost use Rattle.txn_status.specs.ReadingIn.{IsAt};
+ghost use Rattle.unit_io.specs.ReadsAt.{IsAt};
 ghost use Rattle.restart.specs.Looks.{LooksOnce, HasCauseFor, MayHoldLog};
 ghost use Rattle.restart.specs.Notes.{units_of, AreSized, overflow_count_of, listed, IsNoted};
 ghost use Rattle.restart.specs.Masked.{SamePlaces, masked};

@@ -19,7 +19,7 @@ ghost use Rattle.restart.specs.Rest.{HaveHeaders, AreUnread, FindsRest, FillsTab
 ghost use Rattle.restart.specs.Finds.{FindsStore};
 ghost use Rattle.merge_laws.specs.Known.{KnowsPlaces};
 ghost use Rattle.opening_laws.specs.Opened.{tables_of};
-ghost use Rattle.restart.specs.Notes.{HasRoom};
+ghost use Rattle.restart.specs.Notes.{NotesHaveRoom};
 ghost use Rattle.restart.specs.Kept.{counted_in};
 ghost use Rattle.restart.specs.Counted.{NoneKnown};
 ghost use Rattle.restart.specs.Shown.{ShowsHeaders, HeadersCount, fault_by};
@@ -254,7 +254,7 @@ impl Model for Scratch {
 
     ghost invariant = { λ s. (length s.heads.items ≡ s.geometry.places)
         × (length s.current.items ≡ units_on s.geometry.places)
-        × HasRoom s.geometry.places s.noted };
+        × NotesHaveRoom s.geometry.places s.noted };
 }
 
 impl Scratch {
@@ -293,7 +293,7 @@ impl Scratch {
 ///
 /// Fails with the first fault of the chip, in the order that docs/RECOVERY.md tells, or with
 /// `Chip(ReadFault)` where a read of the chip failed.
-pub fn recover<C: Chip>(
+pub fn read_tables<C: Chip>(
     chip: &mut C,
     scratch: &mut Scratch,
     directory: &mut Directory,
@@ -341,9 +341,9 @@ pub fn recover<C: Chip>(
     )
 }
 
-/// Looks a chip over, as `recover` does, and fails with the same faults but for one: it draws no
+/// Looks a chip over, as `read_tables` does, and fails with the same faults but for one: it draws no
 /// number, so that none are left is none. Of a chip without a fault the tables then say what was
-/// found, as after `recover`.
+/// found, as after `read_tables`.
 pub fn survey<C: Chip>(
     chip: &mut C,
     scratch: &mut Scratch,

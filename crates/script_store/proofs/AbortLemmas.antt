@@ -21,7 +21,7 @@ use Rattle.ipl_model.specs.Step.{Stepped, step}
 use Rattle.ipl_meaning.specs.Chart.{chart_of}
 use Rattle.ipl_meaning.specs.Stands.{StandsIn}
 use Rattle.ipl_meaning.specs.Tables.{IsCountedClean}
-use Rattle.record_locks.specs.Held.{Slots, after_end}
+use Rattle.record_locks.specs.Held.{SessionSlots, after_end}
 use Rattle.record_locks.specs.Standing.{state_of}
 use Rattle.store_trait.proofs.UnusedLemmas.{unused_none}
 use Rattle.store_trait.specs.Keeping.{WorkLeaves}
@@ -31,7 +31,7 @@ use Rattle.ipl_store.specs.declared.store.Store.{Store}
 use Rattle.ipl_store.specs.Calls.{Calls, view_of, counter_of, down_fault, early_fault}
 use Rattle.script_store.specs.declared.store.ScriptStore.{ScriptStore}
 use Rattle.script_store.specs.Closes.{Aborts, KeepsRecords}
-use Rattle.script_store.specs.Keeps.{IsRunning, KeepsScript, script_keeping, Does}
+use Rattle.script_store.specs.Keeps.{IsRunning, KeepsScript, script_keeping, DoesCommand}
 use Rattle.script_store.proofs.ClosedLemmas.{AreClosedBelow, ended_more, refused_more}
 use Rattle.script_store.proofs.PartLemmas.{added_then, leaves_then, leaves_weaker}
 use Rattle.script_store.proofs.WorkLemmas.{ends_do}
@@ -85,7 +85,7 @@ module _ (a : ScriptStore) (told : Told) where
 
 module _ (a m b : ScriptStore) (told : Told) (s : ℕ) (so_far : Aborts a told m) where
   -- it keeps the records that were kept so far
-  keeps_more : Does (command.Abort s) m told (Ok reply.Ok) b told → (limits : Limits) (state : State) (h : History)
+  keeps_more : DoesCommand (command.Abort s) m told (Ok reply.Ok) b told → (limits : Limits) (state : State) (h : History)
       → KeepsScript told.places limits a told h state → KeepsRecords limits state a h b told
   keeps_more does limits state h keeps =
       let first = so_far.keeps limits state h keeps in
@@ -111,7 +111,7 @@ module _ (a m b : ScriptStore) (told : Told) (s : ℕ) (so_far : Aborts a told m
       either limits state m n one other x (inl is) = subst (StandsIn told.places limits.units (chart_of x)) one is
       either limits state m n one other x (inr is) = subst (StandsIn told.places limits.units (chart_of x)) other is
 
-  done_more : Does (command.Abort s) m told (Ok reply.Ok) b told → counter_of b.store ≤ counter_of m.store
+  done_more : DoesCommand (command.Abort s) m told (Ok reply.Ok) b told → counter_of b.store ≤ counter_of m.store
       → Aborts a told b
   done_more does few = record {
     running = does.running;
@@ -174,7 +174,7 @@ module _ (a m b : ScriptStore) (told : Told) (s : ℕ) (result : Result (Unit {0
       → AreClosedBelow s m.store.transactions.sessions → AreClosedBelow (s + 1) b.store.transactions.sessions
   closed_more low calls fails ended below = by_result result calls fails ended
     where
-      slots : Slots
+      slots : SessionSlots
       slots = m.store.transactions.sessions
 
       -- the store isn't down

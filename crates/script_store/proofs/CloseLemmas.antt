@@ -33,13 +33,13 @@ use Rattle.store_trait.specs.declared.fault.Fault.TheVariants.{Chip, Spent}
 use Rattle.store_trait.specs.Behind.{KeepsBehind, WorksBehind}
 use Rattle.store_trait.specs.Keeping.{LAST_NUMBER, Works, WorkLeaves, StillRecalls, DoneRecalls}
 use Rattle.store_trait.proofs.TidyLemmas.{tidy_then}
-use Rattle.store_laws.specs.Keeps.{ChipCause, ChipTells, StoreCause}
+use Rattle.store_laws.specs.Keeps.{IsChipFaultCause, ChipTells, StoreCause}
 use Rattle.ipl_store.specs.declared.store.Store.{Store}
 use Rattle.ipl_store.specs.Calls.{view_of, counter_of, IsSound, entry_fault, early_fault, ends_worn_out, Serves, Calls}
 use Rattle.ipl_store.specs.Closing.{ClosesStore, EndsMarking, MarksStore, ServesClose}
 use Rattle.script_store.specs.declared.store.ScriptStore.{ScriptStore}
-use Rattle.script_store.specs.Closes.{Aborts, MarksRecalled, Closes, closed}
-use Rattle.script_store.specs.Keeps.{IsRunning, KeepsScript, script_keeping, ended, Does}
+use Rattle.script_store.specs.Closes.{Aborts, MarksRecalled, ClosesAtEnd, closed}
+use Rattle.script_store.specs.Keeps.{IsRunning, KeepsScript, script_keeping, ended, DoesCommand}
 use Rattle.script_store.specs.Worn.{KnowsWorn, ChipWears, FaultWears}
 use Rattle.script_store.proofs.KeepLemmas.{works_so, tidy_answered, tidy_so, leaves_so}
 use Rattle.script_store.proofs.MarkLemmas.{Marks, marks}
@@ -85,7 +85,7 @@ module _ (m : ScriptStore) (between : Store) (before told : Told) (runs : IsRunn
       → WorksBehind (script_keeping before.places) m before (closed (Err fault)) (shut between) told
   ready_failed fault served sound tidy wears counts =
       let (e, is, cause, down) = served.ends in
-      subst (λ (f : StoreFault). Does command.Syntax m before (ended f) (over between) told
+      subst (λ (f : StoreFault). DoesCommand command.Syntax m before (ended f) (over between) told
       → WorksBehind (script_keeping before.places) m before (closed (Err f)) (shut between) told) (sym is)
       (λ does. failed_behind m (over between) before told (Chip e) runs.up does)
       (by_call (λ v. reply.Syntax) command.Syntax None (λ state. state) (2 ^ 14) m (over between) before told
@@ -210,7 +210,7 @@ module _ (m : ScriptStore) (between : Store) (before told : Told) (runs : IsRunn
         caused (Ok v) cause = tt
         caused (Err e) cause =
             let (stops, rose) = stopped e cause in
-            subst (λ (f : ChipFault). ChipCause before.places f before after) (sym stops) rose
+            subst (λ (f : ChipFault). IsChipFaultCause before.places f before after) (sym stops) rose
 
     -- what the chip holds then has marks, by what is known of each unit
     units_after : (limits : Limits) (state : State) (k : History) → before.history ≡ Some k
@@ -280,15 +280,15 @@ pub record Ends (a : ScriptStore) (before : Told) (r : Result (Unit {0}) StoreFa
     : Type 0 where
   pub up : r ≢ Err store.Down
   pub free : (refusal : Refusal) → r ≢ Err (store.Refused refusal)
-  pub closes : Closes a before (closed r) (shut c) after
+  pub closes : ClosesAtEnd a before (closed r) (shut c) after
 
 -- by its answer, and by the store then
 pub answer_closes : (a : ScriptStore) (before : Told) (r : Result (Unit {0}) StoreFault) (c : Store) (after : Told)
     (answer : Result (Unit {0}) Fault) (new : Store) → answer ≡ closed r → new ≡ (shut c).store
-    → Ends a before r c after → Closes a before answer (over new) after
+    → Ends a before r c after → ClosesAtEnd a before answer (over new) after
 answer_closes a before r c after answer new is same ends =
-    subst (λ (x : Result (Unit {0}) Fault). Closes a before x (over new) after) (sym is)
-    (subst (λ (s : Store). Closes a before (closed r) (over s) after) (sym same) ends.closes)
+    subst (λ (x : Result (Unit {0}) Fault). ClosesAtEnd a before x (over new) after) (sym is)
+    (subst (λ (s : Store). ClosesAtEnd a before (closed r) (over s) after) (sym same) ends.closes)
 
 module _ (a m : ScriptStore) (c : Store) (before after : Told) (result : Result (Unit {0}) StoreFault)
     (runs : IsRunning before.places a) (aborted : Aborts a before m)

@@ -12,10 +12,10 @@ use Rattle.unit_io.proofs.CostLemmas.{spends_weaker}
 use Rattle.place_taking.specs.Spending.{ErasesFor}
 use Rattle.store_laws.specs.Keeps.{limits_of}
 use Rattle.ipl_store.specs.Calls.{Calls, early_fault, entry_fault, refuses_name}
-use Rattle.ipl_store.specs.Shown.{IsSeen, IsCommitted}
+use Rattle.ipl_store.specs.Shown.{IsSeen, HasCommitted}
 use Rattle.script_store.specs.declared.store.ScriptStore.{ScriptStore}
 use Rattle.script_store.specs.Keeps.{IsRunning, answer_of, reply_of, looked_up}
-use Rattle.script_store.specs.Done.{IsRefused, SaysSeen, HasMoved, HasFound}
+use Rattle.script_store.specs.Done.{IsRefusal, SaysSeen, UnitHasMoved, HasFound}
 use Rattle.script_store.proofs.SeeLemmas.{low_is_free}
 use Rattle.script_store.proofs.WorkLemmas.{IsEntry, up_entry}
 
@@ -48,7 +48,7 @@ pub merge_done : (u : ℕ) (first : Places) (worn_out : Bool) (b : ScriptStore)
     → Spends (ErasesFor first b.store.transactions.pages.parts.directory 3
     (slice_index b.store.transactions.pages.parts.directory.current u) (is_ok result) worn_out)
     before after
-    → IfOk (reply_of result) (λ r. IsRefused r ⊎ HasMoved u b before after)
+    → IfOk (reply_of result) (λ r. IsRefusal r ⊎ UnitHasMoved u b before after)
 merge_done u first worn_out b before after (Ok v) spends = inr (spends_weaker _ _ before after
     (λ added did. did.erased refl) spends)
 merge_done u first worn_out b before after (Err store.Down) spends = tt
@@ -87,7 +87,7 @@ module _ (n : ℕ) (a b : ScriptStore) (before after : Told) (runs : IsRunning b
           early_fault o (refuses_name (limits_of a.store.units) n)) is) in cc answer
 
   pub found_done : (result : Result (Option (List ℕ)) StoreFault) → Found result
-      → IfOk result (λ found. IsCommitted n a.store before found)
+      → IfOk result (λ found. HasCommitted n a.store before found)
       → IfOk (looked_up result) (λ found. HasFound n a before found)
   found_done (Ok found) calls committed = λ low. committed
   found_done (Err store.Down) calls committed = tt

@@ -20,7 +20,7 @@ use Rattle.store_laws.proofs.PutLemmas.{full_puts_are_work, written_puts_are_wor
 use Rattle.ipl_store.specs.Calls.{view_of, counter_of, IsSound, entry_fault, Serves, Calls}
 use Rattle.ipl_store.specs.Puts.{put_fault, found_room, put_next, PutsBy}
 use Rattle.script_store.specs.declared.store.ScriptStore.{ScriptStore}
-use Rattle.script_store.specs.Keeps.{IsRunning, script_keeping, answer_of, reply_of, Does}
+use Rattle.script_store.specs.Keeps.{IsRunning, script_keeping, answer_of, reply_of, DoesCommand}
 use Rattle.script_store.proofs.KeepLemmas.{tidy_so}
 use Rattle.script_store.proofs.RecallLemmas.{calls_recall}
 use Rattle.script_store.proofs.WornLemmas.{calls_learn}
@@ -91,7 +91,7 @@ module _ (s n : ℕ) (bytes : List ℕ) (a b : ScriptStore) (before after : Told
         before after
         → Learns (script_keeping before.places) a before (answer_of put_reply found) b after
         → StillRecalls (script_keeping before.places) a before b after
-        → Counts before after → Does c a before (answer_of put_reply found) b after
+        → Counts before after → DoesCommand c a before (answer_of put_reply found) b after
     put_served (Ok room) did by sound tidy learns recalls counts =
         let next = put_next s n bytes (Ok room) in
         done_does put_reply c next 14 a b before after runs (omega arith) units room did
@@ -112,8 +112,8 @@ module _ (s n : ℕ) (bytes : List ℕ) (a b : ScriptStore) (before after : Told
       (calls : Calls (put_fault a.store s n bytes) (put_next s n bytes (found_room result)) 14 a.store
       before (found_room result) b.store after) where
     pub put_does : (put_fault a.store s n bytes ≡ None → By (found_room result))
-        → Does c a before (reply_of result) b after
-    put_does by = subst (λ (r : Result Reply Fault). Does c a before r b after) (replies_alike result)
+        → DoesCommand c a before (reply_of result) b after
+    put_does by = subst (λ (r : Result Reply Fault). DoesCommand c a before r b after) (replies_alike result)
         (by_entry put_reply c
         (sessions_refuse_put (limits_of a.store.units) a.store.transactions.sessions s n bytes)
         (put_next s n bytes (found_room result)) 14 a b before after (found_room result) runs refl

@@ -19,14 +19,14 @@ use Rattle.opening_laws.specs.Chosen.{status_at, units_at}
 use Rattle.opening_laws.specs.LaidOut.{no_sector, retired_at, sector_of}
 use Rattle.opening_laws.proofs.LaidLemmas.{laid_says_its_units}
 use Rattle.opening_laws.proofs.NumberLemmas.{status_is}
-use Rattle.place_taking.specs.Wear.{IsListed}
+use Rattle.place_taking.specs.Wear.{IsListedRetired}
 use Rattle.status_renewal.specs.Passes.{ListsRetired}
 use Rattle.status_renewal.specs.Recovers.{ErasesOpening, ends_worn_out}
 use Rattle.page_frames.specs.Pages.{tables_in}
 use Rattle.store_trait.specs.declared.fault.Fault.TheVariants.{Image}
 use Rattle.store_laws.specs.Advances.{MemoryFits}
 use Rattle.ipl_store.specs.Calls.{memory_of_store}
-use Rattle.ipl_store.specs.Openings.{Opens, Tries}
+use Rattle.ipl_store.specs.Openings.{OpensStore, Tries}
 use Rattle.script_store.specs.declared.store.ScriptStore.{ScriptStore}
 use Rattle.script_store.specs.Keeps.{IsRunning}
 use Rattle.script_store.specs.Worn.{IsKnownWorn, TooManyAreWorn, WearsOut, KnowsSince, KnowsWorn, ImageWears, FaultWears, history_longer}
@@ -45,7 +45,7 @@ laid_retired places c it laid =
 
 -- and stands at the status place
 laid_lists : (places : ℕ) (c : Chart) (it : Layout) (t : Tables) → Laid places c it
-    → t.status.place ≡ it.status → (p : ℕ) → Contains (retired_at c places) p → IsListed t c p
+    → t.status.place ≡ it.status → (p : ℕ) → Contains (retired_at c places) p → IsListedRetired t c p
 laid_lists places c it t laid place p has = (
   it.head,
   ap (λ (q : ℕ). c q 0) place ∙ laid.chosen.here,
@@ -53,7 +53,7 @@ laid_lists places c it t laid place p has = (
 )
 
 -- a header that lists exactly what is retired
-listed_is_retired : (t : Tables) (y : Chart) → ListsRetired t y → (p : ℕ) → IsListed t y p
+listed_is_retired : (t : Tables) (y : Chart) → ListsRetired t y → (p : ℕ) → IsListedRetired t y p
     → Contains t.places.retired p
 listed_is_retired t y (head, here, lists) p (other, there, has) =
     let one : other ≡ head = same_Some other head (sym there ∙ here) in
@@ -93,7 +93,7 @@ module _ {marks : Bool} (places : ℕ) (first : Contents) (h : History) (earlier
     (units : units_at (chart_of x) old.places ≡ units_at (chart_of first) places)
     (listed : (p : ℕ) → Contains (retired_at (chart_of x) old.places) p
     → IsKnownWorn places (chart_of first) earlier p) where
-  opened_knows : (b : ScriptStore) → Opens old.places old b.store new
+  opened_knows : (b : ScriptStore) → OpensStore old.places old b.store new
       → Tries marks old.places old (Ok tt) (tables_in b.store.transactions.pages) new
       → KnowsSince places first h b.store new
   opened_knows b opens tries =
@@ -148,7 +148,7 @@ at_entry : (places : ℕ) (x : Contents) (p : ℕ) → Contains (retired_at (cha
 at_entry places x p has = inl has
 
 module _ {marks : Bool} (old new : Told) where
-  pub opening_knows : (b : ScriptStore) → Opens old.places old b.store new
+  pub opening_knows : (b : ScriptStore) → OpensStore old.places old b.store new
       → Tries marks old.places old (Ok tt) (tables_in b.store.transactions.pages) new
       → KnowsWorn old b new
   opening_knows b opens tries up x h told history =
@@ -184,7 +184,7 @@ module _ (a b : ScriptStore) (before after : Told) (runs : IsRunning before.plac
         since.fits.mirrors.laid since.fits.mirrors.status.place p
         (subst (λ (n : ℕ). Contains (retired_at (chart_of since.contents) n) p) since.places_are has))
 
-    restart_knows : Opens before.places before b.store after
+    restart_knows : OpensStore before.places before b.store after
         → Tries false before.places before (Ok tt) (tables_in b.store.transactions.pages) after
         → KnowsSince entry.places x h b.store after
     restart_knows = opened_knows entry.places x h since.added before after since.contents since.told
@@ -197,7 +197,7 @@ module _ (a b : ScriptStore) (before after : Told) (runs : IsRunning before.plac
     restart_worn = opened_worn entry.places x h since.added before after since.contents since.told
         since.history since.places_are as_many listed
 
-  pub restart_learns_done : Opens before.places before b.store after
+  pub restart_learns_done : OpensStore before.places before b.store after
       → Tries false before.places before (Ok tt) (tables_in b.store.transactions.pages) after
       → KnowsWorn entry b after
   restart_learns_done opens tries up x h told history = restart_knows x h told history opens tries

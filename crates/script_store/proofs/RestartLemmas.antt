@@ -40,9 +40,9 @@ use Rattle.store_laws.proofs.AdvanceLemmas.{answers_advance}
 use Rattle.store_laws.proofs.KeepLemmas.{at_limits, leads_are_work}
 use Rattle.store_laws.proofs.FaultLemmas.{faults_that_leave_down}
 use Rattle.ipl_store.specs.Calls.{memory_of_store, view_of, counter_of, IsSound}
-use Rattle.ipl_store.specs.Openings.{Opens, Reopens, Restarts, Tries}
+use Rattle.ipl_store.specs.Openings.{OpensStore, Reopens, Restarts, Tries}
 use Rattle.script_store.specs.declared.store.ScriptStore.{ScriptStore}
-use Rattle.script_store.specs.Keeps.{IsRunning, next_number, script_keeping, Does}
+use Rattle.script_store.specs.Keeps.{IsRunning, next_number, script_keeping, DoesCommand}
 use Rattle.script_store.proofs.KeepLemmas.{counted_few, works_so, draws_found}
 use Rattle.script_store.proofs.ReopenLemmas.{restart_learns_done, restart_learns_failed}
 
@@ -245,10 +245,10 @@ module _ (a b : ScriptStore) (before after : Told) (runs : IsRunning before.plac
       laid_says_its_units (chart_of (held h.start h.story)) before.places shown.layout
       shown.fits.mirrors.laid ∙ shown.count
 
-  opened_does : Opens before.places before b.store after
+  opened_does : OpensStore before.places before b.store after
       → Tries false before.places before (Ok tt) t after
       → Restarts (memory_of_store a.store) before (memory_of_store b.store) after
-      → Does command.Restart a before (Ok reply.Ok) b after
+      → DoesCommand command.Restart a before (Ok reply.Ok) b after
   opened_does opens tries leads = record {
     works = λ limits state h keeps.
         let kept = at_limits before.places limits first before h state keeps.kept in
@@ -294,7 +294,7 @@ module _ (a b : ScriptStore) (before after : Told) (runs : IsRunning before.plac
           let number = opens.number x told in omega (arith, below, number)
 
   failed_does : (e : ImageFault) → b.store.down ≡ true → b.store.units ≡ a.store.units
-      → Tries false before.places before (Err e) t after → Does command.Restart a before (Err (Image e)) b after
+      → Tries false before.places before (Err e) t after → DoesCommand command.Restart a before (Err (Image e)) b after
   failed_does e down units tries = record {
     works = works_down a b before after runs.up units down (Image e)
         (faults_that_leave_down command.Restart first
@@ -392,6 +392,6 @@ module _ (a b : ScriptStore) (before after : Told) (runs : IsRunning before.plac
       → Reopens before.places a.store before result b.store after
       → Tries false before.places before result t after
       → OnOk result (Restarts (memory_of_store a.store) before (memory_of_store b.store) after)
-      → Does command.Restart a before (restarted result) b after
+      → DoesCommand command.Restart a before (restarted result) b after
   restart_does (Ok v) opens tries leads = opened_does opens tries leads
   restart_does (Err e) closed tries leads = failed_does e closed.0 closed.1 tries

@@ -27,7 +27,7 @@ use Rattle.store_laws.proofs.KeepLemmas.{is_at, at_limits, leads_are_work}
 use Rattle.store_laws.proofs.FaultLemmas.{idle_faults_look_up}
 use Rattle.ipl_store.specs.declared.store.Store.{Store}
 use Rattle.ipl_store.specs.Calls.{memory_of_store, view_of, counter_of, IsSound, early_fault, entry_fault, refuses_name, Serves, Calls}
-use Rattle.ipl_store.specs.Shown.{IsSeen, IsCommitted}
+use Rattle.ipl_store.specs.Shown.{IsSeen, HasCommitted}
 use Rattle.ipl_store.proofs.ShownLemmas.{name_shown}
 use Rattle.script_store.specs.declared.store.ScriptStore.{ScriptStore}
 use Rattle.script_store.specs.Keeps.{IsRunning, script_keeping, not_found, looked_up, Finds}
@@ -195,7 +195,7 @@ module _ (n : ℕ) (a b : ScriptStore) (before after : Told) (runs : IsRunning b
   module _ (units : b.store.units ≡ a.store.units) where
     done_finds : (found : Option (List ℕ))
         → Serves (λ state. state) 14 a.store before (Ok found) b.store after
-        → IsCommitted n a.store before found → IsRunning before.places b
+        → HasCommitted n a.store before found → IsRunning before.places b
         → LeavesTidy (script_keeping before.places) a b before after true
         → Learns (script_keeping before.places) a before (Ok found) b after
         → StillRecalls (script_keeping before.places) a before b after
@@ -300,7 +300,7 @@ module _ (n : ℕ) (a b : ScriptStore) (before after : Told) (runs : IsRunning b
 
     served_finds : (result : Result (Option (List ℕ)) StoreFault)
         → Serves (λ state. state) 14 a.store before result b.store after
-        → IfOk result (λ found. IsCommitted n a.store before found)
+        → IfOk result (λ found. HasCommitted n a.store before found)
         → IsSound before.places b.store
         → Tidies (tables_in a.store.transactions.pages) result (tables_in b.store.transactions.pages)
         before after → Learns (script_keeping before.places) a before (looked_up result) b after
@@ -322,7 +322,7 @@ module _ (n : ℕ) (a b : ScriptStore) (before after : Told) (runs : IsRunning b
   -- ---- the call
 
   module _ (result : Result (Option (List ℕ)) StoreFault)
-      (committed : IfOk result (λ found. IsCommitted n a.store before found)) where
+      (committed : IfOk result (λ found. HasCommitted n a.store before found)) where
     idle_finds : (fault : StoreFault) → Finds n a before (not_found fault) a before
         → result ≡ Err fault → b.store ≡ a.store → after ≡ before
         → Finds n a before (looked_up result) b after

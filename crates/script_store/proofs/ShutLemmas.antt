@@ -19,7 +19,7 @@ use Rattle.ipl_store.specs.declared.store.Store.{Store}
 use Rattle.ipl_store.specs.Calls.{counter_of}
 use Rattle.script_store.specs.declared.store.ScriptStore.{ScriptStore}
 use Rattle.script_store.specs.Closes.{Aborts}
-use Rattle.script_store.specs.Keeps.{KeepsScript, next_number, script_keeping, Does}
+use Rattle.script_store.specs.Keeps.{KeepsScript, next_number, script_keeping, DoesCommand}
 use Rattle.script_store.proofs.KeepLemmas.{counted_up, counted_few}
 use Rattle.script_store.proofs.PartLemmas.{added_then, leaves_then, leaves_weaker, leaves_failed}
 
@@ -63,7 +63,7 @@ draws_none places n a b m c WasSpent IsSpent was draws fewer up = record {
 -- ---- work that failed
 
 module _ (m mid : ScriptStore) (before after : Told) (fault : Fault) (up : m.store.down ≡ false)
-    (does : Does command.Syntax m before (Err fault) mid after) where
+    (does : DoesCommand command.Syntax m before (Err fault) mid after) where
   -- what it would have left is what was
   either : (limits : Limits) (state : State) (x : Contents)
       → StandsIn before.places limits.units (chart_of x) state.map

@@ -37,7 +37,7 @@ use Rattle.store_laws.proofs.FaultLemmas.{idle_faults_are_work}
 use Rattle.ipl_store.specs.declared.store.Store.{Store}
 use Rattle.ipl_store.specs.Calls.{view_of, counter_of, IsSound, entry_fault, down_fault, early_fault, IsOfTheChip, EndsFor, Serves, Calls}
 use Rattle.script_store.specs.declared.store.ScriptStore.{ScriptStore}
-use Rattle.script_store.specs.Keeps.{IsRunning, script_keeping, ended, answer_of, Does}
+use Rattle.script_store.specs.Keeps.{IsRunning, script_keeping, ended, answer_of, DoesCommand}
 use Rattle.script_store.proofs.KeepLemmas.{works_so, draws_few, tidy_so}
 use Rattle.script_store.proofs.RecallLemmas.{calls_recall}
 use Rattle.script_store.proofs.WornLemmas.{spares_at, calls_learn}
@@ -171,7 +171,7 @@ both_are x state replies state_is is =
 -- ---- the store as it was
 
 module _ (c : Command) (a : ScriptStore) (told : Told) (runs : IsRunning told.places a) where
-  pub spent_does : LAST_NUMBER < counter_of a.store → Does c a told (Err Spent) a told
+  pub spent_does : LAST_NUMBER < counter_of a.store → DoesCommand c a told (Err Spent) a told
   spent_does late = record {
     works = works_so told.places a a told told runs.up refl c (Err Spent)
         (idle_faults_are_work c (view_of a.store) told late);
@@ -186,7 +186,7 @@ module _ (c : Command) (a : ScriptStore) (told : Told) (runs : IsRunning told.pl
 
   refused_does : (r : Refusal)
       → sessions_refuse (limits_of a.store.units) a.store.transactions.sessions c ≡ Some r
-      → Does c a told (Ok (reply.Refused r)) a told
+      → DoesCommand c a told (Ok (reply.Refused r)) a told
   refused_does r is = record {
     works = works_so told.places a a told told runs.up refl c (Ok (reply.Refused r))
         (leads_are_work c (λ state. (step (limits_of a.store.units) state c).0) (view_of a.store)
@@ -211,7 +211,7 @@ module _ (a : ScriptStore) (told : Told) (runs : IsRunning told.places a) where
   abbrev same : View
   same = view_of a.store
 
-  pub syntax_does : Does command.Syntax a told (Ok reply.Syntax) a told
+  pub syntax_does : DoesCommand command.Syntax a told (Ok reply.Syntax) a told
   syntax_does = record {
     works = works_so told.places a a told told runs.up refl command.Syntax (Ok reply.Syntax)
         (leads_are_work command.Syntax (λ state. state) same same (Ok reply.Syntax) told told
@@ -262,7 +262,7 @@ module _ {T : Type 0} (say : T → Reply) (c : Command) (next : State → State)
       → LeavesTidy (script_keeping before.places) a b before after true
       → Learns (script_keeping before.places) a before (Ok (say found)) b after
       → StillRecalls (script_keeping before.places) a before b after
-      → (counts : Counts before after) → Does c a before (Ok (say found)) b after
+      → (counts : Counts before after) → DoesCommand c a before (Ok (say found)) b after
   done_does found did works running tidy learns recalls counts = record {
     works = works_so before.places a b before after runs.up units c (Ok (say found)) works;
     tidy = tidy;
@@ -281,7 +281,7 @@ module _ {T : Type 0} (say : T → Reply) (c : Command) (next : State → State)
       → IsSound before.places b.store
       → LeavesTidy (script_keeping before.places) a b before after false
       → Learns (script_keeping before.places) {T = Reply} a before (Err (Chip e)) b after
-      → (counts : Counts before after) → Does c a before (Err (Chip e)) b after
+      → (counts : Counts before after) → DoesCommand c a before (Err (Chip e)) b after
   failed_does steps e did cause sound tidy learns counts = record {
     works = works_so before.places a b before after runs.up units c (Err (Chip e))
         (leads_are_work c next first last (Err (Chip e)) before after
@@ -320,7 +320,7 @@ module _ {T : Type 0} (say : T → Reply) (c : Command) (next : State → State)
       → Tidies (tables_in a.store.transactions.pages) result (tables_in b.store.transactions.pages)
       before after → Learns (script_keeping before.places) a before (answer_of say result) b after
       → StillRecalls (script_keeping before.places) a before b after
-      → Counts before after → Does c a before (answer_of say result) b after
+      → Counts before after → DoesCommand c a before (answer_of say result) b after
   served_does steps (Ok found) did works sound tidy learns recalls counts =
       done_does found did works (record { sound = sound; up = did.ends })
       (tidy_so before.places a b before after (Ok found) (Ok (say found)) refl tidy) learns recalls
@@ -329,7 +329,7 @@ module _ {T : Type 0} (say : T → Reply) (c : Command) (next : State → State)
       let (e, is_chip, cause, down) = did.ends in
       subst (λ (f : StoreFault). Serves {T = T} next most a.store before (Err f) b.store after
       → Learns (script_keeping before.places) a before (ended f) b after
-      → Does c a before (ended f) b after) (sym is_chip)
+      → DoesCommand c a before (ended f) b after) (sym is_chip)
       (λ of_chip of_it. failed_does steps e of_chip cause sound
       (tidy_so {T = T} {U = Reply} before.places a b before after (Err fault) (Err (Chip e)) refl
       tidy) of_it counts) did learns
@@ -382,13 +382,13 @@ module _ {T : Type 0} (say : T → Reply) (c : Command) (refusal : Option Refusa
     (refuses : refusal ≡ sessions_refuse (limits_of a.store.units) a.store.transactions.sessions c)
   where
     -- one that did nothing
-    idle_does : (fault : StoreFault) → Does c a before (ended fault) a before
+    idle_does : (fault : StoreFault) → DoesCommand c a before (ended fault) a before
         → result ≡ Err fault → b.store ≡ a.store → after ≡ before
-        → Does c a before (answer_of say result) b after
+        → DoesCommand c a before (answer_of say result) b after
     idle_does fault base is same still =
-        subst (λ (r : Result T StoreFault). Does c a before (answer_of say r) b after) (sym is)
-        (subst (λ (t : Told). Does c a before (ended fault) b t) (sym still)
-        (subst (λ (s : Store). Does c a before (ended fault) (record { store = s }) before) (sym same)
+        subst (λ (r : Result T StoreFault). DoesCommand c a before (answer_of say r) b after) (sym is)
+        (subst (λ (t : Told). DoesCommand c a before (ended fault) b t) (sym still)
+        (subst (λ (s : Store). DoesCommand c a before (ended fault) (record { store = s }) before) (sym same)
         base))
 
     module _ (entry : Option StoreFault)
@@ -396,14 +396,14 @@ module _ {T : Type 0} (say : T → Reply) (c : Command) (refusal : Option Refusa
         -- where it is let in, it is the command's work, and else it failed
         (works : early_fault entry refusal ≡ None
         → sessions_refuse (limits_of a.store.units) a.store.transactions.sessions c ≡ None
-        → b.store.units ≡ a.store.units → Does c a before (answer_of say result) b after) where
+        → b.store.units ≡ a.store.units → DoesCommand c a before (answer_of say result) b after) where
       early_is : (e : Option StoreFault) (r : Option Refusal) → entry ≡ e → refusal ≡ r
           → early_fault entry refusal ≡ early_fault e r
       early_is e r entry_is is = ap (λ (o : Option StoreFault). early_fault o refusal) entry_is
           ∙ ap (early_fault e) is
 
       by_refusal : (r : Option Refusal) → refusal ≡ r → entry ≡ None
-          → Does c a before (answer_of say result) b after
+          → DoesCommand c a before (answer_of say result) b after
       by_refusal (Some r) is none =
           let (answer, same, still) = calls.refuses (store.Refused r) (early_is None (Some r) none is)
           in
@@ -412,7 +412,7 @@ module _ {T : Type 0} (say : T → Reply) (c : Command) (refusal : Option Refusa
       by_refusal None is none = works (early_is None None none is) (sym refuses ∙ is)
           calls.units
 
-      pub by_entry : IsEntry a entry → Does c a before (answer_of say result) b after
+      pub by_entry : IsEntry a entry → DoesCommand c a before (answer_of say result) b after
       by_entry (inl none) = by_refusal refusal refl none
       by_entry (inr (is, late)) =
           let (answer, same, still) = calls.refuses store.Spent
@@ -433,7 +433,7 @@ module _ {T : Type 0} (say : T → Reply) (c : Command) (refusal : Option Refusa
     → (accepted state c).1 ≡ say found ∷ []))) where
   pub by_call : (entry : Option StoreFault) → IsEntry a entry
       → Calls (early_fault entry refusal) next most a.store before result b.store after
-      → Does c a before (answer_of say result) b after
+      → DoesCommand c a before (answer_of say result) b after
   by_call entry is calls =
       by_entry say c refusal next most a b before after result runs refuses entry calls
       (λ none free units.
@@ -449,11 +449,11 @@ module _ {T : Type 0} (say : T → Reply) (c : Command) (refusal : Option Refusa
 
   -- that the store refuses once its numbers are used up
   pub calls_do : Calls (early_fault (entry_fault a.store) refusal) next most a.store before result
-      b.store after → Does c a before (answer_of say result) b after
+      b.store after → DoesCommand c a before (answer_of say result) b after
   calls_do calls = by_call (entry_fault a.store) (up_entry a runs.up) calls
 
   -- and one that draws none
   pub ends_do : Calls (early_fault (down_fault a.store) refusal) next most a.store before result
-      b.store after → Does c a before (answer_of say result) b after
+      b.store after → DoesCommand c a before (answer_of say result) b after
   ends_do calls = by_call (down_fault a.store)
       (inl (ap (λ (down : Bool). if down then Some store.Down else None) runs.up)) calls

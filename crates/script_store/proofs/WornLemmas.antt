@@ -17,7 +17,7 @@ use Rattle.ipl_meaning.specs.Tables.{Places, Tables}
 use Rattle.opening_laws.specs.Chosen.{units_at}
 use Rattle.unit_directory.specs.Free.{spares_of}
 use Rattle.place_taking.specs.Spending.{RetiresWorn}
-use Rattle.place_taking.specs.Wear.{IsListed, TellsOfWear}
+use Rattle.place_taking.specs.Wear.{IsListedRetired, TellsOfWear}
 use Rattle.place_taking.proofs.SpendingLemmas.{found_later}
 use Rattle.page_frames.specs.Pages.{tables_in}
 use Rattle.store_trait.specs.Keeping.{Learns}
@@ -105,7 +105,7 @@ module _ (a b : ScriptStore) (before after entry : Told) (x : Contents) (h : His
         fits = on.fits;
         retired = known;
         listed = λ p has. elim (lists.2 p
-            (subst (λ (y : Contents). IsListed then (chart_of y) p) one has)) [
+            (subst (λ (y : Contents). IsListedRetired then (chart_of y) p) one has)) [
               | inl was ↦ known_longer entry.places (chart_of x) more since.added p (since.listed p was)
               | inr retired ↦ known p retired
             ];

@@ -79,7 +79,7 @@ closed (Err (store.Chip fault)) = Err (Chip fault)
 
 -- Whatever the chip tells, it works behind the script as what says nothing does; and done, the last two events are the
 -- program of a mark and a barrier, and what was erased since an entry and not programmed is marked.
-pub record Closes (old : ScriptStore) (before : Told) (result : Result (Unit {0}) Fault) (new : ScriptStore)
+pub record ClosesAtEnd (old : ScriptStore) (before : Told) (result : Result (Unit {0}) Fault) (new : ScriptStore)
     (after : Told) : Type 0 where
   pub works : WorksBehind (script_keeping before.places) old before result new after
   pub last : OnOk result (Spends EndsWithMark before after)

@@ -110,7 +110,7 @@ looked_up (Err fault) = not_found fault
 -- ---- work
 
 -- what the work of a command leaves
-pub record Does (c : Command) (old : ScriptStore) (before : Told) (result : Result Reply Fault)
+pub record DoesCommand (c : Command) (old : ScriptStore) (before : Told) (result : Result Reply Fault)
     (new : ScriptStore) (after : Told) : Type 0 where
   pub works : Works (script_keeping before.places) c old before result new after
   pub tidy : LeavesTidy (script_keeping before.places) old new before after (is_ok result)

@@ -17,7 +17,7 @@ use Rattle.ipl_rules.specs.State.{State}
 use Rattle.opening_laws.specs.Chosen.{units_at}
 use Rattle.opening_laws.specs.LaidOut.{retired_at}
 use Rattle.place_taking.specs.Spending.{is_found_worn}
-use Rattle.place_taking.specs.Wear.{IsListed}
+use Rattle.place_taking.specs.Wear.{IsListedRetired}
 use Rattle.place_taking.proofs.SpendingLemmas.{found_earlier}
 use Rattle.store_trait.specs.declared.fault.Fault.{Fault}
 use Rattle.store_trait.specs.declared.fault.Fault.TheVariants.{Chip, Image, Spent}
@@ -62,7 +62,7 @@ pub record KnowsSince (places : ℕ) (x : Contents) (h : History) (store : Store
   pub fits : MemoryFits places (chart_of contents) layout (memory_of_store store) state
   pub retired : (p : ℕ) → Contains (tables_in store.transactions.pages).places.retired p
       → IsKnownWorn places (chart_of x) added p
-  pub listed : (p : ℕ) → IsListed (tables_in store.transactions.pages) (chart_of contents) p
+  pub listed : (p : ℕ) → IsListedRetired (tables_in store.transactions.pages) (chart_of contents) p
       → IsKnownWorn places (chart_of x) added p
 
 -- Where the chip told contents and a history at the entry, and the store isn't down: one that is takes no place any more.

@@ -1,8 +1,8 @@
 //! Commands that have no record as their reply.
 ghost use Rattle.std.specs.Prelude.{◌⊎◌, IfOk, OnOk};
 ghost use Rattle.ipl_model.specs.declared.command.Command.TheVariants as command;
-ghost use Rattle.script_store.specs.Keeps.{IsRunning, Does};
-ghost use Rattle.script_store.specs.Done.{IsRefused, HasMoved, HasNewStatus};
+ghost use Rattle.script_store.specs.Keeps.{IsRunning, DoesCommand};
+ghost use Rattle.script_store.specs.Done.{IsRefusal, UnitHasMoved, HasNewStatus};
 
 use crate::ScriptStore;
 use crate::replies::reply_of;
@@ -14,7 +14,7 @@ impl ScriptStore {
     /// Opens a session.
     pub(crate) fn begin<C: Chip>(&mut self, chip: &mut C, s: u32) -> Result<Reply, Fault>
         requires runs { IsRunning (C.told chip.old).places self.old }
-        ensures { Does (command.Begin s) self.old (C.told chip.old) result self.new (C.told chip.new) }
+        ensures { DoesCommand (command.Begin s) self.old (C.told chip.old) result self.new (C.told chip.new) }
     {
         reply_of(self.store.begin(chip, s))
     }
@@ -28,7 +28,7 @@ impl ScriptStore {
         bytes: &PutBytes,
     ) -> Result<Reply, Fault>
         requires runs { IsRunning (C.told chip.old).places self.old }
-        ensures { Does (command.Put s n bytes.now) self.old (C.told chip.old) result self.new
+        ensures { DoesCommand (command.Put s n bytes.now) self.old (C.told chip.old) result self.new
             (C.told chip.new) }
     {
         reply_of(self.store.put(chip, s, n, bytes.bytes()))
@@ -37,7 +37,7 @@ impl ScriptStore {
     /// Deletes a name's record, for a session.
     pub(crate) fn del<C: Chip>(&mut self, chip: &mut C, s: u32, n: u32) -> Result<Reply, Fault>
         requires runs { IsRunning (C.told chip.old).places self.old }
-        ensures { Does (command.Del s n) self.old (C.told chip.old) result self.new (C.told chip.new) }
+        ensures { DoesCommand (command.Del s n) self.old (C.told chip.old) result self.new (C.told chip.new) }
     {
         reply_of(self.store.del(chip, s, n))
     }
@@ -45,7 +45,7 @@ impl ScriptStore {
     /// Commits a session.
     pub(crate) fn commit<C: Chip>(&mut self, chip: &mut C, s: u32) -> Result<Reply, Fault>
         requires runs { IsRunning (C.told chip.old).places self.old }
-        ensures { Does (command.Commit s) self.old (C.told chip.old) result self.new
+        ensures { DoesCommand (command.Commit s) self.old (C.told chip.old) result self.new
             (C.told chip.new) }
     {
         reply_of(self.store.commit(chip, s))
@@ -58,7 +58,7 @@ impl ScriptStore {
         sessions: &Sessions,
     ) -> Result<Reply, Fault>
         requires runs { IsRunning (C.told chip.old).places self.old }
-        ensures { Does (command.Batch sessions.now) self.old (C.told chip.old) result self.new
+        ensures { DoesCommand (command.Batch sessions.now) self.old (C.told chip.old) result self.new
             (C.told chip.new) }
     {
         reply_of(self.store.commit_all(chip, sessions.numbers()))
@@ -67,7 +67,7 @@ impl ScriptStore {
     /// Aborts a session.
     pub(crate) fn abort<C: Chip>(&mut self, chip: &mut C, s: u32) -> Result<Reply, Fault>
         requires runs { IsRunning (C.told chip.old).places self.old }
-        ensures { Does (command.Abort s) self.old (C.told chip.old) result self.new (C.told chip.new) }
+        ensures { DoesCommand (command.Abort s) self.old (C.told chip.old) result self.new (C.told chip.new) }
     {
         reply_of(self.store.abort(chip, s))
     }
@@ -75,11 +75,11 @@ impl ScriptStore {
     /// Merges a unit.
     pub(crate) fn merge<C: Chip>(&mut self, chip: &mut C, unit: u32) -> Result<Reply, Fault>
         requires runs { IsRunning (C.told chip.old).places self.old }
-        ensures does { Does (command.Merge unit) self.old (C.told chip.old) result self.new
+        ensures does { DoesCommand (command.Merge unit) self.old (C.told chip.old) result self.new
             (C.told chip.new) }
         // Done, the place where the unit stands was erased.
-        ensures done { IfOk result (λ reply. IsRefused reply
-            ⊎ HasMoved unit self.new (C.told chip.old) (C.told chip.new)) }
+        ensures done { IfOk result (λ reply. IsRefusal reply
+            ⊎ UnitHasMoved unit self.new (C.told chip.old) (C.told chip.new)) }
     {
         reply_of(self.store.merge(chip, unit))
     }
@@ -87,7 +87,7 @@ impl ScriptStore {
     /// Opens the chip again, whatever the memory has: all sessions are dropped.
     pub(crate) fn restart<C: Chip>(&mut self, chip: &mut C) -> Result<Reply, Fault>
         requires runs { IsRunning (C.told chip.old).places self.old }
-        ensures does { Does command.Restart self.old (C.told chip.old) result self.new
+        ensures does { DoesCommand command.Restart self.old (C.told chip.old) result self.new
             (C.told chip.new) }
         // Done, the place that the status has was erased.
         ensures done { OnOk result (HasNewStatus self.new (C.told chip.old) (C.told chip.new)) }

@@ -2,7 +2,7 @@
 ghost use Rattle.record_locks.specs.Locks.{refuses_close};
 ghost use Rattle.std.specs.Prelude.{◌≡◌, None};
 ghost use Rattle.script_store.specs.Keeps.{IsRunning};
-ghost use Rattle.script_store.specs.Closes.{Aborts, Closes};
+ghost use Rattle.script_store.specs.Closes.{Aborts, ClosesAtEnd};
 
 use crate::ScriptStore;
 use crate::replies::closed;
@@ -28,7 +28,7 @@ impl ScriptStore {
     /// written down for the next opening. Nothing is done by the store from then on.
     pub fn close<C: Chip>(&mut self, chip: &mut C) -> Result<(), Fault>
         requires runs { IsRunning (C.told chip.old).places self.old }
-        ensures { Closes self.old (C.told chip.old) result self.new (C.told chip.new) }
+        ensures { ClosesAtEnd self.old (C.told chip.old) result self.new (C.told chip.new) }
     {
         self.abort_all(chip);
         let done = self.store.close(chip);

@@ -6,8 +6,8 @@ ghost use Rattle.ipl_rules.specs.Refusals.{refuses_get, refuses_share};
 ghost use Rattle.record_locks.specs.Standing.{state_of};
 ghost use Rattle.store_laws.specs.Keeps.{limits_of};
 ghost use Rattle.ipl_store.specs.Calls.{Calls, early_fault, entry_fault, refuses_name};
-ghost use Rattle.ipl_store.specs.Shown.{IsSeen, IsCommitted};
-ghost use Rattle.script_store.specs.Keeps.{IsRunning, Does, Finds};
+ghost use Rattle.ipl_store.specs.Shown.{IsSeen, HasCommitted};
+ghost use Rattle.script_store.specs.Keeps.{IsRunning, DoesCommand, Finds};
 ghost use Rattle.script_store.specs.Done.{SaysSeen, HasFound};
 
 use crate::ScriptStore;
@@ -60,7 +60,7 @@ impl ScriptStore {
         ensures calls { Calls (early_fault (entry_fault self.old.store)
             (refuses_name (limits_of self.old.store.units) n)) (λ state. state) 14
             self.old.store (C.told chip.old) result self.new.store (C.told chip.new) }
-        ensures committed { IfOk result (λ found. IsCommitted n self.old.store (C.told chip.old)
+        ensures committed { IfOk result (λ found. HasCommitted n self.old.store (C.told chip.old)
             found) }
     {
         match self.store.committed(chip, n) {
@@ -74,7 +74,7 @@ impl ScriptStore {
     /// What a session sees of a name.
     pub(crate) fn get<C: Chip>(&mut self, chip: &mut C, s: u32, n: u32) -> Result<Reply, Fault>
         requires runs { IsRunning (C.told chip.old).places self.old }
-        ensures does { Does (command.Get s n) self.old (C.told chip.old) result self.new
+        ensures does { DoesCommand (command.Get s n) self.old (C.told chip.old) result self.new
             (C.told chip.new) }
         ensures done { IfOk result (λ reply. SaysSeen s n self.old (C.told chip.old) reply) }
     {
@@ -84,7 +84,7 @@ impl ScriptStore {
     /// What a session sees of a name, which it shares then.
     pub(crate) fn share<C: Chip>(&mut self, chip: &mut C, s: u32, n: u32) -> Result<Reply, Fault>
         requires runs { IsRunning (C.told chip.old).places self.old }
-        ensures does { Does (command.Share s n) self.old (C.told chip.old) result self.new
+        ensures does { DoesCommand (command.Share s n) self.old (C.told chip.old) result self.new
             (C.told chip.new) }
         ensures done { IfOk result (λ reply. SaysSeen s n self.old (C.told chip.old) reply) }
     {

@@ -5,7 +5,7 @@ ghost use Rattle.ipl_rules.specs.State.{State, Limits};
 ghost use Rattle.store_trait.specs.declared.fault.Fault.TheVariants.{Spent};
 ghost use Rattle.store_trait.specs.Keeping.{IsSingle, Works, LooksUp, LeavesTidy, Learns, DoneRecalls, is_restart, Draws, WORK_DRAWS, LOOK_UP_DRAWS};
 ghost use Rattle.store_laws.specs.Keeps.{StoreCause};
-ghost use Rattle.script_store.specs.Keeps.{IsRunning, KeepsScript, Does, script_keeping};
+ghost use Rattle.script_store.specs.Keeps.{IsRunning, KeepsScript, DoesCommand, script_keeping};
 ghost use Rattle.script_store.specs.Done.{HasDone, HasFound};
 
 use chip_trait::Chip;
@@ -52,7 +52,7 @@ impl ScriptStore {
     fn answer<C: Chip>(&mut self, chip: &mut C, command: &Command) -> Result<Reply, Fault>
         requires single { IsSingle command.now }
         requires runs { IsRunning (C.told chip.old).places self.old }
-        ensures does { Does command.now self.old (C.told chip.old) result self.new
+        ensures does { DoesCommand command.now self.old (C.told chip.old) result self.new
             (C.told chip.new) }
         ensures done { IfOk result (λ reply. HasDone command.now self.old (C.told chip.old) reply
             self.new (C.told chip.new)) }

@@ -14,13 +14,13 @@ use Rattle.merge_laws.specs.Merged.{source_of}
 use Rattle.merge_laws.specs.Moved.{Source}
 use Rattle.merge_laws.specs.Packs.{packs_of}
 use Rattle.merge_laws.proofs.FaultLemmas.{tells_fault, mergeable_units_have_no_fault, mergeable_by, by_chip_alone}
-use Rattle.selective_merge.specs.declared.home.Home.{Home}
+use Rattle.selective_merge.specs.declared.home.HomeHeader.{HomeHeader}
 use Rattle.selective_merge.specs.Homes.{from_home, IsHomeOf}
 use Rattle.selective_merge.specs.Merging.{TellsMergeFault, FailsAsMerge, CompletesMerge}
 use Rattle.selective_merge.proofs.WholeLemmas.{source_is}
 
 -- what was read of the unit is what it is merged from
-pub merge_told : {T : Type 0} (x : Contents) (t : Tables) (it : Shape) (u : ℕ) (home : Home)
+pub merge_told : {T : Type 0} (x : Contents) (t : Tables) (it : Shape) (u : ℕ) (home : HomeHeader)
     (log : List Record) (result : Result T ChipFault) → IsHomeOf home it u log
     → TellsTheFault (fault_with x (from_home home t.status.numbers log)
     (length (packs_of t.active log))) result → TellsTheFault (merge_fault x t it u) result

@@ -19,7 +19,7 @@ use Rattle.ipl_meaning.specs.Layout.{Layout, records_of}
 use Rattle.ipl_meaning.specs.Mirrors.{Mirrors}
 use Rattle.ipl_meaning.specs.Rests.{now}
 use Rattle.ipl_meaning.specs.Steps.{KeepsPages}
-use Rattle.ipl_meaning.specs.Tables.{Places, IsFree, with_use, with_erased, OverflowLists, Status, Tables, IsCountedClean}
+use Rattle.ipl_meaning.specs.Tables.{Places, IsFree, with_use, with_erased, OverflowLists, StatusTable, Tables, IsCountedClean}
 use Rattle.ipl_meaning.specs.TableSteps.{IsMoved, taken, with_next}
 use Rattle.ipl_meaning.proofs.CarriedLemmas.{tidy_is_carried}
 use Rattle.ipl_meaning.proofs.IdleFollowLemmas.{counts_are_free, tables_follow_idle_places}
@@ -94,11 +94,11 @@ module _ (t after : Tables) (u p used g : ℕ)
         )),
       )
   counted_after q n (small, inr (inr (is, above))) =
-      let same : after.status.first ≡ t.status.first = ap (λ (s : Status). s.first) moved.status in
+      let same : after.status.first ≡ t.status.first = ap (λ (s : StatusTable). s.first) moved.status in
       inl (
         small,
         inr (inr (
-          is ∙ ap (λ (s : Status). s.place) moved.status,
+          is ∙ ap (λ (s : StatusTable). s.place) moved.status,
           omega (arith, above, same),
         )),
       )

@@ -6,9 +6,9 @@ use Rattle.ipl_base.specs.declared.limits.TheConstants.{VERSION}
 use Rattle.ipl_format.specs.Page.{Slots, IsPage}
 use Rattle.ipl_format.specs.Place.{base_sector_of}
 use Rattle.ipl_meaning.specs.Chart.{Chart}
-use Rattle.unit_io.specs.Charts.{HasPage}
+use Rattle.unit_io.specs.Charts.{HasPageSectors}
 use Rattle.merge_laws.specs.Pages.{HasPages, IsFew}
-use Rattle.merge_laws.specs.Moved.{Source, IsFrom, MovesPage, HasMoved, IsAside}
+use Rattle.merge_laws.specs.Moved.{Source, IsMadeFrom, MovesPage, HasMoved, IsAside}
 
 -- ---- pages at a place
 
@@ -41,7 +41,7 @@ module _ (pieces : List ℕ) (k n : ℕ) (room : k < length pieces) (few : IsFew
   -- one page more
   pages_more : (p u g : ℕ) (slots : ℕ → Slots) (c mid y : Chart)
       → HasPages p u g slots pieces k c mid → IsPage VERSION (slots k)
-      → HasPage p u g k (slots k) n mid y → HasPages p u g slots later (k + 1) c y
+      → HasPageSectors p u g k (slots k) n mid y → HasPages p u g slots later (k + 1) c y
   pages_more p u g slots c mid y before fits page_there = record {
     fits = λ page low. elim (cases_eq page k) [
       | inl same ↦ rw same fits
@@ -101,7 +101,7 @@ moved_none from p g pieces c = record {
 -- a page that read well behind others did so before
 from_before : (from : Source) (p g : ℕ) (slots : ℕ → Slots) (pieces : List ℕ) (k page : ℕ)
     (c mid : Chart) (new : Slots) → from.place ≢ p → HasPages p from.unit g slots pieces k c mid
-    → IsFrom from page mid new → IsFrom from page c new
+    → IsMadeFrom from page mid new → IsMadeFrom from page c new
 from_before from p g slots pieces k page c mid new apart has of = record {
   base = of.base;
   held = record {

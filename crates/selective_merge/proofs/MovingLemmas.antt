@@ -5,7 +5,7 @@ use Rattle.std.proofs.lemmas.Bool.{cases_Bool, cases_eq}
 use Rattle.std.proofs.lemmas.List.{get_or-set_same, get_or-map, get_or-set_other, length-map, length-set, set-set}
 use Rattle.std.proofs.lemmas.List.Elements.{Contains-get_or}
 use Rattle.ipl_meaning.specs.Mirrors.{AreApart}
-use Rattle.ipl_meaning.specs.Tables.{Places, IsFree, Status, OverflowLists, Tables, overflow_places, place_of, with_written, with_masks}
+use Rattle.ipl_meaning.specs.Tables.{Places, IsFree, StatusTable, OverflowLists, Tables, overflow_places, place_of, with_written, with_masks}
 use Rattle.ipl_meaning.specs.TableSteps.{IsMoved, with_next}
 use Rattle.overflow.specs.Laws.{DropsMove}
 use Rattle.overflow.specs.Lists.{IsSoundOverflow, after_drop, places_left, listed}
@@ -227,7 +227,7 @@ module _ (drops : DropsMove) (t after : Tables) (u p generation used : ℕ) (one
           moved_other v apart at,
         ))
     named_still apart (inr (inl at)) =
-        inr (inl (at ∙ sym (ap (λ (s : Status). s.place) is.status)))
+        inr (inl (at ∙ sym (ap (λ (s : StatusTable). s.place) is.status)))
     named_still apart (inr (inr (inr retired))) =
         inr (inr (inr (subst (λ (l : List ℕ). Contains l q) (sym retired_is) retired)))
     named_still apart (inr (inr (inl over))) =

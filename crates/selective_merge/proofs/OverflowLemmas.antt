@@ -47,7 +47,7 @@ use Rattle.place_taking.specs.Takes.{ClearsNext, TakesPlace}
 use Rattle.place_taking.proofs.JoinLemmas.{counted_alike, counted_used, writes_taken}
 use Rattle.merge_laws.proofs.KnownLemmas.{taken_is_used}
 use Rattle.selective_merge.specs.Moving.{set_aside}
-use Rattle.selective_merge.specs.Placing.{IsOpened, OpensPlace, SaysErases, RestsOpened}
+use Rattle.selective_merge.specs.Placing.{HasOverflowHeader, OpensPlace, SaysErases, RestsOpened}
 use Rattle.selective_merge.specs.Throughout.{KeepsThroughout}
 use Rattle.selective_merge.proofs.FillLemmas.{clean_bare, worn_apart}
 use Rattle.selective_merge.proofs.SealLemmas.{says_of}
@@ -79,7 +79,7 @@ overflow_head units erases g head kind version generation serial spells =
     }
 
 opened_by : (p units erases g : ℕ) (c y : Chart) (head : Sector) → IsOverflowHead units erases g head
-    → Gains p 0 head c y → IsOpened p units erases g c y
+    → Gains p 0 head c y → HasOverflowHeader p units erases g c y
 opened_by p units erases g c y head is gains = record {
   head = head;
   kind = is.kind;
@@ -92,7 +92,7 @@ opened_by p units erases g c y head is gains = record {
 
 pub opened_told : (p units erases g : ℕ) (head : Sector) (old new : Told) → IsOverflowHead units erases g head
     → (result : Result (Unit {0}) ChipFault) → OnOk result (Charts (Gains p 0 head) old new)
-    → OnOk result (Charts (IsOpened p units erases g) old new)
+    → OnOk result (Charts (HasOverflowHeader p units erases g) old new)
 opened_told p units erases g head old new is (Ok w) tells = λ x told.
     let (y, told_y, gains) = tells x told in
     (y, told_y, opened_by p units erases g (chart_of x) (chart_of y) head is gains)
@@ -137,7 +137,7 @@ place_opened places p units erases g head old new result is seal m it h steady r
     (worn_apart h.story p q 0 (clean 0) worn) (rests.worn it laid q worn)) in
     leads_weaker (EachStandsEither places m m) (EachStands places m) (Programs p (IsSpot 0))
     (Programs p (IsSpot 0)) (λ done k. StoryRests places m k × Gains p 0 head (now h) (now k))
-    (λ done k. StoryRests places m k × IsOpened p units erases g (now h) (now k)) h old result new
+    (λ done k. StoryRests places m k × HasOverflowHeader p units erases g (now h) (now k)) h old result new
     (λ k either. either_is_kept places m k either) (λ done a does. does)
     (λ done k both. (both.0, opened_by p units erases g (now h) (now k) head is both.1))
     (seal m m h steady rests (clean 0)
@@ -148,7 +148,7 @@ place_opened places p units erases g head old new result is seal m it h steady r
 pub record WasOpened (p units erases g : ℕ) (c z : Chart) : Type 0 where
   pub bare : Chart
   pub cleared : IsCleared p c bare
-  pub opened : IsOpened p units erases g bare z
+  pub opened : HasOverflowHeader p units erases g bare z
 
 -- ---- in the tables
 
@@ -224,9 +224,9 @@ module _ (p units erases g : ℕ) (m : Map) (it : Layout) (t : Tables) (after : 
       let says = subst (λ (q : ℕ). OpensPlace q p units erases g mid result new) counts.places opens in
       keeps_then old.places m h (ClearsNext t.places (Ok p)) (Programs p (IsSpot 0))
       (WritesFree t.places p 1)
-      (λ c y. IsCleared p c y × Mirror c) (λ (done : Unit {0}). IsOpened p units erases g)
+      (λ c y. IsCleared p c y × Mirror c) (λ (done : Unit {0}). HasOverflowHeader p units erases g)
       (λ done. WasOpened p units erases g) (λ c y. ⊥) (λ c y. ⊥) old mid new result first counts
-      (keeps_written old.places m k (Programs p (IsSpot 0)) (λ done. IsOpened p units erases g) (λ c y. ⊥) mid
+      (keeps_written old.places m k (Programs p (IsSpot 0)) (λ done. HasOverflowHeader p units erases g) (λ c y. ⊥) mid
       new result
       (says m it k (first.steady tt) (first.ends tt).0
       (cleared_mirrors old.places (now h) (now k) it t p there.1 free there.0).laid
@@ -236,7 +236,7 @@ module _ (p units erases g : ℕ) (m : Map) (it : Layout) (t : Tables) (after : 
       (each result) (λ c d e is none. none)
     where
       each : (r : Result (Unit {0}) ChipFault) → IfOk r (λ done. (c d e : Chart)
-          → IsCleared p c d × Mirrors old.places c it t → IsOpened p units erases g d e
+          → IsCleared p c d × Mirrors old.places c it t → HasOverflowHeader p units erases g d e
           → WasOpened p units erases g c e)
       each (Ok done) = λ c d e is opened. record { bare = d; cleared = is.0; opened = opened }
       each (Err e) = tt
@@ -321,9 +321,9 @@ open_failed p units erases g m it t then after h old mid new free steady here ta
 
 -- what the chip tells once the place was taken and opened
 pub taken_told : (p units erases g : ℕ) (old mid new : Told) → Charts (IsCleared p) old mid
-    → Charts (IsOpened p units erases g) mid new → Charts (WasOpened p units erases g) old new
+    → Charts (HasOverflowHeader p units erases g) mid new → Charts (WasOpened p units erases g) old new
 taken_told p units erases g old mid new first second =
-    charts_then (IsCleared p) (IsOpened p units erases g) (WasOpened p units erases g) old mid new first second
+    charts_then (IsCleared p) (HasOverflowHeader p units erases g) (WasOpened p units erases g) old mid new first second
     (λ c d e cleared opened. record { bare = d; cleared = cleared; opened = opened })
 
 pub tables_same : (t : Tables) (a b : Places) (x y : OverflowLists) (n k : ℕ) → a ≡ b → x ≡ y

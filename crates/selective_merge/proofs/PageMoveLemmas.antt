@@ -8,7 +8,7 @@ use Rattle.ipl_rules.specs.State.{Map}
 use Rattle.ipl_format.specs.Page.{Slots, IsPage}
 use Rattle.ipl_meaning.specs.Chart.{Chart, chart_of}
 use Rattle.ipl_meaning.specs.Rests.{now, StoryRests}
-use Rattle.unit_io.specs.Charts.{Charts, HasPage}
+use Rattle.unit_io.specs.Charts.{Charts, HasPageSectors}
 use Rattle.unit_io.specs.Faults.{HoldsPage}
 use Rattle.unit_io.specs.Leads.{IsSteady, KeepsMap, IsStopped}
 use Rattle.unit_io.specs.Reads.{OfContents}
@@ -30,7 +30,7 @@ abbrev pub ProgramsPage : ℕ → ℕ → ℕ → ℕ → ℕ → Slots → Told
 ProgramsPage places p u g page slots old result new = (m : Map) (h : History)
     → IsSteady h old → StoryRests places m h → now h p 0 ≡ None
     → ((s : ℕ) → IsPieceSpot page 16 s → age h.story p s ≡ Clean)
-    → KeepsMap places m (Programs p (IsPieceSpot page 16)) (λ n. HasPage p u g page slots n)
+    → KeepsMap places m (Programs p (IsPieceSpot page 16)) (λ n. HasPageSectors p u g page slots n)
     h old result new
 
 module _ (places : ℕ) (from : Source) (p g page : ℕ) where
@@ -58,14 +58,14 @@ module _ (places : ℕ) (from : Source) (p g page : ℕ) where
         HoldsPage (chart_of x) from.place from.version from.unit from.generation page n base) count_is
         (held_with x told)
 
-    moves : (n : ℕ) (c d y : Chart) → (d ≡ c) × Held c → HasPage p unit g page slots n d y
+    moves : (n : ℕ) (c d y : Chart) → (d ≡ c) × Held c → HasPageSectors p unit g page slots n d y
         → MovesPage from p g page n c y
     moves n c d y is has = record {
       new = slots;
       fits = fits;
       of = record { base = base; held = is.1; applied = rebased };
-      has = subst (λ (k : ℕ). HasPage p k g page slots n c y) unit_is
-          (subst (λ (z : Chart). HasPage p unit g page slots n z y) is.0 has);
+      has = subst (λ (k : ℕ). HasPageSectors p k g page slots n c y) unit_is
+          (subst (λ (z : Chart). HasPageSectors p unit g page slots n z y) is.0 has);
     }
 
     pub page_moves : (result : Result ℕ ChipFault)
@@ -80,25 +80,25 @@ module _ (places : ℕ) (from : Source) (p g page : ℕ) where
         let here : ProgramsPage places p unit g page slots mid result late =
         subst (λ (q : ℕ). ProgramsPage q p unit g page slots mid result late) sized says in
         let second = keeps_written places m k (Programs p (IsPieceSpot page 16))
-        (λ n. HasPage p unit g page slots n) (IsAside p) mid late result
+        (λ n. HasPageSectors p unit g page slots n) (IsAside p) mid late result
         (here m k (first.steady tt) (first.ends tt).0
         (ap (λ (c : Chart). c p 0) (first.ends tt).1.0 ∙ bare)
         (λ s spot. first.does.others h.story p s (λ same none. none) (clean s spot))) stopped in
         keeps_then places m h (Programs p (λ s. ⊥) true) (Programs p (IsPieceSpot page 16))
         (Programs p (IsPieceSpot page 16)) (λ c y. (y ≡ c) × Held c)
-        (λ n. HasPage p unit g page slots n) (MovesPage from p g page) (IsAside p) (IsAside p)
+        (λ n. HasPageSectors p unit g page slots n) (MovesPage from p g page) (IsAside p) (IsAside p)
         old mid late result first did.counts second
         (λ a b one two. programs_behind p (IsPieceSpot page 16) (is_ok result) b a one two)
         (each result)
         (λ c d e is aside. subst (λ (z : Chart). IsAside p z e) is.0 aside)
       where
         each : (r : Result ℕ ChipFault) → IfOk r (λ n. (c d e : Chart) → (d ≡ c) × Held c
-            → HasPage p unit g page slots n d e → MovesPage from p g page n c e)
+            → HasPageSectors p unit g page slots n d e → MovesPage from p g page n c e)
         each (Ok n) = moves n
         each (Err e) = tt
 
     pub page_tells : (result : Result ℕ ChipFault)
-        → IfOk result (λ n. Charts (HasPage p unit g page slots n) mid late)
+        → IfOk result (λ n. Charts (HasPageSectors p unit g page slots n) mid late)
         → IfErr result (λ fault. IsStopped fault mid late)
         → ChartsThroughout (MovesPage from p g page) (IsAside p) result old late
     page_tells result tells stopped =
@@ -106,7 +106,7 @@ module _ (places : ℕ) (from : Source) (p g page : ℕ) where
         (each result tells) stopped
       where
         each : (r : Result ℕ ChipFault)
-            → IfOk r (λ n. Charts (HasPage p unit g page slots n) mid late)
+            → IfOk r (λ n. Charts (HasPageSectors p unit g page slots n) mid late)
             → IfOk r (λ n. Charts (MovesPage from p g page n) old late)
         each (Ok n) tells = λ x told.
             let (y, told_y, has) = tells x (did.contents ∙ told) in

@@ -14,7 +14,7 @@ use Rattle.unit_directory.proofs.AsideLemmas.{next_places_are_aside}
 use Rattle.ipl_meaning.proofs.MirrorLemmas.{map_contains}
 use Rattle.merge_laws.specs.Merged.{IsMergedUnit, merged_layout, merged_shape}
 use Rattle.merge_laws.specs.Packs.{among}
-use Rattle.selective_merge.specs.Placing.{SaysErases, HasRoom, IsElsewhere, IsPlaced}
+use Rattle.selective_merge.specs.Placing.{SaysErases, MayHaveMerged, IsElsewhere, IsPlaced}
 use Rattle.selective_merge.specs.Spotting.{HasHomeSpot, IsHomeSpot, IsOverflowSpot, HasCleanSpot, IsLowest, MayOverflow, OpensNext}
 
 -- ---- what is to be had
@@ -43,7 +43,7 @@ new_spot t after u p s next few one opens = record {
 -- ---- room
 
 room_same : (places : ℕ) (c : Chart) (it : Layout) (t : Tables) (u : ℕ) → Mirrors places c it t
-    → HasRoom places c c it t u t
+    → MayHaveMerged places c c it t u t
 room_same places c it t u mirrors = record {
   layout = it;
   mirrors = mirrors;
@@ -52,12 +52,12 @@ room_same places c it t u mirrors = record {
 }
 
 room_opened : (places : ℕ) (c y : Chart) (it : Layout) (t : Tables) (u : ℕ) (after : Tables)
-    → Mirrors places y it after → KeepsPages places c it y it → HasRoom places c y it t u after
+    → Mirrors places y it after → KeepsPages places c it y it → MayHaveMerged places c y it t u after
 room_opened places c y it t u after mirrors keeps =
     record { layout = it; mirrors = mirrors; keeps = keeps; how = inl refl }
 
 room_merged : (places : ℕ) (c y : Chart) (it : Layout) (t : Tables) (u : ℕ) (after : Tables)
-    → IsMergedUnit places c y it t u after → HasRoom places c y it t u after
+    → IsMergedUnit places c y it t u after → MayHaveMerged places c y it t u after
 room_merged places c y it t u after is = record {
   layout = merged_layout t it u is.place is.head is.pieces is.serial;
   mirrors = is.mirrors;

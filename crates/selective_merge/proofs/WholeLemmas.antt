@@ -21,14 +21,14 @@ use Rattle.step_laws.proofs.StepLemmas.{outcome_reads, outcome_then, outcome_wea
 use Rattle.step_laws.proofs.TidyLemmas.{tidy_reads, tidy_then, tidy_weaker}
 use Rattle.merge_laws.specs.Merged.{source_of}
 use Rattle.merge_laws.specs.Moved.{Source}
-use Rattle.selective_merge.specs.declared.home.Home.{Home}
-use Rattle.selective_merge.specs.Homes.{from_home, IsHomeOf, Learns}
+use Rattle.selective_merge.specs.declared.home.HomeHeader.{HomeHeader}
+use Rattle.selective_merge.specs.Homes.{from_home, IsHomeOf, LearnsHome}
 use Rattle.selective_merge.specs.Merging.{Merges, MergesFrom, StaysMirrored, RestsMerged, MergesInSteps, MergesFromInSteps}
 use Rattle.selective_merge.specs.Throughout.{ChartsThroughout}
 use Rattle.selective_merge.proofs.ThroughoutLemmas.{settled_later}
 
 -- the unit that was read is the one that is merged
-pub source_is : (home : Home) (t : Tables) (it : Shape) (u : ℕ) (log : List Record)
+pub source_is : (home : HomeHeader) (t : Tables) (it : Shape) (u : ℕ) (log : List Record)
     → IsHomeOf home it u log → from_home home t.status.numbers log ≡ source_of t it u
 source_is home t it u log is = rw (is.place, is.version, is.unit, is.generation, is.pieces, is.log_is) refl
 
@@ -93,10 +93,10 @@ pub told_unread : (At : ℕ → ℕ → Type 0) (places : ℕ) (t : Tables) (old
 told_unread At places t old new did x told =
     (x, did.contents ∙ told, λ it mirrors. (mirrors, λ v page now low few shows. shows))
 
-module _ (At : ℕ → ℕ → Type 0) (u : ℕ) (home : Home) (log : List Record)
+module _ (At : ℕ → ℕ → Type 0) (u : ℕ) (home : HomeHeader) (log : List Record)
     (t after : Tables) (old mid new : Told) (result : Result (Unit {0}) ChipFault)
     (did : ReadsAt At old mid)
-    (learns : Learns t.places t.overflow u old (Ok home) log) where
+    (learns : LearnsHome t.places t.overflow u old (Ok home) log) where
   abbrev from : Source
   from = from_home home t.status.numbers log
 

@@ -19,7 +19,7 @@ use Rattle.unit_io.proofs.LeadsLemmas.{leads_none, leads_then, leads_failed}
 use Rattle.unit_io.proofs.SpotLemmas.{programs_none, programs_then, programs_wider}
 use Rattle.merge_laws.specs.Packs.{log_sector, IsLogSpotBelow, HasLogs, payload_of}
 use Rattle.merge_laws.specs.Moved.{IsAside}
-use Rattle.selective_merge.specs.Writing.{WritesLog, KeepsLogs}
+use Rattle.selective_merge.specs.Writing.{WritesToBare, KeepsLogs}
 
 -- a sector that was put in, and the others
 put_here : (c : Chart) (p s : ℕ) (sector : Sector) → with_sector c p s sector p s ≡ Some sector
@@ -76,7 +76,7 @@ module _ (places p u g serial : ℕ) (payloads : List Versioned) (m : Map) (h : 
       → ((s : ℕ) → IsLogSpotBelow total s → age h.story p s ≡ Clean) → (old mid new : Told)
       → (result : Result (Unit {0}) ChipFault)
       → KeepsLogs places p u g serial payloads i m h old (Ok tt) mid
-      → WritesLog places p (241 + i)
+      → WritesToBare places p (241 + i)
       (log_sector u g (serial + i) (slice_index_or payloads i (payload_of [])).bytes) mid result new
       → KeepsLogs places p u g serial payloads (i + 1) m h old result new
   keeps_more total i few bare clean old mid new result so one =
@@ -120,11 +120,11 @@ module _ (places p u g serial : ℕ) (payloads : List Versioned) (m : Map) (h : 
 -- a sector that is the same, of a chip with as many places
 pub log_named : (q places p s t : ℕ) (one other : Sector) (old new : Told)
     (result : Result (Unit {0}) ChipFault) → q ≡ places → s ≡ t → one ≡ other
-    → WritesLog q p s one old result new → WritesLog places p t other old result new
+    → WritesToBare q p s one old result new → WritesToBare places p t other old result new
 log_named q places p s t one other old new result sized at same says =
-    subst (λ (z : Sector). WritesLog places p t z old result new) same
-    (subst (λ (k : ℕ). WritesLog places p k one old result new) at
-    (subst (λ (k : ℕ). WritesLog k p s one old result new) sized says))
+    subst (λ (z : Sector). WritesToBare places p t z old result new) same
+    (subst (λ (k : ℕ). WritesToBare places p k one old result new) at
+    (subst (λ (k : ℕ). WritesToBare k p s one old result new) sized says))
 
 pub same_log : (u g serial other : ℕ) (payload bytes : List ℕ) → serial ≡ other
     → payload ≡ bytes → log_sector u g serial payload ≡ log_sector u g other bytes

@@ -13,10 +13,10 @@ use Rattle.unit_log.specs.Looks.{IsLogRead}
 use Rattle.merge_laws.specs.Packs.{among}
 use Rattle.merge_laws.specs.Pages.{IsBaseSpotBelow, IsFew}
 use Rattle.merge_laws.specs.Moved.{Source}
-use Rattle.selective_merge.specs.declared.home.Home.{Home}
+use Rattle.selective_merge.specs.declared.home.HomeHeader.{HomeHeader}
 
 -- the source of a move from there, with these committed numbers and log records
-abbrev pub from_home : Home → List ℕ → List Record → Source
+abbrev pub from_home : HomeHeader → List ℕ → List Record → Source
 from_home home numbers records = record {
   place = home.place;
   version = home.head.version;
@@ -34,7 +34,7 @@ is_counted committed page r = (r.page == page) && committed r.tid
 -- ---- what is read
 
 -- the unit stands there, with this header and these records
-pub record IsHomeOf (home : Home) (it : Shape) (u : ℕ) (log : List Record) : Type 0 where
+pub record IsHomeOf (home : HomeHeader) (it : Shape) (u : ℕ) (log : List Record) : Type 0 where
   pub place : home.place ≡ it.home
   pub version : home.head.version ≡ it.head.version
   pub unit : home.head.unit ≡ u
@@ -44,18 +44,18 @@ pub record IsHomeOf (home : Home) (it : Shape) (u : ℕ) (log : List Record) : T
 
 -- where tables with this directory and these overflow lists mirror what the chip holds, it is where
 -- the unit stands, unless a read failed
-abbrev pub Learns : Places → OverflowLists → ℕ → Told → Result Home ChipFault → List Record → Type 0
-Learns directory overflow u told result log = OfMirrored told directory overflow
+abbrev pub LearnsHome : Places → OverflowLists → ℕ → Told → Result HomeHeader ChipFault → List Record → Type 0
+LearnsHome directory overflow u told result log = OfMirrored told directory overflow
     (λ it. MatchResult result (λ home. IsHomeOf home (it.units u) u log) (λ fault. fault ≡ ReadFault))
 
 -- the tables have the unit there, and no page of it takes more than 16 sectors
-pub record IsHomeBy (t : Tables) (u : ℕ) (home : Home) : Type 0 where
+pub record IsHomeBy (t : Tables) (u : ℕ) (home : HomeHeader) : Type 0 where
   pub place : home.place ≡ slice_index t.places.current u
   pub few : IsFew home.pieces
 
 -- what was read of the unit is this, by tables that are still so
-pub record IsLearnt (t : Tables) (u : ℕ) (told : Told) (home : Home) (log : List Record) : Type 0 where
-  pub learns : Learns t.places t.overflow u told (Ok home) log
+pub record IsLearnt (t : Tables) (u : ℕ) (told : Told) (home : HomeHeader) (log : List Record) : Type 0 where
+  pub learns : LearnsHome t.places t.overflow u told (Ok home) log
   pub stands : IsHomeBy t u home
 
 -- ---- causes

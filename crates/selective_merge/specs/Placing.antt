@@ -27,7 +27,7 @@ use Rattle.selective_merge.specs.Spotting.{IsHomeSpot, MayOverflow, TakesOverflo
 
 -- the place has the header of an overflow place under this generation, for so many units, which says
 -- how often it was erased
-pub record IsOpened (p units erases generation : ℕ) (c y : Chart) : Type 0 where
+pub record HasOverflowHeader (p units erases generation : ℕ) (c y : Chart) : Type 0 where
   pub head : Sector
   pub kind : head.kind ≡ 3
   pub of_generation : head.generation ≡ generation
@@ -40,7 +40,7 @@ pub record IsOpened (p units erases generation : ℕ) (c y : Chart) : Type 0 whe
 abbrev pub OpensPlace : ℕ → ℕ → ℕ → ℕ → ℕ → Told → Result (Unit {0}) ChipFault → Told → Type 0
 OpensPlace places p units erases generation old result new = (m : Map) (it : Layout) (h : History)
     → IsSteady h old → StoryRests places m h → Laid places (now h) it → IsCleanPlace p h
-    → KeepsMap places m (Programs p (IsSpot 0)) (λ done. IsOpened p units erases generation) h old result new
+    → KeepsMap places m (Programs p (IsSpot 0)) (λ done. HasOverflowHeader p units erases generation) h old result new
 
 -- the header of the place says how often the tables have it erased
 abbrev pub SaysErases : Tables → ℕ → Chart → Type 0
@@ -72,7 +72,7 @@ OpensInSteps places t after old result new = (m : Map) (it : Layout) (h : Histor
 
 -- the tables mirror the chip, each page is shown still, and it is laid out as before, but that the
 -- unit may have been merged
-pub record HasRoom (places : ℕ) (c y : Chart) (it : Layout) (t : Tables) (u : ℕ)
+pub record MayHaveMerged (places : ℕ) (c y : Chart) (it : Layout) (t : Tables) (u : ℕ)
     (after : Tables) : Type 0 where
   pub layout : Layout
   pub mirrors : Mirrors places y layout after
@@ -83,7 +83,7 @@ pub record HasRoom (places : ℕ) (c y : Chart) (it : Layout) (t : Tables) (u : 
 -- Where the place was free before, its header says its erases.
 pub record IsElsewhere (places : ℕ) (c y : Chart) (it : Layout) (t : Tables) (u : ℕ)
     (after : Tables) (p s : ℕ) : Type 0 where
-  pub room : HasRoom places c y it t u after
+  pub room : MayHaveMerged places c y it t u after
   pub overflow : MayOverflow t u → TakesOverflow t after u p s
   pub merged : ¬ MayOverflow t u
       → IsMergedUnit places c y it t u after × IsHomeSpot after u p s
@@ -92,7 +92,7 @@ pub record IsElsewhere (places : ℕ) (c y : Chart) (it : Layout) (t : Tables) (
 -- there is room, by the rules; and where the place was free before, its header says its erases
 pub record IsPlaced (places : ℕ) (c y : Chart) (it : Layout) (t : Tables) (u : ℕ)
     (after : Tables) (p s : ℕ) : Type 0 where
-  pub room : HasRoom places c y it t u after
+  pub room : MayHaveMerged places c y it t u after
   pub rules : FollowsRules (IsMergedUnit places c y it t u after)
       (carried_count (among t.active) (it.units u).log) t after u p s
   pub says : IsFree t.places p → SaysErases after p y

@@ -27,13 +27,13 @@ use Rattle.merge_laws.specs.Moved.{Source, MovesPage, HasMoved, IsAside}
 use Rattle.merge_laws.specs.Packs.{IsLogSpotBelow, HasLogs}
 use Rattle.merge_laws.specs.Pages.{IsBaseSpotBelow, IsFew}
 use Rattle.selective_merge.specs.Throughout.{KeepsThroughout}
-use Rattle.selective_merge.specs.declared.home.Home.{Home}
+use Rattle.selective_merge.specs.declared.home.HomeHeader.{HomeHeader}
 
 -- ---- a place that is written
 
 -- a unit that stands there may be moved to this place: both are places of the chip and aren't one, and no
 -- page of it takes more than 16 sectors
-pub record MayMove (places : ℕ) (from : Home) (p : ℕ) : Type 0 where
+pub record MayMove (places : ℕ) (from : HomeHeader) (p : ℕ) : Type 0 where
   pub home : from.place < places
   pub few : IsFew from.pieces
   pub place : p < places
@@ -75,8 +75,8 @@ MovesPages places from p generation old result new = (m : Map) (h : History)
 -- ---- log sectors
 
 -- a log sector, in a place without a header
-abbrev pub WritesLog : ℕ → ℕ → ℕ → Sector → Told → Result (Unit {0}) ChipFault → Told → Type 0
-WritesLog places p s sector old result new = (m : Map) (h : History)
+abbrev pub WritesToBare : ℕ → ℕ → ℕ → Sector → Told → Result (Unit {0}) ChipFault → Told → Type 0
+WritesToBare places p s sector old result new = (m : Map) (h : History)
     → IsSteady h old → StoryRests places m h → now h p 0 ≡ None → s ≢ 0 → IsUntouched h p s
     → KeepsMap places m (Programs p (IsSpot s)) (λ done. Gains p s sector) h old result new
 

@@ -3,10 +3,10 @@ ghost use Rattle.std.specs.Prelude.{◌≡◌, ◌<◌, length, slice_index, IfO
 ghost use Rattle.overflow.specs.Lists.{spots_in};
 ghost use Rattle.unit_log.specs.Looks.{IsLogRead, LooksAt};
 ghost use Rattle.merge_laws.specs.Pages.{IsFew};
-ghost use Rattle.selective_merge.specs.Homes.{Learns};
+ghost use Rattle.selective_merge.specs.Homes.{LearnsHome};
 
 use crate::MergeScratch;
-use crate::home::Home;
+use crate::home::HomeHeader;
 use chip_trait::Chip;
 use ipl_base::ChipFault;
 use overflow::Overflow;
@@ -15,7 +15,7 @@ use unit_directory::Directory;
 use unit_log::{UnitHead, read_live};
 
 /// Where a unit stands whose header says this.
-fn home_at(place: u32, unit: u32, head: UnitHead) -> Home
+fn home_at(place: u32, unit: u32, head: UnitHead) -> HomeHeader
     ensures place { result.place ≡ place }
     ensures version { result.head.version ≡ head.version }
     ensures unit { result.head.unit ≡ unit }
@@ -23,7 +23,7 @@ fn home_at(place: u32, unit: u32, head: UnitHead) -> Home
     ensures pieces { result.pieces ≡ head.pieces }
 {
     let pieces = head.pieces;
-    Home {
+    HomeHeader {
         place,
         head: Head {
             kind: Head::DATA_HEADER,
@@ -46,12 +46,12 @@ pub(crate) fn learn<C: Chip>(
     overflow: &Overflow,
     unit: u32,
     scratch: &mut MergeScratch,
-) -> Result<Home, ChipFault>
+) -> Result<HomeHeader, ChipFault>
     requires unit { unit < length directory.now.current }
     requires size { length directory.now.in_use ≡ (C.told chip.old).places }
     requires units { length overflow.now.spots ≡ length directory.now.current }
     requires sized { overflow.now.places ≡ (C.told chip.old).places }
-    ensures learns { Learns directory.now overflow.now unit (C.told chip.old) result scratch.new.log }
+    ensures learns { LearnsHome directory.now overflow.now unit (C.told chip.old) result scratch.new.log }
     ensures place { IfOk result (λ home. home.place ≡ slice_index directory.now.current unit) }
     ensures few { IfOk result (λ home. IsFew home.pieces) }
     ensures looks { LooksAt

@@ -7,7 +7,7 @@ ghost use Rattle.unit_io.specs.Costs.{ProgramsAt, Spends};
 ghost use Rattle.unit_io.specs.Leads.{IsStopped};
 ghost use Rattle.unit_io.specs.Spots.{Programs, IsSpot};
 ghost use Rattle.merge_laws.specs.Packs.{log_sector, IsLogSpotBelow, HasLogs};
-ghost use Rattle.selective_merge.specs.Writing.{DrawsSerials, WritesLog, WritesLogs, WritesPlace};
+ghost use Rattle.selective_merge.specs.Writing.{DrawsSerials, WritesToBare, WritesLogs, WritesPlace};
 
 use chip_trait::Chip;
 use ipl_base::{ChipFault, Counter, Spot};
@@ -28,7 +28,7 @@ fn write_log<C: Chip>(
     requires place { place < (C.told chip.old).places }
     requires i { i < 15 }
     requires left { counter.old + 1 < 2 ^ 64 }
-    ensures writes { WritesLog (C.told chip.old).places place (241 + i)
+    ensures writes { WritesToBare (C.told chip.old).places place (241 + i)
         (log_sector head.now.unit head.now.generation counter.old payload.now.bytes)
         (C.told chip.old) result (C.told chip.new) }
     ensures tells { OnOk result (Charts (Gains place (241 + i)

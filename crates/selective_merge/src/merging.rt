@@ -26,7 +26,7 @@ ghost use Rattle.selective_merge.specs.Throughout.{ChartsThroughout};
 
 use crate::Parts;
 use crate::carry::pack_carried;
-use crate::home::Home;
+use crate::home::HomeHeader;
 use crate::learning::learn;
 use crate::packs::masks_of;
 use crate::parts::move_unit;
@@ -42,7 +42,7 @@ fn merge_packed<C: Chip>(
     chip: &mut C,
     parts: &mut Parts,
     unit: u32,
-    home: &Home,
+    home: &HomeHeader,
 ) -> Result<(), ChipFault>
     requires known { KnowsPlaces (C.told chip.old).places (tables_of parts.old) }
     requires unit { unit < length parts.old.directory.current }
@@ -106,7 +106,7 @@ fn merge_known<C: Chip>(
     chip: &mut C,
     parts: &mut Parts,
     unit: u32,
-    home: &Home,
+    home: &HomeHeader,
 ) -> Result<(), ChipFault>
     requires known { KnowsPlaces (C.told chip.old).places (tables_of parts.old) }
     requires unit { unit < length parts.old.directory.current }
@@ -145,7 +145,7 @@ pub(crate) fn merge_learnt<C: Chip>(
     chip: &mut C,
     parts: &mut Parts,
     unit: u32,
-    home: &Home,
+    home: &HomeHeader,
 ) -> Result<(), ChipFault>
     requires known { KnowsPlaces (C.told chip.old).places (tables_of parts.old) }
     requires unit { unit < length parts.old.directory.current }

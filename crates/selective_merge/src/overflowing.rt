@@ -11,7 +11,7 @@ ghost use Rattle.merge_laws.specs.Known.{KnowsPlaces};
 ghost use Rattle.selective_merge.specs.Leaving.{LeavesTables};
 ghost use Rattle.selective_merge.specs.Merging.{StaysMirrored};
 ghost use Rattle.selective_merge.specs.Moving.{tables_of};
-ghost use Rattle.selective_merge.specs.Placing.{IsOpened, OpensPlace, OpensOverflow, OpensInSteps};
+ghost use Rattle.selective_merge.specs.Placing.{HasOverflowHeader, OpensPlace, OpensOverflow, OpensInSteps};
 ghost use Rattle.selective_merge.specs.Spotting.{OpensNext};
 ghost use Rattle.selective_merge.specs.Throughout.{ChartsThroughout};
 
@@ -36,7 +36,7 @@ fn write_overflow<C: Chip>(
     requires { place < (C.told chip.old).places }
     ensures opens { OpensPlace (C.told chip.old).places place units erases generation
         (C.told chip.old) result (C.told chip.new) }
-    ensures tells { OnOk result (Charts (IsOpened place units erases generation)
+    ensures tells { OnOk result (Charts (HasOverflowHeader place units erases generation)
         (C.told chip.old) (C.told chip.new)) }
     ensures spares { OnOk result (Spares place (C.told chip.old) (C.told chip.new)) }
     ensures costs { Spends (ProgramsAt place 1 2 3) (C.told chip.old) (C.told chip.new) }

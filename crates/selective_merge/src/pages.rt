@@ -18,7 +18,7 @@ ghost use Rattle.selective_merge.specs.Logs.{nth_record};
 ghost use Rattle.selective_merge.specs.Throughout.{ChartsThroughout};
 ghost use Rattle.selective_merge.specs.Writing.{MayMove, MovesOnePage, MovesPages, WritesPlace};
 
-use crate::home::Home;
+use crate::home::HomeHeader;
 use crate::log::Log;
 use chip_trait::Chip;
 use ipl_base::{ChipFault, PAGES, VERSION};
@@ -143,7 +143,7 @@ fn known_tails<'a>(tails: &'a [u32; 16], version: u8, coming: &Coming) -> Option
 /// Malformed at sector 0 where the unit stands, where the page has no room for them.
 fn move_page<C: Chip>(
     chip: &mut C,
-    home: &Home,
+    home: &HomeHeader,
     log: &Log,
     status: &Status,
     place: u32,
@@ -188,7 +188,7 @@ fn move_page<C: Chip>(
 /// has no room for them.
 pub(crate) fn move_pages<C: Chip>(
     chip: &mut C,
-    home: &Home,
+    home: &HomeHeader,
     log: &Log,
     status: &Status,
     place: u32,

@@ -26,7 +26,7 @@ ghost use Rattle.selective_merge.specs.Writing.{
   WritesUnit,
 };
 
-use crate::home::Home;
+use crate::home::HomeHeader;
 use crate::log::Log;
 use crate::logs::write_logs;
 use crate::pages::move_pages;
@@ -42,7 +42,7 @@ use unit_layout::{DataHeader, write_data_header};
 /// sectors of these payloads, at most 12. Answers how many sectors each page took.
 fn fill<C: Chip>(
     chip: &mut C,
-    home: &Home,
+    home: &HomeHeader,
     log: &Log,
     status: &Status,
     place: u32,
@@ -114,7 +114,7 @@ fn count_of(payloads: &[Payload]) -> u8
 /// erased, makes it the unit's.
 pub(crate) fn write_unit<C: Chip>(
     chip: &mut C,
-    home: &Home,
+    home: &HomeHeader,
     log: &Log,
     status: &Status,
     place: u32,

@@ -11,7 +11,7 @@ ghost use Rattle.selective_merge.specs.Spotting.{HasHomeSpot, IsHomeSpot, IsSpot
 ghost use Rattle.selective_merge.specs.Throughout.{ChartsThroughout};
 
 use crate::Parts;
-use crate::home::Home;
+use crate::home::HomeHeader;
 use crate::learning::learn;
 use crate::merging::merge_learnt;
 use crate::overflowing::open_overflow;
@@ -24,7 +24,7 @@ fn merged_spot<C: Chip>(
     chip: &mut C,
     parts: &mut Parts,
     unit: u32,
-    home: &Home,
+    home: &HomeHeader,
 ) -> Result<Spot, ChipFault>
     requires known { KnowsPlaces (C.told chip.old).places (tables_of parts.old) }
     requires unit { unit < length parts.old.directory.current }
@@ -57,7 +57,7 @@ fn elsewhere<C: Chip>(
     chip: &mut C,
     parts: &mut Parts,
     unit: u32,
-    home: &Home,
+    home: &HomeHeader,
 ) -> Result<Spot, ChipFault>
     requires known { KnowsPlaces (C.told chip.old).places (tables_of parts.old) }
     requires unit { unit < length parts.old.directory.current }

@@ -11,21 +11,21 @@ use Rattle.script_run.specs.Lines.{commands_from, kept}
 use Rattle.script_run.specs.Goes.{HasRead}
 use Rattle.script_run.proofs.LineLemmas.{keeping, from_start}
 use Rattle.script_run.proofs.ReadLemmas.{further_read, further_failed}
-use Rattle.serial_run.specs.View.{Gathers, ReadsScript, IsReading, HasReadAll, ReadsTooMany, ViewCause}
+use Rattle.serial_run.specs.View.{GathersCommands, ReadsScript, IsReading, HasReadAll, ReadsTooMany, ViewCause}
 use Rattle.serial_run.specs.declared.stop.ViewStop.{ViewStop}
 use Rattle.serial_run.specs.declared.stop.ViewStop.TheVariants as stop
 
-pub gathers_none : (before : List Command) (line : List ℕ) → Gathers [] before line before line
+pub gathers_none : (before : List Command) (line : List ℕ) → GathersCommands [] before line before line
 gathers_none before line tail = refl
 
 gathers_then : (a b : List ℕ) (before mid then : List Command) (line between later : List ℕ)
-    → Gathers a before line mid between → Gathers b mid between then later → Gathers (a ++ b) before line then later
+    → GathersCommands a before line mid between → GathersCommands b mid between then later → GathersCommands (a ++ b) before line then later
 gathers_then a b before mid then line between later first next tail =
     ap (λ (l : List ℕ). before ++ commands_from line l) (append_assoc a b tail) ∙ first (b ++ tail) ∙ next tail
 
 -- a line feed ends a line
 pub gathers_end : (byte : ℕ) (before then : List Command) (line later : List ℕ) → byte ≡ 10
-    → then ≡ before ++ commands_in (line_of line) → later ≡ [] → Gathers (byte ∷ []) before line then later
+    → then ≡ before ++ commands_in (line_of line) → later ≡ [] → GathersCommands (byte ∷ []) before line then later
 gathers_end byte before then line later is more none tail =
     ap (λ (b : ℕ). before ++ commands_from line (b ∷ tail)) is
     ∙ sym (append_assoc before (commands_in (line_of line)) (commands_from [] tail))
@@ -34,24 +34,24 @@ gathers_end byte before then line later is more none tail =
 
 -- another byte is kept
 pub gathers_kept : (byte : ℕ) (before : List Command) (line later : List ℕ) → (byte == 10) ≡ false
-    → later ≡ kept line byte → Gathers (byte ∷ []) before line before later
+    → later ≡ kept line byte → GathersCommands (byte ∷ []) before line before later
 gathers_kept byte before line later no_end is tail =
     ap (λ (l : List Command). before ++ l)
     (keeping line byte tail no_end ∙ ap (λ (l : List ℕ). commands_from l tail) (sym is))
 
 -- the bytes of a piece, one more
 pub gathers_more : (piece : List ℕ) (i byte : ℕ) (before mid then : List Command) (line between later : List ℕ)
-    → i < length piece → byte ≡ get_or piece i 0 → Gathers (take i piece) before line mid between
-    → Gathers (byte ∷ []) mid between then later → Gathers (take (i + 1) piece) before line then later
+    → i < length piece → byte ≡ get_or piece i 0 → GathersCommands (take i piece) before line mid between
+    → GathersCommands (byte ∷ []) mid between then later → GathersCommands (take (i + 1) piece) before line then later
 gathers_more piece i byte before mid then line between later within is first next =
-    subst (λ (l : List ℕ). Gathers l before line then later)
+    subst (λ (l : List ℕ). GathersCommands l before line then later)
     (ap (λ (b : ℕ). take i piece ++ b ∷ []) is ∙ sym (take_more piece i 0 within))
     (gathers_then (take i piece) (byte ∷ []) before mid then line between later first next)
 
 pub gathers_whole : (piece : List ℕ) (i : ℕ) (before then : List Command) (line later : List ℕ) → length piece ≤ i
-    → Gathers (take i piece) before line then later → Gathers piece before line then later
+    → GathersCommands (take i piece) before line then later → GathersCommands piece before line then later
 gathers_whole piece i before then line later past all =
-    subst (λ (l : List ℕ). Gathers l before line then later) (take_all i piece past) all
+    subst (λ (l : List ℕ). GathersCommands l before line then later) (take_all i piece past) all
 
 -- ---- reads
 
@@ -99,7 +99,7 @@ reading_start script t left = record { rest = script; left_is = left; to_come = 
 
 module _ (script : List ℕ) (before then : List Command) (line later buffer : List ℕ) (old new : Told) (n : ℕ)
     (is : AfterRead old new n) (next : (source : List ℕ) → old.beside.left ≡ Some source → IsNext source buffer n)
-    (gathers : Gathers (take n buffer) before line then later) (reading : IsReading script before line old) where
+    (gathers : GathersCommands (take n buffer) before line then later) (reading : IsReading script before line old) where
   pub reading_next : IsReading script then later new
   reading_next =
       let bytes = (next reading.rest reading.left_is).bytes in

@@ -45,8 +45,8 @@ pub record ReadsScript (old new : Told) : Type 0 where
   pub further : Further old new
 
 -- bytes of the script became commands, or were kept of a line: whatever bytes follow, the commands are the same
-abbrev pub Gathers : List ℕ → List Command → List ℕ → List Command → List ℕ → Type 0
-Gathers bytes before line then later = (tail : List ℕ)
+abbrev pub GathersCommands : List ℕ → List Command → List ℕ → List Command → List ℕ → Type 0
+GathersCommands bytes before line then later = (tail : List ℕ)
     → before ++ commands_from line (bytes ++ tail) ≡ then ++ commands_from later tail
 
 -- of the script a rest is left, and its commands are those that were read, and those still to come

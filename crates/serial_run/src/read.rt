@@ -3,7 +3,7 @@ ghost use Rattle.std.specs.Prelude.{◌≡◌, ◌≤◌, ◌<◌, ◌∷◌, �
 ghost use Rattle.chip_trait.specs.Told.{Told, Grew};
 ghost use Rattle.ipl_model.specs.Grammar.{line_of, commands_in};
 ghost use Rattle.script_run.specs.Goes.{HasRead};
-ghost use Rattle.serial_run.specs.View.{Gathers, ReadsScript, IsReading, HasReadAll, ViewCause};
+ghost use Rattle.serial_run.specs.View.{GathersCommands, ReadsScript, IsReading, HasReadAll, ViewCause};
 
 use crate::ViewStop;
 use chip_trait::Desk;
@@ -31,7 +31,7 @@ fn take_line(commands: &mut Vec<Command>, line: &[u8]) -> Result<(), AllocError>
 
 /// Takes a byte of the script: keeps the command of the line that it ends, or the byte.
 fn take_byte(commands: &mut Vec<Command>, line: &mut LineBuffer, byte: u8) -> Result<(), AllocError>
-    ensures { OnOk result (Gathers (byte ∷ []) commands.old.items line.old commands.new.items line.new) }
+    ensures { OnOk result (GathersCommands (byte ∷ []) commands.old.items line.old commands.new.items line.new) }
 {
     if byte == b'\n' {
         take_line(commands, line.bytes())?;
@@ -48,7 +48,7 @@ fn take_piece(
     line: &mut LineBuffer,
     piece: &[u8],
 ) -> Result<(), AllocError>
-    ensures { OnOk result (Gathers piece.now commands.old.items line.old commands.new.items line.new) }
+    ensures { OnOk result (GathersCommands piece.now commands.old.items line.old commands.new.items line.new) }
 {
     for byte in piece {
         take_byte(commands, line, *byte)?;

@@ -8,7 +8,7 @@ use Rattle.ipl_base.specs.declared.fault.Refusal.TheVariants.{NotOpen}
 use Rattle.ipl_base.specs.declared.limits.TheConstants.{SESSIONS}
 use Rattle.ipl_rules.specs.State.{State, is_open, writes_of, with_writes}
 use Rattle.ipl_rules.specs.Operations.{after_commit, after_batch, after_abort, after_restart}
-use Rattle.record_locks.specs.Held.{Held, Slots, held_at, written_of, after_end}
+use Rattle.record_locks.specs.Held.{Held, SessionSlots, held_at, written_of, after_end}
 use Rattle.record_locks.specs.Locks.{refuses_end}
 use Rattle.record_locks.specs.Standing.{state_of}
 use Rattle.record_locks.proofs.StandingLemmas.{open_at}
@@ -29,13 +29,13 @@ follows_on a b c f g first later = record {
 -- ---- an end of one session
 
 -- a slot without a session is as it was once that is closed
-shut_slot : (slots : Slots) (s : ℕ) → held_at slots s ≡ None → after_end slots s ≡ slots
+shut_slot : (slots : SessionSlots) (s : ℕ) → held_at slots s ≡ None → after_end slots s ≡ slots
 shut_slot [] s is = refl
 shut_slot (o ∷ slots) zero is = ap (λ (x : Option Held). x ∷ slots) (sym is)
-shut_slot (o ∷ slots) (suc s) is = ap (λ (rest : Slots). o ∷ rest) (shut_slot slots s is)
+shut_slot (o ∷ slots) (suc s) is = ap (λ (rest : SessionSlots). o ∷ rest) (shut_slot slots s is)
 
 -- the session is closed, whether it was open or not
-pub ended : (slots new : Slots) (s : ℕ) (r : Result Unit Refusal) → result_err r ≡ refuses_end slots s
+pub ended : (slots new : SessionSlots) (s : ℕ) (r : Result Unit Refusal) → result_err r ≡ refuses_end slots s
     → OnOk r (new ≡ after_end slots s) → OnErr r (new ≡ slots) → new ≡ after_end slots s
 ended slots new s (Ok u) is ok err = ok
 ended slots new s (Err why) is ok err = err ∙ sym (shut_slot slots s (by_test (held_at slots s) (open_at slots s)))
@@ -46,13 +46,13 @@ ended slots new s (Err why) is ok err = err ∙ sym (shut_slot slots s (by_test 
         let passes : refuses_end slots s ≡ None = ap (λ (b : Bool). cond (not b) (Some NotOpen) None) at in
         absurd (let clash = is ∙ passes in cc clash)
 
-pub closes : (run : KeptRun) → AreSessions run.slots → (s : ℕ) → s < SESSIONS → (slots : Slots) (most : List ℕ)
+pub closes : (run : KeptRun) → AreSessions run.slots → (s : ℕ) → s < SESSIONS → (slots : SessionSlots) (most : List ℕ)
     → slots ≡ after_end run.slots s → Sets (written_of run.slots s) (λ n. 0) run.most most
     → Follows run (λ state. after_abort state s) (record run { slots = slots; most = most })
 closes run sound s slot slots most is sets = record {
   units = refl;
   tracks = λ state tracks.
-      subst (λ (held : Slots). Tracks (after_abort state s) (record run { slots = held; most = most })) (sym is)
+      subst (λ (held : SessionSlots). Tracks (after_abort state s) (record run { slots = held; most = most })) (sym is)
       (closed state run tracks sound s slot most sets);
 }
 

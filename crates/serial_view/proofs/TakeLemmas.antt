@@ -18,7 +18,7 @@ use Rattle.ipl_model.specs.declared.command.Command.{Command}
 use Rattle.ipl_model.specs.declared.command.Command.TheVariants as command
 use Rattle.ipl_model.specs.Plain.{writes_in}
 use Rattle.ipl_model.specs.Step.{Stepped, refusal_of, accepted}
-use Rattle.record_locks.specs.Held.{Slots, after_begin, after_share}
+use Rattle.record_locks.specs.Held.{SessionSlots, after_begin, after_share}
 use Rattle.record_locks.specs.Locks.{refuses_begin, refuses_share, refuses_write, refuses_end, refuses_batch}
 use Rattle.record_locks.specs.Standing.{state_of}
 use Rattle.record_locks.proofs.SameLemmas.{refuse_as}
@@ -96,7 +96,7 @@ by_follow old new c follows passes slot =
     (λ state tracks none. follows.tracks state tracks) slot
 
 -- a command that is refused where a call on the sessions is
-by_result : (old next : KeptRun) (slots : Slots) (c : Command) (o : Option Refusal) (r : Result Unit Refusal)
+by_result : (old next : KeptRun) (slots : SessionSlots) (c : Command) (o : Option Refusal) (r : Result Unit Refusal)
     → result_err r ≡ o → ((state : State) → Tracks state old → refusal_of (run_limits old) state c ≡ o)
     → OnOk r (slots ≡ next.slots) → OnErr r (slots ≡ old.slots)
     → next ≡ record old { slots = next.slots }
@@ -105,11 +105,11 @@ by_result : (old next : KeptRun) (slots : Slots) (c : Command) (o : Option Refus
     → HasSlot c → TakesCommand old c (record old { slots = slots }) (is_ok r)
 by_result old next slots c o (Ok u) is test ok err whole tracked slot =
     by_test old (record old { slots = slots }) next c true (λ state tracks. ap is_some (test state tracks ∙ sym is))
-    (λ e. ap (λ (held : Slots). record old { slots = held }) ok ∙ sym whole) (λ e. absurd (cc e))
+    (λ e. ap (λ (held : SessionSlots). record old { slots = held }) ok ∙ sym whole) (λ e. absurd (cc e))
     (ap (λ (run : KeptRun). run.units) whole) tracked slot
 by_result old next slots c o (Err why) is test ok err whole tracked slot =
     by_test old (record old { slots = slots }) next c false (λ state tracks. ap is_some (test state tracks ∙ sym is))
-    (λ e. absurd (cc e)) (λ e. ap (λ (held : Slots). record old { slots = held }) err)
+    (λ e. absurd (cc e)) (λ e. ap (λ (held : SessionSlots). record old { slots = held }) err)
     (ap (λ (run : KeptRun). run.units) whole) tracked slot
 
 -- the test of tests and of one behind them
@@ -195,7 +195,7 @@ module _ (state : State) (s n : ℕ) where
           (λ x. has_written x n || has_shared x n) state s t y is (λ same. other (sym same)) none)).0
 
 module _ (run : KeptRun) (sound : AreSessions run.slots) (s : ℕ) (slot : s < SESSIONS) where
-  pub begins : (slots : Slots) (r : Result Unit Refusal) → result_err r ≡ refuses_begin run.slots s
+  pub begins : (slots : SessionSlots) (r : Result Unit Refusal) → result_err r ≡ refuses_begin run.slots s
       → OnOk r (slots ≡ after_begin run.slots s 0) → OnErr r (slots ≡ run.slots)
       → TakesCommand run (command.Begin s) (record run { slots = slots }) (is_ok r)
   begins slots r is ok err =
@@ -205,7 +205,7 @@ module _ (run : KeptRun) (sound : AreSessions run.slots) (s : ℕ) (slot : s < S
       (all_fail (bad_session (run_limits run) s ∷ already_open state s ∷ []) passes).1.0) slot
 
   module _ (n : ℕ) (named : n < (run_limits run).names) where
-    pub shares : (slots : Slots) (r : Result Unit Refusal) → result_err r ≡ refuses_share run.slots s n
+    pub shares : (slots : SessionSlots) (r : Result Unit Refusal) → result_err r ≡ refuses_share run.slots s n
         → OnOk r (slots ≡ after_share run.slots s n) → OnErr r (slots ≡ run.slots)
         → TakesCommand run (command.Share s n) (record run { slots = slots }) (is_ok r)
     shares slots r is ok err =
@@ -266,7 +266,7 @@ module _ (run new : KeptRun) (s : ℕ) (slot : s < SESSIONS) (opens : is_open (s
   aborts follows = by_follow run new (command.Abort s) follows end_passes tt
 
 -- a batch that isn't refused names sessions in range
-pub batch_named : (slots : Slots) (ss : List ℕ) → is_some (refuses_batch slots ss) ≡ false → (s : ℕ) → Contains ss s
+pub batch_named : (slots : SessionSlots) (ss : List ℕ) → is_some (refuses_batch slots ss) ≡ false → (s : ℕ) → Contains ss s
     → s < SESSIONS
 batch_named slots ss none =
     (batches_name_once (record { sessions = SESSIONS; names = 0; units = 0 }) (state_of slots) ss

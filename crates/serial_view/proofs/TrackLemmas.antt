@@ -14,7 +14,7 @@ use Rattle.ipl_rules.specs.Operations as rules
 use Rattle.ipl_rules.proofs.SeenLemmas.{get-with_writes}
 use Rattle.ipl_rules.proofs.BatchLemmas.{closed_writes, other_writes}
 use Rattle.ipl_model.specs.declared.command.Command.TheVariants as command
-use Rattle.record_locks.specs.Held.{Slots, written_of, is_among, after_begin, after_share, after_end}
+use Rattle.record_locks.specs.Held.{SessionSlots, written_of, is_among, after_begin, after_share, after_end}
 use Rattle.record_locks.specs.Locks.{IsSized, OneWriter}
 use Rattle.record_locks.specs.Names.{SameNames, SameMarks}
 use Rattle.record_locks.specs.Standing.{state_of}
@@ -27,12 +27,12 @@ use Rattle.serial_view.proofs.LockLemmas.{records_kept}
 use Rattle.serial_view.proofs.MostLemmas.{begun_writes, shared_writes, written_here, written_elsewhere, unwritten_mark, all_most, alike_most, written_most, less_one}
 
 -- what all sessions together have
-pub record AreSessions (slots : Slots) : Type 0 where
+pub record AreSessions (slots : SessionSlots) : Type 0 where
   pub all : length slots ≡ SESSIONS
   pub sized : All IsSized slots
   pub one_writer : OneWriter slots
 
-pub are_sessions : (slots : Slots) → length slots ≡ SESSIONS → OneWriter slots → All IsSized slots → AreSessions slots
+pub are_sessions : (slots : SessionSlots) → length slots ≡ SESSIONS → OneWriter slots → All IsSized slots → AreSessions slots
 are_sessions slots all one sized = record { all = all; sized = sized; one_writer = one }
 
 not_same : (a b : Bool) → not a ≡ not b → b ≡ a
@@ -61,7 +61,7 @@ module _ (state : State) (run : KeptRun) (tracks : Tracks state run) where
 
   -- ---- a begin and a share
 
-  calm : (next : State) (slots : Slots) → SameNames (state_of slots) next → SameMarks slots next
+  calm : (next : State) (slots : SessionSlots) → SameNames (state_of slots) next → SameMarks slots next
       → next.map ≡ state.map → ((t : ℕ) → writes_of next t ≡ writes_of state t)
       → Tracks next (record run { slots = slots })
   calm next slots held marked same writes = record {

@@ -10,7 +10,7 @@ use Rattle.ipl_model.specs.declared.command.Command.{Command}
 use Rattle.ipl_model.specs.Plain.{limits_for}
 use Rattle.ipl_model.specs.Step.{step}
 use Rattle.record_locks.specs.Held as held
-use Rattle.record_locks.specs.Held.{Slots, is_among}
+use Rattle.record_locks.specs.Held.{SessionSlots, is_among}
 use Rattle.record_locks.specs.Names.{SameNames, SameMarks}
 use Rattle.record_locks.specs.Standing.{state_of}
 use Rattle.serial_view.specs.declared.running.Running.{Running}
@@ -21,7 +21,7 @@ use Rattle.serial_view.specs.Turns.{KeptTurns, HasSlot, RunsCommand}
 -- takes, and the most that such a write of it takes
 pub record KeptRun : Type 0 where
   pub units : ℕ
-  pub slots : Slots
+  pub slots : SessionSlots
   pub records : List ℕ
   pub last : List ℕ
   pub most : List ℕ
@@ -41,14 +41,14 @@ abbrev pub run_limits : KeptRun → Limits
 run_limits run = limits_for run.units
 
 -- each of the tables has a place for each of so many names
-abbrev pub HasPlaces : KeptRun → ℕ → Type 0
-HasPlaces run names = (length run.records ≡ names) × (length run.last ≡ names) × (length run.most ≡ names)
+abbrev pub CoversNames : KeptRun → ℕ → Type 0
+CoversNames run names = (length run.records ≡ names) × (length run.last ≡ names) × (length run.most ≡ names)
 
 -- what is kept is what a state has: its sessions' names and marks, and the sizes of its records and writes
 pub record Tracks (state : State) (run : KeptRun) : Type 0 where
   pub names : SameNames (state_of run.slots) state
   pub marks : SameMarks run.slots state
-  pub places : HasPlaces run (run_limits run).names
+  pub places : CoversNames run (run_limits run).names
   pub records : (n : ℕ) → n < (run_limits run).names → slice_index run.records n ≡ size_in_page (get state.map n)
   pub last : (s n : ℕ) (change : Option (List ℕ)) → n < (run_limits run).names
       → last_write (writes_of state s) n ≡ Some change → slice_index run.last n ≡ size_in_page change

@@ -14,7 +14,7 @@ use Rattle.ipl_meaning.specs.Chart.{Chart, chart_of}
 use Rattle.ipl_meaning.specs.Last.{carried_count}
 use Rattle.ipl_meaning.specs.Layout.{Shape, Layout, records_of}
 use Rattle.ipl_meaning.specs.Mirrors.{Mirrors, MirrorsStatus}
-use Rattle.ipl_meaning.specs.Tables.{IsFree, Places, Tables, Status}
+use Rattle.ipl_meaning.specs.Tables.{IsFree, Places, Tables, StatusTable}
 use Rattle.merge_laws.specs.Faults.{pages_fault, merge_fault, IsTheFault, FailsByChipAlone}
 use Rattle.merge_laws.specs.Known.{KnowsPlaces}
 use Rattle.merge_laws.specs.Merged.{source_of}
@@ -90,7 +90,7 @@ module _ (places n : ℕ) (x : Contents) (it : Layout) (t : Tables) (kept : List
         ∙ ap₂ (λ (a numbers : List ℕ). if nat_le (carried_count (among a) (it.units n).log) 12
         then pages_fault was.contents
         (record (source_of t (it.units n) n) { committed = among numbers })
-        else Some (Malformed (it.units n).home 0)) active (ap (λ (s : Status). s.numbers) status)
+        else Some (Malformed (it.units n).home 0)) active (ap (λ (s : StatusTable). s.numbers) status)
         ∙ faults_are_of_the_place x was.contents t (it.units n) n
         (spared was.contents was.told n low (omega arith))
 
@@ -102,7 +102,7 @@ module _ (places n : ℕ) (x : Contents) (it : Layout) (t : Tables) (kept : List
         let all : joined between.status.numbers (records_of (was.now.units n).log) kept
         ≡ joined t.status.numbers (records_of (it.units n).log)
         (kept_below t.status.numbers it n) =
-        rw (ap (λ (s : Status). s.numbers) status, same_unit, was.kept_is) refl in
+        rw (ap (λ (s : StatusTable). s.numbers) status, same_unit, was.kept_is) refl in
         lt-leb _ _ (subst (λ (l : List ℕ). 3840 < length l) all many)
 
     -- that is why a merge fails, and the unit is where it was

@@ -5,7 +5,7 @@ use Rattle.std.proofs.lemmas.List.{length-set}
 use Rattle.ipl_base.specs.declared.fault.ChipFault.{ChipFault}
 use Rattle.ipl_base.specs.Places.{KeepsUnits}
 use Rattle.ipl_meaning.specs.Mirrors.{AreApart}
-use Rattle.ipl_meaning.specs.Tables.{IsFree, with_erased, Places, Status, Tables, overflow_places}
+use Rattle.ipl_meaning.specs.Tables.{IsFree, with_erased, Places, StatusTable, Tables, overflow_places}
 use Rattle.merge_laws.specs.Known.{IsNamed, KnowsPlaces}
 use Rattle.merge_laws.proofs.KnownLemmas.{known_places_may_be_aside}
 use Rattle.place_taking.specs.Takes.{IsAsideFrom, with_places}
@@ -17,9 +17,9 @@ use Rattle.status_renewal.specs.Renewed.{HasTables, with_tables, IsGivenBack}
 use Rattle.status_renewal.proofs.PlaceLemmas.{IsMovedTo, none_lost, then_free}
 
 module _ (takes : UsesTake) (gives_back : DisusesGiveBack) (places p : ℕ) (d : Places)
-    (status : Status) (next : ℕ) (kept : List ℕ) (sized : length d.in_use ≡ places)
+    (status : StatusTable) (next : ℕ) (kept : List ℕ) (sized : length d.in_use ≡ places)
     (free : IsFree d p) (within : p < places)
-    (after : Places) (new : Status) (drawn : ℕ) (is : IsMovedTo p d status next kept after new drawn)
+    (after : Places) (new : StatusTable) (drawn : ℕ) (is : IsMovedTo p d status next kept after new drawn)
     (t : Tables) (has : HasTables t d status next) (known : KnowsPlaces places t) where
   -- what is named isn't free
   busy : (q : ℕ) → IsNamed t q → ¬ IsFree d q
@@ -31,7 +31,7 @@ module _ (takes : UsesTake) (gives_back : DisusesGiveBack) (places p : ℕ) (d :
   unnamed named = busy p named free
 
   old_is : status.place ≡ t.status.place
-  old_is = sym (ap (λ (s : Status). s.place) has.status_is)
+  old_is = sym (ap (λ (s : StatusTable). s.place) has.status_is)
 
   homes : after.current ≡ t.places.current
   homes =
@@ -47,7 +47,7 @@ module _ (takes : UsesTake) (gives_back : DisusesGiveBack) (places p : ℕ) (d :
       ]
 
   place_is : new.place ≡ p
-  place_is = ap (λ (s : Status). s.place) is.status_is
+  place_is = ap (λ (s : StatusTable). s.place) is.status_is
 
   used_then : (q : ℕ) → IsNamed (with_tables t after new drawn) q → ¬ IsFree after q
   used_then q (inl home) =
@@ -113,12 +113,12 @@ module _ (takes : UsesTake) (gives_back : DisusesGiveBack) (places p : ℕ) (d :
   }
 
 -- and where nothing has changed but the counter
-pub known_same : (places : ℕ) (t : Tables) (after : Places) (new : Status) (drawn : ℕ)
+pub known_same : (places : ℕ) (t : Tables) (after : Places) (new : StatusTable) (drawn : ℕ)
     → after ≡ t.places → new ≡ t.status → KnowsPlaces places t
     → KnowsPlaces places (with_tables t after new drawn)
 known_same places t after new drawn same still known =
     subst (λ (e : Places). KnowsPlaces places (with_tables t e new drawn)) (sym same)
-    (subst (λ (s : Status). KnowsPlaces places (with_tables t t.places s drawn)) (sym still)
+    (subst (λ (s : StatusTable). KnowsPlaces places (with_tables t t.places s drawn)) (sym still)
     (record {
       suits = record {
         all = known.suits.all;
@@ -159,7 +159,7 @@ known_erased places t p known = record {
 }
 
 -- they know each place where some were found worn
-pub known_aside : (places : ℕ) (t : Tables) (after : Places) (new : Status) (drawn : ℕ)
+pub known_aside : (places : ℕ) (t : Tables) (after : Places) (new : StatusTable) (drawn : ℕ)
     → IsAsideFrom t.places after → new ≡ t.status → KnowsPlaces places t
     → KnowsPlaces places (with_tables t after new drawn)
 known_aside places t after new drawn from still known =
@@ -167,7 +167,7 @@ known_aside places t after new drawn from still known =
     (known_places_may_be_aside places t from.worn known from.in_turn)
 
 -- and where the new one was given back
-pub known_back : (places : ℕ) (t : Tables) (after : Places) (new : Status) (drawn : ℕ) (fault : ChipFault)
+pub known_back : (places : ℕ) (t : Tables) (after : Places) (new : StatusTable) (drawn : ℕ) (fault : ChipFault)
     → IsGivenBack t.places fault after → new ≡ t.status → KnowsPlaces places t
     → KnowsPlaces places (with_tables t after new drawn)
 known_back places t after new drawn fault (inl from) still known =

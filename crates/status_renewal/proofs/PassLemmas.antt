@@ -12,7 +12,7 @@ use Rattle.ipl_meaning.specs.Layout.{Shape, Layout, records_of}
 use Rattle.ipl_meaning.specs.Mirrors.{Mirrors}
 use Rattle.ipl_meaning.specs.Stands.{Shows}
 use Rattle.ipl_meaning.specs.Steps.{AllWait, with_unit}
-use Rattle.ipl_meaning.specs.Tables.{Tables, Status}
+use Rattle.ipl_meaning.specs.Tables.{Tables, StatusTable}
 use Rattle.merge_laws.specs.Merged.{IsMergedUnit, merged_shape}
 use Rattle.merge_laws.specs.Packs.{packs_of, entries_from}
 use Rattle.unit_io.specs.Charts.{Charts}
@@ -102,7 +102,7 @@ module _ (places : ℕ) (c : Chart) (it : Layout) (t : Tables) where
     unfolding same_unit
     passed_joined records new status is few joins =
         let numbers_are : mid.status.numbers ≡ t.status.numbers =
-        ap (λ (s : Status). s.numbers) status in
+        ap (λ (s : StatusTable). s.numbers) status in
         let records_are : records ≡ records_of (it.units n).log =
         is ∙ ap (λ (s : Shape). records_of s.log) same_unit in
         let all : joined mid.status.numbers records kept
@@ -159,7 +159,7 @@ module _ (places : ℕ) (c : Chart) (it : Layout) (t : Tables) where
         let all : joined mid.status.numbers (records_of (was.now.units n).log) kept
         ≡ joined t.status.numbers (records_of (it.units n).log)
         (kept_below t.status.numbers it n) =
-        rw (ap (λ (s : Status). s.numbers) status, same_unit, was.kept_is) refl in
+        rw (ap (λ (s : StatusTable). s.numbers) status, same_unit, was.kept_is) refl in
         let full : has_room t.status.numbers it n ≡ false =
         lt-leb _ _ (subst (λ (l : List ℕ). 3840 < length l) all many) in
         let repacked : IsRepacked t.active n (was.now.units n) shape = record {

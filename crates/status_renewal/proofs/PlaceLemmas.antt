@@ -12,7 +12,7 @@ use Rattle.ipl_meaning.specs.Layout.{Layout}
 use Rattle.ipl_meaning.specs.Mirrors.{Mirrors, NoneIsLost}
 use Rattle.ipl_meaning.specs.Rests.{now}
 use Rattle.ipl_meaning.specs.Steps.{KeepsPages}
-use Rattle.ipl_meaning.specs.Tables.{IsFree, with_use, with_erased, Places, Status, Tables}
+use Rattle.ipl_meaning.specs.Tables.{IsFree, with_use, with_erased, Places, StatusTable, Tables}
 use Rattle.ipl_meaning.specs.TableSteps.{taken}
 use Rattle.ipl_meaning.proofs.IdleLemmas.{idle_places_do_not_count}
 use Rattle.ipl_meaning.proofs.IdleFollowLemmas.{places_may_be_taken}
@@ -51,14 +51,14 @@ pub erased_back : (d : Places) (p : ℕ) → IsFree d p
 erased_back d p free = ap (λ (e : Places). with_erased e p) (given_back d p free)
 
 -- what was done to the tables
-pub record IsMovedTo (p : ℕ) (d : Places) (status : Status) (next : ℕ) (kept : List ℕ)
-    (after : Places) (new : Status) (drawn : ℕ) : Type 0 where
+pub record IsMovedTo (p : ℕ) (d : Places) (status : StatusTable) (next : ℕ) (kept : List ℕ)
+    (after : Places) (new : StatusTable) (drawn : ℕ) : Type 0 where
   pub places_is : after ≡ moved d p status.place
   pub status_is : new ≡ switched_to p next kept
   pub drawn_is : drawn ≡ next + 1 + parts_of kept
 
 -- by the calls of the directory, one after the other
-pub moved_to : (p old : ℕ) (d taken_one after : Places) (status new : Status) (next drawn : ℕ)
+pub moved_to : (p old : ℕ) (d taken_one after : Places) (status new : StatusTable) (next drawn : ℕ)
     (kept : List ℕ) → taken_one ≡ with_erased (with_use d p true) p → old ≡ status.place
     → after ≡ with_use taken_one old false
     → new ≡ switched_to p next kept → drawn ≡ next + 1 + parts_of kept
@@ -70,7 +70,7 @@ moved_to p old d taken_one after status new next drawn kept first at then_is is 
 }
 
 module _ (takes : UsesTake) (gives_back : DisusesGiveBack) (places p : ℕ) (d : Places)
-    (status : Status) (next : ℕ) (kept : List ℕ) (sized : length d.in_use ≡ places)
+    (status : StatusTable) (next : ℕ) (kept : List ℕ) (sized : length d.in_use ≡ places)
     (free : IsFree d p) (within : p < places) where
   -- ---- what the tables ask of the place
 
@@ -141,7 +141,7 @@ module _ (takes : UsesTake) (gives_back : DisusesGiveBack) (places p : ℕ) (d :
 
   -- ---- the tables then
 
-  module _ (after : Places) (new : Status) (drawn : ℕ)
+  module _ (after : Places) (new : StatusTable) (drawn : ℕ)
       (is : IsMovedTo p d status next kept after new drawn) where
     pub then_free : (q : ℕ) → IsFree after q → IsFree (with_use d p true) q ⊎ (q ≡ status.place)
     then_free q free_then =
@@ -173,12 +173,12 @@ module _ (takes : UsesTake) (gives_back : DisusesGiveBack) (places p : ℕ) (d :
         free = λ q free_then. elim (then_free q free_then) [
           | inl before ↦ inl
               (subst (λ (e : Places). IsFree (with_use e p true) q) (sym has.places_is) before)
-          | inr old ↦ inr (old ∙ sym (ap (λ (s : Status). s.place) has.status_is))
+          | inr old ↦ inr (old ∙ sym (ap (λ (s : StatusTable). s.place) has.status_is))
         ];
         overflow = refl;
-        place = ap (λ (s : Status). s.place) is.status_is;
-        generation = ap (λ (s : Status). s.generation) is.status_is;
-        first = ap (λ (s : Status). s.first) is.status_is;
+        place = ap (λ (s : StatusTable). s.place) is.status_is;
+        generation = ap (λ (s : StatusTable). s.generation) is.status_is;
+        first = ap (λ (s : StatusTable). s.first) is.status_is;
         next = let old = has.next_is in let new_is = is.drawn_is in omega (arith, old, new_is);
         active = refl;
       };
@@ -186,7 +186,7 @@ module _ (takes : UsesTake) (gives_back : DisusesGiveBack) (places p : ℕ) (d :
     }
 
     at_place : p ≡ new.place
-    at_place = sym (ap (λ (s : Status). s.place) is.status_is)
+    at_place = sym (ap (λ (s : StatusTable). s.place) is.status_is)
 
     -- it was cleared, and the status switched to it
     pub renewed_there : (it : Layout) (t : Tables) (has : HasTables t d status next)
@@ -242,7 +242,7 @@ module _ (takes : UsesTake) (gives_back : DisusesGiveBack) (places p : ℕ) (d :
                 (ap (λ (e : Places). e.current) has.places_is
                 ∙ sym (ap (λ (e : Places). e.current) is.places_is)) home)
             | inr (inl old) ↦ absurd (used (freed q
-                (inr (old ∙ ap (λ (s : Status). s.place) has.status_is, low))))
+                (inr (old ∙ ap (λ (s : StatusTable). s.place) has.status_is, low))))
             | inr (inr (inl there)) ↦ inr (inr (inl there))
             | inr (inr (inr retired)) ↦ inr (inr (inr (subst (λ (l : List ℕ). Contains l q)
                 (ap (λ (e : Places). e.retired) has.places_is
@@ -253,7 +253,7 @@ module _ (takes : UsesTake) (gives_back : DisusesGiveBack) (places p : ℕ) (d :
 -- ---- places that were found worn before
 
 -- the tables with them set aside
-module _ (first : Places) (worn : List ℕ) (in_turn : AreNext first worn) (status : Status)
+module _ (first : Places) (worn : List ℕ) (in_turn : AreNext first worn) (status : StatusTable)
     (next : ℕ) (t : Tables) (has : HasTables t first status next) where
   in_tables : AreNext t.places worn
   in_tables = subst (λ (e : Places). AreNext e worn) (sym has.places_is) in_turn
@@ -286,9 +286,9 @@ module _ (first : Places) (worn : List ℕ) (in_turn : AreNext first worn) (stat
 
 -- what is told of the contents
 pub renews_told : (takes : UsesTake) (gives_back : DisusesGiveBack) (places p : ℕ) (first : Places)
-    (worn : List ℕ) (in_turn : AreNext first worn) (status : Status) (next : ℕ) (kept : List ℕ)
+    (worn : List ℕ) (in_turn : AreNext first worn) (status : StatusTable) (next : ℕ) (kept : List ℕ)
     (sized : length (aside first worn).in_use ≡ places) (free : IsFree (aside first worn) p)
-    (within : p < places) (after : Places) (new : Status) (drawn : ℕ)
+    (within : p < places) (after : Places) (new : StatusTable) (drawn : ℕ)
     (is : IsMovedTo p (aside first worn) status next kept after new drawn) (old mid told : Told)
     → Charts (IsCleared p) old mid
     → Charts (Switches places (length (aside first worn).current) (erases_then (aside first worn) p)

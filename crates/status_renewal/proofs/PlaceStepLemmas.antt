@@ -6,7 +6,7 @@ use Rattle.ipl_rules.specs.State.{Map}
 use Rattle.ipl_meaning.specs.Agrees.{Agrees}
 use Rattle.ipl_meaning.specs.Layout.{Layout}
 use Rattle.ipl_meaning.specs.Rests.{now, EachStands, StoryRests}
-use Rattle.ipl_meaning.specs.Tables.{Places, Status, Tables, IsCountedClean, IsFree, with_use, with_erased}
+use Rattle.ipl_meaning.specs.Tables.{Places, StatusTable, Tables, IsCountedClean, IsFree, with_use, with_erased}
 use Rattle.ipl_meaning.specs.TableSteps.{taken}
 use Rattle.unit_directory.specs.Free.{aside}
 use Rattle.unit_directory.specs.Laws.{UsesTake, DisusesGiveBack}
@@ -24,7 +24,7 @@ use Rattle.status_renewal.proofs.PlaceLemmas.{moved, erases_then, IsMovedTo, has
 
 -- the place was taken
 module _ (takes : UsesTake) (gives_back : DisusesGiveBack) (p : ℕ) (first between : Places)
-    (from : IsTakenFrom first p between) (status : Status) (next : ℕ) (kept : List ℕ)
+    (from : IsTakenFrom first p between) (status : StatusTable) (next : ℕ) (kept : List ℕ)
     (old mid told : Told) (sized : length first.in_use ≡ old.places) (counts : Counts old mid)
     (taking : TakesPlace first old (Ok p) between mid) where
   -- the directory with the places set aside that were found worn
@@ -121,7 +121,7 @@ module _ (takes : UsesTake) (gives_back : DisusesGiveBack) (p : ℕ) (first betw
           (λ s high spot. omega (arith, high, spot)) counts taking_it second (moved_on result second)
 
   -- and written
-  pub renews_in_steps : (after : Places) (new : Status) (drawn : ℕ)
+  pub renews_in_steps : (after : Places) (new : StatusTable) (drawn : ℕ)
       → IsMovedTo p d status next kept after new drawn
       → SwitchesInSteps old.places (length d.current) (erases_then d p) d.retired status next p kept
       (Ok tt) mid told
@@ -140,17 +140,17 @@ module _ (takes : UsesTake) (gives_back : DisusesGiveBack) (p : ℕ) (first betw
         does = did.does;
         steady = did.steady;
         ends = λ _. subst (λ (q : ℕ). RestsSwitched old.places m it then_is q next kept
-            (adds_all did.added h)) (sym (ap (λ (s : Status). s.place) is.status_is)) (did.ends tt);
+            (adds_all did.added h)) (sym (ap (λ (s : StatusTable). s.place) is.status_is)) (did.ends tt);
       }
 
   -- or a write failed
-  pub failed_in_steps : (after : Places) (new : Status) (drawn : ℕ) (e f : ChipFault)
+  pub failed_in_steps : (after : Places) (new : StatusTable) (drawn : ℕ) (e f : ChipFault)
       → SwitchesInSteps old.places (length d.current) (erases_then d p) d.retired status next p kept
       (Err e) mid told
       → RenewsInSteps old.places first status next kept after new drawn (Err f) old told
   failed_in_steps after new drawn e f says m it t h steady has rests agrees may =
       let made : Places = moved d p status.place in
-      let then_is : Status = switched_to p next kept in
+      let then_is : StatusTable = switched_to p next kept in
       let last : ℕ = next + 1 + parts_of kept in
       let did = joined m it t h steady has rests agrees may (with_tables t made then_is last)
       (switched takes gives_back old.places p d status next kept sized_then from.next.free within made
@@ -172,8 +172,8 @@ module _ (takes : UsesTake) (gives_back : DisusesGiveBack) (p : ℕ) (first betw
 
 -- it couldn't be taken: the tables are as they were, but for the places that were found worn and the
 -- number that was drawn
-pub untaken_in_steps : (d : Places) (status : Status) (next : ℕ) (kept : List ℕ) (after : Places)
-    (new : Status) (drawn : ℕ) (e f : ChipFault) (old told : Told) → IsAsideFrom d after
+pub untaken_in_steps : (d : Places) (status : StatusTable) (next : ℕ) (kept : List ℕ) (after : Places)
+    (new : StatusTable) (drawn : ℕ) (e f : ChipFault) (old told : Told) → IsAsideFrom d after
     → new ≡ status → next ≤ drawn → TakesPlace d old (Err e) after told
     → RenewsInSteps old.places d status next kept after new drawn (Err f) old told
 untaken_in_steps d status next kept after new drawn e f old told from still more takes m it t h steady

@@ -14,7 +14,7 @@ use Rattle.ipl_meaning.specs.Chart.{Chart, chart_of}
 use Rattle.ipl_meaning.specs.Layout.{Laid}
 use Rattle.ipl_meaning.specs.Mirrors.{Mirrors}
 use Rattle.ipl_meaning.specs.Rests.{now, EachStands, StoryRests}
-use Rattle.ipl_meaning.specs.Tables.{Places, OverflowLists, Status, Tables, IsCountedClean}
+use Rattle.ipl_meaning.specs.Tables.{Places, OverflowLists, StatusTable, Tables, IsCountedClean}
 use Rattle.ipl_meaning.specs.TableSteps.{without_marks}
 use Rattle.ipl_meaning.proofs.CarriedLemmas.{tidy_is_carried}
 use Rattle.ipl_meaning.proofs.MarkLemmas.{counted_follow_ends_of_marks, tables_follow_ends_of_marks}
@@ -40,7 +40,7 @@ use Rattle.status_renewal.proofs.TidyLemmas.{nothing, takes_nothing, tidies_read
 -- ---- the tables
 
 -- the tables with these parts, whatever sessions are open
-abbrev pub of_parts : Places → OverflowLists → Status → ℕ → List ℕ → Tables
+abbrev pub of_parts : Places → OverflowLists → StatusTable → ℕ → List ℕ → Tables
 of_parts directory overflow status next active = record {
   places = directory;
   overflow = overflow;
@@ -51,7 +51,7 @@ of_parts directory overflow status next active = record {
 
 -- where none is, they are what the opening made
 pub opened_parts : (places : ℕ) (c : Chart) (directory : Places) (overflow : OverflowLists)
-    (status : Status) (next : ℕ) (active : List ℕ) → active ≡ []
+    (status : StatusTable) (next : ℕ) (active : List ℕ) → active ≡ []
     → AreOpened places c (opened_of directory overflow status next)
     → Mirrors places c (layout_in c places) (opened_of directory overflow status next)
     → AreOpened places c (of_parts directory overflow status next active)

@@ -6,7 +6,7 @@ use Rattle.ipl_format.specs.Header.{erases_said}
 use Rattle.ipl_meaning.specs.Chart.{Chart, chart_of}
 use Rattle.ipl_meaning.specs.Layout.{Layout}
 use Rattle.ipl_meaning.specs.Steps.{with_status}
-use Rattle.ipl_meaning.specs.Tables.{Places, Status, Tables}
+use Rattle.ipl_meaning.specs.Tables.{Places, StatusTable, Tables}
 use Rattle.number_set.specs.Numbers.{among}
 use Rattle.opening_laws.proofs.PayloadLemmas.{spelled_status_passes}
 use Rattle.place_taking.specs.Homes.{KeepsHomes}
@@ -38,7 +38,7 @@ module _ (places : ℕ) (c : Chart) (it : Layout) (t : Tables) (kept : List ℕ)
         was.mirrors was.keeps;
   }
 
-  module _ (directory : Places) (status : Status) (drawn : ℕ) (new : Told) where
+  module _ (directory : Places) (status : StatusTable) (drawn : ℕ) (new : Told) where
     pub renewed : Charts (Renews places between.places between.status between.next kept directory
         status drawn) mid new
         → TellsChart (HasRenewed places c it t (with_tables between directory status drawn)) new
@@ -117,7 +117,7 @@ module _ (places : ℕ) (c : Chart) (it : Layout) (t : Tables) (kept : List ℕ)
 
 -- what the status has, however its writing ended
 pub status_ends : (result : Result (Unit {0}) ChipFault) (before after : Places)
-    (old between new : Status) → OnOk result (191 ≤ room_of new)
+    (old between new : StatusTable) → OnOk result (191 ≤ room_of new)
     → IfErr result (λ fault. IsGivenBack before fault after × (new ≡ between)) → between ≡ old
     → MatchResult result (λ _. 191 ≤ room_of new) (λ _. new ≡ old)
 status_ends (Ok v) before after old between new room same was = room
@@ -125,7 +125,7 @@ status_ends (Err e) before after old between new room same was = same.1 ∙ was
 
 -- and the directory: as many units as before
 -- each unit of which nothing is known stays so
-pub homes_still : (result : Result (Unit {0}) ChipFault) (before after : Places) (old new : Status)
+pub homes_still : (result : Result (Unit {0}) ChipFault) (before after : Places) (old new : StatusTable)
     (next : ℕ) (kept : List ℕ) → OnOk result (MovesStatus before old next kept after new)
     → IfErr result (λ fault. IsGivenBack before fault after × (new ≡ old))
     → KeepsHomes before after
@@ -140,7 +140,7 @@ homes_still (Err e) before after old new next kept moved same =
     let still = back_is_same before after e same.0 in
     homes_same before after still.0 still.1
 
-pub units_still : (result : Result (Unit {0}) ChipFault) (before after : Places) (old new : Status)
+pub units_still : (result : Result (Unit {0}) ChipFault) (before after : Places) (old new : StatusTable)
     (next : ℕ) (kept : List ℕ) → OnOk result (MovesStatus before old next kept after new)
     → IfErr result (λ fault. IsGivenBack before fault after × (new ≡ old))
     → length after.current ≡ length before.current

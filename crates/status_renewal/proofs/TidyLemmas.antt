@@ -4,7 +4,7 @@ use Rattle.std.proofs.lemmas.Bool.{false≢true}
 use Rattle.chip_trait.specs.Told.{Told, Counts}
 use Rattle.ipl_base.specs.declared.fault.ChipFault.{ChipFault}
 use Rattle.ipl_base.specs.declared.fault.ImageFault.{ImageFault}
-use Rattle.ipl_meaning.specs.Tables.{IsFree, Places, Status, Tables, IsCountedClean}
+use Rattle.ipl_meaning.specs.Tables.{IsFree, Places, StatusTable, Tables, IsCountedClean}
 use Rattle.merge_laws.specs.Known.{KnowsPlaces}
 use Rattle.merge_laws.proofs.KnownCleanLemmas.{counted_in_use, renewed_clean}
 use Rattle.restart.specs.Opened.{NoneIsClean}
@@ -74,7 +74,7 @@ tidies_read_then At t after result old mid new reads =
 
 -- ---- a new status place
 
-module _ (places : ℕ) (first : Places) (status : Status) (next : ℕ) (after : Places) (new : Status)
+module _ (places : ℕ) (first : Places) (status : StatusTable) (next : ℕ) (after : Places) (new : StatusTable)
     (drawn : ℕ) (t : Tables) (has : HasTables t first status next)
     (known : KnowsPlaces places t) where
   -- what the tables count as clean stands at a place in use
@@ -129,7 +129,7 @@ module _ (places : ℕ) (first : Places) (status : Status) (next : ℕ) (after :
       (λ added. tidy_writes (IsCountedClean t) (IsCountedClean then) first p from false settles added
       (λ _ q s counted.
       let before = counted_before after same.0 same.1 q s
-      (subst (λ (b : Status). IsCountedClean (with_tables t after b drawn) q s) still counted) in
+      (subst (λ (b : StatusTable). IsCountedClean (with_tables t after b drawn) q s) still counted) in
       inl (before, in_use q s before)))
 
 -- ---- an opening

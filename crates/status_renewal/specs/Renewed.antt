@@ -10,7 +10,7 @@ use Rattle.ipl_meaning.specs.Layout.{Layout}
 use Rattle.ipl_meaning.specs.Mirrors.{Mirrors}
 use Rattle.ipl_meaning.specs.Rests.{EachStands, StoryRests}
 use Rattle.ipl_meaning.specs.Steps.{KeepsNumbers}
-use Rattle.ipl_meaning.specs.Tables.{IsFree, Places, Status, Tables, with_use, with_erased}
+use Rattle.ipl_meaning.specs.Tables.{IsFree, Places, StatusTable, Tables, with_use, with_erased}
 use Rattle.merge_laws.specs.Known.{KnowsPlaces}
 use Rattle.number_set.specs.Numbers.{among}
 use Rattle.txn_status.specs.Status.{parts_of, room_of, switched_to}
@@ -27,20 +27,20 @@ use Rattle.unit_io.specs.Unread.{ReadsNothing}
 -- ---- tables
 
 -- the tables have this directory, this status and this counter
-pub record HasTables (t : Tables) (directory : Places) (status : Status) (next : ℕ) : Type 0 where
+pub record HasTables (t : Tables) (directory : Places) (status : StatusTable) (next : ℕ) : Type 0 where
   pub places_is : t.places ≡ directory
   pub status_is : t.status ≡ status
   pub next_is : t.next ≡ next
 
 -- the tables with another directory, another status and another counter
-abbrev pub with_tables : Tables → Places → Status → ℕ → Tables
+abbrev pub with_tables : Tables → Places → StatusTable → ℕ → Tables
 with_tables t directory status next =
     record t { places = directory; status = status; next = next }
 
 -- the next free place in its turn was taken and is the status place, under the number that was next
 -- and with exactly these numbers, and the old one is free
-pub record MovesStatus (before : Places) (old : Status) (next : ℕ) (kept : List ℕ)
-    (after : Places) (new : Status) : Type 0 where
+pub record MovesStatus (before : Places) (old : StatusTable) (next : ℕ) (kept : List ℕ)
+    (after : Places) (new : StatusTable) : Type 0 where
   pub place : ℕ
   pub mid : Places
   pub taken : IsTakenFrom before place mid
@@ -63,7 +63,7 @@ pub record MayRenew (it : Layout) (t : Tables) (kept : List ℕ) : Type 0 where
 -- ---- a new status place
 
 -- The status may get another place on a chip of so many: a place may be taken, and the old one is in use.
-pub record MayMoveStatus (places : ℕ) (directory : Places) (status : Status) : Type 0 where
+pub record MayMoveStatus (places : ℕ) (directory : Places) (status : StatusTable) : Type 0 where
   pub size : length directory.in_use ≡ places
   pub ready : IsReadyToTake directory
   pub held : ¬ IsFree directory status.place
@@ -71,8 +71,8 @@ pub record MayMoveStatus (places : ℕ) (directory : Places) (status : Status) :
 
 -- Done, the status has another place, of which at least 191 sectors are known clean; else it is as it was, and the
 -- place that was taken is given back. No place is lost to it, and the numbers that it took were drawn.
-pub record PlacesStatus (before : Places) (old : Status) (next : ℕ) (kept : List ℕ)
-    (result : Result (Unit {0}) ChipFault) (after : Places) (new : Status) (then : ℕ) : Type 0 where
+pub record PlacesStatus (before : Places) (old : StatusTable) (next : ℕ) (kept : List ℕ)
+    (result : Result (Unit {0}) ChipFault) (after : Places) (new : StatusTable) (then : ℕ) : Type 0 where
   pub moved : OnOk result (MovesStatus before old next kept after new)
   pub same : IfErr result (λ fault. IsGivenBack before fault after × (new ≡ old))
   pub room : OnOk result (191 ≤ room_of new)
@@ -82,8 +82,8 @@ pub record PlacesStatus (before : Places) (old : Status) (next : ℕ) (kept : Li
 
 -- Tables with that directory, status and counter that know each place of the chip know each then, and what they
 -- count as clean is erased and programmed as they say.
-pub record KeepsTables (before : Places) (old : Status) (next : ℕ) (result : Result (Unit {0}) ChipFault)
-    (after : Places) (new : Status) (then : ℕ) (chip told : Told) : Type 0 where
+pub record KeepsTables (before : Places) (old : StatusTable) (next : ℕ) (result : Result (Unit {0}) ChipFault)
+    (after : Places) (new : StatusTable) (then : ℕ) (chip told : Told) : Type 0 where
   pub known : (t : Tables) → HasTables t before old next → KnowsPlaces chip.places t
       → KnowsPlaces chip.places (with_tables t after new then)
   pub tidy : (t : Tables) → HasTables t before old next → KnowsPlaces chip.places t
@@ -91,7 +91,7 @@ pub record KeepsTables (before : Places) (old : Status) (next : ℕ) (result : R
 
 -- One erase more is tried than places are retired, each of the next free place in its turn, then programs of the
 -- place that is taken alone, and three barriers; nothing is read. Where it failed, this is its cause.
-pub record WritesStatus (before after : Places) (new : Status) (result : Result (Unit {0}) ChipFault)
+pub record WritesStatus (before after : Places) (new : StatusTable) (result : Result (Unit {0}) ChipFault)
     (chip told : Told) : Type 0 where
   pub costs : Spends (ErasesFor before after 3 new.place (is_ok result) (is_worn_out result)) chip told
   pub unread : Spends ReadsNothing chip told
@@ -101,7 +101,7 @@ pub record WritesStatus (before after : Places) (new : Status) (result : Result 
 
 -- whatever tables of this directory, status and counter mirrored the old chart: with the new ones
 -- they mirror the new chart, and it has the pages of the old one
-abbrev pub Renews : ℕ → Places → Status → ℕ → List ℕ → Places → Status → ℕ → Chart → Chart → Type 0
+abbrev pub Renews : ℕ → Places → StatusTable → ℕ → List ℕ → Places → StatusTable → ℕ → Chart → Chart → Type 0
 Renews places directory status next kept after new drawn c y = (it : Layout) (t : Tables)
     → HasTables t directory status next → Mirrors places c it t → MayRenew it t kept
     → Switched places c y it (with_tables t after new drawn) new.place next kept
@@ -111,7 +111,7 @@ Renews places directory status next kept after new drawn c y = (it : Layout) (t 
 -- At each moment a power cut leaves the map. Where no write failed, the story rests on it and the
 -- tables agree: done, with the new status place; and where too many places are worn, as they were but
 -- for the counter and the places that are retired.
-abbrev pub RenewsInSteps : ℕ → Places → Status → ℕ → List ℕ → Places → Status → ℕ
+abbrev pub RenewsInSteps : ℕ → Places → StatusTable → ℕ → List ℕ → Places → StatusTable → ℕ
     → Result (Unit {0}) ChipFault → Told → Told → Type 0
 RenewsInSteps places directory status next kept after new drawn result old told =
     (m : Map) (it : Layout) (t : Tables) (h : History)

@@ -66,7 +66,7 @@ pub fn recover<C: Chip>(
     // status place is a new one, which was erased.
     ensures spends { OpeningSpends marks (tables_of parts.new) result (C.told chip.old) (C.told chip.new) }
 {
-    let found = restart::recover(
+    let found = restart::read_tables(
         chip,
         scratch,
         &mut parts.directory,

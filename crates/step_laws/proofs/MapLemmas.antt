@@ -12,7 +12,7 @@ use Rattle.unit_io.specs.ReadsAt.{ReadsAt}
 use Rattle.unit_io.specs.Spots.{Programs}
 use Rattle.unit_io.proofs.ReadsAtLemmas.{at_rests, at_agrees}
 use Rattle.step_laws.specs.Steps.{Settled, EndsWith, TidyWork, RestsAgreeing, KeepsTables}
-use Rattle.step_laws.specs.Laws.{NothingKeeps, ReadsKeep, ReadsKeepTables, CallsKeep, FailuresKeep, WritesKeep}
+use Rattle.step_laws.specs.Laws.{NothingKeeps, ReadsKeepPlace, ReadsKeepTables, CallsKeep, FailuresKeep, WritesKeep}
 use Rattle.step_laws.proofs.StepLemmas.{outcome_none, outcome_then, outcome_weaker, outcome_written, outcome_reads, failures_settle}
 use Rattle.step_laws.proofs.TidyLemmas.{tidy_none, tidy_reads, tidy_then, tidy_weaker, tidy_programs}
 
@@ -29,7 +29,7 @@ later_settled (Err e) old mid new counts settled = failures_settle (Unit {0}) (U
 pub nothing_keeps : NothingKeeps
 nothing_keeps places m t h old steady rests = outcome_none (EachStands places m) (TidyWork (IsCountedClean t) (IsCountedClean t) (Unit {0})) (Unit {0}) (StoryRests places m) h old steady rests.each (tidy_none (IsCountedClean t) (Unit {0})) rests
 
-pub reads_keep : ReadsKeep
+pub reads_keep : ReadsKeepPlace
 reads_keep place places m t h result old new steady rests did =
     let At : ℕ → ℕ → Type 0 = λ p s. p ≡ place in
     outcome_reads At places m (TidyWork (IsCountedClean t) (IsCountedClean t) (Settled result old new)) (Settled result old new) (EndsWith result (λ v k. StoryRests places m k) (λ k. StoryRests places m k)) h old new steady rests did

@@ -109,8 +109,8 @@ ReadsKeepTables = (place : ℕ) (places : ℕ) (m : Map) (it : Layout) (t : Tabl
     → ReadsAt (λ p s. p ≡ place) old new → KeepsTables places m it t h result old new
 
 -- reads of a place keep it, done or not
-abbrev pub ReadsKeep : Type 0
-ReadsKeep = (place : ℕ) (places : ℕ) (m : Map) (t : Tables) (h : History) (result : Result (Unit {0}) ChipFault) (old new : Told) → IsSteady h old → StoryRests places m h → ReadsAt (λ p s. p ≡ place) old new
+abbrev pub ReadsKeepPlace : Type 0
+ReadsKeepPlace = (place : ℕ) (places : ℕ) (m : Map) (t : Tables) (h : History) (result : Result (Unit {0}) ChipFault) (old new : Told) → IsSteady h old → StoryRests places m h → ReadsAt (λ p s. p ≡ place) old new
     → Preserves places m t t h result old new
 
 -- one call that was done, and then another

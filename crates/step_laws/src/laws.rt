@@ -1,11 +1,11 @@
 //! The laws of what calls leave, proved: a body that does nothing, and a contract that is the law.
-ghost use Rattle.step_laws.specs.Laws.{NothingKeeps, ReadsKeep, ReadsKeepTables, CallsKeep, FailuresKeep, WritesKeep};
+ghost use Rattle.step_laws.specs.Laws.{NothingKeeps, ReadsKeepPlace, ReadsKeepTables, CallsKeep, FailuresKeep, WritesKeep};
 
 /// Calls that keep what a chip stands for: none, reads, one call after another, one that failed, and a sector written. Reads
 /// keep the tables too, also where one failed.
 pub fn step_laws()
     ensures none { NothingKeeps }
-    ensures reads { ReadsKeep }
+    ensures reads { ReadsKeepPlace }
     ensures tables { ReadsKeepTables }
     ensures both { CallsKeep }
     ensures failed { FailuresKeep }

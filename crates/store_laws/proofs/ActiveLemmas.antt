@@ -8,7 +8,7 @@ use Rattle.record_locks.specs.Held.{is_among}
 use Rattle.ipl_meaning.specs.Layout.{Layout}
 use Rattle.ipl_meaning.specs.Rests.{now}
 use Rattle.ipl_meaning.specs.Tables.{Tables}
-use Rattle.store_laws.specs.Pending.{Numbers, with_number}
+use Rattle.store_laws.specs.Pending.{SessionNumbers, with_number}
 use Rattle.store_laws.specs.PendingLaws.{AreActive}
 use Rattle.store_laws.specs.Fits.{is_active, with_active, is_another, without_active}
 use Rattle.store_laws.proofs.ElementLemmas.{contains_here, contains_there, contains_filter, contains_kept, any_there}
@@ -23,7 +23,7 @@ same_truth true false to from = sym (to refl)
 same_truth false true to from = from refl
 
 -- a number that the session neither had nor has is active as before
-pub others_alike : (numbers : Numbers) (active rest : ℕ → Bool) (s : ℕ) (o : Option ℕ) → AreActive numbers active
+pub others_alike : (numbers : SessionNumbers) (active rest : ℕ → Bool) (s : ℕ) (o : Option ℕ) → AreActive numbers active
     → AreActive (with_number numbers s o) rest → (n : ℕ) → numbers s ≢ Some n → o ≢ Some n → active n ≡ rest n
 others_alike numbers active rest s o tells after n before now = same_truth (active n) (rest n) to from
   where
@@ -56,11 +56,11 @@ listed_among (k ∷ l) n is = elim (cases_eq k n) [
 ]
 
 -- a number in use is in the list
-pub is_listed : (numbers : Numbers) (t : Tables) → AreActive numbers (is_active t) → (s tid : ℕ)
+pub is_listed : (numbers : SessionNumbers) (t : Tables) → AreActive numbers (is_active t) → (s tid : ℕ)
     → numbers s ≡ Some tid → Contains t.active tid
 is_listed numbers t tells s tid mine = listed_among t.active tid ((tells tid).1 (s, mine))
 
-pub active_begun : (numbers : Numbers) (t : Tables) (s tid : ℕ) → AreActive numbers (is_active t) → numbers s ≡ None
+pub active_begun : (numbers : SessionNumbers) (t : Tables) (s tid : ℕ) → AreActive numbers (is_active t) → numbers s ≡ None
     → AreActive (with_number numbers s (Some tid)) (is_active (with_active t tid))
 active_begun numbers t s tid tells closed n = (to, from)
   where
@@ -83,7 +83,7 @@ active_begun numbers t s tid tells closed n = (to, from)
           (Contains-append_left t.active (tid ∷ []) n (is_listed numbers t tells a n other.1))
     ]
 
-pub active_ended : (numbers : Numbers) (t : Tables) (s tid : ℕ) → AreActive numbers (is_active t)
+pub active_ended : (numbers : SessionNumbers) (t : Tables) (s tid : ℕ) → AreActive numbers (is_active t)
     → numbers s ≡ Some tid → ((a b n : ℕ) → numbers a ≡ Some n → numbers b ≡ Some n → a ≡ b)
     → AreActive (with_number numbers s None) (is_active (without_active t tid))
 active_ended numbers t s tid tells mine apart n = (to, from)
@@ -112,12 +112,12 @@ active_ended numbers t s tid tells mine apart n = (to, from)
 pub active_same : (t after : Tables) → after.active ≡ t.active → is_active after ≡ is_active t
 active_same t after same = λ i tid. is_among tid (same i)
 
-pub still_active : (numbers : Numbers) (t after : Tables) → after.active ≡ t.active → AreActive numbers (is_active t)
+pub still_active : (numbers : SessionNumbers) (t after : Tables) → after.active ≡ t.active → AreActive numbers (is_active t)
     → AreActive numbers (is_active after)
 still_active numbers t after same tells = subst (AreActive numbers) (sym (active_same t after same)) tells
 
 -- where no active number of the tables is committed, no session's is
-pub waits_for : (it : Layout) (numbers : Numbers) (t : Tables) → AreActive numbers (is_active t)
+pub waits_for : (it : Layout) (numbers : SessionNumbers) (t : Tables) → AreActive numbers (is_active t)
     → All (λ n. it.committed n ≡ false) t.active → (s tid : ℕ) → numbers s ≡ Some tid → it.committed tid ≡ false
 waits_for it numbers t tells waits s tid mine =
     All-contains (λ n. it.committed n ≡ false) t.active tid waits (is_listed numbers t tells s tid mine)

@@ -6,7 +6,7 @@ use Rattle.std.proofs.lemmas.List.Elements.{All-contains}
 use Rattle.ipl_rules.proofs.BatchLemmas.{distinct}
 use Rattle.ipl_rules.specs.Operations as rules
 use Rattle.ipl_rules.specs.State.{State}
-use Rattle.record_locks.specs.Held.{Slots, after_end, after_batch, is_among, number_of, numbers_in}
+use Rattle.record_locks.specs.Held.{SessionSlots, after_end, after_batch, is_among, number_of, numbers_in}
 use Rattle.record_locks.proofs.BatchLemmas.{batches_keep_names, batches_keep_marks}
 use Rattle.ipl_meaning.specs.Chart.{Chart}
 use Rattle.ipl_meaning.specs.Last.{last_that}
@@ -14,7 +14,7 @@ use Rattle.ipl_meaning.specs.Layout.{Layout}
 use Rattle.ipl_meaning.specs.Steps.{KeepsPages, with_committed}
 use Rattle.ipl_meaning.specs.Tables.{Tables}
 use Rattle.ipl_meaning.specs.Values.{counts_for}
-use Rattle.store_laws.specs.Pending.{Numbers, with_number, records_at, IsWrittenOut}
+use Rattle.store_laws.specs.Pending.{SessionNumbers, with_number, records_at, IsWrittenOut}
 use Rattle.store_laws.specs.PendingLaws.{JoinInTurn, NumbersJoin, without_sessions}
 use Rattle.store_laws.specs.Frames.{Frames, pending_of, logs_of, AreFramesOf}
 use Rattle.store_laws.specs.Fits.{AreSessionsOf, is_active, Fits}
@@ -34,16 +34,16 @@ use Rattle.store_laws.proofs.TurnLemmas.{Waits}
 -- ---- numbers
 
 -- the numbers of the slots once the sessions are closed
-number_batch : (slots : Slots) (ss : List ℕ) → ((s : ℕ) → Contains ss s → s < length slots)
+number_batch : (slots : SessionSlots) (ss : List ℕ) → ((s : ℕ) → Contains ss s → s < length slots)
     → number_of (after_batch slots ss) ≡ without_sessions (number_of slots) ss
 number_batch slots [] within = refl
 number_batch slots (s ∷ ss) within =
     number_batch (after_end slots s) ss
     (λ t there. omega (arith, within t (contains_there s ss t there), length-set slots s None))
-    ∙ ap (λ (f : Numbers). without_sessions f ss) (number_ended slots s (within s (contains_here s ss)))
+    ∙ ap (λ (f : SessionNumbers). without_sessions f ss) (number_ended slots s (within s (contains_here s ss)))
 
 -- a session that has one then had it before
-pub still_numbered : (numbers : Numbers) (ss : List ℕ) (t tid : ℕ) → without_sessions numbers ss t ≡ Some tid
+pub still_numbered : (numbers : SessionNumbers) (ss : List ℕ) (t tid : ℕ) → without_sessions numbers ss t ≡ Some tid
     → numbers t ≡ Some tid
 still_numbered numbers [] t tid is = is
 still_numbered numbers (s ∷ ss) t tid is =
@@ -51,7 +51,7 @@ still_numbered numbers (s ∷ ss) t tid is =
 
 -- ---- what holds before the first is committed
 
-pub fits_wait : (places : ℕ) (c : Chart) (it : Layout) (t : Tables) (frames : Frames) (slots : Slots) (state : State)
+pub fits_wait : (places : ℕ) (c : Chart) (it : Layout) (t : Tables) (frames : Frames) (slots : SessionSlots) (state : State)
     → Fits places c it t frames slots state → Waits places c it frames (number_of slots) state
 fits_wait places c it t frames slots state fits = record {
   tables = t;
@@ -62,7 +62,7 @@ fits_wait places c it t frames slots state fits = record {
   framed = fits.framed;
 }
 
-pub all_left : (slots : Slots) (state : State) (ss : List ℕ) → AreSessionsOf slots state
+pub all_left : (slots : SessionSlots) (state : State) (ss : List ℕ) → AreSessionsOf slots state
     → AreLeft slots (number_of slots) state ss
 all_left slots state ss are = record {
   number = λ s there. refl;
@@ -70,7 +70,7 @@ all_left slots state ss are = record {
 }
 
 -- the numbers of open sessions, none named twice, join one after the other
-pub sessions_join : (places : ℕ) (c : Chart) (it : Layout) (t : Tables) (frames : Frames) (slots : Slots)
+pub sessions_join : (places : ℕ) (c : Chart) (it : Layout) (t : Tables) (frames : Frames) (slots : SessionSlots)
     (state : State) (ss : List ℕ) (committed : ℕ → Bool) → Fits places c it t frames slots state → AreOpen slots ss
     → ((s tid : ℕ) → Contains ss s → number_of slots s ≡ Some tid → IsWrittenOut (logs_of frames) tid)
     → NumbersJoin it.committed (writer_numbers slots ss) committed
@@ -126,7 +126,7 @@ batches_fit places c y it t later frames after slots state ss committed fits are
     new : Layout
     new = with_committed it committed
 
-    closed : Slots
+    closed : SessionSlots
     closed = after_batch slots ss
 
     waits : Waits places c new after (without_sessions (number_of slots) ss) (rules.after_batch state ss)

@@ -6,11 +6,11 @@ use Rattle.std.proofs.lemmas.Option.{same_Some}
 use Rattle.ipl_rules.proofs.BatchLemmas.{Distinct}
 use Rattle.ipl_rules.specs.Operations.{after_commit}
 use Rattle.ipl_rules.specs.State.{State}
-use Rattle.record_locks.specs.Held.{Slots, number_of, written_of, written_by, writer_number, writer_numbers}
+use Rattle.record_locks.specs.Held.{SessionSlots, number_of, written_of, written_by, writer_number, writer_numbers}
 use Rattle.ipl_meaning.specs.Chart.{Chart}
 use Rattle.ipl_meaning.specs.Layout.{Layout}
 use Rattle.ipl_meaning.specs.Steps.{with_committed}
-use Rattle.store_laws.specs.Pending.{Logs, Numbers, with_number}
+use Rattle.store_laws.specs.Pending.{Logs, SessionNumbers, with_number}
 use Rattle.store_laws.specs.PendingLaws.{JoinInTurn}
 use Rattle.store_laws.specs.Frames.{Frames, logs_of, IsCommittedFrame, EachFrameChanges, CommitInTurn}
 use Rattle.store_laws.proofs.PendingBatchLemmas.{AreLeft, left_then}
@@ -23,7 +23,7 @@ use Rattle.store_laws.proofs.NamedLemmas.{all_settled}
 -- ---- the names that they wrote
 
 -- a name that one of them wrote is among those of all
-written_among : (slots : Slots) (ss : List ℕ) (s n : ℕ) → Contains ss s
+written_among : (slots : SessionSlots) (ss : List ℕ) (s n : ℕ) → Contains ss s
     → Contains (written_of slots s) n → Contains (written_by slots ss) n
 written_among slots [] s n there by_it = absurd (contains_nil s there)
 written_among slots (k ∷ ss) s n there by_it = elim (contains_cons k ss s there) [
@@ -36,13 +36,13 @@ written_among slots (k ∷ ss) s n there by_it = elim (contains_cons k ss s ther
 ]
 
 -- what holds of all these names holds of those of each session
-pub all_written : (P : ℕ → Type 0) (slots : Slots) (ss : List ℕ) (s : ℕ)
+pub all_written : (P : ℕ → Type 0) (slots : SessionSlots) (ss : List ℕ) (s : ℕ)
     → All P (written_by slots ss) → Contains ss s → All P (written_of slots s)
 all_written P slots ss s all there = all_listed P (written_of slots s) (λ n by_it.
     All-contains P (written_by slots ss) n all (written_among slots ss s n there by_it))
 
 -- where there is no such name, none of them wrote any
-pub none_written : (slots : Slots) (ss : List ℕ) (s : ℕ) → written_by slots ss ≡ [] → Contains ss s
+pub none_written : (slots : SessionSlots) (ss : List ℕ) (s : ℕ) → written_by slots ss ≡ [] → Contains ss s
     → written_of slots s ≡ []
 none_written slots ss s none there = empty (written_of slots s) (λ n by_it.
     contains_nil n (subst (λ (l : List ℕ). Contains l n) none
@@ -65,7 +65,7 @@ number_holds P (n ∷ names) (Some tid) each = all_listed P (tid ∷ []) (λ k t
     ])
 
 -- what holds of each session's number holds of them
-pub numbers_hold : (P : ℕ → Type 0) (slots : Slots) (ss : List ℕ)
+pub numbers_hold : (P : ℕ → Type 0) (slots : SessionSlots) (ss : List ℕ)
     → ((s tid : ℕ) → Contains ss s → number_of slots s ≡ Some tid → P tid)
     → All P (writer_numbers slots ss)
 numbers_hold P slots [] each = all_listed P [] (λ n there. absurd (contains_nil n there))
@@ -76,7 +76,7 @@ numbers_hold P slots (s ∷ ss) each =
     (numbers_hold P slots ss (λ t tid there mine. each t tid (contains_there s ss t there) mine))
 
 -- there is none where none wrote anything
-pub no_numbers : (slots : Slots) (ss : List ℕ)
+pub no_numbers : (slots : SessionSlots) (ss : List ℕ)
     → ((s : ℕ) → Contains ss s → written_of slots s ≡ []) → writer_numbers slots ss ≡ []
 no_numbers slots [] none = refl
 no_numbers slots (s ∷ ss) none =
@@ -87,8 +87,8 @@ no_numbers slots (s ∷ ss) none =
 -- ---- the frames
 
 -- where the frames of the names change that each session wrote, each frame changes as it should
-pub settled_in_turn : (places : ℕ) (c : Chart) (it : Layout) (frames later : Frames) (slots : Slots)
-    (numbers : Numbers) (state : State) (ss : List ℕ) (committed : ℕ → Bool)
+pub settled_in_turn : (places : ℕ) (c : Chart) (it : Layout) (frames later : Frames) (slots : SessionSlots)
+    (numbers : SessionNumbers) (state : State) (ss : List ℕ) (committed : ℕ → Bool)
     → Waits places c it frames numbers state → Distinct ss → AreLeft slots numbers state ss
     → JoinInTurn numbers (logs_of frames) state ss it.committed committed
     → SettleInTurn slots ss frames later → CommitInTurn numbers ss frames later
@@ -116,7 +116,7 @@ settled_in_turn places c it frames later slots numbers state (s ∷ ss) committe
     )
 
 -- sessions that wrote nothing change none
-pub none_settled : (slots : Slots) (ss : List ℕ) (frames : Frames)
+pub none_settled : (slots : SessionSlots) (ss : List ℕ) (frames : Frames)
     → ((s : ℕ) → Contains ss s → written_of slots s ≡ []) → SettleInTurn slots ss frames frames
 none_settled slots [] frames none = refl
 none_settled slots (s ∷ ss) frames none = (

@@ -6,32 +6,32 @@ use Rattle.std.proofs.lemmas.List.Elements.{Contains-push_cases}
 use Rattle.ipl_base.specs.Places.{home_of}
 use Rattle.page_ops.specs.Pending.{Pending, seen_by, without_pending}
 use Rattle.store_laws.specs.Pending.{is_other}
-use Rattle.store_laws.specs.Frames.{Frame, Frames, IsCommittedFrame, IsAbortedFrame, ChangesSo}
+use Rattle.store_laws.specs.Frames.{PageFrame, Frames, IsCommittedFrame, IsAbortedFrame, ChangesSo}
 use Rattle.store_laws.proofs.ElementLemmas.{contains_nil}
 use Rattle.store_laws.specs.NamedFrames.{IsSameOr, ChangesPageOf, NamedFramesChange}
 
 -- two such changes are one
-abbrev pub AreJoined : (Frame → Frame → Type 0) → Type 0
-AreJoined R = (a b d : Frame) → R a b → R b d → R a d
+abbrev pub AreJoined : (PageFrame → PageFrame → Type 0) → Type 0
+AreJoined R = (a b d : PageFrame) → R a b → R b d → R a d
 
-module _ (R : Frame → Frame → Type 0) (joined : AreJoined R) where
-  same_then : (o p q : Option Frame) → ChangesSo (IsSameOr R) o p → ChangesSo R p q
+module _ (R : PageFrame → PageFrame → Type 0) (joined : AreJoined R) where
+  same_then : (o p q : Option PageFrame) → ChangesSo (IsSameOr R) o p → ChangesSo R p q
       → ChangesSo R o q
   same_then None None None first second = tt
   same_then None None (Some d) first second = absurd second
   same_then None (Some b) q first second = absurd first
   same_then (Some a) None q first second = absurd first
   same_then (Some a) (Some b) None first second = absurd second
-  same_then (Some a) (Some b) (Some d) (inl same) second = subst (λ (f : Frame). R f d) same second
+  same_then (Some a) (Some b) (Some d) (inl same) second = subst (λ (f : PageFrame). R f d) same second
   same_then (Some a) (Some b) (Some d) (inr did) second = joined a b d did second
 
-  wider : (o p : Option Frame) → ChangesSo R o p → ChangesSo (IsSameOr R) o p
+  wider : (o p : Option PageFrame) → ChangesSo R o p → ChangesSo (IsSameOr R) o p
   wider None None did = tt
   wider None (Some b) did = absurd did
   wider (Some a) None did = absurd did
   wider (Some a) (Some b) did = inr did
 
-  unchanged : (o : Option Frame) → ChangesSo (IsSameOr R) o o
+  unchanged : (o : Option PageFrame) → ChangesSo (IsSameOr R) o o
   unchanged None = tt
   unchanged (Some a) = inl refl
 

@@ -2,7 +2,7 @@
 use Rattle.std.proofs.Common.{List, Some, [], ap, arith, inl, refl, subst, sym, ℕ, ◌<◌, ◌∙◌, ◌≡◌}
 use Rattle.std.specs.List.{All}
 use Rattle.ipl_rules.specs.State.{State}
-use Rattle.record_locks.specs.Held.{Slots, number_of}
+use Rattle.record_locks.specs.Held.{SessionSlots, number_of}
 use Rattle.ipl_meaning.specs.Chart.{Chart}
 use Rattle.ipl_meaning.specs.Layout.{Entry, Layout, records_of}
 use Rattle.ipl_meaning.specs.Mirrors.{Mirrors, NoneIsLost}
@@ -11,7 +11,7 @@ use Rattle.ipl_meaning.specs.Steps.{KeepsPages, with_log, with_unit}
 use Rattle.ipl_meaning.specs.Tables.{Tables}
 use Rattle.store_laws.specs.Pending.{Logs, with_records, HasPending}
 use Rattle.store_laws.specs.PendingLaws.{IsSameOrMerged}
-use Rattle.store_laws.specs.Frames.{Frame, Frames, logs_of, with_frame_at, with_frame_log, AreFramesOf}
+use Rattle.store_laws.specs.Frames.{PageFrame, Frames, logs_of, with_frame_at, with_frame_log, AreFramesOf}
 use Rattle.store_laws.specs.Room.{PagesHaveRoom}
 use Rattle.store_laws.specs.Fits.{is_active, Fits}
 use Rattle.store_laws.specs.StepLaws.{LogSectorsFit, MergesFit, OtherStepsFit, RenewalsFit}
@@ -26,8 +26,8 @@ use Rattle.store_laws.proofs.SameLemmas.{pending_with_logs, frame_as, IsPlaced, 
 
 -- ---- a log sector
 
-module _ (places : ℕ) (c y : Chart) (it : Layout) (t : Tables) (frames : Frames) (slots : Slots) (state : State)
-    (u page : ℕ) (f : Frame) (e : Entry) (fits : Fits places c it t frames slots state)
+module _ (places : ℕ) (c y : Chart) (it : Layout) (t : Tables) (frames : Frames) (slots : SessionSlots) (state : State)
+    (u page : ℕ) (f : PageFrame) (e : Entry) (fits : Fits places c it t frames slots state)
     (there : frames u page ≡ Some f) (its : e.records ≡ f.log)
     (keeps : KeepsPages places c it y (with_log it u e)) where
   abbrev new : Layout
@@ -50,7 +50,7 @@ module _ (places : ℕ) (c y : Chart) (it : Layout) (t : Tables) (frames : Frame
       pending_with_logs it.count new logs (logs_of later) (number_of slots) state same
       (log_sectors_keep_pending it.count it (logs_of frames) (number_of slots) state u page e fits.pending records)
 
-  each : (v q : ℕ) (x : Frame) → frames v q ≡ Some x → IsPlaced it.count y new (logs_of later) (is_active t) v q x
+  each : (v q : ℕ) (x : PageFrame) → frames v q ≡ Some x → IsPlaced it.count y new (logs_of later) (is_active t) v q x
   each v q x is =
       let (low, few, was) = placed it.count c it (is_active t) frames fits.framed v q x is in (
         low,
@@ -82,7 +82,7 @@ log_sectors_fit places c y it t after frames slots state u page f e fits there i
 -- ---- other steps
 
 -- each unit has the records that it had, or those that a merge carries
-same_or_merged_fit : (places : ℕ) (c y : Chart) (it new : Layout) (t after : Tables) (frames : Frames) (slots : Slots)
+same_or_merged_fit : (places : ℕ) (c y : Chart) (it new : Layout) (t after : Tables) (frames : Frames) (slots : SessionSlots)
     (state : State) → Fits places c it t frames slots state → new.count ≡ it.count
     → ((u : ℕ) → u < it.count → IsSameOrMerged (is_active t) (it.units u) (new.units u))
     → ((u : ℕ) → u < it.count → All (λ r. new.committed r.tid ≡ it.committed r.tid) (records_of (new.units u).log))

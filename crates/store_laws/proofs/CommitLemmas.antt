@@ -10,7 +10,7 @@ use Rattle.ipl_base.specs.declared.fault.ChipFault.{ChipFault}
 use Rattle.ipl_rules.specs.Operations.{after_batch}
 use Rattle.ipl_rules.specs.State.{State}
 use Rattle.ipl_rules.proofs.BatchLemmas.{any_alike, batches_keep, distinct}
-use Rattle.record_locks.specs.Held.{Slots, number_of, written_of, written_by, writer_numbers}
+use Rattle.record_locks.specs.Held.{SessionSlots, number_of, written_of, written_by, writer_numbers}
 use Rattle.record_locks.specs.Held.{after_batch as slots_after}
 use Rattle.ipl_meaning.specs.Chart.{Chart, chart_of}
 use Rattle.ipl_meaning.specs.Layout.{Layout}
@@ -27,7 +27,7 @@ use Rattle.number_set.specs.Numbers.{also}
 use Rattle.txn_status.specs.Adding.{with_added, layout_added, Added}
 use Rattle.store_laws.specs.Pending.{name_at, wrote, IsWrittenOut}
 use Rattle.store_laws.specs.PendingLaws.{StateHasOneWriter, NumbersJoin, JoinInTurn}
-use Rattle.store_laws.specs.Frames.{Frame, Frames, logs_of}
+use Rattle.store_laws.specs.Frames.{PageFrame, Frames, logs_of}
 use Rattle.store_laws.specs.Fits.{LocksHold, AreSessionsOf}
 use Rattle.store_laws.specs.StepLaws.{AreOpen}
 use Rattle.store_laws.proofs.ActiveLemmas.{is_listed}
@@ -60,7 +60,7 @@ names_out_suffice places c it memory state s tid fits mine out =
         ap₂ (logs_of memory.frames) (sym unit) (sym of_page)
         ∙ All-contains (IsOut memory.frames) (written_of memory.slots s) n out there
 
-    outside : (u page : ℕ) → it.count ≤ u → (o : Option Frame) → memory.frames u page ≡ o
+    outside : (u page : ℕ) → it.count ≤ u → (o : Option PageFrame) → memory.frames u page ≡ o
         → logs_of memory.frames u page ≡ []
     outside u page past None is = ap (λ o. option_map_or (λ f. f.log) o []) is
     outside u page past (Some f) is =
@@ -90,7 +90,7 @@ numbers_join committed tids n =
 -- ---- open sessions, none named twice, that have no record in memory
 
 -- where the locks hold, so that there are 32 slots
-are_open : (slots : Slots) (state : State) (ss : List ℕ) → AreSessionsOf slots state
+are_open : (slots : SessionSlots) (state : State) (ss : List ℕ) → AreSessionsOf slots state
     → AreOpenSessions slots ss → AreOpen slots ss
 are_open slots state ss are opened = record {
   within = λ s there. omega (arith, are.locked.all, (opened.opens s there).low);

@@ -10,7 +10,7 @@ use Rattle.ipl_meaning.specs.Last.{last_that}
 use Rattle.ipl_meaning.specs.Layout.{Layout}
 use Rattle.ipl_meaning.specs.Values.{Values, counts_for}
 use Rattle.page_ops.specs.Pending.{Pendings, seen_by, without_pending}
-use Rattle.store_laws.specs.Pending.{Logs, Numbers, is_other, without_number, with_number, name_at, wrote, records_at, HasPending, HasOtherNumber, IsWrittenOut}
+use Rattle.store_laws.specs.Pending.{Logs, SessionNumbers, is_other, without_number, with_number, name_at, wrote, records_at, HasPending, HasOtherNumber, IsWrittenOut}
 use Rattle.store_laws.specs.PendingLaws.{StateHasOneWriter, AreActive}
 use Rattle.store_laws.specs.Frames.{IsFrameOf}
 use Rattle.store_laws.proofs.PendingCommitLemmas.{aborts_keep_pending}
@@ -51,7 +51,7 @@ all_kept tid (r ∷ l) others =
 
 -- ---- pending records and frames
 
-module _ (units : ℕ) (it : Layout) (logs : Logs) (numbers : Numbers) (state : State) (s tid : ℕ)
+module _ (units : ℕ) (it : Layout) (logs : Logs) (numbers : SessionNumbers) (state : State) (s tid : ℕ)
     (has : HasPending units it logs numbers state) (mine : numbers s ≡ Some tid) (out : IsWrittenOut logs tid)
     (none : (n : ℕ) → wrote state s n ≡ false) where
   -- none of the records is its own

@@ -8,7 +8,7 @@ use Rattle.record_locks.proofs.KeepLemmas.{keeps_names}
 use Rattle.page_ops.specs.Pending.{without_pending}
 use Rattle.store_laws.specs.Pending.{is_other, without_number, with_number}
 use Rattle.store_laws.specs.PendingLaws.{AreActive}
-use Rattle.store_laws.specs.Frames.{Frame, logs_of, IsFrameOf, IsAbortedFrame}
+use Rattle.store_laws.specs.Frames.{PageFrame, logs_of, IsFrameOf, IsAbortedFrame}
 use Rattle.store_laws.specs.Fits.{is_active, without_active}
 use Rattle.store_laws.specs.StepLaws.{AbortsFit}
 use Rattle.store_laws.proofs.PendingNumberLemmas.{number_ended}
@@ -57,7 +57,7 @@ aborts_fit places c it t frames after slots state s tid fits within mine all loc
         both_logs (IsAbortedFrame tid) (filter (is_other tid)) refl (λ a b changed. changed.log) (frames u page)
         (after u page) (all u page)
 
-    framed : (u page : ℕ) (a b : Frame) → IsPlaced it.count c it (logs_of frames) (is_active t) u page a
+    framed : (u page : ℕ) (a b : PageFrame) → IsPlaced it.count c it (logs_of frames) (is_active t) u page a
         → IsAbortedFrame tid a b → IsFrameOf c it (logs_of after) rest u page b.values b.pending
     framed u page a b (low, few, was) changed =
         frame_as c it (without_number (logs_of frames) tid) (logs_of after) rest u page a.values b.values

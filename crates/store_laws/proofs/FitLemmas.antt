@@ -7,7 +7,7 @@ use Rattle.ipl_rules.specs.Marks.{marks, weight_of_mark, weights}
 use Rattle.ipl_rules.specs.State.{Map, State}
 use Rattle.ipl_rules.proofs.MarkLemmas.{le_trans}
 use Rattle.ipl_rules.proofs.WeightLemmas.{weights_less}
-use Rattle.record_locks.specs.Held.{Slots, is_among, marks_in, number_of, written_of}
+use Rattle.record_locks.specs.Held.{SessionSlots, is_among, marks_in, number_of, written_of}
 use Rattle.record_locks.specs.Standing.{state_of}
 use Rattle.record_locks.proofs.SameLemmas.{marks_are, new_writes_alike}
 use Rattle.record_locks.proofs.StandingLemmas.{new_write_at}
@@ -23,7 +23,7 @@ use Rattle.ipl_meaning.proofs.OnceLemmas.{laid_once, shows_once}
 use Rattle.ipl_meaning.proofs.PackLemmas.{few_are_carried}
 use Rattle.ipl_meaning.proofs.StoryLemmas.{held_stands}
 use Rattle.store_laws.specs.Pending.{name_at, wrote}
-use Rattle.store_laws.specs.Frames.{Frame, Frames, logs_of}
+use Rattle.store_laws.specs.Frames.{PageFrame, Frames, logs_of}
 use Rattle.store_laws.specs.FrameLaws.{TellsSlot}
 use Rattle.store_laws.specs.Fits.{AreSessionsOf, is_active, Fits}
 use Rattle.store_laws.specs.FittingLaws.{FitsWhateverTheMap, SessionsAreSound, MergesAreSmall, RestingPagesSay, RestingPagesKeep, FittingFramesTell, FittingContentsTell}
@@ -59,7 +59,7 @@ fits_whatever_the_map places c it t frames slots state m fits = record {
 
 -- ---- sessions
 
-pub wrote_is : (slots : Slots) (state : State) → AreSessionsOf slots state → (s n : ℕ) → wrote state s n ≡ true
+pub wrote_is : (slots : SessionSlots) (state : State) → AreSessionsOf slots state → (s n : ℕ) → wrote state s n ≡ true
     → is_among n (written_of slots s) ≡ true
 wrote_is slots state are s n is =
     let alike : not (is_among n (written_of slots s)) ≡ not (wrote state s n) =
@@ -67,7 +67,7 @@ wrote_is slots state are s n is =
     not-false (is_among n (written_of slots s)) (alike ∙ not_from_true (wrote state s n) is)
 
 -- what a session wrote is among the names that it holds
-pub wrote_listed : (slots : Slots) (state : State) → AreSessionsOf slots state → (s n : ℕ) → wrote state s n ≡ true
+pub wrote_listed : (slots : SessionSlots) (state : State) → AreSessionsOf slots state → (s n : ℕ) → wrote state s n ≡ true
     → Contains (written_of slots s) n
 wrote_listed slots state are s n is = listed_among (written_of slots s) n (wrote_is slots state are s n is)
 
@@ -138,8 +138,8 @@ resting_pages_keep places m h k it new first second one two count =
 -- ---- frames
 
 -- where the pages say the map, a frame tells it
-fits_tell : (places : ℕ) (c : Chart) (it : Layout) (t : Tables) (frames : Frames) (slots : Slots) (state : State)
-    (u page slot : ℕ) (f : Frame) → Fits places c it t frames slots state → Says places c it state.map
+fits_tell : (places : ℕ) (c : Chart) (it : Layout) (t : Tables) (frames : Frames) (slots : SessionSlots) (state : State)
+    (u page slot : ℕ) (f : PageFrame) → Fits places c it t frames slots state → Says places c it state.map
     → frames u page ≡ Some f → slot < 64 → TellsSlot (number_of slots) state u page slot f.values f.pending
 fits_tell places c it t frames slots state u page slot f fits says there less =
     let (low, few) = fits.framed.within u page f there in

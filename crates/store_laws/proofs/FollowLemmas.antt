@@ -8,7 +8,7 @@ use Rattle.ipl_format.specs.Record.{Record}
 use Rattle.ipl_meaning.specs.Values.{counts_for}
 use Rattle.ipl_meaning.specs.Layout.{Layout, records_of}
 use Rattle.ipl_meaning.specs.Last.{is_number}
-use Rattle.store_laws.specs.Pending.{Logs, Numbers, name_at, wrote, records_at, change_in, IsPending, HasPending, HasOtherNumber}
+use Rattle.store_laws.specs.Pending.{Logs, SessionNumbers, name_at, wrote, records_at, change_in, IsPending, HasPending, HasOtherNumber}
 use Rattle.store_laws.specs.PendingLaws.{StateHasOneWriter, AreActive, RecordsAreWrites, ChangedPagesSuffice}
 use Rattle.store_laws.proofs.ElementLemmas.{contains_nil, any_there, all_listed}
 use Rattle.store_laws.proofs.LastLemmas.{counted, counts, is_one, last_that-some}
@@ -25,7 +25,7 @@ records_are_writes units it logs numbers state s u page r has mine low page_is v
     ap is_some (sym (has.last s r.tid u page r.slot mine low few valid.slot) ∙ ap change_in is_last)
 
 -- two records on one name that are of open sessions are of one number
-pub one_number : (units : ℕ) (it : Layout) (logs : Logs) (numbers : Numbers) (state : State)
+pub one_number : (units : ℕ) (it : Layout) (logs : Logs) (numbers : SessionNumbers) (state : State)
     → HasPending units it logs numbers state → StateHasOneWriter state → (s t u page : ℕ) (r q : Record) → u < units
     → numbers s ≡ Some r.tid → numbers t ≡ Some q.tid → Contains (records_at it logs u page) r
     → Contains (records_at it logs u page) q → r.page ≡ page → q.page ≡ page → q.slot ≡ r.slot → r.tid ≡ q.tid
@@ -39,7 +39,7 @@ one_number units it logs numbers state has one s t u page r q low mine other r_i
     cc both
 
 -- no name has records of two open sessions
-pub of_one_at : (units : ℕ) (it : Layout) (logs : Logs) (numbers : Numbers) (state : State) (active : ℕ → Bool)
+pub of_one_at : (units : ℕ) (it : Layout) (logs : Logs) (numbers : SessionNumbers) (state : State) (active : ℕ → Bool)
     → HasPending units it logs numbers state → StateHasOneWriter state → AreActive numbers active
     → (u page slot : ℕ) → u < units → IsOfOne active page slot (records_at it logs u page)
 of_one_at units it logs numbers state active has one tells u page slot low r q r_is q_is r_counts q_counts =

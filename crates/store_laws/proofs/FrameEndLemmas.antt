@@ -9,7 +9,7 @@ use Rattle.ipl_meaning.specs.Last.{applied, is_number, last_that}
 use Rattle.ipl_meaning.specs.Layout.{Layout, records_of}
 use Rattle.ipl_meaning.specs.Values.{counts_for}
 use Rattle.page_ops.specs.Pending.{seen_by, without_pending}
-use Rattle.store_laws.specs.Pending.{Logs, Numbers, is_other, without_number, with_number, records_at, HasPending, IsWrittenOut}
+use Rattle.store_laws.specs.Pending.{Logs, SessionNumbers, is_other, without_number, with_number, records_at, HasPending, IsWrittenOut}
 use Rattle.store_laws.specs.PendingLaws.{StateHasOneWriter, AreActive}
 use Rattle.store_laws.specs.Frames.{pending_of}
 use Rattle.store_laws.specs.FrameLaws.{CommitsKeepFrames, AbortsKeepFrames}
@@ -22,7 +22,7 @@ use Rattle.store_laws.proofs.SayLemmas.{on_chip, settled_shows}
 use Rattle.store_laws.proofs.FrameLemmas.{seen_own, seen_else, drops_own, drops_else}
 use Rattle.store_laws.proofs.ActiveLemmas.{others_alike}
 
-module _ (units : ℕ) (it : Layout) (logs : Logs) (numbers : Numbers) (state : State) (active rest : ℕ → Bool)
+module _ (units : ℕ) (it : Layout) (logs : Logs) (numbers : SessionNumbers) (state : State) (active rest : ℕ → Bool)
     (s tid : ℕ) (has : HasPending units it logs numbers state) (one : StateHasOneWriter state)
     (tells : AreActive numbers active) (after : AreActive (with_number numbers s None) rest)
     (mine : numbers s ≡ Some tid) where

@@ -16,7 +16,7 @@ use Rattle.record_locks.proofs.SameLemmas.{marks_are}
 use Rattle.ipl_meaning.specs.Layout.{Layout}
 use Rattle.ipl_meaning.specs.Stands.{page_in}
 use Rattle.ipl_meaning.specs.Values.{Values}
-use Rattle.store_laws.specs.Pending.{Logs, Numbers, name_at, HasPending}
+use Rattle.store_laws.specs.Pending.{Logs, SessionNumbers, name_at, HasPending}
 use Rattle.store_laws.specs.Room.{fill_at, marked_by}
 use Rattle.store_laws.specs.Frames.{logs_of}
 use Rattle.store_laws.specs.FittingLaws.{MarksTellFullPages, PutsThatPassHaveRoom, SameValuesHaveRoom, WrittenPagesFit}
@@ -93,7 +93,7 @@ no_mark (w ∷ older) n none = elim (cases_Bool (w.0 == n)) [
 ]
 
 -- only names of the chip's units are marked
-low_marked : (units : ℕ) (it : Layout) (logs : Logs) (numbers : Numbers) (state : State) (n : ℕ)
+low_marked : (units : ℕ) (it : Layout) (logs : Logs) (numbers : SessionNumbers) (state : State) (n : ℕ)
     → HasPending units it logs numbers state → 0 < marks state n → n < UNIT_NAMES * units
 low_marked units it logs numbers state n has marked = elim (cases_lt n (UNIT_NAMES * units)) [
   | inl low ↦ low

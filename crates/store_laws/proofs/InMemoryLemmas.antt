@@ -6,14 +6,14 @@ use Rattle.std.proofs.lemmas.List.Elements.{All-contains, All-nil, All-push, All
 use Rattle.std.proofs.lemmas.Option.{none-some, same_Some}
 use Rattle.ipl_base.specs.declared.limits.TheConstants.{VERSION}
 use Rattle.ipl_format.specs.Record.{IsRecord, Record}
-use Rattle.store_laws.specs.Pending.{Logs, Numbers, with_records, is_other, without_number, with_number, IsPending, ArePending, HasOtherNumber, IsWrittenOut}
+use Rattle.store_laws.specs.Pending.{Logs, SessionNumbers, with_records, is_other, without_number, with_number, IsPending, ArePending, HasOtherNumber, IsWrittenOut}
 use Rattle.store_laws.specs.PendingLaws.{RecordsStayPending}
 use Rattle.store_laws.proofs.ElementLemmas.{contains_filter, all_listed}
 use Rattle.store_laws.proofs.MemoryLemmas.{records_here, records_other, cases_page}
 use Rattle.store_laws.proofs.PendingNumberLemmas.{number_other}
 
 -- with the same number open under the same session
-still_pending : (numbers : Numbers) (s : ℕ) (o : Option ℕ) (page : ℕ) (r : Record)
+still_pending : (numbers : SessionNumbers) (s : ℕ) (o : Option ℕ) (page : ℕ) (r : Record)
     → (is : IsPending numbers page r) → is.session ≢ s → IsPending (with_number numbers s o) page r
 still_pending numbers s o page r is other = record {
   page_is = is.page_is;
@@ -23,12 +23,12 @@ still_pending numbers s o page r is other = record {
 }
 
 -- one of another number isn't the session's
-other_session : (numbers : Numbers) (s tid page : ℕ) (r : Record) → numbers s ≡ Some tid
+other_session : (numbers : SessionNumbers) (s tid page : ℕ) (r : Record) → numbers s ≡ Some tid
     → (is : IsPending numbers page r) → r.tid ≢ tid → is.session ≢ s
 other_session numbers s tid page r mine is other same =
     other (sym (same_Some tid r.tid (sym mine ∙ ap numbers (sym same) ∙ is.open_as)))
 
-module _ (numbers : Numbers) (logs : Logs) (are : ArePending numbers logs) where
+module _ (numbers : SessionNumbers) (logs : Logs) (are : ArePending numbers logs) where
   begins : (s tid : ℕ) → numbers s ≡ None → ArePending (with_number numbers s (Some tid)) logs
   begins s tid closed u page =
       All-weaker (IsPending numbers page) (IsPending (with_number numbers s (Some tid)) page)

@@ -12,7 +12,7 @@ use Rattle.ipl_model.specs.declared.command.Command.{Command}
 use Rattle.ipl_model.specs.declared.reply.Reply.{Reply}
 use Rattle.ipl_model.specs.Step.{Stepped, step}
 use Rattle.ipl_format.specs.Sector.{sector_in}
-use Rattle.record_locks.specs.Held.{Slots}
+use Rattle.record_locks.specs.Held.{SessionSlots}
 use Rattle.ipl_meaning.proofs.CarriedLemmas.{tidy_is_carried, unused_is_carried}
 use Rattle.ipl_meaning.specs.Chart.{Chart, chart_of}
 use Rattle.ipl_meaning.specs.Layout.{Layout, Laid}
@@ -262,7 +262,7 @@ keepers_look_up n before after result old new units up slots keeper finds drawn 
     here = is_at before old h state up own
 
     whole : Advances KeepsMapOf (λ state. state) before.memory old result after.memory new
-    whole = subst (λ (s : Slots). Advances KeepsMapOf (λ state. state) before.memory old result
+    whole = subst (λ (s : SessionSlots). Advances KeepsMapOf (λ state. state) before.memory old result
         (memory_of after.memory.tables after.memory.frames s) new) (sym slots)
         (keeper before.memory.slots)
 

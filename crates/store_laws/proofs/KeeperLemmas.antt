@@ -3,7 +3,7 @@ use Rattle.std.proofs.Common.{◌≡◌, ℕ, ◌<◌, [], length, Result, Ok, E
 use Rattle.chip_trait.specs.Told.{Told, Counts}
 use Rattle.ipl_base.specs.declared.fault.ChipFault.{ChipFault}
 use Rattle.ipl_rules.specs.State.{Map, State}
-use Rattle.record_locks.specs.Held.{Slots, number_of}
+use Rattle.record_locks.specs.Held.{SessionSlots, number_of}
 use Rattle.ipl_meaning.specs.Chart.{Chart, chart_of}
 use Rattle.ipl_meaning.specs.Layout.{Layout}
 use Rattle.ipl_meaning.specs.Mirrors.{Mirrors}
@@ -15,7 +15,7 @@ use Rattle.unit_io.specs.ReadsAt.{Anywhere, ReadsAt}
 use Rattle.unit_io.proofs.ReadsAtLemmas.{at_none}
 use Rattle.store_laws.specs.Pending.{HasPending}
 use Rattle.store_laws.specs.Room.{PagesHaveRoom}
-use Rattle.store_laws.specs.Frames.{Frame, Frames, logs_of, with_frame_at, IsFrameOf, AreFramesOf}
+use Rattle.store_laws.specs.Frames.{PageFrame, Frames, logs_of, with_frame_at, IsFrameOf, AreFramesOf}
 use Rattle.store_laws.specs.Fits.{is_active, Fits}
 use Rattle.store_laws.proofs.ActiveLemmas.{still_active, waits_for}
 use Rattle.store_laws.proofs.ChipFitLemmas.{log_sectors_fit}
@@ -120,7 +120,7 @@ pub reads_anywhere_keep_states : ReadsKeepStates
 reads_anywhere_keep_states = reads_keep_states Anywhere
 
 pub loads_keep_states : (At : ℕ → ℕ → Type 0) (t : Tables) (frames : Frames) (u page : ℕ)
-    (f : Frame) (old new : Told) → ReadsAt At old new → u < length t.places.current → page < 15
+    (f : PageFrame) (old new : Told) → ReadsAt At old new → u < length t.places.current → page < 15
     → frames u page ≡ None → f.log ≡ []
     → OfContents old (λ x. (it : Layout) → Mirrors old.places (chart_of x) it t
     → IsFrameOf (chart_of x) it (logs_of frames) (is_active t) u page f.values f.pending)
@@ -158,7 +158,7 @@ evictions_keep_states t frames u page f old there empty slots =
 
 -- the memory fits, where the tables turned so
 turned_fits : (places : ℕ) (c y : Chart) (it : Layout) (t after : Tables) (frames : Frames)
-    (slots : Slots) (state : State) → Fits places c it t frames slots state
+    (slots : SessionSlots) (state : State) → Fits places c it t frames slots state
     → (on : KeepsTablesOn places c it t y after) → Fits places y on.layout after frames slots state
 turned_fits places c y it t after frames slots state fits on =
     let still = still_active (number_of slots) t after on.active fits.active in record {

@@ -8,13 +8,13 @@ use Rattle.ipl_rules.specs.Refusals.{refuses_get, refuses_share}
 use Rattle.ipl_rules.specs.State.{Limits, State, see}
 use Rattle.ipl_model.specs.declared.command.Command.TheVariants as command
 use Rattle.ipl_model.specs.Step.{Stepped, found_reply, step}
-use Rattle.record_locks.specs.Held.{Slots, number_of}
+use Rattle.record_locks.specs.Held.{SessionSlots, number_of}
 use Rattle.record_locks.specs.Standing.{state_of}
 use Rattle.ipl_meaning.specs.Chart.{chart_of}
 use Rattle.ipl_meaning.specs.Tables.{Tables}
 use Rattle.page_ops.specs.Pending.{seen_by}
 use Rattle.store_laws.specs.Pending.{name_at}
-use Rattle.store_laws.specs.Frames.{Frame, Frames}
+use Rattle.store_laws.specs.Frames.{PageFrame, Frames}
 use Rattle.store_laws.specs.Fits.{AreSessionsOf}
 use Rattle.store_laws.specs.Advances.{KeepsState}
 use Rattle.store_laws.specs.Keeps.{View, limits_of, ShowsState, KeepsStore, TellsName, KeptFramesTell}
@@ -41,7 +41,7 @@ kept_shown places limits store t h state up keeps = (keeps.up up).shows
 -- ---- what frames tell of it
 
 -- what a session of this number sees in the frame of a name's page
-abbrev pub seen_in : Frame → ℕ → ℕ → Option (List ℕ)
+abbrev pub seen_in : PageFrame → ℕ → ℕ → Option (List ℕ)
 seen_in f n tid = seen_by tid (f.values (home_of n).slot) (f.pending (home_of n).slot)
 
 name_of_home : (n : ℕ) → name_at (home_of n).unit (home_of n).page (home_of n).slot ≡ n
@@ -49,7 +49,7 @@ name_of_home n = omega arith
 
 -- whatever the call answered
 pub kept_frames_tell_on : {T E : Type 0} (v : T) (n : ℕ) (store : View) (t : Tables)
-    (later : Frames) (f : Frame) (h : History) (state : State) (old new : Told)
+    (later : Frames) (f : PageFrame) (h : History) (state : State) (old new : Told)
     → store.down ≡ false
     → KeepsState {T = T} {E = E} store.memory.tables store.memory.frames old (Ok v) t later new
     → later (home_of n).unit (home_of n).page ≡ Some f
@@ -79,7 +79,7 @@ kept_frames_tell = kept_frames_tell_on tt
 -- ---- replies
 
 -- a get that isn't refused answers what the frame has for the session
-pub gets_answer : (limits : Limits) (slots : Slots) (state : State) (s n tid : ℕ) (f : Frame)
+pub gets_answer : (limits : Limits) (slots : SessionSlots) (state : State) (s n tid : ℕ) (f : PageFrame)
     → AreSessionsOf slots state → refuses_get limits (state_of slots) s n ≡ None
     → number_of slots s ≡ Some tid → TellsName slots state n f
     → (step limits state (command.Get s n)).1 ≡ found_reply (seen_in f n tid) ∷ []
@@ -88,7 +88,7 @@ gets_answer limits slots state s n tid f are none mine tells =
     ∙ ap (λ o. found_reply o ∷ []) (sym (tells.seen s tid mine))
 
 -- and so does a share
-pub shares_answer : (limits : Limits) (slots : Slots) (state : State) (s n tid : ℕ) (f : Frame)
+pub shares_answer : (limits : Limits) (slots : SessionSlots) (state : State) (s n tid : ℕ) (f : PageFrame)
     → AreSessionsOf slots state → refuses_share limits (state_of slots) s n ≡ None
     → number_of slots s ≡ Some tid → TellsName slots state n f
     → (step limits state (command.Share s n)).1 ≡ found_reply (seen_in f n tid) ∷ []

@@ -4,7 +4,7 @@ use Rattle.std.specs.List.{All, AllPairs, Contains}
 use Rattle.std.proofs.lemmas.List.Elements.{All-contains}
 use Rattle.std.proofs.lemmas.List.Kept.{AllPairs-cons}
 use Rattle.ipl_rules.specs.State.{State}
-use Rattle.record_locks.specs.Held.{Slots, is_among, number_of, numbers_in}
+use Rattle.record_locks.specs.Held.{SessionSlots, is_among, number_of, numbers_in}
 use Rattle.ipl_meaning.specs.Chart.{Chart}
 use Rattle.ipl_meaning.specs.Layout.{Layout}
 use Rattle.ipl_meaning.specs.Mirrors.{AreApart, Mirrors}
@@ -19,7 +19,7 @@ use Rattle.store_laws.proofs.TableLemmas.{others_mirror}
 
 -- ---- the numbers of slots
 
-pub listed_number : (slots : Slots) (n : ℕ) → Contains (numbers_in slots) n
+pub listed_number : (slots : SessionSlots) (n : ℕ) → Contains (numbers_in slots) n
     → (s : ℕ) × (number_of slots s ≡ Some n)
 listed_number [] n is = absurd (contains_nil n is)
 listed_number (None ∷ slots) n is = let (s, mine) = listed_number slots n is in (suc s, mine)
@@ -28,7 +28,7 @@ listed_number (Some h ∷ slots) n is = elim (contains_cons h.number (numbers_in
   | inr later ↦ let (s, mine) = listed_number slots n later in (suc s, mine)
 ]
 
-pub number_listed : (slots : Slots) (s n : ℕ) → number_of slots s ≡ Some n
+pub number_listed : (slots : SessionSlots) (s n : ℕ) → number_of slots s ≡ Some n
     → Contains (numbers_in slots) n
 number_listed [] s n mine = absurd (cc mine)
 number_listed (None ∷ slots) zero n mine = absurd (cc mine)
@@ -40,14 +40,14 @@ number_listed (Some h ∷ slots) (suc s) n mine =
     contains_there h.number (numbers_in slots) n (number_listed slots s n mine)
 
 -- the test of being among them passes exactly these
-pub listed_active : (slots : Slots) → AreActive (number_of slots) (λ n. is_among n (numbers_in slots))
+pub listed_active : (slots : SessionSlots) → AreActive (number_of slots) (λ n. is_among n (numbers_in slots))
 listed_active slots n = (
   λ is. listed_number slots n (listed_among (numbers_in slots) n is),
   λ (s, mine). among_listed (numbers_in slots) n (number_listed slots s n mine),
 )
 
 -- sessions with numbers of their own have each once
-pub listed_once : (slots : Slots)
+pub listed_once : (slots : SessionSlots)
     → ((s t tid : ℕ) → number_of slots s ≡ Some tid → number_of slots t ≡ Some tid → s ≡ t)
     → AllPairs AreApart (numbers_in slots)
 listed_once [] apart = λ i j d before within. absurd (omega (arith, within))
@@ -64,7 +64,7 @@ listed_once (Some h ∷ slots) apart =
 -- ---- in the tables
 
 -- with the numbers in another order
-pub members_fit : (places : ℕ) (c : Chart) (it : Layout) (t : Tables) (frames : Frames) (slots : Slots) (state : State)
+pub members_fit : (places : ℕ) (c : Chart) (it : Layout) (t : Tables) (frames : Frames) (slots : SessionSlots) (state : State)
     (active : List ℕ) → Fits places c it t frames slots state
     → AreActive (number_of slots) (λ n. is_among n active) → AllPairs AreApart active
     → Fits places c it (record t { active = active }) frames slots state

@@ -11,7 +11,7 @@ use Rattle.ipl_meaning.specs.Last.{NoneIsBehind, is_number, last_that}
 use Rattle.ipl_meaning.specs.Layout.{Entry, Layout, Shape, records_of}
 use Rattle.ipl_meaning.specs.Steps.{grown, with_log}
 use Rattle.ipl_meaning.specs.Values.{counts_for}
-use Rattle.store_laws.specs.Pending.{Logs, Numbers, with_records, records_at, change_in, IsPending, HasPending}
+use Rattle.store_laws.specs.Pending.{Logs, SessionNumbers, with_records, records_at, change_in, IsPending, HasPending}
 use Rattle.store_laws.specs.PendingLaws.{LogSectorsKeepPending}
 use Rattle.store_laws.proofs.LastLemmas.{counted, last_that-append, last_that-none, last_that-some}
 use Rattle.store_laws.proofs.BehindLemmas.{behind_append}
@@ -19,7 +19,7 @@ use Rattle.store_laws.proofs.ElementLemmas.{contains_nil}
 use Rattle.store_laws.proofs.MemoryLemmas.{cases_page, records_here, records_other, unit_here, unit_other}
 use Rattle.store_laws.proofs.InMemoryLemmas.{records_stay_pending}
 
-module _ (units : ℕ) (it : Layout) (logs : Logs) (numbers : Numbers) (state : State) (u page : ℕ) (e : Entry)
+module _ (units : ℕ) (it : Layout) (logs : Logs) (numbers : SessionNumbers) (state : State) (u page : ℕ) (e : Entry)
     (has : HasPending units it logs numbers state) (its : e.records ≡ logs u page) where
   abbrev new : Layout
   new = with_log it u e

@@ -12,8 +12,8 @@ use Rattle.ipl_base.specs.Sizes.{size_in_page}
 use Rattle.ipl_rules.specs.Marks.{Marks, marks}
 use Rattle.ipl_rules.specs.State.{Map, State, at_rest}
 use Rattle.ipl_rules.proofs.MarkLemmas.{by_number, inserted_most, shared_less}
-use Rattle.record_locks.specs.Held.{Slots, after_begin, after_share, is_among, marks_in, number_of}
-use Rattle.record_locks.specs.Names.{KeepsMarks}
+use Rattle.record_locks.specs.Held.{SessionSlots, after_begin, after_share, is_among, marks_in, number_of}
+use Rattle.record_locks.specs.Names.{KeepsNameMarks}
 use Rattle.record_locks.proofs.KeepLemmas.{keeps_marks, keeps_names}
 use Rattle.record_locks.proofs.SameLemmas.{marks_are}
 use Rattle.ipl_format.specs.Record.{IsRecord, Record}
@@ -22,9 +22,9 @@ use Rattle.ipl_meaning.specs.Layout.{Laid, Layout, records_of}
 use Rattle.ipl_meaning.specs.Tables.{Tables}
 use Rattle.ipl_meaning.proofs.CounterLemmas.{new_numbers_wait}
 use Rattle.page_ops.specs.Pending.{with_pending}
-use Rattle.store_laws.specs.Pending.{Logs, Numbers, with_records, with_number, name_at, IsPending, HasPending, HasOtherNumber, HasNoRecords}
+use Rattle.store_laws.specs.Pending.{Logs, SessionNumbers, with_records, with_number, name_at, IsPending, HasPending, HasOtherNumber, HasNoRecords}
 use Rattle.store_laws.specs.PendingLaws.{AreActive}
-use Rattle.store_laws.specs.Frames.{Frame, Frames, logs_of, with_frame_at, IsWrittenFrame}
+use Rattle.store_laws.specs.Frames.{PageFrame, Frames, logs_of, with_frame_at, IsWrittenFrame}
 use Rattle.store_laws.specs.Room.{PageHasRoomFor}
 use Rattle.store_laws.specs.Fits.{LocksHold, AreSessionsOf, is_active, with_active, Fits}
 use Rattle.store_laws.specs.StepLaws.{after_record, BeginsFit, SharesFit, WritesFit, LoadsFit, EvictionsFit, OpeningsFit}
@@ -43,8 +43,8 @@ use Rattle.ipl_rules.specs.Operations as rules
 -- ---- sessions
 
 -- what the calls keep of the sessions' marks
-pub keep_marks : (slots : Slots) (state : State) (s : ℕ) → s < length slots → AreSessionsOf slots state
-    → KeepsMarks slots state s
+pub keep_marks : (slots : SessionSlots) (state : State) (s : ℕ) → s < length slots → AreSessionsOf slots state
+    → KeepsNameMarks slots state s
 keep_marks slots state s within are = keeps_marks slots state s within are.locked.sized are.names are.marks
 
 begun_marks : (state : State) (s n : ℕ) → marks (rules.after_begin state s) n ≤ marks state n
@@ -83,7 +83,7 @@ begins_fit places c it t frames slots state s tid fits within closed later locke
     logs : Logs
     logs = logs_of frames
 
-    numbers : Numbers
+    numbers : SessionNumbers
     numbers = number_of slots
 
     begun : number_of (after_begin slots s tid) ≡ with_number numbers s (Some tid)
@@ -130,15 +130,15 @@ shares_fit places c it t frames slots state s n fits within locked =
 
 -- ---- a write
 
-module _ (places : ℕ) (c : Chart) (it : Layout) (t : Tables) (frames : Frames) (slots : Slots) (state : State)
+module _ (places : ℕ) (c : Chart) (it : Layout) (t : Tables) (frames : Frames) (slots : SessionSlots) (state : State)
     (s u : ℕ)
-    (r : Record) (f g : Frame) (fits : Fits places c it t frames slots state) (within : s < length slots)
+    (r : Record) (f g : PageFrame) (fits : Fits places c it t frames slots state) (within : s < length slots)
     (mine : number_of slots s ≡ Some r.tid) (low : u < it.count) (valid : IsRecord VERSION r)
     (there : frames u r.page ≡ Some f) (written : IsWrittenFrame r f g) where
   abbrev name : ℕ
   name = name_at u r.page r.slot
 
-  abbrev held : Slots
+  abbrev held : SessionSlots
   held = after_record slots s u r
 
   abbrev logs : Logs
@@ -149,7 +149,7 @@ module _ (places : ℕ) (c : Chart) (it : Layout) (t : Tables) (frames : Frames)
 
   same : (v q : ℕ) → logs v q ≡ logs_of after v q
   same v q =
-      let log_is = ap (λ (o : Option Frame). log_in o ++ r ∷ []) there ∙ sym written.log in
+      let log_is = ap (λ (o : Option PageFrame). log_in o ++ r ∷ []) there ∙ sym written.log in
       ap (λ (l : List Record). with_records (logs_of frames) u r.page l v q) log_is
       ∙ logs_with frames u r.page (Some g) v q
 

@@ -8,7 +8,7 @@ use Rattle.ipl_rules.specs.State.{State}
 use Rattle.ipl_format.specs.Record.{IsRecord, Record}
 use Rattle.ipl_meaning.specs.Layout.{Entry, Layout, Shape, records_of}
 use Rattle.ipl_meaning.specs.Steps.{with_unit}
-use Rattle.store_laws.specs.Pending.{Logs, Numbers, with_records, name_at, records_at, IsPending, HasPending}
+use Rattle.store_laws.specs.Pending.{Logs, SessionNumbers, with_records, name_at, records_at, IsPending, HasPending}
 
 -- ---- the records of one page
 
@@ -63,7 +63,7 @@ all_records P (e ∷ log) each =
     (all_records P log (λ k d low. each (suc k) d (omega (arith, low))))
 
 -- each record that a page is read through is in form
-pub valid_at : (units : ℕ) (it : Layout) (logs : Logs) (numbers : Numbers) (state : State)
+pub valid_at : (units : ℕ) (it : Layout) (logs : Logs) (numbers : SessionNumbers) (state : State)
     → HasPending units it logs numbers state → (u page : ℕ) (r : Record) → u < units
     → Contains (records_at it logs u page) r → IsRecord VERSION r
 valid_at units it logs numbers state has u page r low there =

@@ -10,7 +10,7 @@ use Rattle.ipl_meaning.specs.Last.{NoneIsBehind, carried, is_number, last_that}
 use Rattle.ipl_meaning.specs.Layout.{Layout, Shape, records_of}
 use Rattle.ipl_meaning.specs.Steps.{with_unit, AllWait}
 use Rattle.ipl_meaning.specs.Values.{counts_for}
-use Rattle.store_laws.specs.Pending.{Logs, Numbers, records_at, change_in, last_change, HasPending}
+use Rattle.store_laws.specs.Pending.{Logs, SessionNumbers, records_at, change_in, last_change, HasPending}
 use Rattle.store_laws.specs.PendingLaws.{StateHasOneWriter, AreActive, MergesKeepPending, SameLogsKeepPending}
 use Rattle.store_laws.proofs.ElementLemmas.{all_listed}
 use Rattle.store_laws.proofs.LastLemmas.{last_that-append}
@@ -22,7 +22,7 @@ use Rattle.store_laws.proofs.FollowLemmas.{of_one_at}
 
 -- ---- a merge
 
-module _ (units : ℕ) (it : Layout) (logs : Logs) (numbers : Numbers) (state : State) (active : ℕ → Bool) (u : ℕ)
+module _ (units : ℕ) (it : Layout) (logs : Logs) (numbers : SessionNumbers) (state : State) (active : ℕ → Bool) (u : ℕ)
     (fresh : Shape) (has : HasPending units it logs numbers state) (one : StateHasOneWriter state)
     (tells : AreActive numbers active)
     (its : records_of fresh.log ≡ carried active (records_of (it.units u).log)) where

@@ -14,8 +14,8 @@ use Rattle.ipl_meaning.specs.Tables.{Tables}
 use Rattle.ipl_meaning.specs.Last.{last_that}
 use Rattle.ipl_meaning.specs.Values.{counts_for}
 use Rattle.page_ops.specs.Pending.{seen_by, without_pending}
-use Rattle.store_laws.specs.Pending.{Numbers, is_other, name_at, wrote, records_at, IsPending, HasPending, HasOtherNumber}
-use Rattle.store_laws.specs.Frames.{Frame, Frames, logs_of, AreFramesOf, IsCommittedFrame, IsAbortedFrame, ChangesSo, EachFrameChanges}
+use Rattle.store_laws.specs.Pending.{SessionNumbers, is_other, name_at, wrote, records_at, IsPending, HasPending, HasOtherNumber}
+use Rattle.store_laws.specs.Frames.{PageFrame, Frames, logs_of, AreFramesOf, IsCommittedFrame, IsAbortedFrame, ChangesSo, EachFrameChanges}
 use Rattle.store_laws.specs.Fits.{is_active}
 use Rattle.store_laws.proofs.ElementLemmas.{all_listed, contains_filter}
 use Rattle.store_laws.proofs.EmptyLemmas.{all_kept}
@@ -28,14 +28,14 @@ use Rattle.store_laws.proofs.SameLemmas.{log_in}
 use Rattle.store_laws.specs.NamedFrames.{IsSameOr, NamedFramesChange, NamedAbortsSuffice}
 
 -- where a frame that stayed changed so too, each did
-each_changes : (R : Frame → Frame → Type 0) (names : List ℕ) (old new : Frames)
+each_changes : (R : PageFrame → PageFrame → Type 0) (names : List ℕ) (old new : Frames)
     → NamedFramesChange R names old new
-    → ((u page : ℕ) (a b : Frame) → old u page ≡ Some a → new u page ≡ Some b → b ≡ a → R a b)
+    → ((u page : ℕ) (a b : PageFrame) → old u page ≡ Some a → new u page ≡ Some b → b ≡ a → R a b)
     → EachFrameChanges R old new
 each_changes R names old new change same u page =
     by_frames (old u page) (new u page) refl refl (change.each u page)
   where
-    by_frames : (o p : Option Frame) → old u page ≡ o → new u page ≡ p
+    by_frames : (o p : Option PageFrame) → old u page ≡ o → new u page ≡ p
         → ChangesSo (IsSameOr R) o p → ChangesSo R o p
     by_frames None None here then is = tt
     by_frames None (Some b) here then is = absurd is
@@ -44,13 +44,13 @@ each_changes R names old new change same u page =
     by_frames (Some a) (Some b) here then (inr is) = is
 
 -- a session with its number, and the names among which all are that it wrote
-module _ (units : ℕ) (c : Chart) (it : Layout) (t : Tables) (frames : Frames) (numbers : Numbers)
+module _ (units : ℕ) (c : Chart) (it : Layout) (t : Tables) (frames : Frames) (numbers : SessionNumbers)
     (state : State) (s tid : ℕ) (names : List ℕ)
     (has : HasPending units it (logs_of frames) numbers state)
     (framed : AreFramesOf units c it (is_active t) frames) (mine : numbers s ≡ Some tid)
     (named : (n : ℕ) → wrote state s n ≡ true → Contains names n) where
-  module _ (R : Frame → Frame → Type 0) (later : Frames)
-      (change : NamedFramesChange R names frames later) (u page : ℕ) (a b : Frame)
+  module _ (R : PageFrame → PageFrame → Type 0) (later : Frames)
+      (change : NamedFramesChange R names frames later) (u page : ℕ) (a b : PageFrame)
       (here : frames u page ≡ Some a) (then : later u page ≡ Some b) where
     abbrev records : List Record
     records = records_at it (logs_of frames) u page
@@ -73,7 +73,7 @@ module _ (units : ℕ) (c : Chart) (it : Layout) (t : Tables) (frames : Frames) 
         let at_both : ChangesSo R (frames u page) (later u page) =
         subst (λ (v : ℕ). ChangesSo R (frames v page) (later v page)) unit at_page in
         subst (ChangesSo R (Some a)) then
-        (subst (λ (o : Option Frame). ChangesSo R o (later u page)) here at_both)
+        (subst (λ (o : Option PageFrame). ChangesSo R o (later u page)) here at_both)
 
     -- where a record of it is there, the page changed
     its_page : (r : Record) → Contains records r → r.page ≡ page → r.tid ≡ tid → R a b
@@ -125,7 +125,7 @@ module _ (units : ℕ) (c : Chart) (it : Layout) (t : Tables) (frames : Frames) 
           → b.pending slot ≡ without_pending tid (a.pending slot)
       pending_same slot less other =
           let was = (framed.each u page a here).changes slot less in
-          ap (λ (f : Frame). f.pending slot) same ∙ was
+          ap (λ (f : PageFrame). f.pending slot) same ∙ was
           ∙ sym (ap (without_pending tid) was ∙ drops_else tid (last_here slot) other)
 
       -- and its value
@@ -134,7 +134,7 @@ module _ (units : ℕ) (c : Chart) (it : Layout) (t : Tables) (frames : Frames) 
           → b.values slot ≡ seen_by tid (a.values slot) (a.pending slot)
       value_same slot less other =
           let was = (framed.each u page a here).changes slot less in
-          ap (λ (f : Frame). f.values slot) same
+          ap (λ (f : PageFrame). f.values slot) same
           ∙ sym (ap (seen_by tid (a.values slot)) was
           ∙ seen_else tid (a.values slot) (last_here slot) other)
 
@@ -143,7 +143,7 @@ module _ (units : ℕ) (c : Chart) (it : Layout) (t : Tables) (frames : Frames) 
       → EachFrameChanges (IsCommittedFrame tid) frames later
   all_settled later change = each_changes (IsCommittedFrame tid) names frames later change committed
     where
-      committed : (u page : ℕ) (a b : Frame) → frames u page ≡ Some a → later u page ≡ Some b
+      committed : (u page : ℕ) (a b : PageFrame) → frames u page ≡ Some a → later u page ≡ Some b
           → b ≡ a → IsCommittedFrame tid a b
       committed u page a b here then same =
           let R = IsCommittedFrame tid in record {
@@ -155,7 +155,7 @@ module _ (units : ℕ) (c : Chart) (it : Layout) (t : Tables) (frames : Frames) 
               | inl did ↦ did.pending slot less
               | inr other ↦ pending_same R later change u page a b here then same slot less other
             ];
-            log = ap (λ (f : Frame). f.log) same;
+            log = ap (λ (f : PageFrame). f.log) same;
           }
 
   -- an abort
@@ -163,18 +163,18 @@ module _ (units : ℕ) (c : Chart) (it : Layout) (t : Tables) (frames : Frames) 
       → EachFrameChanges (IsAbortedFrame tid) frames later
   all_dropped later change = each_changes (IsAbortedFrame tid) names frames later change aborted
     where
-      aborted : (u page : ℕ) (a b : Frame) → frames u page ≡ Some a → later u page ≡ Some b
+      aborted : (u page : ℕ) (a b : PageFrame) → frames u page ≡ Some a → later u page ≡ Some b
           → b ≡ a → IsAbortedFrame tid a b
       aborted u page a b here then same =
           let R = IsAbortedFrame tid in record {
-            values = λ slot less. ap (λ (f : Frame). f.values slot) same;
+            values = λ slot less. ap (λ (f : PageFrame). f.values slot) same;
             pending = λ slot less. elim (whose_slot R later change u page a b here then slot) [
               | inl did ↦ did.pending slot less
               | inr other ↦ pending_same R later change u page a b here then same slot less other
             ];
-            log = ap (λ (f : Frame). f.log) same
+            log = ap (λ (f : PageFrame). f.log) same
                 ∙ all_kept tid a.log (others_log R later change u page a b here then
-                (λ did. sym (ap (λ (f : Frame). f.log) same) ∙ did.log));
+                (λ did. sym (ap (λ (f : PageFrame). f.log) same) ∙ did.log));
           }
 
 -- ---- in a store's memory

@@ -13,7 +13,7 @@ use Rattle.ipl_rules.specs.State.{Map}
 use Rattle.ipl_meaning.specs.Chart.{Chart}
 use Rattle.ipl_meaning.specs.Layout.{Layout}
 use Rattle.ipl_meaning.specs.Rests.{EachStandsEither, StoryRests}
-use Rattle.ipl_meaning.specs.Tables.{Tables, Status, IsCountedClean}
+use Rattle.ipl_meaning.specs.Tables.{Tables, StatusTable, IsCountedClean}
 use Rattle.ipl_meaning.specs.Mirrors.{AreApart, Mirrors}
 use Rattle.ipl_meaning.proofs.AgreeLemmas.{barriers_agree}
 use Rattle.ipl_meaning.proofs.StoryLemmas.{held_stands, barriers_rest, barriers_keep_either, one_is_either}
@@ -50,7 +50,7 @@ may_add places c it t tids mirrors mine = record {
 
 -- ---- what the chip holds
 
-pub numbers_add : (places next_places : ℕ) (status : Status) (next : ℕ) (tids : List ℕ)
+pub numbers_add : (places next_places : ℕ) (status : StatusTable) (next : ℕ) (tids : List ℕ)
     (result : Result (Unit {0}) ChipFault) (old mid new : Told) → next_places ≡ places
     → Appends Barrier old mid
     → OnOk result (Charts (Adds next_places status next tids) mid new)
@@ -110,7 +110,7 @@ module _ (places : ℕ) (m n : Map) (h : History) (it : Layout) (t : Tables) (ol
 
 -- ---- what a power cut leaves
 
-pub numbers_in_steps : (places next_places : ℕ) (status : Status) (next : ℕ) (tids : List ℕ)
+pub numbers_in_steps : (places next_places : ℕ) (status : StatusTable) (next : ℕ) (tids : List ℕ)
     (result : Result (Unit {0}) ChipFault) (old mid new : Told) → next_places ≡ places
     → Counts old mid → Waited (Ok tt) old mid
     → AddsInSteps next_places status next tids result mid new
@@ -143,7 +143,7 @@ numbers_in_steps places next_places status next tids result old mid new same cou
     (λ v j is. is.rests) (λ j is. is) second)
 
 -- where the barrier failed
-pub no_numbers_in_steps : (places : ℕ) (status : Status) (next : ℕ) (tids : List ℕ)
+pub no_numbers_in_steps : (places : ℕ) (status : StatusTable) (next : ℕ) (tids : List ℕ)
     (e : ChipFault) (old new : Told) → Waited (Err e) old new → IsStopped e old new
     → AddsNumbersInSteps places status next tids (Err e) old new
 no_numbers_in_steps places status next tids e old new did stopped h it t m n steady has mine

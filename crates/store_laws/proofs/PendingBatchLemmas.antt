@@ -5,13 +5,13 @@ use Rattle.std.proofs.lemmas.Bool.{false_from_ne_true}
 use Rattle.ipl_rules.proofs.BatchLemmas.{Distinct, batches_keep}
 use Rattle.ipl_rules.specs.Operations.{after_commit, after_batch}
 use Rattle.ipl_rules.specs.State.{State}
-use Rattle.record_locks.specs.Held.{Slots, number_of, written_of, writer_number, writer_numbers}
+use Rattle.record_locks.specs.Held.{SessionSlots, number_of, written_of, writer_number, writer_numbers}
 use Rattle.ipl_meaning.specs.Chart.{Chart}
 use Rattle.ipl_meaning.specs.Last.{is_number}
 use Rattle.ipl_meaning.specs.Layout.{Layout}
 use Rattle.ipl_meaning.specs.Stands.{Shows, page_in}
 use Rattle.ipl_meaning.specs.Steps.{with_committed}
-use Rattle.store_laws.specs.Pending.{Logs, Numbers, with_number, wrote, HasPending, IsWrittenOut}
+use Rattle.store_laws.specs.Pending.{Logs, SessionNumbers, with_number, wrote, HasPending, IsWrittenOut}
 use Rattle.store_laws.specs.PendingLaws.{StateHasOneWriter, NumberJoins, NumbersJoin, JoinsIfWritten, JoinInTurn, without_sessions, BatchesKeepPending, BatchesSayWrites}
 use Rattle.store_laws.specs.Room.{PagesHaveRoom}
 use Rattle.store_laws.specs.Frames.{Frames, logs_of, CommitInTurn}
@@ -53,12 +53,12 @@ one_joins state s tid (n ∷ names) tids committed after none join =
 -- ---- the sessions that are left
 
 -- these sessions have their numbers still, and what they wrote is among the names that they hold
-pub record AreLeft (slots : Slots) (numbers : Numbers) (state : State) (ss : List ℕ) : Type 0 where
+pub record AreLeft (slots : SessionSlots) (numbers : SessionNumbers) (state : State) (ss : List ℕ) : Type 0 where
   pub number : (s : ℕ) → Contains ss s → numbers s ≡ number_of slots s
   pub listed : (s n : ℕ) → Contains ss s → wrote state s n ≡ true → Contains (written_of slots s) n
 
 -- so the others are, once the first is committed
-pub left_then : (slots : Slots) (numbers : Numbers) (state : State) (s : ℕ) (ss : List ℕ) → Distinct (s ∷ ss)
+pub left_then : (slots : SessionSlots) (numbers : SessionNumbers) (state : State) (s : ℕ) (ss : List ℕ) → Distinct (s ∷ ss)
     → AreLeft slots numbers state (s ∷ ss) → AreLeft slots (with_number numbers s None) (after_commit state s) ss
 left_then slots numbers state s ss distinct left = record {
   number = λ t there.
@@ -68,14 +68,14 @@ left_then slots numbers state s ss distinct left = record {
 }
 
 -- a session that holds no written name wrote nothing
-left_nothing : (slots : Slots) (numbers : Numbers) (state : State) (ss : List ℕ) (s : ℕ) → Contains ss s
+left_nothing : (slots : SessionSlots) (numbers : SessionNumbers) (state : State) (ss : List ℕ) (s : ℕ) → Contains ss s
     → AreLeft slots numbers state ss → written_of slots s ≡ [] → (n : ℕ) → wrote state s n ≡ false
 left_nothing slots numbers state ss s there left none n =
     false_from_ne_true (wrote state s n) (λ is.
     contains_nil n (subst (λ (l : List ℕ). Contains l n) none (left.listed s n there is)))
 
 -- the numbers of those that wrote something join together, and so one after the other
-pub join_in_turn : (slots : Slots) (numbers : Numbers) (logs : Logs) (state : State) (ss : List ℕ)
+pub join_in_turn : (slots : SessionSlots) (numbers : SessionNumbers) (logs : Logs) (state : State) (ss : List ℕ)
     (committed after : ℕ → Bool) → Distinct ss → AreLeft slots numbers state ss
     → ((s : ℕ) → Contains ss s → (tid : ℕ) × (number_of slots s ≡ Some tid) × IsWrittenOut logs tid)
     → NumbersJoin committed (writer_numbers slots ss) after → JoinInTurn numbers logs state ss committed after
@@ -109,7 +109,7 @@ batches_keep_pending units it logs numbers state (s ∷ ss) after has one join =
     rest
 
 -- a page that shows the map shows the map after them
-pub batch_shows : (units : ℕ) (c : Chart) (it : Layout) (logs : Logs) (numbers : Numbers) (state : State)
+pub batch_shows : (units : ℕ) (c : Chart) (it : Layout) (logs : Logs) (numbers : SessionNumbers) (state : State)
     (ss : List ℕ) (after : ℕ → Bool) → HasPending units it logs numbers state → PagesHaveRoom units c it state
     → StateHasOneWriter state
     → JoinInTurn numbers logs state ss it.committed after → (u page : ℕ) → u < units → page < 15
@@ -135,7 +135,7 @@ batches_say_writes places c it logs numbers state ss after has filled one join s
 
 -- ---- and of all that waits
 
-pub batch_waits : (places : ℕ) (c : Chart) (it : Layout) (frames later : Frames) (numbers : Numbers) (state : State)
+pub batch_waits : (places : ℕ) (c : Chart) (it : Layout) (frames later : Frames) (numbers : SessionNumbers) (state : State)
     (ss : List ℕ) (after : ℕ → Bool) → Waits places c it frames numbers state
     → JoinInTurn numbers (logs_of frames) state ss it.committed after → CommitInTurn numbers ss frames later
     → Waits places c (with_committed it after) later (without_sessions numbers ss) (after_batch state ss)

@@ -9,7 +9,7 @@ use Rattle.ipl_format.specs.Record.{Record}
 use Rattle.ipl_meaning.specs.Last.{NoneIsBehind, is_number, last_that}
 use Rattle.ipl_meaning.specs.Layout.{Layout, records_of}
 use Rattle.ipl_meaning.specs.Values.{counts_for}
-use Rattle.store_laws.specs.Pending.{Logs, Numbers, is_other, without_number, with_number, name_at, records_at, change_in, last_change, HasPending}
+use Rattle.store_laws.specs.Pending.{Logs, SessionNumbers, is_other, without_number, with_number, name_at, records_at, change_in, last_change, HasPending}
 use Rattle.store_laws.specs.PendingLaws.{NumberJoins, CommitsKeepPending, AbortsKeepPending}
 use Rattle.store_laws.proofs.ElementLemmas.{contains_filter}
 use Rattle.store_laws.proofs.LastLemmas.{counted, last_that-append, last_that-filter}
@@ -21,7 +21,7 @@ use Rattle.store_laws.proofs.FollowLemmas.{one_number}
 
 -- ---- a session is closed
 
-module _ (units : ℕ) (it : Layout) (logs : Logs) (numbers : Numbers) (state : State) (s tid : ℕ)
+module _ (units : ℕ) (it : Layout) (logs : Logs) (numbers : SessionNumbers) (state : State) (s tid : ℕ)
     (has : HasPending units it logs numbers state) (mine : numbers s ≡ Some tid) where
   opens_others : (t : ℕ) → is_some (with_number numbers s None t) ≡ is_open (after_abort state s) t
   opens_others t = elim (cases_eq t s) [

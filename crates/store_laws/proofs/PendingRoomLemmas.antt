@@ -13,7 +13,7 @@ use Rattle.ipl_meaning.specs.Layout.{Layout, records_of}
 use Rattle.ipl_meaning.specs.Last.{last_that}
 use Rattle.ipl_meaning.specs.Values.{counts_for}
 use Rattle.page_ops.specs.Pending.{Pending, mark_of}
-use Rattle.store_laws.specs.Pending.{Logs, Numbers, name_at, records_at, HasPending}
+use Rattle.store_laws.specs.Pending.{Logs, SessionNumbers, name_at, records_at, HasPending}
 use Rattle.store_laws.specs.PendingLaws.{AreActive}
 use Rattle.store_laws.specs.Frames.{logs_of, pending_of}
 use Rattle.store_laws.specs.Fits.{is_active}
@@ -23,7 +23,7 @@ use Rattle.store_laws.proofs.RoomLemmas.{fewer_marks, one_less, shown_fill}
 use Rattle.store_laws.proofs.WeightLemmas.{marked}
 
 -- the last change of an open session, of records of a page or the first of these, takes no more than its name's mark
-module _ (units : ℕ) (it : Layout) (logs : Logs) (numbers : Numbers) (state : State) (active : ℕ → Bool)
+module _ (units : ℕ) (it : Layout) (logs : Logs) (numbers : SessionNumbers) (state : State) (active : ℕ → Bool)
     (has : HasPending units it logs numbers state) (tells : AreActive numbers active) (u page slot : ℕ) (low : u < units)
   where
     written_mark : (r : Record) → Contains (records_at it logs u page) r → counts_for active page slot r ≡ true

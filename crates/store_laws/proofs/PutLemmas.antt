@@ -13,11 +13,11 @@ use Rattle.ipl_rules.specs.State.{State}
 use Rattle.ipl_model.specs.declared.command.Command.TheVariants as command
 use Rattle.ipl_model.specs.declared.reply.Reply.TheVariants as reply
 use Rattle.ipl_model.specs.Step.{accepted, step}
-use Rattle.record_locks.specs.Held.{Slots, marks_in}
+use Rattle.record_locks.specs.Held.{SessionSlots, marks_in}
 use Rattle.ipl_meaning.specs.Chart.{chart_of}
 use Rattle.ipl_meaning.specs.Tables.{Tables}
 use Rattle.unit_io.specs.Reads.{OfContents}
-use Rattle.store_laws.specs.Frames.{Frame, Frames}
+use Rattle.store_laws.specs.Frames.{PageFrame, Frames}
 use Rattle.store_laws.specs.Room.{overfills_at}
 use Rattle.store_laws.specs.Advances.{memory_of, KeepsState, LeadsTo}
 use Rattle.store_laws.specs.Keeps.{View, limits_of, ShowsState, KeepsStore}
@@ -33,7 +33,7 @@ use Rattle.store_laws.proofs.ViewLemmas.{frames_tell_full}
 -- a put answers by what the frame of its page has, where that was brought in, whatever the call
 -- answered
 pub puts_answer_on : {T E : Type 0} (v : T) (s n : ℕ) (bytes : List ℕ) (store : View) (t : Tables)
-    (later : Frames) (f : Frame) (old new : Told)
+    (later : Frames) (f : PageFrame) (old new : Told)
     → KeepsState {T = T} {E = E} store.memory.tables store.memory.frames old (Ok v) t later new
     → later (home_of n).unit (home_of n).page ≡ Some f
     → sessions_refuse_put (limits_of store.units) store.memory.slots s n bytes ≡ None
@@ -62,7 +62,7 @@ puts_answer = puts_answer_on tt
 -- ---- the work of a put
 
 -- a store that keeps a state answers so
-kept_answer : (s n : ℕ) (bytes : List ℕ) (store : View) (t : Tables) (later : Frames) (f : Frame) (old mid : Told)
+kept_answer : (s n : ℕ) (bytes : List ℕ) (store : View) (t : Tables) (later : Frames) (f : PageFrame) (old mid : Told)
     (h : History) (state : State) (full : Bool) → store.down ≡ false
     → KeepsState {T = Unit {0}} {E = ChipFault} store.memory.tables store.memory.frames old (Ok tt) t later mid
     → later (home_of n).unit (home_of n).page ≡ Some f
@@ -86,7 +86,7 @@ full_puts_are_work s n bytes before after f old new units up slots keeper there 
     state true up keeper there passes full keeps) drawn tt
   where
     kept : LeadsTo {T = Unit {0}} {E = ChipFault} (λ state. state) before.memory old (Ok tt) after.memory new
-    kept = subst (λ (k : Slots). LeadsTo {T = Unit {0}} {E = ChipFault} (λ state. state) before.memory old (Ok tt)
+    kept = subst (λ (k : SessionSlots). LeadsTo {T = Unit {0}} {E = ChipFault} (λ state. state) before.memory old (Ok tt)
         (memory_of after.memory.tables after.memory.frames k) new) (sym slots)
         (keepers_lead before.memory after.memory.tables after.memory.frames (Ok tt) old new keeper)
 

@@ -17,7 +17,7 @@ use Rattle.ipl_model.specs.declared.command.Command.TheVariants as command
 use Rattle.ipl_model.specs.declared.reply.Reply.TheVariants as reply
 use Rattle.ipl_model.specs.declared.command.Command.{Command}
 use Rattle.ipl_model.specs.Step.{Stepped, accepted, step}
-use Rattle.record_locks.specs.Held.{Held, Slots, held_at, marks_in}
+use Rattle.record_locks.specs.Held.{Held, SessionSlots, held_at, marks_in}
 use Rattle.record_locks.specs.Locks as locks
 use Rattle.record_locks.specs.Names.{TestsAlike}
 use Rattle.record_locks.specs.Standing.{state_of}
@@ -139,14 +139,14 @@ refusals_lead units c r before old is =
 -- ---- what isn't refused
 
 -- the tests of the locks
-abbrev open_tests : Slots → ℕ → List Test → List Test
+abbrev open_tests : SessionSlots → ℕ → List Test → List Test
 open_tests slots s rest = not_open (state_of slots) s ∷ rest
 
-abbrev share_tests : Slots → ℕ → ℕ → List Test
+abbrev share_tests : SessionSlots → ℕ → ℕ → List Test
 share_tests slots s n = conflict (holder_for_share (state_of slots) s n)
     ∷ shares_full (state_of slots) s n ∷ []
 
-abbrev write_tests : Slots → ℕ → ℕ → ℕ → List Test
+abbrev write_tests : SessionSlots → ℕ → ℕ → ℕ → List Test
 write_tests slots s n size = conflict (holder_for_write (state_of slots) s n)
     ∷ writes_full (state_of slots) s n ∷ locks.pending_full slots n size ∷ []
 
@@ -161,7 +161,7 @@ unnumbered None is = refl
 unnumbered (Some h) is = absurd (cc is)
 
 -- one of the 32 that is open
-open_session : (slots : Slots) (s : ℕ) → s < 32 → is_open (state_of slots) s ≡ true
+open_session : (slots : SessionSlots) (s : ℕ) → s < 32 → is_open (state_of slots) s ≡ true
     → IsOpenSession slots s
 open_session slots s low opens =
     let (tid, is) = numbered (held_at slots s) (sym (open_at slots s) ∙ opens) in record {
@@ -172,7 +172,7 @@ open_session slots s low opens =
     }
 
 -- or that passed the test of being open
-is_open_session : (slots : Slots) (s : ℕ) (rest : List Test) → nat_le 32 s ≡ false
+is_open_session : (slots : SessionSlots) (s : ℕ) (rest : List Test) → nat_le 32 s ≡ false
     → first_of (open_tests slots s rest) ≡ None → IsOpenSession slots s
 is_open_session slots s rest low none =
     let passes = passed (not_open (state_of slots) s) rest none in
@@ -208,7 +208,7 @@ once_in_one s t = by_test (s == t)
     by_test false = refl
 
 -- an open session alone
-pub one_is_open : (slots : Slots) (s : ℕ) → IsOpenSession slots s → AreOpenSessions slots (s ∷ [])
+pub one_is_open : (slots : SessionSlots) (s : ℕ) → IsOpenSession slots s → AreOpenSessions slots (s ∷ [])
 one_is_open slots s opened = record {
   opens = λ t there. elim (contains_cons s [] t there) [
     | inl same ↦ subst (λ (k : ℕ). IsOpenSession slots k) same opened
@@ -218,7 +218,7 @@ one_is_open slots s opened = record {
 }
 
 -- a session and a name that passed the first tests
-passed_name : (units : ℕ) (slots : Slots) (s n : ℕ) (rest : List Test)
+passed_name : (units : ℕ) (slots : SessionSlots) (s n : ℕ) (rest : List Test)
     → first_of (bad_session (limits_of units) s ∷ bad_name (limits_of units) n
     ∷ open_tests slots s rest) ≡ None
     → ReachesName units slots s n × (first_of (open_tests slots s rest) ≡ None)
@@ -238,7 +238,7 @@ pub passed_shares : PassedShares
 passed_shares units slots s n none = passed_name units slots s n (share_tests slots s n) none
 
 -- a write of this size
-passed_writes : (units : ℕ) (slots : Slots) (s n size : ℕ)
+passed_writes : (units : ℕ) (slots : SessionSlots) (s n size : ℕ)
     → first_of (bad_session (limits_of units) s ∷ bad_name (limits_of units) n
     ∷ open_tests slots s (write_tests slots s n size)) ≡ None
     → MayWriteName units slots s n size

@@ -6,12 +6,12 @@ use Rattle.ipl_rules.specs.State.{State}
 use Rattle.ipl_meaning.specs.Last.{carried}
 use Rattle.ipl_meaning.specs.Layout.{Layout, Shape, records_of}
 use Rattle.ipl_meaning.specs.Steps.{with_unit}
-use Rattle.store_laws.specs.Pending.{Logs, Numbers, HasPending}
+use Rattle.store_laws.specs.Pending.{Logs, SessionNumbers, HasPending}
 use Rattle.store_laws.specs.PendingLaws.{StateHasOneWriter, AreActive, IsSameOrMerged, RenewalsKeepPending}
 use Rattle.store_laws.proofs.MemoryLemmas.{unit_here, unit_other}
 use Rattle.store_laws.proofs.MergeLemmas.{merges_keep_pending, same_logs_keep_pending}
 
-module _ (units : ℕ) (it new : Layout) (logs : Logs) (numbers : Numbers) (state : State) (active : ℕ → Bool)
+module _ (units : ℕ) (it new : Layout) (logs : Logs) (numbers : SessionNumbers) (state : State) (active : ℕ → Bool)
     (has : HasPending units it logs numbers state) (one : StateHasOneWriter state)
     (tells : AreActive numbers active)
     (alike : (u : ℕ) → u < units → IsSameOrMerged active (it.units u) (new.units u)) where

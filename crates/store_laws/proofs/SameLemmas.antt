@@ -12,29 +12,29 @@ use Rattle.ipl_meaning.specs.Layout.{Layout, records_of}
 use Rattle.ipl_meaning.specs.Tables.{Tables}
 use Rattle.ipl_meaning.specs.Values.{Values, counts_for}
 use Rattle.page_ops.specs.Pending.{Pending, Pendings}
-use Rattle.store_laws.specs.Pending.{Logs, Numbers, with_records, HasPending}
+use Rattle.store_laws.specs.Pending.{Logs, SessionNumbers, with_records, HasPending}
 use Rattle.store_laws.specs.PendingLaws.{AreActive}
-use Rattle.store_laws.specs.Frames.{pending_of, Frame, Frames, logs_of, with_frame_at, IsFrameOf, AreFramesOf, ChangesSo, EachFrameChanges}
+use Rattle.store_laws.specs.Frames.{pending_of, PageFrame, Frames, logs_of, with_frame_at, IsFrameOf, AreFramesOf, ChangesSo, EachFrameChanges}
 use Rattle.store_laws.specs.Fits.{is_active}
 use Rattle.store_laws.proofs.MemoryLemmas.{records_here, records_other, cases_page}
 use Rattle.store_laws.proofs.ActiveLemmas.{active_same}
 
 -- ---- records and numbers
 
-pub pending_with_logs : (units : ℕ) (it : Layout) (logs later : Logs) (numbers : Numbers) (state : State)
+pub pending_with_logs : (units : ℕ) (it : Layout) (logs later : Logs) (numbers : SessionNumbers) (state : State)
     → ((u page : ℕ) → logs u page ≡ later u page) → HasPending units it logs numbers state
     → HasPending units it later numbers state
 pending_with_logs units it logs later numbers state same has =
     subst (λ (l : Logs). HasPending units it l numbers state) (λ i u page. same u page i) has
 
-pub pending_with_numbers : (units : ℕ) (it : Layout) (logs : Logs) (numbers later : Numbers) (state : State)
+pub pending_with_numbers : (units : ℕ) (it : Layout) (logs : Logs) (numbers later : SessionNumbers) (state : State)
     → later ≡ numbers → HasPending units it logs numbers state → HasPending units it logs later state
 pending_with_numbers units it logs numbers later state same has =
-    subst (λ (l : Numbers). HasPending units it logs l state) (sym same) has
+    subst (λ (l : SessionNumbers). HasPending units it logs l state) (sym same) has
 
-pub active_with_numbers : (numbers later : Numbers) (active : ℕ → Bool) → later ≡ numbers → AreActive numbers active
+pub active_with_numbers : (numbers later : SessionNumbers) (active : ℕ → Bool) → later ≡ numbers → AreActive numbers active
     → AreActive later active
-active_with_numbers numbers later active same tells = subst (λ (l : Numbers). AreActive l active) (sym same) tells
+active_with_numbers numbers later active same tells = subst (λ (l : SessionNumbers). AreActive l active) (sym same) tells
 
 -- ---- one frame
 
@@ -57,35 +57,35 @@ frame_as c it logs later active u page values after pending next same to_values 
 }
 
 -- the frame is of the page, which is one of the chip's
-abbrev pub IsPlaced : ℕ → Chart → Layout → Logs → (ℕ → Bool) → ℕ → ℕ → Frame → Type 0
+abbrev pub IsPlaced : ℕ → Chart → Layout → Logs → (ℕ → Bool) → ℕ → ℕ → PageFrame → Type 0
 IsPlaced units c it logs active u page f =
     (u < units) × (page < 15) × IsFrameOf c it logs active u page f.values f.pending
 
 pub placed : (units : ℕ) (c : Chart) (it : Layout) (active : ℕ → Bool) (frames : Frames)
-    → AreFramesOf units c it active frames → (u page : ℕ) (f : Frame) → frames u page ≡ Some f
+    → AreFramesOf units c it active frames → (u page : ℕ) (f : PageFrame) → frames u page ≡ Some f
     → IsPlaced units c it (logs_of frames) active u page f
 placed units c it active frames framed u page f is =
     let (low, few) = framed.within u page f is in (low, few, framed.each u page f is)
 
 -- ---- the frames after a change of one
 
-pub frame_here : (frames : Frames) (u page : ℕ) (o : Option Frame) (v q : ℕ) → v ≡ u → q ≡ page
+pub frame_here : (frames : Frames) (u page : ℕ) (o : Option PageFrame) (v q : ℕ) → v ≡ u → q ≡ page
     → with_frame_at frames u page o v q ≡ o
 frame_here frames u page o v q same also =
     cond-true _ o (frames v q) (and_from _ _ (eq-eqb v u same) (eq-eqb q page also))
 
-pub frame_other : (frames : Frames) (u page : ℕ) (o : Option Frame) (v q : ℕ) → (v ≡ u → q ≡ page → ⊥)
+pub frame_other : (frames : Frames) (u page : ℕ) (o : Option PageFrame) (v q : ℕ) → (v ≡ u → q ≡ page → ⊥)
     → with_frame_at frames u page o v q ≡ frames v q
 frame_other frames u page o v q apart = elim (cases_eq v u) [
   | inl same ↦ cond-false _ o (frames v q) (and_right (eqb v u) (eqb q page) (ne_eqb q page (apart same)))
   | inr other ↦ cond-false _ o (frames v q) (and_left (eqb v u) (eqb q page) (ne_eqb v u other))
 ]
 
-abbrev pub log_in : Option Frame → List Record
+abbrev pub log_in : Option PageFrame → List Record
 log_in o = option_map_or (λ f. f.log) o []
 
 -- the records in memory are those of the frames still
-pub logs_with : (frames : Frames) (u page : ℕ) (o : Option Frame) (v q : ℕ)
+pub logs_with : (frames : Frames) (u page : ℕ) (o : Option PageFrame) (v q : ℕ)
     → with_records (logs_of frames) u page (log_in o) v q ≡ logs_of (with_frame_at frames u page o) v q
 logs_with frames u page o v q = elim (cases_page u page v q) [
   | inl (same, also) ↦
@@ -96,7 +96,7 @@ logs_with frames u page o v q = elim (cases_page u page v q) [
       ∙ sym (ap log_in (frame_other frames u page o v q apart))
 ]
 
-pub logs_unchanged : (frames : Frames) (u page : ℕ) (o : Option Frame) → log_in o ≡ log_in (frames u page)
+pub logs_unchanged : (frames : Frames) (u page : ℕ) (o : Option PageFrame) → log_in o ≡ log_in (frames u page)
     → (v q : ℕ) → logs_of frames v q ≡ logs_of (with_frame_at frames u page o) v q
 logs_unchanged frames u page o same v q = elim (cases_page u page v q) [
   | inl (here, also) ↦
@@ -107,9 +107,9 @@ logs_unchanged frames u page o same v q = elim (cases_page u page v q) [
 
 -- each is of its page, where this one is, and the others are
 pub frames_with : (units : ℕ) (c : Chart) (it : Layout) (active : ℕ → Bool) (frames : Frames) (u page : ℕ)
-    (o : Option Frame)
-    → ((f : Frame) → o ≡ Some f → IsPlaced units c it (logs_of (with_frame_at frames u page o)) active u page f)
-    → ((v q : ℕ) (f : Frame) → (v ≡ u → q ≡ page → ⊥) → frames v q ≡ Some f
+    (o : Option PageFrame)
+    → ((f : PageFrame) → o ≡ Some f → IsPlaced units c it (logs_of (with_frame_at frames u page o)) active u page f)
+    → ((v q : ℕ) (f : PageFrame) → (v ≡ u → q ≡ page → ⊥) → frames v q ≡ Some f
     → IsPlaced units c it (logs_of (with_frame_at frames u page o)) active v q f)
     → AreFramesOf units c it active (with_frame_at frames u page o)
 frames_with units c it active frames u page o here others = record {
@@ -117,14 +117,14 @@ frames_with units c it active frames u page o here others = record {
   each = λ v q f is. let all = each v q f is in all.2;
 }
   where
-    at_page : (v q : ℕ) (f : Frame) → u ≡ v → page ≡ q → o ≡ Some f
+    at_page : (v q : ℕ) (f : PageFrame) → u ≡ v → page ≡ q → o ≡ Some f
         → IsPlaced units c it (logs_of (with_frame_at frames u page o)) active v q f
     at_page v q f same also is =
         let later = logs_of (with_frame_at frames u page o) in
         subst (λ (a : ℕ). IsPlaced units c it later active a q f) same
         (subst (λ (b : ℕ). IsPlaced units c it later active u b f) also (here f is))
 
-    each : (v q : ℕ) (f : Frame) → with_frame_at frames u page o v q ≡ Some f
+    each : (v q : ℕ) (f : PageFrame) → with_frame_at frames u page o v q ≡ Some f
         → IsPlaced units c it (logs_of (with_frame_at frames u page o)) active v q f
     each v q f is = elim (cases_page u page v q) [
       | inl (same, also) ↦ at_page v q f (sym same) (sym also) (sym (frame_here frames u page o v q same also) ∙ is)
@@ -132,9 +132,9 @@ frames_with units c it active frames u page o here others = record {
     ]
 
 -- the page has a frame then
-pub frames_put : (units : ℕ) (c : Chart) (it : Layout) (active : ℕ → Bool) (frames : Frames) (u page : ℕ) (g : Frame)
+pub frames_put : (units : ℕ) (c : Chart) (it : Layout) (active : ℕ → Bool) (frames : Frames) (u page : ℕ) (g : PageFrame)
     → IsPlaced units c it (logs_of (with_frame_at frames u page (Some g))) active u page g
-    → ((v q : ℕ) (f : Frame) → (v ≡ u → q ≡ page → ⊥) → frames v q ≡ Some f
+    → ((v q : ℕ) (f : PageFrame) → (v ≡ u → q ≡ page → ⊥) → frames v q ≡ Some f
     → IsPlaced units c it (logs_of (with_frame_at frames u page (Some g))) active v q f)
     → AreFramesOf units c it active (with_frame_at frames u page (Some g))
 frames_put units c it active frames u page g here others =
@@ -144,8 +144,8 @@ frames_put units c it active frames u page g here others =
 
 -- the others, where nothing but this page changed
 pub other_frames : (units : ℕ) (c : Chart) (it : Layout) (active : ℕ → Bool) (frames : Frames) (u page : ℕ)
-    (o : Option Frame) → AreFramesOf units c it active frames
-    → (v q : ℕ) (f : Frame) → (v ≡ u → q ≡ page → ⊥) → frames v q ≡ Some f
+    (o : Option PageFrame) → AreFramesOf units c it active frames
+    → (v q : ℕ) (f : PageFrame) → (v ≡ u → q ≡ page → ⊥) → frames v q ≡ Some f
     → IsPlaced units c it (logs_of (with_frame_at frames u page o)) active v q f
 other_frames units c it active frames u page o framed v q f apart is =
     let (low, few, was) = placed units c it active frames framed v q f is in
@@ -165,21 +165,21 @@ frames_still units c it t after frames same framed =
     subst (λ (a : ℕ → Bool). AreFramesOf units c it a frames) (sym (active_same t after same)) framed
 
 -- a frame has one from before
-both_some : (R : Frame → Frame → Type 0) (o : Option Frame) (b : Frame) → ChangesSo R o (Some b)
-    → (a : Frame) × (o ≡ Some a) × R a b
+both_some : (R : PageFrame → PageFrame → Type 0) (o : Option PageFrame) (b : PageFrame) → ChangesSo R o (Some b)
+    → (a : PageFrame) × (o ≡ Some a) × R a b
 both_some R None b is = absurd is
 both_some R (Some a) b is = (a, refl, is)
 
-pub both_logs : (R : Frame → Frame → Type 0) (f : List Record → List Record) → f [] ≡ []
-    → ((a b : Frame) → R a b → b.log ≡ f a.log) → (o p : Option Frame) → ChangesSo R o p → f (log_in o) ≡ log_in p
+pub both_logs : (R : PageFrame → PageFrame → Type 0) (f : List Record → List Record) → f [] ≡ []
+    → ((a b : PageFrame) → R a b → b.log ≡ f a.log) → (o p : Option PageFrame) → ChangesSo R o p → f (log_in o) ≡ log_in p
 both_logs R f nothing each None None is = nothing
 both_logs R f nothing each None (Some b) is = absurd is
 both_logs R f nothing each (Some a) None is = absurd is
 both_logs R f nothing each (Some a) (Some b) is = sym (each a b is)
 
 pub frames_all : (units : ℕ) (c y : Chart) (it new : Layout) (active later : ℕ → Bool) (frames after : Frames)
-    (R : Frame → Frame → Type 0) → AreFramesOf units c it active frames → EachFrameChanges R frames after
-    → ((u page : ℕ) (a b : Frame) → IsPlaced units c it (logs_of frames) active u page a → R a b
+    (R : PageFrame → PageFrame → Type 0) → AreFramesOf units c it active frames → EachFrameChanges R frames after
+    → ((u page : ℕ) (a b : PageFrame) → IsPlaced units c it (logs_of frames) active u page a → R a b
     → IsFrameOf y new (logs_of after) later u page b.values b.pending)
     → AreFramesOf units y new later after
 frames_all units c y it new active later frames after R framed all step = record {
@@ -189,5 +189,5 @@ frames_all units c y it new active later frames after R framed all step = record
       step u page a b (placed units c it active frames framed u page a was) changed;
 }
   where
-    from : (u page : ℕ) (b : Frame) → after u page ≡ Some b → (a : Frame) × (frames u page ≡ Some a) × R a b
+    from : (u page : ℕ) (b : PageFrame) → after u page ≡ Some b → (a : PageFrame) × (frames u page ≡ Some a) × R a b
     from u page b is = both_some R (frames u page) b (subst (ChangesSo R (frames u page)) is (all u page))

@@ -20,7 +20,7 @@ use Rattle.ipl_meaning.specs.Steps.{with_committed}
 use Rattle.ipl_meaning.specs.Values.{Values, counts_for}
 use Rattle.ipl_meaning.proofs.LastLemmas.{commits_apply_the_last}
 use Rattle.page_ops.proofs.FillLemmas.{fills_less, room_in_fill}
-use Rattle.store_laws.specs.Pending.{Logs, Numbers, name_at, records_at, change_in, HasPending, IsWrittenOut}
+use Rattle.store_laws.specs.Pending.{Logs, SessionNumbers, name_at, records_at, change_in, HasPending, IsWrittenOut}
 use Rattle.store_laws.specs.PendingLaws.{NumberJoins, CommitsSayWrites}
 use Rattle.store_laws.specs.Room.{fill_at, PageHasRoom, PagesHaveRoom}
 use Rattle.store_laws.proofs.LastLemmas.{last_that-append, last_that-none, no_record}
@@ -45,7 +45,7 @@ on_chip it logs tid u page slot out =
 
 -- ---- the commit of a session that is on the chip as a whole
 
-module _ (units : ℕ) (c : Chart) (it : Layout) (logs : Logs) (numbers : Numbers) (state : State) (s tid : ℕ)
+module _ (units : ℕ) (c : Chart) (it : Layout) (logs : Logs) (numbers : SessionNumbers) (state : State) (s tid : ℕ)
     (after : ℕ → Bool) (has : HasPending units it logs numbers state) (filled : PagesHaveRoom units c it state)
     (mine : numbers s ≡ Some tid) (out : IsWrittenOut logs tid) (joins : NumberJoins it.committed tid after)
     (u page : ℕ) (low : u < units) (few : page < PAGES) where
@@ -126,7 +126,7 @@ module _ (units : ℕ) (c : Chart) (it : Layout) (logs : Logs) (numbers : Number
           ∙ ap (λ (o : Option Change). option_map_or (λ change. change) o before) (sym (is_last slot less))
           ∙ sym (last_says (its_last slot) before)
 
-pub room_committed : (units : ℕ) (c : Chart) (it : Layout) (logs : Logs) (numbers : Numbers) (state : State) (s tid : ℕ)
+pub room_committed : (units : ℕ) (c : Chart) (it : Layout) (logs : Logs) (numbers : SessionNumbers) (state : State) (s tid : ℕ)
     (after : ℕ → Bool) → HasPending units it logs numbers state → PagesHaveRoom units c it state → numbers s ≡ Some tid
     → IsWrittenOut logs tid → NumberJoins it.committed tid after
     → PagesHaveRoom units c (with_committed it after) (after_commit state s)

@@ -11,9 +11,9 @@ use Rattle.ipl_meaning.specs.Steps.{with_committed}
 use Rattle.ipl_meaning.specs.Tables.{Tables}
 use Rattle.ipl_meaning.specs.Values.{Values}
 use Rattle.page_ops.specs.Pending.{Pendings, seen_by, without_pending}
-use Rattle.store_laws.specs.Pending.{Logs, Numbers, with_number, wrote, HasPending, IsWrittenOut}
+use Rattle.store_laws.specs.Pending.{Logs, SessionNumbers, with_number, wrote, HasPending, IsWrittenOut}
 use Rattle.store_laws.specs.PendingLaws.{StateHasOneWriter, AreActive, JoinsIfWritten}
-use Rattle.store_laws.specs.Frames.{Frame, Frames, logs_of, IsFrameOf, AreFramesOf, IsCommittedFrame, EachFrameChanges}
+use Rattle.store_laws.specs.Frames.{PageFrame, Frames, logs_of, IsFrameOf, AreFramesOf, IsCommittedFrame, EachFrameChanges}
 use Rattle.store_laws.specs.Room.{PagesHaveRoom}
 use Rattle.store_laws.specs.Fits.{is_active, without_active}
 use Rattle.store_laws.proofs.ActiveLemmas.{active_ended}
@@ -43,7 +43,7 @@ one_writer_then state s one a b n by_a by_b =
 
 -- ---- the commit of one session, whether it wrote something or not
 
-module _ (units : ℕ) (it : Layout) (logs : Logs) (numbers : Numbers) (state : State) (s tid : ℕ) (after : ℕ → Bool)
+module _ (units : ℕ) (it : Layout) (logs : Logs) (numbers : SessionNumbers) (state : State) (s tid : ℕ) (after : ℕ → Bool)
     (has : HasPending units it logs numbers state) (mine : numbers s ≡ Some tid) (out : IsWrittenOut logs tid) where
   -- the records of the others wait on
   pub turn_pending : StateHasOneWriter state → JoinsIfWritten state s tid it.committed after
@@ -75,7 +75,7 @@ module _ (units : ℕ) (it : Layout) (logs : Logs) (numbers : Numbers) (state : 
       (subst (λ m. Shows c it.committed u (it.units u) page (page_in m u page)) (sym (empty_map state s none)) shows)
 
 -- its changes become values of the frame
-turn_frame : (places : ℕ) (c : Chart) (it : Layout) (logs : Logs) (numbers : Numbers) (state : State)
+turn_frame : (places : ℕ) (c : Chart) (it : Layout) (logs : Logs) (numbers : SessionNumbers) (state : State)
     (active rest after : ℕ → Bool) (s tid u page : ℕ) (values : Values) (pending : Pendings)
     → HasPending it.count it logs numbers state → PagesHaveRoom it.count c it state
     → StateHasOneWriter state → AreActive numbers active
@@ -99,7 +99,7 @@ turn_frame places c it logs numbers state active rest after s tid u page values 
 
 -- The records and the frames of open sessions, for which the pages have room, with tables that have these sessions'
 -- numbers. Nothing is said of the chart's commit sectors, so that the committed numbers may be any.
-pub record Waits (places : ℕ) (c : Chart) (it : Layout) (frames : Frames) (numbers : Numbers) (state : State)
+pub record Waits (places : ℕ) (c : Chart) (it : Layout) (frames : Frames) (numbers : SessionNumbers) (state : State)
     : Type 0 where
   pub tables : Tables
   pub pending : HasPending it.count it (logs_of frames) numbers state
@@ -116,7 +116,7 @@ logs_stay tid frames after all = λ i u page.
     (all u page) i
 
 -- a session's commit leaves the others waiting
-pub turn_waits : (places : ℕ) (c : Chart) (it : Layout) (frames after : Frames) (numbers : Numbers) (state : State)
+pub turn_waits : (places : ℕ) (c : Chart) (it : Layout) (frames after : Frames) (numbers : SessionNumbers) (state : State)
     (s tid : ℕ) (committed : ℕ → Bool) → Waits places c it frames numbers state → numbers s ≡ Some tid
     → IsWrittenOut (logs_of frames) tid → JoinsIfWritten state s tid it.committed committed
     → EachFrameChanges (IsCommittedFrame tid) frames after
@@ -136,7 +136,7 @@ turn_waits places c it frames after numbers state s tid committed waits mine out
     new : Layout
     new = with_committed it committed
 
-    rest : Numbers
+    rest : SessionNumbers
     rest = with_number numbers s None
 
     active : ℕ → Bool
@@ -151,7 +151,7 @@ turn_waits places c it frames after numbers state s tid committed waits mine out
     same : logs_of frames ≡ logs_of after
     same = logs_stay tid frames after all
 
-    framed : (u page : ℕ) (a b : Frame) → IsPlaced it.count c it (logs_of frames) active u page a
+    framed : (u page : ℕ) (a b : PageFrame) → IsPlaced it.count c it (logs_of frames) active u page a
         → IsCommittedFrame tid a b → IsFrameOf c new (logs_of after) later u page b.values b.pending
     framed u page a b (low, few, was) changed =
         frame_as c new (logs_of frames) (logs_of after) later u page

@@ -10,7 +10,7 @@ use Rattle.ipl_format.specs.Record.{IsRecord, Record}
 use Rattle.ipl_meaning.specs.Last.{is_number, last_that}
 use Rattle.ipl_meaning.specs.Layout.{Layout, records_of}
 use Rattle.ipl_meaning.specs.Values.{counts_for}
-use Rattle.store_laws.specs.Pending.{Logs, Numbers, with_records, name_at, records_at, change_in, last_change, HasPending}
+use Rattle.store_laws.specs.Pending.{Logs, SessionNumbers, with_records, name_at, records_at, change_in, last_change, HasPending}
 use Rattle.store_laws.specs.PendingLaws.{WritesKeepPending}
 use Rattle.store_laws.proofs.ElementLemmas.{contains_here, contains_there}
 use Rattle.store_laws.proofs.LastLemmas.{counted, counts, is_one, last_pushed}
@@ -18,7 +18,7 @@ use Rattle.store_laws.proofs.StateLemmas.{writes_in, wrote_here, wrote_other, la
 use Rattle.store_laws.proofs.MemoryLemmas.{records_here, records_other, cases_page, names_once}
 use Rattle.store_laws.proofs.InMemoryLemmas.{records_stay_pending}
 
-module _ (units : ℕ) (it : Layout) (logs : Logs) (numbers : Numbers) (state : State) (s u : ℕ) (r : Record)
+module _ (units : ℕ) (it : Layout) (logs : Logs) (numbers : SessionNumbers) (state : State) (s u : ℕ) (r : Record)
     (has : HasPending units it logs numbers state) (mine : numbers s ≡ Some r.tid) (low_u : u < units)
     (valid : IsRecord VERSION r) where
   abbrev put : Write

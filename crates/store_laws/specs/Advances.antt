@@ -4,7 +4,7 @@ use Rattle.std.specs.FinMap.{get}
 use Rattle.ipl_base.specs.declared.limits.TheConstants.{PAGES, UNIT_NAMES}
 use Rattle.chip_trait.specs.Told.{History, Told}
 use Rattle.ipl_rules.specs.State.{Map, State}
-use Rattle.record_locks.specs.Held.{Slots}
+use Rattle.record_locks.specs.Held.{SessionSlots}
 use Rattle.ipl_meaning.specs.Chart.{Chart, chart_of}
 use Rattle.ipl_meaning.specs.Layout.{Layout, records_of}
 use Rattle.ipl_meaning.specs.Stands.{Shows, page_in}
@@ -27,9 +27,9 @@ use Rattle.store_laws.specs.Fits.{is_active, Fits, FitsStory}
 pub record Memory : Type 0 where
   pub tables : Tables
   pub frames : Frames
-  pub slots : Slots
+  pub slots : SessionSlots
 
-abbrev pub memory_of : Tables → Frames → Slots → Memory
+abbrev pub memory_of : Tables → Frames → SessionSlots → Memory
 memory_of t frames slots = record { tables = t; frames = frames; slots = slots }
 
 -- it and a chart stand for all of the state but its map
@@ -96,7 +96,7 @@ TurnsMapOf next places state h = EachStandsEither places state.map (next state).
 -- A call that keeps each state, however it ends, and doesn't know the sessions.
 abbrev pub KeepsState : {T E : Type 0} → Tables → Frames → Told → Result T E → Tables → Frames
     → Told → Type 0
-KeepsState t frames old result after later new = (slots : Slots)
+KeepsState t frames old result after later new = (slots : SessionSlots)
     → Advances KeepsMapOf (λ state. state) (memory_of t frames slots) old result
     (memory_of after later slots) new
 

@@ -4,7 +4,7 @@ use Rattle.ipl_base.specs.declared.limits.TheConstants.{SESSIONS}
 use Rattle.chip_trait.specs.Story.{Contents, blank}
 use Rattle.chip_trait.specs.Told.{History}
 use Rattle.ipl_rules.specs.State.{State}
-use Rattle.record_locks.specs.Held.{Slots, number_of, is_among}
+use Rattle.record_locks.specs.Held.{SessionSlots, number_of, is_among}
 use Rattle.record_locks.specs.Standing.{state_of}
 use Rattle.record_locks.specs.Locks.{OneWriter, FewPending, IsSized}
 use Rattle.record_locks.specs.Names.{SameNames, SameMarks}
@@ -24,14 +24,14 @@ use Rattle.store_laws.specs.Frames.{Frames, logs_of, AreFramesOf}
 
 -- what `Sessions` keeps: there are 32 slots, no name is written by two sessions, each that is written has its size, and
 -- the pending names of each unit weigh at most 48
-pub record LocksHold (slots : Slots) : Type 0 where
+pub record LocksHold (slots : SessionSlots) : Type 0 where
   pub all : length slots ≡ SESSIONS
   pub one_writer : OneWriter slots
   pub sized : All IsSized slots
   pub few : FewPending slots
 
 -- the same sessions are open as in the state, with the same names and the same marks, and the locks hold
-pub record AreSessionsOf (slots : Slots) (state : State) : Type 0 where
+pub record AreSessionsOf (slots : SessionSlots) (state : State) : Type 0 where
   pub names : SameNames (state_of slots) state
   pub marks : SameMarks slots state
   pub locked : LocksHold slots
@@ -63,7 +63,7 @@ without_active t tid = record t { active = filter (is_another tid) t.active }
 -- The memory and a chart stand for all of the state but its map. The tables mirror the chart, and no place is lost; the
 -- records on the chip and in memory say what the open sessions wrote, and their pages have room for it; the tables have
 -- the sessions' numbers; each frame is of its page; and the sessions are the state's.
-pub record Fits (places : ℕ) (c : Chart) (it : Layout) (t : Tables) (frames : Frames) (slots : Slots)
+pub record Fits (places : ℕ) (c : Chart) (it : Layout) (t : Tables) (frames : Frames) (slots : SessionSlots)
     (state : State) : Type 0 where
   pub mirrors : Mirrors places c it t
   pub none_lost : NoneIsLost places t
@@ -74,14 +74,14 @@ pub record Fits (places : ℕ) (c : Chart) (it : Layout) (t : Tables) (frames : 
   pub sessions : AreSessionsOf slots state
 
 -- and the chip's story rests on the map, with what is counted as clean being clean
-pub record FitsStory (places : ℕ) (h : History) (it : Layout) (t : Tables) (frames : Frames) (slots : Slots)
+pub record FitsStory (places : ℕ) (h : History) (it : Layout) (t : Tables) (frames : Frames) (slots : SessionSlots)
     (state : State) : Type 0 where
   pub fits : Fits places (now h) it t frames slots state
   pub tidy : IsTidy h t
   pub rests : StoryRests places state.map h
 
 -- where a chip tells its contents and no story: the pages show the map, and what is counted as clean is blank
-pub record FitsContents (places : ℕ) (x : Contents) (it : Layout) (t : Tables) (frames : Frames) (slots : Slots)
+pub record FitsContents (places : ℕ) (x : Contents) (it : Layout) (t : Tables) (frames : Frames) (slots : SessionSlots)
     (state : State) : Type 0 where
   pub fits : Fits places (chart_of x) it t frames slots state
   pub says : Says places (chart_of x) it state.map

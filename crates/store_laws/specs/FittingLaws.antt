@@ -8,7 +8,7 @@ use Rattle.ipl_base.specs.Places.{home_of, KeepsUnits, spares_on}
 use Rattle.ipl_rules.specs.Marks.{Marks, marks, overfills}
 use Rattle.ipl_rules.specs.State.{Map, State, at_rest}
 use Rattle.ipl_format.specs.Record.{Record}
-use Rattle.record_locks.specs.Held.{Slots, marks_in, number_of}
+use Rattle.record_locks.specs.Held.{SessionSlots, marks_in, number_of}
 use Rattle.ipl_meaning.specs.Chart.{Chart}
 use Rattle.ipl_meaning.specs.Layout.{Layout, Laid, records_of}
 use Rattle.ipl_meaning.specs.Last.{carried_count, last_that}
@@ -25,7 +25,7 @@ use Rattle.page_ops.specs.Pending.{fill_by, mark_of}
 use Rattle.store_laws.specs.Pending.{name_at}
 use Rattle.store_laws.specs.PendingLaws.{StateHasOneWriter}
 use Rattle.store_laws.specs.Room.{PageHasRoomFor, overfills_at}
-use Rattle.store_laws.specs.Frames.{Frame, Frames, pending_of}
+use Rattle.store_laws.specs.Frames.{PageFrame, Frames, pending_of}
 use Rattle.store_laws.specs.FrameLaws.{TellsSlot}
 use Rattle.store_laws.specs.Fits.{AreSessionsOf, is_active, Fits, FitsStory, FitsContents}
 
@@ -46,25 +46,25 @@ APlaceIsFree = (places : ℕ) (c : Chart) (it : Layout) (t : Tables) → Mirrors
 -- memory and chart fit whatever the records of the state are
 abbrev pub FitsWhateverTheMap : Type 0
 FitsWhateverTheMap =
-    (places : ℕ) (c : Chart) (it : Layout) (t : Tables) (frames : Frames) (slots : Slots) (state : State) (m : Map)
+    (places : ℕ) (c : Chart) (it : Layout) (t : Tables) (frames : Frames) (slots : SessionSlots) (state : State) (m : Map)
     → Fits places c it t frames slots state → Fits places c it t frames slots (record state { map = m })
 
 -- no name of the state is written by two sessions, and the pending names of each unit weigh at most 48
 abbrev pub SessionsAreSound : Type 0
-SessionsAreSound = (slots : Slots) (state : State) → AreSessionsOf slots state
+SessionsAreSound = (slots : SessionSlots) (state : State) → AreSessionsOf slots state
     → StateHasOneWriter state × UnitsFit state
 
 -- where the pages say the map, each page of which an open session wrote a name has room for whatever comes of them
 abbrev pub WrittenPagesFit : Type 0
 WrittenPagesFit =
-    (places : ℕ) (c : Chart) (it : Layout) (t : Tables) (frames : Frames) (slots : Slots) (state : State) (n : ℕ)
+    (places : ℕ) (c : Chart) (it : Layout) (t : Tables) (frames : Frames) (slots : SessionSlots) (state : State) (n : ℕ)
     → Fits places c it t frames slots state → Says places c it state.map → 0 < marks state n
     → PageFits state (n / SLOTS)
 
 -- where these are the records of its page, the sessions' marks tell whether a put is refused since the page is full
 abbrev pub MarksTellFullPages : Type 0
 MarksTellFullPages =
-    (slots : Slots) (state : State) (n : ℕ) (bytes : List ℕ) (values : Values) → AreSessionsOf slots state
+    (slots : SessionSlots) (state : State) (n : ℕ) (bytes : List ℕ) (values : Values) → AreSessionsOf slots state
     → ((slot : ℕ) → slot < SLOTS → values slot ≡ page_in state.map (home_of n).unit (home_of n).page slot)
     → overfills state n bytes ≡ overfills_at (marks_in slots) n bytes values
 
@@ -85,7 +85,7 @@ SameValuesHaveRoom =
 -- a page that is read from the chip has room for what it shows and for what is pending there
 abbrev pub LoadedPagesFit : Type 0
 LoadedPagesFit =
-    (places : ℕ) (c : Chart) (it : Layout) (t : Tables) (frames : Frames) (slots : Slots) (state : State) (u page : ℕ)
+    (places : ℕ) (c : Chart) (it : Layout) (t : Tables) (frames : Frames) (slots : SessionSlots) (state : State) (u page : ℕ)
     (now : Values)
     → Fits places c it t frames slots state → u < it.count → page < PAGES
     → Shows c it.committed u (it.units u) page now
@@ -95,15 +95,15 @@ LoadedPagesFit =
 -- a change that is pending in a frame takes no more than the sessions' writes of its name
 abbrev pub FramesKeepMarks : Type 0
 FramesKeepMarks =
-    (places : ℕ) (c : Chart) (it : Layout) (t : Tables) (frames : Frames) (slots : Slots) (state : State)
-    (u page slot : ℕ) (f : Frame)
+    (places : ℕ) (c : Chart) (it : Layout) (t : Tables) (frames : Frames) (slots : SessionSlots) (state : State)
+    (u page slot : ℕ) (f : PageFrame)
     → Fits places c it t frames slots state → frames u page ≡ Some f → slot < SLOTS
     → mark_of (f.pending slot) ≤ marks_in slots (name_at u page slot)
 
 -- a merge of a unit carries at most 12 sectors
 abbrev pub MergesAreSmall : Type 0
 MergesAreSmall =
-    (places : ℕ) (c : Chart) (it : Layout) (t : Tables) (frames : Frames) (slots : Slots) (state : State) (u : ℕ)
+    (places : ℕ) (c : Chart) (it : Layout) (t : Tables) (frames : Frames) (slots : SessionSlots) (state : State) (u : ℕ)
     → Fits places c it t frames slots state → u < it.count → carried_count (is_active t) (it.units u).log ≤ CARRIED_SECTORS
 
 -- where the story rests on a map the pages say it
@@ -121,16 +121,16 @@ RestingPagesKeep =
 -- each frame tells the records of its page, and what each session sees of them
 abbrev pub FittingFramesTell : Type 0
 FittingFramesTell =
-    (places : ℕ) (h : History) (it : Layout) (t : Tables) (frames : Frames) (slots : Slots) (state : State)
-    (u page slot : ℕ) (f : Frame)
+    (places : ℕ) (h : History) (it : Layout) (t : Tables) (frames : Frames) (slots : SessionSlots) (state : State)
+    (u page slot : ℕ) (f : PageFrame)
     → FitsStory places h it t frames slots state → frames u page ≡ Some f → slot < SLOTS
     → TellsSlot (number_of slots) state u page slot f.values f.pending
 
 -- so it does where the chip tells its contents and no story
 abbrev pub FittingContentsTell : Type 0
 FittingContentsTell =
-    (places : ℕ) (x : Contents) (it : Layout) (t : Tables) (frames : Frames) (slots : Slots) (state : State)
-    (u page slot : ℕ) (f : Frame)
+    (places : ℕ) (x : Contents) (it : Layout) (t : Tables) (frames : Frames) (slots : SessionSlots) (state : State)
+    (u page slot : ℕ) (f : PageFrame)
     → FitsContents places x it t frames slots state → frames u page ≡ Some f → slot < SLOTS
     → TellsSlot (number_of slots) state u page slot f.values f.pending
 

@@ -13,13 +13,13 @@ use Rattle.ipl_meaning.specs.Last.{last_that, carried}
 use Rattle.ipl_meaning.specs.Stands.{Shows, page_in}
 use Rattle.ipl_meaning.specs.Steps.{KeepsPages, with_unit, with_log, with_committed}
 use Rattle.page_ops.specs.Pending.{Pendings, seen_by, without_pending, with_pending}
-use Rattle.store_laws.specs.Pending.{Logs, Numbers, with_records, without_number, with_number, name_at, HasPending, HasNoRecords, IsWrittenOut}
+use Rattle.store_laws.specs.Pending.{Logs, SessionNumbers, with_records, without_number, with_number, name_at, HasPending, HasNoRecords, IsWrittenOut}
 use Rattle.store_laws.specs.PendingLaws.{StateHasOneWriter, AreActive, NumberJoins, IsSameOrMerged}
 use Rattle.store_laws.specs.Room.{PagesHaveRoom}
 use Rattle.store_laws.specs.Frames.{IsFrameOf, pending_of}
 
 -- a frame tells the record of a name of its page, and what each session sees of it
-pub record TellsSlot (numbers : Numbers) (state : State) (u page slot : ℕ) (values : Values)
+pub record TellsSlot (numbers : SessionNumbers) (state : State) (u page slot : ℕ) (values : Values)
     (pending : Pendings) : Type 0 where
   pub committed : values slot ≡ get state.map (name_at u page slot)
   pub seen : (s tid : ℕ) → numbers s ≡ Some tid
@@ -28,7 +28,7 @@ pub record TellsSlot (numbers : Numbers) (state : State) (u page slot : ℕ) (va
 -- so it does where its page shows the map, whatever other pages do
 abbrev pub FramesTell : Type 0
 FramesTell =
-    (units : ℕ) (c : Chart) (it : Layout) (logs : Logs) (numbers : Numbers) (state : State) (active : ℕ → Bool)
+    (units : ℕ) (c : Chart) (it : Layout) (logs : Logs) (numbers : SessionNumbers) (state : State) (active : ℕ → Bool)
     (u page slot : ℕ) (values : Values) (pending : Pendings)
     → HasPending units it logs numbers state → StateHasOneWriter state → AreActive numbers active
     → Shows c it.committed u (it.units u) page (page_in state.map u page) → u < units → page < PAGES → slot < SLOTS
@@ -53,7 +53,7 @@ LoadsMakeFrames =
 -- a session is opened, under a number that no record has
 abbrev pub BeginsKeepFrames : Type 0
 BeginsKeepFrames =
-    (units : ℕ) (c : Chart) (it : Layout) (logs : Logs) (numbers : Numbers) (active rest : ℕ → Bool) (s tid u page : ℕ)
+    (units : ℕ) (c : Chart) (it : Layout) (logs : Logs) (numbers : SessionNumbers) (active rest : ℕ → Bool) (s tid u page : ℕ)
     (values : Values) (pending : Pendings)
     → AreActive numbers active → AreActive (with_number numbers s (Some tid)) rest → numbers s ≡ None
     → HasNoRecords units it logs tid → u < units
@@ -62,7 +62,7 @@ BeginsKeepFrames =
 -- a write: the record is put behind those of its page, and its change into the slot
 abbrev pub WritesKeepFrames : Type 0
 WritesKeepFrames =
-    (c : Chart) (it : Layout) (logs : Logs) (numbers : Numbers) (active : ℕ → Bool) (s u : ℕ) (r : Record)
+    (c : Chart) (it : Layout) (logs : Logs) (numbers : SessionNumbers) (active : ℕ → Bool) (s u : ℕ) (r : Record)
     (values : Values) (pending : Pendings)
     → AreActive numbers active → numbers s ≡ Some r.tid → IsFrameOf c it logs active u r.page values pending
     → IsFrameOf c it (with_records logs u r.page (logs u r.page ++ r ∷ [])) active u r.page values
@@ -79,7 +79,7 @@ OtherWritesKeepFrames =
 -- records in memory are written to a log sector
 abbrev pub LogSectorsKeepFrames : Type 0
 LogSectorsKeepFrames =
-    (places : ℕ) (c y : Chart) (it : Layout) (logs : Logs) (numbers : Numbers) (state : State) (active : ℕ → Bool)
+    (places : ℕ) (c y : Chart) (it : Layout) (logs : Logs) (numbers : SessionNumbers) (state : State) (active : ℕ → Bool)
     (u page v q : ℕ) (e : Entry) (values : Values) (pending : Pendings)
     → HasPending it.count it logs numbers state → e.records ≡ logs u page
     → KeepsPages places c it y (with_log it u e) → v < it.count → q < PAGES
@@ -106,7 +106,7 @@ OtherStepsKeepFrames =
 -- a session is committed, all its records being on the chip: its changes become values, for which the page has room
 abbrev pub CommitsKeepFrames : Type 0
 CommitsKeepFrames =
-    (places : ℕ) (c y : Chart) (it : Layout) (logs : Logs) (numbers : Numbers) (state : State)
+    (places : ℕ) (c y : Chart) (it : Layout) (logs : Logs) (numbers : SessionNumbers) (state : State)
     (active rest after : ℕ → Bool) (s tid u page : ℕ) (values : Values) (pending : Pendings)
     → HasPending it.count it logs numbers state → PagesHaveRoom it.count c it state
     → StateHasOneWriter state → AreActive numbers active
@@ -119,7 +119,7 @@ CommitsKeepFrames =
 -- a session is aborted: its changes are dropped
 abbrev pub AbortsKeepFrames : Type 0
 AbortsKeepFrames =
-    (units : ℕ) (c : Chart) (it : Layout) (logs : Logs) (numbers : Numbers) (state : State) (active rest : ℕ → Bool)
+    (units : ℕ) (c : Chart) (it : Layout) (logs : Logs) (numbers : SessionNumbers) (state : State) (active rest : ℕ → Bool)
     (s tid u page : ℕ) (values : Values) (pending : Pendings)
     → HasPending units it logs numbers state → StateHasOneWriter state → AreActive numbers active
     → AreActive (with_number numbers s None) rest → numbers s ≡ Some tid → u < units → page < PAGES

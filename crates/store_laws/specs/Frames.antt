@@ -9,14 +9,14 @@ use Rattle.ipl_meaning.specs.Layout.{Layout}
 use Rattle.ipl_meaning.specs.Last.{last_that}
 use Rattle.ipl_meaning.specs.Stands.{Shows}
 use Rattle.page_ops.specs.Pending.{Pending, Pendings, seen_by, without_pending, with_pending}
-use Rattle.store_laws.specs.Pending.{Logs, Numbers, is_other, with_number, records_at}
+use Rattle.store_laws.specs.Pending.{Logs, SessionNumbers, is_other, with_number, records_at}
 
 -- the change of a record, with its number
 abbrev pub pending_of : Option Record → Option Pending
 pending_of o = option_map (λ r. (r.tid, r.change)) o
 
 -- the frame of a page
-pub record Frame : Type 0 where
+pub record PageFrame : Type 0 where
   pub values : Values
   pub pending : Pendings
   -- the records that aren't on the chip yet
@@ -24,18 +24,18 @@ pub record Frame : Type 0 where
 
 -- by unit and page
 abbrev pub Frames : Type 0
-Frames = ℕ → ℕ → Option Frame
+Frames = ℕ → ℕ → Option PageFrame
 
 -- the records in memory are those of the frames
 abbrev pub logs_of : Frames → Logs
 logs_of frames u page = option_map_or (λ f. f.log) (frames u page) []
 
 -- the page has this frame now, or none
-abbrev pub with_frame_at : Frames → ℕ → ℕ → Option Frame → Frames
+abbrev pub with_frame_at : Frames → ℕ → ℕ → Option PageFrame → Frames
 with_frame_at frames u page o v q = if (v == u) && (q == page) then o else frames v q
 
 -- the frame with other records in memory
-abbrev pub with_frame_log : Frame → List Record → Frame
+abbrev pub with_frame_log : PageFrame → List Record → PageFrame
 with_frame_log f log = record { values = f.values; pending = f.pending; log = log }
 
 -- ---- a frame and its page
@@ -49,44 +49,44 @@ pub record IsFrameOf (c : Chart) (it : Layout) (logs : Logs) (active : ℕ → B
 
 -- each frame is of its page, which is one of the chip's
 pub record AreFramesOf (units : ℕ) (c : Chart) (it : Layout) (active : ℕ → Bool) (frames : Frames) : Type 0 where
-  pub within : (u page : ℕ) (f : Frame) → frames u page ≡ Some f → (u < units) × (page < PAGES)
-  pub each : (u page : ℕ) (f : Frame) → frames u page ≡ Some f
+  pub within : (u page : ℕ) (f : PageFrame) → frames u page ≡ Some f → (u < units) × (page < PAGES)
+  pub each : (u page : ℕ) (f : PageFrame) → frames u page ≡ Some f
       → IsFrameOf c it (logs_of frames) active u page f.values f.pending
 
 -- ---- what a step makes of a frame
 
 -- a write came to it
-pub record IsWrittenFrame (r : Record) (a b : Frame) : Type 0 where
+pub record IsWrittenFrame (r : Record) (a b : PageFrame) : Type 0 where
   pub values : (slot : ℕ) → slot < SLOTS → b.values slot ≡ a.values slot
   pub pending : (slot : ℕ) → slot < SLOTS → b.pending slot ≡ with_pending a.pending r.slot (r.tid, r.change) slot
   pub log : b.log ≡ a.log ++ r ∷ []
 
 -- a session's changes became values
-pub record IsCommittedFrame (tid : ℕ) (a b : Frame) : Type 0 where
+pub record IsCommittedFrame (tid : ℕ) (a b : PageFrame) : Type 0 where
   pub values : (slot : ℕ) → slot < SLOTS
       → b.values slot ≡ seen_by tid (a.values slot) (a.pending slot)
   pub pending : (slot : ℕ) → slot < SLOTS → b.pending slot ≡ without_pending tid (a.pending slot)
   pub log : b.log ≡ a.log
 
 -- or were dropped
-pub record IsAbortedFrame (tid : ℕ) (a b : Frame) : Type 0 where
+pub record IsAbortedFrame (tid : ℕ) (a b : PageFrame) : Type 0 where
   pub values : (slot : ℕ) → slot < SLOTS → b.values slot ≡ a.values slot
   pub pending : (slot : ℕ) → slot < SLOTS → b.pending slot ≡ without_pending tid (a.pending slot)
   pub log : b.log ≡ filter (is_other tid) a.log
 
 -- a page has a frame before and after, which changes so, or has none
-abbrev pub ChangesSo : (Frame → Frame → Type 0) → Option Frame → Option Frame → Type 0
+abbrev pub ChangesSo : (PageFrame → PageFrame → Type 0) → Option PageFrame → Option PageFrame → Type 0
 ChangesSo R None None = Unit {0}
 ChangesSo R None (Some b) = ⊥
 ChangesSo R (Some a) None = ⊥
 ChangesSo R (Some a) (Some b) = R a b
 
 -- each page's frame does
-abbrev pub EachFrameChanges : (Frame → Frame → Type 0) → Frames → Frames → Type 0
+abbrev pub EachFrameChanges : (PageFrame → PageFrame → Type 0) → Frames → Frames → Type 0
 EachFrameChanges R old new = (u page : ℕ) → ChangesSo R (old u page) (new u page)
 
 -- each changes as at the commits of these sessions, one session after the other
-abbrev pub CommitInTurn : Numbers → List ℕ → Frames → Frames → Type 0
+abbrev pub CommitInTurn : SessionNumbers → List ℕ → Frames → Frames → Type 0
 CommitInTurn numbers [] old new = new ≡ old
 CommitInTurn numbers (s ∷ ss) old new = (between : Frames)
     × ((tid : ℕ) → numbers s ≡ Some tid → EachFrameChanges (IsCommittedFrame tid) old between)

@@ -18,7 +18,7 @@ use Rattle.ipl_model.specs.declared.command.Command.{Command}
 use Rattle.ipl_model.specs.declared.reply.Reply.{Reply}
 use Rattle.ipl_model.specs.Step.{step}
 use Rattle.ipl_format.specs.Sector.{sector_in}
-use Rattle.record_locks.specs.Held.{Slots, number_of}
+use Rattle.record_locks.specs.Held.{SessionSlots, number_of}
 use Rattle.ipl_meaning.specs.Chart.{chart_of}
 use Rattle.ipl_meaning.specs.Layout.{Layout, Laid}
 use Rattle.ipl_meaning.specs.Marks.{AreUnused, MarksAreUnused}
@@ -32,7 +32,7 @@ use Rattle.unit_io.specs.Leads.{IsSteady}
 use Rattle.unit_io.specs.Reads.{OfContents}
 use Rattle.step_laws.specs.Laws.{Preserves}
 use Rattle.page_ops.specs.Pending.{seen_by}
-use Rattle.store_laws.specs.Frames.{Frame, Frames}
+use Rattle.store_laws.specs.Frames.{PageFrame, Frames}
 use Rattle.store_laws.specs.Fits.{AreSessionsOf}
 use Rattle.store_trait.specs.declared.fault.Fault.{Fault}
 use Rattle.store_trait.specs.declared.fault.Fault.TheVariants.{Chip, Image, Spent}
@@ -79,7 +79,7 @@ pub record KeepsStore (places : ℕ) (limits : Limits) (store : View) (t : Told)
   pub up : store.down ≡ false → IsUp places store h state
 
 -- the store of a chip that was opened: no page is in a frame
-abbrev pub opened_with : ℕ → Tables → Slots → View
+abbrev pub opened_with : ℕ → Tables → SessionSlots → View
 opened_with units t slots =
     record { memory = memory_of t (λ u page. None) slots; units = units; down = false }
 
@@ -92,25 +92,25 @@ pub record IsWornCount (places n : ℕ) : Type 0 where
   pub one_more : n ≡ 1 + spares_on places units
 
 -- when a chip of so many places fails so
-abbrev pub ChipCause : ℕ → ChipFault → Told → Told → Type 0
-ChipCause places ReadFault old new = Rose old.read_faults new.read_faults
-ChipCause places Stopped old new = Rose old.write_faults new.write_faults
-ChipCause places (Damaged p s stored computed) old new = stored ≢ computed
-ChipCause places (Malformed p s) old new = Unit {0}
-ChipCause places (WornOut n) old new = IsWornCount places n × Rose old.worn_erases new.worn_erases
+abbrev pub IsChipFaultCause : ℕ → ChipFault → Told → Told → Type 0
+IsChipFaultCause places ReadFault old new = Rose old.read_faults new.read_faults
+IsChipFaultCause places Stopped old new = Rose old.write_faults new.write_faults
+IsChipFaultCause places (Damaged p s stored computed) old new = stored ≢ computed
+IsChipFaultCause places (Malformed p s) old new = Unit {0}
+IsChipFaultCause places (WornOut n) old new = IsWornCount places n × Rose old.worn_erases new.worn_erases
 
 -- when an image isn't opened again
 abbrev pub ImageCause : ℕ → ImageFault → Told → Told → Type 0
 ImageCause places image.Geometry old new = Unit {0}
 ImageCause places image.NotFormatted old new = Unit {0}
 ImageCause places (image.Missing u) old new = Unit {0}
-ImageCause places (image.Chip e) old new = ChipCause places e old new
+ImageCause places (image.Chip e) old new = IsChipFaultCause places e old new
 ImageCause places image.Spent old new = Unit {0}
 ImageCause places (image.NoSpare n) old new = Unit {0}
 
 -- when each fault comes
 abbrev pub StoreCause : ℕ → Fault → Told → Told → Type 0
-StoreCause places (Chip e) old new = ChipCause places e old new
+StoreCause places (Chip e) old new = IsChipFaultCause places e old new
 StoreCause places (Image e) old new = ImageCause places e old new
 StoreCause places Spent old new = Unit {0}
 
@@ -139,7 +139,7 @@ rose_longer : (first old new last : ℕ) → first ≤ old → Rose old new → 
 rose_longer first old new last before rose after = omega (arith, before, rose, after)
 
 chip_longer : (places : ℕ) (e : ChipFault) (first old new last : Told) → Further first old
-    → ChipCause places e old new → Further new last → ChipCause places e first last
+    → IsChipFaultCause places e old new → Further new last → IsChipFaultCause places e first last
 chip_longer places ReadFault first old new last before cause after =
     rose_longer first.read_faults old.read_faults new.read_faults last.read_faults before.reads
     cause after.reads
@@ -277,7 +277,7 @@ store_keeping places = record {
 
 -- a store whose chip was opened keeps the state at rest of the map that the chip stands for
 abbrev pub OpenedStoresKeep : Type 0
-OpenedStoresKeep = (places units : ℕ) (t : Tables) (slots : Slots) (told : Told) (h : History) (m : Map)
+OpenedStoresKeep = (places units : ℕ) (t : Tables) (slots : SessionSlots) (told : Told) (h : History) (m : Map)
     → NoneIsLost places t → t.active ≡ [] → ((s : ℕ) → number_of slots s ≡ None)
     → AreSessionsOf slots (at_rest m)
     → OfContents told (λ x. (it : Layout) × (it.count ≡ units) × Mirrors places (chart_of x) it t
@@ -321,14 +321,14 @@ LeadsAreWork = (c : Command) (next : State → State) (before after : View)
     → Works (store_keeping old.places) c before old result after new
 
 -- what the frame of its page tells of a name: the record, and what each session sees
-pub record TellsName (slots : Slots) (state : State) (n : ℕ) (f : Frame) : Type 0 where
+pub record TellsName (slots : SessionSlots) (state : State) (n : ℕ) (f : PageFrame) : Type 0 where
   pub committed : f.values (home_of n).slot ≡ get state.map n
   pub seen : (s tid : ℕ) → number_of slots s ≡ Some tid
       → seen_by tid (f.values (home_of n).slot) (f.pending (home_of n).slot) ≡ see state s n
 
 -- after a call that keeps each state and was done
 abbrev pub KeptFramesTell : Type 0
-KeptFramesTell = (n : ℕ) (store : View) (t : Tables) (later : Frames) (f : Frame) (h : History)
+KeptFramesTell = (n : ℕ) (store : View) (t : Tables) (later : Frames) (f : PageFrame) (h : History)
     (state : State) (old new : Told) → store.down ≡ false
     → KeepsState {T = Unit {0}} {E = ChipFault} store.memory.tables store.memory.frames old (Ok tt)
     t later new

@@ -9,7 +9,7 @@ use Rattle.ipl_rules.specs.State.{Map, State, at_rest}
 use Rattle.ipl_rules.specs.Operations.{after_batch, after_restart}
 use Rattle.ipl_model.specs.declared.reply.Reply.{Reply}
 use Rattle.ipl_format.specs.Record.{Record}
-use Rattle.record_locks.specs.Held.{Slots, marks_in, number_of, written_of, written_by, writer_numbers}
+use Rattle.record_locks.specs.Held.{SessionSlots, marks_in, number_of, written_of, written_by, writer_numbers}
 use Rattle.record_locks.specs.Held.{after_batch as slots_after}
 use Rattle.ipl_meaning.specs.Chart.{Chart, chart_of}
 use Rattle.ipl_meaning.specs.Layout.{Entry, Layout, Laid}
@@ -26,7 +26,7 @@ use Rattle.unit_io.specs.ReadsAt.{Anywhere, ReadsAt}
 use Rattle.step_laws.specs.Steps.{Settled}
 use Rattle.step_laws.specs.Laws.{Preserves}
 use Rattle.store_laws.specs.Pending.{IsWrittenOut}
-use Rattle.store_laws.specs.Frames.{Frame, Frames, logs_of, with_frame_at, with_frame_log, IsFrameOf}
+use Rattle.store_laws.specs.Frames.{PageFrame, Frames, logs_of, with_frame_at, with_frame_log, IsFrameOf}
 use Rattle.store_laws.specs.FrameLaws.{TellsSlot}
 use Rattle.store_laws.specs.Room.{overfills_at}
 use Rattle.store_laws.specs.Fits.{LocksHold, AreSessionsOf, is_active, Fits, FitsStory}
@@ -65,7 +65,7 @@ ReadsKeepStates = (t : Tables) (frames : Frames) (result : Result (Unit {0}) Chi
 
 -- a page that was read into a frame, where it was in none
 abbrev pub LoadsKeepStates : Type 0
-LoadsKeepStates = (t : Tables) (frames : Frames) (u page : ℕ) (f : Frame) (old new : Told)
+LoadsKeepStates = (t : Tables) (frames : Frames) (u page : ℕ) (f : PageFrame) (old new : Told)
     → ReadsAt Anywhere old new → u < length t.places.current → page < PAGES
     → frames u page ≡ None → f.log ≡ []
     → OfContents old (λ x. (it : Layout) → Mirrors old.places (chart_of x) it t
@@ -75,13 +75,13 @@ LoadsKeepStates = (t : Tables) (frames : Frames) (u page : ℕ) (f : Frame) (old
 
 -- a page that left its frame, with no records in memory
 abbrev pub EvictionsKeepStates : Type 0
-EvictionsKeepStates = (t : Tables) (frames : Frames) (u page : ℕ) (f : Frame) (old : Told)
+EvictionsKeepStates = (t : Tables) (frames : Frames) (u page : ℕ) (f : PageFrame) (old : Told)
     → frames u page ≡ Some f → f.log ≡ []
     → KeepsState {T = Unit {0}} {E = ChipFault} t frames old (Ok tt) t
     (with_frame_at frames u page None) old
 
 -- the records of a page in memory stand in a log sector of its unit, and the tables are these then
-pub record IsLogged (places : ℕ) (c : Chart) (it : Layout) (t : Tables) (u : ℕ)
+pub record StandsInLog (places : ℕ) (c : Chart) (it : Layout) (t : Tables) (u : ℕ)
     (records : List Record) (y : Chart) (after : Tables) : Type 0 where
   pub entry : Entry
   pub records_are : entry.records ≡ records
@@ -92,12 +92,12 @@ pub record IsLogged (places : ℕ) (c : Chart) (it : Layout) (t : Tables) (u : �
 
 -- a page whose records in memory were written to a log sector
 abbrev pub LogSectorsKeepStates : Type 0
-LogSectorsKeepStates = (t after : Tables) (frames : Frames) (u page : ℕ) (f : Frame)
+LogSectorsKeepStates = (t after : Tables) (frames : Frames) (u page : ℕ) (f : PageFrame)
     (old new : Told) → frames u page ≡ Some f
-    → ((places : ℕ) → old.places ≡ places → Charts (λ c y. (it : Layout) (slots : Slots)
+    → ((places : ℕ) → old.places ≡ places → Charts (λ c y. (it : Layout) (slots : SessionSlots)
     (state : State) → Fits places c it t frames slots state
-    → IsLogged places c it t u f.log y after) old new)
-    → ((places : ℕ) (h : History) (it : Layout) (slots : Slots) (state : State)
+    → StandsInLog places c it t u f.log y after) old new)
+    → ((places : ℕ) (h : History) (it : Layout) (slots : SessionSlots) (state : State)
     → old.places ≡ places → IsSteady h old → FitsStory places h it t frames slots state
     → Preserves {T = Unit {0}} {E = ChipFault} places state.map t after h (Ok tt) old new)
     → KeepsState {T = Unit {0}} {E = ChipFault} t frames old (Ok tt) after
@@ -185,7 +185,7 @@ pub record IsReopened (places : ℕ) (c : Chart) (it : Layout) (y : Chart) (t : 
 -- a chip that was opened again, whatever the tables were: no session is open, and no page is in a
 -- frame
 abbrev pub RestartsLead : Type 0
-RestartsLead = (before : Memory) (t : Tables) (slots : Slots) (old new : Told) → t.active ≡ []
+RestartsLead = (before : Memory) (t : Tables) (slots : SessionSlots) (old new : Told) → t.active ≡ []
     → ((s : ℕ) → number_of slots s ≡ None) → ((m : Map) → AreSessionsOf slots (at_rest m))
     → ((places : ℕ) → old.places ≡ places → Charts (λ c y. (it : Layout) → Laid places c it
     → IsReopened places c it y t) old new)
@@ -201,7 +201,7 @@ RestartsLead = (before : Memory) (t : Tables) (slots : Slots) (old new : Told) �
 -- and what each session sees.
 abbrev pub FramesTellState : Type 0
 FramesTellState = (places : ℕ) (c y : Chart) (it : Layout) (m : Map) (memory : Memory)
-    (state : State) (u page slot : ℕ) (f : Frame) → FitsOn places c it m y memory state
+    (state : State) (u page slot : ℕ) (f : PageFrame) → FitsOn places c it m y memory state
     → Shows c it.committed u (it.units u) page (page_in m u page)
     → memory.frames u page ≡ Some f → slot < SLOTS
     → TellsSlot (number_of memory.slots) state u page slot f.values f.pending
@@ -209,7 +209,7 @@ FramesTellState = (places : ℕ) (c y : Chart) (it : Layout) (m : Map) (memory :
 -- and whether a put there is refused since the page is full
 abbrev pub FramesTellFull : Type 0
 FramesTellFull = (places : ℕ) (c y : Chart) (it : Layout) (m : Map) (memory : Memory) (state : State)
-    (n : ℕ) (bytes : List ℕ) (f : Frame) → FitsOn places c it m y memory state
+    (n : ℕ) (bytes : List ℕ) (f : PageFrame) → FitsOn places c it m y memory state
     → Shows c it.committed (home_of n).unit (it.units (home_of n).unit) (home_of n).page
     (page_in m (home_of n).unit (home_of n).page)
     → memory.frames (home_of n).unit (home_of n).page ≡ Some f

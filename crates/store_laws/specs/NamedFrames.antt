@@ -2,34 +2,34 @@
 use Rattle.std.specs.Prelude.{ℕ, ◌≡◌, ◌⊎◌, List, [], ◌∷◌, Some, Contains}
 use Rattle.ipl_base.specs.Places.{home_of}
 use Rattle.ipl_rules.specs.State.{State}
-use Rattle.record_locks.specs.Held.{Slots, number_of, written_of}
+use Rattle.record_locks.specs.Held.{SessionSlots, number_of, written_of}
 use Rattle.ipl_meaning.specs.Chart.{Chart}
 use Rattle.ipl_meaning.specs.Layout.{Layout}
-use Rattle.store_laws.specs.Frames.{Frame, Frames, IsCommittedFrame, IsAbortedFrame, ChangesSo, EachFrameChanges}
+use Rattle.store_laws.specs.Frames.{PageFrame, Frames, IsCommittedFrame, IsAbortedFrame, ChangesSo, EachFrameChanges}
 use Rattle.store_laws.specs.Advances.{Memory, MemoryFits}
 
 -- a frame is as it was, or changed so
-abbrev pub IsSameOr : (Frame → Frame → Type 0) → Frame → Frame → Type 0
+abbrev pub IsSameOr : (PageFrame → PageFrame → Type 0) → PageFrame → PageFrame → Type 0
 IsSameOr R a b = (b ≡ a) ⊎ R a b
 
 -- the page of the name, where it is in a frame, changed so
-abbrev pub ChangesPageOf : (Frame → Frame → Type 0) → Frames → Frames → ℕ → Type 0
+abbrev pub ChangesPageOf : (PageFrame → PageFrame → Type 0) → Frames → Frames → ℕ → Type 0
 ChangesPageOf R old new n = ChangesSo R (old (home_of n).unit (home_of n).page)
     (new (home_of n).unit (home_of n).page)
 
 -- Each page's frame is as it was, or changed so; and the pages of these names changed so.
-pub record NamedFramesChange (R : Frame → Frame → Type 0) (names : List ℕ) (old new : Frames)
+pub record NamedFramesChange (R : PageFrame → PageFrame → Type 0) (names : List ℕ) (old new : Frames)
     : Type 0 where
   pub each : EachFrameChanges (IsSameOr R) old new
   pub named : (n : ℕ) → Contains names n → ChangesPageOf R old new n
 
 -- the frames of the names that an open session wrote change as at its commit
-abbrev pub SettlesSession : Slots → ℕ → Frames → Frames → Type 0
+abbrev pub SettlesSession : SessionSlots → ℕ → Frames → Frames → Type 0
 SettlesSession slots s old new = (tid : ℕ) → number_of slots s ≡ Some tid
     → NamedFramesChange (IsCommittedFrame tid) (written_of slots s) old new
 
 -- so those of several sessions, one session after the other
-abbrev pub SettleInTurn : Slots → List ℕ → Frames → Frames → Type 0
+abbrev pub SettleInTurn : SessionSlots → List ℕ → Frames → Frames → Type 0
 SettleInTurn slots [] old new = new ≡ old
 SettleInTurn slots (s ∷ ss) old new = (between : Frames) × SettlesSession slots s old between
     × SettleInTurn slots ss between new

@@ -15,8 +15,8 @@ abbrev pub Logs : Type 0
 Logs = ℕ → ℕ → List Record
 
 -- the transaction number of each session that is open
-abbrev pub Numbers : Type 0
-Numbers = ℕ → Option ℕ
+abbrev pub SessionNumbers : Type 0
+SessionNumbers = ℕ → Option ℕ
 
 -- the page has these records in memory now
 abbrev pub with_records : Logs → ℕ → ℕ → List Record → Logs
@@ -31,7 +31,7 @@ abbrev pub without_number : Logs → ℕ → Logs
 without_number logs tid u page = filter (is_other tid) (logs u page)
 
 -- the session has this number now, or none
-abbrev pub with_number : Numbers → ℕ → Option ℕ → Numbers
+abbrev pub with_number : SessionNumbers → ℕ → Option ℕ → SessionNumbers
 with_number numbers s o t = if t == s then o else numbers t
 
 -- ---- what a session wrote
@@ -58,21 +58,21 @@ last_change tid records page slot =
     change_in (last_that (counts_for (is_number tid) page slot) records None)
 
 -- a record in memory is in form, of its own page, and of a session that is open
-pub record IsPending (numbers : Numbers) (page : ℕ) (r : Record) : Type 0 where
+pub record IsPending (numbers : SessionNumbers) (page : ℕ) (r : Record) : Type 0 where
   pub page_is : r.page ≡ page
   pub valid : IsRecord VERSION r
   pub session : ℕ
   pub open_as : numbers session ≡ Some r.tid
 
 -- so is each
-abbrev pub ArePending : Numbers → Logs → Type 0
+abbrev pub ArePending : SessionNumbers → Logs → Type 0
 ArePending numbers logs = (u page : ℕ) → All (IsPending numbers page) (logs u page)
 
 -- The records say what the open sessions of the state wrote. Each of these has a number of its own, which is not
 -- committed; each of its records, on the chip and in memory, is one of its writes; of those on a name the last one is
 -- its last write there, and it has none where it wrote nothing. Behind none of them stands a committed record on the
 -- same name. What is in memory is of open sessions and of its own page.
-pub record HasPending (units : ℕ) (it : Layout) (logs : Logs) (numbers : Numbers) (state : State) : Type 0 where
+pub record HasPending (units : ℕ) (it : Layout) (logs : Logs) (numbers : SessionNumbers) (state : State) : Type 0 where
   pub opens : (s : ℕ) → is_some (numbers s) ≡ is_open state s
   pub apart : (s t tid : ℕ) → numbers s ≡ Some tid → numbers t ≡ Some tid → s ≡ t
   pub waits : (s tid : ℕ) → numbers s ≡ Some tid → it.committed tid ≡ false

@@ -16,12 +16,12 @@ use Rattle.ipl_model.specs.declared.command.Command.{Command}
 use Rattle.ipl_model.specs.declared.command.Command.TheVariants as command
 use Rattle.ipl_model.specs.declared.reply.Reply.TheVariants as reply
 use Rattle.ipl_model.specs.Step.{Stepped, refusal_of, accepted, step}
-use Rattle.record_locks.specs.Held.{Slots, marks_in, number_of}
+use Rattle.record_locks.specs.Held.{SessionSlots, marks_in, number_of}
 use Rattle.record_locks.specs.Locks as locks
 use Rattle.record_locks.specs.Standing.{state_of}
 use Rattle.ipl_meaning.specs.Tables.{Tables}
 use Rattle.unit_io.specs.Reads.{OfContents}
-use Rattle.store_laws.specs.Frames.{Frame, Frames}
+use Rattle.store_laws.specs.Frames.{PageFrame, Frames}
 use Rattle.store_laws.specs.Room.{overfills_at}
 use Rattle.store_laws.specs.Fits.{AreSessionsOf}
 use Rattle.store_trait.specs.declared.fault.Fault.{Fault}
@@ -68,19 +68,19 @@ RefusedInTwoParts = (limits : Limits) (state : State) (c : Command)
     ≡ option_or (early_refusal limits state c) (if finds_full state c then Some PageFull else None)
 
 -- why a put is refused early, by the sessions
-abbrev pub sessions_refuse_put : Limits → Slots → ℕ → ℕ → List ℕ → Option Refusal
+abbrev pub sessions_refuse_put : Limits → SessionSlots → ℕ → ℕ → List ℕ → Option Refusal
 sessions_refuse_put limits slots s n bytes = first_of (bad_session limits s ∷ bad_name limits n ∷ too_long bytes
     ∷ not_open (state_of slots) s ∷ conflict (holder_for_write (state_of slots) s n)
     ∷ writes_full (state_of slots) s n ∷ locks.pending_full slots n (size_in_page (Some bytes)) ∷ [])
 
 -- and a delete
-abbrev pub sessions_refuse_del : Limits → Slots → ℕ → ℕ → Option Refusal
+abbrev pub sessions_refuse_del : Limits → SessionSlots → ℕ → ℕ → Option Refusal
 sessions_refuse_del limits slots s n = first_of (bad_session limits s ∷ bad_name limits n
     ∷ not_open (state_of slots) s ∷ conflict (holder_for_write (state_of slots) s n)
     ∷ writes_full (state_of slots) s n ∷ locks.pending_full slots n (size_in_page None) ∷ [])
 
 -- and each command
-abbrev pub sessions_refuse : Limits → Slots → Command → Option Refusal
+abbrev pub sessions_refuse : Limits → SessionSlots → Command → Option Refusal
 sessions_refuse limits slots (command.Begin s) = refuses_begin limits (state_of slots) s
 sessions_refuse limits slots (command.Get s n) = refuses_get limits (state_of slots) s n
 sessions_refuse limits slots (command.Share s n) = refuses_share limits (state_of slots) s n
@@ -96,12 +96,12 @@ sessions_refuse limits slots command.Syntax = None
 
 -- they refuse what the state refuses early, whatever was put
 abbrev pub SessionsRefuse : Type 0
-SessionsRefuse = (limits : Limits) (slots : Slots) (state : State) (c : Command)
+SessionsRefuse = (limits : Limits) (slots : SessionSlots) (state : State) (c : Command)
     → AreSessionsOf slots state → sessions_refuse limits slots c ≡ early_refusal limits state c
 
 -- what they refuse changes nothing, and is answered so
 abbrev pub RefusalsAnswer : Type 0
-RefusalsAnswer = (limits : Limits) (slots : Slots) (state : State) (c : Command) (r : Refusal)
+RefusalsAnswer = (limits : Limits) (slots : SessionSlots) (state : State) (c : Command) (r : Refusal)
     → AreSessionsOf slots state → sessions_refuse limits slots c ≡ Some r
     → step limits state c ≡ (state, reply.Refused r ∷ [])
 
@@ -110,14 +110,14 @@ abbrev pub unrefused : State → Command → Stepped
 unrefused state c = if finds_full state c then (state, reply.Refused PageFull ∷ []) else accepted state c
 
 abbrev pub AcceptedAreDone : Type 0
-AcceptedAreDone = (limits : Limits) (slots : Slots) (state : State) (c : Command)
+AcceptedAreDone = (limits : Limits) (slots : SessionSlots) (state : State) (c : Command)
     → AreSessionsOf slots state → sessions_refuse limits slots c ≡ None
     → step limits state c ≡ unrefused state c
 
 -- A put that they don't refuse, where a call that keeps each state brought its page into a frame: what
 -- the frame has tells whether it is refused, wherever the contents that are told show the state.
 abbrev pub PutsAnswer : Type 0
-PutsAnswer = (s n : ℕ) (bytes : List ℕ) (store : View) (t : Tables) (later : Frames) (f : Frame)
+PutsAnswer = (s n : ℕ) (bytes : List ℕ) (store : View) (t : Tables) (later : Frames) (f : PageFrame)
     (old new : Told)
     → KeepsState {T = Unit {0}} {E = ChipFault} store.memory.tables store.memory.frames old (Ok tt)
     t later new
@@ -131,7 +131,7 @@ PutsAnswer = (s n : ℕ) (bytes : List ℕ) (store : View) (t : Tables) (later :
 
 -- So a call that brought the page and found it full is the work of the put.
 abbrev pub FullPutsAreWork : Type 0
-FullPutsAreWork = (s n : ℕ) (bytes : List ℕ) (before after : View) (f : Frame) (old new : Told)
+FullPutsAreWork = (s n : ℕ) (bytes : List ℕ) (before after : View) (f : PageFrame) (old new : Told)
     → after.units ≡ before.units
     → before.down ≡ false → after.memory.slots ≡ before.memory.slots
     → KeepsState {T = Unit {0}} {E = ChipFault} before.memory.tables before.memory.frames old (Ok tt)
@@ -145,7 +145,7 @@ FullPutsAreWork = (s n : ℕ) (bytes : List ℕ) (before after : View) (f : Fram
 -- And so is one that brought it, found room, and then wrote.
 abbrev pub WrittenPutsAreWork : Type 0
 WrittenPutsAreWork = (s n : ℕ) (bytes : List ℕ) (before after : View) (t : Tables) (later : Frames)
-    (f : Frame) (old mid new : Told)
+    (f : PageFrame) (old mid new : Told)
     → after.units ≡ before.units
     → before.down ≡ false → Counts old mid
     → KeepsState {T = Unit {0}} {E = ChipFault} before.memory.tables before.memory.frames old (Ok tt)
@@ -173,64 +173,64 @@ RefusalsLead = (units : ℕ) (c : Command) (r : Refusal) (before : Memory) (old 
 -- ---- what isn't refused
 
 -- the session is one of the 32, open under a number, and may be ended
-pub record IsOpenSession (slots : Slots) (s : ℕ) : Type 0 where
+pub record IsOpenSession (slots : SessionSlots) (s : ℕ) : Type 0 where
   pub low : s < SESSIONS
   pub number : ℕ
   pub number_is : number_of slots s ≡ Some number
   pub may_end : locks.refuses_end slots s ≡ None
 
 -- and the name is one of the units'
-pub record ReachesName (units : ℕ) (slots : Slots) (s n : ℕ) : Type 0 where
+pub record ReachesName (units : ℕ) (slots : SessionSlots) (s n : ℕ) : Type 0 where
   pub session : IsOpenSession slots s
   pub name : n < UNIT_NAMES * units
 
 -- and the locks let it be written, by a write of this size
-pub record MayWriteName (units : ℕ) (slots : Slots) (s n size : ℕ) : Type 0 where
+pub record MayWriteName (units : ℕ) (slots : SessionSlots) (s n size : ℕ) : Type 0 where
   pub reaches : ReachesName units slots s n
   pub may : locks.refuses_write slots s n size ≡ None
 
 -- these sessions are such, and none is named twice
-pub record AreOpenSessions (slots : Slots) (ss : List ℕ) : Type 0 where
+pub record AreOpenSessions (slots : SessionSlots) (ss : List ℕ) : Type 0 where
   pub opens : (s : ℕ) → Contains ss s → IsOpenSession slots s
   pub once : (s : ℕ) → Contains ss s → is_twice ss s ≡ false
 
 -- a begin: the session is one of the 32, and closed
 abbrev pub PassedBegins : Type 0
-PassedBegins = (units : ℕ) (slots : Slots) (s : ℕ)
+PassedBegins = (units : ℕ) (slots : SessionSlots) (s : ℕ)
     → refuses_begin (limits_of units) (state_of slots) s ≡ None
     → (s < SESSIONS) × (number_of slots s ≡ None) × (locks.refuses_begin slots s ≡ None)
 
 -- a get
 abbrev pub PassedGets : Type 0
-PassedGets = (units : ℕ) (slots : Slots) (s n : ℕ)
+PassedGets = (units : ℕ) (slots : SessionSlots) (s n : ℕ)
     → refuses_get (limits_of units) (state_of slots) s n ≡ None → ReachesName units slots s n
 
 -- a share: the locks let the name be shared
 abbrev pub PassedShares : Type 0
-PassedShares = (units : ℕ) (slots : Slots) (s n : ℕ)
+PassedShares = (units : ℕ) (slots : SessionSlots) (s n : ℕ)
     → refuses_share (limits_of units) (state_of slots) s n ≡ None
     → ReachesName units slots s n × (locks.refuses_share slots s n ≡ None)
 
 -- a put that isn't refused early: the value has at most 464 bytes
 abbrev pub PassedPuts : Type 0
-PassedPuts = (units : ℕ) (slots : Slots) (s n : ℕ) (bytes : List ℕ)
+PassedPuts = (units : ℕ) (slots : SessionSlots) (s n : ℕ) (bytes : List ℕ)
     → sessions_refuse_put (limits_of units) slots s n bytes ≡ None
     → MayWriteName units slots s n (size_in_page (Some bytes)) × (length bytes ≤ VALUE_LEN)
 
 -- a delete
 abbrev pub PassedDels : Type 0
-PassedDels = (units : ℕ) (slots : Slots) (s n : ℕ)
+PassedDels = (units : ℕ) (slots : SessionSlots) (s n : ℕ)
     → sessions_refuse_del (limits_of units) slots s n ≡ None
     → MayWriteName units slots s n (size_in_page None)
 
 -- a commit, or an abort
 abbrev pub PassedEnds : Type 0
-PassedEnds = (units : ℕ) (slots : Slots) (s : ℕ)
+PassedEnds = (units : ℕ) (slots : SessionSlots) (s : ℕ)
     → refuses_end (limits_of units) (state_of slots) s ≡ None → IsOpenSession slots s
 
 -- a commit of several sessions
 abbrev pub PassedBatches : Type 0
-PassedBatches = (units : ℕ) (slots : Slots) (ss : List ℕ)
+PassedBatches = (units : ℕ) (slots : SessionSlots) (ss : List ℕ)
     → refuses_batch (limits_of units) (state_of slots) ss ≡ None → AreOpenSessions slots ss
 
 -- a list: both names are the units'

@@ -5,12 +5,12 @@ use Rattle.chip_trait.specs.Told.{Told}
 use Rattle.ipl_base.specs.declared.fault.ChipFault.{ChipFault}
 use Rattle.ipl_rules.specs.Operations as rules
 use Rattle.ipl_format.specs.Record.{Record, IsRecord}
-use Rattle.record_locks.specs.Held.{Slots, marks_in, number_of, numbers_in, written_of, written_by, after_begin, after_share, after_end}
+use Rattle.record_locks.specs.Held.{SessionSlots, marks_in, number_of, numbers_in, written_of, written_by, after_begin, after_share, after_end}
 use Rattle.record_locks.specs.Held.{after_batch as slots_after}
 use Rattle.ipl_meaning.specs.Tables.{Tables}
 use Rattle.record_locks.specs.Locks.{refuses_end}
 use Rattle.store_laws.specs.Pending.{name_at}
-use Rattle.store_laws.specs.Frames.{Frame, Frames, with_frame_at, IsWrittenFrame, IsAbortedFrame}
+use Rattle.store_laws.specs.Frames.{PageFrame, Frames, with_frame_at, IsWrittenFrame, IsAbortedFrame}
 use Rattle.store_laws.specs.Fits.{LocksHold}
 use Rattle.store_laws.specs.Room.{PageHasRoomFor}
 use Rattle.store_laws.specs.StepLaws.{after_record}
@@ -19,7 +19,7 @@ use Rattle.store_laws.specs.NamedFrames.{NamedFramesChange}
 use Rattle.store_laws.specs.Refusals.{AreOpenSessions}
 
 -- the tables have the numbers of these sessions
-abbrev pub with_numbers_of : Tables → Slots → Tables
+abbrev pub with_numbers_of : Tables → SessionSlots → Tables
 with_numbers_of t slots = record t { active = numbers_in slots }
 
 -- a session is opened, under a number that the counter gave
@@ -40,7 +40,7 @@ SharesLead = (s n : ℕ) (before : Memory) (old : Told) → s < length before.sl
 
 -- a session puts or deletes a name: the record stands behind those of its page, which has room for it
 abbrev pub WritesLead : Type 0
-WritesLead = (s u : ℕ) (r : Record) (f g : Frame) (before : Memory) (old : Told)
+WritesLead = (s u : ℕ) (r : Record) (f g : PageFrame) (before : Memory) (old : Told)
     → s < length before.slots → number_of before.slots s ≡ Some r.tid
     → u < length before.tables.places.current
     → IsRecord VERSION r → before.frames u r.page ≡ Some f → IsWrittenFrame r f g
@@ -71,5 +71,5 @@ EmptyCommitsLead = (ss : List ℕ) (before : Memory) (old : Told) → AreOpenSes
 
 -- a session that has a number is open, and may be closed
 abbrev pub OpenSessionsMayEnd : Type 0
-OpenSessionsMayEnd = (slots : Slots) (s tid : ℕ) → number_of slots s ≡ Some tid
+OpenSessionsMayEnd = (slots : SessionSlots) (s tid : ℕ) → number_of slots s ≡ Some tid
     → refuses_end slots s ≡ None

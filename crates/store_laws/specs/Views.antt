@@ -4,10 +4,10 @@ use Rattle.ipl_format.specs.Record.{Record}
 use Rattle.page_ops.specs.Frames.{FrameView, values_in, pending_in, IsSettled, IsDropped}
 use Rattle.page_ops.specs.Pending.{with_pending}
 use Rattle.store_laws.specs.Pending.{is_other}
-use Rattle.store_laws.specs.Frames.{Frame, IsWrittenFrame, IsCommittedFrame, IsAbortedFrame}
+use Rattle.store_laws.specs.Frames.{PageFrame, IsWrittenFrame, IsCommittedFrame, IsAbortedFrame}
 
 -- a frame with the records in memory of its page
-abbrev pub frame_of : FrameView → List Record → Frame
+abbrev pub frame_of : FrameView → List Record → PageFrame
 frame_of f log = record { values = values_in f; pending = pending_in f; log = log }
 
 -- a commit

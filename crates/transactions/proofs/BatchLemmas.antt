@@ -10,7 +10,7 @@ use Rattle.ipl_base.specs.declared.limits.TheConstants.{SESSIONS}
 use Rattle.ipl_rules.specs.Refusals.{first_of, is_twice, twice}
 use Rattle.ipl_rules.specs.State.{is_open}
 use Rattle.ipl_rules.proofs.BatchLemmas.{any_listed}
-use Rattle.record_locks.specs.Held.{Slots}
+use Rattle.record_locks.specs.Held.{SessionSlots}
 use Rattle.record_locks.specs.Locks.{refuses_batch}
 use Rattle.record_locks.specs.Standing.{state_of}
 use Rattle.store_laws.specs.Refusals.{AreOpenSessions}
@@ -49,7 +49,7 @@ none_found test fails a (suc n) =
     ∙ none_found test fails (a + 1) n
 
 -- open sessions, each once, may be closed together
-pub batch_unrefused : (slots : Slots) (ss : List ℕ) → AreOpenSessions slots ss
+pub batch_unrefused : (slots : SessionSlots) (ss : List ℕ) → AreOpenSessions slots ss
     → refuses_batch slots ss ≡ None
 batch_unrefused slots ss are =
     let closed : ℕ → Bool = λ s. not (is_open (state_of slots) s) in

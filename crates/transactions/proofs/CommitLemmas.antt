@@ -7,7 +7,7 @@ use Rattle.ipl_rules.specs.Operations.{after_batch}
 use Rattle.ipl_rules.specs.State.{State}
 use Rattle.record_locks.specs.Held.{numbers_in, written_by, writer_numbers}
 use Rattle.record_locks.specs.Held.{after_batch as slots_after}
-use Rattle.ipl_meaning.specs.Tables.{Places, Status, Tables, IsCountedClean}
+use Rattle.ipl_meaning.specs.Tables.{Places, StatusTable, Tables, IsCountedClean}
 use Rattle.ipl_meaning.specs.TableSteps.{after_commit as after_commit_of}
 use Rattle.merge_laws.specs.Known.{KnowsPlaces}
 use Rattle.merge_laws.proofs.KnownCleanLemmas.{commit_shrinks}
@@ -125,7 +125,7 @@ numbers_added ss tids old new added before after order are may writers adds step
           programs;
       wears = programs_wear_nothing (tables_in old.pages) (tables_in new.pages) true false before after
           (alike_tables (tables_in old.pages) (tables_in new.pages) (rest.directory ∙ directory)
-          (ap (λ (it : Status). it.place) (rest.status ∙ status)))
+          (ap (λ (it : StatusTable). it.place) (rest.status ∙ status)))
           (programs_leave_places (tables_in old.pages).places (tables_in new.pages).places stands.place 1 2
           6 before after (ap (λ (d : Places). d.retired) (rest.directory ∙ directory))
           (homes_equal (tables_in old.pages).places (tables_in new.pages).places
@@ -135,7 +135,7 @@ numbers_added ss tids old new added before after order are may writers adds step
         ready = still_ready before.places old.pages new.pages (record {
           places = rest.directory ∙ directory;
           overflow = rest.overflow ∙ overflow;
-          status = ap (λ (it : Status). it.place) (rest.status ∙ status);
+          status = ap (λ (it : StatusTable). it.place) (rest.status ∙ status);
         }) pins_then
             (changed_had StaysFramed old.pages new.pages
             (subst (λ (p : PoolView). EachFrameChanges StaysFramed (frames_in old.pages)
@@ -188,7 +188,7 @@ numbers_not_added ss tids e old new before after order are may writers steps ses
         ready = still_ready before.places old.pages new.pages (record {
           places = directory;
           overflow = overflow;
-          status = ap (λ (it : Status). it.place) status;
+          status = ap (λ (it : StatusTable). it.place) status;
         }) pins (same_had old.pages new.pages (ap frames_of pool)) order.ready;
         active = active ∙ order.active ∙ ap numbers_in (sym sessions);
       };
@@ -206,7 +206,7 @@ pub may_add : (ss : List ℕ) (mid : Pages) (new : Transactions) (result : Resul
     → OnOk result (MayAddNumbers new ss)
 may_add ss mid new (Ok v) out room same = record {
   out = out;
-  room = subst (λ (status : Status). 0 < room_of status) (sym same) room;
+  room = subst (λ (status : StatusTable). 0 < room_of status) (sym same) room;
 }
 may_add ss mid new (Err e) out room same = tt
 
@@ -254,12 +254,12 @@ empty_committed ss most old new told order are none rest slots active locks =
           told told (λ q n counted. active_counted old.pages new.pages rest q n counted)
           (tables_none {T = Unit {0}} {E = ChipFault} (tables_in old.pages) (Ok tt) told);
       wears = nothing_wears (tables_in old.pages) (tables_in new.pages) true told
-          (alike_tables (tables_in old.pages) (tables_in new.pages) rest.directory (ap (λ (it : Status). it.place) rest.status));
+          (alike_tables (tables_in old.pages) (tables_in new.pages) rest.directory (ap (λ (it : StatusTable). it.place) rest.status));
       order = record {
         ready = still_ready told.places old.pages new.pages (record {
           places = rest.directory;
           overflow = rest.overflow;
-          status = ap (λ (it : Status). it.place) rest.status;
+          status = ap (λ (it : StatusTable). it.place) rest.status;
         }) pins (same_had old.pages new.pages (ap frames_of rest.pool)) order.ready;
         active = active;
       };

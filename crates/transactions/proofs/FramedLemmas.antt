@@ -3,15 +3,15 @@ use Rattle.std.proofs.Common.{◌≡◌, ℕ, ◌+◌, ◌<◌, List, [], ◌∷
 use Rattle.std.proofs.lemmas.List.{take_more}
 use Rattle.ipl_base.specs.declared.name.Name.{Name}
 use Rattle.ipl_rules.proofs.BatchLemmas.{first_in, later_in}
-use Rattle.record_locks.specs.Held.{Slots, number_of, written_of}
-use Rattle.store_laws.specs.Frames.{Frame, Frames, ChangesSo, EachFrameChanges, IsCommittedFrame}
+use Rattle.record_locks.specs.Held.{SessionSlots, number_of, written_of}
+use Rattle.store_laws.specs.Frames.{PageFrame, Frames, ChangesSo, EachFrameChanges, IsCommittedFrame}
 use Rattle.store_laws.specs.NamedFrames.{IsSameOr, NamedFramesChange, SettleInTurn}
 use Rattle.store_laws.specs.Refusals.{IsOpenSession}
 use Rattle.page_frames.specs.declared.pages.Pages.{Pages}
 use Rattle.page_frames.specs.Pages.{frames_in, KeepsFramed}
 use Rattle.page_frames.proofs.FramedLemmas.{pool_framed}
 
-some_changed : (R : Frame → Frame → Type 0) (a b : Option Frame) → ChangesSo R a b → IsSome a
+some_changed : (R : PageFrame → PageFrame → Type 0) (a b : Option PageFrame) → ChangesSo R a b → IsSome a
     → IsSome b
 some_changed R None None so is = is
 some_changed R None (Some b) so is = absurd so
@@ -19,7 +19,7 @@ some_changed R (Some a) None so is = absurd so
 some_changed R (Some a) (Some b) so is = refl
 
 -- the frames of names change, and then none
-pub named_framed : (R : Frame → Frame → Type 0) (names : List ℕ) (old mid new : Pages)
+pub named_framed : (R : PageFrame → PageFrame → Type 0) (names : List ℕ) (old mid new : Pages)
     → NamedFramesChange R names (frames_in old) (frames_in mid) → new.pool ≡ mid.pool
     → KeepsFramed old new
 named_framed R names old mid new did same u page is =
@@ -29,11 +29,11 @@ named_framed R names old mid new did same u page is =
 -- ---- the frames of several sessions, one session after the other
 
 -- a page has a frame before and after, or none
-abbrev pub StaysFramed : Frame → Frame → Type 0
+abbrev pub StaysFramed : PageFrame → PageFrame → Type 0
 StaysFramed a b = Unit {0}
 
 -- so it is where the frame changes somehow
-change_stays : (R : Frame → Frame → Type 0) (a b : Option Frame) → ChangesSo R a b
+change_stays : (R : PageFrame → PageFrame → Type 0) (a b : Option PageFrame) → ChangesSo R a b
     → ChangesSo StaysFramed a b
 change_stays R None None so = tt
 change_stays R None (Some b) so = absurd so
@@ -41,12 +41,12 @@ change_stays R (Some a) None so = absurd so
 change_stays R (Some a) (Some b) so = tt
 
 -- or is the same
-same_stays : (a : Option Frame) → ChangesSo StaysFramed a a
+same_stays : (a : Option PageFrame) → ChangesSo StaysFramed a a
 same_stays None = tt
 same_stays (Some a) = tt
 
 -- or two such changes follow one another
-stays_twice : (a b c : Option Frame) → ChangesSo StaysFramed a b → ChangesSo StaysFramed b c
+stays_twice : (a b c : Option PageFrame) → ChangesSo StaysFramed a b → ChangesSo StaysFramed b c
     → ChangesSo StaysFramed a c
 stays_twice None None c one two = two
 stays_twice None (Some b) c one two = absurd one
@@ -55,7 +55,7 @@ stays_twice (Some a) (Some b) None one two = absurd two
 stays_twice (Some a) (Some b) (Some c) one two = tt
 
 -- the same pages are in frames
-pub in_turn_stays : (slots : Slots) (ss : List ℕ) (old new : Frames)
+pub in_turn_stays : (slots : SessionSlots) (ss : List ℕ) (old new : Frames)
     → ((s : ℕ) → Contains ss s → IsOpenSession slots s) → SettleInTurn slots ss old new
     → EachFrameChanges StaysFramed old new
 in_turn_stays slots [] old new opens same u page =
@@ -69,7 +69,7 @@ in_turn_stays slots (s ∷ ss) old new opens (between, first, rest) u page =
     (in_turn_stays slots ss between new (λ t at. opens t (later_in s ss t at)) rest u page)
 
 -- and then none changes
-pub in_turn_framed : (slots : Slots) (ss : List ℕ) (old mid new : Pages)
+pub in_turn_framed : (slots : SessionSlots) (ss : List ℕ) (old mid new : Pages)
     → ((s : ℕ) → Contains ss s → IsOpenSession slots s)
     → SettleInTurn slots ss (frames_in old) (frames_in mid) → new.pool ≡ mid.pool
     → KeepsFramed old new
@@ -79,7 +79,7 @@ in_turn_framed slots ss old mid new opens did same u page is =
     (in_turn_stays slots ss (frames_in old) (frames_in mid) opens did u page) is)
 
 -- one session more, after the others
-settled_last : (slots : Slots) (ss : List ℕ) (s tid : ℕ) (old mid new : Frames)
+settled_last : (slots : SessionSlots) (ss : List ℕ) (s tid : ℕ) (old mid new : Frames)
     → number_of slots s ≡ Some tid → SettleInTurn slots ss old mid
     → NamedFramesChange (IsCommittedFrame tid) (written_of slots s) mid new
     → SettleInTurn slots (ss ++ s ∷ []) old new
@@ -95,7 +95,7 @@ settled_last slots (t ∷ ss) s tid old mid new mine (between, first, rest) chan
     (between, first, settled_last slots ss s tid between mid new mine rest change)
 
 -- the next one of a list
-settled_more : (slots : Slots) (ss : List ℕ) (i tid : ℕ) (old mid new : Frames) → i < length ss
+settled_more : (slots : SessionSlots) (ss : List ℕ) (i tid : ℕ) (old mid new : Frames) → i < length ss
     → number_of slots (get_or ss i 0) ≡ Some tid → SettleInTurn slots (take i ss) old mid
     → NamedFramesChange (IsCommittedFrame tid) (written_of slots (get_or ss i 0)) mid new
     → SettleInTurn slots (take (i + 1) ss) old new
@@ -104,7 +104,7 @@ settled_more slots ss i tid old mid new within mine so_far change =
     (settled_last slots (take i ss) (get_or ss i 0) tid old mid new mine so_far change)
 
 -- so it is in a loop, where the sessions are what they were first
-pub settled_next : (first now : Slots) (ss : List ℕ) (i tid : ℕ) (names : List Name)
+pub settled_next : (first now : SessionSlots) (ss : List ℕ) (i tid : ℕ) (names : List Name)
     (old mid new : Frames) → now ≡ first → i < length ss
     → number_of now (get_or ss i 0) ≡ Some tid
     → map (λ (n : Name). n.0) names ≡ written_of now (get_or ss i 0)
@@ -113,6 +113,6 @@ pub settled_next : (first now : Slots) (ss : List ℕ) (i tid : ℕ) (names : Li
     → SettleInTurn first (take (i + 1) ss) old new
 settled_next first now ss i tid names old mid new same within mine written so_far change =
     settled_more first ss i tid old mid new within
-    (ap (λ (slots : Slots). number_of slots (get_or ss i 0)) (sym same) ∙ mine) so_far
+    (ap (λ (slots : SessionSlots). number_of slots (get_or ss i 0)) (sym same) ∙ mine) so_far
     (subst (λ (l : List ℕ). NamedFramesChange (IsCommittedFrame tid) l mid new)
-    (written ∙ ap (λ (slots : Slots). written_of slots (get_or ss i 0)) same) change)
+    (written ∙ ap (λ (slots : SessionSlots). written_of slots (get_or ss i 0)) same) change)

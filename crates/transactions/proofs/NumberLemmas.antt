@@ -2,9 +2,9 @@
 use Rattle.std.proofs.Common.{◌≡◌, ℕ, ◌≤◌, ◌<◌, ◌+◌, List, [], ◌∷◌, ◌++◌, length, take, Option, Some, None, refl, sym, ◌∙◌, ap, arith}
 use Rattle.std.specs.Option.{option_map}
 use Rattle.std.proofs.lemmas.List.{take_more, take_all, length-take-le}
-use Rattle.record_locks.specs.Held.{Held, Slots, held_at, number_of, numbers_in}
+use Rattle.record_locks.specs.Held.{Held, SessionSlots, held_at, number_of, numbers_in}
 
-numbers_append : (a b : Slots) → numbers_in (a ++ b) ≡ numbers_in a ++ numbers_in b
+numbers_append : (a b : SessionSlots) → numbers_in (a ++ b) ≡ numbers_in a ++ numbers_in b
 numbers_append [] b = refl
 numbers_append (None ∷ a) b = numbers_append a b
 numbers_append (Some h ∷ a) b = ap (λ (l : List ℕ). h.number ∷ l) (numbers_append a b)
@@ -19,13 +19,13 @@ numbers_none : (o : Option Held) → option_map (λ h. h.number) o ≡ None → 
 numbers_none None is = refl
 numbers_none (Some h) is = absurd (cc is)
 
-numbers_last : (slots : Slots) (s : ℕ) → s < length slots
+numbers_last : (slots : SessionSlots) (s : ℕ) → s < length slots
     → numbers_in (take (s + 1) slots) ≡ numbers_in (take s slots) ++ numbers_in (held_at slots s ∷ [])
 numbers_last slots s within =
     ap numbers_in (take_more slots s None within)
     ∙ numbers_append (take s slots) (held_at slots s ∷ [])
 
-module _ (slots : Slots) (s : ℕ) (active : List ℕ) (all : length slots ≡ 32) (low : s < 32)
+module _ (slots : SessionSlots) (s : ℕ) (active : List ℕ) (all : length slots ≡ 32) (low : s < 32)
     (so_far : active ≡ numbers_in (take s slots)) where
   pub number_joins : (tid : ℕ) → number_of slots s ≡ Some tid
       → active ++ tid ∷ [] ≡ numbers_in (take (s + 1) slots)
@@ -46,17 +46,17 @@ module _ (slots : Slots) (s : ℕ) (active : List ℕ) (all : length slots ≡ 3
       append_none [] = refl
       append_none (n ∷ l) = ap (λ (k : List ℕ). n ∷ k) (append_none l)
 
-pub all_numbers : (slots : Slots) (s : ℕ) → length slots ≤ s
+pub all_numbers : (slots : SessionSlots) (s : ℕ) → length slots ≤ s
     → numbers_in (take s slots) ≡ numbers_in slots
 all_numbers slots s past = ap numbers_in (take_all s slots past)
 
 -- there are no more numbers than sessions
-few_numbers : (slots : Slots) → length (numbers_in slots) ≤ length slots
+few_numbers : (slots : SessionSlots) → length (numbers_in slots) ≤ length slots
 few_numbers [] = omega arith
 few_numbers (None ∷ slots) = omega (arith, few_numbers slots)
 few_numbers (Some h ∷ slots) = omega (arith, few_numbers slots)
 
-pub few_below : (slots : Slots) (s : ℕ) (active : List ℕ) → length slots ≡ 32 → s < 32
+pub few_below : (slots : SessionSlots) (s : ℕ) (active : List ℕ) → length slots ≡ 32 → s < 32
     → active ≡ numbers_in (take s slots) → length active < 32
 few_below slots s active all low so_far =
     omega (

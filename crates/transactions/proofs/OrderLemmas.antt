@@ -3,15 +3,15 @@ use Rattle.std.proofs.Common.{◌≡◌, ℕ, ◌<◌, length, Option, Some, Non
 use Rattle.chip_trait.specs.Told.{Told}
 use Rattle.ipl_base.specs.declared.fault.ChipFault.{ChipFault}
 use Rattle.ipl_rules.specs.State.{State}
-use Rattle.ipl_meaning.specs.Tables.{Places, Status, Tables, IsFree, overflow_places, IsCountedClean}
-use Rattle.record_locks.specs.Held.{Slots, numbers_in}
+use Rattle.ipl_meaning.specs.Tables.{Places, StatusTable, Tables, IsFree, overflow_places, IsCountedClean}
+use Rattle.record_locks.specs.Held.{SessionSlots, numbers_in}
 use Rattle.merge_laws.specs.Known.{KnowsPlaces}
 use Rattle.buffer_pool.specs.Holding.{KeepsPins}
 use Rattle.buffer_pool.proofs.HoldingLemmas.{rest_stays}
-use Rattle.store_laws.specs.Frames.{Frame, Frames, ChangesSo, EachFrameChanges}
+use Rattle.store_laws.specs.Frames.{PageFrame, Frames, ChangesSo, EachFrameChanges}
 use Rattle.store_laws.specs.Advances.{Memory, memory_of, LeadsTo}
 use Rattle.page_frames.specs.declared.pages.Pages.{Pages}
-use Rattle.page_frames.specs.Pages.{tables_in, frames_in, IsReady}
+use Rattle.page_frames.specs.Pages.{tables_in, frames_in, ArePagesReady}
 use Rattle.transactions.specs.declared.transactions.Transactions.{Transactions}
 use Rattle.transactions.specs.Turns.{memory_in, TurnsInMemory}
 
@@ -74,18 +74,18 @@ places_known places t after same known =
 
 -- ---- frames
 
-had_frame : (R : Frame → Frame → Type 0) (a b : Option Frame) (f : Frame) → ChangesSo R a b
-    → b ≡ Some f → (g : Frame) × (a ≡ Some g)
+had_frame : (R : PageFrame → PageFrame → Type 0) (a b : Option PageFrame) (f : PageFrame) → ChangesSo R a b
+    → b ≡ Some f → (g : PageFrame) × (a ≡ Some g)
 had_frame R None None f so is = absurd (cc is)
 had_frame R None (Some b) f so is = absurd so
 had_frame R (Some a) b f so is = (a, refl)
 
 -- pages in the frames that they were in, or some of them
 abbrev pub HadFrames : Pages → Pages → Type 0
-HadFrames old new = (u page : ℕ) (f : Frame) → frames_in new u page ≡ Some f
-    → (g : Frame) × (frames_in old u page ≡ Some g)
+HadFrames old new = (u page : ℕ) (f : PageFrame) → frames_in new u page ≡ Some f
+    → (g : PageFrame) × (frames_in old u page ≡ Some g)
 
-pub changed_had : (R : Frame → Frame → Type 0) (old new : Pages)
+pub changed_had : (R : PageFrame → PageFrame → Type 0) (old new : Pages)
     → EachFrameChanges R (frames_in old) (frames_in new) → HadFrames old new
 changed_had R old new each u page f is =
     had_frame R (frames_in old u page) (frames_in new u page) f (each u page) is
@@ -94,7 +94,7 @@ pub same_had : (old new : Pages) → frames_in new ≡ frames_in old → HadFram
 same_had old new same u page f is = (f, ap (λ (o : Frames). o u page) (sym same) ∙ is)
 
 pub still_ready : (places : ℕ) (old new : Pages) → SamePlaces (tables_in old) (tables_in new)
-    → KeepsPins old.pool new.pool → HadFrames old new → IsReady places old → IsReady places new
+    → KeepsPins old.pool new.pool → HadFrames old new → ArePagesReady places old → ArePagesReady places new
 still_ready places old new same pins had ready = record {
   known = places_known places (tables_in old) (tables_in new) same ready.known;
   within = λ u page f is.
@@ -105,7 +105,7 @@ still_ready places old new same pins had ready = record {
 
 -- ---- memory, part by part
 
-pub record IsMemory (t : Tables) (frames : Frames) (slots : Slots) (it : Transactions)
+pub record IsMemory (t : Tables) (frames : Frames) (slots : SessionSlots) (it : Transactions)
     : Type 0 where
   pub places : it.pages.parts.directory ≡ t.places
   pub overflow : it.pages.parts.overflow ≡ t.overflow
@@ -115,7 +115,7 @@ pub record IsMemory (t : Tables) (frames : Frames) (slots : Slots) (it : Transac
   pub frames_are : frames_in it.pages ≡ frames
   pub slots_are : it.sessions ≡ slots
 
-pub memory_is : (t : Tables) (frames : Frames) (slots : Slots) (it : Transactions)
+pub memory_is : (t : Tables) (frames : Frames) (slots : SessionSlots) (it : Transactions)
     → IsMemory t frames slots it → memory_of t frames slots ≡ memory_in it
 memory_is t frames slots it is = λ i. record {
   tables = record {
@@ -131,7 +131,7 @@ memory_is t frames slots it is = λ i. record {
 
 -- a call in memory that makes these of it
 pub turned_in_memory : (next : State → State) (old new : Transactions) (t : Tables)
-    (frames : Frames) (slots : Slots) → IsMemory t frames slots new
+    (frames : Frames) (slots : SessionSlots) → IsMemory t frames slots new
     → SamePlaces (tables_in old.pages) t
     → ((p s : ℕ) → IsCountedClean t p s → IsCountedClean (tables_in old.pages) p s)
     → KeepsPins old.pages.pool new.pages.pool
@@ -146,12 +146,12 @@ turned_in_memory next old new t frames slots is same clean pins had active leads
   fewer = λ p s counted. clean p s (subst (λ (m : Memory). IsCountedClean m.tables p s)
       (sym (memory_is t frames slots new is)) counted);
   directory = is.places ∙ same.places;
-  status = ap (λ (s : Status). s.place) is.status ∙ same.status;
+  status = ap (λ (s : StatusTable). s.place) is.status ∙ same.status;
   order = λ places order. record {
     ready = still_ready places old.pages new.pages (record {
       places = is.places ∙ same.places;
       overflow = is.overflow ∙ same.overflow;
-      status = ap (λ (s : Status). s.place) is.status ∙ same.status;
+      status = ap (λ (s : StatusTable). s.place) is.status ∙ same.status;
     }) pins had order.ready;
     active = is.active ∙ active order.active ∙ ap numbers_in (sym is.slots_are);
   };

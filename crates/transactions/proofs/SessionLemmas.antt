@@ -4,7 +4,7 @@ use Rattle.std.specs.Option.{option_map}
 use Rattle.std.proofs.lemmas.List.{length-set}
 use Rattle.ipl_base.specs.declared.name.Name.{Name}
 use Rattle.ipl_rules.specs.Operations as rules
-use Rattle.record_locks.specs.Held.{Held, Slots, held_at, number_of, numbers_in, written_of, is_among, raised, with_written, with_shared, after_begin, after_share, after_write, after_end}
+use Rattle.record_locks.specs.Held.{Held, SessionSlots, held_at, number_of, numbers_in, written_of, is_among, raised, with_written, with_shared, after_begin, after_share, after_write, after_end}
 use Rattle.record_locks.specs.Locks.{refuses_begin, OneWriter, FewPending, IsSized}
 use Rattle.buffer_pool.specs.Holding.{KeepsPins}
 use Rattle.buffer_pool.specs.Pools.{PoolView}
@@ -23,18 +23,18 @@ use Rattle.transactions.proofs.OrderLemmas.{changed_had, same_had, turned_in_mem
 use Rattle.transactions.proofs.OpenLemmas.{begins_unnumbered}
 
 -- there are 32 sessions, before one of them changes too
-pub among_all : (slots : Slots) (s : ℕ) (o : Option Held) → LocksHold (slice_set slots s o) → s < 32
+pub among_all : (slots : SessionSlots) (s : ℕ) (o : Option Held) → LocksHold (slice_set slots s o) → s < 32
     → s < length slots
 among_all slots s o locks low = omega (arith, length-set slots s o, locks.all, low)
 
-pub locks_of : (slots : Slots) → length slots ≡ 32 → OneWriter slots → All IsSized slots
+pub locks_of : (slots : SessionSlots) → length slots ≡ 32 → OneWriter slots → All IsSized slots
     → FewPending slots → LocksHold slots
 locks_of slots all one sized few =
     record { all = all; one_writer = one; sized = sized; few = few }
 
 -- a session that shares a name, or writes one, has the number that it had
 numbers_stay : (change : Held → Held) → ((h : Held) → (change h).number ≡ h.number)
-    → (slots : Slots) (s : ℕ)
+    → (slots : SessionSlots) (s : ℕ)
     → numbers_in (slice_set slots s (option_map change (held_at slots s))) ≡ numbers_in slots
 numbers_stay change same [] s = refl
 numbers_stay change same (None ∷ slots) zero = refl
@@ -62,11 +62,11 @@ written_number n size h = by_test (is_among n h.written)
     by_test true = refl
     by_test false = refl
 
-shares_keep_numbers : (slots : Slots) (s n : ℕ)
+shares_keep_numbers : (slots : SessionSlots) (s n : ℕ)
     → numbers_in (after_share slots s n) ≡ numbers_in slots
 shares_keep_numbers slots s n = numbers_stay (with_shared n) (shared_number n) slots s
 
-pub writes_keep_numbers : (slots : Slots) (s n size : ℕ)
+pub writes_keep_numbers : (slots : SessionSlots) (s n size : ℕ)
     → numbers_in (after_write slots s n size) ≡ numbers_in slots
 writes_keep_numbers slots s n size =
     numbers_stay (with_written n size) (written_number n size) slots s

@@ -3,7 +3,7 @@ use Rattle.std.proofs.Common.{◌≡◌, ℕ, ◌≤◌, ◌+◌, Bool, false, R
 use Rattle.chip_trait.specs.Told.{Told}
 use Rattle.ipl_base.specs.declared.fault.ChipFault.{ChipFault}
 use Rattle.ipl_rules.specs.State.{State}
-use Rattle.record_locks.specs.Held.{Slots, numbers_in}
+use Rattle.record_locks.specs.Held.{SessionSlots, numbers_in}
 use Rattle.buffer_pool.proofs.HoldingLemmas.{both_keep}
 use Rattle.status_renewal.proofs.CauseLemmas.{accounts_then}
 use Rattle.step_laws.proofs.TablesLemmas.{tables_none, tables_then}
@@ -15,7 +15,7 @@ use Rattle.store_laws.specs.Advances.{memory_of, LeadsTo}
 use Rattle.store_laws.proofs.KeeperLemmas.{Nowhere, keepers_are_joined, reads_keep_states}
 use Rattle.store_laws.proofs.LeadLemmas.{keepers_then_lead, failed_keepers_lead}
 use Rattle.page_frames.specs.declared.pages.Pages.{Pages}
-use Rattle.page_frames.specs.Complete.{Completes}
+use Rattle.page_frames.specs.Complete.{FailsByChip}
 use Rattle.page_frames.specs.Faulty.{TellsFaults}
 use Rattle.page_frames.specs.Pages.{tables_in, frames_in, PageCause, Upholds}
 use Rattle.transactions.specs.declared.transactions.Transactions.{Transactions}
@@ -49,7 +49,7 @@ upheld_then next n m old mid new result before between after did same turns =
     let counts = did.accounts.counts in record {
       leads = keepers_then_lead next (memory_in old) (tables_in mid.pages) (frames_in mid.pages)
           (memory_in new) result before between after counts did.keeps
-          (subst (λ (slots : Slots). LeadsTo next
+          (subst (λ (slots : SessionSlots). LeadsTo next
           (memory_of (tables_in mid.pages) (frames_in mid.pages) slots) between result
           (memory_in new) after) same turns.leads);
       tidy = tables_then (Unit {0}) ChipFault (tables_in old.pages) (tables_in mid.pages)
@@ -72,7 +72,7 @@ pub upheld_no_more : (next : State → State) (n : ℕ) (old new : Transactions)
     → new.sessions ≡ old.sessions
     → Turns {T = Unit {0}} next n old before (Err e) new after
 upheld_no_more next n old new e before after order did same = record {
-  leads = subst (λ (slots : Slots). LeadsTo {T = Unit {0}} next (memory_in old) before (Err e)
+  leads = subst (λ (slots : SessionSlots). LeadsTo {T = Unit {0}} next (memory_in old) before (Err e)
       (memory_of (tables_in new.pages) (frames_in new.pages) slots) after) (sym same)
       (failed_keepers_lead next (memory_in old) (tables_in new.pages) (frames_in new.pages) e e
       before after did.keeps);
@@ -117,7 +117,7 @@ upheld_refused next n old new e before after order did same cause calm =
 
 -- whatever sessions there are, so with those of the memory
 pub completes_for : (old : Transactions) (result : Result (Unit {0}) ChipFault) (told : Told)
-    → Completes old.pages result told → CompletesFor old result told
+    → FailsByChip old.pages result told → CompletesFor old result told
 completes_for old result told complete x there layout state fits says =
     complete x there old.sessions layout state fits says
 

@@ -22,7 +22,7 @@ use Rattle.selective_merge.specs.Spotting.{HasHomeSpot}
 use Rattle.buffer_pool.specs.Holding.{KeepsPins}
 use Rattle.page_ops.specs.Pending.{mark_of}
 use Rattle.store_laws.specs.Pending.{name_at}
-use Rattle.store_laws.specs.Frames.{Frame, Frames, with_frame_at, IsWrittenFrame}
+use Rattle.store_laws.specs.Frames.{PageFrame, Frames, with_frame_at, IsWrittenFrame}
 use Rattle.store_laws.specs.Fits.{LocksHold}
 use Rattle.store_laws.specs.Room.{PageHasRoomFor, fill_at, marked_by}
 use Rattle.store_laws.proofs.FullLemmas.{puts_that_pass_have_room, same_values_have_room}
@@ -49,7 +49,7 @@ use Rattle.transactions.proofs.SessionLemmas.{among_all, writes_keep_numbers}
 use Rattle.transactions.proofs.TurnLemmas.{upheld_order_then, upheld_then}
 
 -- one page's frame changed
-put_had : (R : Frame → Frame → Type 0) (u page : ℕ) (old new : Pages)
+put_had : (R : PageFrame → PageFrame → Type 0) (u page : ℕ) (old new : Pages)
     → FrameChanges R (frames_in old) (frames_in new) u page → HadFrames old new
 put_had R u page old new did v q f is = elim (cases_page u page v q) [
   | inl here ↦
@@ -63,7 +63,7 @@ put_had R u page old new did v q f is = elim (cases_page u page v q) [
 ]
 
 -- that page is in a frame then
-pub put_framed : (R : Frame → Frame → Type 0) (u page : ℕ) (at : Home) (old new : Pages)
+pub put_framed : (R : PageFrame → PageFrame → Type 0) (u page : ℕ) (at : Home) (old new : Pages)
     → at.unit ≡ u → at.page ≡ page → FrameChanges R (frames_in old) (frames_in new) u page
     → IsFramed new at.unit at.page
 put_framed R u page at old new same also did =
@@ -113,7 +113,7 @@ prepared_idle pages mid first worn_out n at r before after home page worn asks r
 -- ---- room in the page
 
 -- a record has room by what its page's frame has now, where it had by what that had before
-pub page_has_room : (n : ℕ) (at : Home) (r : Record) (it : Transactions) (mid : Pages) (now : Frame)
+pub page_has_room : (n : ℕ) (at : Home) (r : Record) (it : Transactions) (mid : Pages) (now : PageFrame)
     → at ≡ home_of n → r.page ≡ at.page → r.slot ≡ at.slot → MayTake it n r.change
     → KeepsValues at.unit r.page it.pages mid → frames_in mid at.unit r.page ≡ Some now
     → PageHasRoomFor (marks_in it.sessions) at.unit r now.values
@@ -131,7 +131,7 @@ page_has_room n at r it mid now home page slot may kept there = go r.change refl
         let (g, found, same) = kept f here in
         let one : Some g ≡ Some now = sym found ∙ there in
         let which : g ≡ now = cc one in
-        let values : now.values ≡ f.values = ap (λ (h : Frame). h.values) (sym which) ∙ same in
+        let values : now.values ≡ f.values = ap (λ (h : PageFrame). h.values) (sym which) ∙ same in
         same_values_have_room (marks_in it.sessions) at.unit r f.values now.values
         (λ slot low. ap (λ (v : Values). v slot) values)
         (subst (λ (h : Home). PageHasRoomFor (marks_in it.sessions) h.unit r f.values) (sym home)
@@ -142,7 +142,7 @@ page_has_room n at r it mid now home page slot may kept there = go r.change refl
 -- by the sessions' marks.
 pub record IsRefused (u : ℕ) (r : Record) (old : Transactions) (mid : Pages) (before after : Told)
     : Type 0 where
-  pub now : Frame
+  pub now : PageFrame
   pub there : frames_in mid u r.page ≡ Some now
   pub keeps : KeepsState {T = Unit {0}} {E = ChipFault} (tables_in old.pages) (frames_in old.pages)
       before (Ok tt) (tables_in mid) (frames_in mid) after

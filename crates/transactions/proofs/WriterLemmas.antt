@@ -5,14 +5,14 @@ use Rattle.std.proofs.lemmas.Bool.{eqb-true, eq-eqb}
 use Rattle.std.proofs.lemmas.List.{take_more, length-append, length-take-le, append-nil, append_assoc}
 use Rattle.ipl_base.specs.declared.name.Name.{Name}
 use Rattle.ipl_rules.proofs.BatchLemmas.{first_in, later_in}
-use Rattle.record_locks.specs.Held.{Slots, number_of, written_of, written_by, writer_number, writer_numbers}
+use Rattle.record_locks.specs.Held.{SessionSlots, number_of, written_of, written_by, writer_number, writer_numbers}
 use Rattle.store_laws.specs.Refusals.{IsOpenSession}
 use Rattle.store_laws.proofs.BatchLemmas.{none_written, no_numbers}
 
 -- ---- one session more
 
 -- the numbers of some sessions, and then those of others
-writers_append : (slots : Slots) (a b : List ℕ)
+writers_append : (slots : SessionSlots) (a b : List ℕ)
     → writer_numbers slots (a ++ b) ≡ writer_numbers slots a ++ writer_numbers slots b
 writers_append slots [] b = refl
 writers_append slots (s ∷ a) b =
@@ -22,7 +22,7 @@ writers_append slots (s ∷ a) b =
     (writer_numbers slots a) (writer_numbers slots b))
 
 -- so are the first of the sessions, and then the next one
-writers_more : (slots : Slots) (ss : List ℕ) (i : ℕ) → i < length ss
+writers_more : (slots : SessionSlots) (ss : List ℕ) (i : ℕ) → i < length ss
     → writer_numbers slots (take (i + 1) ss) ≡ writer_numbers slots (take i ss)
     ++ writer_number (written_of slots (get_or ss i 0)) (number_of slots (get_or ss i 0))
 writers_more slots ss i within =
@@ -31,7 +31,7 @@ writers_more slots ss i within =
     ∙ ap (λ (l : List ℕ). writer_numbers slots (take i ss) ++ l)
     (append-nil (writer_number (written_of slots (get_or ss i 0)) (number_of slots (get_or ss i 0))))
 
-module _ (slots : Slots) (ss : List ℕ) (i : ℕ) (tids : List ℕ) (within : i < length ss)
+module _ (slots : SessionSlots) (ss : List ℕ) (i : ℕ) (tids : List ℕ) (within : i < length ss)
     (so_far : tids ≡ writer_numbers slots (take i ss)) where
   -- the next one adds none
   pub none_joins : writer_number (written_of slots (get_or ss i 0)) (number_of slots (get_or ss i 0))
@@ -88,7 +88,7 @@ one_at_most (n ∷ names) None = omega arith
 one_at_most (n ∷ names) (Some tid) = omega arith
 
 -- there are no more numbers than sessions
-few_writers : (slots : Slots) (ss : List ℕ) → length (writer_numbers slots ss) ≤ length ss
+few_writers : (slots : SessionSlots) (ss : List ℕ) → length (writer_numbers slots ss) ≤ length ss
 few_writers slots [] = omega arith
 few_writers slots (s ∷ ss) =
     omega (
@@ -100,7 +100,7 @@ few_writers slots (s ∷ ss) =
     )
 
 -- so there is room for one more before the last session
-pub room_for_writer : (slots : Slots) (ss : List ℕ) (i : ℕ) (tids : List ℕ) → i < length ss
+pub room_for_writer : (slots : SessionSlots) (ss : List ℕ) (i : ℕ) (tids : List ℕ) → i < length ss
     → length ss ≤ 32 → tids ≡ writer_numbers slots (take i ss) → length tids < 32
 room_for_writer slots ss i tids within few so_far =
     omega (
@@ -115,12 +115,12 @@ room_for_writer slots ss i tids within few so_far =
 -- ---- sessions that wrote nothing
 
 -- where they wrote nothing there is no number
-none_written_none : (slots : Slots) (ss : List ℕ) → written_by slots ss ≡ []
+none_written_none : (slots : SessionSlots) (ss : List ℕ) → written_by slots ss ≡ []
     → writer_numbers slots ss ≡ []
 none_written_none slots ss none = no_numbers slots ss (λ s at. none_written slots ss s none at)
 
 -- and where open sessions have none, they wrote nothing
-no_writer_none : (slots : Slots) (ss : List ℕ)
+no_writer_none : (slots : SessionSlots) (ss : List ℕ)
     → ((s : ℕ) → Contains ss s → IsOpenSession slots s) → writer_numbers slots ss ≡ []
     → written_by slots ss ≡ []
 no_writer_none slots [] opens none = refl
@@ -139,7 +139,7 @@ no_writer_none slots (s ∷ ss) opens none =
 
 -- ---- as a commit tests it
 
-module _ (slots : Slots) (ss tids : List ℕ) (are : tids ≡ writer_numbers slots ss) (b : Bool)
+module _ (slots : SessionSlots) (ss tids : List ℕ) (are : tids ≡ writer_numbers slots ss) (b : Bool)
     (is : b ≡ eqb (length tids) 0) where
   -- no number: open sessions wrote nothing
   pub wrote_nothing : ((s : ℕ) → Contains ss s → IsOpenSession slots s) → b ≡ true

@@ -10,7 +10,7 @@ use Rattle.unit_io.specs.Costs.{Costs, Spends}
 use Rattle.place_taking.specs.Spending.{RetiringCosts, RetiresWorn}
 use Rattle.txn_status.specs.Status.{room_of}
 use Rattle.selective_merge.specs.Spotting.{HasHomeSpot}
-use Rattle.store_laws.specs.Frames.{Frame}
+use Rattle.store_laws.specs.Frames.{PageFrame}
 use Rattle.record_locks.specs.Held.{written_by}
 use Rattle.page_writing.specs.Spending.{ErasesAndLogs}
 use Rattle.page_frames.specs.declared.pages.Pages.{Pages}
@@ -20,7 +20,7 @@ use Rattle.transactions.specs.declared.transactions.Transactions.{Transactions}
 
 -- the page of a name is in a frame, and a record of this change fits behind its records in memory
 pub record HasRoomFor (pages : Pages) (n : ℕ) (change : Change) : Type 0 where
-  pub frame : Frame
+  pub frame : PageFrame
   pub there : frames_in pages (home_of n).unit (home_of n).page ≡ Some frame
   pub fits : size_of_all frame.log + (12 + length (value_of change)) ≤ 480
 

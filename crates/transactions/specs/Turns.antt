@@ -18,13 +18,13 @@ use Rattle.place_taking.specs.Wear.{TellsOfWear}
 use Rattle.txn_status.specs.Status.{room_of}
 use Rattle.merge_laws.specs.Faults.{FailsByChipAlone}
 use Rattle.buffer_pool.specs.Holding.{KeepsPins}
-use Rattle.store_laws.specs.Frames.{Frame}
+use Rattle.store_laws.specs.Frames.{PageFrame}
 use Rattle.store_laws.specs.Room.{overfills_at}
 use Rattle.store_laws.specs.Advances.{Memory, memory_of, MemoryFits, LeadsTo}
 use Rattle.store_laws.specs.Numbers.{IsOut}
 use Rattle.page_frames.specs.declared.pages.Pages.{Pages}
 use Rattle.page_frames.specs.Faulty.{FailsByPage}
-use Rattle.page_frames.specs.Pages.{tables_in, frames_in, IsReady, PageCause}
+use Rattle.page_frames.specs.Pages.{tables_in, frames_in, ArePagesReady, PageCause}
 use Rattle.transactions.specs.declared.transactions.Transactions.{Transactions}
 
 -- the memory of a store
@@ -33,7 +33,7 @@ memory_in it = memory_of (tables_in it.pages) (frames_in it.pages) it.sessions
 
 -- told or not: the pages are ready, and the tables have the numbers of the open sessions
 pub record IsInOrder (places : ℕ) (it : Transactions) : Type 0 where
-  pub ready : IsReady places it.pages
+  pub ready : ArePagesReady places it.pages
   pub active : it.pages.parts.active ≡ numbers_in it.sessions
 
 -- the records of these sessions are all on the chip, and there is a clean sector for their numbers
@@ -44,7 +44,7 @@ pub record MayAddNumbers (it : Transactions) (ss : List ℕ) : Type 0 where
 -- A put of this change has room: the page of the name is in a frame, and isn't too full for it by what
 -- open sessions wrote. A delete always has.
 abbrev pub MayTake : Transactions → ℕ → Change → Type 0
-MayTake it n change = IfSome change (λ bytes. (f : Frame)
+MayTake it n change = IfSome change (λ bytes. (f : PageFrame)
     × (frames_in it.pages (home_of n).unit (home_of n).page ≡ Some f)
     × (overfills_at (marks_in it.sessions) n bytes f.values ≡ false))
 

@@ -11,7 +11,7 @@ ghost use Rattle.buffer_pool.specs.Holding.{KeepsPins};
 ghost use Rattle.store_laws.specs.NamedFrames.{SettleInTurn};
 ghost use Rattle.store_laws.specs.Refusals.{AreOpenSessions};
 ghost use Rattle.page_frames.specs.Asks.{AsksToWriteNamesOut};
-ghost use Rattle.page_frames.specs.Complete.{Completes};
+ghost use Rattle.page_frames.specs.Complete.{FailsByChip};
 ghost use Rattle.page_frames.specs.Faulty.{TellsFaults};
 ghost use Rattle.page_frames.specs.Pages.{frames_in, KeepsFramed, Upholds};
 ghost use Rattle.transactions.specs.Turns.{IsInOrder, MayAddNumbers, Turns};
@@ -40,7 +40,7 @@ impl Transactions {
         requires left { self.old.pages.parts.counter + 2 ^ 14 + 14 * 64 < 2 ^ 64 }
         ensures upholds { Upholds (2 ^ 14 + 14 * 64) self.old.pages (C.told chip.old)
             result self.new.pages (C.told chip.new) }
-        ensures complete { Completes self.old.pages result (C.told chip.old) }
+        ensures complete { FailsByChip self.old.pages result (C.told chip.old) }
         ensures faults { TellsFaults self.old.pages result (C.told chip.old) self.new.pages }
         ensures may_add { OnOk result (MayAddNumbers self.new numbers.now) }
         ensures sessions { self.new.sessions ≡ self.old.sessions }
@@ -115,7 +115,7 @@ impl Transactions {
         requires left { self.old.pages.parts.counter + 2 ^ 15 < 2 ^ 64 }
         ensures turns { Turns (λ state. after_batch state numbers.now) (2 ^ 15)
             self.old (C.told chip.old) result self.new (C.told chip.new) }
-        ensures complete { Completes self.old.pages result (C.told chip.old) }
+        ensures complete { FailsByChip self.old.pages result (C.told chip.old) }
         ensures faults { TellsFaults self.old.pages result (C.told chip.old) self.new.pages }
         ensures framed { KeepsFramed self.old.pages self.new.pages }
         ensures asks { CommitAsks self.old numbers.now (is_worn_out result) self.new.pages

@@ -1,24 +1,24 @@
 -- The commands of a trial, as one after another is taken.
 use Rattle.std.proofs.Common.{◌≡◌, ℕ, ◌+◌, List, [], ◌∷◌, ◌++◌, sym, ◌∙◌, ap, arith, append_assoc}
 use Rattle.ipl_model.specs.declared.command.Command.{Command}
-use Rattle.trial_run.specs.Source.{Source}
+use Rattle.trial_run.specs.Source.{WordSource}
 use Rattle.trial_run.specs.Words.{commands_from}
 use Rattle.trial_run.proofs.WordLemmas.{commands_none}
 
 -- the first i commands were taken, and these are still to come
-abbrev pub GoesOn : Source → ℕ → Source → Type 0
+abbrev pub GoesOn : WordSource → ℕ → WordSource → Type 0
 GoesOn first i later = (rest : ℕ) → commands_from first (i + rest) ≡ commands_from first i ++ commands_from later rest
 
 -- this one is the next
-abbrev pub IsNext : Source → Command → Source → Type 0
+abbrev pub IsNext : WordSource → Command → WordSource → Type 0
 IsNext source c later = (count : ℕ) → commands_from source (count + 1) ≡ c ∷ commands_from later count
 
-pub goes_none : (source : Source) → GoesOn source 0 source
+pub goes_none : (source : WordSource) → GoesOn source 0 source
 goes_none source rest =
     let e : 0 + rest ≡ rest = omega arith in
     ap (commands_from source) e ∙ ap (λ (l : List Command). l ++ commands_from source rest) (sym (commands_none source))
 
-module _ (first source later : Source) (c : Command) (i : ℕ) (goes : GoesOn first i source)
+module _ (first source later : WordSource) (c : Command) (i : ℕ) (goes : GoesOn first i source)
     (next : IsNext source c later) where
   pub one_more : commands_from first (i + 1) ≡ commands_from first i ++ c ∷ []
   one_more =

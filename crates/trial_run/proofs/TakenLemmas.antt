@@ -14,7 +14,7 @@ use Rattle.store_trait.proofs.OnwardLemmas.{unrisen_later}
 use Rattle.script_run.specs.Goes.{row_lines}
 use Rattle.script_run.proofs.RunLemmas.{twice_added}
 use Rattle.trial_run.specs.Summary.{RecordSum, HasTaken, record_lines}
-use Rattle.trial_run.specs.Trial.{IsTaken, IsLost}
+use Rattle.trial_run.specs.Trial.{AreLinesTaken, IsLost}
 use Rattle.trial_run.proofs.WorkLemmas.{work_none, work_then}
 
 -- one name more
@@ -30,7 +30,7 @@ lines_more m n =
 module _ {S : Type 0} (k : Keeping S) (limits : Limits) (state : State) where
   -- no record yet
   pub taken_none : (sum : RecordSum) (store : S) (h : History) (t : Told) → k.holds limits store t h state
-      → IsTaken k limits state [] sum store h sum store t t
+      → AreLinesTaken k limits state [] sum store h sum store t t
   taken_none sum store h t holds = record {
     leaves = work_none k (λ x. k.stands limits x state.map) store h t (k.each limits store t h state holds);
     holds = holds;
@@ -41,7 +41,7 @@ module _ {S : Type 0} (k : Keeping S) (limits : Limits) (state : State) where
   pub taken_one : (n : ℕ) (value : List ℕ) (sum later : RecordSum) (before then : S) (h : History) (old new : Told)
       → LooksUpFor k limits state n before h (Ok (Some value)) then old new
       → ((seen : List (List ℕ)) → HasTaken sum seen → HasTaken later (seen ++ reply_text (reply.Row n value) ∷ []))
-      → IsTaken k limits state (row_lines n (get state.map n)) sum before h later then old new
+      → AreLinesTaken k limits state (row_lines n (get state.map n)) sum before h later then old new
   taken_one n value sum later before then h old new w takes = record {
     leaves = w.leaves;
     holds = w.ends.0;
@@ -51,7 +51,7 @@ module _ {S : Type 0} (k : Keeping S) (limits : Limits) (state : State) where
 
   pub taken_absent : (n : ℕ) (sum : RecordSum) (before then : S) (h : History) (old new : Told)
       → LooksUpFor k limits state n before h (Ok None) then old new
-      → IsTaken k limits state (row_lines n (get state.map n)) sum before h sum then old new
+      → AreLinesTaken k limits state (row_lines n (get state.map n)) sum before h sum then old new
   taken_absent n sum before then h old new w = record {
     leaves = w.leaves;
     holds = w.ends.0;
@@ -65,11 +65,11 @@ module _ {S : Type 0} (k : Keeping S) (limits : Limits) (state : State) where
   lost_one n before then h old new fault w = record { leaves = w.leaves; stays = w.ends }
 
   module _ (lines : List (List ℕ)) (sum mid_sum : RecordSum) (before mid then : S) (h : History)
-      (old between new : Told) (first : IsTaken k limits state lines sum before h mid_sum mid old between) where
+      (old between new : Told) (first : AreLinesTaken k limits state lines sum before h mid_sum mid old between) where
     -- then more names
     pub taken_then : (more : List (List ℕ)) (later : RecordSum)
-        → IsTaken k limits state more mid_sum mid (adds_all first.leaves.added h) later then between new
-        → IsTaken k limits state (lines ++ more) sum before h later then old new
+        → AreLinesTaken k limits state more mid_sum mid (adds_all first.leaves.added h) later then between new
+        → AreLinesTaken k limits state (lines ++ more) sum before h later then old new
     taken_then more later next = record {
       leaves = work_then k (λ x. k.stands limits x state.map) before mid then h old between new true first.leaves next.leaves;
       holds = subst (λ (g : History). k.holds limits then new g state)

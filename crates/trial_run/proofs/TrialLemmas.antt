@@ -23,7 +23,7 @@ use Rattle.script_run.specs.Goes.{Completes}
 use Rattle.script_run.proofs.CompleteLemmas.{CompletesSoFar}
 use Rattle.script_run.proofs.RunLemmas.{says_none, says_all, all_both, all_or_said, twice_added, regrouped}
 use Rattle.trial_run.specs.Summary.{TrialCounts, RecordSum, HasTaken, counts_of, record_lines, summary_lines, trial_lines}
-use Rattle.trial_run.specs.Trial.{IsStoreStop, HasSaid, SaysAll, IsDone, IsCutShort, IsTaken, IsLost, StandsAlong, StandsBehind, CommandByCommand, EndsWhole, TrialEnds, TrialLeaves}
+use Rattle.trial_run.specs.Trial.{IsStoreStop, HasSaid, SaysAll, IsDone, IsCutShort, AreLinesTaken, IsLost, StandsAlong, StandsBehind, CommandByCommand, EndsWhole, TrialEnds, TrialRuns}
 use Rattle.trial_run.proofs.OrderLemmas.{order_stay}
 use Rattle.trial_run.proofs.DoneLemmas.{along_all}
 use Rattle.trial_run.proofs.WorkLemmas.{work_weaker, work_then}
@@ -63,7 +63,7 @@ module _ {S : Type 0} (k : Keeping S) (limits : Limits) (state : State) (command
       → (done later : List Command) → commands ≡ done ++ later
       → (w : WorkLeaves k (StandsAlong k limits state commands) before h then old new false)
       → R (adds_all w.added h) (after_all limits state done) → CommandByCommand k limits state done later h w.added
-      → TrialLeaves k limits state commands before h R then old new (Err s)
+      → TrialRuns k limits state commands before h R then old new (Err s)
   trial_stopped then R old new s of_store done later are w r order = record {
     added = w.added;
     history = w.history;
@@ -102,7 +102,7 @@ module _ {S : Type 0} (k : Keeping S) (limits : Limits) (state : State) (command
       → R (adds_all more.added (adds_all w.added h)) (after_all limits state commands)
       → ((added : Story) (Q : State → Type 0) → pieces added ≡ said → EndsWhole k limits state commands h added Q
       → TrialEnds k result limits state commands h added Q)
-      → TrialLeaves k limits state commands before h R then old new result
+      → TrialRuns k limits state commands before h R then old new result
   trial_said mid then R old between new said result w more part all order r ends = record {
     added = more.added ++ w.added;
     history = more.history ∙ ap (option_map (adds_all more.added)) w.history
@@ -131,7 +131,7 @@ module _ {S : Type 0} (k : Keeping S) (limits : Limits) (state : State) (command
   -- the work of a command failed
   pub trial_cut : (then : S) (old new : Told) (s : Stop) → IsStoreStop s
       → IsCutShort k limits state commands before h then old new
-      → TrialLeaves k limits state commands before h (Stays k limits then old new) then old new (Err s)
+      → TrialRuns k limits state commands before h (Stays k limits then old new) then old new (Err s)
   trial_cut then old new s of_store cut =
       trial_stopped then (Stays k limits then old new) old new s of_store cut.done cut.later cut.commands_are cut.leaves
       cut.stays cut.each_command
@@ -153,7 +153,7 @@ module _ {S : Type 0} (k : Keeping S) (limits : Limits) (state : State) (command
     -- a look-up failed
     pub trial_lost : (s : Stop) → IsStoreStop s → old.write_faults ≤ between.write_faults
         → IsLost k limits After mid (adds_all done.leaves.added h) then between new
-        → TrialLeaves k limits state commands before h (Stays k limits then old new) then old new (Err s)
+        → TrialRuns k limits state commands before h (Stays k limits then old new) then old new (Err s)
     trial_lost s of_store le lost =
         trial_stopped then (Stays k limits then old new) old new s of_store commands [] (sym (append-nil commands))
         (then_looked false lost.leaves)
@@ -164,7 +164,7 @@ module _ {S : Type 0} (k : Keeping S) (limits : Limits) (state : State) (command
 
   module _ (mid then : S) (old between asked new : Told) (counts counted : TrialCounts) (sum summed : RecordSum)
       (lines : List (List ℕ)) (done : IsDone k limits state commands counts before h counted mid old between)
-      (taken : IsTaken k limits (after_all limits state commands)
+      (taken : AreLinesTaken k limits (after_all limits state commands)
       (record_lines (after_all limits state commands).map limits.names) sum mid (adds_all done.leaves.added h) summed
       then between asked)
       (at_first : counts ≡ counts_of []) (none_taken : HasTaken sum [])
@@ -193,8 +193,8 @@ module _ {S : Type 0} (k : Keeping S) (limits : Limits) (state : State) (command
     pub trial_ends : (result : Result (Unit {0}) Stop) → SaysAll lines asked result new
         → IfErr result (λ s. s ≡ stop.Output)
         → MatchResult result
-        (λ _. TrialLeaves k limits state commands before h (k.holds limits then new) then old new (Ok tt))
-        (λ s. TrialLeaves k limits state commands before h (Stays k limits then old new) then old new (Err s))
+        (λ _. TrialRuns k limits state commands before h (k.holds limits then new) then old new (Ok tt))
+        (λ s. TrialRuns k limits state commands before h (Stays k limits then old new) then old new (Err s))
     trial_ends (Ok u) has is =
         let all = trial_lines limits state commands in
         let now = adds_all worked.added h in
@@ -210,7 +210,7 @@ module _ {S : Type 0} (k : Keeping S) (limits : Limits) (state : State) (command
         let R = Stays k limits then old new in
         let each = saying_each k limits after then now asked new said kept has false in
         let unsaid = subst (λ (l : List (List ℕ)). IsUnsaid l said) these part in
-        subst (λ (e : Stop). TrialLeaves k limits state commands before h R then old new (Err e)) (sym is)
+        subst (λ (e : Stop). TrialRuns k limits state commands before h R then old new (Err e)) (sym is)
         (trial_said then then R old asked new said (Err stop.Output) worked each.0
         (says_unsaid (trial_lines limits state commands) said unsaid) (λ e. cc) each_command
         (λ quiet. each.1)

@@ -7,7 +7,7 @@ use Rattle.std.specs.List.{range_with_len}
 use Rattle.rand_core.specs.Steps.{first_words}
 use Rattle.rand_xoshiro.specs.SplitMix64.{mix_u64}
 use Rattle.ipl_model.specs.declared.command.Command.{Command}
-use Rattle.trial_run.specs.Source.{Source}
+use Rattle.trial_run.specs.Source.{WordSource}
 use Rattle.trial_run.specs.Words.{put_byte, command_of_word, commands_from}
 
 -- one byte more of a put
@@ -20,12 +20,12 @@ bytes_more word bytes i b lt is so_far =
     ∙ sym (map-range_with_len_more (λ (j : ℕ). put_byte word j) 0 i i (omega arith))
 
 -- no word, no command
-pub commands_none : (source : Source) → commands_from source 0 ≡ []
+pub commands_none : (source : WordSource) → commands_from source 0 ≡ []
 unfolding first_words
 commands_none source = refl
 
 -- one word gives one command, and the rest come from the state after it
-pub commands_next : (source : Source) (word later : ℕ) (c : Command) (count : ℕ)
+pub commands_next : (source : WordSource) (word later : ℕ) (c : Command) (count : ℕ)
     → (word, later) ≡ mix_u64 source.state → c ≡ command_of_word source.units word
     → commands_from source (count + 1)
     ≡ c ∷ commands_from (record { units = source.units; state = later }) count

@@ -2,6 +2,6 @@
 use Rattle.std.specs.Prelude.{ℕ}
 
 -- so many units, and the state of the generator of words
-pub record Source : Type 0 where
+pub record WordSource : Type 0 where
   pub units : ℕ
   pub state : ℕ

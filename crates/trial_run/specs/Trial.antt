@@ -106,7 +106,7 @@ module _ {S : Type 0} (k : Keeping S) where
   -- ---- the records are looked up
 
   -- records were looked up, and these lines of theirs were taken
-  pub record IsTaken (limits : Limits) (state : State) (lines : List (List ℕ)) (sum : RecordSum) (before : S)
+  pub record AreLinesTaken (limits : Limits) (state : State) (lines : List (List ℕ)) (sum : RecordSum) (before : S)
       (h : History) (later : RecordSum) (then : S) (old new : Told) : Type 0 where
     pub leaves : WorkLeaves k (λ x. k.stands limits x state.map) before h then old new true
     pub holds : k.holds limits then new (adds_all leaves.added h) state
@@ -123,7 +123,7 @@ module _ {S : Type 0} (k : Keeping S) where
   TakesAll limits lines sum before old result later then new = (state : State) (h : History)
       → k.holds limits before old h state →
       MatchResult result
-      (λ _. IsTaken limits state (lines state) sum before h later then old new)
+      (λ _. AreLinesTaken limits state (lines state) sum before h later then old new)
       (λ _. IsLost limits state before h then old new)
 
   -- ---- the whole trial
@@ -165,7 +165,7 @@ module _ {S : Type 0} (k : Keeping S) where
   -- line on. What was said is a beginning of the summary, line by line, and all of it where the trial
   -- is done. No sector is programmed twice. R says of the history at the end, and of a state, how the
   -- store keeps it then.
-  pub record TrialLeaves (limits : Limits) (state : State) (commands : List Command) (before : S) (h : History)
+  pub record TrialRuns (limits : Limits) (state : State) (commands : List Command) (before : S) (h : History)
       (R : History → State → Type 0) (then : S) (old new : Told) (result : Result (Unit {0}) Stop) : Type 0 where
     pub added : Story
     pub history : new.history ≡ option_map (adds_all added) old.history
@@ -182,5 +182,5 @@ module _ {S : Type 0} (k : Keeping S) where
   RunsTrial commands before old result then new = (limits : Limits) (state : State) (h : History)
       → k.holds limits before old h state →
       MatchResult result
-      (λ _. TrialLeaves limits state commands before h (k.holds limits then new) then old new (Ok tt))
-      (λ s. TrialLeaves limits state commands before h (Stays k limits then old new) then old new (Err s))
+      (λ _. TrialRuns limits state commands before h (k.holds limits then new) then old new (Ok tt))
+      (λ s. TrialRuns limits state commands before h (Stays k limits then old new) then old new (Err s))

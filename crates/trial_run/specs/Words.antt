@@ -6,7 +6,7 @@ use Rattle.rand_core.specs.Steps.{first_words}
 use Rattle.rand_xoshiro.specs.SplitMix64.{mix_u64}
 use Rattle.ipl_model.specs.declared.command.Command.{Command}
 use Rattle.ipl_model.specs.declared.command.Command.TheVariants as command
-use Rattle.trial_run.specs.Source.{Source}
+use Rattle.trial_run.specs.Source.{WordSource}
 
 -- the session of a word, its operation, and its name in a store of so many units
 abbrev pub session_of : ℕ → ℕ
@@ -42,7 +42,7 @@ command_of_word units word =
     else command.Abort (session_of word)
 
 -- the next commands, so many: each takes one word of 64 bits
-abbrev pub commands_from : Source → ℕ → List Command
+abbrev pub commands_from : WordSource → ℕ → List Command
 commands_from source count =
     map (command_of_word source.units) (first_words mix_u64 count source.state)
 

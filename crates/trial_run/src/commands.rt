@@ -2,7 +2,7 @@
 ghost use Rattle.std.specs.Prelude.{◌≡◌, ◌∷◌, ◌+◌, ◌*◌, ◌/◌, ◌%◌, ◌<◌, ◌≤◌, ℕ};
 ghost use Rattle.ipl_base.specs.declared.limits.TheConstants.{MOST_UNITS};
 ghost use Rattle.rand_xoshiro.specs.SplitMix64.{mix_u64};
-ghost use Rattle.trial_run.specs.Source.{Source};
+ghost use Rattle.trial_run.specs.Source.{WordSource};
 ghost use Rattle.trial_run.specs.Words.{IsOfTrial, command_of_word, commands_from, name_of, operation_of, put_bytes, session_of};
 
 use ipl_base::SHORT_LEN;
@@ -81,7 +81,7 @@ pub struct TrialCommands {
 }
 
 impl Model for TrialCommands {
-    ghost Value = { Source };
+    ghost Value = { WordSource };
 
     ghost view = { λ v. record { units = v.units; state = v.words } };
 

@@ -21,7 +21,7 @@ use Rattle.ipl_meaning.proofs.WornLemmas.{worn_by_layout}
 use Rattle.std.proofs.lemmas.Bool.{ne_eqb}
 use Rattle.ipl_meaning.specs.Steps.{with_committed, MayCommit}
 use Rattle.ipl_meaning.specs.Found.{MentionsBelow}
-use Rattle.ipl_meaning.specs.Tables.{Status, Tables, IsCountedClean}
+use Rattle.ipl_meaning.specs.Tables.{StatusTable, Tables, IsCountedClean}
 use Rattle.ipl_meaning.specs.TableSteps.{after_commit, CountedShrink}
 use Rattle.ipl_meaning.specs.Mirrors.{Mirrors}
 use Rattle.ipl_meaning.specs.Marks.{MarksNoMore}
@@ -149,15 +149,15 @@ module _ (places : ℕ) (c : Chart) (it : Layout) (t : Tables) (numbers active :
       (1 + t.next) q s counted_clean
 
 -- with what is known of the status
-same_chart : (places : ℕ) (status : Status) (next : ℕ) (numbers : List ℕ) (c : Chart) (it : Layout)
+same_chart : (places : ℕ) (status : StatusTable) (next : ℕ) (numbers : List ℕ) (c : Chart) (it : Layout)
     (t : Tables) → Mirrors places c it t → HasStatus t status next
     → with_sector c it.status t.status.first
     (commit_sector t.status.generation t.next numbers)
     ≡ with_sector c status.place status.first (commit_sector status.generation next numbers)
 same_chart places status next numbers c it t mirrors has =
     let at : status.place ≡ it.status =
-    ap (λ (s : Status). s.place) (sym has.status_is) ∙ mirrors.status.place in
-    ap (λ (s : Status). with_sector c it.status s.first (commit_sector s.generation t.next numbers))
+    ap (λ (s : StatusTable). s.place) (sym has.status_is) ∙ mirrors.status.place in
+    ap (λ (s : StatusTable). with_sector c it.status s.first (commit_sector s.generation t.next numbers))
     has.status_is
     ∙ ap (λ (k : ℕ). with_sector c it.status status.first
     (commit_sector status.generation k numbers))
@@ -165,12 +165,12 @@ same_chart places status next numbers c it t mirrors has =
     ∙ ap (λ (p : ℕ). with_sector c p status.first (commit_sector status.generation next numbers))
     (sym at)
 
-pub adds_chart : (places : ℕ) (status : Status) (next : ℕ) (numbers : List ℕ) (c y : Chart)
+pub adds_chart : (places : ℕ) (status : StatusTable) (next : ℕ) (numbers : List ℕ) (c y : Chart)
     → AreSpelled numbers → 1 ≤ status.first → status.first < 256
     → Gains status.place status.first (commit_sector status.generation next numbers) c y
     → Adds places status next numbers c y
 adds_chart places status next numbers c y are least room gains it t active mirrors has may =
-    let first : t.status.first ≡ status.first = ap (λ (s : Status). s.first) has.status_is in
+    let first : t.status.first ≡ status.first = ap (λ (s : StatusTable). s.first) has.status_is in
     let done = added places c it t numbers active mirrors may are (omega (arith, first))
     (omega (arith, first)) in
     let own : Chart = with_sector c it.status t.status.first
@@ -179,7 +179,7 @@ adds_chart places status next numbers c y are least room gains it t active mirro
     (same_chart places status next numbers c it t mirrors has ∙ sym gains)
     (subst (λ (k : ℕ). Added places c own it t numbers (1 + k) active) has.next_is done)
 
-pub adds_told : (places : ℕ) (status : Status) (next : ℕ) (numbers : List ℕ)
+pub adds_told : (places : ℕ) (status : StatusTable) (next : ℕ) (numbers : List ℕ)
     (result : Result (Unit {0}) ChipFault) (old new : Told) → AreSpelled numbers → 1 ≤ status.first
     → status.first < 256
     → OnOk result (Charts (Gains status.place status.first
@@ -192,7 +192,7 @@ adds_told places status next numbers (Ok v) old new are least room tells = λ x 
 
 -- ---- what a power cut leaves
 
-pub added_in_steps : (places : ℕ) (status : Status) (next : ℕ) (numbers : List ℕ)
+pub added_in_steps : (places : ℕ) (status : StatusTable) (next : ℕ) (numbers : List ℕ)
     (result : Result (Unit {0}) ChipFault) (old new : Told)
     → AreSpelled numbers → 1 ≤ status.first → status.first < 256
     → LeadsCommit places status.place status.first
@@ -203,13 +203,13 @@ added_in_steps places status next numbers result old new are least room leads st
     active steady has ready =
     let mirrors = ready.agrees.mirrors in
     let at : status.place ≡ it.status =
-    ap (λ (s : Status). s.place) (sym has.status_is) ∙ mirrors.status.place in
-    let first : t.status.first ≡ status.first = ap (λ (s : Status). s.first) has.status_is in
+    ap (λ (s : StatusTable). s.place) (sym has.status_is) ∙ mirrors.status.place in
+    let first : t.status.first ≡ status.first = ap (λ (s : StatusTable). s.first) has.status_is in
     let sector = commit_sector status.generation next numbers in
     let fits_least : 1 ≤ t.status.first = omega (arith, first) in
     let fits_room : t.status.first < 256 = omega (arith, first) in
     let counted : IsCountedClean t status.place status.first =
-    (room, inr (inr (ap (λ (s : Status). s.place) (sym has.status_is), omega (arith, first)))) in
+    (room, inr (inr (ap (λ (s : StatusTable). s.place) (sym has.status_is), omega (arith, first)))) in
     let stands : StandsBeside places (now h) (with_sector (now h) status.place status.first sector) n =
     subst (λ (z : Chart). StandsBeside places (now h) z n)
     (same_chart places status next numbers (now h) it t mirrors has)

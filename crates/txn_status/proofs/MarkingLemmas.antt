@@ -12,7 +12,7 @@ use Rattle.ipl_meaning.specs.Marks.{AreUnused, KeepsMarks}
 use Rattle.ipl_meaning.specs.Rests.{now, IsUntouched, EachStands, WornAreIdle}
 use Rattle.ipl_meaning.specs.Stands.{StandsBeside}
 use Rattle.ipl_meaning.specs.Steps.{MayMark}
-use Rattle.ipl_meaning.specs.Tables.{Status, Tables, IsCountedClean}
+use Rattle.ipl_meaning.specs.Tables.{StatusTable, Tables, IsCountedClean}
 use Rattle.ipl_meaning.proofs.CloseLemmas.{closes_keep_marks}
 use Rattle.ipl_meaning.proofs.MarkLemmas.{marks_wait}
 use Rattle.ipl_meaning.proofs.MirrorLemmas.{marks_may_go}
@@ -29,7 +29,7 @@ use Rattle.txn_status.specs.Adding.{HasStatus}
 use Rattle.txn_status.specs.Marking.{mark_sector, IsReadyToMark, MarksInSteps}
 use Rattle.txn_status.specs.Writing.{LeadsMark}
 
-module _ (places : ℕ) (status : Status) (next : ℕ) (payload : List ℕ) (least : 1 ≤ status.first)
+module _ (places : ℕ) (status : StatusTable) (next : ℕ) (payload : List ℕ) (least : 1 ≤ status.first)
     (room : status.first < 256) (h : History) (it : Layout) (t : Tables) (m : Map)
     (has : HasStatus t status next)
     (ready : IsReadyToMark places h it t m (mark_sector status.generation next payload)) where
@@ -43,12 +43,12 @@ module _ (places : ℕ) (status : Status) (next : ℕ) (payload : List ℕ) (lea
   y = with_sector (now h) it.status s mark
 
   first : t.status.first ≡ s
-  first = ap (λ (w : Status). w.first) has.status_is
+  first = ap (λ (w : StatusTable). w.first) has.status_is
 
   may_mark : MayMark (now h) it s mark
   may_mark = subst (λ (n : ℕ). MayMark (now h) it n mark) first
       (marks_may_go places (now h) it t mark ready.agrees.mirrors (omega (arith, first, least))
-      (omega (arith, first, room)) refl (ap (λ (w : Status). w.generation) (sym has.status_is))
+      (omega (arith, first, room)) refl (ap (λ (w : StatusTable). w.generation) (sym has.status_is))
       ready.spelled)
 
   fresh : IsUntouched h it.status s
@@ -82,7 +82,7 @@ module _ (places : ℕ) (status : Status) (next : ℕ) (payload : List ℕ) (lea
   mark_keeps result old new steady leads =
       leads t m h steady ready.rests ready.closed fresh stands worn kept
 
-pub marked_in_steps : (places : ℕ) (status : Status) (next : ℕ) (payload : List ℕ)
+pub marked_in_steps : (places : ℕ) (status : StatusTable) (next : ℕ) (payload : List ℕ)
     (result : Result (Unit {0}) ChipFault) (old new : Told) → 1 ≤ status.first → status.first < 256
     → LeadsMark places status.place status.first (mark_sector status.generation next payload)
     old result new
@@ -93,7 +93,7 @@ marked_in_steps places status next payload result old new least room leads stopp
     let s = status.first in
     let mark = mark_sector status.generation next payload in
     let at : status.place ≡ it.status =
-    ap (λ (w : Status). w.place) (sym has.status_is) ∙ ready.agrees.mirrors.status.place in
+    ap (λ (w : StatusTable). w.place) (sym has.status_is) ∙ ready.agrees.mirrors.status.place in
     let keeps = subst (λ (p : ℕ).
     LeadsWhere (AreUnused (IsCountedClean t) h.story) (EachStands places m) (Programs p (IsSpot s))
     (λ done k. RestsAdded places m p s mark h k) h old result new) (sym at)

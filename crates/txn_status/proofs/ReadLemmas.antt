@@ -14,7 +14,7 @@ use Rattle.unit_io.specs.Kinds.{of_kinds, header_only, status_only, sector_named
 use Rattle.sector_format.specs.declared.sector.Head.{Head}
 use Rattle.sector_format.specs.Decode.{sector_of}
 use Rattle.unit_io.specs.Reads.{Asked, IsReadFault}
-use Rattle.unit_io.specs.ReadsAt.{IsCauseAt, ReadsAt, ReadsOnce}
+use Rattle.unit_io.specs.ReadsAt.{IsAt, IsCauseAt, ReadsAt, ReadsOnce}
 use Rattle.unit_io.proofs.OnceLemmas.{once_asked, once_then, once_wider}
 use Rattle.unit_io.proofs.ReadsAtLemmas.{at_asked, at_then, at_wider}
 use Rattle.opening_laws.specs.First.{greatest_of, joined_below}
@@ -28,7 +28,7 @@ use Rattle.opening_laws.proofs.FirstLemmas.{greatest_step, joined_step}
 use Rattle.opening_laws.proofs.BelowLemmas.{greatest_of-push}
 use Rattle.opening_laws.proofs.LiveLemmas.{noted_commits}
 use Rattle.number_set.specs.Numbers.{Numbers, with_list, with_number, with_numbers}
-use Rattle.txn_status.specs.ReadingIn.{under, IsCommitSpot, IsAt, IsStatusAt, LooksOnceAt}
+use Rattle.txn_status.specs.ReadingIn.{under, IsCommitSpot, IsStatusAt, LooksOnceAt}
 use Rattle.txn_status.specs.Marks.{MarksRead, with_noted, marks_below}
 
 -- ---- the numbers of a payload

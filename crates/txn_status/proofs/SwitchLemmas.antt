@@ -17,7 +17,7 @@ use Rattle.ipl_meaning.specs.Rests.{WornAreIdle}
 use Rattle.ipl_meaning.specs.Stands.{Says, StandsBeside}
 use Rattle.ipl_meaning.specs.Steps.{SameBut, KeepsPages, KeepsNumbers, with_status, ComesToNothing, MaySwitch}
 use Rattle.ipl_meaning.specs.Found.{MentionsBelow, IsPlaceBelow}
-use Rattle.ipl_meaning.specs.Tables.{Status, Tables}
+use Rattle.ipl_meaning.specs.Tables.{StatusTable, Tables}
 use Rattle.ipl_meaning.specs.TableSteps.{IsRenewed}
 use Rattle.ipl_meaning.specs.Mirrors.{Mirrors}
 use Rattle.ipl_meaning.specs.Marks.{MarksNoMore}
@@ -279,7 +279,7 @@ module _ (places : ℕ) (c y : Chart) (it : Layout) (t : Tables) (p : ℕ) (kept
         subst (MentionsBelow after.next) (sym part.same) (mentions_part part.number part.low)
 
     numbers_then : (tid : ℕ) → IsTrue (among kept tid) ↔ Contains after.status.numbers tid
-    numbers_then tid = subst (λ (s : Status). IsTrue (among kept tid) ↔ Contains s.numbers tid)
+    numbers_then tid = subst (λ (s : StatusTable). IsTrue (among kept tid) ↔ Contains s.numbers tid)
         (sym switched.has.status_is) (among_is_contains kept tid)
 
     renewed : IsRenewed t after p head.generation (1 + n)

@@ -14,7 +14,7 @@ use Rattle.ipl_meaning.specs.Chart.{Chart, chart_of}
 use Rattle.ipl_meaning.specs.Layout.{Layout}
 use Rattle.ipl_meaning.specs.Steps.{with_status}
 use Rattle.ipl_meaning.specs.Rests.{now, EachStands, StoryRests}
-use Rattle.ipl_meaning.specs.Tables.{OverflowLists, Tables, Status, counted_written, IsCountedClean}
+use Rattle.ipl_meaning.specs.Tables.{OverflowLists, Tables, StatusTable, counted_written, IsCountedClean}
 use Rattle.ipl_meaning.specs.TableSteps.{IsRenewed}
 use Rattle.ipl_meaning.specs.Mirrors.{Mirrors}
 use Rattle.ipl_meaning.specs.Agrees.{IsTidy}
@@ -102,7 +102,7 @@ of_header places t p units erases retired next head fits drawn is =
 
 -- ---- both calls
 
-module _ (places units erases : ℕ) (retired : List ℕ) (status : Status) (next p : ℕ) (kept : List ℕ)
+module _ (places units erases : ℕ) (retired : List ℕ) (status : StatusTable) (next p : ℕ) (kept : List ℕ)
     (within : p < places)
     (each : AreLong kept) (most : length kept ≤ 3840) (old mid new : Told) (h : History)
     (it : Layout) (t after : Tables) (m : Map) (steady : IsSteady h old)
@@ -255,7 +255,7 @@ module _ (places units erases : ℕ) (retired : List ℕ) (status : Status) (nex
 
 -- ---- what is told of the contents
 
-pub switches_told : (places units erases : ℕ) (retired : List ℕ) (status : Status) (next p : ℕ)
+pub switches_told : (places units erases : ℕ) (retired : List ℕ) (status : StatusTable) (next p : ℕ)
     (kept : List ℕ) → p < places
     → AreLong kept → length kept ≤ 3840 → (old mid new : Told)
     → Charts (HasParts p next (next + 1) kept (parts_of kept)) old mid

@@ -9,7 +9,7 @@ use Rattle.ipl_meaning.specs.Layout.{Layout}
 use Rattle.ipl_meaning.specs.Stands.{Says}
 use Rattle.ipl_meaning.specs.Rests.{now, EachStandsEither, StoryRests}
 use Rattle.ipl_meaning.specs.Steps.{KeepsPages, with_committed}
-use Rattle.ipl_meaning.specs.Tables.{Status, Tables}
+use Rattle.ipl_meaning.specs.Tables.{StatusTable, Tables}
 use Rattle.ipl_meaning.specs.Mirrors.{AreApart, Mirrors}
 use Rattle.ipl_meaning.specs.Agrees.{Agrees}
 use Rattle.unit_io.specs.Leads.{IsSteady}
@@ -20,7 +20,7 @@ use Rattle.txn_status.specs.Status.{after_add}
 -- ---- tables
 
 -- the tables have this status and this counter
-pub record HasStatus (t : Tables) (status : Status) (next : ℕ) : Type 0 where
+pub record HasStatus (t : Tables) (status : StatusTable) (next : ℕ) : Type 0 where
   pub status_is : t.status ≡ status
   pub next_is : t.next ≡ next
 
@@ -55,7 +55,7 @@ abbrev pub KeepsFirstAt : ℕ → Chart → Chart → Type 0
 KeepsFirstAt p c y = y p 0 ≡ c p 0
 
 -- whatever tables of this status and counter mirrored the old chart
-abbrev pub Adds : ℕ → Status → ℕ → List ℕ → Chart → Chart → Type 0
+abbrev pub Adds : ℕ → StatusTable → ℕ → List ℕ → Chart → Chart → Type 0
 Adds places status next numbers c y = (it : Layout) (t : Tables) (active : List ℕ)
     → Mirrors places c it t → HasStatus t status next → MayAdd t numbers active
     → Added places c y it t numbers (1 + next) active
@@ -83,7 +83,7 @@ StepsAdding places it t m n numbers next active h result old new =
     NoOtherEnd h result old new
 
 -- whatever layout, tables and maps it began with
-abbrev pub AddsInSteps : ℕ → Status → ℕ → List ℕ → Result (Unit {0}) ChipFault
+abbrev pub AddsInSteps : ℕ → StatusTable → ℕ → List ℕ → Result (Unit {0}) ChipFault
     → Told → Told → Type 0
 AddsInSteps places status next numbers result old new =
     (h : History) (it : Layout) (t : Tables) (m n : Map) (active : List ℕ)

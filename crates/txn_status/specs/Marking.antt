@@ -10,7 +10,7 @@ use Rattle.ipl_rules.specs.State.{Map}
 use Rattle.ipl_meaning.specs.Layout.{Layout}
 use Rattle.ipl_meaning.specs.Stands.{Says}
 use Rattle.ipl_meaning.specs.Rests.{now, EachStands, StoryRests}
-use Rattle.ipl_meaning.specs.Tables.{Status, Tables, IsCountedClean}
+use Rattle.ipl_meaning.specs.Tables.{StatusTable, Tables, IsCountedClean}
 use Rattle.ipl_meaning.specs.Agrees.{Agrees}
 use Rattle.ipl_meaning.specs.Marks.{AreUnused}
 use Rattle.ipl_meaning.specs.MarkLaws.{MarksWhatIsKnown}
@@ -51,7 +51,7 @@ StepsMarking places m t p s mark h result old new =
     (EndsWith result (λ done k. RestsAdded places m p s mark h k) NoOtherEnd) h old new
 
 -- whatever layout, tables and map it began with
-abbrev pub MarksInSteps : ℕ → Status → ℕ → List ℕ → Result (Unit {0}) ChipFault
+abbrev pub MarksInSteps : ℕ → StatusTable → ℕ → List ℕ → Result (Unit {0}) ChipFault
     → Told → Told → Type 0
 MarksInSteps places status next payload result old new =
     let mark = mark_sector status.generation next payload in

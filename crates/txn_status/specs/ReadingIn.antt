@@ -8,7 +8,7 @@ use Rattle.ipl_base.specs.declared.fault.ImageFault.{ImageFault}
 use Rattle.ipl_base.specs.declared.fault.ImageFault.TheVariants.{Chip}
 use Rattle.ipl_format.specs.Sector.{Sector}
 use Rattle.ipl_meaning.specs.Chart.{Chart}
-use Rattle.ipl_meaning.specs.Tables.{Status}
+use Rattle.ipl_meaning.specs.Tables.{StatusTable}
 use Rattle.unit_io.specs.ReadsAt.{ReadsAt, ReadsOnce, IsCauseAt}
 use Rattle.ipl_base.specs.First.{first_below}
 use Rattle.opening_laws.specs.Chosen.{Winner}
@@ -18,10 +18,6 @@ use Rattle.opening_laws.specs.Faults.{TellsImageFault, noted_fault, greatest_of_
 use Rattle.number_set.specs.Numbers.{Numbers, with_numbers}
 
 -- ---- which sectors
-
--- this sector
-abbrev pub IsAt : ℕ → ℕ → ℕ → ℕ → Type 0
-IsAt place sector p s = (p ≡ place) × (s ≡ sector)
 
 -- where commit sectors and close marks may stand in a place
 abbrev pub IsCommitSpot : ℕ → ℕ → ℕ → Type 0
@@ -73,7 +69,7 @@ pub record GrowsBy (n : ℕ) (old new : Numbers) : Type 0 where
   pub most : new.most ≡ old.most
 
 -- the status with the numbers of those sectors, none known clean
-abbrev pub status_in : Chart → ℕ → ℕ → Status
+abbrev pub status_in : Chart → ℕ → ℕ → StatusTable
 status_in c place generation = record {
   place = place;
   generation = generation;
@@ -90,7 +86,7 @@ of_image (Err e) = Err (Chip e)
 -- malformed, unless a read failed; and where none is, it is the greatest number found, and the
 -- status has their numbers.
 pub record IsReadIn (units : ℕ) (c : Chart) (place generation : ℕ) (result : Result ℕ ChipFault)
-    (status : Status) : Type 0 where
+    (status : StatusTable) : Type 0 where
   pub fault : TellsImageFault (first_below (noted_fault units c (under place generation)) sectors)
       (of_image result)
   pub greatest : IfOk result (λ n. n ≡ greatest_of_notes 0 c (under place generation) sectors)

@@ -11,7 +11,7 @@ use Rattle.ipl_meaning.specs.Layout.{Layout, HasNoMark}
 use Rattle.ipl_meaning.specs.Stands.{Says}
 use Rattle.ipl_meaning.specs.Rests.{now, EachStands, StoryRests}
 use Rattle.ipl_meaning.specs.Steps.{KeepsPages, KeepsNumbers, with_status, IsIdle}
-use Rattle.ipl_meaning.specs.Tables.{IsFree, Status, Tables, overflow_places}
+use Rattle.ipl_meaning.specs.Tables.{IsFree, StatusTable, Tables, overflow_places}
 use Rattle.ipl_meaning.specs.TableSteps.{IsRenewed}
 use Rattle.ipl_meaning.specs.Mirrors.{Mirrors}
 use Rattle.ipl_meaning.specs.Agrees.{Agrees}
@@ -105,7 +105,7 @@ pub record Switched (places : ℕ) (c y : Chart) (it : Layout) (after : Tables)
 
 -- whatever tables of this status and counter, with these counts and these places retired, mirrored the
 -- old chart
-abbrev pub Switches : ℕ → ℕ → ℕ → List ℕ → Status → ℕ → ℕ → List ℕ → Chart → Chart → Type 0
+abbrev pub Switches : ℕ → ℕ → ℕ → List ℕ → StatusTable → ℕ → ℕ → List ℕ → Chart → Chart → Type 0
 Switches places units erases retired status next p kept c y = (it : Layout) (t after : Tables)
     → Mirrors places c it t → HasStatus t status next → FitsHeader t p units erases retired
     → IsTaken places c it t p → MayKeep t kept → IsSwitched t after p next kept
@@ -146,7 +146,7 @@ StepsSwitching places it after m p generation kept h result old new =
     h old new
 
 -- whatever layout, tables and map it began with
-abbrev pub SwitchesInSteps : ℕ → ℕ → ℕ → List ℕ → Status → ℕ → ℕ → List ℕ
+abbrev pub SwitchesInSteps : ℕ → ℕ → ℕ → List ℕ → StatusTable → ℕ → ℕ → List ℕ
     → Result (Unit {0}) ChipFault → Told → Told → Type 0
 SwitchesInSteps places units erases retired status next p kept result old new =
     (h : History) (it : Layout) (t after : Tables) (m : Map)

@@ -4,12 +4,12 @@ ghost use Rattle.ipl_base.specs.declared.limits.TheConstants.{MOST_UNITS, STATUS
 ghost use Rattle.ipl_format.specs.Sector.{Sector};
 ghost use Rattle.ipl_meaning.specs.Chart.{chart_of};
 ghost use Rattle.unit_io.specs.Reads.{OfContents};
-ghost use Rattle.unit_io.specs.ReadsAt.{ReadsAt, IsCauseAt};
+ghost use Rattle.unit_io.specs.ReadsAt.{IsAt, ReadsAt, IsCauseAt};
 ghost use Rattle.ipl_base.specs.First.{first_below};
 ghost use Rattle.opening_laws.specs.Live.{sectors, noted_at};
 ghost use Rattle.opening_laws.specs.Faults.{TellsImageFault, noted_fault};
 ghost use Rattle.ipl_format.specs.Whole.{IsWhole};
-ghost use Rattle.txn_status.specs.ReadingIn.{under, of_image, GrowsBy, IsCommitSpot, IsAt, IsStatusAt, IsHeadRead, LooksOnceAt};
+ghost use Rattle.txn_status.specs.ReadingIn.{under, of_image, GrowsBy, IsCommitSpot, IsStatusAt, IsHeadRead, LooksOnceAt};
 ghost use Rattle.txn_status.specs.TakingIn.{TakesIn, TakesInPlace};
 
 use crate::last_mark::LastMark;

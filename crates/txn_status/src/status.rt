@@ -44,10 +44,10 @@ pub struct Status {
 impl Model for Status {
     ghost use Rattle.std.specs.Prelude.{◌≡◌};
     ghost use Rattle.ipl_base.specs.declared.limits.TheConstants.{STATUS_NUMBERS};
-    ghost use Rattle.ipl_meaning.specs.Tables.{Status};
+    ghost use Rattle.ipl_meaning.specs.Tables.{StatusTable};
     ghost use Rattle.txn_status.specs.Status.{IsSoundStatus};
 
-    ghost Value = { Status };
+    ghost Value = { StatusTable };
 
     ghost view = { λ s. record {
       place = s.place;

@@ -1,4 +1,3 @@
 pub mod Free
-pub mod Room
 pub mod Directory
 pub mod Laws

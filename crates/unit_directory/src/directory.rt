@@ -41,7 +41,7 @@ impl Model for Directory {
     ghost use Rattle.std.specs.Prelude.{length};
     ghost use Rattle.ipl_meaning.specs.Tables.{Places};
     ghost use Rattle.unit_directory.specs.Directory.{IsSoundDirectory};
-    ghost use Rattle.unit_directory.specs.Room.{HasRoom};
+    ghost use Rattle.ipl_base.specs.Places.{HasUnitRoom};
 
     ghost Value = { Places };
 
@@ -64,10 +64,10 @@ impl Model for Directory {
       generations = d.generations.items;
       masks = d.masks.items;
     })
-        × HasRoom (length d.in_use.items) d.current
-        × HasRoom (length d.in_use.items) d.written
-        × HasRoom (length d.in_use.items) d.generations
-        × HasRoom (length d.in_use.items) d.masks };
+        × HasUnitRoom (length d.in_use.items) d.current
+        × HasUnitRoom (length d.in_use.items) d.written
+        × HasUnitRoom (length d.in_use.items) d.generations
+        × HasUnitRoom (length d.in_use.items) d.masks };
 }
 
 impl Directory {

@@ -19,7 +19,7 @@ use Rattle.ipl_meaning.specs.Layout.{base_sector}
 use Rattle.ipl_meaning.specs.Rests.{now, EachStands, StoryRests}
 use Rattle.unit_io.specs.Leads.{IsSteady, Leads, RestsWith, KeepsMap}
 use Rattle.unit_io.specs.Spots.{Programs, IsSpot, IsPieceSpot}
-use Rattle.unit_io.specs.Charts.{Charts, Gains, HasPieces, HasPage}
+use Rattle.unit_io.specs.Charts.{Charts, Gains, HasPieces, HasPageSectors}
 use Rattle.unit_io.proofs.LeadsLemmas.{leads_none, leads_then, leads_failed}
 use Rattle.unit_io.proofs.SpotLemmas.{programs_none, programs_then, programs_wider}
 
@@ -154,7 +154,7 @@ cut_piece text p e at within = elim (cases_lt (p * 480 + 480) (length text)) [
 -- the pieces of a page's text are the page
 pub page_leads : (places p u g page : ℕ) (text : List ℕ) (slots : Slots) → text ≡ page_text VERSION slots → (m : Map) (h : History) (old new : Told) (result : Result ℕ ChipFault) → IfOk result (λ n. IsCutInto text n)
     → KeepsMap places m (Programs p (IsPieceSpot page 16)) (λ n. HasPieces p u g page text n) h old result new
-    → KeepsMap places m (Programs p (IsPieceSpot page 16)) (λ n. HasPage p u g page slots n) h old result new
+    → KeepsMap places m (Programs p (IsPieceSpot page 16)) (λ n. HasPageSectors p u g page slots n) h old result new
 page_leads places p u g page text slots is m h old new (Ok n) cut did = record {
   added = did.added;
   places = did.places;

@@ -17,7 +17,7 @@ use Rattle.ipl_meaning.specs.Chart.{Chart}
 use Rattle.ipl_meaning.specs.Marks.{KeepsMarks}
 use Rattle.std.proofs.lemmas.Bool.{and_parts}
 use Rattle.ipl_meaning.proofs.StoryLemmas.{held_stands, barriers_rest, barriers_keep_either, either_is_kept, one_is_either, programs_lead}
-use Rattle.unit_io.specs.Leads.{IsSteady, LeadsWhere, Leads, RestsWith, IsAdded, RestsAdded, KeepsMap, SwitchesMap, SwitchesMapWhere, Did, Waited}
+use Rattle.unit_io.specs.Leads.{IsSteady, LeadsWhere, Leads, RestsWith, IsSectorAdded, RestsAdded, KeepsMap, SwitchesMap, SwitchesMapWhere, Did, Waited}
 use Rattle.unit_io.specs.Spots.{AddsSector, Programs, IsSpot}
 use Rattle.unit_io.specs.Costs.{Spends}
 use Rattle.unit_io.specs.Charts.{Charts, Gains}
@@ -98,7 +98,7 @@ module _ (Sound : Type 0) (old : Told) (m n : Map) (h : History) (p t : ℕ) (by
     sector_fails = fails_both (λ done k. RestsAdded old.places n p t head h k)
 
 -- the chart has gained the sector that was added
-pub added_gains : (p s : ℕ) (sector : Sector) (h k : History) → IsAdded p s sector h k → Gains p s sector (now h) (now k)
+pub added_gains : (p s : ℕ) (sector : Sector) (h k : History) → IsSectorAdded p s sector h k → Gains p s sector (now h) (now k)
 added_gains p s sector h k added = rw (added.is) (held_program sector_in h.start h.story p s added.bytes sector added.spelled)
 
 -- where the new map is the old one, it is kept, whatever holds then

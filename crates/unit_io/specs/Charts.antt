@@ -40,7 +40,7 @@ pub record HasPieces (p u generation page : ℕ) (text : List ℕ) (n : ℕ) (c 
   pub others : (q s : ℕ) → (q ≡ p → IsPieceSpot page n s → ⊥) → y q s ≡ c q s
 
 -- the page stands there, in so many base sectors
-pub record HasPage (p u generation page : ℕ) (slots : Slots) (n : ℕ) (c y : Chart) : Type 0 where
+pub record HasPageSectors (p u generation page : ℕ) (slots : Slots) (n : ℕ) (c y : Chart) : Type 0 where
   pub cut : IsCutInto (page_text VERSION slots) n
   pub pieces : HasPieces p u generation page (page_text VERSION slots) n c y
 

@@ -63,7 +63,7 @@ SwitchesMapWhere Sound places m n Does F h old result new =
     LeadsWhere Sound (EachStandsEither places m n) Does (RestsWith places n F h) h old result new
 
 -- the history is that of before with the program of this sector, at this spot, and a barrier
-pub record IsAdded (p s : ℕ) (sector : Sector) (h k : History) : Type 0 where
+pub record IsSectorAdded (p s : ℕ) (sector : Sector) (h k : History) : Type 0 where
   pub bytes : List ℕ
   pub spelled : sector_in bytes ≡ Some sector
   pub is : k ≡ adds Barrier (adds (Program p s bytes) h)
@@ -71,7 +71,7 @@ pub record IsAdded (p s : ℕ) (sector : Sector) (h k : History) : Type 0 where
 -- the story rests on the map, with that sector added
 pub record RestsAdded (places : ℕ) (m : Map) (p s : ℕ) (sector : Sector) (h k : History) : Type 0 where
   pub rests : StoryRests places m k
-  pub added : IsAdded p s sector h k
+  pub added : IsSectorAdded p s sector h k
 
 -- a program or an erase was done, or it broke
 abbrev pub Did : Event → Result (Unit {0}) ChipFault → Told → Told → Type 0

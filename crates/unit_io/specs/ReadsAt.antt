@@ -12,6 +12,10 @@ use Rattle.ipl_base.specs.declared.fault.ChipFault.TheVariants.{ReadFault, Stopp
 abbrev pub Anywhere : ℕ → ℕ → Type 0
 Anywhere p s = Unit {0}
 
+-- this sector
+abbrev pub IsAt : ℕ → ℕ → ℕ → ℕ → Type 0
+IsAt place sector p s = (p ≡ place) × (s ≡ sector)
+
 -- one of these sectors was read
 abbrev pub IsReadAt : (ℕ → ℕ → Type 0) → Event → Type 0
 IsReadAt At (Read p s) = At p s

@@ -15,7 +15,7 @@ ghost use Rattle.unit_io.specs.Accounts.{Accounts};
 ghost use Rattle.unit_io.specs.Leads.{IsSteady, KeepsMap, IsStopped};
 ghost use Rattle.unit_io.specs.Spots.{Programs, IsSpot, IsPieceSpot};
 ghost use Rattle.unit_io.specs.Costs.{ProgramsAt, Spends};
-ghost use Rattle.unit_io.specs.Charts.{Charts, Spares, Gains, HasPieces, HasPage};
+ghost use Rattle.unit_io.specs.Charts.{Charts, Spares, Gains, HasPieces, HasPageSectors};
 ghost use Rattle.unit_io.specs.Plain.{AddsPlain};
 ghost use Rattle.unit_io.specs.Tails.{AreTails};
 ghost use Rattle.sector_format.specs.Decode.{sector_of};
@@ -162,8 +162,8 @@ pub fn program_page<C: Chip>(
     ensures keeps { (m : Map) (h : History) → IsSteady h (C.told chip.old) → StoryRests (C.told chip.old).places m h
         → now h place 0 ≡ None → ((s : ℕ) → IsPieceSpot page PAGE_SECTORS s → age h.story place s ≡ Clean)
         → KeepsMap (C.told chip.old).places m (Programs place (IsPieceSpot page PAGE_SECTORS))
-        (λ n. HasPage place head.now.unit head.now.generation page map.now n) h (C.told chip.old) result (C.told chip.new) }
-    ensures tells { IfOk result (λ n. Charts (HasPage place head.now.unit head.now.generation page map.now n) (C.told chip.old) (C.told chip.new)) }
+        (λ n. HasPageSectors place head.now.unit head.now.generation page map.now n) h (C.told chip.old) result (C.told chip.new) }
+    ensures tells { IfOk result (λ n. Charts (HasPageSectors place head.now.unit head.now.generation page map.now n) (C.told chip.old) (C.told chip.new)) }
     ensures plain { AddsPlain (C.told chip.old) (C.told chip.new) }
     ensures few { IfOk result (λ n. n ≤ PAGE_SECTORS) }
     ensures spares { OnOk result (Spares place (C.told chip.old) (C.told chip.new)) }

@@ -5,6 +5,7 @@ ghost use Rattle.ipl_format.specs.Header.{erases_from};
 ghost use Rattle.ipl_format.specs.Laws.{erases_size};
 ghost use Rattle.unit_layout.specs.Header.{erases_at, SayErases};
 
+use byteorder::{BigEndian, ByteOrder};
 use ipl_base::VERSION;
 use ipl_format::word_at;
 
@@ -16,7 +17,7 @@ pub(crate) fn write_word(number: u32, at: usize, out: &mut [u8])
     ensures front { take (at + 4) out.new ≡ take at out.old ++ word number }
     ensures size { length out.new ≡ length out.old }
 {
-    out[at..at + 4].copy_from_slice(&number.to_be_bytes());
+    BigEndian::write_u32(&mut out[at..at + 4], number);
 }
 
 /// How many bytes say in a version how often a place was erased.

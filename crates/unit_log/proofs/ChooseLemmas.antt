@@ -8,7 +8,7 @@ use Rattle.ipl_base.specs.declared.spot.Spot.{Spot}
 use Rattle.ipl_base.specs.declared.limits.TheConstants.{VERSION}
 use Rattle.ipl_format.specs.Record.{Record, IsRecord}
 use Rattle.ipl_meaning.specs.Masks.{has_page, mask_after, with_page}
-use Rattle.overflow.specs.Lists.{pair_of, IsWithin, AreWithin}
+use Rattle.overflow.specs.Lists.{pair_of, IsSpotWithin, AreWithin}
 use Rattle.unit_log.specs.Live.{spots_from}
 use Rattle.unit_log.specs.Paged.{names_at_home, home_with, listed_with}
 use Rattle.unit_log.proofs.GatherLemmas.{home_step}
@@ -79,27 +79,27 @@ module _ (page i : ℕ) (listed spots : List Spot) (masks : List ℕ) (all : Lis
 -- ---- all are sectors of the chip
 
 from_within : (places p s n : ℕ) → p < places → s + n ≤ 256 → AreWithin places (spots_from p s n)
-from_within places p s zero low small = All-nil (IsWithin places)
+from_within places p s zero low small = All-nil (IsSpotWithin places)
 from_within places p s (suc n) low small =
-    All-cons (IsWithin places) (p, s) (spots_from p (s + 1) n) (low, omega (arith, small))
+    All-cons (IsSpotWithin places) (p, s) (spots_from p (s + 1) n) (low, omega (arith, small))
     (from_within places p (s + 1) n low (omega (arith, small)))
 
 listed_within_all : (places page : ℕ) (spots : List (ℕ × ℕ)) (masks : List ℕ) → AreWithin places spots
     → AreWithin places (listed_with page spots masks)
-listed_within_all places page [] masks all = All-nil (IsWithin places)
-listed_within_all places page (x ∷ spots) [] all = All-nil (IsWithin places)
+listed_within_all places page [] masks all = All-nil (IsSpotWithin places)
+listed_within_all places page (x ∷ spots) [] all = All-nil (IsSpotWithin places)
 listed_within_all places page (x ∷ spots) (mask ∷ masks) all =
-    let rest = listed_within_all places page spots masks (All-tail (IsWithin places) x spots all) in
+    let rest = listed_within_all places page spots masks (All-tail (IsSpotWithin places) x spots all) in
     elim (cases_Bool (has_page mask page)) [
-      | inl is ↦ rw is (All-cons (IsWithin places) x (listed_with page spots masks) (All-head (IsWithin places) x spots all) rest)
+      | inl is ↦ rw is (All-cons (IsSpotWithin places) x (listed_with page spots masks) (All-head (IsSpotWithin places) x spots all) rest)
       | inr not ↦ rw not rest
     ]
 
 pub spots_within : (places page p : ℕ) (own : List ℕ) (spots : List (ℕ × ℕ)) (masks : List ℕ) → p < places
     → AreWithin places spots → AreWithin places (home_with page p own ++ listed_with page spots masks)
 spots_within places page p own spots masks low all =
-    All-append (IsWithin places) (home_with page p own) (listed_with page spots masks)
-    (All-filter (names_at_home page own) (IsWithin places) (spots_from p 241 15) (from_within places p 241 15 low (omega arith)))
+    All-append (IsSpotWithin places) (home_with page p own) (listed_with page spots masks)
+    (All-filter (names_at_home page own) (IsSpotWithin places) (spots_from p 241 15) (from_within places p 241 15 low (omega arith)))
     (listed_within_all places page spots masks all)
 
 -- ---- the mask of records

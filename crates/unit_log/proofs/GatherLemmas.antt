@@ -7,15 +7,15 @@ use Rattle.ipl_base.specs.declared.fault.ChipFault.TheVariants.{ReadFault}
 use Rattle.ipl_base.specs.declared.spot.Spot.{Spot}
 use Rattle.ipl_format.specs.Sector.{Sector}
 use Rattle.ipl_meaning.specs.Chart.{Chart, chart_of}
-use Rattle.overflow.specs.Lists.{pair_of, IsWithin, AreWithin}
+use Rattle.overflow.specs.Lists.{pair_of, IsSpotWithin, AreWithin}
 use Rattle.unit_io.specs.Kinds.{log_only}
 use Rattle.unit_io.specs.Reads.{OfContents}
-use Rattle.unit_io.specs.ReadsAt.{ReadsAt}
+use Rattle.unit_io.specs.ReadsAt.{IsAt, ReadsAt}
 use Rattle.unit_io.proofs.ReadsAtLemmas.{at_none}
 use Rattle.unit_log.specs.declared.scratch.LogSector.{LogSector}
-use Rattle.unit_log.specs.Kept.{kept_if, with_found, gathered, IsUnfit, HasUnfit}
+use Rattle.unit_log.specs.Kept.{kept_if, with_found, gathered, CannotBeKept, HasUnfit}
 use Rattle.unit_log.specs.Live.{spots_from, Gathers}
-use Rattle.unit_log.specs.Looks.{IsAt, IsListed, LooksAt}
+use Rattle.unit_log.specs.Looks.{IsListed, LooksAt}
 use Rattle.unit_log.proofs.LooksLemmas.{at_one, looks_failed, reads_then}
 
 -- what a call that gathers told, where it was done, and where it failed
@@ -33,12 +33,12 @@ Fails told u g spots before fault =
 pub spot_gathers : (told : Told) (u g p s : ℕ) (before kept : List LogSector) (o : Option Sector)
     (result : Result (Unit {0}) ChipFault) → OfContents told (λ x. o ≡ log_only (chart_of x p s))
     → OnOk result (kept ≡ with_found (kept_if u g o) before)
-    → IfErr result (λ fault. IsUnfit (kept_if u g o) before)
+    → IfErr result (λ fault. CannotBeKept (kept_if u g o) before)
     → Gathers told u g ((p, s) ∷ []) before kept result
 spot_gathers told u g p s before kept o (Ok v) is done unfit = λ x here.
     done ∙ ap (λ (z : Option Sector). with_found (kept_if u g z) before) (is x here)
 spot_gathers told u g p s before kept o (Err e) is done unfit = λ x here.
-    inr (inl (subst (λ (z : Option Sector). IsUnfit (kept_if u g z) before) (is x here) unfit))
+    inr (inl (subst (λ (z : Option Sector). CannotBeKept (kept_if u g z) before) (is x here) unfit))
 
 -- no read of it was done
 pub spot_missed : (told : Told) (u g p s : ℕ) (before kept : List LogSector)
@@ -142,8 +142,8 @@ is_listed spots i spot low = (
 )
 
 pub listed_within : (places : ℕ) (spots : List Spot) (i : ℕ) (spot : Spot) → i < length spots
-    → AreWithin places (map pair_of spots) → IsWithin places (pair_of (get_or spots i spot))
-listed_within places spots i spot low all = subst (IsWithin places)
+    → AreWithin places (map pair_of spots) → IsSpotWithin places (pair_of (get_or spots i spot))
+listed_within places spots i spot low all = subst (IsSpotWithin places)
     (get_or-map pair_of spots i spot (0, 0) low)
     (all i (0, 0) (omega (arith, low, length-map spots pair_of)))
 

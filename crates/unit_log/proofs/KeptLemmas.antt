@@ -5,7 +5,7 @@ use Rattle.std.proofs.lemmas.Bool.{cases_Bool, or_parts, eq-eqb, ltb-true, ltb-f
 use Rattle.std.proofs.lemmas.List.Elements.{All-cons, All-nil, All-weaker, All-contains, All-contains_itself}
 use Rattle.std.proofs.lemmas.List.Kept.{AllPairs-cons}
 use Rattle.unit_log.specs.declared.scratch.LogSector.{LogSector}
-use Rattle.unit_log.specs.Kept.{has_serial, rank_of, with_kept, IsBefore, AreRising}
+use Rattle.unit_log.specs.Kept.{has_serial, rank_of, with_kept, IsBefore, HaveRisingSerials}
 
 pub contains_cons : {X : Type 0} (x : X) (xs : List X) (y : X) → Contains (x ∷ xs) y
     → (x ≡ y) ⊎ Contains xs y
@@ -71,11 +71,11 @@ inserted_is x (y ∷ l) = elim (cases_Bool (nat_lt y.serial x.serial)) [
 
 -- ---- order
 
-pub rise_tail : (y : LogSector) (l : List LogSector) → AreRising (y ∷ l) → AreRising l
+pub rise_tail : (y : LogSector) (l : List LogSector) → HaveRisingSerials (y ∷ l) → HaveRisingSerials l
 rise_tail y l rise =
     λ i j d less within. rise (suc i) (suc j) d (omega (arith, less)) (omega (arith, within))
 
-pub rise_head : (y : LogSector) (l : List LogSector) → AreRising (y ∷ l) → All (IsBefore y) l
+pub rise_head : (y : LogSector) (l : List LogSector) → HaveRisingSerials (y ∷ l) → All (IsBefore y) l
 rise_head y l rise = λ i d within. rise 0 (suc i) d (omega arith) (omega (arith, within))
 
 still_before : (y x : LogSector) (l : List LogSector) → IsBefore y x → All (IsBefore y) l
@@ -89,7 +89,7 @@ still_before y x l less all = All-weaker (Contains (with_kept x l)) (IsBefore y)
     (with_kept x l) (All-contains_itself (with_kept x l))
 
 pub rising_with_kept : (x : LogSector) (l : List LogSector) → has_serial x.serial l ≡ false
-    → AreRising l → AreRising (with_kept x l)
+    → HaveRisingSerials l → HaveRisingSerials (with_kept x l)
 rising_with_kept x [] none rise =
     AllPairs-cons IsBefore x [] (All-nil (IsBefore x))
     (λ i j d less within. absurd (omega (arith, within)))
@@ -124,7 +124,7 @@ items_then l items x at is same = is ∙ ap (λ (k : ℕ). insert l k x) same �
 abbrev pub HasAll : List LogSector → List LogSector → Type 0
 HasAll a b = (z : LogSector) → Contains a z → Contains b z
 
-in_tail : (x y : LogSector) (a b : List LogSector) → x ≡ y → AreRising (x ∷ a)
+in_tail : (x y : LogSector) (a b : List LogSector) → x ≡ y → HaveRisingSerials (x ∷ a)
     → HasAll (x ∷ a) (y ∷ b) → HasAll a b
 in_tail x y a b same rise has z is = elim (contains_cons y b z (has z (contains_there x a z is))) [
   | inl first ↦ absurd (
@@ -134,7 +134,7 @@ in_tail x y a b same rise has z is = elim (contains_cons y b z (has z (contains_
   | inr later ↦ later
 ]
 
-heads_same : (x y : LogSector) (a b : List LogSector) → AreRising (x ∷ a) → AreRising (y ∷ b)
+heads_same : (x y : LogSector) (a b : List LogSector) → HaveRisingSerials (x ∷ a) → HaveRisingSerials (y ∷ b)
     → HasAll (x ∷ a) (y ∷ b) → HasAll (y ∷ b) (x ∷ a) → x ≡ y
 heads_same x y a b rise also has back = elim (contains_cons y b x (has x (contains_here x a))) [
   | inl same ↦ sym same
@@ -148,7 +148,7 @@ heads_same x y a b rise also has back = elim (contains_cons y b x (has x (contai
   ]
 ]
 
-pub lists_same : (a b : List LogSector) → AreRising a → AreRising b → HasAll a b → HasAll b a
+pub lists_same : (a b : List LogSector) → HaveRisingSerials a → HaveRisingSerials b → HasAll a b → HasAll b a
     → a ≡ b
 lists_same [] [] rise also has back = refl
 lists_same [] (y ∷ b) rise also has back =

@@ -11,7 +11,7 @@ use Rattle.ipl_meaning.specs.Layout.{Entry, Layout, IsEntry, IsUnit, IsBelow}
 use Rattle.ipl_meaning.specs.Tables.{Tables, clean_from, spots_of}
 use Rattle.ipl_meaning.specs.Mirrors.{Mirrors}
 use Rattle.unit_log.specs.declared.scratch.LogSector.{LogSector}
-use Rattle.unit_log.specs.Kept.{held_in, kept_of, kept_at, with_found, gathered, has_serial, IsUnfit, HasUnfit, AreRising}
+use Rattle.unit_log.specs.Kept.{held_in, kept_of, kept_at, with_found, gathered, has_serial, CannotBeKept, HasUnfit, HaveRisingSerials}
 use Rattle.unit_log.specs.Live.{spots_from, log_spots}
 use Rattle.unit_log.proofs.KeptLemmas.{contains_here, contains_there, lists_same}
 use Rattle.unit_log.proofs.FoundLemmas.{IsFound, gathered_from, gathered_has, found_from, found_kept, kept_says}
@@ -171,7 +171,7 @@ module _ (places : ℕ) (c : Chart) (it : Layout) (t : Tables) (u end : ℕ)
       (found_kept c u g e.place e.number e.sector live.here live.kind live.of_unit
       live.of_generation ∙ ap Some same)
 
-  pub log_gathered : AreRising (gathered c u g spots [])
+  pub log_gathered : HaveRisingSerials (gathered c u g spots [])
       → gathered c u g spots [] ≡ map kept_of (it.units u).log
   log_gathered rise =
       lists_same (gathered c u g spots []) (map kept_of (it.units u).log) rise
@@ -188,7 +188,7 @@ module _ (places : ℕ) (c : Chart) (it : Layout) (t : Tables) (u end : ℕ)
 
   unfit_here : (spot : ℕ × ℕ) (rest : List (ℕ × ℕ)) (kept : List LogSector) → Contains spots spot
       → ((z : LogSector) → Contains kept z → ComesFrom (spot ∷ rest) z)
-      → (o : Option LogSector) → kept_at c u g spot.0 spot.1 ≡ o → IsUnfit o kept → ⊥
+      → (o : Option LogSector) → kept_at c u g spot.0 spot.1 ≡ o → CannotBeKept o kept → ⊥
   unfit_here spot rest kept has from None is unfit = unfit
   unfit_here spot rest kept has from (Some x) is (inr bad) =
       let (e, listed, place, number, same) = entry_at spot.0 spot.1 x has is in

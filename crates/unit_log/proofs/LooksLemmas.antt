@@ -7,10 +7,10 @@ use Rattle.ipl_base.specs.declared.fault.ChipFault.{ChipFault}
 use Rattle.ipl_base.specs.declared.fault.ChipFault.TheVariants.{ReadFault, Stopped, Damaged, Malformed, WornOut}
 use Rattle.unit_io.specs.Accounts.{Accounts}
 use Rattle.unit_io.specs.Reads.{Asked, IsReadFault}
-use Rattle.unit_io.specs.ReadsAt.{ReadsAt, IsCauseAt}
+use Rattle.unit_io.specs.ReadsAt.{IsAt, ReadsAt, IsCauseAt}
 use Rattle.unit_io.proofs.ReadsAtLemmas.{at_then, at_wider, at_asked}
 use Rattle.unit_log.specs.Paged.{IsPageLogRead}
-use Rattle.unit_log.specs.Looks.{IsAt, IsFrom, IsListed, IsLogRead, LooksAt}
+use Rattle.unit_log.specs.Looks.{IsFrom, IsListed, IsLogRead, LooksAt}
 
 -- ---- one sector
 

@@ -6,7 +6,7 @@ use Rattle.ipl_meaning.specs.Tables.{Places, OverflowLists, Tables, clean_from, 
 use Rattle.ipl_meaning.proofs.KnownLogLemmas.{counted_few}
 use Rattle.overflow.specs.Lists.{spots_in}
 use Rattle.unit_log.specs.declared.scratch.LogSector.{LogSector}
-use Rattle.unit_log.specs.Kept.{kept_of, gathered, HasUnfit, AreRising}
+use Rattle.unit_log.specs.Kept.{kept_of, gathered, HasUnfit, HaveRisingSerials}
 use Rattle.unit_log.specs.Live.{log_spots, AreMirrored, HasHead}
 use Rattle.ipl_meaning.specs.Masks.{of_page}
 use Rattle.unit_log.specs.Paged.{page_spots}
@@ -87,14 +87,14 @@ module _ (places place u : ℕ) (c : Chart) (it : Layout) (t : Tables) (director
 
     -- and what they are gathered into is the unit's log
     pub log_read : (kept : List LogSector)
-        → kept ≡ gathered c u generation (log_spots place end listed) [] → AreRising kept
+        → kept ≡ gathered c u generation (log_spots place end listed) [] → HaveRisingSerials kept
         → kept ≡ map kept_of (it.units u).log
     log_read kept is rise =
         let all = is ∙ ap (λ (g : ℕ). gathered c u g (log_spots place end listed) []) same
         ∙ ap (λ (l : List (ℕ × ℕ)). gathered c u (it.units u).head.generation l []) spots_are in
         all
         ∙ log_gathered places c it t u end are.mirrors within (clean_then next some range end_at)
-        (end_most next range end_at) (subst AreRising all rise)
+        (end_most next range end_at) (subst HaveRisingSerials all rise)
 
   -- ---- the log sectors of a page
 
@@ -116,17 +116,17 @@ module _ (places place u : ℕ) (c : Chart) (it : Layout) (t : Tables) (director
         (subst (λ (g : ℕ). HasUnfit c u g spots []) same unfit))
 
     -- and what they are gathered into are those of the log that have a record of the page
-    pub page_read : (kept : List LogSector) → kept ≡ gathered c u generation spots [] → AreRising kept
+    pub page_read : (kept : List LogSector) → kept ≡ gathered c u generation spots [] → HaveRisingSerials kept
         → kept ≡ map kept_of (of_page page (it.units u).log)
     page_read kept is rise =
         let all = is ∙ ap (λ (g : ℕ). gathered c u g spots []) same
         ∙ ap (λ (l : List (ℕ × ℕ)). gathered c u (it.units u).head.generation l []) own_is in
-        all ∙ page_gathered places c it t u page are.mirrors within (subst AreRising all rise)
+        all ∙ page_gathered places c it t u page are.mirrors within (subst HaveRisingSerials all rise)
 
     -- as many
-    pub page_size : (kept : List LogSector) → kept ≡ gathered c u generation spots [] → AreRising kept
+    pub page_size : (kept : List LogSector) → kept ≡ gathered c u generation spots [] → HaveRisingSerials kept
         → length (page_spots directory overflow u page) ≡ length (of_page page (it.units u).log)
     page_size kept is rise =
         let all = is ∙ ap (λ (g : ℕ). gathered c u g spots []) same
         ∙ ap (λ (l : List (ℕ × ℕ)). gathered c u (it.units u).head.generation l []) own_is in
-        ap length (sym spots_is ∙ own_is) ∙ page_count places c it t u page are.mirrors within (subst AreRising all rise)
+        ap length (sym spots_is ∙ own_is) ∙ page_count places c it t u page are.mirrors within (subst HaveRisingSerials all rise)

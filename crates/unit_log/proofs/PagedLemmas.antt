@@ -14,7 +14,7 @@ use Rattle.ipl_meaning.specs.Tables.{Tables, masks_in, home_mask, spots_of, mask
 use Rattle.ipl_meaning.specs.Mirrors.{Mirrors}
 use Rattle.ipl_meaning.proofs.MaskLemmas.{IsOf, StandApart, mask_names, own_mask, masks_tell}
 use Rattle.unit_log.specs.declared.scratch.LogSector.{LogSector}
-use Rattle.unit_log.specs.Kept.{kept_of, kept_at, with_found, gathered, IsUnfit, HasUnfit, AreRising}
+use Rattle.unit_log.specs.Kept.{kept_of, kept_at, with_found, gathered, CannotBeKept, HasUnfit, HaveRisingSerials}
 use Rattle.unit_log.specs.Live.{spots_from}
 use Rattle.unit_log.specs.Paged.{names_at_home, home_with, listed_with}
 use Rattle.unit_log.proofs.KeptLemmas.{contains_cons, contains_here, contains_there, lists_same, length_with_kept}
@@ -118,7 +118,7 @@ module _ (places : ℕ) (c : Chart) (it : Layout) (u : ℕ) (there : IsUnit c pl
   module _ (spots : List (ℕ × ℕ)) (stand : (x : ℕ × ℕ) → Contains spots x → HasEntry x.0 x.1) where
     unfit_here : (spot : ℕ × ℕ) (rest : List (ℕ × ℕ)) (kept : List LogSector) → Contains spots spot
         → ((z : LogSector) → Contains kept z → ComesFrom spots (spot ∷ rest) z)
-        → (o : Option LogSector) → kept_at c u g spot.0 spot.1 ≡ o → IsUnfit o kept → ⊥
+        → (o : Option LogSector) → kept_at c u g spot.0 spot.1 ≡ o → CannotBeKept o kept → ⊥
     unfit_here spot rest kept has from None is unfit = unfit
     unfit_here spot rest kept has from (Some x) is (inr bad) =
         let at = stand spot has in
@@ -290,7 +290,7 @@ module _ (places : ℕ) (c : Chart) (it : Layout) (t : Tables) (u page : ℕ)
       (kept_there places c it u unit_is e in_log ∙ ap Some same)
 
   -- and what they are gathered into is the page's part of the unit's log
-  pub page_gathered : AreRising (gathered c u (it.units u).head.generation spots [])
+  pub page_gathered : HaveRisingSerials (gathered c u (it.units u).head.generation spots [])
       → gathered c u (it.units u).head.generation spots [] ≡ map kept_of (of_page page (it.units u).log)
   page_gathered rise =
       lists_same (gathered c u (it.units u).head.generation spots []) (map kept_of (of_page page (it.units u).log)) rise
@@ -298,7 +298,7 @@ module _ (places : ℕ) (c : Chart) (it : Layout) (t : Tables) (u page : ℕ)
       (AllPairs-filter IsBelow (is_of_page page) (it.units u).log unit_is.log.rising)) there_log back_log
 
   -- they are as many
-  pub page_count : AreRising (gathered c u (it.units u).head.generation spots [])
+  pub page_count : HaveRisingSerials (gathered c u (it.units u).head.generation spots [])
       → length spots ≡ length (of_page page (it.units u).log)
   page_count rise =
       let all = all_kept places c it u unit_is spots [] stand in

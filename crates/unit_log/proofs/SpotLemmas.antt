@@ -6,7 +6,7 @@ use Rattle.std.proofs.lemmas.List.Elements.{Contains-append_cases}
 use Rattle.ipl_meaning.specs.Layout.{Entry, IsBelow}
 use Rattle.ipl_meaning.specs.Mirrors.{AreApart}
 use Rattle.unit_log.specs.declared.scratch.LogSector.{LogSector}
-use Rattle.unit_log.specs.Kept.{kept_of, AreRising}
+use Rattle.unit_log.specs.Kept.{kept_of, HaveRisingSerials}
 use Rattle.unit_log.specs.Live.{spots_from}
 use Rattle.unit_log.proofs.KeptLemmas.{contains_cons, contains_here, contains_there}
 
@@ -50,7 +50,7 @@ map_from (f ∷ log) z has = elim (contains_cons (kept_of f) (map kept_of log) z
   | inr later ↦ let (e, there, is) = map_from log z later in (e, contains_there f log e there, is)
 ]
 
-pub map_rises : (log : List Entry) → AllPairs IsBelow log → AreRising (map kept_of log)
+pub map_rises : (log : List Entry) → AllPairs IsBelow log → HaveRisingSerials (map kept_of log)
 map_rises [] rise = λ i j d less within. absurd (omega (arith, within))
 map_rises (f ∷ log) rise = λ i j d less within.
     let e : Entry = f in

@@ -61,20 +61,20 @@ gathered c u generation (spot ∷ spots) kept =
     gathered c u generation spots (with_found (kept_at c u generation spot.0 spot.1) kept)
 
 -- one can't be kept: it is no list of records in its version, or another has its serial
-abbrev pub IsUnfit : Option LogSector → List LogSector → Type 0
-IsUnfit None kept = ⊥
-IsUnfit (Some x) kept = (has_serial x.serial kept ≡ true) ⊎ (IsLogPayload x.payload.version x.payload.bytes → ⊥)
+abbrev pub CannotBeKept : Option LogSector → List LogSector → Type 0
+CannotBeKept None kept = ⊥
+CannotBeKept (Some x) kept = (has_serial x.serial kept ≡ true) ⊎ (IsLogPayload x.payload.version x.payload.bytes → ⊥)
 
 -- one of those at the spots can't, when it is its turn
 abbrev pub HasUnfit : Chart → ℕ → ℕ → List (ℕ × ℕ) → List LogSector → Type 0
 HasUnfit c u generation [] kept = ⊥
 HasUnfit c u generation (spot ∷ spots) kept =
-    IsUnfit (kept_at c u generation spot.0 spot.1) kept
+    CannotBeKept (kept_at c u generation spot.0 spot.1) kept
     ⊎ HasUnfit c u generation spots (with_found (kept_at c u generation spot.0 spot.1) kept)
 
 -- each serial is below all later ones
 abbrev pub IsBefore : LogSector → LogSector → Type 0
 IsBefore x y = x.serial < y.serial
 
-abbrev pub AreRising : List LogSector → Type 0
-AreRising kept = AllPairs IsBefore kept
+abbrev pub HaveRisingSerials : List LogSector → Type 0
+HaveRisingSerials kept = AllPairs IsBefore kept

@@ -35,7 +35,7 @@ Gathers told u generation spots before kept result = OfContents told (λ x. Matc
     (λ fault. (fault ≡ ReadFault) ⊎ HasUnfit (chart_of x) u generation spots before))
 
 -- the unit's header, and its log: what the layout says
-pub record IsLive (it : Layout) (u : ℕ) (head : UnitHead) (kept : List LogSector) : Type 0 where
+pub record MatchesLayout (it : Layout) (u : ℕ) (head : UnitHead) (kept : List LogSector) : Type 0 where
   pub version : head.version ≡ (it.units u).head.version
   pub generation : head.generation ≡ (it.units u).head.generation
   pub pieces : head.pieces ≡ (it.units u).pieces
@@ -63,7 +63,7 @@ pub record SaysHead (sector : Sector) (u : ℕ) (head : UnitHead) : Type 0 where
   pub spelled : SpellsDataHeader sector.version units head.pieces sector.payload
 
 -- at the place stands one that says this
-pub record IsHeaded (c : Chart) (place u : ℕ) (head : UnitHead) : Type 0 where
+pub record HasUnitHead (c : Chart) (place u : ℕ) (head : UnitHead) : Type 0 where
   pub sector : Sector
   pub here : c place 0 ≡ Some sector
   pub says : SaysHead sector u head

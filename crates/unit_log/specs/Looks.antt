@@ -3,11 +3,7 @@ use Rattle.std.specs.Prelude.{ℕ, ◌≡◌, ◌⊎◌, ◌<◌, ◌≤◌, Lis
 use Rattle.ipl_base.specs.declared.limits.TheConstants.{SECTORS, FIRST_LOG_SECTOR}
 use Rattle.chip_trait.specs.Told.{Told}
 use Rattle.ipl_base.specs.declared.fault.ChipFault.{ChipFault}
-use Rattle.unit_io.specs.ReadsAt.{ReadsAt, IsCauseAt}
-
--- this sector
-abbrev pub IsAt : ℕ → ℕ → ℕ → ℕ → Type 0
-IsAt place sector p s = (p ≡ place) × (s ≡ sector)
+use Rattle.unit_io.specs.ReadsAt.{IsAt, ReadsAt, IsCauseAt}
 
 -- a sector of this place, from one on
 abbrev pub IsFrom : ℕ → ℕ → ℕ → ℕ → Type 0

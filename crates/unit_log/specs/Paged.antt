@@ -13,7 +13,8 @@ use Rattle.unit_log.specs.declared.live.UnitHead.{UnitHead}
 use Rattle.unit_log.specs.Kept.{kept_of}
 use Rattle.unit_log.specs.declared.scratch.LogSector.{LogSector}
 use Rattle.unit_log.specs.Live.{spots_from}
-use Rattle.unit_log.specs.Looks.{IsAt, IsListed}
+use Rattle.unit_io.specs.ReadsAt.{IsAt}
+use Rattle.unit_log.specs.Looks.{IsListed}
 
 -- by these masks the log sector at the place names the page
 abbrev pub names_at_home : ℕ → List ℕ → ℕ × ℕ → Bool

@@ -10,8 +10,9 @@ ghost use Rattle.ipl_meaning.specs.Masks.{of_page};
 ghost use Rattle.overflow.specs.Lists.{spots_in};
 ghost use Rattle.unit_io.specs.Kinds.{sector_named};
 ghost use Rattle.unit_io.specs.Reads.{OfContents};
-ghost use Rattle.unit_log.specs.Live.{IsLive, OfMirrored, HasHead, SaysHead, IsHeaded};
-ghost use Rattle.unit_log.specs.Looks.{IsAt, IsLogRead, LooksAt};
+ghost use Rattle.unit_log.specs.Live.{MatchesLayout, OfMirrored, HasHead, SaysHead, HasUnitHead};
+ghost use Rattle.unit_io.specs.ReadsAt.{IsAt};
+ghost use Rattle.unit_log.specs.Looks.{IsLogRead, LooksAt};
 ghost use Rattle.unit_log.specs.Paged.{page_spots, IsLiveOf, IsPageLogRead, AddsAtMost};
 
 use crate::pages::page_spots;
@@ -68,7 +69,7 @@ fn read_header<C: Chip>(chip: &mut C, place: u32, unit: u32) -> Result<UnitHead,
         × (r.version ≡ head.version))
         (λ fault. fault ≡ ReadFault)) }
     ensures header { IfOk result (λ r. OfContents (C.told chip.old) (λ x.
-        IsHeaded (chart_of x) place unit r)) }
+        HasUnitHead (chart_of x) place unit r)) }
     ensures few { IfOk result (λ r. All (λ n. n ≤ PAGE_SECTORS) r.pieces) }
     ensures looks { LooksAt (IsAt place 0) result (C.told chip.old) (C.told chip.new) }
     ensures one { AddsAtMost 1 (C.told chip.old) (C.told chip.new) }
@@ -101,9 +102,9 @@ pub fn read_live<C: Chip>(
     requires units { length overflow.now.spots ≡ length directory.now.current }
     requires sized { overflow.now.places ≡ (C.told chip.old).places }
     ensures exact { OfMirrored (C.told chip.old) directory.now overflow.now (λ it.
-        MatchResult result (λ head. IsLive it unit head scratch.new) (λ fault. fault ≡ ReadFault)) }
+        MatchResult result (λ head. MatchesLayout it unit head scratch.new) (λ fault. fault ≡ ReadFault)) }
     ensures header { IfOk result (λ head. OfContents (C.told chip.old) (λ x.
-        IsHeaded (chart_of x) (slice_index directory.now.current unit) unit head)) }
+        HasUnitHead (chart_of x) (slice_index directory.now.current unit) unit head)) }
     ensures few { IfOk result (λ head. All (λ n. n ≤ PAGE_SECTORS) head.pieces) }
     ensures looks { LooksAt
         (IsLogRead (slice_index directory.now.current unit) (spots_in overflow.now unit))

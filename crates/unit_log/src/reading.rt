@@ -5,9 +5,10 @@ ghost use Rattle.chip_trait.specs.Told.{Told};
 ghost use Rattle.ipl_base.specs.declared.fault.ChipFault.TheVariants.{Malformed};
 ghost use Rattle.overflow.specs.Lists.{pair_of, AreWithin};
 ghost use Rattle.unit_io.specs.Kinds.{sector_named};
-ghost use Rattle.unit_log.specs.Kept.{kept_if, with_found, IsUnfit};
+ghost use Rattle.unit_log.specs.Kept.{kept_if, with_found, CannotBeKept};
 ghost use Rattle.unit_log.specs.Live.{spots_from, log_spots, Gathers};
-ghost use Rattle.unit_log.specs.Looks.{IsAt, IsFrom, IsListed, IsLogRead, LooksAt};
+ghost use Rattle.unit_io.specs.ReadsAt.{IsAt};
+ghost use Rattle.unit_log.specs.Looks.{IsFrom, IsListed, IsLogRead, LooksAt};
 ghost use Rattle.unit_log.specs.Paged.{AddsAtMost};
 
 use crate::scratch::Scratch;
@@ -33,7 +34,7 @@ fn keep(
           payload = record { version = version; bytes = payload.now };
         })) scratch.old) }
     ensures unfit { IfErr result (λ fault.
-        IsUnfit (Some (record {
+        CannotBeKept (Some (record {
           serial = serial;
           payload = record { version = version; bytes = payload.now };
         })) scratch.old) }
@@ -67,7 +68,7 @@ fn take_found(
     ensures kept { OnOk result (scratch.new
         ≡ with_found (kept_if unit generation (sector_named bytes.now found)) scratch.old) }
     ensures unfit { IfErr result (λ fault.
-        IsUnfit (kept_if unit generation (sector_named bytes.now found)) scratch.old) }
+        CannotBeKept (kept_if unit generation (sector_named bytes.now found)) scratch.old) }
     ensures fault { IfErr result (λ fault. fault ≡ Malformed spot.place spot.sector) }
     ensures count { length scratch.new ≤ length scratch.old + 1 }
 {

@@ -3,7 +3,7 @@ ghost use Rattle.std.specs.Prelude.{◌≡◌, ◌≤◌, ◌<◌, ◌+◌, [], 
 ghost use Rattle.std.specs.List.{insert};
 ghost use Rattle.std.specs.Bool.{OnTrue, OnFalse};
 ghost use Rattle.ipl_base.specs.declared.limits.TheConstants.{LIVE_SECTORS};
-ghost use Rattle.unit_log.specs.Kept.{has_serial, with_kept, rank_of, AreRising};
+ghost use Rattle.unit_log.specs.Kept.{has_serial, with_kept, rank_of, HaveRisingSerials};
 
 use ipl_base::{LIVE_SECTORS, OutOfMemory};
 use log_records::Payload;
@@ -28,7 +28,7 @@ impl Model for Scratch {
     ghost use Rattle.std.specs.Prelude.{List, length, vec_capacity, ◌≤◌};
     ghost use Rattle.ipl_base.specs.declared.limits.TheConstants.{LIVE_SECTORS};
     ghost use Rattle.unit_log.specs.declared.scratch.LogSector.{LogSector};
-    ghost use Rattle.unit_log.specs.Kept.{AreRising};
+    ghost use Rattle.unit_log.specs.Kept.{HaveRisingSerials};
 
     ghost Value = { List LogSector };
 
@@ -36,7 +36,7 @@ impl Model for Scratch {
 
     ghost invariant = { λ s. (length s.sectors.items ≤ LIVE_SECTORS)
         × (LIVE_SECTORS ≤ vec_capacity s.sectors)
-        × AreRising s.sectors.items };
+        × HaveRisingSerials s.sectors.items };
 }
 
 /// Whether one of these log sectors has a serial.
@@ -101,7 +101,7 @@ impl Scratch {
     pub fn sectors(&self) -> &[LogSector]
         ensures sectors { result.now ≡ self.now }
         ensures few { length result.now ≤ LIVE_SECTORS }
-        ensures rising { AreRising result.now }
+        ensures rising { HaveRisingSerials result.now }
     {
         self.sectors.as_slice()
     }
@@ -109,7 +109,7 @@ impl Scratch {
     /// What always holds: there are at most 31, and their serials rise.
     pub fn facts(&self)
         ensures few { length self.now ≤ LIVE_SECTORS }
-        ensures rising { AreRising self.now }
+        ensures rising { HaveRisingSerials self.now }
     {
         let _ = &self.sectors;
     }

@@ -2,7 +2,7 @@ use Rattle.std.proofs.Common.{ℕ, Err, inl, inr, refl, sym, ◌∙◌, subst}
 use Rattle.std.proofs.lemmas.Result.{err_from_is_err_and}
 use Rattle.chip_trait.proofs.CountsLemmas.{counts_then}
 use Rattle.ipl_store.specs.Calls.{IsSound}
-use Rattle.ipl_cli.specs.Runs.{ClosesFor}
+use Rattle.ipl_cli.specs.Runs.{MakesStore}
 use Rattle.ipl_cli.proofs.top.start_formatted.Goals as goal
 
 pub format_first-requires : goal.format_first-requires
@@ -20,7 +20,7 @@ pub returns-in_err-store-clause-stops : goal.returns-in_err-store-clause-stops
 returns-in_err-store-clause-stops g c =
     let e = err_from_is_err_and c.from_residual.result c.from_residual.ensures.1 in
     rw (e.1, e.2) (inl (
-      subst (λ (n : ℕ). ClosesFor n (Err c.in_err-store.field-0.0))
+      subst (λ (n : ℕ). MakesStore n (Err c.in_err-store.field-0.0))
           c.units.ensures c.in_err-store.ensures.closes,
       refl,
     ))

@@ -1,6 +1,6 @@
 use Rattle.std.proofs.Common.{ℕ, Err, subst}
 use Rattle.std.proofs.lemmas.Result.{err_from_is_err_and}
-use Rattle.ipl_cli.specs.Runs.{ClosesFor}
+use Rattle.ipl_cli.specs.Runs.{MakesStore}
 use Rattle.ipl_cli.proofs.StartLemmas.{closed_left, closed_cause, unopened_left, unopened_ends}
 use Rattle.std.proofs.Common.{refl, ◌∙◌}
 use Rattle.ipl_cli.proofs.LawfulLemmas.{adds_nothing, by_no_mark, unopened_adds}
@@ -14,14 +14,14 @@ pub returns-in_err-store-clause-leaves : goal.returns-in_err-store-clause-leaves
 returns-in_err-store-clause-leaves g c =
     let e = err_from_is_err_and c.from_residual.result c.from_residual.ensures.1 in
     rw (e.1, e.2) (closed_left (g.D.Chip.told c.args.desk.now) c.in_err-store.field-0.0
-    (subst (λ (n : ℕ). ClosesFor n (Err c.in_err-store.field-0.0)) c.units.ensures
+    (subst (λ (n : ℕ). MakesStore n (Err c.in_err-store.field-0.0)) c.units.ensures
     c.in_err-store.ensures.closes))
 
 pub returns-in_err-store-clause-cause : goal.returns-in_err-store-clause-cause
 returns-in_err-store-clause-cause g c =
     let e = err_from_is_err_and c.from_residual.result c.from_residual.ensures.1 in
     rw (e.1, e.2) (λ closes. closed_cause (g.D.Chip.told c.args.desk.now) c.args.frames closes
-    c.in_err-store.field-0.0 (subst (λ (n : ℕ). ClosesFor n (Err c.in_err-store.field-0.0))
+    c.in_err-store.field-0.0 (subst (λ (n : ℕ). MakesStore n (Err c.in_err-store.field-0.0))
     c.units.ensures c.in_err-store.ensures.closes))
 
 pub returns-in_err-started-clause-leaves : goal.returns-in_err-started-clause-leaves

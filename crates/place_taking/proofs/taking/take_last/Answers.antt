@@ -1,7 +1,7 @@
 use Rattle.std.proofs.Common.{◌<◌, ◌+◌, ℕ, Ok, ap, subst, arith}
 use Rattle.ipl_base.specs.declared.fault.ChipFault.TheVariants.{WornOut}
 use Rattle.place_taking.specs.declared.taking.Tried.{Tried}
-use Rattle.place_taking.specs.Turns.{FindsWorn, TriesNext}
+use Rattle.place_taking.specs.Turns.{FindsNextWorn, TriesNext}
 use Rattle.place_taking.proofs.TurnLemmas.{place_last}
 use Rattle.place_taking.proofs.taking.take_last.Goals as goal
 
@@ -11,7 +11,7 @@ returns-in-Worn g c =
     let old = g.C.Chip.told c.args.chip.now in
     let mid = g.C.Chip.told c.take_next.new.chip in
     let p = c.in-Worn.place in
-    let finds : FindsWorn d old p c.take_next.new.directory mid =
+    let finds : FindsNextWorn d old p c.take_next.new.directory mid =
     subst (λ (tried : Tried). TriesNext d old (Ok tried) c.take_next.new.directory mid)
     c.in-Worn.is c.in_ok-place.ensures in
     let within : p < old.places = omega (arith, finds.next.within, c.requires.places) in

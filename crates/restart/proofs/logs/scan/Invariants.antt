@@ -2,7 +2,7 @@ use Rattle.std.proofs.Common.{◌*◌, length, Option}
 use Rattle.unit_io.specs.Reads.{OfContents}
 use Rattle.opening_laws.specs.First.{at}
 use Rattle.restart.specs.Looks.{OnlyReads}
-use Rattle.restart.specs.Notes.{AreSized, IsRoomy}
+use Rattle.restart.specs.Notes.{AreSized, FitsNotes}
 use Rattle.restart.specs.Counted.{SameHomes, StaysUnknown, AreHomes, AreReadLogs}
 use Rattle.ipl_format.specs.Sector.{Sector}
 use Rattle.restart.specs.Scanned.{IsScanned}
@@ -19,7 +19,7 @@ invariant-loop-place g l =
       logs : OfContents (told l.fn.chip) (λ x. (mark : Option Sector) → AreHomes (at l.heads) (at l.current)
           → AreReadLogs x mark (at l.current) (length l.current) 0 l.fn.directory
           → AreReadLogs x mark (at l.current) (length l.current) (l.place * 256) l.directory);
-      roomy : IsRoomy (at l.current) (l.place * 256) l.noted l.overflow;
+      roomy : FitsNotes (at l.current) (l.place * 256) l.noted l.overflow;
       sized : AreSized (length l.current) l.fn.geometry.places l.noted l.overflow;
       unknown : StaysUnknown l.fn.directory l.directory;
       places : SameHomes l.fn.directory l.directory;

@@ -1,6 +1,6 @@
 use Rattle.std.proofs.Common.{rules, ◌≡◌, ◌∙◌, ◌+◌, ◌*◌, ℕ, subst, arith, length}
 use Rattle.opening_laws.specs.First.{at}
-use Rattle.restart.specs.Notes.{IsRoomy}
+use Rattle.restart.specs.Notes.{FitsNotes}
 use Rattle.restart.proofs.LookLemmas.{reads_then, looks_then, looks_done}
 use Rattle.restart.specs.Counted.{AreReadLogs}
 use Rattle.restart.proofs.CountedLogLemmas.{homes_then, unknown_then}
@@ -20,7 +20,7 @@ loop-sector-preserved g c =
           subst (λ (k : ℕ). AreReadLogs x mark (at c.args.current.now) (length c.args.current.now) k c.scan_sector.new.directory) one
           (c.in_ok-gathered.ensures.logs.logs x (same.contents ∙ told) mark homes (c.loop-sector.invariant.logs x told mark homes start));
       roomy = let one : c.args.place * 256 + c.loop-sector.sector + 1 ≡ c.args.place * 256 + (c.loop-sector.sector + 1) = omega arith in
-          subst (λ (k : ℕ). IsRoomy (at c.args.current.now) k c.scan_sector.new.noted c.scan_sector.new.overflow) one c.in_ok-gathered.ensures.room.roomy;
+          subst (λ (k : ℕ). FitsNotes (at c.args.current.now) k c.scan_sector.new.noted c.scan_sector.new.overflow) one c.in_ok-gathered.ensures.room.roomy;
       sized = c.scan_sector.ensures.room.sized;
       unknown = unknown_then c.args.directory.now c.loop-sector.directory c.scan_sector.new.directory c.loop-sector.invariant.unknown c.scan_sector.ensures.logs.unknown;
       places = homes_then c.loop-sector.invariant.places c.scan_sector.ensures.logs.places;
@@ -71,6 +71,6 @@ returns-in_err-gathered-clause-room g c = record {
 pub returns-clause-room : goal.returns-clause-room
 returns-clause-room g c =
     let all : c.args.place * 256 + c.loop-sector.sector ≡ (c.args.place + 1) * 256 = omega arith in record {
-      roomy = subst (λ (k : ℕ). IsRoomy (at c.args.current.now) k c.loop-sector.noted c.loop-sector.overflow) all c.loop-sector.invariant.roomy;
+      roomy = subst (λ (k : ℕ). FitsNotes (at c.args.current.now) k c.loop-sector.noted c.loop-sector.overflow) all c.loop-sector.invariant.roomy;
       sized = c.loop-sector.invariant.sized;
     }

@@ -7,7 +7,7 @@ use Rattle.ipl_base.specs.declared.fault.ChipFault.{ChipFault}
 use Rattle.ipl_base.specs.declared.fault.ChipFault.TheVariants.{Stopped}
 use Rattle.ipl_base.specs.declared.limits.TheConstants.{VERSION}
 use Rattle.ipl_format.specs.Header.{AreRetired}
-use Rattle.ipl_meaning.specs.Tables.{Places, Status, with_use}
+use Rattle.ipl_meaning.specs.Tables.{Places, StatusTable, with_use}
 use Rattle.place_taking.specs.Spending.{ErasesFor, tells_worn}
 use Rattle.place_taking.specs.Takes.{IsTakenFrom, with_places}
 use Rattle.place_taking.proofs.JoinLemmas.{costs_of_filled, taken_was_free, taken_within, tidy_taken, tidy_untaken}
@@ -31,7 +31,7 @@ use Rattle.status_renewal.proofs.place.renew_place.Goals as goal
 -- what a switch leaves, at the places of the first chip, with its counts, the places that it lists and
 -- the number that was drawn
 switch_leaves : (places q units many erases counted : ℕ) (retired listed : List ℕ)
-    (generation next p : ℕ) (status : Status) (kept : List ℕ) (result : Result (Unit {0}) ChipFault)
+    (generation next p : ℕ) (status : StatusTable) (kept : List ℕ) (result : Result (Unit {0}) ChipFault)
     (mid told : Told) → q ≡ places → many ≡ units → counted ≡ erases → listed ≡ retired
     → generation ≡ next → SwitchesInSteps q many counted listed status generation p kept result mid told
     → SwitchesInSteps places units erases retired status next p kept result mid told
@@ -45,7 +45,7 @@ switch_leaves places q units many erases counted retired listed generation next 
 
 -- the same of what it makes of contents
 switch_tells : (places q units many erases counted : ℕ) (retired listed : List ℕ)
-    (generation next p : ℕ) (status : Status) (kept : List ℕ) (mid told : Told) → q ≡ places
+    (generation next p : ℕ) (status : StatusTable) (kept : List ℕ) (mid told : Told) → q ≡ places
     → many ≡ units → counted ≡ erases → listed ≡ retired → generation ≡ next
     → Charts (Switches q many counted listed status generation p kept) mid told
     → Charts (Switches places units erases retired status next p kept) mid told
@@ -182,7 +182,7 @@ returns-in-Ok-clause-moves g c =
             ∙ ap (λ (p : ℕ). with_use c.take_place.new.directory p false) c.place-old.ensures;
       };
       same = tt;
-      room = omega (arith, ap (λ (s : Status). s.first) placed.switched, c.requires.fits.few);
+      room = omega (arith, ap (λ (s : StatusTable). s.first) placed.switched, c.requires.fits.few);
       free = moved_as_many c.directory_laws.ensures.takes c.directory_laws.ensures.gives_back
           c.args.directory.now c.take_place.new.directory c.give_back.new.self c.in_ok-place.place
           c.args.status.now.place c.requires.may.ready c.in_ok-place.ensures.taken c.requires.may.held
@@ -234,7 +234,7 @@ returns-in-Ok-clause-lists g c =
     listed_then (IsCleared p) p c.switch.new.self.place c.retired-retired.result.now
     c.give_back.new.self.retired (g.C.Chip.told c.args.chip.now)
     (g.C.Chip.told c.take_place.new.chip) (g.C.Chip.told c.switch.new.chip)
-    (sym (ap (λ (s : Status). s.place) c.in-Ok.ensures.moved.switched))
+    (sym (ap (λ (s : StatusTable). s.place) c.in-Ok.ensures.moved.switched))
     (c.retired-retired.ensures ∙ sym (ap (λ (e : Places). e.retired) c.give_back.ensures))
     c.in_ok-place.ensures.tells c.in-Ok.ensures.lists
 
@@ -310,7 +310,7 @@ returns-in-Ok-clause-writes g c =
     let told = g.C.Chip.told c.switch.new.chip in
     let writes = c.in-Ok.ensures.writes in record {
       costs = subst (λ (p : ℕ). Spends (ErasesFor c.args.directory.now c.give_back.new.self 3 p true false) old told)
-          (sym (ap (λ (s : Status). s.place) c.in-Ok.ensures.moved.switched))
+          (sym (ap (λ (s : StatusTable). s.place) c.in-Ok.ensures.moved.switched))
           (costs_of_filled c.args.directory.now c.take_place.new.directory c.give_back.new.self
           c.in_ok-place.place 2 true false old mid told
           (ap (λ (e : Places). e.retired) c.give_back.ensures) refl c.in_ok-place.ensures.costs

@@ -34,28 +34,28 @@ returns-in_err-found-clause-tells g c = λ x told.
     let old = g.C.Chip.told c.args.chip.now in
     let e = err_from_is_err_and c.from_residual.result c.from_residual.ensures.1 in
     rw (e.1 ∙ ap Err e.2) (λ unfailed. opens_told old.places x
-    c.in_err-found.field-0.0 old (g.C.Chip.told c.recover.new.chip)
+    c.in_err-found.field-0.0 old (g.C.Chip.told c.read_tables.new.chip)
     (c.in_err-found.ensures.fault x told) c.in_err-found.ensures.looks.only.cause unfailed)
 
 pub returns-in_err-found-clause-steps : goal.returns-in_err-found-clause-steps
 returns-in_err-found-clause-steps g c =
     let old = g.C.Chip.told c.args.chip.now in
     let e = err_from_is_err_and c.from_residual.result c.from_residual.ensures.1 in
-    rw (e.1 ∙ ap Err e.2) (reads_recover c.args.marks old.places old (g.C.Chip.told c.recover.new.chip)
-    (of_parts c.recover.new.directory c.recover.new.overflow c.recover.new.status
-    c.recover.new.counter c.args.parts.now.active) c.in_err-found.field-0.0
-    c.recover.ensures.looks.only.reads)
+    rw (e.1 ∙ ap Err e.2) (reads_recover c.args.marks old.places old (g.C.Chip.told c.read_tables.new.chip)
+    (of_parts c.read_tables.new.directory c.read_tables.new.overflow c.read_tables.new.status
+    c.read_tables.new.counter c.args.parts.now.active) c.in_err-found.field-0.0
+    c.read_tables.ensures.looks.only.reads)
 
 pub returns-in_err-found-clause-fails : goal.returns-in_err-found-clause-fails
 returns-in_err-found-clause-fails g c =
     let old = g.C.Chip.told c.args.chip.now in
-    let mid = g.C.Chip.told c.recover.new.chip in
+    let mid = g.C.Chip.told c.read_tables.new.chip in
     let fault = c.in_err-found.field-0.0 in
     let says = c.in_err-found.ensures in
     let e = err_from_is_err_and c.from_residual.result c.from_residual.ensures.1 in
     rw (e.1 ∙ ap Err e.2) (record {
       looks = λ x told first is. (
-        c.recover.ensures.looks.only.reads,
+        c.read_tables.ensures.looks.only.reads,
         fault_looks old.places x fault first old mid (says.fault x told) says.looks.only.cause is,
       );
       complete = λ x told m none pages. reading_failed old.places (chart_of x) fault old mid
@@ -66,11 +66,11 @@ returns-in_err-found-clause-fails g c =
 pub returns-in_err-found-clause-leaves : goal.returns-in_err-found-clause-leaves
 returns-in_err-found-clause-leaves g c =
     let old = g.C.Chip.told c.args.chip.now in
-    let mid = g.C.Chip.told c.recover.new.chip in
+    let mid = g.C.Chip.told c.read_tables.new.chip in
     let fault = c.in_err-found.field-0.0 in
     let looks = c.in_err-found.ensures.looks in
-    let after = of_parts c.recover.new.directory c.recover.new.overflow c.recover.new.status
-    c.recover.new.counter c.args.parts.now.active in
+    let after = of_parts c.read_tables.new.directory c.read_tables.new.overflow c.read_tables.new.status
+    c.read_tables.new.counter c.args.parts.now.active in
     let e = err_from_is_err_and c.from_residual.result c.from_residual.ensures.1 in
     rw (e.1 ∙ ap Err e.2) (record {
       holds = tt;
@@ -86,8 +86,8 @@ returns-in_err-found-clause-leaves g c =
 pub returns-in_err-found-clause-spends : goal.returns-in_err-found-clause-spends
 returns-in_err-found-clause-spends g c =
     let old = g.C.Chip.told c.args.chip.now in
-    let mid = g.C.Chip.told c.recover.new.chip in
-    let after = c.recover.new.directory in
+    let mid = g.C.Chip.told c.read_tables.new.chip in
+    let after = c.read_tables.new.directory in
     let found = forgotten after in
     let fault = c.in_err-found.field-0.0 in
     let still : tells_wear fault ≡ false =
@@ -99,12 +99,12 @@ returns-in_err-found-clause-spends g c =
         erases = subst (λ (waits : ℕ). Spends (ErasesWaiting found after (length after.current + 1) waits
             (tells_wear fault)) old mid) (sym (no_waits after))
             (waiting_alone found after (length after.current + 1) 0 (tells_wear fault) old mid refl still
-            (homes_forgotten after) (spends_reads Anywhere [] old mid c.recover.ensures.looks.only.reads));
+            (homes_forgotten after) (spends_reads Anywhere [] old mid c.read_tables.ensures.looks.only.reads));
         unmarked = λ off. unknown_logs found (none_known after);
         finds = λ is. absurd (false≢true (sym still ∙ is));
         units = λ is. absurd (false≢true (sym still ∙ is));
       };
-      once = λ x told fit. once_alone Anywhere old mid c.recover.ensures.looks.once;
+      once = λ x told fit. once_alone Anywhere old mid c.read_tables.ensures.looks.once;
       renewed = tt;
     })
 
@@ -115,23 +115,23 @@ returns-in_err-settle_marks-clause-tells g c = λ x told.
     let e = err_from_is_err_and c.from_residual-in_err-settle_marks.result
     c.from_residual-in_err-settle_marks.ensures.1 in
     rw (e.1 ∙ ap Err e.2) (λ unfailed. absurd (unfailed (stopped_failed
-    c.in_err-settle_marks.field-0.0 (g.C.Chip.told c.recover.new.chip)
+    c.in_err-settle_marks.field-0.0 (g.C.Chip.told c.read_tables.new.chip)
     (g.C.Chip.told c.settle_marks.new.chip) c.in_err-settle_marks.ensures.accounts.cause)))
 
 pub returns-in_err-settle_marks-clause-steps : goal.returns-in_err-settle_marks-clause-steps
 returns-in_err-settle_marks-clause-steps g c =
     let old = g.C.Chip.told c.args.chip.now in
     let active = c.args.parts.now.active in
-    let directory = c.recover.new.directory in
-    let overflow = c.recover.new.overflow in
-    let status = c.recover.new.status in
-    let counter = c.recover.new.counter in
+    let directory = c.read_tables.new.directory in
+    let overflow = c.read_tables.new.overflow in
+    let status = c.read_tables.new.status in
+    let counter = c.read_tables.new.counter in
     let t = of_parts directory overflow status counter active in
     let e = err_from_is_err_and c.from_residual-in_err-settle_marks.result
     c.from_residual-in_err-settle_marks.ensures.1 in
     rw (e.1 ∙ ap Err e.2) (settling_failed c.args.marks old.places t old
-    (g.C.Chip.told c.recover.new.chip) (g.C.Chip.told c.settle_marks.new.chip)
-    c.recover.ensures.looks.only.reads
+    (g.C.Chip.told c.read_tables.new.chip) (g.C.Chip.told c.settle_marks.new.chip)
+    c.read_tables.ensures.looks.only.reads
     (record {
       none = λ off. (c.in_ok-found.ensures.found.unmarked off).none;
       marked = c.in_ok-found.ensures.found.marked;
@@ -144,7 +144,7 @@ returns-in_err-settle_marks-clause-steps g c =
 pub returns-in_err-settle_marks-clause-fails : goal.returns-in_err-settle_marks-clause-fails
 returns-in_err-settle_marks-clause-fails g c =
     let old = g.C.Chip.told c.args.chip.now in
-    let mid = g.C.Chip.told c.recover.new.chip in
+    let mid = g.C.Chip.told c.read_tables.new.chip in
     let settled = g.C.Chip.told c.settle_marks.new.chip in
     let fault = c.in_err-settle_marks.field-0.0 in
     let e = err_from_is_err_and c.from_residual-in_err-settle_marks.result
@@ -159,12 +159,12 @@ returns-in_err-settle_marks-clause-fails g c =
 pub returns-in_err-settle_marks-clause-leaves : goal.returns-in_err-settle_marks-clause-leaves
 returns-in_err-settle_marks-clause-leaves g c =
     let old = g.C.Chip.told c.args.chip.now in
-    let mid = g.C.Chip.told c.recover.new.chip in
+    let mid = g.C.Chip.told c.read_tables.new.chip in
     let settled = g.C.Chip.told c.settle_marks.new.chip in
-    let t = of_parts c.recover.new.directory c.recover.new.overflow c.recover.new.status
-    c.recover.new.counter c.args.parts.now.active in
+    let t = of_parts c.read_tables.new.directory c.read_tables.new.overflow c.read_tables.new.status
+    c.read_tables.new.counter c.args.parts.now.active in
     let fault = c.in_err-settle_marks.field-0.0 in
-    let reads = c.recover.ensures.looks.only.reads in
+    let reads = c.read_tables.ensures.looks.only.reads in
     let stopped = c.in_err-settle_marks.ensures.accounts in
     let e = err_from_is_err_and c.from_residual-in_err-settle_marks.result
     c.from_residual-in_err-settle_marks.ensures.1 in
@@ -189,9 +189,9 @@ returns-in_err-settle_marks-clause-leaves g c =
 pub returns-in_err-settle_marks-clause-spends : goal.returns-in_err-settle_marks-clause-spends
 returns-in_err-settle_marks-clause-spends g c =
     let old = g.C.Chip.told c.args.chip.now in
-    let mid = g.C.Chip.told c.recover.new.chip in
+    let mid = g.C.Chip.told c.read_tables.new.chip in
     let settled = g.C.Chip.told c.settle_marks.new.chip in
-    let found = c.recover.new.directory in
+    let found = c.read_tables.new.directory in
     let fault = c.in_err-settle_marks.field-0.0 in
     let still : tells_worn fault ≡ false =
     ap tells_worn c.in_err-settle_marks.ensures.accounts.cause.0 in
@@ -202,13 +202,13 @@ returns-in_err-settle_marks-clause-spends g c =
         found = found;
         erases = waiting_alone found found (length found.current + 1) (waits_for found)
             (tells_worn fault) old settled refl still (homes_same found found refl refl)
-            (reads_then_wait Anywhere (waits_for found) old mid settled c.recover.ensures.looks.only.reads
+            (reads_then_wait Anywhere (waits_for found) old mid settled c.read_tables.ensures.looks.only.reads
             (wait_costs found (Err fault) mid settled c.in_err-settle_marks.ensures.waits));
         unmarked = λ off. unknown_logs found (c.in_ok-found.ensures.found.unmarked off).unknown;
         finds = λ is. absurd (false≢true (sym still ∙ is));
         units = λ is. absurd (false≢true (sym still ∙ is));
       };
-      once = λ x told fit. once_then_unread Anywhere old mid settled c.recover.ensures.looks.once
+      once = λ x told fit. once_then_unread Anywhere old mid settled c.read_tables.ensures.looks.once
           (wait_unread (knows_logs found) c.settle_marks.result mid settled c.settle_marks.ensures.waits);
       renewed = tt;
     })
@@ -218,34 +218,34 @@ returns-in_err-settle_marks-clause-spends g c =
 pub renew_with-requires-clause-exact : goal.renew_with-requires-clause-exact
 renew_with-requires-clause-exact g c =
     let old = g.C.Chip.told c.args.chip.now in
-    let mid = g.C.Chip.told c.recover.new.chip in
+    let mid = g.C.Chip.told c.read_tables.new.chip in
     let settled = g.C.Chip.told c.settle_marks.new.chip in
-    let reads = c.recover.ensures.looks.only.reads in
+    let reads = c.read_tables.ensures.looks.only.reads in
     let active = c.args.parts.now.active in
-    let t = of_parts c.recover.new.directory c.recover.new.overflow c.recover.new.status
-    c.recover.new.counter active in
-    let kept = c.recover.new.numbers in
+    let t = of_parts c.read_tables.new.directory c.read_tables.new.overflow c.read_tables.new.status
+    c.read_tables.new.counter active in
+    let kept = c.read_tables.new.numbers in
     subst (λ n. c.in_ok-found.found ≡ true → KeepsAll n t kept settled)
     (sym (c.settle_marks.ensures.accounts.counts.places ∙ reads.counts.places))
     (all_kept old.places t c.in_ok-found.found kept old settled
-    (wait_contents (knows_logs c.recover.new.directory) mid settled
+    (wait_contents (knows_logs c.read_tables.new.directory) mid settled
     c.in_ok-settle_marks.ensures.waits ∙ reads.contents)
     c.in_ok-found.ensures.found.collected
-    (λ x told. (opened_parts old.places (chart_of x) c.recover.new.directory c.recover.new.overflow
-    c.recover.new.status c.recover.new.counter active c.requires.active
+    (λ x told. (opened_parts old.places (chart_of x) c.read_tables.new.directory c.read_tables.new.overflow
+    c.read_tables.new.status c.read_tables.new.counter active c.requires.active
     (c.in_ok-found.ensures.found.opened x told) (c.in_ok-found.ensures.found.mirrors x told)).1.laid))
 
 pub returns-in_err-renew_with-clause-steps : goal.returns-in_err-renew_with-clause-steps
 returns-in_err-renew_with-clause-steps g c =
     let old = g.C.Chip.told c.args.chip.now in
-    let mid = g.C.Chip.told c.recover.new.chip in
+    let mid = g.C.Chip.told c.read_tables.new.chip in
     let settled = g.C.Chip.told c.settle_marks.new.chip in
     let new = g.C.Chip.told c.renew_with.new.chip in
     let active = c.args.parts.now.active in
-    let directory = c.recover.new.directory in
-    let overflow = c.recover.new.overflow in
-    let status = c.recover.new.status in
-    let counter = c.recover.new.counter in
+    let directory = c.read_tables.new.directory in
+    let overflow = c.read_tables.new.overflow in
+    let status = c.read_tables.new.status in
+    let counter = c.read_tables.new.counter in
     let t = of_parts directory overflow status counter active in
     let after = tables_of c.renew_with.new.parts in
     let fault = c.in_err-renew_with.field-0.0 in
@@ -253,7 +253,7 @@ returns-in_err-renew_with-clause-steps g c =
     let e = err_from_is_err_and c.from_residual-in_err-renew_with.result
     c.from_residual-in_err-renew_with.ensures.1 in
     rw (e.1 ∙ ap Err e.2) (recovers_failed c.args.marks old.places t old mid settled
-    c.recover.ensures.looks.only.reads
+    c.read_tables.ensures.looks.only.reads
     (record {
       none = λ off. (c.in_ok-found.ensures.found.unmarked off).none;
       marked = c.in_ok-found.ensures.found.marked;
@@ -262,45 +262,45 @@ returns-in_err-renew_with-clause-steps g c =
     c.requires.active (c.in_ok-found.ensures.found.opened x told) (c.in_ok-found.ensures.found.mirrors x told))
     c.in_ok-settle_marks.ensures.waits after new fault counts
     (subst (λ n. KeepsInSteps n t after settled (Err fault) new)
-    (counts.places ∙ c.recover.ensures.looks.only.reads.counts.places)
+    (counts.places ∙ c.read_tables.ensures.looks.only.reads.counts.places)
     c.in_err-renew_with.ensures.steps))
 
 pub returns-in_err-renew_with-clause-tells : goal.returns-in_err-renew_with-clause-tells
 returns-in_err-renew_with-clause-tells g c = λ x told.
     let old = g.C.Chip.told c.args.chip.now in
-    let mid = g.C.Chip.told c.recover.new.chip in
+    let mid = g.C.Chip.told c.read_tables.new.chip in
     let settled = g.C.Chip.told c.settle_marks.new.chip in
     let active = c.args.parts.now.active in
-    let t = of_parts c.recover.new.directory c.recover.new.overflow c.recover.new.status
-    c.recover.new.counter active in
+    let t = of_parts c.read_tables.new.directory c.read_tables.new.overflow c.read_tables.new.status
+    c.read_tables.new.counter active in
     let fault = c.in_err-renew_with.field-0.0 in
-    let reads = c.recover.ensures.looks.only.reads in
+    let reads = c.read_tables.ensures.looks.only.reads in
     let e = err_from_is_err_and c.from_residual-in_err-renew_with.result
     c.from_residual-in_err-renew_with.ensures.1 in
     let it = layout_in (chart_of x) old.places in
-    let parts = opened_parts old.places (chart_of x) c.recover.new.directory
-    c.recover.new.overflow c.recover.new.status c.recover.new.counter active c.requires.active
+    let parts = opened_parts old.places (chart_of x) c.read_tables.new.directory
+    c.read_tables.new.overflow c.read_tables.new.status c.read_tables.new.counter active c.requires.active
     (c.in_ok-found.ensures.found.opened x told) (c.in_ok-found.ensures.found.mirrors x told) in
     rw (e.1 ∙ ap Err e.2) (λ unfailed. opening_fault old.places x t fault c.requires.active
     parts.1.status (c.in_ok-found.ensures.fault x told)
     (subst (λ n. FailsAsRenewal n t (Err fault) settled)
     (c.settle_marks.ensures.accounts.counts.places ∙ reads.counts.places)
     c.in_err-renew_with.ensures.fails.fault x
-    (wait_contents (knows_logs c.recover.new.directory) mid settled
+    (wait_contents (knows_logs c.read_tables.new.directory) mid settled
     c.in_ok-settle_marks.ensures.waits ∙ reads.contents ∙ told) it parts.1
     (λ failed. unfailed (call_failed fault failed))))
 
 pub returns-in_err-renew_with-clause-fails : goal.returns-in_err-renew_with-clause-fails
 returns-in_err-renew_with-clause-fails g c =
     let old = g.C.Chip.told c.args.chip.now in
-    let mid = g.C.Chip.told c.recover.new.chip in
+    let mid = g.C.Chip.told c.read_tables.new.chip in
     let settled = g.C.Chip.told c.settle_marks.new.chip in
     let new = g.C.Chip.told c.renew_with.new.chip in
     let active = c.args.parts.now.active in
-    let t = of_parts c.recover.new.directory c.recover.new.overflow c.recover.new.status
-    c.recover.new.counter active in
+    let t = of_parts c.read_tables.new.directory c.read_tables.new.overflow c.read_tables.new.status
+    c.read_tables.new.counter active in
     let fault = c.in_err-renew_with.field-0.0 in
-    let reads = c.recover.ensures.looks.only.reads in
+    let reads = c.read_tables.ensures.looks.only.reads in
     let found = c.in_ok-found.ensures.found in
     let e = err_from_is_err_and c.from_residual-in_err-renew_with.result
     c.from_residual-in_err-renew_with.ensures.1 in
@@ -308,14 +308,14 @@ returns-in_err-renew_with-clause-fails g c =
       looks = sound_looks old.places old (Err (Chip fault)) new c.in_ok-found.ensures.fault;
       complete = λ x told m none says.
           let it = layout_in (chart_of x) old.places in
-          let parts = opened_parts old.places (chart_of x) c.recover.new.directory
-          c.recover.new.overflow c.recover.new.status c.recover.new.counter active c.requires.active
+          let parts = opened_parts old.places (chart_of x) c.read_tables.new.directory
+          c.read_tables.new.overflow c.read_tables.new.status c.read_tables.new.counter active c.requires.active
           (found.opened x told) (found.mirrors x told) in
           call_failed fault
           (subst (λ n. CompletesRenewal n t (Err fault) settled)
           (c.settle_marks.ensures.accounts.counts.places ∙ reads.counts.places)
           c.in_err-renew_with.ensures.fails.complete x
-          (wait_contents (knows_logs c.recover.new.directory) mid settled
+          (wait_contents (knows_logs c.read_tables.new.directory) mid settled
           c.in_ok-settle_marks.ensures.waits ∙ reads.contents ∙ told) it parts.1
           (all_mergeable old.places (chart_of x) it m t says c.requires.active));
       bytes = λ x told no_read no_stop why. c.in_ok-found.ensures.bytes x told;
@@ -324,14 +324,14 @@ returns-in_err-renew_with-clause-fails g c =
 pub returns-in_err-renew_with-clause-leaves : goal.returns-in_err-renew_with-clause-leaves
 returns-in_err-renew_with-clause-leaves g c =
     let old = g.C.Chip.told c.args.chip.now in
-    let mid = g.C.Chip.told c.recover.new.chip in
+    let mid = g.C.Chip.told c.read_tables.new.chip in
     let settled = g.C.Chip.told c.settle_marks.new.chip in
     let new = g.C.Chip.told c.renew_with.new.chip in
-    let t = of_parts c.recover.new.directory c.recover.new.overflow c.recover.new.status
-    c.recover.new.counter c.args.parts.now.active in
+    let t = of_parts c.read_tables.new.directory c.read_tables.new.overflow c.read_tables.new.status
+    c.read_tables.new.counter c.args.parts.now.active in
     let after = tables_of c.renew_with.new.parts in
     let fault = c.in_err-renew_with.field-0.0 in
-    let reads = c.recover.ensures.looks.only.reads in
+    let reads = c.read_tables.ensures.looks.only.reads in
     let waited = c.settle_marks.ensures.accounts.counts in
     let leaves = c.in_err-renew_with.ensures.leaves in
     let counts = counts_then old mid settled reads.counts waited in
@@ -357,10 +357,10 @@ returns-in_err-renew_with-clause-leaves g c =
 pub returns-in_err-renew_with-clause-spends : goal.returns-in_err-renew_with-clause-spends
 returns-in_err-renew_with-clause-spends g c =
     let old = g.C.Chip.told c.args.chip.now in
-    let mid = g.C.Chip.told c.recover.new.chip in
+    let mid = g.C.Chip.told c.read_tables.new.chip in
     let settled = g.C.Chip.told c.settle_marks.new.chip in
     let new = g.C.Chip.told c.renew_with.new.chip in
-    let found = c.recover.new.directory in
+    let found = c.read_tables.new.directory in
     let after = c.renew_with.new.parts.directory in
     let fault = c.in_err-renew_with.field-0.0 in
     let units = c.in_err-renew_with.ensures.leaves.holds.units in
@@ -371,7 +371,7 @@ returns-in_err-renew_with-clause-spends g c =
         found = found;
         erases = waiting_then found after (length after.current + 1) (waits_for found)
             (tells_worn fault) old settled new
-            (reads_then_wait Anywhere (waits_for found) old mid settled c.recover.ensures.looks.only.reads
+            (reads_then_wait Anywhere (waits_for found) old mid settled c.read_tables.ensures.looks.only.reads
             (wait_costs found (Ok tt) mid settled c.in_ok-settle_marks.ensures.waits))
             (erases_more found after (length found.current + 1) (length after.current + 1)
             (tells_worn fault) settled new (omega (arith, units))
@@ -380,8 +380,8 @@ returns-in_err-renew_with-clause-spends g c =
         finds = λ is x told. (c.in_ok-found.ensures.found.opened x told).directory.retired;
         units = λ is x told. units ∙ (c.in_ok-found.ensures.found.mirrors x told).directory.units;
       };
-      once = once_where_fit old.places c.in_ok-found.found c.recover.new.numbers old mid new
-          c.recover.ensures.looks.once
+      once = once_where_fit old.places c.in_ok-found.found c.read_tables.new.numbers old mid new
+          c.read_tables.ensures.looks.once
           (unread_first c.in_ok-found.found mid settled new
           (wait_unread (knows_logs found) (Ok tt) mid settled c.in_ok-settle_marks.ensures.waits)
           c.renew_with.ensures.unread) c.in_ok-found.ensures.found.collected;
@@ -391,17 +391,17 @@ returns-in_err-renew_with-clause-spends g c =
 pub returns-clause-tells : goal.returns-clause-tells
 returns-clause-tells g c = λ x told.
     let old = g.C.Chip.told c.args.chip.now in
-    let mid = g.C.Chip.told c.recover.new.chip in
+    let mid = g.C.Chip.told c.read_tables.new.chip in
     let settled = g.C.Chip.told c.settle_marks.new.chip in
     let new = g.C.Chip.told c.renew_with.new.chip in
     let active = c.args.parts.now.active in
-    let directory = c.recover.new.directory in
-    let t = of_parts directory c.recover.new.overflow c.recover.new.status c.recover.new.counter
+    let directory = c.read_tables.new.directory in
+    let t = of_parts directory c.read_tables.new.overflow c.read_tables.new.status c.read_tables.new.counter
     active in
     let after = tables_of c.renew_with.new.parts in
-    let reads = c.recover.ensures.looks.only.reads in
+    let reads = c.read_tables.ensures.looks.only.reads in
     let parts = opened_parts old.places (chart_of x) directory
-    c.recover.new.overflow c.recover.new.status c.recover.new.counter active c.requires.active
+    c.read_tables.new.overflow c.read_tables.new.status c.read_tables.new.counter active c.requires.active
     (c.in_ok-found.ensures.found.opened x told) (c.in_ok-found.ensures.found.mirrors x told) in
     let renews : RenewsTold old.places t after settled (Ok tt) new =
     subst (λ n. RenewsTold n t after settled (Ok tt) new)
@@ -419,19 +419,19 @@ returns-clause-tells g c = λ x told.
 pub returns-clause-steps : goal.returns-clause-steps
 returns-clause-steps g c =
     let old = g.C.Chip.told c.args.chip.now in
-    let mid = g.C.Chip.told c.recover.new.chip in
+    let mid = g.C.Chip.told c.read_tables.new.chip in
     let settled = g.C.Chip.told c.settle_marks.new.chip in
     let new = g.C.Chip.told c.renew_with.new.chip in
     let active = c.args.parts.now.active in
-    let directory = c.recover.new.directory in
-    let overflow = c.recover.new.overflow in
-    let status = c.recover.new.status in
-    let counter = c.recover.new.counter in
+    let directory = c.read_tables.new.directory in
+    let overflow = c.read_tables.new.overflow in
+    let status = c.read_tables.new.status in
+    let counter = c.read_tables.new.counter in
     let t = of_parts directory overflow status counter active in
     let after = tables_of c.renew_with.new.parts in
     subst (λ d. RecoversInSteps c.args.marks old.places old (Ok tt)
     (of_parts d after.overflow after.status after.next after.active) new) (sym c.end_marks.ensures)
-    (recovers_done c.args.marks old.places t old mid settled c.recover.ensures.looks.only.reads
+    (recovers_done c.args.marks old.places t old mid settled c.read_tables.ensures.looks.only.reads
     (record {
       none = λ off. (c.in_ok-found.ensures.found.unmarked off).none;
       marked = c.in_ok-found.ensures.found.marked;
@@ -440,7 +440,7 @@ returns-clause-steps g c =
     c.requires.active (c.in_ok-found.ensures.found.opened x told) (c.in_ok-found.ensures.found.mirrors x told))
     c.in_ok-settle_marks.ensures.waits after new
     (subst (λ n. KeepsInSteps n t after settled (Ok tt) new)
-    (c.settle_marks.ensures.accounts.counts.places ∙ c.recover.ensures.looks.only.reads.counts.places)
+    (c.settle_marks.ensures.accounts.counts.places ∙ c.read_tables.ensures.looks.only.reads.counts.places)
     c.in_ok-renew_with.ensures.steps))
 
 pub returns-clause-fails : goal.returns-clause-fails
@@ -455,13 +455,13 @@ returns-clause-fails g c =
 pub returns-clause-leaves : goal.returns-clause-leaves
 returns-clause-leaves g c =
     let old = g.C.Chip.told c.args.chip.now in
-    let mid = g.C.Chip.told c.recover.new.chip in
+    let mid = g.C.Chip.told c.read_tables.new.chip in
     let settled = g.C.Chip.told c.settle_marks.new.chip in
     let new = g.C.Chip.told c.renew_with.new.chip in
-    let t = of_parts c.recover.new.directory c.recover.new.overflow c.recover.new.status
-    c.recover.new.counter c.args.parts.now.active in
+    let t = of_parts c.read_tables.new.directory c.read_tables.new.overflow c.read_tables.new.status
+    c.read_tables.new.counter c.args.parts.now.active in
     let after = tables_of c.renew_with.new.parts in
-    let reads = c.recover.ensures.looks.only.reads in
+    let reads = c.read_tables.ensures.looks.only.reads in
     let waited = c.settle_marks.ensures.accounts.counts in
     let found = c.in_ok-found.ensures in
     let leaves = c.in_ok-renew_with.ensures.leaves in
@@ -495,14 +495,14 @@ returns-clause-leaves g c =
 pub returns-clause-spends : goal.returns-clause-spends
 returns-clause-spends g c =
     let old = g.C.Chip.told c.args.chip.now in
-    let mid = g.C.Chip.told c.recover.new.chip in
+    let mid = g.C.Chip.told c.read_tables.new.chip in
     let settled = g.C.Chip.told c.settle_marks.new.chip in
     let new = g.C.Chip.told c.renew_with.new.chip in
-    let found = c.recover.new.directory in
+    let found = c.read_tables.new.directory in
     let after = c.renew_with.new.parts.directory in
     let units = c.in_ok-renew_with.ensures.leaves.holds.units in
     let waits = reads_then_wait Anywhere (waits_for found) old mid settled
-    c.recover.ensures.looks.only.reads
+    c.read_tables.ensures.looks.only.reads
     (wait_costs found (Ok tt) mid settled c.in_ok-settle_marks.ensures.waits) in record {
       costs = subst (λ d. ErasesOpening c.args.marks old.places (Ok tt) d old new)
           (sym c.end_marks.ensures)
@@ -517,8 +517,8 @@ returns-clause-spends g c =
             finds = λ is x told. (c.in_ok-found.ensures.found.opened x told).directory.retired;
             units = λ is x told. units ∙ (c.in_ok-found.ensures.found.mirrors x told).directory.units;
           });
-      once = once_where_fit old.places c.in_ok-found.found c.recover.new.numbers old mid new
-          c.recover.ensures.looks.once
+      once = once_where_fit old.places c.in_ok-found.found c.read_tables.new.numbers old mid new
+          c.read_tables.ensures.looks.once
           (unread_first c.in_ok-found.found mid settled new
           (wait_unread (knows_logs found) (Ok tt) mid settled c.in_ok-settle_marks.ensures.waits)
           c.renew_with.ensures.unread) c.in_ok-found.ensures.found.collected;

@@ -6,7 +6,7 @@ use Rattle.store_trait.proofs.OnwardLemmas.{further_onward}
 use Rattle.script_run.proofs.AlongLemmas.{along_more, along_then, along_stop}
 use Rattle.trial_run.proofs.SaidLemmas.{along_lines}
 use Rattle.script_run.proofs.CompleteLemmas.{completes_more, completes_then, completes_stop}
-use Rattle.trial_run.specs.Source.{Source}
+use Rattle.trial_run.specs.Source.{WordSource}
 use Rattle.trial_run.specs.Words.{commands_from, trial_commands}
 use Rattle.trial_run.specs.Trial.{IsDone, IsCutShort}
 use Rattle.trial_run.proofs.TrialLemmas.{trial_cut, trial_lost, trial_ends, completes_saying}
@@ -22,7 +22,7 @@ returns-in_err-do_all-clause-run g c = λ limits state h holds.
     rw stop.1 (rw stop.2 (trial_cut k limits state (trial_commands c.args.units c.args.seed c.args.count)
     c.args.store.now h c.do_all.new.store old new _ failed.stops
     (subst
-    (λ (source : Source).
+    (λ (source : WordSource).
     IsCutShort k limits state (commands_from source c.args.count) c.args.store.now h c.do_all.new.store old new)
     c.of-commands.ensures (failed.does limits state h holds))))
 
@@ -42,7 +42,7 @@ returns-in_err-take_all-clause-run g c = λ limits state h holds.
     let old = g.D.Chip.told c.args.desk.now in
     let between = g.D.Chip.told c.do_all.new.desk in
     let done = subst
-    (λ (source : Source).
+    (λ (source : WordSource).
     IsDone k limits state (commands_from source c.args.count) c.new-tally.result c.args.store.now h
     c.do_all.new.tally c.do_all.new.store old between) c.of-commands.ensures (worked.does limits state h holds) in
     rw stop.1 (rw stop.2 (trial_lost k limits state commands c.args.store.now h c.do_all.new.store
@@ -65,7 +65,7 @@ returns-clause-run g c = λ limits state h holds.
     let old = g.D.Chip.told c.args.desk.now in
     let between = g.D.Chip.told c.do_all.new.desk in
     let done = subst
-    (λ (source : Source).
+    (λ (source : WordSource).
     IsDone k limits state (commands_from source c.args.count) c.new-tally.result c.args.store.now h
     c.do_all.new.tally c.do_all.new.store old between) c.of-commands.ensures (worked.does limits state h holds) in
     trial_ends k limits state commands c.args.store.now h c.do_all.new.store c.take_all.new.store old between

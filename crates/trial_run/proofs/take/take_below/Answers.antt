@@ -7,7 +7,7 @@ use Rattle.script_run.specs.Goes.{row_lines}
 use Rattle.script_run.proofs.AlongLemmas.{along_none, along_more, along_then, along_stop}
 use Rattle.script_run.proofs.CompleteLemmas.{completes_none, completes_more, completes_then, completes_stop}
 use Rattle.trial_run.specs.Summary.{record_lines}
-use Rattle.trial_run.specs.Trial.{IsTaken}
+use Rattle.trial_run.specs.Trial.{AreLinesTaken}
 use Rattle.trial_run.proofs.TakenLemmas.{lines_more, taken_none, taken_then, lost_then}
 use Rattle.trial_run.proofs.take.take_below.Goals as goal
 
@@ -39,7 +39,7 @@ loop-n-preserved g c =
           let so_far = c.loop-n.invariant.takes limits named state h holds in
           subst
           (λ (lines : List (List ℕ)).
-          IsTaken k limits state lines c.args.records.now c.args.store.now h new.records new.store (g.D.Chip.told c.args.desk.now) (g.D.Chip.told new.desk))
+          AreLinesTaken k limits state lines c.args.records.now c.args.store.now h new.records new.store (g.D.Chip.told c.args.desk.now) (g.D.Chip.told new.desk))
           (sym (lines_more state.map c.loop-n.n))
           (taken_then k limits state (record_lines state.map c.loop-n.n) c.args.records.now c.loop-n.records
           c.args.store.now c.loop-n.store new.store h _ _ _ so_far (row_lines c.loop-n.n (get state.map c.loop-n.n))
@@ -57,7 +57,7 @@ pub returns-clause-takes : goal.returns-clause-takes
 returns-clause-takes g c = λ limits named state h holds.
     let all : c.loop-n.n ≡ c.args.names = omega arith in
     subst
-    (λ (n : ℕ). IsTaken (g.S.Store.keeping g.places) limits state (record_lines state.map n) c.args.records.now c.args.store.now h
+    (λ (n : ℕ). AreLinesTaken (g.S.Store.keeping g.places) limits state (record_lines state.map n) c.args.records.now c.args.store.now h
     c.loop-n.records c.loop-n.store (g.D.Chip.told c.args.desk.now) (g.D.Chip.told c.loop-n.desk)) all
     (c.loop-n.invariant.takes limits named state h holds)
 

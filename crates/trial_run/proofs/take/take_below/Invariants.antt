@@ -6,7 +6,7 @@ use Rattle.script_run.specs.Goes.{KeepsSome}
 use Rattle.script_run.proofs.AlongLemmas.{SoFar}
 use Rattle.script_run.proofs.CompleteLemmas.{CompletesSoFar}
 use Rattle.trial_run.specs.Summary.{record_lines}
-use Rattle.trial_run.specs.Trial.{IsTaken}
+use Rattle.trial_run.specs.Trial.{AreLinesTaken}
 use Rattle.trial_run.proofs.take.take_below.Given as goal
 
 -- the records of the names below n are taken
@@ -17,7 +17,7 @@ invariant-loop-n g l =
     record {
       takes : (limits : Limits) → l.names ≤ limits.names → (state : State) (h : History)
           → k.holds limits l.fn.store (told l.fn.desk) h state
-          → IsTaken k limits state (record_lines state.map l.n) l.fn.records l.fn.store h l.records l.store (told l.fn.desk) (told l.desk);
+          → AreLinesTaken k limits state (record_lines state.map l.n) l.fn.records l.fn.store h l.records l.store (told l.fn.desk) (told l.desk);
       along : SoFar k (LOOK_UP_DRAWS * l.n) l.fn.store (told l.fn.desk) l.store (told l.desk);
       completes : (limits : Limits) → l.names ≤ limits.names → KeepsSome k limits l.fn.store (told l.fn.desk)
           → CompletesSoFar k limits (LOOK_UP_DRAWS * l.n) l.fn.store (told l.fn.desk) l.store (told l.desk);

@@ -1,7 +1,7 @@
 use Rattle.std.proofs.Common.{refl}
 use Rattle.ipl_meaning.specs.Chart.{chart_of}
 use Rattle.unit_io.proofs.ReadsAtLemmas.{at_asked}
-use Rattle.txn_status.specs.ReadingIn.{IsAt}
+use Rattle.unit_io.specs.ReadsAt.{IsAt}
 use Rattle.txn_status.proofs.ReadLemmas.{status_there}
 use Rattle.txn_status.proofs.reading.read_generation.Goals as goal
 

@@ -5,7 +5,7 @@ use Rattle.ipl_format.specs.Sector.{Sector}
 use Rattle.ipl_format.specs.Whole.{IsWhole}
 use Rattle.ipl_meaning.specs.Chart.{chart_of}
 use Rattle.unit_io.specs.Kinds.{sector_named}
-use Rattle.txn_status.specs.ReadingIn.{IsAt}
+use Rattle.unit_io.specs.ReadsAt.{IsAt}
 use Rattle.txn_status.specs.TakingIn.{TakesIn}
 use Rattle.txn_status.proofs.ReadLemmas.{looks_asked, noted_found, read_failed}
 use Rattle.txn_status.proofs.reading.read_spot.Goals as goal

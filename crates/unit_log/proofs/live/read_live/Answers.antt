@@ -4,8 +4,9 @@ use Rattle.ipl_meaning.specs.Chart.{chart_of}
 use Rattle.overflow.specs.Lists.{pair_of, spots_in, AreWithin}
 use Rattle.unit_io.proofs.ReadsAtLemmas.{at_none, at_wider}
 use Rattle.unit_log.specs.Kept.{gathered, HasUnfit}
-use Rattle.unit_log.specs.Live.{log_spots, IsHeaded}
-use Rattle.unit_log.specs.Looks.{IsAt, IsLogRead}
+use Rattle.unit_log.specs.Live.{log_spots, HasUnitHead}
+use Rattle.unit_io.specs.ReadsAt.{IsAt}
+use Rattle.unit_log.specs.Looks.{IsLogRead}
 use Rattle.unit_log.proofs.LooksLemmas.{at_header, at_log, looks_failed, reads_then}
 use Rattle.unit_log.proofs.MirroredLemmas.{has_head, log_read, no_unfit}
 use Rattle.unit_log.proofs.live.read_live.Goals as goal
@@ -136,5 +137,5 @@ returns-clause-exact g c = λ x told it t are.
 
 pub returns-clause-header : goal.returns-clause-header
 returns-clause-header g c = λ x told.
-    subst (λ p. IsHeaded (chart_of x) p c.args.unit c.in_ok-head.head) c.current-place.ensures.place
+    subst (λ p. HasUnitHead (chart_of x) p c.args.unit c.in_ok-head.head) c.current-place.ensures.place
     (c.in_ok-head.ensures.header x told)

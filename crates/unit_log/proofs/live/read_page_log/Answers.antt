@@ -5,7 +5,8 @@ use Rattle.ipl_meaning.specs.Chart.{chart_of}
 use Rattle.overflow.specs.Lists.{pair_of, AreWithin}
 use Rattle.unit_io.proofs.ReadsAtLemmas.{at_none, at_wider}
 use Rattle.unit_log.specs.Kept.{gathered, HasUnfit}
-use Rattle.unit_log.specs.Looks.{IsAt, IsListed}
+use Rattle.unit_io.specs.ReadsAt.{IsAt}
+use Rattle.unit_log.specs.Looks.{IsListed}
 use Rattle.unit_log.specs.Paged.{page_spots, IsPageLogRead}
 use Rattle.unit_log.proofs.CountLemmas.{most_then, most_wider}
 use Rattle.unit_log.proofs.LooksLemmas.{at_page_header, at_page_listed, looks_failed, reads_then}

@@ -1,11 +1,11 @@
 use Rattle.std.proofs.Common.{ℕ, List, Some, sym, ◌∙◌, ap, subst}
-use Rattle.buffer_pool.specs.Index.{key_of, with_key, IsRising, IsGapFor}
+use Rattle.buffer_pool.specs.Index.{key_of, with_key, NumbersRise, IsGapFor}
 use Rattle.buffer_pool.proofs.IndexLemmas.{no_some, key_at, key_insert, rising_insert}
 use Rattle.buffer_pool.proofs.index.PageIndex.add.Goals as goal
 
 pub unreachable-requires : goal.unreachable-requires
 unreachable-requires c =
-    let rise = subst IsRising c.self.view_is c.self.invariant in
+    let rise = subst NumbersRise c.self.view_is c.self.invariant in
     no_some _ (sym c.requires.absent
     ∙ key_at c.args.self.now c.in-Ok.field-0 c.args.number rise c.in-Ok.ensures.found)
 
@@ -13,7 +13,7 @@ pub invariant_of-self : goal.invariant_of-self
 invariant_of-self c =
     let gap = subst (λ (l : List (ℕ × ℕ)). IsGapFor l c.args.number c.in-Err.at)
     (sym c.self.view_is) c.in-Err.ensures.absent in
-    subst IsRising (sym c.insert.ensures.items)
+    subst NumbersRise (sym c.insert.ensures.items)
     (rising_insert c.self.inside.entries.items c.in-Err.at c.args.number c.args.key c.self.invariant gap)
 
 pub returns-clause-added : goal.returns-clause-added

@@ -2,7 +2,7 @@ use Rattle.std.proofs.Common.{◌∙◌, Result, Err, None, inr, subst, ap, take
 use Rattle.std.proofs.lemmas.Result.{err_from_is_err_and}
 use Rattle.key_buckets.specs.Pairs.{remove_pair}
 use Rattle.key_buckets.specs.Home.{bucket_of}
-use Rattle.ipl_keys.specs.Calls.{bad_key, early_key_fault, Dels, IsWritten}
+use Rattle.ipl_keys.specs.Calls.{bad_key, early_key_fault, Dels, IsBucketWritten}
 use Rattle.ipl_keys.proofs.ReadLemmas.{bad_key_is_good, named}
 use Rattle.ipl_keys.specs.declared.fault.KeyFault.{KeyFault}
 use Rattle.ipl_keys.proofs.NeverLemmas.{bad_key_met, changing_met, in_units}
@@ -23,7 +23,7 @@ returns-in_err-len-clause-calls g c =
     rw (e.1 ∙ ap Err e.2) (named s a b before after (Err fault) (λ m. Dels s m bytes a before (Err fault) b after)
     c.bad_key.result _ n _ c.bad_key.ensures c.name_of-n.ensures.name
     (changes_failed (early_key_fault a c.bad_key.result s) s n
-    (λ pairs mid told. IsWritten s n (remove_pair bytes pairs) mid told (Err fault) b after) a b before
+    (λ pairs mid told. IsBucketWritten s n (remove_pair bytes pairs) mid told (Err fault) b after) a b before
     after fault c.in_err-len.ensures.calls))
 
 pub returns-in_err-len-clause-serves : goal.returns-in_err-len-clause-serves
@@ -36,7 +36,7 @@ returns-in_err-len-clause-serves g c =
     let s = c.args.s in
     let result = c.from_residual.result in
     changing_serves s (bytes, None) a b before after result
-    (λ pairs mid told. IsWritten s (bucket_of a.units bytes) (remove_pair bytes pairs) mid told result b
+    (λ pairs mid told. IsBucketWritten s (bucket_of a.units bytes) (remove_pair bytes pairs) mid told result b
     after) (λ pairs mid told wrote. inr wrote) (bad_key bytes) (bad_key_is_good bytes)
     (returns-in_err-len-clause-calls g c)
 
@@ -56,7 +56,7 @@ returns-clause-calls g c =
     named s a b before after result (λ m. Dels s m bytes a before result b after)
     c.bad_key.result _ n _ c.bad_key.ensures c.name_of-n.ensures.name
     (changes_read (early_key_fault a c.bad_key.result s) s n
-    (λ ps store t. IsWritten s n (remove_pair bytes ps) store t result b after) a mid before told b after
+    (λ ps store t. IsBucketWritten s n (remove_pair bytes ps) store t result b after) a mid before told b after
     result c.in_ok-len.len (take c.in_ok-len.len c.look.new.self.bucket) pairs c.in_ok-len.ensures.calls
     spells (pairs_written s n (take c.without-end.result c.without-end.new.into) (remove_pair bytes pairs)
     mid b told after result (c.without-end.ensures.removed pairs spells) c.write.ensures.writes)
@@ -71,7 +71,7 @@ returns-clause-serves g c =
     let bytes = c.args.key.now in
     let s = c.args.s in
     changing_serves s (bytes, None) a b before after c.write.result
-    (λ pairs mid told. IsWritten s (bucket_of a.units bytes) (remove_pair bytes pairs) mid told
+    (λ pairs mid told. IsBucketWritten s (bucket_of a.units bytes) (remove_pair bytes pairs) mid told
     c.write.result b after) (λ pairs mid told wrote. inr wrote) (bad_key bytes)
     (bad_key_is_good bytes) (returns-clause-calls g c)
 
@@ -85,11 +85,11 @@ returns-in_err-len-clause-met g c =
     let s = c.args.s in
     let result = c.from_residual.result in
     changing_met s (bucket_of a.units bytes) (bad_key bytes)
-    (λ pairs mid told. IsWritten s (bucket_of a.units bytes) (remove_pair bytes pairs) mid told result
+    (λ pairs mid told. IsBucketWritten s (bucket_of a.units bytes) (remove_pair bytes pairs) mid told result
     b after)
     a b before after (remove_pair bytes) (in_units a c.name_of-n.result bytes c.name_of-n.ensures.name
     c.name_of-n.ensures.within) (bad_key_met bytes) result
-    (λ fault is pairs mid told did. inr (subst (λ (q : Result (Unit {0}) KeyFault). IsWritten s (bucket_of a.units bytes) (remove_pair bytes pairs) mid told q b after) is did))
+    (λ fault is pairs mid told did. inr (subst (λ (q : Result (Unit {0}) KeyFault). IsBucketWritten s (bucket_of a.units bytes) (remove_pair bytes pairs) mid told q b after) is did))
     (returns-in_err-len-clause-calls g c)
 
 pub returns-clause-met : goal.returns-clause-met
@@ -102,9 +102,9 @@ returns-clause-met g c =
     let s = c.args.s in
     let result = c.write.result in
     changing_met s (bucket_of a.units bytes) (bad_key bytes)
-    (λ pairs mid told. IsWritten s (bucket_of a.units bytes) (remove_pair bytes pairs) mid told result
+    (λ pairs mid told. IsBucketWritten s (bucket_of a.units bytes) (remove_pair bytes pairs) mid told result
     b after)
     a b before after (remove_pair bytes) (in_units a c.name_of-n.result bytes c.name_of-n.ensures.name
     c.name_of-n.ensures.within) (bad_key_met bytes) result
-    (λ fault is pairs mid told did. inr (subst (λ (q : Result (Unit {0}) KeyFault). IsWritten s (bucket_of a.units bytes) (remove_pair bytes pairs) mid told q b after) is did))
+    (λ fault is pairs mid told did. inr (subst (λ (q : Result (Unit {0}) KeyFault). IsBucketWritten s (bucket_of a.units bytes) (remove_pair bytes pairs) mid told q b after) is did))
     (returns-clause-calls g c)

@@ -4,7 +4,7 @@ use Rattle.std.proofs.Common.{ℕ, sym, subst, ◌∙◌, Result, ◌⊎◌, Err
 use Rattle.std.proofs.lemmas.Result.{err_from_is_err_and}
 use Rattle.key_buckets.specs.Pairs.{set_pair}
 use Rattle.key_buckets.specs.Home.{bucket_of}
-use Rattle.ipl_keys.specs.Calls.{bad_pair, early_key_fault, Puts, IsFull, IsWritten}
+use Rattle.ipl_keys.specs.Calls.{bad_pair, early_key_fault, Puts, IsFull, IsBucketWritten}
 use Rattle.ipl_keys.proofs.ReadLemmas.{bad_pair_is_good, named}
 use Rattle.ipl_keys.specs.declared.fault.KeyFault.{KeyFault}
 use Rattle.ipl_keys.proofs.NeverLemmas.{bad_pair_met, changing_met, in_units}
@@ -27,7 +27,7 @@ returns-in_err-len-clause-calls g c =
     c.bad_pair.result _ n _ c.bad_pair.ensures c.name_of-n.ensures.name
     (changes_failed (early_key_fault a c.bad_pair.result s) s n
     (λ pairs mid told. IsFull n (set_pair bytes value pairs) mid told (Err fault) b after
-    ⊎ IsWritten s n (set_pair bytes value pairs) mid told (Err fault) b after) a b before
+    ⊎ IsBucketWritten s n (set_pair bytes value pairs) mid told (Err fault) b after) a b before
     after fault c.in_err-len.ensures.calls))
 
 pub returns-in_err-len-clause-serves : goal.returns-in_err-len-clause-serves
@@ -42,7 +42,7 @@ returns-in_err-len-clause-serves g c =
     let result = c.from_residual.result in
     changing_serves s (bytes, Some value) a b before after result
     (λ pairs mid told. IsFull (bucket_of a.units bytes) (set_pair bytes value pairs) mid told result b after
-    ⊎ IsWritten s (bucket_of a.units bytes) (set_pair bytes value pairs) mid told result b after)
+    ⊎ IsBucketWritten s (bucket_of a.units bytes) (set_pair bytes value pairs) mid told result b after)
     (λ pairs mid told is. is) (bad_pair bytes value) (bad_pair_is_good bytes value)
     (returns-in_err-len-clause-calls g c)
 
@@ -64,7 +64,7 @@ returns-clause-calls g c =
     c.bad_pair.result _ n _ c.bad_pair.ensures c.name_of-n.ensures.name
     (changes_read (early_key_fault a c.bad_pair.result s) s n
     (λ ps store t. IsFull n (set_pair bytes value ps) store t result b after
-    ⊎ IsWritten s n (set_pair bytes value ps) store t result b after) a mid before told b after
+    ⊎ IsBucketWritten s n (set_pair bytes value ps) store t result b after) a mid before told b after
     result c.in_ok-len.len (take c.in_ok-len.len c.look.new.self.bucket) pairs c.in_ok-len.ensures.calls
     spells (inr (pairs_written s n (take c.in-Some.end c.with_pair.new.into) (set_pair bytes value pairs)
     mid b told after result (c.in-Some.ensures.set pairs spells) c.write.ensures.writes))
@@ -81,7 +81,7 @@ returns-clause-serves g c =
     let s = c.args.s in
     changing_serves s (bytes, Some value) a b before after c.write.result
     (λ pairs mid told. IsFull (bucket_of a.units bytes) (set_pair bytes value pairs) mid told c.write.result b
-    after ⊎ IsWritten s (bucket_of a.units bytes) (set_pair bytes value pairs) mid told c.write.result b
+    after ⊎ IsBucketWritten s (bucket_of a.units bytes) (set_pair bytes value pairs) mid told c.write.result b
     after) (λ pairs mid told is. is) (bad_pair bytes value)
     (bad_pair_is_good bytes value) (returns-clause-calls g c)
 
@@ -103,7 +103,7 @@ returns-in_default-clause-calls g c =
     c.bad_pair.result _ n _ c.bad_pair.ensures c.name_of-n.ensures.name
     (changes_read (early_key_fault a c.bad_pair.result s) s n
     (λ ps store t. IsFull n (set_pair bytes value ps) store t (full_at n) b after
-    ⊎ IsWritten s n (set_pair bytes value ps) store t (full_at n) b after) a b before after b after
+    ⊎ IsBucketWritten s n (set_pair bytes value ps) store t (full_at n) b after) a b before after b after
     (full_at n) c.in_ok-len.len (take c.in_ok-len.len c.look.new.self.bucket) pairs
     c.in_ok-len.ensures.calls spells (inl full)
     (subst (λ (p : ℕ). IsSound p b) (sym c.in_ok-len.ensures.calls.counts.places)
@@ -121,7 +121,7 @@ returns-in_default-clause-serves g c =
     let result = full_at c.name_of-n.result in
     changing_serves s (bytes, Some value) a b before after result
     (λ pairs mid told. IsFull (bucket_of a.units bytes) (set_pair bytes value pairs) mid told result b after
-    ⊎ IsWritten s (bucket_of a.units bytes) (set_pair bytes value pairs) mid told result b after)
+    ⊎ IsBucketWritten s (bucket_of a.units bytes) (set_pair bytes value pairs) mid told result b after)
     (λ pairs mid told is. is) (bad_pair bytes value) (bad_pair_is_good bytes value)
     (returns-in_default-clause-calls g c)
 
@@ -137,10 +137,10 @@ returns-in_err-len-clause-met g c =
     let result = c.from_residual.result in
     changing_met s (bucket_of a.units bytes) (bad_pair bytes value)
     (λ pairs mid told. IsFull (bucket_of a.units bytes) (set_pair bytes value pairs) mid told result b after
-    ⊎ IsWritten s (bucket_of a.units bytes) (set_pair bytes value pairs) mid told result b after)
+    ⊎ IsBucketWritten s (bucket_of a.units bytes) (set_pair bytes value pairs) mid told result b after)
     a b before after (set_pair bytes value) (in_units a c.name_of-n.result bytes c.name_of-n.ensures.name
     c.name_of-n.ensures.within) (bad_pair_met bytes value) result
-    (λ fault is pairs mid told did. subst (λ (q : Result (Unit {0}) KeyFault). IsFull (bucket_of a.units bytes) (set_pair bytes value pairs) mid told q b after ⊎ IsWritten s (bucket_of a.units bytes) (set_pair bytes value pairs) mid told q b after) is did)
+    (λ fault is pairs mid told did. subst (λ (q : Result (Unit {0}) KeyFault). IsFull (bucket_of a.units bytes) (set_pair bytes value pairs) mid told q b after ⊎ IsBucketWritten s (bucket_of a.units bytes) (set_pair bytes value pairs) mid told q b after) is did)
     (returns-in_err-len-clause-calls g c)
 
 pub returns-in_default-clause-met : goal.returns-in_default-clause-met
@@ -155,10 +155,10 @@ returns-in_default-clause-met g c =
     let result = full_at c.name_of-n.result in
     changing_met s (bucket_of a.units bytes) (bad_pair bytes value)
     (λ pairs mid told. IsFull (bucket_of a.units bytes) (set_pair bytes value pairs) mid told result b after
-    ⊎ IsWritten s (bucket_of a.units bytes) (set_pair bytes value pairs) mid told result b after)
+    ⊎ IsBucketWritten s (bucket_of a.units bytes) (set_pair bytes value pairs) mid told result b after)
     a b before after (set_pair bytes value) (in_units a c.name_of-n.result bytes c.name_of-n.ensures.name
     c.name_of-n.ensures.within) (bad_pair_met bytes value) result
-    (λ fault is pairs mid told did. subst (λ (q : Result (Unit {0}) KeyFault). IsFull (bucket_of a.units bytes) (set_pair bytes value pairs) mid told q b after ⊎ IsWritten s (bucket_of a.units bytes) (set_pair bytes value pairs) mid told q b after) is did)
+    (λ fault is pairs mid told did. subst (λ (q : Result (Unit {0}) KeyFault). IsFull (bucket_of a.units bytes) (set_pair bytes value pairs) mid told q b after ⊎ IsBucketWritten s (bucket_of a.units bytes) (set_pair bytes value pairs) mid told q b after) is did)
     (returns-in_default-clause-calls g c)
 
 pub returns-clause-met : goal.returns-clause-met
@@ -173,8 +173,8 @@ returns-clause-met g c =
     let result = c.write.result in
     changing_met s (bucket_of a.units bytes) (bad_pair bytes value)
     (λ pairs mid told. IsFull (bucket_of a.units bytes) (set_pair bytes value pairs) mid told result b after
-    ⊎ IsWritten s (bucket_of a.units bytes) (set_pair bytes value pairs) mid told result b after)
+    ⊎ IsBucketWritten s (bucket_of a.units bytes) (set_pair bytes value pairs) mid told result b after)
     a b before after (set_pair bytes value) (in_units a c.name_of-n.result bytes c.name_of-n.ensures.name
     c.name_of-n.ensures.within) (bad_pair_met bytes value) result
-    (λ fault is pairs mid told did. subst (λ (q : Result (Unit {0}) KeyFault). IsFull (bucket_of a.units bytes) (set_pair bytes value pairs) mid told q b after ⊎ IsWritten s (bucket_of a.units bytes) (set_pair bytes value pairs) mid told q b after) is did)
+    (λ fault is pairs mid told did. subst (λ (q : Result (Unit {0}) KeyFault). IsFull (bucket_of a.units bytes) (set_pair bytes value pairs) mid told q b after ⊎ IsBucketWritten s (bucket_of a.units bytes) (set_pair bytes value pairs) mid told q b after) is did)
     (returns-clause-calls g c)

@@ -1,7 +1,7 @@
 use Rattle.std.proofs.Common.{◌≡◌, ◌∙◌, None, Some, Err, sym, ap}
 use Rattle.std.proofs.lemmas.Result.{err_from_is_err_and}
 use Rattle.ipl_rules.specs.Refusals.{refuses_get}
-use Rattle.record_locks.specs.Held.{Slots, number_of}
+use Rattle.record_locks.specs.Held.{SessionSlots, number_of}
 use Rattle.record_locks.specs.Standing.{state_of}
 use Rattle.store_laws.specs.Keeps.{limits_of}
 use Rattle.ipl_base.specs.Places.{home_of}
@@ -86,4 +86,4 @@ returns-clause-session g c =
 
 pub returns-clause-numbers : goal.returns-clause-numbers
 returns-clause-numbers g c = on_ok c.bring.result
-    (ap (λ (slots : Slots). number_of slots c.args.s) c.bring.ensures.sessions)
+    (ap (λ (slots : SessionSlots). number_of slots c.args.s) c.bring.ensures.sessions)

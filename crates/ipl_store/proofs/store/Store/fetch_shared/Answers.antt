@@ -2,7 +2,7 @@ use Rattle.std.proofs.Common.{◌≡◌, ◌∙◌, None, Some, Ok, Err, sym, ap
 use Rattle.std.proofs.lemmas.Result.{err_from_is_err_and}
 use Rattle.ipl_rules.specs.Operations.{after_share}
 use Rattle.ipl_rules.specs.Refusals.{refuses_share}
-use Rattle.record_locks.specs.Held.{Slots, number_of}
+use Rattle.record_locks.specs.Held.{SessionSlots, number_of}
 use Rattle.record_locks.specs.Locks as locks
 use Rattle.record_locks.specs.Standing.{state_of}
 use Rattle.store_laws.specs.Keeps.{limits_of}
@@ -97,7 +97,7 @@ share-requires-clause-unrefused g c =
     let none : early ≡ None =
     ap (early_fault (entry_fault store)) (sym c.refuses_share.ensures)
     ∙ sym c.in_ok-admit.ensures in
-    ap (λ (slots : Slots). locks.refuses_share slots c.args.s c.args.n) c.bring.ensures.sessions
+    ap (λ (slots : SessionSlots). locks.refuses_share slots c.args.s c.args.n) c.bring.ensures.sessions
     ∙ (passed_shares store.units store.transactions.sessions c.args.s c.args.n
     (let_in store refusal none).2).1
 
@@ -148,4 +148,4 @@ returns-clause-session g c =
 
 pub returns-clause-numbers : goal.returns-clause-numbers
 returns-clause-numbers g c = c.share.ensures.same
-    ∙ ap (λ (slots : Slots). number_of slots c.args.s) c.bring.ensures.sessions
+    ∙ ap (λ (slots : SessionSlots). number_of slots c.args.s) c.bring.ensures.sessions

@@ -27,13 +27,13 @@ pub returns-in_err-write_out-clause-works : goal.returns-in_err-write_out-clause
 returns-in_err-write_out-clause-works g c =
     let is = c.in_err-write_out.ensures in
     let pages = c.args.self.now in
-    let after : Pages = record { parts = c.write_out.new.parts; pool = pages.pool } in
+    let after : Pages = record { parts = c.write_records.new.parts; pool = pages.pool } in
     let old = g.C.Chip.told c.args.chip.now in
     let fault = c.in_err-write_out.field-0.0 in
     let e = err_from_is_err_and c.from_residual.result c.from_residual.ensures.1 in
     rw (e.1, e.2) (record {
       upholds = out_failed c.args.unit c.args.page c.log_payload-payload.result pages after fault old
-          (g.C.Chip.told c.write_out.new.chip) c.requires.ready refl
+          (g.C.Chip.told c.write_records.new.chip) c.requires.ready refl
           (c.if-not-has_records.ensures.some refl) c.log_payload-payload.ensures.records is.tells is.steps
           is.holds is.tidy is.wears is.draws is.accounts;
       complete = merge_completes {T = Unit {0}} c.args.unit pages (Err fault) old c.requires.page.unit
@@ -50,17 +50,17 @@ pub returns-in_err-write_out-clause-asks : goal.returns-in_err-write_out-clause-
 returns-in_err-write_out-clause-asks g c =
     let e = err_from_is_err_and c.from_residual.result c.from_residual.ensures.1 in
     rw (e.1, e.2) (some_to_write c.args.unit c.args.page (Err c.in_err-write_out.field-0.0)
-    c.args.self.now (record { parts = c.write_out.new.parts; pool = c.args.self.now.pool })
-    (g.C.Chip.told c.args.chip.now) (g.C.Chip.told c.write_out.new.chip)
+    c.args.self.now (record { parts = c.write_records.new.parts; pool = c.args.self.now.pool })
+    (g.C.Chip.told c.args.chip.now) (g.C.Chip.told c.write_records.new.chip)
     (c.if-not-has_records.ensures.full refl) c.in_err-write_out.ensures.costs)
 
 pub returns-clause-works : goal.returns-clause-works
 returns-clause-works g c =
     let is = c.in_ok-write_out.ensures in
     let pages = c.args.self.now in
-    let after : Pages = record { parts = c.write_out.new.parts; pool = c.clear_log.new.pool } in
+    let after : Pages = record { parts = c.write_records.new.parts; pool = c.clear_log.new.pool } in
     let old = g.C.Chip.told c.args.chip.now in
-    let new = g.C.Chip.told c.write_out.new.chip in
+    let new = g.C.Chip.told c.write_records.new.chip in
     works_done 14 pages after old new (out_done c.args.unit c.args.page c.log_payload-payload.result pages
     after old new c.requires.ready c.log_payload-payload.ensures.records c.clear_log.ensures.cleared
     c.clear_log.ensures.pins is.tells is.steps is.holds is.tidy is.wears is.draws is.accounts)
@@ -68,14 +68,14 @@ returns-clause-works g c =
 pub returns-clause-frames : goal.returns-clause-frames
 returns-clause-frames g c =
     cleared_frames (frames_in c.args.self.now)
-    (frames_in (record { parts = c.write_out.new.parts; pool = c.clear_log.new.pool })) c.args.unit
+    (frames_in (record { parts = c.write_records.new.parts; pool = c.clear_log.new.pool })) c.args.unit
     c.args.page c.clear_log.ensures.cleared
 
 pub returns-clause-asks : goal.returns-clause-asks
 returns-clause-asks g c =
     some_to_write c.args.unit c.args.page (Ok tt) c.args.self.now
-    (record { parts = c.write_out.new.parts; pool = c.clear_log.new.pool })
-    (g.C.Chip.told c.args.chip.now) (g.C.Chip.told c.write_out.new.chip)
+    (record { parts = c.write_records.new.parts; pool = c.clear_log.new.pool })
+    (g.C.Chip.told c.args.chip.now) (g.C.Chip.told c.write_records.new.chip)
     (c.if-not-has_records.ensures.full refl) c.in_ok-write_out.ensures.costs
 
 pub returns-then-not-has_records-clause-framed : goal.returns-then-not-has_records-clause-framed
@@ -86,7 +86,7 @@ returns-in_err-write_out-clause-framed g c = λ u page is. is
 
 pub returns-clause-framed : goal.returns-clause-framed
 returns-clause-framed g c =
-    let new : Pages = record { parts = c.write_out.new.parts; pool = c.clear_log.new.pool } in
+    let new : Pages = record { parts = c.write_records.new.parts; pool = c.clear_log.new.pool } in
     out_framed c.args.unit c.args.page c.args.self.now new
     (cleared_frames (frames_in c.args.self.now) (frames_in new) c.args.unit c.args.page
     c.clear_log.ensures.cleared)

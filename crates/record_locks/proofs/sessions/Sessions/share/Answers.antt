@@ -1,5 +1,5 @@
 use Rattle.std.proofs.Common.{◌≡◌, ◌<◌, Option, None, length, sym, ◌∙◌, ap, subst, arith, set}
-use Rattle.record_locks.specs.Held.{Held, Slots, held_at}
+use Rattle.record_locks.specs.Held.{Held, SessionSlots, held_at}
 use Rattle.record_locks.specs.Locks.{AreSoundSlots, refuses_share}
 use Rattle.record_locks.proofs.CallLemmas.{share_may, sound_shared, slot_held}
 use Rattle.record_locks.proofs.sessions.Sessions.share.Goals as goal
@@ -10,7 +10,7 @@ share_in-requires c =
     let within : c.args.s < length slots = omega arith in
     let held : held_at slots c.args.s ≡ c.index_mut.result.now = slot_held slots c.args.s c.index_mut.result.now within c.index_mut.ensures.value in
     let none : refuses_share slots c.args.s c.args.name.0 ≡ None =
-    ap (λ (v : Slots). refuses_share v c.args.s c.args.name.0) c.self.view_is ∙ sym c.refuses_share.ensures ∙ c.in_default.is in
+    ap (λ (v : SessionSlots). refuses_share v c.args.s c.args.name.0) c.self.view_is ∙ sym c.refuses_share.ensures ∙ c.in_default.is in
     share_may slots c.args.s c.args.name.0 c.index_mut.result.now none held
 
 pub invariant_of-self : goal.invariant_of-self

@@ -1,5 +1,5 @@
 use Rattle.std.proofs.Common.{◌≡◌, ◌<◌, Option, length, ◌∙◌, ap, subst, sym, arith}
-use Rattle.record_locks.specs.Held.{Held, Slots, held_at, slot_marks}
+use Rattle.record_locks.specs.Held.{Held, SessionSlots, held_at, slot_marks}
 use Rattle.record_locks.specs.Locks.{AreSoundSlots}
 use Rattle.record_locks.proofs.TotalLemmas.{one_writer}
 use Rattle.record_locks.proofs.MarkLemmas.{one_is_all}
@@ -11,7 +11,7 @@ returns c =
     let slots = c.self.inside.slots.items in
     let within : c.args.s < length slots = omega arith in
     let held : held_at c.args.self.now c.args.s ≡ c.index.result.now =
-    ap (λ (v : Slots). held_at v c.args.s) (sym c.self.view_is)
+    ap (λ (v : SessionSlots). held_at v c.args.s) (sym c.self.view_is)
     ∙ slot_held slots c.args.s c.index.result.now within c.index.ensures in
     let once = one_writer c.args.self.now (subst AreSoundSlots c.self.view_is c.self.invariant) in
     omega (

@@ -1,5 +1,5 @@
 use Rattle.std.proofs.Common.{◌≡◌, ◌<◌, Option, None, length, sym, ◌∙◌, ap, subst, arith, set}
-use Rattle.record_locks.specs.Held.{Held, Slots, held_at}
+use Rattle.record_locks.specs.Held.{Held, SessionSlots, held_at}
 use Rattle.record_locks.specs.Locks.{AreSoundSlots, refuses_write}
 use Rattle.record_locks.proofs.CallLemmas.{write_may, sound_written, slot_held}
 use Rattle.record_locks.proofs.sessions.Sessions.write.Goals as goal
@@ -10,7 +10,7 @@ write_in-requires-clause-room c =
     let within : c.args.s < length slots = omega arith in
     let held : held_at slots c.args.s ≡ c.index_mut.result.now = slot_held slots c.args.s c.index_mut.result.now within c.index_mut.ensures.value in
     let none : refuses_write slots c.args.s c.args.name.0 c.args.size ≡ None =
-    ap (λ (v : Slots). refuses_write v c.args.s c.args.name.0 c.args.size) c.self.view_is ∙ sym c.refuses_write.ensures ∙ c.in_default.is in
+    ap (λ (v : SessionSlots). refuses_write v c.args.s c.args.name.0 c.args.size) c.self.view_is ∙ sym c.refuses_write.ensures ∙ c.in_default.is in
     write_may slots c.args.s c.args.name.0 c.args.size c.index_mut.result.now c.self.invariant none held
 
 pub invariant_of-self : goal.invariant_of-self
@@ -19,6 +19,6 @@ invariant_of-self c =
     let within : c.args.s < length slots = omega arith in
     let held : held_at slots c.args.s ≡ c.index_mut.result.now = slot_held slots c.args.s c.index_mut.result.now within c.index_mut.ensures.value in
     let none : refuses_write slots c.args.s c.args.name.0 c.args.size ≡ None =
-    ap (λ (v : Slots). refuses_write v c.args.s c.args.name.0 c.args.size) c.self.view_is ∙ sym c.refuses_write.ensures ∙ c.in_default.is in
+    ap (λ (v : SessionSlots). refuses_write v c.args.s c.args.name.0 c.args.size) c.self.view_is ∙ sym c.refuses_write.ensures ∙ c.in_default.is in
     subst (λ (o : Option Held). AreSoundSlots (set slots c.args.s o)) (sym c.write_in.ensures)
     (sound_written slots c.args.s c.args.name.0 c.args.size c.index_mut.result.now c.self.invariant within none held)

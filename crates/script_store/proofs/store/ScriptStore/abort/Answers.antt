@@ -8,7 +8,7 @@ use Rattle.record_locks.specs.Standing.{state_of}
 use Rattle.store_trait.specs.declared.fault.Fault.{Fault}
 use Rattle.store_laws.specs.Keeps.{limits_of}
 use Rattle.ipl_store.proofs.CallLemmas.{on_ok}
-use Rattle.script_store.specs.Keeps.{Does}
+use Rattle.script_store.specs.Keeps.{DoesCommand}
 use Rattle.script_store.proofs.WorkLemmas.{ends_do}
 use Rattle.script_store.proofs.store.ScriptStore.abort.Goals as goal
 
@@ -19,7 +19,7 @@ returns g c =
     c.args.s in
     let before = g.C.Chip.told c.args.chip.now in
     let after = g.C.Chip.told c.abort.new._chip in
-    subst (λ (r : Result Reply Fault). Does (command.Abort c.args.s) c.args.self.now before r
+    subst (λ (r : Result Reply Fault). DoesCommand (command.Abort c.args.s) c.args.self.now before r
     (record { store = c.abort.new.self }) after) (sym c.reply_of.ensures)
     (ends_do (λ v. reply.Ok) (command.Abort c.args.s) refusal (λ state. after_abort state c.args.s)
     0 c.args.self.now

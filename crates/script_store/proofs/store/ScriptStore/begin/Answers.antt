@@ -8,7 +8,7 @@ use Rattle.record_locks.specs.Standing.{state_of}
 use Rattle.store_trait.specs.declared.fault.Fault.{Fault}
 use Rattle.store_laws.specs.Keeps.{limits_of}
 use Rattle.ipl_store.proofs.CallLemmas.{on_ok}
-use Rattle.script_store.specs.Keeps.{Does}
+use Rattle.script_store.specs.Keeps.{DoesCommand}
 use Rattle.script_store.proofs.WorkLemmas.{calls_do}
 use Rattle.script_store.proofs.store.ScriptStore.begin.Goals as goal
 
@@ -19,7 +19,7 @@ returns g c =
     c.args.s in
     let before = g.C.Chip.told c.args.chip.now in
     let after = g.C.Chip.told c.begin.new._chip in
-    subst (λ (r : Result Reply Fault). Does (command.Begin c.args.s) c.args.self.now before r
+    subst (λ (r : Result Reply Fault). DoesCommand (command.Begin c.args.s) c.args.self.now before r
     (record { store = c.begin.new.self }) after) (sym c.reply_of.ensures)
     (calls_do (λ v. reply.Ok) (command.Begin c.args.s) refusal
     (λ state. after_begin state c.args.s) 1 c.args.self.now

@@ -8,7 +8,7 @@ use Rattle.record_locks.specs.Standing.{state_of}
 use Rattle.store_trait.specs.declared.fault.Fault.{Fault}
 use Rattle.store_laws.specs.Keeps.{limits_of}
 use Rattle.ipl_store.proofs.CallLemmas.{on_ok}
-use Rattle.script_store.specs.Keeps.{Does}
+use Rattle.script_store.specs.Keeps.{DoesCommand}
 use Rattle.script_store.proofs.WorkLemmas.{calls_do}
 use Rattle.script_store.proofs.store.ScriptStore.commit.Goals as goal
 
@@ -19,7 +19,7 @@ returns g c =
     c.args.s in
     let before = g.C.Chip.told c.args.chip.now in
     let after = g.C.Chip.told c.commit.new.chip in
-    subst (λ (r : Result Reply Fault). Does (command.Commit c.args.s) c.args.self.now before r
+    subst (λ (r : Result Reply Fault). DoesCommand (command.Commit c.args.s) c.args.self.now before r
     (record { store = c.commit.new.self }) after) (sym c.reply_of.ensures)
     (calls_do (λ v. reply.Ok) (command.Commit c.args.s) refusal
     (λ state. after_commit state c.args.s) (2 ^ 15) c.args.self.now

@@ -8,7 +8,7 @@ use Rattle.record_locks.specs.Standing.{state_of}
 use Rattle.store_trait.specs.declared.fault.Fault.{Fault}
 use Rattle.store_laws.specs.Keeps.{limits_of}
 use Rattle.ipl_store.proofs.CallLemmas.{on_ok}
-use Rattle.script_store.specs.Keeps.{Does}
+use Rattle.script_store.specs.Keeps.{DoesCommand}
 use Rattle.script_store.proofs.WorkLemmas.{calls_do, never_down}
 use Rattle.script_store.proofs.store.ScriptStore.commit_all.Goals as goal
 
@@ -31,9 +31,9 @@ returns g c =
     numbers in
     let before = g.C.Chip.told c.args.chip.now in
     let after = g.C.Chip.told c.commit_all.new.chip in
-    subst (λ (ss : List ℕ). Does (command.Batch ss) c.args.self.now before c.reply_of.result
+    subst (λ (ss : List ℕ). DoesCommand (command.Batch ss) c.args.self.now before c.reply_of.result
     (record { store = c.commit_all.new.self }) after) c.numbers.ensures.value
-    (subst (λ (r : Result Reply Fault). Does (command.Batch numbers) c.args.self.now before r
+    (subst (λ (r : Result Reply Fault). DoesCommand (command.Batch numbers) c.args.self.now before r
     (record { store = c.commit_all.new.self }) after) (sym c.reply_of.ensures)
     (calls_do (λ v. reply.Ok) (command.Batch numbers) refusal
     (λ state. after_batch state numbers) (2 ^ 15) c.args.self.now

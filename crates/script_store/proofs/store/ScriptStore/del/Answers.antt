@@ -7,7 +7,7 @@ use Rattle.store_trait.specs.declared.fault.Fault.{Fault}
 use Rattle.store_laws.specs.Keeps.{limits_of}
 use Rattle.store_laws.specs.Refusals.{sessions_refuse_del}
 use Rattle.ipl_store.proofs.CallLemmas.{on_ok}
-use Rattle.script_store.specs.Keeps.{Does}
+use Rattle.script_store.specs.Keeps.{DoesCommand}
 use Rattle.script_store.proofs.WorkLemmas.{calls_do}
 use Rattle.script_store.proofs.store.ScriptStore.del.Goals as goal
 
@@ -18,7 +18,7 @@ returns g c =
     c.args.s c.args.n in
     let before = g.C.Chip.told c.args.chip.now in
     let after = g.C.Chip.told c.del.new.chip in
-    subst (λ (r : Result Reply Fault). Does (command.Del c.args.s c.args.n) c.args.self.now before r
+    subst (λ (r : Result Reply Fault). DoesCommand (command.Del c.args.s c.args.n) c.args.self.now before r
     (record { store = c.del.new.self }) after) (sym c.reply_of.ensures)
     (calls_do (λ v. reply.Ok) (command.Del c.args.s c.args.n) refusal
     (λ state. after_write state c.args.s (c.args.n, None)) 14 c.args.self.now

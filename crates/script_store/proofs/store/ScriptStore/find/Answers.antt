@@ -1,7 +1,7 @@
 use Rattle.std.proofs.Common.{Bor, List, ℕ, option_map, sym, subst}
 use Rattle.store_laws.specs.Keeps.{limits_of}
 use Rattle.ipl_store.specs.Calls.{early_fault, entry_fault, refuses_name}
-use Rattle.ipl_store.specs.Shown.{IsCommitted}
+use Rattle.ipl_store.specs.Shown.{HasCommitted}
 use Rattle.script_store.proofs.SeeLemmas.{found_calls, failed_calls}
 use Rattle.script_store.proofs.store.ScriptStore.find.Goals as goal
 
@@ -17,7 +17,7 @@ returns-in-Ok-clause-calls g c =
 
 pub returns-in-Ok-clause-committed : goal.returns-in-Ok-clause-committed
 returns-in-Ok-clause-committed g c =
-    subst (IsCommitted c.args.n c.args.self.now.store (g.C.Chip.told c.args.chip.now))
+    subst (HasCommitted c.args.n c.args.self.now.store (g.C.Chip.told c.args.chip.now))
     (sym c.copied.ensures) c.in-Ok.ensures.committed
 
 pub returns-in-Err-clause-calls : goal.returns-in-Err-clause-calls

@@ -6,7 +6,7 @@ use Rattle.ipl_rules.specs.Refusals.{refuses_get}
 use Rattle.record_locks.specs.Standing.{state_of}
 use Rattle.store_trait.specs.declared.fault.Fault.{Fault}
 use Rattle.store_laws.specs.Keeps.{limits_of}
-use Rattle.script_store.specs.Keeps.{Does}
+use Rattle.script_store.specs.Keeps.{DoesCommand}
 use Rattle.script_store.specs.Done.{SaysSeen}
 use Rattle.script_store.proofs.DoneLemmas.{seen_done}
 use Rattle.script_store.proofs.SeeLemmas.{seen_replies}
@@ -20,7 +20,7 @@ returns-clause-does g c =
     c.args.s c.args.n in
     let before = g.C.Chip.told c.args.chip.now in
     let after = g.C.Chip.told c.see.new.chip in
-    subst (λ (r : Result Reply Fault). Does (command.Get c.args.s c.args.n) c.args.self.now
+    subst (λ (r : Result Reply Fault). DoesCommand (command.Get c.args.s c.args.n) c.args.self.now
     before r c.see.new.self after) (sym c.found_of.ensures)
     (calls_do found_reply (command.Get c.args.s c.args.n) refusal (λ state. state) 14
     c.args.self.now c.see.new.self before after c.see.result c.requires.runs

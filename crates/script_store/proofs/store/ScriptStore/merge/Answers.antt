@@ -8,8 +8,8 @@ use Rattle.store_laws.specs.Keeps.{limits_of}
 use Rattle.ipl_store.specs.Calls.{ends_worn_out}
 use Rattle.ipl_store.proofs.CallLemmas.{on_ok}
 use Rattle.script_store.specs.declared.store.ScriptStore.{ScriptStore}
-use Rattle.script_store.specs.Keeps.{Does}
-use Rattle.script_store.specs.Done.{IsRefused, HasMoved}
+use Rattle.script_store.specs.Keeps.{DoesCommand}
+use Rattle.script_store.specs.Done.{IsRefusal, UnitHasMoved}
 use Rattle.script_store.proofs.DoneLemmas.{merge_done}
 use Rattle.script_store.proofs.WorkLemmas.{calls_do}
 use Rattle.script_store.proofs.store.ScriptStore.merge.Goals as goal
@@ -20,7 +20,7 @@ returns-clause-does g c =
     let refusal = refuses_merge (limits_of store.units) c.args.unit in
     let before = g.C.Chip.told c.args.chip.now in
     let after = g.C.Chip.told c.merge.new.chip in
-    subst (λ (r : Result Reply Fault). Does (command.Merge c.args.unit) c.args.self.now before r
+    subst (λ (r : Result Reply Fault). DoesCommand (command.Merge c.args.unit) c.args.self.now before r
     (record { store = c.merge.new.self }) after) (sym c.reply_of.ensures)
     (calls_do (λ v. reply.Ok) (command.Merge c.args.unit) refusal (λ state. state) (13)
     c.args.self.now
@@ -33,7 +33,7 @@ returns-clause-done g c =
     let before = g.C.Chip.told c.args.chip.now in
     let after = g.C.Chip.told c.merge.new.chip in
     let b : ScriptStore = record { store = c.merge.new.self } in
-    subst (λ (r : Result Reply Fault). IfOk r (λ answer. IsRefused answer
-    ⊎ HasMoved c.args.unit b before after)) (sym c.reply_of.ensures)
+    subst (λ (r : Result Reply Fault). IfOk r (λ answer. IsRefusal answer
+    ⊎ UnitHasMoved c.args.unit b before after)) (sym c.reply_of.ensures)
     (merge_done c.args.unit c.args.self.now.store.transactions.pages.parts.directory
     (ends_worn_out c.merge.result) b before after c.merge.result c.merge.ensures.costs)

@@ -2,7 +2,7 @@ use Rattle.std.proofs.Common.{Result, OnOk, refl, subst}
 use Rattle.ipl_base.specs.declared.fault.ImageFault.{ImageFault}
 use Rattle.ipl_model.specs.declared.command.Command.TheVariants as command
 use Rattle.script_store.specs.declared.store.ScriptStore.{ScriptStore}
-use Rattle.script_store.specs.Keeps.{Does}
+use Rattle.script_store.specs.Keeps.{DoesCommand}
 use Rattle.script_store.specs.Done.{HasNewStatus}
 use Rattle.script_store.proofs.RestartLemmas.{restarted, restart_does}
 use Rattle.script_store.proofs.store.ScriptStore.restart.Goals as goal
@@ -12,7 +12,7 @@ returns-in-Ok-clause-does g c =
     let before = g.C.Chip.told c.args.chip.now in
     let after = g.C.Chip.told c.open_chip.new.chip in
     let b : ScriptStore = record { store = c.open_chip.new.self } in
-    subst (λ (r : Result (Unit {0}) ImageFault). Does command.Restart c.args.self.now before
+    subst (λ (r : Result (Unit {0}) ImageFault). DoesCommand command.Restart c.args.self.now before
     (restarted r) b after) c.in-Ok.is
     (restart_does c.args.self.now b before after
     c.requires.runs c.open_chip.ensures.sound
@@ -24,7 +24,7 @@ returns-in-Err-clause-does g c =
     let before = g.C.Chip.told c.args.chip.now in
     let after = g.C.Chip.told c.open_chip.new.chip in
     let b : ScriptStore = record { store = c.open_chip.new.self } in
-    subst (λ (r : Result (Unit {0}) ImageFault). Does command.Restart c.args.self.now before
+    subst (λ (r : Result (Unit {0}) ImageFault). DoesCommand command.Restart c.args.self.now before
     (restarted r) b after) c.in-Err.is
     (restart_does c.args.self.now b before after
     c.requires.runs c.open_chip.ensures.sound

@@ -7,7 +7,7 @@ use Rattle.ipl_rules.specs.Operations.{after_share}
 use Rattle.record_locks.specs.Standing.{state_of}
 use Rattle.store_trait.specs.declared.fault.Fault.{Fault}
 use Rattle.store_laws.specs.Keeps.{limits_of}
-use Rattle.script_store.specs.Keeps.{Does}
+use Rattle.script_store.specs.Keeps.{DoesCommand}
 use Rattle.script_store.specs.Done.{SaysSeen}
 use Rattle.script_store.proofs.DoneLemmas.{seen_done}
 use Rattle.script_store.proofs.SeeLemmas.{seen_replies}
@@ -21,7 +21,7 @@ returns-clause-does g c =
     c.args.s c.args.n in
     let before = g.C.Chip.told c.args.chip.now in
     let after = g.C.Chip.told c.see_shared.new.chip in
-    subst (λ (r : Result Reply Fault). Does (command.Share c.args.s c.args.n) c.args.self.now
+    subst (λ (r : Result Reply Fault). DoesCommand (command.Share c.args.s c.args.n) c.args.self.now
     before r c.see_shared.new.self after) (sym c.found_of.ensures)
     (calls_do found_reply (command.Share c.args.s c.args.n) refusal
     (λ state. after_share state c.args.s c.args.n) 14

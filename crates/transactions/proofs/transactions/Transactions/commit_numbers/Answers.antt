@@ -2,7 +2,7 @@ use Rattle.std.proofs.Common.{refl, sym, ◌∙◌, ap, subst}
 use Rattle.std.proofs.lemmas.Result.{err_from_is_err_and}
 use Rattle.ipl_base.specs.Calls.{IsFailedCall}
 use Rattle.place_taking.specs.Spending.{tells_worn}
-use Rattle.record_locks.specs.Held.{Slots, after_batch}
+use Rattle.record_locks.specs.Held.{SessionSlots, after_batch}
 use Rattle.selective_merge.specs.declared.parts.Parts.{Parts}
 use Rattle.transactions.proofs.CommitLemmas.{numbers_added, numbers_not_added}
 use Rattle.transactions.proofs.FramedLemmas.{in_turn_framed}
@@ -41,7 +41,7 @@ returns-clause-turns g c =
     (ap (λ (parts : Parts). parts.status) same ∙ says.added)
     (ap (λ (parts : Parts). parts.counter) same ∙ says.drawn) c.settle_all.ensures.settled
     c.settle_all.ensures.pins c.end_all.ensures.rest
-    (c.end_all.ensures.sessions ∙ ap (λ (slots : Slots). after_batch slots c.args.numbers.now)
+    (c.end_all.ensures.sessions ∙ ap (λ (slots : SessionSlots). after_batch slots c.args.numbers.now)
     c.settle_all.ensures.sessions) c.end_all.ensures.active c.end_all.ensures.locks says.tidy says.costs
     says.header says.accounts
 

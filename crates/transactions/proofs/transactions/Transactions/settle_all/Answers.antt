@@ -1,7 +1,7 @@
 use Rattle.std.proofs.Common.{◌<◌, length, get_or, refl, sym, ◌∙◌, ap, arith}
 use Rattle.std.proofs.lemmas.List.Elements.{Contains-get_or}
 use Rattle.std.proofs.lemmas.Option.{none-some}
-use Rattle.record_locks.specs.Held.{Slots, number_of}
+use Rattle.record_locks.specs.Held.{SessionSlots, number_of}
 use Rattle.buffer_pool.proofs.HoldingLemmas.{nothing_keeps, both_keep}
 use Rattle.transactions.proofs.FramedLemmas.{settled_next}
 use Rattle.transactions.proofs.transactions.Transactions.settle_all.Goals.{in-Some, in_default}
@@ -46,5 +46,5 @@ loop-s-preserved c =
       | in_default w ↦
           let opens = c.requires.opens s (Contains-get_or numbers l.s-index 0 within) in
           absurd (none-some opens.number (sym w.in_default.is ∙ c.number.ensures
-          ∙ ap (λ (slots : Slots). number_of slots s) sessions ∙ opens.number_is))
+          ∙ ap (λ (slots : SessionSlots). number_of slots s) sessions ∙ opens.number_is))
     ]

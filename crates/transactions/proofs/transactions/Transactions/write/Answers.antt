@@ -19,7 +19,7 @@ use Rattle.transactions.proofs.SessionLemmas.{locks_of}
 use Rattle.transactions.proofs.TurnLemmas.{upheld_no_more, upheld_refused, completes_for, tells_for}
 use Rattle.transactions.proofs.WriteLemmas.{put_framed, prepared_asks, prepared_idle, page_has_room, IsRefused, refused_completes, refused_tells, unframed_put, was_written}
 use Rattle.std.proofs.Common.{subst}
-use Rattle.page_frames.specs.Pages.{IsReady, KeepsFramedFor}
+use Rattle.page_frames.specs.Pages.{ArePagesReady, KeepsFramedFor}
 use Rattle.page_frames.proofs.FramedLemmas.{set_framed}
 use Rattle.page_frames.proofs.UpholdLemmas.{upholds_then}
 use Rattle.page_frames.proofs.UseLemmas.{framed_then, used_framed, used_upholds}
@@ -208,7 +208,7 @@ returns-then-not-put_record-clause-turns g c =
     (Malformed (slice_index mid.parts.directory.current c.home-home.result.unit) 0) before after
     c.requires.order
     (upholds_then 14 0 old.pages mid pages (Ok tt) before after after did
-    (used_upholds 0 mid pool after (subst (λ (k : ℕ). IsReady k mid)
+    (used_upholds 0 mid pool after (subst (λ (k : ℕ). ArePagesReady k mid)
     (sym did.accounts.counts.places) did.ready)
     (OnFalse_at c.if-not-put_record.true c.put_record.ensures.kept) c.put_record.ensures.pins))
     refl tt refl)

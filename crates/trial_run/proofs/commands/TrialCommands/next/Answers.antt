@@ -1,5 +1,5 @@
 use Rattle.std.proofs.Common.{◌≡◌, ◌+◌, ◌∷◌, subst}
-use Rattle.trial_run.specs.Source.{Source}
+use Rattle.trial_run.specs.Source.{WordSource}
 use Rattle.trial_run.specs.Words.{commands_from}
 use Rattle.trial_run.proofs.WordLemmas.{commands_next}
 use Rattle.trial_run.proofs.commands.TrialCommands.next.Goals as goal
@@ -7,8 +7,8 @@ use Rattle.trial_run.proofs.commands.TrialCommands.next.Goals as goal
 pub returns-clause-next : goal.returns-clause-next
 returns-clause-next c = λ count.
     let units = c.self.inside.units in
-    let later : Source = record { units = units; state = c.next_word.new.words } in
-    subst (λ (s : Source). commands_from s (count + 1) ≡ c.command.result ∷ commands_from later count)
+    let later : WordSource = record { units = units; state = c.next_word.new.words } in
+    subst (λ (s : WordSource). commands_from s (count + 1) ≡ c.command.result ∷ commands_from later count)
     c.self.view_is
     (commands_next (record { units = units; state = c.self.inside.words }) c.next_word.result
     c.next_word.new.words c.command.result count c.next_word.ensures c.command.ensures.value)

@@ -1,6 +1,6 @@
 use Rattle.std.proofs.Common.{◌<◌, ℕ, List, Ok, Err, length, sym, ap, ◌∙◌, subst, arith}
 use Rattle.std.proofs.lemmas.Result.{err_from_is_err_and}
-use Rattle.ipl_meaning.specs.Tables.{Status}
+use Rattle.ipl_meaning.specs.Tables.{StatusTable}
 use Rattle.unit_io.specs.Charts.{Charts, Gains}
 use Rattle.number_set.specs.Numbers.{Numbers, AreRising}
 use Rattle.number_set.proofs.NumberLemmas.{length_with_numbers, rising_with_numbers}
@@ -14,7 +14,7 @@ use Rattle.txn_status.proofs.status.Status.add.Goals as goal
 pub returns-in_err-write_commit-clause-steps : goal.returns-in_err-write_commit-clause-steps
 returns-in_err-write_commit-clause-steps g c =
     let inside = c.self.inside in
-    let st : Status = record {
+    let st : StatusTable = record {
       place = inside.place;
       generation = inside.generation;
       numbers = inside.numbers.list;
@@ -24,13 +24,13 @@ returns-in_err-write_commit-clause-steps g c =
     let are : AreSpelled tids = spelled_from tids c.requires.some c.requires.few
     (λ i. omega (arith, c.type_inv.tids i)) in
     let room : inside.first < 256 =
-    omega (arith, c.requires.room, ap (λ (s : Status). s.first) c.self.view_is) in
+    omega (arith, c.requires.room, ap (λ (s : StatusTable). s.first) c.self.view_is) in
     let fault = c.in_err-write_commit.field-0.0 in
     let old = g.C.Chip.told c.args.chip.now in
     let new = g.C.Chip.told c.write_commit.new.chip in
     let e = err_from_is_err_and c.from_residual.result c.from_residual.ensures.1 in
     rw e.1
-    (subst (λ (s : Status). AddsInSteps old.places s c.args.counter.now tids (Err fault) old new)
+    (subst (λ (s : StatusTable). AddsInSteps old.places s c.args.counter.now tids (Err fault) old new)
     c.self.view_is
     (added_in_steps old.places st c.args.counter.now tids (Err fault) old new are
     c.self.invariant.0.least room
@@ -45,7 +45,7 @@ invariant_of-self g c =
     let tids = c.args.tids.now in
     let list = ap (λ (n : Numbers). n.list) c.add_all.ensures in
     let room : c.self.inside.first < 256 =
-    omega (arith, c.requires.room, ap (λ (s : Status). s.first) c.self.view_is) in (
+    omega (arith, c.requires.room, ap (λ (s : StatusTable). s.first) c.self.view_is) in (
       record {
         rising = subst AreRising (sym list) (rising_with_numbers tids numbers was.rising);
         least = omega (arith, was.least);
@@ -64,7 +64,7 @@ invariant_of-self g c =
 pub returns-clause-adds : goal.returns-clause-adds
 returns-clause-adds g c =
     let inside = c.self.inside in
-    let st : Status = record {
+    let st : StatusTable = record {
       place = inside.place;
       generation = inside.generation;
       numbers = inside.numbers.list;
@@ -74,10 +74,10 @@ returns-clause-adds g c =
     let are : AreSpelled tids = spelled_from tids c.requires.some c.requires.few
     (λ i. omega (arith, c.type_inv.tids i)) in
     let room : inside.first < 256 =
-    omega (arith, c.requires.room, ap (λ (s : Status). s.first) c.self.view_is) in
+    omega (arith, c.requires.room, ap (λ (s : StatusTable). s.first) c.self.view_is) in
     let old = g.C.Chip.told c.args.chip.now in
     let new = g.C.Chip.told c.write_commit.new.chip in
-    subst (λ (s : Status). Charts (Adds old.places s c.args.counter.now tids) old new)
+    subst (λ (s : StatusTable). Charts (Adds old.places s c.args.counter.now tids) old new)
     c.self.view_is
     (adds_told old.places st c.args.counter.now tids (Ok tt) old new are
     c.self.invariant.0.least room
@@ -88,7 +88,7 @@ returns-clause-adds g c =
 pub returns-clause-steps : goal.returns-clause-steps
 returns-clause-steps g c =
     let inside = c.self.inside in
-    let st : Status = record {
+    let st : StatusTable = record {
       place = inside.place;
       generation = inside.generation;
       numbers = inside.numbers.list;
@@ -98,10 +98,10 @@ returns-clause-steps g c =
     let are : AreSpelled tids = spelled_from tids c.requires.some c.requires.few
     (λ i. omega (arith, c.type_inv.tids i)) in
     let room : inside.first < 256 =
-    omega (arith, c.requires.room, ap (λ (s : Status). s.first) c.self.view_is) in
+    omega (arith, c.requires.room, ap (λ (s : StatusTable). s.first) c.self.view_is) in
     let old = g.C.Chip.told c.args.chip.now in
     let new = g.C.Chip.told c.write_commit.new.chip in
-    subst (λ (s : Status). AddsInSteps old.places s c.args.counter.now tids (Ok tt) old new)
+    subst (λ (s : StatusTable). AddsInSteps old.places s c.args.counter.now tids (Ok tt) old new)
     c.self.view_is
     (added_in_steps old.places st c.args.counter.now tids (Ok tt) old new are
     c.self.invariant.0.least room
@@ -114,19 +114,19 @@ returns-clause-header g c =
     let inside = c.self.inside in
     let old = g.C.Chip.told c.args.chip.now in
     let new = g.C.Chip.told c.write_commit.new.chip in
-    subst (λ (s : Status). Charts (KeepsFirstAt s.place) old new) c.self.view_is
+    subst (λ (s : StatusTable). Charts (KeepsFirstAt s.place) old new) c.self.view_is
     (firsts_stay inside.place inside.first (commit_sector inside.generation c.draw-serial.result c.args.tids.now) old
     new c.self.invariant.0.least c.in_ok-write_commit.ensures.tells)
 
 pub returns-in_err-write_commit-clause-writes : goal.returns-in_err-write_commit-clause-writes
 returns-in_err-write_commit-clause-writes g c =
     let e = err_from_is_err_and c.from_residual.result c.from_residual.ensures.1 in
-    rw (e.1 ∙ ap Err e.2) (subst (λ (s : Status). WritesOneSector s.place s.first 6
+    rw (e.1 ∙ ap Err e.2) (subst (λ (s : StatusTable). WritesOneSector s.place s.first 6
     (Err c.in_err-write_commit.field-0.0) (g.C.Chip.told c.args.chip.now)
     (g.C.Chip.told c.write_commit.new.chip)) c.self.view_is c.in_err-write_commit.ensures.writes)
 
 pub returns-clause-writes : goal.returns-clause-writes
 returns-clause-writes g c =
-    subst (λ (s : Status). WritesOneSector s.place s.first 6 (Ok tt)
+    subst (λ (s : StatusTable). WritesOneSector s.place s.first 6 (Ok tt)
     (g.C.Chip.told c.args.chip.now) (g.C.Chip.told c.write_commit.new.chip)) c.self.view_is
     c.in_ok-write_commit.ensures.writes

@@ -1,6 +1,6 @@
 use Rattle.std.proofs.Common.{◌<◌, ℕ, Ok, Err, subst, ap, ◌∙◌, arith}
 use Rattle.std.proofs.lemmas.Result.{err_from_is_err_and}
-use Rattle.ipl_meaning.specs.Tables.{Status}
+use Rattle.ipl_meaning.specs.Tables.{StatusTable}
 use Rattle.unit_io.specs.Charts.{Charts, Gains}
 use Rattle.unit_io.specs.Costs.{Spends}
 use Rattle.unit_io.specs.Spots.{AddsSector}
@@ -12,7 +12,7 @@ use Rattle.txn_status.proofs.status.Status.mark.Goals as goal
 pub returns-in_err-write_mark-clause-steps : goal.returns-in_err-write_mark-clause-steps
 returns-in_err-write_mark-clause-steps g c =
     let inside = c.self.inside in
-    let st : Status = record {
+    let st : StatusTable = record {
       place = inside.place;
       generation = inside.generation;
       numbers = inside.numbers.list;
@@ -20,13 +20,13 @@ returns-in_err-write_mark-clause-steps g c =
     } in
     let payload = c.args.payload.now in
     let room : inside.first < 256 =
-    omega (arith, c.requires.room, ap (λ (s : Status). s.first) c.self.view_is) in
+    omega (arith, c.requires.room, ap (λ (s : StatusTable). s.first) c.self.view_is) in
     let fault = c.in_err-write_mark.field-0.0 in
     let old = g.C.Chip.told c.args.chip.now in
     let new = g.C.Chip.told c.write_mark.new.chip in
     let e = err_from_is_err_and c.from_residual.result c.from_residual.ensures.1 in
     rw e.1
-    (subst (λ (s : Status). MarksInSteps old.places s c.args.counter.now payload (Err fault) old new)
+    (subst (λ (s : StatusTable). MarksInSteps old.places s c.args.counter.now payload (Err fault) old new)
     c.self.view_is
     (marked_in_steps old.places st c.args.counter.now payload (Err fault) old new
     c.self.invariant.0.least room
@@ -38,7 +38,7 @@ pub invariant_of-self : goal.invariant_of-self
 invariant_of-self g c =
     let was = c.self.invariant.0 in
     let room : c.self.inside.first < 256 =
-    omega (arith, c.requires.room, ap (λ (s : Status). s.first) c.self.view_is) in (
+    omega (arith, c.requires.room, ap (λ (s : StatusTable). s.first) c.self.view_is) in (
       record {
         rising = was.rising;
         least = omega (arith, was.least);
@@ -54,7 +54,7 @@ returns-clause-tells g c =
     let payload = c.args.payload.now in
     let old = g.C.Chip.told c.args.chip.now in
     let new = g.C.Chip.told c.write_mark.new.chip in
-    subst (λ (s : Status). Charts (Gains s.place s.first
+    subst (λ (s : StatusTable). Charts (Gains s.place s.first
     (mark_sector s.generation c.args.counter.now payload)) old new) c.self.view_is
     (subst (λ (k : ℕ). Charts (Gains inside.place inside.first
     (mark_sector inside.generation k payload)) old new) c.draw-serial.ensures.drawn
@@ -63,7 +63,7 @@ returns-clause-tells g c =
 pub returns-clause-steps : goal.returns-clause-steps
 returns-clause-steps g c =
     let inside = c.self.inside in
-    let st : Status = record {
+    let st : StatusTable = record {
       place = inside.place;
       generation = inside.generation;
       numbers = inside.numbers.list;
@@ -71,10 +71,10 @@ returns-clause-steps g c =
     } in
     let payload = c.args.payload.now in
     let room : inside.first < 256 =
-    omega (arith, c.requires.room, ap (λ (s : Status). s.first) c.self.view_is) in
+    omega (arith, c.requires.room, ap (λ (s : StatusTable). s.first) c.self.view_is) in
     let old = g.C.Chip.told c.args.chip.now in
     let new = g.C.Chip.told c.write_mark.new.chip in
-    subst (λ (s : Status). MarksInSteps old.places s c.args.counter.now payload (Ok tt) old new)
+    subst (λ (s : StatusTable). MarksInSteps old.places s c.args.counter.now payload (Ok tt) old new)
     c.self.view_is
     (marked_in_steps old.places st c.args.counter.now payload (Ok tt) old new
     c.self.invariant.0.least room
@@ -88,7 +88,7 @@ returns-clause-adds g c =
     let payload = c.args.payload.now in
     let old = g.C.Chip.told c.args.chip.now in
     let new = g.C.Chip.told c.write_mark.new.chip in
-    subst (λ (s : Status). Spends (AddsSector s.place s.first
+    subst (λ (s : StatusTable). Spends (AddsSector s.place s.first
     (mark_sector s.generation c.args.counter.now payload)) old new) c.self.view_is
     (subst (λ (k : ℕ). Spends (AddsSector inside.place inside.first
     (mark_sector inside.generation k payload)) old new) c.draw-serial.ensures.drawn
@@ -97,12 +97,12 @@ returns-clause-adds g c =
 pub returns-in_err-write_mark-clause-writes : goal.returns-in_err-write_mark-clause-writes
 returns-in_err-write_mark-clause-writes g c =
     let e = err_from_is_err_and c.from_residual.result c.from_residual.ensures.1 in
-    rw (e.1 ∙ ap Err e.2) (subst (λ (s : Status). WritesOneSector s.place s.first 7
+    rw (e.1 ∙ ap Err e.2) (subst (λ (s : StatusTable). WritesOneSector s.place s.first 7
     (Err c.in_err-write_mark.field-0.0) (g.C.Chip.told c.args.chip.now)
     (g.C.Chip.told c.write_mark.new.chip)) c.self.view_is c.in_err-write_mark.ensures.writes)
 
 pub returns-clause-writes : goal.returns-clause-writes
 returns-clause-writes g c =
-    subst (λ (s : Status). WritesOneSector s.place s.first 7 (Ok tt)
+    subst (λ (s : StatusTable). WritesOneSector s.place s.first 7 (Ok tt)
     (g.C.Chip.told c.args.chip.now) (g.C.Chip.told c.write_mark.new.chip)) c.self.view_is
     c.in_ok-write_mark.ensures.writes

@@ -1,7 +1,8 @@
 use Rattle.std.proofs.Common.{ℕ, ◌∙◌, subst, arith}
 use Rattle.ipl_meaning.specs.Chart.{chart_of}
 use Rattle.unit_io.proofs.ReadsAtLemmas.{at_then, at_wider}
-use Rattle.txn_status.specs.ReadingIn.{IsAt, IsCommitSpot, IsOfPlace, IsReadIn}
+use Rattle.unit_io.specs.ReadsAt.{IsAt}
+use Rattle.txn_status.specs.ReadingIn.{IsCommitSpot, IsOfPlace, IsReadIn}
 use Rattle.txn_status.proofs.status.Status.read_in.Goals as goal
 
 pub returns-clause-exact : goal.returns-clause-exact

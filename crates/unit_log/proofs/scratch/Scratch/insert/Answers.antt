@@ -1,6 +1,6 @@
 use Rattle.std.proofs.Common.{◌≡◌, ◌<◌, false, length, sym, ◌∙◌, ap, subst, arith}
 use Rattle.unit_log.specs.declared.scratch.LogSector.{LogSector}
-use Rattle.unit_log.specs.Kept.{has_serial, with_kept, rank_of, AreRising}
+use Rattle.unit_log.specs.Kept.{has_serial, with_kept, rank_of, HaveRisingSerials}
 use Rattle.unit_log.proofs.KeptLemmas.{items_then, length_with_kept, rising_with_kept}
 use Rattle.unit_log.proofs.scratch.Scratch.insert.Goals as goal
 
@@ -17,7 +17,7 @@ invariant_of-self c =
     ∙ c.if-has_serial.false in (
       omega (arith, ap length same, length_with_kept x l, short),
       omega (arith, c.put.ensures.capacity, c.self.invariant.1),
-      subst AreRising (sym same) (rising_with_kept x l none c.self.invariant.2),
+      subst HaveRisingSerials (sym same) (rising_with_kept x l none c.self.invariant.2),
     )
 
 pub returns-clause-done : goal.returns-clause-done

@@ -19,7 +19,7 @@ use Rattle.selective_merge.proofs.CompleteLemmas.{fails_complete}
 use Rattle.ipl_base.specs.declared.fault.ChipFault.{ChipFault}
 use Rattle.step_laws.proofs.TablesLemmas.{tables_then}
 use Rattle.ipl_base.specs.declared.spot.Spot.{Spot}
-use Rattle.page_writing.proofs.writing.write_out.Goals as goal
+use Rattle.page_writing.proofs.writing.write_records.Goals as goal
 
 -- ---- no room was found
 

@@ -4,7 +4,7 @@ use Rattle.opening_laws.specs.Faults.{TellsImageFault, first_fault}
 use Rattle.opening_laws.specs.Opened.{tables_of}
 use Rattle.restart.specs.Bytes.{ReadsBytes}
 use Rattle.restart.specs.Finds.{FindsStore}
-use Rattle.restart.proofs.recovery.recover.Goals as goal
+use Rattle.restart.proofs.recovery.read_tables.Goals as goal
 
 pub returns-clause-fault : goal.returns-clause-fault
 returns-clause-fault g c = λ x told.
