@@ -14,8 +14,8 @@ pub fn pool_laws()
     ensures loans { LoansChangeABuffer }
 {}
 
-/// Calls that give back the pins that they take keep all that were. A pool at rest, between calls, stays
-/// so then, and has a frame whose page isn't held.
+/// Calls that give back the pins that they take keep all that were, and a pool at rest, between calls,
+/// stays so then.
 pub fn holding_laws()
     ensures nothing { NothingKeepsPins }
     ensures both { BothKeepPins }
@@ -26,6 +26,10 @@ pub fn holding_laws()
     ensures evicts { EvictionsKeepPins }
     ensures changes { ChangesKeepPins }
     ensures loans { LoansKeepPins }
+{}
+
+/// An empty pool is at rest, and one at rest has a frame whose page isn't held.
+pub fn resting_laws()
     ensures empty { EmptyPoolsRest }
     ensures may_pin { PagesAtRestMayBePinned }
     ensures room { ARestingPoolHasRoom }

@@ -1,7 +1,7 @@
 //! Frames for pages, in a slab whose room is reserved at the start. A pinned page stays in its frame,
 //! and no page has two.
 //!
-//! Proved, by `Pool`, `pool_laws`, `holding_laws`, `use_laws`: no two frames have one page; a
+//! Proved, by `Pool`, `pool_laws`, `holding_laws`, `resting_laws`, `use_laws`: no two frames have one page; a
 //! pinned page stays in its frame; a frame that is passed on is one that a page left and another
 //! was brought into; what is lent of one frame changes no other; a page offered for eviction has no
 //! pin, and of such pages none was used longer ago; and none is offered exactly where a frame is
@@ -17,6 +17,6 @@ mod looking;
 mod pool;
 mod room;
 
-pub use laws::{holding_laws, pool_laws, use_laws};
+pub use laws::{holding_laws, pool_laws, resting_laws, use_laws};
 pub use pool::{Pin, Pool};
 pub use room::Room;

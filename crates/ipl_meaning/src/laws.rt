@@ -158,8 +158,11 @@ pub fn moving_laws()
     ensures renewals { TablesFollowRenewals }
     ensures overflows { TablesFollowOverflows }
     ensures ends_of_marks { TablesFollowEndsOfMarks }
+{}
 
-    // what is counted as clean then
+/// What the tables count as clean follows units and the status that move, new overflow places and the
+/// end of marks.
+pub fn counting_laws()
     ensures merge_counted { CountedFollowMerges }
     ensures renewal_counted { CountedFollowRenewals }
     ensures overflow_counted { CountedFollowOverflows }

@@ -14,7 +14,7 @@
 mod laws;
 
 pub use laws::{
-    agreeing_laws, clean_laws, counter_laws, following_laws, format_laws, header_laws, idle_laws,
-    log_laws, mark_laws, marking_laws, meaning_laws, moving_laws, record_laws, resting_laws,
-    standing_laws, story_laws, table_laws, unit_laws, worn_laws,
+    agreeing_laws, clean_laws, counter_laws, counting_laws, following_laws, format_laws,
+    header_laws, idle_laws, log_laws, mark_laws, marking_laws, meaning_laws, moving_laws,
+    record_laws, resting_laws, standing_laws, story_laws, table_laws, unit_laws, worn_laws,
 };

@@ -4,7 +4,7 @@
 //! calls leave (`step_laws`). There is no code here but the laws: bodies that do nothing, with a contract
 //! that is the law.
 //!
-//! Proved, by the five laws of `pending`: after each step of a store the records on the chip and in memory
+//! Proved, by the laws of `pending`: after each step of a store the records on the chip and in memory
 //! say what its open sessions wrote, each frame tells what each session sees, and memory and chip
 //! stand for the state; a commit, of one session or of several together, makes of the map what
 //! their writes do; each record of an open session is one of its writes, weighs no more than its
@@ -22,4 +22,7 @@ pub use laws::{
     frame_call_laws, keeper_laws, keeping_laws, leading_laws, passing_laws, refusal_laws,
     session_laws,
 };
-pub use pending::{chip_laws, fitting_laws, frame_laws, memory_laws, pending_laws};
+pub use pending::{
+    chip_laws, fitting_laws, frame_laws, memory_laws, pending_laws, room_laws, saying_laws,
+    telling_laws,
+};

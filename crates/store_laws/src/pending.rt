@@ -4,9 +4,8 @@ ghost use Rattle.store_laws.specs.FrameLaws.{FramesTell, LoadsMakeFrames, Begins
 ghost use Rattle.store_laws.specs.FittingLaws.{SparesAreFreeOrRetired, APlaceIsFree, FitsWhateverTheMap, SessionsAreSound, WrittenPagesFit, LoadedPagesFit, FramesKeepMarks, MarksTellFullPages, PutsThatPassHaveRoom, SameValuesHaveRoom, MergesAreSmall, RestingPagesSay, RestingPagesKeep, FittingFramesTell, FittingContentsTell, EmptySlotsAreAtRest, FirstStoresFit};
 ghost use Rattle.store_laws.specs.StepLaws.{BeginsFit, SharesFit, WritesFit, AbortsFit, SessionNumbersFit, LoadsFit, EvictionsFit, OpeningsFit, LogSectorsFit, MergesFit, OtherStepsFit, RenewalsFit, BatchesFit};
 
-/// After each step of a store the records on the chip and in memory say what its open sessions
-/// wrote; a commit makes of the map what the writes of its session do, and one of several sessions
-/// what theirs do one after the other; and a record of an open session weighs no more than its name.
+/// After each step of a store but a commit, the records on the chip and in memory say what its open
+/// sessions wrote.
 pub fn pending_laws()
     ensures begins { BeginsKeepPending }
     ensures shares { SharesKeepPending }
@@ -15,15 +14,21 @@ pub fn pending_laws()
     ensures merges { MergesKeepPending }
     ensures same_logs { SameLogsKeepPending }
     ensures renewals { RenewalsKeepPending }
-    ensures commits { CommitsKeepPending }
-    ensures says { CommitsSayWrites }
-    ensures batches { BatchesKeepPending }
-    ensures batches_say { BatchesSayWrites }
     ensures aborts { AbortsKeepPending }
     ensures restarts { RestartsLeaveNone }
 
     // of the records in memory alone
     ensures in_memory { RecordsStayPending }
+{}
+
+/// A commit makes of the map what the writes of its session do, and one of several sessions what theirs
+/// do one after the other; the records say what the other sessions wrote then. A record of an open
+/// session is one of its writes, and weighs no more than its name.
+pub fn saying_laws()
+    ensures commits { CommitsKeepPending }
+    ensures says { CommitsSayWrites }
+    ensures batches { BatchesKeepPending }
+    ensures batches_say { BatchesSayWrites }
 
     // what follows
     ensures written { RecordsAreWrites }
@@ -46,31 +51,36 @@ pub fn frame_laws()
 {}
 
 /// What a store gives whose memory and chip stand for a state: a free place, as long as no more are
-/// retired than are spare, one writer of each name, room in the pages that sessions wrote, also with what is pending there, whether a put
-/// finds its page full, merges that have room, pages that say the map, and frames that tell it.
-/// And that there is one.
+/// retired than are spare, one writer of each name, and merges that have room. And that there is one.
 pub fn fitting_laws()
     ensures spares { SparesAreFreeOrRetired }
     ensures free { APlaceIsFree }
     ensures any_map { FitsWhateverTheMap }
     ensures sound { SessionsAreSound }
     ensures small { MergesAreSmall }
+
+    // that it can be met
+    ensures at_rest { EmptySlotsAreAtRest }
+    ensures first { FirstStoresFit }
+{}
+
+/// Its pages say the map, and its frames tell it.
+pub fn telling_laws()
     ensures says { RestingPagesSay }
     ensures keeps { RestingPagesKeep }
     ensures tells { FittingFramesTell }
     ensures contents_tell { FittingContentsTell }
+{}
 
-    // room in pages
+/// Its pages have room for what sessions wrote, also with what is pending there; and whether a put finds
+/// its page full.
+pub fn room_laws()
     ensures written { WrittenPagesFit }
     ensures loaded { LoadedPagesFit }
     ensures marks { FramesKeepMarks }
     ensures full { MarksTellFullPages }
     ensures room { PutsThatPassHaveRoom }
     ensures same_room { SameValuesHaveRoom }
-
-    // that it can be met
-    ensures at_rest { EmptySlotsAreAtRest }
-    ensures first { FirstStoresFit }
 {}
 
 /// Memory and chip stand for the state after each step in memory.

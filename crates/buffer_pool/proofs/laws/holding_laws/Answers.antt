@@ -1,4 +1,4 @@
-use Rattle.buffer_pool.proofs.HoldingLemmas.{nothing_keeps, both_keep, as_many, rest_stays, pins_given_back, brings_keep, evictions_keep, changes_keep, loans_keep, empty_rests, may_pin_at_rest, room_at_rest}
+use Rattle.buffer_pool.proofs.HoldingLemmas.{nothing_keeps, both_keep, as_many, rest_stays, pins_given_back, brings_keep, evictions_keep, changes_keep, loans_keep}
 use Rattle.buffer_pool.proofs.laws.holding_laws.Goals as goal
 
 pub returns : goal.returns
@@ -12,7 +12,4 @@ returns c = record {
   evicts = evictions_keep;
   changes = changes_keep;
   loans = loans_keep;
-  empty = empty_rests;
-  may_pin = may_pin_at_rest;
-  room = room_at_rest;
 }

@@ -1,8 +1,8 @@
 use Rattle.ipl_meaning.proofs.IdleFollowLemmas.{tables_follow_idle_places, places_may_be_taken, counts_are_free, retired_are_free, places_may_be_retired}
-use Rattle.ipl_meaning.proofs.MergeFollowLemmas.{tables_follow_merges, counted_follow_merges}
-use Rattle.ipl_meaning.proofs.RenewalFollowLemmas.{tables_follow_renewals, counted_follow_renewals}
-use Rattle.ipl_meaning.proofs.OverflowFollowLemmas.{tables_follow_overflows, counted_follow_overflows}
-use Rattle.ipl_meaning.proofs.MarkLemmas.{tables_follow_ends_of_marks, counted_follow_ends_of_marks}
+use Rattle.ipl_meaning.proofs.MergeFollowLemmas.{tables_follow_merges}
+use Rattle.ipl_meaning.proofs.RenewalFollowLemmas.{tables_follow_renewals}
+use Rattle.ipl_meaning.proofs.OverflowFollowLemmas.{tables_follow_overflows}
+use Rattle.ipl_meaning.proofs.MarkLemmas.{tables_follow_ends_of_marks}
 use Rattle.ipl_meaning.proofs.laws.moving_laws.Goals as goal
 
 pub returns : goal.returns
@@ -16,8 +16,4 @@ returns c = record {
   renewals = tables_follow_renewals;
   overflows = tables_follow_overflows;
   ends_of_marks = tables_follow_ends_of_marks;
-  merge_counted = counted_follow_merges;
-  renewal_counted = counted_follow_renewals;
-  overflow_counted = counted_follow_overflows;
-  end_counted = counted_follow_ends_of_marks;
 }

@@ -1,14 +1,10 @@
-use Rattle.store_laws.proofs.FollowLemmas.{records_are_writes, changed_pages_suffice}
 use Rattle.store_laws.proofs.InMemoryLemmas.{records_stay_pending}
 use Rattle.store_laws.proofs.PendingSessionLemmas.{begins_keep_pending, shares_keep_pending, restarts_leave_none}
 use Rattle.store_laws.proofs.WriteLemmas.{writes_keep_pending}
-use Rattle.store_laws.proofs.PendingCommitLemmas.{commits_keep_pending, aborts_keep_pending}
-use Rattle.store_laws.proofs.SayLemmas.{commits_say_writes}
+use Rattle.store_laws.proofs.PendingCommitLemmas.{aborts_keep_pending}
 use Rattle.store_laws.proofs.LogSectorLemmas.{log_sectors_keep_pending}
 use Rattle.store_laws.proofs.MergeLemmas.{merges_keep_pending, same_logs_keep_pending}
 use Rattle.store_laws.proofs.RenewLemmas.{renewals_keep_pending}
-use Rattle.store_laws.proofs.WeightLemmas.{records_weigh_no_more}
-use Rattle.store_laws.proofs.PendingBatchLemmas.{batches_keep_pending, batches_say_writes}
 use Rattle.store_laws.proofs.pending.pending_laws.Goals as goal
 
 pub returns : goal.returns
@@ -20,14 +16,7 @@ returns c = record {
   merges = merges_keep_pending;
   same_logs = same_logs_keep_pending;
   renewals = renewals_keep_pending;
-  commits = commits_keep_pending;
-  says = commits_say_writes;
-  batches = batches_keep_pending;
-  batches_say = batches_say_writes;
   aborts = aborts_keep_pending;
   restarts = restarts_leave_none;
   in_memory = records_stay_pending;
-  written = records_are_writes;
-  changed = changed_pages_suffice;
-  weighed = records_weigh_no_more;
 }
