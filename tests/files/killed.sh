@@ -19,13 +19,16 @@ format_until() {
     lists file:129:chip end
     rm chip
 }
+# On a busy machine a format may be through before it is killed: then once more.
 left=0
-for round in 1 2; do
+rounds=0
+until [ $rounds -ge 2 ] && [ $left -gt 0 ]; do
+    rounds=$((rounds + 1))
+    wants "a format is killed while it makes its file" [ $rounds -le 20 ]
     format_until -e chip.ipl-new
     format_until -s chip.ipl-new
     format_until -e chip
 done
-wants "a format is killed while it makes its file" [ $left -gt 0 ]
 
 # Values of one byte, which rise: what is listed is the last that was answered, or the one after it.
 commits() {
@@ -56,4 +59,4 @@ for commits in 0 1 2 5 20 60; do
     [ $done -eq 0 ] && now=none
     [ "$found" = "$now" ] || [ "$found" = "$next" ] || fail "after $done commits: $found"
 done
-echo "6 formats killed that made a file ($left left it unfinished), and 6 runs after $answered commits in all"
+echo "$((3 * rounds)) formats killed that made a file ($left left it unfinished), and 6 runs after $answered commits in all"

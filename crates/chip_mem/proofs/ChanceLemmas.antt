@@ -7,7 +7,7 @@ use Rattle.chip_trait.specs.declared.event.Event.TheVariants.{Read, Program, Era
 use Rattle.chip_trait.specs.Story.{Story, Contents, held}
 use Rattle.chip_trait.specs.Image.{may_tear, IsNamedValue, NoChance}
 use Rattle.chip_trait.proofs.ImageLemmas.{held_is_named}
-use Rattle.chip_mem.specs.Picked.{first, settled_count, chosen, given, with_pick, image_of, checks_by_chance, NoneByChance}
+use Rattle.chip_mem.specs.Picked.{first, closed_count, chosen, given, with_pick, image_of, checks_by_chance, NoneByChance}
 use Rattle.chip_mem.specs.declared.pick.Choice.{Choice}
 use Rattle.chip_mem.specs.declared.pick.Choice.TheVariants.{Old, After, Bytes}
 use Rattle.chip_mem.specs.declared.pick.Pick.{Pick}
@@ -31,7 +31,7 @@ last_or_earlier start x story p s n earlier =
     ]
 
 -- what a sector held at the last barrier, or after any event since, is one of its named values
-pub first_is_named : (start : Contents) (story : Story) (p s n : ℕ) → settled_count story ≤ n → IsNamedValue start story p s (held start (first n story) p s)
+pub first_is_named : (start : Contents) (story : Story) (p s n : ℕ) → closed_count story ≤ n → IsNamedValue start story p s (held start (first n story) p s)
 first_is_named start [] p s n since = ap (λ (st : Story). held start st p s) (first_all [] n (omega arith))
 first_is_named start (Read q t ∷ story) p s n since = last_or_earlier start (Read q t) story p s n (λ fewer. first_is_named start story p s n since)
 first_is_named start (Program q t bytes ∷ story) p s n since = last_or_earlier start (Program q t bytes) story p s n (λ fewer. inr (first_is_named start story p s n since))
@@ -44,10 +44,10 @@ first_is_named start (Said piece ∷ story) p s n since = last_or_earlier start 
 chosen_named : (checks : List ℕ → Bool) (start : Contents) (story : Story) (p s : ℕ) (choice : Choice) (bytes : List ℕ)
     → checks_by_chance checks choice ≡ false → chosen start story p s choice ≡ Some bytes → checks bytes ≡ true → IsNamedValue start story p s bytes
 chosen_named checks start story p s Old bytes none is checked =
-    subst (IsNamedValue start story p s) (same_Some _ bytes is) (first_is_named start story p s (settled_count story) (omega arith))
-chosen_named checks start story p s (After n) bytes none is checked = elim (cases_Bool (leb (settled_count story) n && ltb n (length story))) [
+    subst (IsNamedValue start story p s) (same_Some _ bytes is) (first_is_named start story p s (closed_count story) (omega arith))
+chosen_named checks start story p s (After n) bytes none is checked = elim (cases_Bool (leb (closed_count story) n && ltb n (length story))) [
   | inl later ↦
-      let since : settled_count story ≤ n = leb-true _ _ (and_parts _ _ later).0 in
+      let since : closed_count story ≤ n = leb-true _ _ (and_parts _ _ later).0 in
       subst (IsNamedValue start story p s) (same_Some _ bytes (rw later at is)) (first_is_named start story p s (n + 1) (omega arith))
   | inr other ↦ absurd (let nothing = rw other at is in cc)
 ]

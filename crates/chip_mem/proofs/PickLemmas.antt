@@ -11,7 +11,7 @@ use Rattle.chip_trait.specs.declared.event.Event.TheVariants.{Read, Program, Era
 use Rattle.chip_trait.specs.Story.{Story, Contents, after, held}
 use Rattle.chip_trait.specs.Image.{is_open, is_worn, may_tear, IsImage}
 use Rattle.chip_mem.specs.Story.{is_inside}
-use Rattle.chip_mem.specs.Picked.{first, settled_count, chosen, given, with_pick}
+use Rattle.chip_mem.specs.Picked.{first, closed_count, chosen, given, with_pick}
 use Rattle.chip_mem.specs.declared.pick.Choice.TheVariants.{Old, After}
 use Rattle.chip_mem.specs.declared.pick.Pick.{Pick}
 
@@ -104,19 +104,19 @@ torn_is_inside places events p s inside touched =
     torn_in_story places (reverse events) p s (all_reversed P events inside) touched
 
 -- the choice of what stood at the last barrier
-pub chosen_old : (start : Contents) (events : List Event) (p s n : ℕ) → n ≡ settled_count (reverse events)
+pub chosen_old : (start : Contents) (events : List Event) (p s n : ℕ) → n ≡ closed_count (reverse events)
     → Some (held start (reverse (take n events)) p s) ≡ chosen start (reverse events) p s Old
 chosen_old start events p s n settled =
     ap (λ (story : Story). Some (held start story p s)) (sym (first-reverse n events))
     ∙ ap (λ (k : ℕ). Some (held start (first k (reverse events)) p s)) settled
 
 -- the choice of what stood after a later event
-pub chosen_after : (start : Contents) (events : List Event) (p s settled n : ℕ) → settled ≡ settled_count (reverse events) → settled ≤ n → n < length events
+pub chosen_after : (start : Contents) (events : List Event) (p s settled n : ℕ) → settled ≡ closed_count (reverse events) → settled ≤ n → n < length events
     → Some (held start (reverse (take (n + 1) events)) p s) ≡ chosen start (reverse events) p s (After n)
 chosen_after start events p s settled n is since among =
-    let later : settled_count (reverse events) ≤ n = omega arith in
+    let later : closed_count (reverse events) ≤ n = omega arith in
     let one : n < length (reverse events) = omega (arith, length-reverse events) in
-    rw (le-leb (settled_count (reverse events)) n later, lt-ltb n (length (reverse events)) one)
+    rw (le-leb (closed_count (reverse events)) n later, lt-ltb n (length (reverse events)) one)
     (ap (λ (story : Story). Some (held start story p s)) (sym (first-reverse (n + 1) events)))
 
 -- the first events of a history, kept as a list of so many

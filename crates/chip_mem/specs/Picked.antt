@@ -14,20 +14,20 @@ abbrev pub first : ℕ → Story → Story
 first n story = drop (length story - n) story
 
 -- how many events there are up to the last barrier, with it
-abbrev pub settled_count : Story → ℕ
-settled_count [] = 0
-settled_count (Read q t ∷ story) = settled_count story
-settled_count (Program q t bytes ∷ story) = settled_count story
-settled_count (Erase q ∷ story) = settled_count story
-settled_count (Worn q ∷ story) = settled_count story
-settled_count (Barrier ∷ story) = length story + 1
-settled_count (Said piece ∷ story) = settled_count story
+abbrev pub closed_count : Story → ℕ
+closed_count [] = 0
+closed_count (Read q t ∷ story) = closed_count story
+closed_count (Program q t bytes ∷ story) = closed_count story
+closed_count (Erase q ∷ story) = closed_count story
+closed_count (Worn q ∷ story) = closed_count story
+closed_count (Barrier ∷ story) = length story + 1
+closed_count (Said piece ∷ story) = closed_count story
 
 -- the bytes that a choice gives a sector; none where it names an event that isn't one of those since the last barrier
 abbrev pub chosen : Contents → Story → ℕ → ℕ → Choice → Option (List ℕ)
-chosen start story p s Old = Some (held start (first (settled_count story) story) p s)
+chosen start story p s Old = Some (held start (first (closed_count story) story) p s)
 chosen start story p s (After n) =
-    if nat_le (settled_count story) n && nat_lt n (length story)
+    if nat_le (closed_count story) n && nat_lt n (length story)
     then Some (held start (first (n + 1) story) p s) else None
 chosen start story p s (Bytes bytes) = Some bytes
 

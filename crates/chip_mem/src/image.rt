@@ -7,7 +7,7 @@ ghost use Rattle.chip_mem.specs.Story.{is_inside};
 ghost use Rattle.chip_mem.specs.Picked.{chosen, with_pick, image_of};
 
 use crate::pick::{Choice, Pick};
-use crate::replay::{held_at, may_tear, replay, settled_count};
+use crate::replay::{closed_count, held_at, may_tear, replay};
 use crate::sectors::{copy_sectors, program_sector};
 use chip_trait::Event;
 use ipl_base::{OutOfMemory, SECTORS};
@@ -70,12 +70,12 @@ fn chosen_bytes(start: &[[u8; 512]], events: &[Event], pick: &Pick) -> Option<[u
         result ≡ chosen x story pick.now.place pick.now.sector pick.now.choice }
     ensures fits { IfSome result (λ bytes. length bytes ≡ 512) }
 {
-    let settled = settled_count(events);
+    let closed = closed_count(events);
     match &pick.choice {
         Choice::Old => Some(held_at(start, &events[..settled], pick.place, pick.sector)),
         Choice::After(number) => {
             let number = *number;
-            if number < settled as u64 || events.len() as u64 <= number {
+            if number < closed as u64 || events.len() as u64 <= number {
                 return None;
             }
             let count = number as usize + 1;

@@ -6,7 +6,7 @@ ghost use Rattle.chip_trait.specs.Story.{Story, Contents, after, held};
 ghost use Rattle.chip_trait.specs.Image.{may_tear};
 ghost use Rattle.chip_mem.specs.Sectors.{contents_of};
 ghost use Rattle.chip_mem.specs.Story.{is_inside, IsLasting};
-ghost use Rattle.chip_mem.specs.Picked.{settled_count};
+ghost use Rattle.chip_mem.specs.Picked.{closed_count};
 
 use crate::sectors::{BLANK, erase_place, program_sector};
 use chip_trait::Event;
@@ -118,8 +118,8 @@ fn lasting_after(event: &Event, p: u32, s: u32, before: Lasting) -> Lasting
 }
 
 /// How many events there are up to the last barrier, with it.
-pub(crate) fn settled_count(events: &[Event]) -> usize
-    ensures value { result ≡ settled_count (reverse events.now) }
+pub(crate) fn closed_count(events: &[Event]) -> usize
+    ensures value { result ≡ closed_count (reverse events.now) }
     ensures within { result ≤ length events.now }
 {
     let mut count = 0;

@@ -7,7 +7,9 @@ use Rattle.ipl_base.specs.declared.spot.Home.{Home}
 use Rattle.store_laws.specs.Frames.{PageFrame, Frames, ChangesSo}
 use Rattle.store_laws.specs.NamedFrames.{NamedFramesChange}
 use Rattle.store_laws.proofs.ChangeLemmas.{AreJoined, named_more}
-use Rattle.frame_changes.specs.Changes.{FrameChanges, OnlyPageChanges}
+use Rattle.buffer_pool.specs.Pools.{PoolView}
+use Rattle.buffer_pool.proofs.HoldingLemmas.{nothing_keeps, both_keep}
+use Rattle.frame_changes.specs.Changes.{FrameChanges, KeepsPool, OnlyPageChanges}
 use Rattle.frame_changes.proofs.FrameLemmas.{frame_here, frame_elsewhere}
 
 -- ---- one name
@@ -57,3 +59,15 @@ module _ (R : PageFrame → PageFrame → Type 0) (names : List Name) (i : ℕ) 
   pub names_all : length names ≤ i → NamedFramesChange R (map (λ n. n.0) names) old now
   names_all past =
       subst (λ (l : List Name). NamedFramesChange R (map (λ n. n.0) l) old now) (take_all i names past) so
+
+-- ---- the pool
+
+pub stays_none : (p : PoolView) → KeepsPool p p
+stays_none p = record { pins = nothing_keeps p; uses = refl; order = refl }
+
+pub stays_both : (p q r : PoolView) → KeepsPool p q → KeepsPool q r → KeepsPool p r
+stays_both p q r a b = record {
+  pins = both_keep p q r a.pins b.pins;
+  uses = b.uses ∙ a.uses;
+  order = b.order ∙ a.order;
+}

@@ -9,7 +9,7 @@ use Rattle.slab.specs.Slab.{get}
 use Rattle.ipl_base.specs.declared.limits.TheConstants.{PAGE_LEN}
 use Rattle.ipl_format.specs.Record.{Record}
 use Rattle.ipl_meaning.specs.Last.{size_of, size_of_all}
-use Rattle.page_ops.specs.Frames.{FrameView, values_in, pending_in, IsSettled, IsDropped}
+use Rattle.page_ops.specs.Frames.{FrameView, values_in, pending_in, AppliesTid, IsDropped}
 use Rattle.page_ops.specs.Pending.{fill_by, with_pending}
 use Rattle.mem_log_sector.specs.MemLogs.{without_tid}
 use Rattle.buffer_pool.specs.declared.pool.Buffer.{Buffer}
@@ -24,9 +24,9 @@ use Rattle.buffer_pool.proofs.HoldingLemmas.{both_keep, loans_keep}
 use Rattle.buffer_pool.proofs.UseLemmas.{loans_keep_uses}
 use Rattle.store_laws.specs.Frames.{PageFrame, Frames, logs_of, with_frame_at, IsWrittenFrame, IsCommittedFrame, IsAbortedFrame}
 use Rattle.store_laws.specs.Views.{frame_of}
-use Rattle.store_laws.proofs.ViewLemmas.{settled_frames_are_committed, dropped_frames_are_aborted, changed_frames_are_written}
+use Rattle.store_laws.proofs.ViewLemmas.{applied_frames_are_committed, dropped_frames_are_aborted, changed_frames_are_written}
 use Rattle.frame_changes.specs.Views.{frame_in, frames_of}
-use Rattle.frame_changes.specs.Changes.{noted, FrameChanges, IsClearedFrame, MayPut, PutHasRoom}
+use Rattle.frame_changes.specs.Changes.{noted, FrameChanges, IsClearedFrame, KeepsPool, MayPut, PutHasRoom}
 use Rattle.frame_changes.proofs.FrameLemmas.{frame_found, loans_change_a_frame, put_again}
 
 -- a page that is in no frame has none
@@ -176,6 +176,9 @@ module _ (p : PoolView) (u page key : ℕ) (once : AreOnce p.buffers)
       loans_keep_uses p key (with_frame f) once some_there
       (λ b. record { page = (refl, refl); used = refl })
 
+  pub frame_keeps : (f : FrameView) → KeepsPool p (with_frame_under p key f)
+  frame_keeps f = record { pins = frame_pins f; uses = frame_uses f; order = refl }
+
   -- the records are
   pub log_changes : (R : PageFrame → PageFrame → Type 0) (log : List Record)
       → R (frame_in has.buffer) (frame_of has.buffer.frame log)
@@ -188,13 +191,16 @@ module _ (p : PoolView) (u page key : ℕ) (once : AreOnce p.buffers)
     frames = loans_change_a_frame p u page key (with_log log) once has (refl, refl);
   }
 
-  pub log_pins : (log : List Record) → KeepsPins p (with_log_under p key log)
+  log_pins : (log : List Record) → KeepsPins p (with_log_under p key log)
   log_pins log = loans_keep p key (with_log log) some_there (λ b. ((refl, refl), refl))
 
-  pub log_uses : (log : List Record) → used_of (with_log_under p key log) ≡ used_of p
+  log_uses : (log : List Record) → used_of (with_log_under p key log) ≡ used_of p
   log_uses log =
       loans_keep_uses p key (with_log log) once some_there
       (λ b. record { page = (refl, refl); used = refl })
+
+  pub log_keeps : (log : List Record) → KeepsPool p (with_log_under p key log)
+  log_keeps log = record { pins = log_pins log; uses = log_uses log; order = refl }
 
   -- both are
   pub both_change : (R : PageFrame → PageFrame → Type 0) (f : FrameView) (log : List Record)
@@ -220,19 +226,23 @@ module _ (p : PoolView) (u page key : ℕ) (once : AreOnce p.buffers)
             (Some (frame_of f log));
       }
 
-  pub both_pins : (f : FrameView) (log : List Record)
+  both_pins : (f : FrameView) (log : List Record)
       → KeepsPins p (with_log_under (with_frame_under p key f) key log)
   both_pins f log =
       let mid = with_frame_under p key f in
       both_keep p mid (with_log_under mid key log) (frame_pins f)
       (loans_keep mid key (with_log log) (some_then f) (λ b. ((refl, refl), refl)))
 
-  pub both_uses : (f : FrameView) (log : List Record)
+  both_uses : (f : FrameView) (log : List Record)
       → used_of (with_log_under (with_frame_under p key f) key log) ≡ used_of p
   both_uses f log =
       loans_keep_uses (with_frame_under p key f) key (with_log log) (once_then f) (some_then f)
       (λ b. record { page = (refl, refl); used = refl })
       ∙ frame_uses f
+
+  pub both_stay : (f : FrameView) (log : List Record)
+      → KeepsPool p (with_log_under (with_frame_under p key f) key log)
+  both_stay f log = record { pins = both_pins f log; uses = both_uses f log; order = refl }
 
   -- ---- what was written
 
@@ -262,12 +272,12 @@ module _ (p : PoolView) (u page key : ℕ) (once : AreOnce p.buffers)
       → IsClearedFrame (frame_in has.buffer) (frame_of has.buffer.frame log)
   cleared log none = ap (frame_of has.buffer.frame) none
 
-  pub settled : (tid : ℕ) (f before : FrameView) → before ≡ has.buffer.frame
-      → IsSettled tid before f
+  pub applied : (tid : ℕ) (f before : FrameView) → before ≡ has.buffer.frame
+      → AppliesTid tid before f
       → IsCommittedFrame tid (frame_in has.buffer) (frame_of f has.buffer.log)
-  settled tid f before framed is =
-      settled_frames_are_committed tid has.buffer.frame f has.buffer.log
-      (subst (λ (x : FrameView). IsSettled tid x f) framed is)
+  applied tid f before framed is =
+      applied_frames_are_committed tid has.buffer.frame f has.buffer.log
+      (subst (λ (x : FrameView). AppliesTid tid x f) framed is)
 
   pub dropped : (tid : ℕ) (f before : FrameView) (log new : List Record)
       → before ≡ has.buffer.frame → IsDropped tid before f → log ≡ has.buffer.log

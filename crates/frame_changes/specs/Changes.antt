@@ -4,6 +4,9 @@ use Rattle.ipl_base.specs.Places.{home_of}
 use Rattle.ipl_base.specs.declared.limits.TheConstants.{PAGE_LEN}
 use Rattle.ipl_format.specs.Record.{Record}
 use Rattle.ipl_meaning.specs.Last.{size_of, size_of_all}
+use Rattle.buffer_pool.specs.Pools.{PoolView}
+use Rattle.buffer_pool.specs.Holding.{KeepsPins}
+use Rattle.buffer_pool.specs.Uses.{used_of}
 use Rattle.page_ops.specs.Pending.{Pendings, fill_by, with_pending}
 use Rattle.store_laws.specs.Frames.{PageFrame, Frames, with_frame_at, with_frame_log}
 use Rattle.store_laws.specs.NamedFrames.{ChangesPageOf}
@@ -34,6 +37,12 @@ pub record FrameChanges (R : PageFrame → PageFrame → Type 0) (old new : Fram
 -- the records of the page are dropped
 abbrev pub IsClearedFrame : PageFrame → PageFrame → Type 0
 IsClearedFrame a b = b ≡ with_frame_log a []
+
+-- the same pages are in frames and the same ones are held, and each was used when it was
+pub record KeepsPool (old new : PoolView) : Type 0 where
+  pub pins : KeepsPins old new
+  pub uses : used_of new ≡ used_of old
+  pub order : new.order ≡ old.order
 
 -- ---- the pages of names
 

@@ -1,26 +1,22 @@
 //! The end of a session, in the frames of the names that it wrote.
 ghost use Rattle.std.specs.Prelude.{◌≡◌, ◌<◌, map};
-ghost use Rattle.buffer_pool.specs.Holding.{KeepsPins};
-ghost use Rattle.buffer_pool.specs.Uses.{used_of};
 ghost use Rattle.store_laws.specs.Frames.{IsCommittedFrame, IsAbortedFrame};
 ghost use Rattle.frame_changes.specs.Views.{frames_of};
 ghost use Rattle.store_laws.specs.NamedFrames.{NamedFramesChange};
-ghost use Rattle.frame_changes.specs.Changes.{OnlyPageChanges};
+ghost use Rattle.frame_changes.specs.Changes.{KeepsPool, OnlyPageChanges};
 
 use buffer_pool::Pool;
 use ipl_base::{Name, home};
 
 /// Makes what is pending under this number a value, in the frames of these names' pages, as a commit
 /// does. Pages that are in no frame are passed over.
-pub fn settle_names(pool: &mut Pool, names: &[Name], tid: u64)
-    ensures settled { NamedFramesChange (IsCommittedFrame tid) (map (λ n. n.0) names.now)
+pub fn apply_names(pool: &mut Pool, names: &[Name], tid: u64)
+    ensures applied { NamedFramesChange (IsCommittedFrame tid) (map (λ n. n.0) names.now)
         (frames_of pool.old) (frames_of pool.new) }
-    ensures pins { KeepsPins pool.old pool.new }
-    ensures uses { used_of pool.new ≡ used_of pool.old }
-    ensures order { pool.new.order ≡ pool.old.order }
+    ensures pool { KeepsPool pool.old pool.new }
 {
     for name in names {
-        settle_home(pool, *name, tid);
+        apply_home(pool, *name, tid);
     }
 }
 
@@ -29,9 +25,7 @@ pub fn settle_names(pool: &mut Pool, names: &[Name], tid: u64)
 pub fn drop_names(pool: &mut Pool, names: &[Name], tid: u64)
     ensures dropped { NamedFramesChange (IsAbortedFrame tid) (map (λ n. n.0) names.now)
         (frames_of pool.old) (frames_of pool.new) }
-    ensures pins { KeepsPins pool.old pool.new }
-    ensures uses { used_of pool.new ≡ used_of pool.old }
-    ensures order { pool.new.order ≡ pool.old.order }
+    ensures pool { KeepsPool pool.old pool.new }
 {
     for name in names {
         drop_home(pool, *name, tid);
@@ -39,17 +33,15 @@ pub fn drop_names(pool: &mut Pool, names: &[Name], tid: u64)
 }
 
 // Makes what is pending under this number a value, in the frame of a name's page.
-fn settle_home(pool: &mut Pool, name: Name, tid: u64)
+fn apply_home(pool: &mut Pool, name: Name, tid: u64)
     ensures changes { OnlyPageChanges (IsCommittedFrame tid) (frames_of pool.old)
         (frames_of pool.new) name.0 }
-    ensures pins { KeepsPins pool.old pool.new }
-    ensures uses { used_of pool.new ≡ used_of pool.old }
-    ensures order { pool.new.order ≡ pool.old.order }
+    ensures pool { KeepsPool pool.old pool.new }
 {
     pool.facts();
     let at = home(name);
     if let Some(key) = pool.find(at.unit, at.page) {
-        pool.frame_under(key).settle_tid(tid);
+        pool.frame_under(key).apply_tid(tid);
     }
 }
 
@@ -57,9 +49,7 @@ fn settle_home(pool: &mut Pool, name: Name, tid: u64)
 fn drop_home(pool: &mut Pool, name: Name, tid: u64)
     ensures changes { OnlyPageChanges (IsAbortedFrame tid) (frames_of pool.old)
         (frames_of pool.new) name.0 }
-    ensures pins { KeepsPins pool.old pool.new }
-    ensures uses { used_of pool.new ≡ used_of pool.old }
-    ensures order { pool.new.order ≡ pool.old.order }
+    ensures pool { KeepsPool pool.old pool.new }
 {
     pool.facts();
     let at = home(name);

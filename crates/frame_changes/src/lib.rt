@@ -20,7 +20,7 @@ mod values;
 mod writes;
 mod written;
 
-pub use ends::{drop_names, settle_names};
+pub use ends::{apply_names, drop_names};
 pub use filling::overfills;
 pub use laws::{buffer_laws, room_laws};
 pub use values::{committed_value, seen_value};

@@ -3,13 +3,11 @@ ghost use Rattle.std.specs.Prelude.{◌≡◌, ◌≤◌, ◌<◌, ◌↔◌, �
 ghost use Rattle.std.specs.Bool.{OnTrue, OnFalse};
 ghost use Rattle.ipl_base.specs.declared.limits.TheConstants.{PAGE_LEN, VERSION};
 ghost use Rattle.log_records.specs.View.{record_of, Spells};
-ghost use Rattle.buffer_pool.specs.Holding.{KeepsPins};
-ghost use Rattle.buffer_pool.specs.Uses.{used_of};
 ghost use Rattle.page_ops.specs.Frames.{values_in, pending_in};
 ghost use Rattle.page_ops.specs.Pending.{fill_by};
 ghost use Rattle.store_laws.specs.Frames.{PageFrame, IsWrittenFrame, logs_of};
 ghost use Rattle.frame_changes.specs.Views.{frames_of};
-ghost use Rattle.frame_changes.specs.Changes.{noted, FrameChanges, IsClearedFrame, MayPut, PutHasRoom};
+ghost use Rattle.frame_changes.specs.Changes.{noted, FrameChanges, IsClearedFrame, KeepsPool, MayPut, PutHasRoom};
 
 use buffer_pool::Pool;
 use log_records::{Payload, Record};
@@ -40,9 +38,7 @@ pub fn put_record(pool: &mut Pool, unit: u32, rec: &Record) -> bool
     ensures put { OnTrue result (FrameChanges (IsWrittenFrame (record_of rec.now)) (frames_of pool.old)
         (frames_of pool.new) unit rec.now.page) }
     ensures kept { OnFalse result (frames_of pool.new ≡ frames_of pool.old) }
-    ensures pins { KeepsPins pool.old pool.new }
-    ensures uses { used_of pool.new ≡ used_of pool.old }
-    ensures order { pool.new.order ≡ pool.old.order }
+    ensures pool { KeepsPool pool.old pool.new }
 {
     pool.facts();
     let Some(key) = pool.find(unit, rec.page) else {
@@ -90,9 +86,7 @@ pub fn clear_log(pool: &mut Pool, unit: u32, page: u32)
     requires there { IsSome (frames_of pool.old unit page) }
     ensures cleared { FrameChanges IsClearedFrame (frames_of pool.old) (frames_of pool.new) unit
         page }
-    ensures pins { KeepsPins pool.old pool.new }
-    ensures uses { used_of pool.new ≡ used_of pool.old }
-    ensures order { pool.new.order ≡ pool.old.order }
+    ensures pool { KeepsPool pool.old pool.new }
 {
     pool.facts();
     match pool.find(unit, page) {

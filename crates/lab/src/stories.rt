@@ -2,6 +2,7 @@
 use crate::sectors::kind_of;
 use crate::words::{join, text_of};
 use anyhow::Result;
+use byteorder::{BigEndian, ByteOrder};
 use chip_trait::Event;
 use sector_format::Head;
 use std::alloc::Global;
@@ -87,11 +88,12 @@ pub fn erases(alloc: Global, events: &[Event]) -> Result<String> {
 /// How often the sector of a header says that its place was erased: in the last four bytes of a data
 /// header's payload, and in those behind the number of units in another's.
 fn count_in(bytes: &[u8; 512]) -> u32 {
-    if bytes[4] == Head::DATA_HEADER {
-        u32::from_be_bytes([bytes[52], bytes[53], bytes[54], bytes[55]])
+    let at = if bytes[4] == Head::DATA_HEADER {
+        52
     } else {
-        u32::from_be_bytes([bytes[36], bytes[37], bytes[38], bytes[39]])
-    }
+        36
+    };
+    BigEndian::read_u32(&bytes[at..at + 4])
 }
 
 /// The headers that were programmed, in order: their places, and how often these say that they were

@@ -149,15 +149,15 @@ module _ (page next : Slots) (numbers : List (Option ℕ)) (values : Slots) (slo
   ]
 
   -- the page has room for it
-  pub room_to_settle : IsPage VERSION page → size_of_values (value_in next) ≤ PAGE_LEN
-  room_to_settle known =
+  pub room_to_apply : IsPage VERSION page → size_of_values (value_in next) ≤ PAGE_LEN
+  room_to_apply known =
       let room = frame.room known in
       let less = room_in_fill (λ k. mark_of (before k)) (value_in next) (value_in page)
       (λ k few. grown k) in
       omega (arith, room, less)
 
-  pub settled_frame : IsPage VERSION page → IsFrame next numbers values
-  settled_frame known = record {
+  pub applied_frame : IsPage VERSION page → IsFrame next numbers values
+  applied_frame known = record {
     own = frame.own;
     room = λ unused.
         let room = frame.room known in

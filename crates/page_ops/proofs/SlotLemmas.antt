@@ -207,7 +207,7 @@ pub record AreDropped (tid i : ℕ) (old new : FrameView) : Type 0 where
   pub ahead : (slot : ℕ) → i ≤ slot → pending_in new slot ≡ pending_in old slot
 
 -- slots below i have the changes of the number as values, and the others are as they were
-pub record AreSettled (tid i : ℕ) (old new : FrameView) : Type 0 where
+pub record AreApplied (tid i : ℕ) (old new : FrameView) : Type 0 where
   pub values : (slot : ℕ) → slot < i
       → values_in new slot ≡ seen_by tid (values_in old slot) (pending_in old slot)
   pub pending : (slot : ℕ) → slot < i
@@ -216,13 +216,13 @@ pub record AreSettled (tid i : ℕ) (old new : FrameView) : Type 0 where
   pub pending_ahead : (slot : ℕ) → i ≤ slot → pending_in new slot ≡ pending_in old slot
 
 -- one slot more
-pub settled_more : (tid i : ℕ) (old now next : FrameView) → AreSettled tid i old now
+pub applied_more : (tid i : ℕ) (old now next : FrameView) → AreApplied tid i old now
     → values_in next i ≡ seen_by tid (values_in now i) (pending_in now i)
     → pending_in next i ≡ without_pending tid (pending_in now i)
     → ((k : ℕ) → k ≢ i → values_in next k ≡ values_in now k)
     → ((k : ℕ) → k ≢ i → pending_in next k ≡ pending_in now k)
-    → AreSettled tid (i + 1) old next
-settled_more tid i old now next so value here other_values others = record {
+    → AreApplied tid (i + 1) old next
+applied_more tid i old now next so value here other_values others = record {
   values = λ slot low. elim (cases_eq slot i) [
     | inl same ↦ ap (values_in next) same ∙ value
         ∙ ap (λ v. seen_by tid v (pending_in now i)) (so.values_ahead i (omega arith))

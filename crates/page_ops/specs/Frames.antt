@@ -66,7 +66,7 @@ abbrev pub with_page : FrameView → Slots → FrameView
 with_page f page = record f { page = page }
 
 -- the pending changes of this number became values, and all else is as it was
-pub record IsSettled (tid : ℕ) (old new : FrameView) : Type 0 where
+pub record AppliesTid (tid : ℕ) (old new : FrameView) : Type 0 where
   pub values : (slot : ℕ) → slot < SLOTS
       → values_in new slot ≡ seen_by tid (values_in old slot) (pending_in old slot)
   pub pending : (slot : ℕ) → slot < SLOTS

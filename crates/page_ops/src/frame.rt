@@ -8,7 +8,7 @@ ghost use Rattle.ipl_base.specs.Sizes.{size_of_values};
 ghost use Rattle.ipl_format.specs.Page.{IsPage, value_in};
 ghost use Rattle.log_records.specs.View.{change_of};
 ghost use Rattle.page_ops.specs.Pending.{fill_by, seen_by, without_pending, with_pending};
-ghost use Rattle.page_ops.specs.Frames.{empty_frame, frame_fill, values_in, pending_in, HasNonePending, IsSettled, IsDropped};
+ghost use Rattle.page_ops.specs.Frames.{empty_frame, frame_fill, values_in, pending_in, HasNonePending, AppliesTid, IsDropped};
 ghost use Rattle.page_ops.specs.Lending.{LendsPage};
 
 use crate::applying::change_slot;
@@ -126,11 +126,11 @@ impl Frame {
     }
 
     /// Makes all pending changes of this number values of the page, as a commit does.
-    pub fn settle_tid(&mut self, tid: u64)
-        ensures { IsSettled tid self.old self.new }
+    pub fn apply_tid(&mut self, tid: u64)
+        ensures { AppliesTid tid self.old self.new }
     {
         for slot in 0..SLOTS {
-            self.settle_at(slot, tid);
+            self.apply_at(slot, tid);
         }
     }
 }
@@ -151,7 +151,7 @@ impl Frame {
     }
 
     /// Makes the pending change of a slot its value, where it is of this number.
-    fn settle_at(&mut self, slot: u32, tid: u64)
+    fn apply_at(&mut self, slot: u32, tid: u64)
         requires { slot < 64 }
         ensures value { values_in self.new slot
             ≡ seen_by tid (values_in self.old slot) (pending_in self.old slot) }

@@ -56,11 +56,11 @@ closes run sound s slot slots most is sets = record {
       (closed state run tracks sound s slot most sets);
 }
 
-pub settles : (run new : KeptRun) (s : ℕ) (records : List ℕ)
+pub applies : (run new : KeptRun) (s : ℕ) (records : List ℕ)
     → Sets (written_of run.slots s) (slice_index run.last) run.records records
     → Follows (record run { records = records }) (λ state. after_abort state s) new
     → Follows run (λ state. after_commit state s) new
-settles run new s records sets closes = record {
+applies run new s records sets closes = record {
   units = closes.units;
   tracks = λ state tracks.
       closes.tracks (record state { map = with_writes (writes_of state s) state.map })
@@ -74,10 +74,10 @@ one_more : (state : State) (ss : List ℕ) (s : ℕ)
 one_more state [] s = refl
 one_more state (u ∷ ss) s = one_more (after_commit state u) ss s
 
-pub settles_more : (run now next : KeptRun) (ss : List ℕ) (i s : ℕ) → i < length ss → s ≡ get_or ss i 0
+pub applies_more : (run now next : KeptRun) (ss : List ℕ) (i s : ℕ) → i < length ss → s ≡ get_or ss i 0
     → Follows run (λ state. after_batch state (take i ss)) now → Follows now (λ state. after_commit state s) next
     → Follows run (λ state. after_batch state (take (i + 1) ss)) next
-settles_more run now next ss i s within is first later = record {
+applies_more run now next ss i s within is first later = record {
   units = later.units ∙ first.units;
   tracks = λ state tracks.
       subst (λ (st : State). Tracks st next)
@@ -86,9 +86,9 @@ settles_more run now next ss i s within is first later = record {
       (later.tracks (after_batch state (take i ss)) (first.tracks state tracks));
 }
 
-pub settles_all : (run new : KeptRun) (ss : List ℕ) (i : ℕ) → length ss ≤ i
+pub applies_all : (run new : KeptRun) (ss : List ℕ) (i : ℕ) → length ss ≤ i
     → Follows run (λ state. after_batch state (take i ss)) new → Follows run (λ state. after_batch state ss) new
-settles_all run new ss i past follows =
+applies_all run new ss i past follows =
     subst (λ (all : List ℕ). Follows run (λ state. after_batch state all) new) (take_all i ss past) follows
 
 -- ---- of all

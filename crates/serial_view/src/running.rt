@@ -187,7 +187,7 @@ impl Running {
     }
 
     /// Closes a session, if it is open, and its writes become records.
-    fn settle(&mut self, s: u32)
+    fn apply(&mut self, s: u32)
         requires { s < SESSIONS }
         ensures { Follows (run_of self.old) (λ state. after_commit state s) (run_of self.new) }
     {
@@ -196,13 +196,13 @@ impl Running {
     }
 
     /// Closes these sessions, and their writes become records, one session after the other.
-    fn settle_all(&mut self, sessions: &[u32])
+    fn apply_all(&mut self, sessions: &[u32])
         requires { (s : ℕ) → Contains sessions.now s → s < SESSIONS }
         ensures { Follows (run_of self.old) (λ state. after_batch state sessions.now)
             (run_of self.new) }
     {
         for s in sessions {
-            self.settle(*s);
+            self.apply(*s);
         }
     }
 
@@ -222,7 +222,7 @@ impl Running {
         if s >= SESSIONS || !self.sessions.is_open(s) {
             return false;
         }
-        self.settle(s);
+        self.apply(s);
         true
     }
 
@@ -232,7 +232,7 @@ impl Running {
         if self.sessions.refuses_batch(sessions).is_some() {
             return false;
         }
-        self.settle_all(sessions);
+        self.apply_all(sessions);
         true
     }
 

@@ -18,4 +18,4 @@ pub mod CompleteLemmas
 pub mod FaultLemmas
 pub mod TidyLemmas
 pub mod WornLemmas
-pub mod SettlingLemmas
+pub mod SecuringLemmas

@@ -32,9 +32,9 @@ use Rattle.unit_io.specs.ReadsAt.{Anywhere}
 use Rattle.unit_io.proofs.ReadsAtLemmas.{at_rests}
 use Rattle.status_renewal.specs.Passes.{HasRenewed, TellsChart, KeepsInSteps, RenewCause}
 use Rattle.status_renewal.specs.Recovers.{HasOpened, FailsByCallAlone, IsOpeningFault, LooksAtFaults, TakesMarks, RestsTidily, RecoversInSteps, OpeningCause, tells_wear}
-use Rattle.status_renewal.specs.Settling.{knows_logs, WaitsWhere}
+use Rattle.status_renewal.specs.Securing.{knows_logs, WaitsWhere}
 use Rattle.status_renewal.proofs.PreserveLemmas.{agrees_of, reads_preserve}
-use Rattle.status_renewal.proofs.SettlingLemmas.{none_counted, wait_contents, wait_in_steps, wait_tidies}
+use Rattle.status_renewal.proofs.SecuringLemmas.{none_counted, wait_contents, wait_in_steps, wait_tidies}
 use Rattle.status_renewal.proofs.TidyLemmas.{nothing, takes_nothing, tidies_read_then, tidies_then}
 
 -- ---- the tables
@@ -283,10 +283,10 @@ module _ (marks : Bool) (places : ℕ) (t : Tables) (old mid settled : Told) (re
           }
 
   -- the barrier failed
-  pub settling_failed : (after : Tables) (fault : ChipFault)
+  pub securing_failed : (after : Tables) (fault : ChipFault)
       → WaitsWhere (knows_logs t.places) (Err fault) mid settled → IsStopped fault mid settled
       → RecoversInSteps marks places old (Err (Chip fault)) after settled
-  settling_failed after fault waits stopped m h steady rests = (
+  securing_failed after fault waits stopped m h steady rests = (
     t,
     takes,
     outcome_weaker (EachStands places m) (EachStands places m)

@@ -6,4 +6,4 @@ pub mod Renewals
 pub mod Recovers
 pub mod InPlace
 pub mod Leaving
-pub mod Settling
+pub mod Securing

@@ -39,7 +39,7 @@ use Rattle.unit_io.specs.Reads.{OfContents}
 use Rattle.unit_io.specs.Unread.{ReadsEachOnce}
 use Rattle.kept_numbers.specs.Keeps.{IsLoggedBelow}
 use Rattle.status_renewal.specs.Passes.{HasErased, TellsChart, ListsRetired}
-use Rattle.status_renewal.specs.Settling.{knows_logs, waits_for, NoneMarked}
+use Rattle.status_renewal.specs.Securing.{knows_logs, waits_for, NoneMarked}
 
 -- ---- what the chip holds
 

@@ -32,7 +32,7 @@ mod passing;
 mod place;
 mod recovering;
 mod renewing;
-mod settling;
+mod securing;
 
 pub use kept_numbers::{KeptNumbers, keeping_laws};
 pub use laws::{chaining_laws, ready_laws, renewal_laws};

@@ -4,7 +4,7 @@ ghost use Rattle.selective_merge.specs.Moving.{tables_of};
 ghost use Rattle.status_renewal.specs.Recovers.{LeavesOpened, OpeningFails, OpeningSpends, RecoversInSteps, RecoversTold};
 
 use crate::renewing::renew_with;
-use crate::settling::settle_marks;
+use crate::securing::secure_marks;
 use chip_trait::Chip;
 use ipl_base::ImageFault;
 use kept_numbers::KeptNumbers;
@@ -76,7 +76,7 @@ pub fn recover<C: Chip>(
         kept,
         marks,
     )?;
-    settle_marks(chip, &parts.directory)?;
+    secure_marks(chip, &parts.directory)?;
     renew_with(chip, parts, kept, found)?;
     // No mark stands in the new status place.
     parts.directory.end_marks();

@@ -16,9 +16,9 @@ use Rattle.store_laws.specs.Frames.{Frames, logs_of, IsCommittedFrame, EachFrame
 use Rattle.store_laws.proofs.PendingBatchLemmas.{AreLeft, left_then}
 use Rattle.store_laws.proofs.ElementLemmas.{all_listed, contains_cons, contains_here, contains_nil, contains_there}
 use Rattle.store_laws.proofs.TurnLemmas.{Waits, logs_stay, turn_waits}
-use Rattle.store_laws.specs.NamedFrames.{NamedFramesChange, SettleInTurn}
+use Rattle.store_laws.specs.NamedFrames.{NamedFramesChange, ApplyInTurn}
 use Rattle.store_laws.proofs.ChangeLemmas.{named_none, commits_joined}
-use Rattle.store_laws.proofs.NamedLemmas.{all_settled}
+use Rattle.store_laws.proofs.NamedLemmas.{all_applied}
 
 -- ---- the names that they wrote
 
@@ -87,19 +87,19 @@ no_numbers slots (s ∷ ss) none =
 -- ---- the frames
 
 -- where the frames of the names change that each session wrote, each frame changes as it should
-pub settled_in_turn : (places : ℕ) (c : Chart) (it : Layout) (frames later : Frames) (slots : SessionSlots)
+pub applied_in_turn : (places : ℕ) (c : Chart) (it : Layout) (frames later : Frames) (slots : SessionSlots)
     (numbers : SessionNumbers) (state : State) (ss : List ℕ) (committed : ℕ → Bool)
     → Waits places c it frames numbers state → Distinct ss → AreLeft slots numbers state ss
     → JoinInTurn numbers (logs_of frames) state ss it.committed committed
-    → SettleInTurn slots ss frames later → CommitInTurn numbers ss frames later
-settled_in_turn places c it frames later slots numbers state [] committed waits distinct left join
+    → ApplyInTurn slots ss frames later → CommitInTurn numbers ss frames later
+applied_in_turn places c it frames later slots numbers state [] committed waits distinct left join
     settles = settles
-settled_in_turn places c it frames later slots numbers state (s ∷ ss) committed waits distinct left
+applied_in_turn places c it frames later slots numbers state (s ∷ ss) committed waits distinct left
     join settles =
     let (tid, between, mine, out, joins, rest) = join in
     let (middle, first, others) = settles in
     let here = contains_here s ss in
-    let all = all_settled it.count c it waits.tables frames numbers state s tid
+    let all = all_applied it.count c it waits.tables frames numbers state s tid
     (written_of slots s) waits.pending waits.framed mine (λ n is. left.listed s n here is) middle
     (first tid (sym (left.number s here) ∙ mine)) in
     let logs = logs_stay tid frames middle all in (
@@ -107,7 +107,7 @@ settled_in_turn places c it frames later slots numbers state (s ∷ ss) committe
       λ k is.
           subst (λ (n : ℕ). EachFrameChanges (IsCommittedFrame n) frames middle)
           (same_Some tid k (sym mine ∙ is)) all,
-      settled_in_turn places c (with_committed it between) middle later slots
+      applied_in_turn places c (with_committed it between) middle later slots
           (with_number numbers s None) (after_commit state s) ss committed
           (turn_waits places c it frames middle numbers state s tid between waits mine out joins
           all) distinct.1 (left_then slots numbers state s ss distinct left)
@@ -116,14 +116,14 @@ settled_in_turn places c it frames later slots numbers state (s ∷ ss) committe
     )
 
 -- sessions that wrote nothing change none
-pub none_settled : (slots : SessionSlots) (ss : List ℕ) (frames : Frames)
-    → ((s : ℕ) → Contains ss s → written_of slots s ≡ []) → SettleInTurn slots ss frames frames
-none_settled slots [] frames none = refl
-none_settled slots (s ∷ ss) frames none = (
+pub none_applied : (slots : SessionSlots) (ss : List ℕ) (frames : Frames)
+    → ((s : ℕ) → Contains ss s → written_of slots s ≡ []) → ApplyInTurn slots ss frames frames
+none_applied slots [] frames none = refl
+none_applied slots (s ∷ ss) frames none = (
   frames,
   λ tid mine.
       subst (λ (names : List ℕ). NamedFramesChange (IsCommittedFrame tid) names frames frames)
       (sym (none s (contains_here s ss)))
       (named_none (IsCommittedFrame tid) (commits_joined tid) frames),
-  none_settled slots ss frames (λ t there. none t (contains_there s ss t there)),
+  none_applied slots ss frames (λ t there. none t (contains_there s ss t there)),
 )

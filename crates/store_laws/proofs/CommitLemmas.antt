@@ -36,12 +36,12 @@ use Rattle.store_laws.proofs.BatchFitLemmas.{batches_fit, sessions_join, fits_wa
 use Rattle.store_laws.proofs.FitLemmas.{wrote_listed, sessions_are_sound, resting_pages_say}
 use Rattle.store_laws.proofs.FollowLemmas.{changed_pages_suffice}
 use Rattle.store_laws.specs.Advances.{Memory, memory_of, MemoryFits, MemoryFitsStory, ShowsNext, FitsOn}
-use Rattle.store_laws.specs.NamedFrames.{SettleInTurn}
+use Rattle.store_laws.specs.NamedFrames.{ApplyInTurn}
 use Rattle.store_laws.specs.Numbers.{IsOut, added_to, others_of, AddsNumbers, AddsNumbersInSteps}
 use Rattle.store_laws.specs.Refusals.{AreOpenSessions}
 use Rattle.store_laws.specs.SessionLaws.{with_numbers_of}
 use Rattle.store_laws.specs.Laws.{NamesOutSuffice, NumbersLead, FailedNumbersLead}
-use Rattle.store_laws.proofs.BatchLemmas.{all_written, numbers_hold, settled_in_turn}
+use Rattle.store_laws.proofs.BatchLemmas.{all_written, numbers_hold, applied_in_turn}
 
 -- ---- all that a session wrote is on the chip
 
@@ -139,7 +139,7 @@ module _ (ss : List ℕ) (before : Memory) (opened : AreOpenSessions before.slot
     -- with the frames settled, and tables of the numbers, all fits
     pub batch_fits : (y : Chart) (later : Tables) (frames : Frames) (committed : ℕ → Bool)
         → NumbersJoin it.committed tids committed
-        → SettleInTurn before.slots ss before.frames frames
+        → ApplyInTurn before.slots ss before.frames frames
         → LocksHold (slots_after before.slots ss)
         → Mirrors places y (with_committed it committed) later
         → t.next ≤ later.next → NoneIsLost places later
@@ -150,7 +150,7 @@ module _ (ss : List ℕ) (before : Memory) (opened : AreOpenSessions before.slot
     batch_fits y later frames committed joins settles locked mirrors more none_lost keeps =
         batches_fit places c y it t later before.frames frames before.slots state ss committed fits
         (are_open before.slots state ss fits.sessions opened) written_out joins
-        (settled_in_turn places c it before.frames frames before.slots (number_of before.slots)
+        (applied_in_turn places c it before.frames frames before.slots (number_of before.slots)
         state ss committed (fits_wait places c it t before.frames before.slots state fits)
         (distinct ss opened.once) (all_left before.slots state ss fits.sessions)
         (join_so committed joins) settles) locked mirrors more none_lost keeps
@@ -185,7 +185,7 @@ module _ (ss : List ℕ) (before : Memory) (opened : AreOpenSessions before.slot
     }
 
     -- over what the chip holds
-    fits_added : (y : Chart) (later : Frames) → SettleInTurn before.slots ss before.frames later
+    fits_added : (y : Chart) (later : Frames) → ApplyInTurn before.slots ss before.frames later
         → LocksHold (slots_after before.slots ss) → AddsNumbers places t.status t.next tids c y
         → FitsOn places c it state.map y (ended later) (after_batch state ss)
     fits_added y later settles locked adds =

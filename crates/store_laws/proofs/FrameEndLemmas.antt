@@ -18,7 +18,7 @@ use Rattle.store_laws.proofs.LastLemmas.{counted, counts, is_one, counts_alike, 
 use Rattle.store_laws.proofs.OwnerLemmas.{IsIts, IsNotIts, whose}
 use Rattle.store_laws.proofs.PendingNumberLemmas.{still_open}
 use Rattle.store_laws.proofs.FollowLemmas.{of_one_at}
-use Rattle.store_laws.proofs.SayLemmas.{on_chip, settled_shows}
+use Rattle.store_laws.proofs.SayLemmas.{on_chip, applied_shows}
 use Rattle.store_laws.proofs.FrameLemmas.{seen_own, seen_else, drops_own, drops_else}
 use Rattle.store_laws.proofs.ActiveLemmas.{others_alike}
 
@@ -110,7 +110,7 @@ commits_keep_frames places c y it logs numbers state active rest after s tid u p
     later mine out joins keeps low few framed =
     record {
       shows = keeps u page (λ slot. seen_by tid (values slot) (pending slot)) low few
-          (settled_shows it.count c it logs numbers state s tid after has filled mine out joins u page low few
+          (applied_shows it.count c it logs numbers state s tid after has filled mine out joins u page low few
           values (λ slot. seen_by tid (values slot) (pending slot)) says framed.shows);
       changes = λ slot less.
           ap (without_pending tid) (framed.changes slot less)

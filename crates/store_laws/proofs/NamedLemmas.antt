@@ -139,9 +139,9 @@ module _ (units : ℕ) (c : Chart) (it : Layout) (t : Tables) (frames : Frames) 
           ∙ seen_else tid (a.values slot) (last_here slot) other)
 
   -- a commit
-  pub all_settled : (later : Frames) → NamedFramesChange (IsCommittedFrame tid) names frames later
+  pub all_applied : (later : Frames) → NamedFramesChange (IsCommittedFrame tid) names frames later
       → EachFrameChanges (IsCommittedFrame tid) frames later
-  all_settled later change = each_changes (IsCommittedFrame tid) names frames later change committed
+  all_applied later change = each_changes (IsCommittedFrame tid) names frames later change committed
     where
       committed : (u page : ℕ) (a b : PageFrame) → frames u page ≡ Some a → later u page ≡ Some b
           → b ≡ a → IsCommittedFrame tid a b

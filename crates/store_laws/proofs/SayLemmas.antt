@@ -59,9 +59,9 @@ module _ (units : ℕ) (c : Chart) (it : Layout) (logs : Logs) (numbers : Sessio
       ap change_in (on_chip it logs tid u page slot out) ∙ has.last s tid u page slot mine low few less
 
   -- with its changes a slot takes no more than it may come to take
-  pub settled_most : (slot : ℕ) (value : Option (List ℕ)) → slot < SLOTS
+  pub applied_most : (slot : ℕ) (value : Option (List ℕ)) → slot < SLOTS
       → size_in_page (applied (its_last slot) value) ≤ max (size_in_page value) (marks state (name_at u page slot) - 1)
-  settled_most slot value less = by_last (its_last slot) (is_last slot less)
+  applied_most slot value less = by_last (its_last slot) (is_last slot less)
     where
       one_fewer : {size own most : ℕ} → 1 + size ≤ own → own ≤ most → size ≤ most - 1
       one_fewer own most = omega (arith, own, most)
@@ -76,10 +76,10 @@ module _ (units : ℕ) (c : Chart) (it : Layout) (logs : Logs) (numbers : Sessio
           (le-max_right (size_in_page value) (marks state (name_at u page slot) - 1))
 
   -- the page shows its values with the session's changes, for which it has room
-  pub settled_shows : (values now : Values)
+  pub applied_shows : (values now : Values)
       → ((slot : ℕ) → slot < SLOTS → now slot ≡ applied (its_last slot) (values slot))
       → Shows c it.committed u (it.units u) page values → Shows c after u (it.units u) page now
-  settled_shows values now is shows = record {
+  applied_shows values now is shows = record {
     base = shows.base;
     reads = shows.reads;
     says = λ slot less.
@@ -88,7 +88,7 @@ module _ (units : ℕ) (c : Chart) (it : Layout) (logs : Logs) (numbers : Sessio
         ∙ sym (commits_apply_the_last it.committed after tid (records_of (it.units u).log) joins
         (has.none_behind s tid u mine low) page slot (value_in shows.base slot));
     room = le_trans (room_in_fill (λ slot. marks state (name_at u page slot)) now values (λ slot less.
-        same_size (is slot less) (settled_most slot (values slot) less)))
+        same_size (is slot less) (applied_most slot (values slot) less)))
         (shown_fill units c it state u page values filled low few shows);
   }
     where
@@ -96,27 +96,27 @@ module _ (units : ℕ) (c : Chart) (it : Layout) (logs : Logs) (numbers : Sessio
       same_size {m = m} same most = subst (λ (o : Option (List ℕ)). size_in_page o ≤ m) (sym same) most
 
   -- and they have room with all that is written then
-  settled_fill : (values : Values) → Shows c it.committed u (it.units u) page values
+  applied_fill : (values : Values) → Shows c it.committed u (it.units u) page values
       → fill_at (marks (after_commit state s)) u page (λ slot. applied (its_last slot) (values slot)) ≤ PAGE_LEN
-  settled_fill values shows =
+  applied_fill values shows =
       le_trans (fills_less _ _ (λ slot. applied (its_last slot) (values slot)) values (λ slot less.
-      max-le (settled_most slot (values slot) less)
+      max-le (applied_most slot (values slot) less)
       (le_trans (one_less (removed_most state.sessions s (name_at u page slot)))
       (le-max_right (size_in_page (values slot)) (marks state (name_at u page slot) - 1)))))
       (shown_fill units c it state u page values filled low few shows)
 
-  pub room_settled : PageHasRoom c it state u page
+  pub room_applied : PageHasRoom c it state u page
       → PageHasRoom c (with_committed it after) (after_commit state s) u page
-  room_settled is = record {
+  room_applied is = record {
     values = λ slot. applied (its_last slot) (is.values slot);
-    shows = settled_shows is.values (λ slot. applied (its_last slot) (is.values slot)) (λ slot less. refl) is.shows;
-    room = settled_fill is.values is.shows;
+    shows = applied_shows is.values (λ slot. applied (its_last slot) (is.values slot)) (λ slot less. refl) is.shows;
+    room = applied_fill is.values is.shows;
   }
 
   -- a page that shows the map shows with the number the map after the commit
   pub commit_shows : Shows c it.committed u (it.units u) page (page_in state.map u page)
       → Shows c after u (it.units u) page (page_in (after_commit state s).map u page)
-  commit_shows shows = settled_shows (page_in state.map u page) (page_in (after_commit state s).map u page) says shows
+  commit_shows shows = applied_shows (page_in state.map u page) (page_in (after_commit state s).map u page) says shows
     where
       says : (slot : ℕ) → slot < SLOTS
           → page_in (after_commit state s).map u page slot ≡ applied (its_last slot) (page_in state.map u page slot)
@@ -131,7 +131,7 @@ pub room_committed : (units : ℕ) (c : Chart) (it : Layout) (logs : Logs) (numb
     → IsWrittenOut logs tid → NumberJoins it.committed tid after
     → PagesHaveRoom units c (with_committed it after) (after_commit state s)
 room_committed units c it logs numbers state s tid after has filled mine out joins u page slot low few less marked =
-    room_settled units c it logs numbers state s tid after has filled mine out joins u page low few
+    room_applied units c it logs numbers state s tid after has filled mine out joins u page low few
     (filled u page slot low few less (le_trans marked (removed_most state.sessions s (name_at u page slot))))
 
 pub commits_say_writes : CommitsSayWrites

@@ -25,7 +25,7 @@ use Rattle.store_laws.proofs.TurnLemmas.{wrote_before}
 use Rattle.store_laws.specs.Advances.{memory_of}
 use Rattle.store_laws.specs.SessionLaws.{with_numbers_of, BeginsLead, SharesLead, WritesLead, AbortsLead, EmptyCommitsLead, OpenSessionsMayEnd}
 use Rattle.store_laws.specs.Numbers.{IsOut}
-use Rattle.store_laws.proofs.BatchLemmas.{none_written, no_numbers, none_settled}
+use Rattle.store_laws.proofs.BatchLemmas.{none_written, no_numbers, none_applied}
 use Rattle.store_laws.proofs.CommitLemmas.{batch_fits}
 use Rattle.store_laws.proofs.LeadLemmas.{memory_leads}
 use Rattle.store_laws.proofs.NamedLemmas.{named_aborts_suffice}
@@ -126,7 +126,7 @@ empty_commits_lead ss before old opened none locked =
     before.tables before.frames it.committed
     (λ n. ap (λ (tids : List ℕ). if list_any (λ tid. n == tid) tids then true else it.committed n)
     (sym (no_numbers before.slots ss each)))
-    (none_settled before.slots ss before.frames each) locked fits.mirrors (omega arith)
+    (none_applied before.slots ss before.frames each) locked fits.mirrors (omega arith)
     fits.none_lost (λ u page now low few shows. shows))
     (λ places c it state fits. empty_commits_keep state ss
     (λ s n there. wrote_none before.slots state s fits.sessions (each s there) n))

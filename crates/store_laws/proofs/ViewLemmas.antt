@@ -10,10 +10,10 @@ use Rattle.store_laws.proofs.FitLemmas.{sessions_are_sound}
 use Rattle.store_laws.proofs.FrameLemmas.{frames_tell}
 use Rattle.store_laws.proofs.FullLemmas.{marks_tell_full_pages}
 use Rattle.store_laws.specs.Laws.{FramesTellState, FramesTellFull}
-use Rattle.store_laws.specs.Views.{SettledFramesAreCommitted, DroppedFramesAreAborted, ChangedFramesAreWritten}
+use Rattle.store_laws.specs.Views.{AppliedFramesAreCommitted, DroppedFramesAreAborted, ChangedFramesAreWritten}
 
-pub settled_frames_are_committed : SettledFramesAreCommitted
-settled_frames_are_committed tid a b log is =
+pub applied_frames_are_committed : AppliedFramesAreCommitted
+applied_frames_are_committed tid a b log is =
     record { values = is.values; pending = is.pending; log = refl }
 
 -- a page that stays has the same values

@@ -32,7 +32,7 @@ use Rattle.store_laws.specs.Room.{overfills_at}
 use Rattle.store_laws.specs.Fits.{LocksHold, AreSessionsOf, is_active, Fits, FitsStory}
 use Rattle.store_trait.specs.declared.fault.Fault.{Fault}
 use Rattle.store_laws.specs.Advances.{FitsOn, TurnsTables, Memory, memory_of, MemoryFits, KeepsState, LeadsTo}
-use Rattle.store_laws.specs.NamedFrames.{SettleInTurn}
+use Rattle.store_laws.specs.NamedFrames.{ApplyInTurn}
 use Rattle.store_laws.specs.Numbers.{IsOut, added_to, AddsNumbers, AddsNumbersInSteps}
 use Rattle.store_laws.specs.Refusals.{AreOpenSessions}
 
@@ -234,7 +234,7 @@ NumbersLead = (ss : List ℕ) (before : Memory) (later : Frames) (old new : Told
     (writer_numbers before.slots ss)) old new
     → AddsNumbersInSteps old.places before.tables.status before.tables.next
     (writer_numbers before.slots ss) (Ok tt) old new
-    → SettleInTurn before.slots ss before.frames later
+    → ApplyInTurn before.slots ss before.frames later
     → LocksHold (slots_after before.slots ss)
     → LeadsTo {T = Unit {0}} {E = ChipFault} (λ state. after_batch state ss) before old (Ok tt)
     (memory_of (added_to before.tables (writer_numbers before.slots ss)

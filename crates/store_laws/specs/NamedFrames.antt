@@ -24,15 +24,15 @@ pub record NamedFramesChange (R : PageFrame → PageFrame → Type 0) (names : L
   pub named : (n : ℕ) → Contains names n → ChangesPageOf R old new n
 
 -- the frames of the names that an open session wrote change as at its commit
-abbrev pub SettlesSession : SessionSlots → ℕ → Frames → Frames → Type 0
-SettlesSession slots s old new = (tid : ℕ) → number_of slots s ≡ Some tid
+abbrev pub AppliesSession : SessionSlots → ℕ → Frames → Frames → Type 0
+AppliesSession slots s old new = (tid : ℕ) → number_of slots s ≡ Some tid
     → NamedFramesChange (IsCommittedFrame tid) (written_of slots s) old new
 
 -- so those of several sessions, one session after the other
-abbrev pub SettleInTurn : SessionSlots → List ℕ → Frames → Frames → Type 0
-SettleInTurn slots [] old new = new ≡ old
-SettleInTurn slots (s ∷ ss) old new = (between : Frames) × SettlesSession slots s old between
-    × SettleInTurn slots ss between new
+abbrev pub ApplyInTurn : SessionSlots → List ℕ → Frames → Frames → Type 0
+ApplyInTurn slots [] old new = new ≡ old
+ApplyInTurn slots (s ∷ ss) old new = (between : Frames) × AppliesSession slots s old between
+    × ApplyInTurn slots ss between new
 
 -- where the frames of the names change that a session wrote, as at its abort, each frame does
 abbrev pub NamedAbortsSuffice : Type 0

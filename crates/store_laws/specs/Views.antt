@@ -1,7 +1,7 @@
 -- Frames of memory as the frames of pending writes, and what the calls on them are there.
 use Rattle.std.specs.Prelude.{ℕ, ◌≡◌, ◌∷◌, ◌++◌, List, [], filter}
 use Rattle.ipl_format.specs.Record.{Record}
-use Rattle.page_ops.specs.Frames.{FrameView, values_in, pending_in, IsSettled, IsDropped}
+use Rattle.page_ops.specs.Frames.{FrameView, values_in, pending_in, AppliesTid, IsDropped}
 use Rattle.page_ops.specs.Pending.{with_pending}
 use Rattle.store_laws.specs.Pending.{is_other}
 use Rattle.store_laws.specs.Frames.{PageFrame, IsWrittenFrame, IsCommittedFrame, IsAbortedFrame}
@@ -11,8 +11,8 @@ abbrev pub frame_of : FrameView → List Record → PageFrame
 frame_of f log = record { values = values_in f; pending = pending_in f; log = log }
 
 -- a commit
-abbrev pub SettledFramesAreCommitted : Type 0
-SettledFramesAreCommitted = (tid : ℕ) (a b : FrameView) (log : List Record) → IsSettled tid a b
+abbrev pub AppliedFramesAreCommitted : Type 0
+AppliedFramesAreCommitted = (tid : ℕ) (a b : FrameView) (log : List Record) → AppliesTid tid a b
     → IsCommittedFrame tid (frame_of a log) (frame_of b log)
 
 -- an abort

@@ -33,7 +33,7 @@ ghost use Rattle.store_laws.specs.SessionLaws.{
 };
 ghost use Rattle.store_laws.specs.NamedFrames.{NamedAbortsSuffice};
 ghost use Rattle.store_laws.specs.Views.{
-  SettledFramesAreCommitted,
+  AppliedFramesAreCommitted,
   DroppedFramesAreAborted,
   ChangedFramesAreWritten,
 };
@@ -142,7 +142,7 @@ pub fn passing_laws()
 
 /// What calls on a frame make of it is what the condition of a store asks.
 pub fn frame_call_laws()
-    ensures commits { SettledFramesAreCommitted }
+    ensures commits { AppliedFramesAreCommitted }
     ensures aborts { DroppedFramesAreAborted }
     ensures writes { ChangedFramesAreWritten }
     ensures tells { FramesTellState }

@@ -30,7 +30,7 @@ use Rattle.buffer_pool.proofs.HoldingLemmas.{nothing_keeps}
 use Rattle.store_laws.specs.Frames.{EachFrameChanges}
 use Rattle.store_laws.specs.Fits.{LocksHold}
 use Rattle.store_laws.specs.Advances.{Memory, memory_of, LeadsTo}
-use Rattle.store_laws.specs.NamedFrames.{SettleInTurn}
+use Rattle.store_laws.specs.NamedFrames.{ApplyInTurn}
 use Rattle.store_laws.specs.Numbers.{IsOut, added_to, AddsNumbers, AddsNumbersInSteps}
 use Rattle.store_laws.specs.Refusals.{AreOpenSessions}
 use Rattle.store_laws.specs.SessionLaws.{with_numbers_of}
@@ -82,7 +82,7 @@ pub numbers_added : (ss tids : List ℕ) (old new : Transactions) (added : Pages
     → added.parts.overflow ≡ old.pages.parts.overflow
     → added.parts.status ≡ after_add old.pages.parts.status tids
     → added.parts.counter ≡ old.pages.parts.counter + 1
-    → SettleInTurn old.sessions ss (frames_in old.pages) (frames_of added.pool)
+    → ApplyInTurn old.sessions ss (frames_in old.pages) (frames_of added.pool)
     → KeepsPins old.pages.pool added.pool
     → IsSameButActive added new.pages
     → new.sessions ≡ slots_after old.sessions ss
@@ -93,7 +93,7 @@ pub numbers_added : (ss tids : List ℕ) (old new : Transactions) (added : Pages
     → Accounts IsStopped (Ok (tt {0})) before after
     → Turns (λ state. after_batch state ss) 1 old before (Ok (tt {0})) new after
 numbers_added ss tids old new added before after order are may writers adds steps directory overflow
-    status counter settled pins rest slots active locks programs costs header accounts =
+    status counter applied pins rest slots active locks programs costs header accounts =
     let ended = slots_after old.sessions ss in
     let stands = old.pages.parts.status in
     let next = old.pages.parts.counter in
@@ -116,7 +116,7 @@ numbers_added ss tids old new added before after order are may writers adds step
     → LeadsTo {T = Unit {0}} {E = ChipFault} (λ state. after_batch state ss) (memory_in old) before
     (Ok tt) (memory_of (added_to (tables_in old.pages) l ended) (frames_of added.pool) ended) after)
     (sym writers) (λ adding in_steps. numbers_lead ss (memory_in old) (frames_of added.pool) before
-    after are may.out adding in_steps settled locked) adds steps in record {
+    after are may.out adding in_steps applied locked) adds steps in record {
       leads = subst (λ (m : Memory). LeadsTo {T = Unit {0}} {E = ChipFault}
           (λ state. after_batch state ss) (memory_in old) before (Ok tt) m after) same leads_on;
       tidy = number_tidy before.places (tables_in old.pages) (tables_in new.pages) true (Ok tt) before
@@ -141,7 +141,7 @@ numbers_added ss tids old new added before after order are may writers adds step
             (subst (λ (p : PoolView). EachFrameChanges StaysFramed (frames_in old.pages)
             (frames_of p)) (sym rest.pool)
             (in_turn_stays old.sessions ss (frames_in old.pages) (frames_of added.pool) are.opens
-            settled))) order.ready;
+            applied))) order.ready;
         active = active;
       };
       units = ap (λ (it : Places). length it.current) (rest.directory ∙ directory);

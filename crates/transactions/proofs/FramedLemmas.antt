@@ -5,7 +5,7 @@ use Rattle.ipl_base.specs.declared.name.Name.{Name}
 use Rattle.ipl_rules.proofs.BatchLemmas.{first_in, later_in}
 use Rattle.record_locks.specs.Held.{SessionSlots, number_of, written_of}
 use Rattle.store_laws.specs.Frames.{PageFrame, Frames, ChangesSo, EachFrameChanges, IsCommittedFrame}
-use Rattle.store_laws.specs.NamedFrames.{IsSameOr, NamedFramesChange, SettleInTurn}
+use Rattle.store_laws.specs.NamedFrames.{IsSameOr, NamedFramesChange, ApplyInTurn}
 use Rattle.store_laws.specs.Refusals.{IsOpenSession}
 use Rattle.page_frames.specs.declared.pages.Pages.{Pages}
 use Rattle.page_frames.specs.Pages.{frames_in, KeepsFramed}
@@ -56,7 +56,7 @@ stays_twice (Some a) (Some b) (Some c) one two = tt
 
 -- the same pages are in frames
 pub in_turn_stays : (slots : SessionSlots) (ss : List ℕ) (old new : Frames)
-    → ((s : ℕ) → Contains ss s → IsOpenSession slots s) → SettleInTurn slots ss old new
+    → ((s : ℕ) → Contains ss s → IsOpenSession slots s) → ApplyInTurn slots ss old new
     → EachFrameChanges StaysFramed old new
 in_turn_stays slots [] old new opens same u page =
     subst (λ (frames : Frames). ChangesSo StaysFramed (old u page) (frames u page)) (sym same)
@@ -71,7 +71,7 @@ in_turn_stays slots (s ∷ ss) old new opens (between, first, rest) u page =
 -- and then none changes
 pub in_turn_framed : (slots : SessionSlots) (ss : List ℕ) (old mid new : Pages)
     → ((s : ℕ) → Contains ss s → IsOpenSession slots s)
-    → SettleInTurn slots ss (frames_in old) (frames_in mid) → new.pool ≡ mid.pool
+    → ApplyInTurn slots ss (frames_in old) (frames_in mid) → new.pool ≡ mid.pool
     → KeepsFramed old new
 in_turn_framed slots ss old mid new opens did same u page is =
     pool_framed mid new same u page
@@ -79,11 +79,11 @@ in_turn_framed slots ss old mid new opens did same u page is =
     (in_turn_stays slots ss (frames_in old) (frames_in mid) opens did u page) is)
 
 -- one session more, after the others
-settled_last : (slots : SessionSlots) (ss : List ℕ) (s tid : ℕ) (old mid new : Frames)
-    → number_of slots s ≡ Some tid → SettleInTurn slots ss old mid
+applied_last : (slots : SessionSlots) (ss : List ℕ) (s tid : ℕ) (old mid new : Frames)
+    → number_of slots s ≡ Some tid → ApplyInTurn slots ss old mid
     → NamedFramesChange (IsCommittedFrame tid) (written_of slots s) mid new
-    → SettleInTurn slots (ss ++ s ∷ []) old new
-settled_last slots [] s tid old mid new mine same change = (
+    → ApplyInTurn slots (ss ++ s ∷ []) old new
+applied_last slots [] s tid old mid new mine same change = (
   new,
   λ k is. let own : tid ≡ k = cc (mine, is) in
       subst (λ (n : ℕ). NamedFramesChange (IsCommittedFrame n) (written_of slots s) old new) own
@@ -91,28 +91,28 @@ settled_last slots [] s tid old mid new mine same change = (
       frames new) same change),
   refl,
 )
-settled_last slots (t ∷ ss) s tid old mid new mine (between, first, rest) change =
-    (between, first, settled_last slots ss s tid between mid new mine rest change)
+applied_last slots (t ∷ ss) s tid old mid new mine (between, first, rest) change =
+    (between, first, applied_last slots ss s tid between mid new mine rest change)
 
 -- the next one of a list
-settled_more : (slots : SessionSlots) (ss : List ℕ) (i tid : ℕ) (old mid new : Frames) → i < length ss
-    → number_of slots (get_or ss i 0) ≡ Some tid → SettleInTurn slots (take i ss) old mid
+applied_more : (slots : SessionSlots) (ss : List ℕ) (i tid : ℕ) (old mid new : Frames) → i < length ss
+    → number_of slots (get_or ss i 0) ≡ Some tid → ApplyInTurn slots (take i ss) old mid
     → NamedFramesChange (IsCommittedFrame tid) (written_of slots (get_or ss i 0)) mid new
-    → SettleInTurn slots (take (i + 1) ss) old new
-settled_more slots ss i tid old mid new within mine so_far change =
-    subst (λ (l : List ℕ). SettleInTurn slots l old new) (sym (take_more ss i 0 within))
-    (settled_last slots (take i ss) (get_or ss i 0) tid old mid new mine so_far change)
+    → ApplyInTurn slots (take (i + 1) ss) old new
+applied_more slots ss i tid old mid new within mine so_far change =
+    subst (λ (l : List ℕ). ApplyInTurn slots l old new) (sym (take_more ss i 0 within))
+    (applied_last slots (take i ss) (get_or ss i 0) tid old mid new mine so_far change)
 
 -- so it is in a loop, where the sessions are what they were first
-pub settled_next : (first now : SessionSlots) (ss : List ℕ) (i tid : ℕ) (names : List Name)
+pub applied_next : (first now : SessionSlots) (ss : List ℕ) (i tid : ℕ) (names : List Name)
     (old mid new : Frames) → now ≡ first → i < length ss
     → number_of now (get_or ss i 0) ≡ Some tid
     → map (λ (n : Name). n.0) names ≡ written_of now (get_or ss i 0)
-    → SettleInTurn first (take i ss) old mid
+    → ApplyInTurn first (take i ss) old mid
     → NamedFramesChange (IsCommittedFrame tid) (map (λ (n : Name). n.0) names) mid new
-    → SettleInTurn first (take (i + 1) ss) old new
-settled_next first now ss i tid names old mid new same within mine written so_far change =
-    settled_more first ss i tid old mid new within
+    → ApplyInTurn first (take (i + 1) ss) old new
+applied_next first now ss i tid names old mid new same within mine written so_far change =
+    applied_more first ss i tid old mid new within
     (ap (λ (slots : SessionSlots). number_of slots (get_or ss i 0)) (sym same) ∙ mine) so_far
     (subst (λ (l : List ℕ). NamedFramesChange (IsCommittedFrame tid) l mid new)
     (written ∙ ap (λ (slots : SessionSlots). written_of slots (get_or ss i 0)) same) change)

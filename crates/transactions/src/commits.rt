@@ -8,7 +8,7 @@ ghost use Rattle.ipl_rules.specs.Operations.{after_batch};
 ghost use Rattle.record_locks.specs.Held.{written_by, writer_numbers};
 ghost use Rattle.merge_laws.specs.Faults.{FailsByChipAlone};
 ghost use Rattle.buffer_pool.specs.Holding.{KeepsPins};
-ghost use Rattle.store_laws.specs.NamedFrames.{SettleInTurn};
+ghost use Rattle.store_laws.specs.NamedFrames.{ApplyInTurn};
 ghost use Rattle.store_laws.specs.Refusals.{AreOpenSessions};
 ghost use Rattle.page_frames.specs.Asks.{AsksToWriteNamesOut};
 ghost use Rattle.page_frames.specs.Complete.{FailsByChip};
@@ -21,7 +21,7 @@ use crate::Transactions;
 use crate::adding::add_numbers;
 use crate::numbers::writer_numbers;
 use chip_trait::Chip;
-use frame_changes::settle_names;
+use frame_changes::apply_names;
 use ipl_base::ChipFault;
 use selective_merge::Active;
 use status_renewal::KeptNumbers;
@@ -54,9 +54,9 @@ impl Transactions {
     }
 
     /// What these sessions changed becomes values of their frames, one session after the other.
-    fn settle_all(&mut self, numbers: &[u32])
+    fn apply_all(&mut self, numbers: &[u32])
         requires { AreOpenSessions self.old.sessions numbers.now }
-        ensures settled { SettleInTurn self.old.sessions numbers.now
+        ensures applied { ApplyInTurn self.old.sessions numbers.now
             (frames_in self.old.pages) (frames_in self.new.pages) }
         ensures pins { KeepsPins self.old.pages.pool self.new.pages.pool }
         ensures parts { self.new.pages.parts ≡ self.old.pages.parts }
@@ -64,7 +64,7 @@ impl Transactions {
     {
         for s in numbers {
             if let Some(tid) = self.sessions.number(*s) {
-                settle_names(&mut self.pages.pool, self.sessions.written(*s), tid);
+                apply_names(&mut self.pages.pool, self.sessions.written(*s), tid);
             }
         }
     }
@@ -94,7 +94,7 @@ impl Transactions {
     {
         let parts = &mut self.pages.parts;
         add_numbers(chip, &mut parts.status, &mut parts.counter, tids.as_slice())?;
-        self.settle_all(numbers);
+        self.apply_all(numbers);
         self.end_all(numbers);
         Ok(())
     }

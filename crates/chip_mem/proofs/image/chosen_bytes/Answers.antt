@@ -11,15 +11,15 @@ returns-in-Old-clause-value c =
     let start = contents_of c.args.start.now in
     let pick = c.args.pick.now in
     ap (λ (b : List ℕ). Some b) c.held_at.ensures
-    ∙ chosen_old start c.args.events.now pick.place pick.sector c.settled_count-settled.result c.settled_count-settled.ensures.value
+    ∙ chosen_old start c.args.events.now pick.place pick.sector c.closed_count-closed.result c.closed_count-closed.ensures.value
     ∙ ap (λ (choice : Choice). chosen start (reverse c.args.events.now) pick.place pick.sector choice) (sym c.in-Old.is)
 
 pub returns-else-events-number-clause-value : goal.returns-else-events-number-clause-value
 returns-else-events-number-clause-value c =
     let start = contents_of c.args.start.now in
     let pick = c.args.pick.now in
-    let since : c.settled_count-settled.result ≤ c.in-After.number = omega arith in
+    let since : c.closed_count-closed.result ≤ c.in-After.number = omega arith in
     let among : c.in-After.number < length c.args.events.now = omega arith in
     ap (λ (b : List ℕ). Some b) c.held_at-in-After.ensures
-    ∙ chosen_after start c.args.events.now pick.place pick.sector c.settled_count-settled.result c.in-After.number c.settled_count-settled.ensures.value since among
+    ∙ chosen_after start c.args.events.now pick.place pick.sector c.closed_count-closed.result c.in-After.number c.closed_count-closed.ensures.value since among
     ∙ ap (λ (choice : Choice). chosen start (reverse c.args.events.now) pick.place pick.sector choice) (sym c.in-After.is)

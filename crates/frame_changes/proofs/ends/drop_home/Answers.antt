@@ -1,7 +1,7 @@
 use Rattle.buffer_pool.specs.Lending.{with_frame}
 use Rattle.store_laws.specs.Frames.{IsAbortedFrame}
 use Rattle.frame_changes.specs.Views.{frames_of}
-use Rattle.frame_changes.proofs.PutLemmas.{no_frame, both_change, both_pins, both_uses, stored_then, dropped, with_frame_under, with_log_under}
+use Rattle.frame_changes.proofs.PutLemmas.{no_frame, both_change, both_stay, stored_then, dropped, with_frame_under, with_log_under}
 use Rattle.frame_changes.proofs.NameLemmas.{only_this, none_changes}
 use Rattle.frame_changes.proofs.ends.drop_home.Goals as goal
 
@@ -23,10 +23,10 @@ returns-in-Some-clause-changes c =
     c.log_under.result.now new (c.frame_under.ensures.value has.buffer has.stored)
     c.drop_tid.ensures log c.drop_tid-in-Some.ensures))
 
-pub returns-in-Some-clause-pins : goal.returns-in-Some-clause-pins
-returns-in-Some-clause-pins c =
+pub returns-in-Some-clause-pool : goal.returns-in-Some-clause-pool
+returns-in-Some-clause-pool c =
     let at = c.home-at.result in
-    both_pins c.args.pool.now at.unit at.page c.in-Some.key c.facts.ensures.once c.in-Some.ensures.found
+    both_stay c.args.pool.now at.unit at.page c.in-Some.key c.facts.ensures.once c.in-Some.ensures.found
     c.drop_tid.new.self c.drop_tid-in-Some.new.self
 
 pub returns-in_default-clause-changes : goal.returns-in_default-clause-changes
@@ -35,9 +35,3 @@ returns-in_default-clause-changes c =
     let at = c.home-at.result in
     none_changes (IsAbortedFrame c.args.tid) (frames_of p) c.args.name.0 at c.home-at.ensures.home
     (no_frame p at.unit at.page c.facts.ensures.once c.in_default.ensures.none)
-
-pub returns-in-Some-clause-uses : goal.returns-in-Some-clause-uses
-returns-in-Some-clause-uses c =
-    let at = c.home-at.result in
-    both_uses c.args.pool.now at.unit at.page c.in-Some.key c.facts.ensures.once c.in-Some.ensures.found
-    c.drop_tid.new.self c.drop_tid-in-Some.new.self

@@ -1,15 +1,13 @@
-use Rattle.std.proofs.Common.{refl, ◌∙◌}
 use Rattle.store_laws.specs.Frames.{IsAbortedFrame}
-use Rattle.buffer_pool.proofs.HoldingLemmas.{nothing_keeps, both_keep}
 use Rattle.frame_changes.specs.Views.{frames_of}
 use Rattle.store_laws.proofs.ChangeLemmas.{named_none, aborts_joined}
-use Rattle.frame_changes.proofs.NameLemmas.{names_turn, names_all}
+use Rattle.frame_changes.proofs.NameLemmas.{names_turn, names_all, stays_none, stays_both}
 use Rattle.frame_changes.proofs.ends.drop_names.Goals as goal
 
 pub loop-name-init : goal.loop-name-init
 loop-name-init c =
     let p = c.args.pool.now in
-    (named_none (IsAbortedFrame c.args.tid) (aborts_joined c.args.tid) (frames_of p), nothing_keeps p, refl, refl)
+    (named_none (IsAbortedFrame c.args.tid) (aborts_joined c.args.tid) (frames_of p), stays_none p)
 
 pub loop-name-preserved : goal.loop-name-preserved
 loop-name-preserved c =
@@ -20,9 +18,7 @@ loop-name-preserved c =
       names_turn (IsAbortedFrame c.args.tid) c.args.names.now l.name-index (frames_of c.args.pool.now)
           (frames_of l.pool) so.0 (aborts_joined c.args.tid) (frames_of new) (record { 0 = 0 })
           c.loop-name-test.true did.changes,
-      both_keep c.args.pool.now l.pool new so.1 did.pins,
-      did.uses ∙ so.2,
-      did.order ∙ so.3,
+      stays_both c.args.pool.now l.pool new so.1 did.pool,
     )
 
 pub returns-clause-dropped : goal.returns-clause-dropped

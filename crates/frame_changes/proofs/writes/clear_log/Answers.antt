@@ -1,5 +1,5 @@
 use Rattle.frame_changes.specs.Changes.{IsClearedFrame}
-use Rattle.frame_changes.proofs.PutLemmas.{none_there, log_changes, log_pins, log_uses, cleared}
+use Rattle.frame_changes.proofs.PutLemmas.{none_there, log_changes, log_keeps, cleared}
 use Rattle.frame_changes.proofs.writes.clear_log.Goals as goal
 
 pub unreachable-requires : goal.unreachable-requires
@@ -15,12 +15,7 @@ returns-clause-cleared c =
     log_changes p c.args.unit c.args.page c.in-Some.key once has IsClearedFrame c.clear.new.self
     (cleared p c.args.unit c.args.page c.in-Some.key once has c.clear.new.self c.clear.ensures)
 
-pub returns-clause-pins : goal.returns-clause-pins
-returns-clause-pins c =
-    log_pins c.args.pool.now c.args.unit c.args.page c.in-Some.key c.facts.ensures.once
-    c.in-Some.ensures.found c.clear.new.self
-
-pub returns-clause-uses : goal.returns-clause-uses
-returns-clause-uses c =
-    log_uses c.args.pool.now c.args.unit c.args.page c.in-Some.key c.facts.ensures.once
+pub returns-clause-pool : goal.returns-clause-pool
+returns-clause-pool c =
+    log_keeps c.args.pool.now c.args.unit c.args.page c.in-Some.key c.facts.ensures.once
     c.in-Some.ensures.found c.clear.new.self

@@ -2,7 +2,7 @@ use Rattle.std.proofs.Common.{true, false}
 use Rattle.log_records.specs.View.{record_of}
 use Rattle.buffer_pool.specs.Lending.{with_frame}
 use Rattle.store_laws.specs.Frames.{IsWrittenFrame}
-use Rattle.frame_changes.proofs.PutLemmas.{not_absent, room_told, both_change, both_pins, both_uses, stored_then, written}
+use Rattle.frame_changes.proofs.PutLemmas.{not_absent, room_told, both_change, both_stay, stored_then, written}
 use Rattle.frame_changes.proofs.writes.put_record.Goals as goal
 
 pub unreachable-requires : goal.unreachable-requires
@@ -48,12 +48,7 @@ returns-clause-put c =
     (c.frame_under.ensures.value has.buffer has.stored) set.page set.pending may.there may.fits log
     c.push.ensures.fits c.push.ensures.pushed)
 
-pub returns-clause-pins : goal.returns-clause-pins
-returns-clause-pins c =
-    both_pins c.args.pool.now c.args.unit c.args.rec.now.page c.in-Some.key c.facts.ensures.once
-    c.in-Some.ensures.found c.note_change.new.frame c.push.new.self
-
-pub returns-clause-uses : goal.returns-clause-uses
-returns-clause-uses c =
-    both_uses c.args.pool.now c.args.unit c.args.rec.now.page c.in-Some.key c.facts.ensures.once
+pub returns-clause-pool : goal.returns-clause-pool
+returns-clause-pool c =
+    both_stay c.args.pool.now c.args.unit c.args.rec.now.page c.in-Some.key c.facts.ensures.once
     c.in-Some.ensures.found c.note_change.new.frame c.push.new.self

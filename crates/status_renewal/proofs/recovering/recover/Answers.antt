@@ -15,15 +15,15 @@ use Rattle.unit_io.proofs.CostLemmas.{spends_reads}
 use Rattle.unit_io.proofs.UnreadLemmas.{once_alone, once_then_unread}
 use Rattle.place_taking.proofs.HomeLemmas.{homes_same}
 use Rattle.place_taking.specs.Spending.{tells_worn}
-use Rattle.status_renewal.specs.Settling.{knows_logs, waits_for}
+use Rattle.status_renewal.specs.Securing.{knows_logs, waits_for}
 use Rattle.status_renewal.specs.Recovers.{HasOpened, ErasesOpening, ErasesWaiting, LeavesOpened, RecoversInSteps, tells_wear}
 use Rattle.status_renewal.specs.Passes.{TellsChart, KeepsAll, RenewCause, RenewsTold, KeepsInSteps, FailsAsRenewal, CompletesRenewal}
 use Rattle.status_renewal.proofs.CostLemmas.{erases_more, waiting_alone, waiting_then, waiting_ended, waiting_then_renewed, reads_then_wait}
-use Rattle.status_renewal.proofs.RecoverLemmas.{of_parts, opened_parts, reading_cause, reading_not_worn, renewing_cause, opens_told, opens_done, fault_looks, sound_looks, reads_recover, settling_failed, recovers_done, recovers_failed, tidies_settled, tidies_renewed, tidies_ended}
+use Rattle.status_renewal.proofs.RecoverLemmas.{of_parts, opened_parts, reading_cause, reading_not_worn, renewing_cause, opens_told, opens_done, fault_looks, sound_looks, reads_recover, securing_failed, recovers_done, recovers_failed, tidies_settled, tidies_renewed, tidies_ended}
 use Rattle.status_renewal.proofs.CompleteLemmas.{all_mergeable, call_failed, reading_failed, stopped_failed}
 use Rattle.status_renewal.proofs.FaultLemmas.{opening_fault}
 use Rattle.status_renewal.proofs.FoundLemmas.{all_kept, once_where_fit, unread_first}
-use Rattle.status_renewal.proofs.SettlingLemmas.{forgotten, homes_forgotten, no_waits, none_known, unknown_logs, wait_contents, wait_unread, wait_costs, known_ended, none_marked}
+use Rattle.status_renewal.proofs.SecuringLemmas.{forgotten, homes_forgotten, no_waits, none_known, unknown_logs, wait_contents, wait_unread, wait_costs, known_ended, none_marked}
 use Rattle.status_renewal.proofs.TidyLemmas.{tidies_nothing, tidies_opened}
 use Rattle.status_renewal.proofs.recovering.recover.Goals as goal
 
@@ -110,16 +110,16 @@ returns-in_err-found-clause-spends g c =
 
 -- ---- the barrier failed
 
-pub returns-in_err-settle_marks-clause-tells : goal.returns-in_err-settle_marks-clause-tells
-returns-in_err-settle_marks-clause-tells g c = λ x told.
-    let e = err_from_is_err_and c.from_residual-in_err-settle_marks.result
-    c.from_residual-in_err-settle_marks.ensures.1 in
+pub returns-in_err-secure_marks-clause-tells : goal.returns-in_err-secure_marks-clause-tells
+returns-in_err-secure_marks-clause-tells g c = λ x told.
+    let e = err_from_is_err_and c.from_residual-in_err-secure_marks.result
+    c.from_residual-in_err-secure_marks.ensures.1 in
     rw (e.1 ∙ ap Err e.2) (λ unfailed. absurd (unfailed (stopped_failed
-    c.in_err-settle_marks.field-0.0 (g.C.Chip.told c.read_tables.new.chip)
-    (g.C.Chip.told c.settle_marks.new.chip) c.in_err-settle_marks.ensures.accounts.cause)))
+    c.in_err-secure_marks.field-0.0 (g.C.Chip.told c.read_tables.new.chip)
+    (g.C.Chip.told c.secure_marks.new.chip) c.in_err-secure_marks.ensures.accounts.cause)))
 
-pub returns-in_err-settle_marks-clause-steps : goal.returns-in_err-settle_marks-clause-steps
-returns-in_err-settle_marks-clause-steps g c =
+pub returns-in_err-secure_marks-clause-steps : goal.returns-in_err-secure_marks-clause-steps
+returns-in_err-secure_marks-clause-steps g c =
     let old = g.C.Chip.told c.args.chip.now in
     let active = c.args.parts.now.active in
     let directory = c.read_tables.new.directory in
@@ -127,10 +127,10 @@ returns-in_err-settle_marks-clause-steps g c =
     let status = c.read_tables.new.status in
     let counter = c.read_tables.new.counter in
     let t = of_parts directory overflow status counter active in
-    let e = err_from_is_err_and c.from_residual-in_err-settle_marks.result
-    c.from_residual-in_err-settle_marks.ensures.1 in
-    rw (e.1 ∙ ap Err e.2) (settling_failed c.args.marks old.places t old
-    (g.C.Chip.told c.read_tables.new.chip) (g.C.Chip.told c.settle_marks.new.chip)
+    let e = err_from_is_err_and c.from_residual-in_err-secure_marks.result
+    c.from_residual-in_err-secure_marks.ensures.1 in
+    rw (e.1 ∙ ap Err e.2) (securing_failed c.args.marks old.places t old
+    (g.C.Chip.told c.read_tables.new.chip) (g.C.Chip.told c.secure_marks.new.chip)
     c.read_tables.ensures.looks.only.reads
     (record {
       none = λ off. (c.in_ok-found.ensures.found.unmarked off).none;
@@ -138,36 +138,36 @@ returns-in_err-settle_marks-clause-steps g c =
     })
     (λ x told. opened_parts old.places (chart_of x) directory overflow status counter active
     c.requires.active (c.in_ok-found.ensures.found.opened x told) (c.in_ok-found.ensures.found.mirrors x told))
-    t c.in_err-settle_marks.field-0.0 c.in_err-settle_marks.ensures.waits
-    c.in_err-settle_marks.ensures.accounts.cause)
+    t c.in_err-secure_marks.field-0.0 c.in_err-secure_marks.ensures.waits
+    c.in_err-secure_marks.ensures.accounts.cause)
 
-pub returns-in_err-settle_marks-clause-fails : goal.returns-in_err-settle_marks-clause-fails
-returns-in_err-settle_marks-clause-fails g c =
+pub returns-in_err-secure_marks-clause-fails : goal.returns-in_err-secure_marks-clause-fails
+returns-in_err-secure_marks-clause-fails g c =
     let old = g.C.Chip.told c.args.chip.now in
     let mid = g.C.Chip.told c.read_tables.new.chip in
-    let settled = g.C.Chip.told c.settle_marks.new.chip in
-    let fault = c.in_err-settle_marks.field-0.0 in
-    let e = err_from_is_err_and c.from_residual-in_err-settle_marks.result
-    c.from_residual-in_err-settle_marks.ensures.1 in
+    let settled = g.C.Chip.told c.secure_marks.new.chip in
+    let fault = c.in_err-secure_marks.field-0.0 in
+    let e = err_from_is_err_and c.from_residual-in_err-secure_marks.result
+    c.from_residual-in_err-secure_marks.ensures.1 in
     rw (e.1 ∙ ap Err e.2) (record {
       looks = sound_looks old.places old (Err (Chip fault)) settled c.in_ok-found.ensures.fault;
       complete = λ x told m none says. stopped_failed fault mid settled
-          c.in_err-settle_marks.ensures.accounts.cause;
+          c.in_err-secure_marks.ensures.accounts.cause;
       bytes = λ x told no_read no_stop why. c.in_ok-found.ensures.bytes x told;
     })
 
-pub returns-in_err-settle_marks-clause-leaves : goal.returns-in_err-settle_marks-clause-leaves
-returns-in_err-settle_marks-clause-leaves g c =
+pub returns-in_err-secure_marks-clause-leaves : goal.returns-in_err-secure_marks-clause-leaves
+returns-in_err-secure_marks-clause-leaves g c =
     let old = g.C.Chip.told c.args.chip.now in
     let mid = g.C.Chip.told c.read_tables.new.chip in
-    let settled = g.C.Chip.told c.settle_marks.new.chip in
+    let settled = g.C.Chip.told c.secure_marks.new.chip in
     let t = of_parts c.read_tables.new.directory c.read_tables.new.overflow c.read_tables.new.status
     c.read_tables.new.counter c.args.parts.now.active in
-    let fault = c.in_err-settle_marks.field-0.0 in
+    let fault = c.in_err-secure_marks.field-0.0 in
     let reads = c.read_tables.ensures.looks.only.reads in
-    let stopped = c.in_err-settle_marks.ensures.accounts in
-    let e = err_from_is_err_and c.from_residual-in_err-settle_marks.result
-    c.from_residual-in_err-settle_marks.ensures.1 in
+    let stopped = c.in_err-secure_marks.ensures.accounts in
+    let e = err_from_is_err_and c.from_residual-in_err-secure_marks.result
+    c.from_residual-in_err-secure_marks.ensures.1 in
     rw (e.1 ∙ ap Err e.2) (record {
       holds = tt;
       number = tt;
@@ -177,7 +177,7 @@ returns-in_err-settle_marks-clause-leaves g c =
             none = λ off. (c.in_ok-found.ensures.found.unmarked off).none;
             marked = c.in_ok-found.ensures.found.marked;
           }) refl
-          (tidies_settled t old mid settled reads (Err fault) c.in_err-settle_marks.ensures.waits);
+          (tidies_settled t old mid settled reads (Err fault) c.in_err-secure_marks.ensures.waits);
       accounts = record {
         counts = counts_then old mid settled reads.counts stopped.counts;
         cause = renewing_cause t.places fault old mid settled reads.counts
@@ -186,30 +186,30 @@ returns-in_err-settle_marks-clause-leaves g c =
       };
     })
 
-pub returns-in_err-settle_marks-clause-spends : goal.returns-in_err-settle_marks-clause-spends
-returns-in_err-settle_marks-clause-spends g c =
+pub returns-in_err-secure_marks-clause-spends : goal.returns-in_err-secure_marks-clause-spends
+returns-in_err-secure_marks-clause-spends g c =
     let old = g.C.Chip.told c.args.chip.now in
     let mid = g.C.Chip.told c.read_tables.new.chip in
-    let settled = g.C.Chip.told c.settle_marks.new.chip in
+    let settled = g.C.Chip.told c.secure_marks.new.chip in
     let found = c.read_tables.new.directory in
-    let fault = c.in_err-settle_marks.field-0.0 in
+    let fault = c.in_err-secure_marks.field-0.0 in
     let still : tells_worn fault ≡ false =
-    ap tells_worn c.in_err-settle_marks.ensures.accounts.cause.0 in
-    let e = err_from_is_err_and c.from_residual-in_err-settle_marks.result
-    c.from_residual-in_err-settle_marks.ensures.1 in
+    ap tells_worn c.in_err-secure_marks.ensures.accounts.cause.0 in
+    let e = err_from_is_err_and c.from_residual-in_err-secure_marks.result
+    c.from_residual-in_err-secure_marks.ensures.1 in
     rw (e.1 ∙ ap Err e.2) (record {
       costs = record {
         found = found;
         erases = waiting_alone found found (length found.current + 1) (waits_for found)
             (tells_worn fault) old settled refl still (homes_same found found refl refl)
             (reads_then_wait Anywhere (waits_for found) old mid settled c.read_tables.ensures.looks.only.reads
-            (wait_costs found (Err fault) mid settled c.in_err-settle_marks.ensures.waits));
+            (wait_costs found (Err fault) mid settled c.in_err-secure_marks.ensures.waits));
         unmarked = λ off. unknown_logs found (c.in_ok-found.ensures.found.unmarked off).unknown;
         finds = λ is. absurd (false≢true (sym still ∙ is));
         units = λ is. absurd (false≢true (sym still ∙ is));
       };
       once = λ x told fit. once_then_unread Anywhere old mid settled c.read_tables.ensures.looks.once
-          (wait_unread (knows_logs found) c.settle_marks.result mid settled c.settle_marks.ensures.waits);
+          (wait_unread (knows_logs found) c.secure_marks.result mid settled c.secure_marks.ensures.waits);
       renewed = tt;
     })
 
@@ -219,17 +219,17 @@ pub renew_with-requires-clause-exact : goal.renew_with-requires-clause-exact
 renew_with-requires-clause-exact g c =
     let old = g.C.Chip.told c.args.chip.now in
     let mid = g.C.Chip.told c.read_tables.new.chip in
-    let settled = g.C.Chip.told c.settle_marks.new.chip in
+    let settled = g.C.Chip.told c.secure_marks.new.chip in
     let reads = c.read_tables.ensures.looks.only.reads in
     let active = c.args.parts.now.active in
     let t = of_parts c.read_tables.new.directory c.read_tables.new.overflow c.read_tables.new.status
     c.read_tables.new.counter active in
     let kept = c.read_tables.new.numbers in
     subst (λ n. c.in_ok-found.found ≡ true → KeepsAll n t kept settled)
-    (sym (c.settle_marks.ensures.accounts.counts.places ∙ reads.counts.places))
+    (sym (c.secure_marks.ensures.accounts.counts.places ∙ reads.counts.places))
     (all_kept old.places t c.in_ok-found.found kept old settled
     (wait_contents (knows_logs c.read_tables.new.directory) mid settled
-    c.in_ok-settle_marks.ensures.waits ∙ reads.contents)
+    c.in_ok-secure_marks.ensures.waits ∙ reads.contents)
     c.in_ok-found.ensures.found.collected
     (λ x told. (opened_parts old.places (chart_of x) c.read_tables.new.directory c.read_tables.new.overflow
     c.read_tables.new.status c.read_tables.new.counter active c.requires.active
@@ -239,7 +239,7 @@ pub returns-in_err-renew_with-clause-steps : goal.returns-in_err-renew_with-clau
 returns-in_err-renew_with-clause-steps g c =
     let old = g.C.Chip.told c.args.chip.now in
     let mid = g.C.Chip.told c.read_tables.new.chip in
-    let settled = g.C.Chip.told c.settle_marks.new.chip in
+    let settled = g.C.Chip.told c.secure_marks.new.chip in
     let new = g.C.Chip.told c.renew_with.new.chip in
     let active = c.args.parts.now.active in
     let directory = c.read_tables.new.directory in
@@ -249,7 +249,7 @@ returns-in_err-renew_with-clause-steps g c =
     let t = of_parts directory overflow status counter active in
     let after = tables_of c.renew_with.new.parts in
     let fault = c.in_err-renew_with.field-0.0 in
-    let counts = c.settle_marks.ensures.accounts.counts in
+    let counts = c.secure_marks.ensures.accounts.counts in
     let e = err_from_is_err_and c.from_residual-in_err-renew_with.result
     c.from_residual-in_err-renew_with.ensures.1 in
     rw (e.1 ∙ ap Err e.2) (recovers_failed c.args.marks old.places t old mid settled
@@ -260,7 +260,7 @@ returns-in_err-renew_with-clause-steps g c =
     })
     (λ x told. opened_parts old.places (chart_of x) directory overflow status counter active
     c.requires.active (c.in_ok-found.ensures.found.opened x told) (c.in_ok-found.ensures.found.mirrors x told))
-    c.in_ok-settle_marks.ensures.waits after new fault counts
+    c.in_ok-secure_marks.ensures.waits after new fault counts
     (subst (λ n. KeepsInSteps n t after settled (Err fault) new)
     (counts.places ∙ c.read_tables.ensures.looks.only.reads.counts.places)
     c.in_err-renew_with.ensures.steps))
@@ -269,7 +269,7 @@ pub returns-in_err-renew_with-clause-tells : goal.returns-in_err-renew_with-clau
 returns-in_err-renew_with-clause-tells g c = λ x told.
     let old = g.C.Chip.told c.args.chip.now in
     let mid = g.C.Chip.told c.read_tables.new.chip in
-    let settled = g.C.Chip.told c.settle_marks.new.chip in
+    let settled = g.C.Chip.told c.secure_marks.new.chip in
     let active = c.args.parts.now.active in
     let t = of_parts c.read_tables.new.directory c.read_tables.new.overflow c.read_tables.new.status
     c.read_tables.new.counter active in
@@ -284,17 +284,17 @@ returns-in_err-renew_with-clause-tells g c = λ x told.
     rw (e.1 ∙ ap Err e.2) (λ unfailed. opening_fault old.places x t fault c.requires.active
     parts.1.status (c.in_ok-found.ensures.fault x told)
     (subst (λ n. FailsAsRenewal n t (Err fault) settled)
-    (c.settle_marks.ensures.accounts.counts.places ∙ reads.counts.places)
+    (c.secure_marks.ensures.accounts.counts.places ∙ reads.counts.places)
     c.in_err-renew_with.ensures.fails.fault x
     (wait_contents (knows_logs c.read_tables.new.directory) mid settled
-    c.in_ok-settle_marks.ensures.waits ∙ reads.contents ∙ told) it parts.1
+    c.in_ok-secure_marks.ensures.waits ∙ reads.contents ∙ told) it parts.1
     (λ failed. unfailed (call_failed fault failed))))
 
 pub returns-in_err-renew_with-clause-fails : goal.returns-in_err-renew_with-clause-fails
 returns-in_err-renew_with-clause-fails g c =
     let old = g.C.Chip.told c.args.chip.now in
     let mid = g.C.Chip.told c.read_tables.new.chip in
-    let settled = g.C.Chip.told c.settle_marks.new.chip in
+    let settled = g.C.Chip.told c.secure_marks.new.chip in
     let new = g.C.Chip.told c.renew_with.new.chip in
     let active = c.args.parts.now.active in
     let t = of_parts c.read_tables.new.directory c.read_tables.new.overflow c.read_tables.new.status
@@ -313,10 +313,10 @@ returns-in_err-renew_with-clause-fails g c =
           (found.opened x told) (found.mirrors x told) in
           call_failed fault
           (subst (λ n. CompletesRenewal n t (Err fault) settled)
-          (c.settle_marks.ensures.accounts.counts.places ∙ reads.counts.places)
+          (c.secure_marks.ensures.accounts.counts.places ∙ reads.counts.places)
           c.in_err-renew_with.ensures.fails.complete x
           (wait_contents (knows_logs c.read_tables.new.directory) mid settled
-          c.in_ok-settle_marks.ensures.waits ∙ reads.contents ∙ told) it parts.1
+          c.in_ok-secure_marks.ensures.waits ∙ reads.contents ∙ told) it parts.1
           (all_mergeable old.places (chart_of x) it m t says c.requires.active));
       bytes = λ x told no_read no_stop why. c.in_ok-found.ensures.bytes x told;
     })
@@ -325,14 +325,14 @@ pub returns-in_err-renew_with-clause-leaves : goal.returns-in_err-renew_with-cla
 returns-in_err-renew_with-clause-leaves g c =
     let old = g.C.Chip.told c.args.chip.now in
     let mid = g.C.Chip.told c.read_tables.new.chip in
-    let settled = g.C.Chip.told c.settle_marks.new.chip in
+    let settled = g.C.Chip.told c.secure_marks.new.chip in
     let new = g.C.Chip.told c.renew_with.new.chip in
     let t = of_parts c.read_tables.new.directory c.read_tables.new.overflow c.read_tables.new.status
     c.read_tables.new.counter c.args.parts.now.active in
     let after = tables_of c.renew_with.new.parts in
     let fault = c.in_err-renew_with.field-0.0 in
     let reads = c.read_tables.ensures.looks.only.reads in
-    let waited = c.settle_marks.ensures.accounts.counts in
+    let waited = c.secure_marks.ensures.accounts.counts in
     let leaves = c.in_err-renew_with.ensures.leaves in
     let counts = counts_then old mid settled reads.counts waited in
     let e = err_from_is_err_and c.from_residual-in_err-renew_with.result
@@ -346,7 +346,7 @@ returns-in_err-renew_with-clause-leaves g c =
             none = λ off. (c.in_ok-found.ensures.found.unmarked off).none;
             marked = c.in_ok-found.ensures.found.marked;
           }) refl
-          (tidies_renewed t old mid settled reads waited c.in_ok-settle_marks.ensures.waits after
+          (tidies_renewed t old mid settled reads waited c.in_ok-secure_marks.ensures.waits after
           (Err fault) new leaves.tidy);
       accounts = record {
         counts = counts_then old settled new counts leaves.accounts.counts;
@@ -358,7 +358,7 @@ pub returns-in_err-renew_with-clause-spends : goal.returns-in_err-renew_with-cla
 returns-in_err-renew_with-clause-spends g c =
     let old = g.C.Chip.told c.args.chip.now in
     let mid = g.C.Chip.told c.read_tables.new.chip in
-    let settled = g.C.Chip.told c.settle_marks.new.chip in
+    let settled = g.C.Chip.told c.secure_marks.new.chip in
     let new = g.C.Chip.told c.renew_with.new.chip in
     let found = c.read_tables.new.directory in
     let after = c.renew_with.new.parts.directory in
@@ -372,7 +372,7 @@ returns-in_err-renew_with-clause-spends g c =
         erases = waiting_then found after (length after.current + 1) (waits_for found)
             (tells_worn fault) old settled new
             (reads_then_wait Anywhere (waits_for found) old mid settled c.read_tables.ensures.looks.only.reads
-            (wait_costs found (Ok tt) mid settled c.in_ok-settle_marks.ensures.waits))
+            (wait_costs found (Ok tt) mid settled c.in_ok-secure_marks.ensures.waits))
             (erases_more found after (length found.current + 1) (length after.current + 1)
             (tells_worn fault) settled new (omega (arith, units))
             c.in_err-renew_with.ensures.spends.costs);
@@ -383,7 +383,7 @@ returns-in_err-renew_with-clause-spends g c =
       once = once_where_fit old.places c.in_ok-found.found c.read_tables.new.numbers old mid new
           c.read_tables.ensures.looks.once
           (unread_first c.in_ok-found.found mid settled new
-          (wait_unread (knows_logs found) (Ok tt) mid settled c.in_ok-settle_marks.ensures.waits)
+          (wait_unread (knows_logs found) (Ok tt) mid settled c.in_ok-secure_marks.ensures.waits)
           c.renew_with.ensures.unread) c.in_ok-found.ensures.found.collected;
       renewed = tt;
     })
@@ -392,7 +392,7 @@ pub returns-clause-tells : goal.returns-clause-tells
 returns-clause-tells g c = λ x told.
     let old = g.C.Chip.told c.args.chip.now in
     let mid = g.C.Chip.told c.read_tables.new.chip in
-    let settled = g.C.Chip.told c.settle_marks.new.chip in
+    let settled = g.C.Chip.told c.secure_marks.new.chip in
     let new = g.C.Chip.told c.renew_with.new.chip in
     let active = c.args.parts.now.active in
     let directory = c.read_tables.new.directory in
@@ -405,10 +405,10 @@ returns-clause-tells g c = λ x told.
     (c.in_ok-found.ensures.found.opened x told) (c.in_ok-found.ensures.found.mirrors x told) in
     let renews : RenewsTold old.places t after settled (Ok tt) new =
     subst (λ n. RenewsTold n t after settled (Ok tt) new)
-    (c.settle_marks.ensures.accounts.counts.places ∙ reads.counts.places)
+    (c.secure_marks.ensures.accounts.counts.places ∙ reads.counts.places)
     c.in_ok-renew_with.ensures.tells in
     let (y, there, any) = renews x
-    (wait_contents (knows_logs directory) mid settled c.in_ok-settle_marks.ensures.waits
+    (wait_contents (knows_logs directory) mid settled c.in_ok-secure_marks.ensures.waits
     ∙ reads.contents ∙ told) in
     subst (λ d. TellsChart (HasOpened old.places (chart_of x)
     (of_parts d after.overflow after.status after.next after.active)) new)
@@ -420,7 +420,7 @@ pub returns-clause-steps : goal.returns-clause-steps
 returns-clause-steps g c =
     let old = g.C.Chip.told c.args.chip.now in
     let mid = g.C.Chip.told c.read_tables.new.chip in
-    let settled = g.C.Chip.told c.settle_marks.new.chip in
+    let settled = g.C.Chip.told c.secure_marks.new.chip in
     let new = g.C.Chip.told c.renew_with.new.chip in
     let active = c.args.parts.now.active in
     let directory = c.read_tables.new.directory in
@@ -438,9 +438,9 @@ returns-clause-steps g c =
     })
     (λ x told. opened_parts old.places (chart_of x) directory overflow status counter active
     c.requires.active (c.in_ok-found.ensures.found.opened x told) (c.in_ok-found.ensures.found.mirrors x told))
-    c.in_ok-settle_marks.ensures.waits after new
+    c.in_ok-secure_marks.ensures.waits after new
     (subst (λ n. KeepsInSteps n t after settled (Ok tt) new)
-    (c.settle_marks.ensures.accounts.counts.places ∙ c.read_tables.ensures.looks.only.reads.counts.places)
+    (c.secure_marks.ensures.accounts.counts.places ∙ c.read_tables.ensures.looks.only.reads.counts.places)
     c.in_ok-renew_with.ensures.steps))
 
 pub returns-clause-fails : goal.returns-clause-fails
@@ -456,13 +456,13 @@ pub returns-clause-leaves : goal.returns-clause-leaves
 returns-clause-leaves g c =
     let old = g.C.Chip.told c.args.chip.now in
     let mid = g.C.Chip.told c.read_tables.new.chip in
-    let settled = g.C.Chip.told c.settle_marks.new.chip in
+    let settled = g.C.Chip.told c.secure_marks.new.chip in
     let new = g.C.Chip.told c.renew_with.new.chip in
     let t = of_parts c.read_tables.new.directory c.read_tables.new.overflow c.read_tables.new.status
     c.read_tables.new.counter c.args.parts.now.active in
     let after = tables_of c.renew_with.new.parts in
     let reads = c.read_tables.ensures.looks.only.reads in
-    let waited = c.settle_marks.ensures.accounts.counts in
+    let waited = c.secure_marks.ensures.accounts.counts in
     let found = c.in_ok-found.ensures in
     let leaves = c.in_ok-renew_with.ensures.leaves in
     subst (λ d. LeavesOpened c.args.marks
@@ -483,7 +483,7 @@ returns-clause-leaves g c =
       tidy = tidies_opened c.args.marks old.places t (without_marks after) (Ok tt) (Ok tt) old new
           (record { none = λ off. (found.found.unmarked off).none; marked = found.found.marked }) refl
           (tidies_ended t after old new
-          (tidies_renewed t old mid settled reads waited c.in_ok-settle_marks.ensures.waits after (Ok tt)
+          (tidies_renewed t old mid settled reads waited c.in_ok-secure_marks.ensures.waits after (Ok tt)
           new leaves.tidy));
       accounts = record {
         counts = counts_then old settled new (counts_then old mid settled reads.counts waited)
@@ -496,14 +496,14 @@ pub returns-clause-spends : goal.returns-clause-spends
 returns-clause-spends g c =
     let old = g.C.Chip.told c.args.chip.now in
     let mid = g.C.Chip.told c.read_tables.new.chip in
-    let settled = g.C.Chip.told c.settle_marks.new.chip in
+    let settled = g.C.Chip.told c.secure_marks.new.chip in
     let new = g.C.Chip.told c.renew_with.new.chip in
     let found = c.read_tables.new.directory in
     let after = c.renew_with.new.parts.directory in
     let units = c.in_ok-renew_with.ensures.leaves.holds.units in
     let waits = reads_then_wait Anywhere (waits_for found) old mid settled
     c.read_tables.ensures.looks.only.reads
-    (wait_costs found (Ok tt) mid settled c.in_ok-settle_marks.ensures.waits) in record {
+    (wait_costs found (Ok tt) mid settled c.in_ok-secure_marks.ensures.waits) in record {
       costs = subst (λ d. ErasesOpening c.args.marks old.places (Ok tt) d old new)
           (sym c.end_marks.ensures)
           (record {
@@ -520,7 +520,7 @@ returns-clause-spends g c =
       once = once_where_fit old.places c.in_ok-found.found c.read_tables.new.numbers old mid new
           c.read_tables.ensures.looks.once
           (unread_first c.in_ok-found.found mid settled new
-          (wait_unread (knows_logs found) (Ok tt) mid settled c.in_ok-settle_marks.ensures.waits)
+          (wait_unread (knows_logs found) (Ok tt) mid settled c.in_ok-secure_marks.ensures.waits)
           c.renew_with.ensures.unread) c.in_ok-found.ensures.found.collected;
       renewed = waiting_then_renewed (waits_for found) c.renew_with.new.parts.status.place old settled
           new waits c.in_ok-renew_with.ensures.spends.renewed;

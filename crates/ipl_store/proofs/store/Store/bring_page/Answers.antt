@@ -22,26 +22,17 @@ returns-clause-holds g c =
     kept_holds store c.end.new.self (record store.transactions { pages = c.bring-done.new.self })
     store.kept c.end.ensures.rest c.bring-done.ensures.works.upholds.pins
 
-pub returns-clause-framed : goal.returns-clause-framed
-returns-clause-framed g c =
+pub returns-clause-brings : goal.returns-clause-brings
+returns-clause-brings g c =
     let store = c.args.self.now in
-    ended_framed c.args.unit c.args.page store c.end.new.self
-    (record store.transactions { pages = c.bring-done.new.self }) store.kept c.bring-done.result
-    c.end.result c.end.ensures.rest c.end.ensures.ends c.bring-done.ensures.comes.there
-
-pub returns-clause-stays : goal.returns-clause-stays
-returns-clause-stays g c =
-    let store = c.args.self.now in
-    kept_for c.args.unit c.args.page store c.end.new.self
-    (record store.transactions { pages = c.bring-done.new.self }) store.kept c.end.ensures.rest
-    c.bring-done.ensures.framed
-
-pub returns-clause-used : goal.returns-clause-used
-returns-clause-used g c =
-    let store = c.args.self.now in
-    ended_used c.args.unit c.args.page store c.end.new.self
-    (record store.transactions { pages = c.bring-done.new.self }) store.kept c.bring-done.result
-    c.end.result c.end.ensures.rest c.end.ensures.ends c.bring-done.ensures.comes.used
+    let moved = record store.transactions { pages = c.bring-done.new.self } in record {
+      framed = ended_framed c.args.unit c.args.page store c.end.new.self moved store.kept c.bring-done.result
+          c.end.result c.end.ensures.rest c.end.ensures.ends c.bring-done.ensures.comes.there;
+      used = ended_used c.args.unit c.args.page store c.end.new.self moved store.kept c.bring-done.result
+          c.end.result c.end.ensures.rest c.end.ensures.ends c.bring-done.ensures.comes.used;
+      stays = kept_for c.args.unit c.args.page store c.end.new.self moved store.kept c.end.ensures.rest
+          c.bring-done.ensures.framed;
+    }
 
 pub returns-clause-asks : goal.returns-clause-asks
 returns-clause-asks g c = record {

@@ -46,12 +46,6 @@ returns-then-is_held-clause-holds g c =
     (holds_again new c.args.unit c.args.page (held_on store.transactions.pages.pool
     new.transactions.pages.pool keeps c.args.unit c.args.page (c.if-is_held.ensures.held.0 refl)))
 
-pub returns-then-is_held-clause-framed : goal.returns-then-is_held-clause-framed
-returns-then-is_held-clause-framed g c =
-    repooled_framed c.args.self.now c.use_held.new.self c.use_held.ensures.pool c.args.unit
-    c.args.page (held_framed c.args.self.now.transactions.pages.pool c.args.unit c.args.page
-    (sym c.if-is_held.ensures.test))
-
 pub returns-in_err-admit-clause-again : goal.returns-in_err-admit-clause-again
 returns-in_err-admit-clause-again g c = λ held.
     let e = err_from_is_err_and c.from_residual.result c.from_residual.ensures.1 in
@@ -100,10 +94,6 @@ pub returns-clause-holds : goal.returns-clause-holds
 returns-clause-holds g c = holds_then c.args.self.now c.bring_page.new.self c.keep.new.self
     c.args.unit c.args.page c.bring_page.ensures.holds c.keep.ensures.holds
 
-pub returns-clause-framed : goal.returns-clause-framed
-returns-clause-framed g c = subst (λ (f : Frames). IsSome (f c.args.unit c.args.page))
-    (sym c.keep.ensures.pool.frames) c.in_ok-bring_page.ensures.framed
-
 pub keep-requires-clause-free : goal.keep-requires-clause-free
 keep-requires-clause-free g c = λ held. absurd (false≢true (c.if-is_held.ensures.held.1
     (held_before c.args.self.now.transactions.pages.pool
@@ -128,27 +118,44 @@ keep-requires-clause-few g c =
       as_many pool c.bring_page.new.self.transactions.pages.pool c.bring_page.ensures.holds,
     )
 
-pub returns-in_err-admit-clause-stays : goal.returns-in_err-admit-clause-stays
-returns-in_err-admit-clause-stays g c =
-    none_leaves c.args.unit c.args.page c.args.self.now.transactions.pages
+pub returns-in_err-admit-clause-brings : goal.returns-in_err-admit-clause-brings
+returns-in_err-admit-clause-brings g c =
+    let e = err_from_is_err_and c.from_residual.result c.from_residual.ensures.1 in
+    rw (e.1 ∙ ap Err e.2) (record {
+      framed = tt;
+      used = tt;
+      stays = none_leaves c.args.unit c.args.page c.args.self.now.transactions.pages;
+    })
 
-pub returns-then-is_held-clause-stays : goal.returns-then-is_held-clause-stays
-returns-then-is_held-clause-stays g c =
-    stays_for c.args.unit c.args.page c.args.self.now.transactions.pages
-    c.use_held.new.self.transactions.pages
-    (repooled_framed c.args.self.now c.use_held.new.self c.use_held.ensures.pool)
-    c.use_held.ensures.others
+pub returns-then-is_held-clause-brings : goal.returns-then-is_held-clause-brings
+returns-then-is_held-clause-brings g c =
+    let store = c.args.self.now in
+    let is = c.use_held.ensures in
+    let framed = repooled_framed store c.use_held.new.self is.pool in record {
+      framed = framed c.args.unit c.args.page (held_framed store.transactions.pages.pool c.args.unit
+          c.args.page (sym c.if-is_held.ensures.test));
+      used = is.used;
+      stays = stays_for c.args.unit c.args.page store.transactions.pages
+          c.use_held.new.self.transactions.pages framed is.others;
+    }
 
-pub returns-in_err-bring_page-clause-stays : goal.returns-in_err-bring_page-clause-stays
-returns-in_err-bring_page-clause-stays g c = c.in_err-bring_page.ensures.stays
+pub returns-in_err-bring_page-clause-brings : goal.returns-in_err-bring_page-clause-brings
+returns-in_err-bring_page-clause-brings g c =
+    let e = err_from_is_err_and c.from_residual-in_err-bring_page.result
+    c.from_residual-in_err-bring_page.ensures.1 in
+    rw (e.1 ∙ ap Err e.2) c.in_err-bring_page.ensures.brings
 
-pub returns-clause-stays : goal.returns-clause-stays
-returns-clause-stays g c =
-    framed_then c.args.unit c.args.page c.args.self.now.transactions.pages
-    c.bring_page.new.self.transactions.pages c.keep.new.self.transactions.pages
-    c.in_ok-bring_page.ensures.stays
-    (repooled_framed c.bring_page.new.self c.keep.new.self c.keep.ensures.pool)
-    c.keep.ensures.others
+pub returns-clause-brings : goal.returns-clause-brings
+returns-clause-brings g c =
+    let brought = c.in_ok-bring_page.ensures.brings in record {
+      framed = subst (λ (f : Frames). IsSome (f c.args.unit c.args.page)) (sym c.keep.ensures.pool.frames)
+          brought.framed;
+      used = c.keep.ensures.used;
+      stays = framed_then c.args.unit c.args.page c.args.self.now.transactions.pages
+          c.bring_page.new.self.transactions.pages c.keep.new.self.transactions.pages brought.stays
+          (repooled_framed c.bring_page.new.self c.keep.new.self c.keep.ensures.pool)
+          c.keep.ensures.others;
+    }
 
 pub returns-in_err-admit-clause-calls : goal.returns-in_err-admit-clause-calls
 returns-in_err-admit-clause-calls g c =

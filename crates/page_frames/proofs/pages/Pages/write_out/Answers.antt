@@ -63,7 +63,7 @@ returns-clause-works g c =
     let new = g.C.Chip.told c.write_records.new.chip in
     works_done 14 pages after old new (out_done c.args.unit c.args.page c.log_payload-payload.result pages
     after old new c.requires.ready c.log_payload-payload.ensures.records c.clear_log.ensures.cleared
-    c.clear_log.ensures.pins is.tells is.steps is.holds is.tidy is.wears is.draws is.accounts)
+    c.clear_log.ensures.pool.pins is.tells is.steps is.holds is.tidy is.wears is.draws is.accounts)
 
 pub returns-clause-frames : goal.returns-clause-frames
 returns-clause-frames g c =

@@ -9,12 +9,12 @@ returns-then-is_some c =
     batch_refused (run_of c.args.self.now) c.args.sessions.now
     (sym (ap is_some c.refuses_batch.ensures) ∙ sym c.is_some.ensures ∙ c.if-is_some.true)
 
-pub settle_all-requires : goal.settle_all-requires
-settle_all-requires c =
+pub apply_all-requires : goal.apply_all-requires
+apply_all-requires c =
     batch_named c.args.self.now.sessions c.args.sessions.now
     (sym (ap is_some c.refuses_batch.ensures) ∙ sym c.is_some.ensures ∙ c.if-is_some.false)
 
 pub returns : goal.returns
 returns c =
-    batches (run_of c.args.self.now) (run_of c.settle_all.new.self) c.args.sessions.now
-    (sym (ap is_some c.refuses_batch.ensures) ∙ sym c.is_some.ensures ∙ c.if-is_some.false) c.settle_all.ensures
+    batches (run_of c.args.self.now) (run_of c.apply_all.new.self) c.args.sessions.now
+    (sym (ap is_some c.refuses_batch.ensures) ∙ sym c.is_some.ensures ∙ c.if-is_some.false) c.apply_all.ensures

@@ -17,7 +17,7 @@ returns-clause-turns c =
     aborted c.args.s c.in-Some.number c.written.result.now old
     (record { pages = c.end.new.self.pages; sessions = c.end.new.self.sessions })
     c.drop_names.new.pool c.requires.session (sym c.number.ensures ∙ c.in-Some.is)
-    c.written.ensures.names c.drop_names.ensures.dropped c.drop_names.ensures.pins
+    c.written.ensures.names c.drop_names.ensures.dropped c.drop_names.ensures.pool.pins
     c.end.ensures.rest c.end.ensures.sessions c.end.ensures.active c.end.ensures.locks
 
 pub returns-clause-framed : goal.returns-clause-framed

@@ -32,17 +32,17 @@ pub returns-clause-turns : goal.returns-clause-turns
 returns-clause-turns g c =
     let old = c.args.self.now in
     let says = c.in_ok-add_numbers.ensures in
-    let same = c.settle_all.ensures.parts in
-    numbers_added c.args.numbers.now c.as_slice.result.now old c.end_all.new.self c.settle_all.new.self.pages
+    let same = c.apply_all.ensures.parts in
+    numbers_added c.args.numbers.now c.as_slice.result.now old c.end_all.new.self c.apply_all.new.self.pages
     (g.C.Chip.told c.args.chip.now) (g.C.Chip.told c.add_numbers.new.chip) c.requires.order
     c.requires.open c.requires.may_add (c.as_slice.ensures.numbers ∙ c.requires.tids) says.adds
     says.steps (ap (λ (parts : Parts). parts.directory) same)
     (ap (λ (parts : Parts). parts.overflow) same)
     (ap (λ (parts : Parts). parts.status) same ∙ says.added)
-    (ap (λ (parts : Parts). parts.counter) same ∙ says.drawn) c.settle_all.ensures.settled
-    c.settle_all.ensures.pins c.end_all.ensures.rest
+    (ap (λ (parts : Parts). parts.counter) same ∙ says.drawn) c.apply_all.ensures.applied
+    c.apply_all.ensures.pins c.end_all.ensures.rest
     (c.end_all.ensures.sessions ∙ ap (λ (slots : SessionSlots). after_batch slots c.args.numbers.now)
-    c.settle_all.ensures.sessions) c.end_all.ensures.active c.end_all.ensures.locks says.tidy says.costs
+    c.apply_all.ensures.sessions) c.end_all.ensures.active c.end_all.ensures.locks says.tidy says.costs
     says.header says.accounts
 
 pub returns-in_err-add_numbers-clause-complete : goal.returns-in_err-add_numbers-clause-complete
@@ -57,8 +57,8 @@ returns-in_err-add_numbers-clause-framed g c = λ u page is. is
 pub returns-clause-framed : goal.returns-clause-framed
 returns-clause-framed g c =
     in_turn_framed c.args.self.now.sessions c.args.numbers.now c.args.self.now.pages
-    c.settle_all.new.self.pages c.end_all.new.self.pages c.requires.open.opens
-    c.settle_all.ensures.settled c.end_all.ensures.rest.pool
+    c.apply_all.new.self.pages c.end_all.new.self.pages c.requires.open.opens
+    c.apply_all.ensures.applied c.end_all.ensures.rest.pool
 
 pub returns-in_err-add_numbers-clause-unworn : goal.returns-in_err-add_numbers-clause-unworn
 returns-in_err-add_numbers-clause-unworn g c =
@@ -67,4 +67,4 @@ returns-in_err-add_numbers-clause-unworn g c =
 
 pub returns-clause-directory : goal.returns-clause-directory
 returns-clause-directory g c =
-    c.end_all.ensures.rest.directory ∙ ap (λ (parts : Parts). parts.directory) c.settle_all.ensures.parts
+    c.end_all.ensures.rest.directory ∙ ap (λ (parts : Parts). parts.directory) c.apply_all.ensures.parts

@@ -78,7 +78,7 @@ returns-clause-turns g c =
     c.facts.ensures.few) refl put
     (page_has_room name at (record_put c.args.change at c.in-Some.tid) old c.prepare.new.self
     put.was c.home-home.ensures.home refl refl c.requires.room c.in_ok-prepare.ensures.prepares.values put.there)
-    c.put_record.ensures.pins
+    c.put_record.ensures.pool.pins
 
 pub returns-in_err-prepare-clause-complete : goal.returns-in_err-prepare-clause-complete
 returns-in_err-prepare-clause-complete g c =
@@ -113,14 +113,14 @@ returns-clause-stays g c =
     (subst (λ (h : Home). KeepsFramedFor h.unit h.page old mid) c.home-home.ensures.home
     c.in_ok-prepare.ensures.framed)
     (set_framed at.unit at.page put.now mid new put.frames)
-    (same_counts home.unit home.page mid.pool new.pool c.put_record.ensures.uses)
+    (same_counts home.unit home.page mid.pool new.pool c.put_record.ensures.pool.uses)
 
 pub returns-clause-used : goal.returns-clause-used
 returns-clause-used g c =
     let at = c.home-home.result in
     let pool = c.put_record.new.pool in
     subst (λ (h : Home). IsUsedLast pool h.unit h.page) c.home-home.ensures.home
-    (kept_uses_are_last c.prepare.new.self.pool pool at.unit at.page c.put_record.ensures.uses
+    (kept_uses_are_last c.prepare.new.self.pool pool at.unit at.page c.put_record.ensures.pool.uses
     c.in_ok-prepare.ensures.prepares.used)
 
 pub returns-in_err-prepare-clause-asks : goal.returns-in_err-prepare-clause-asks
@@ -210,7 +210,7 @@ returns-then-not-put_record-clause-turns g c =
     (upholds_then 14 0 old.pages mid pages (Ok tt) before after after did
     (used_upholds 0 mid pool after (subst (λ (k : ℕ). ArePagesReady k mid)
     (sym did.accounts.counts.places) did.ready)
-    (OnFalse_at c.if-not-put_record.true c.put_record.ensures.kept) c.put_record.ensures.pins))
+    (OnFalse_at c.if-not-put_record.true c.put_record.ensures.kept) c.put_record.ensures.pool.pins))
     refl tt refl)
 
 pub returns-then-not-put_record-clause-complete : goal.returns-then-not-put_record-clause-complete
@@ -243,7 +243,7 @@ returns-then-not-put_record-clause-stays g c =
     (subst (λ (h : Home). KeepsFramedFor h.unit h.page old mid) c.home-home.ensures.home
     c.in_ok-prepare.ensures.framed)
     (used_framed mid pool (OnFalse_at c.if-not-put_record.true c.put_record.ensures.kept))
-    (same_counts home.unit home.page mid.pool pool c.put_record.ensures.uses)
+    (same_counts home.unit home.page mid.pool pool c.put_record.ensures.pool.uses)
 
 pub returns-then-not-put_record-clause-asks : goal.returns-then-not-put_record-clause-asks
 returns-then-not-put_record-clause-asks g c =

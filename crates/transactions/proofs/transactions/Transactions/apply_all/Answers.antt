@@ -3,9 +3,9 @@ use Rattle.std.proofs.lemmas.List.Elements.{Contains-get_or}
 use Rattle.std.proofs.lemmas.Option.{none-some}
 use Rattle.record_locks.specs.Held.{SessionSlots, number_of}
 use Rattle.buffer_pool.proofs.HoldingLemmas.{nothing_keeps, both_keep}
-use Rattle.transactions.proofs.FramedLemmas.{settled_next}
-use Rattle.transactions.proofs.transactions.Transactions.settle_all.Goals.{in-Some, in_default}
-use Rattle.transactions.proofs.transactions.Transactions.settle_all.Goals as goal
+use Rattle.transactions.proofs.FramedLemmas.{applied_next}
+use Rattle.transactions.proofs.transactions.Transactions.apply_all.Goals.{in-Some, in_default}
+use Rattle.transactions.proofs.transactions.Transactions.apply_all.Goals as goal
 
 pub loop-s-init : goal.loop-s-init
 loop-s-init c = (refl, nothing_keeps c.args.self.now.pages.pool, refl, refl)
@@ -29,17 +29,17 @@ loop-s-preserved c =
     let old = c.args.self.now in
     let numbers = c.args.numbers.now in
     let l = c.loop-s in
-    let (settled, pins, parts, sessions) = l.invariant in
+    let (applied, pins, parts, sessions) = l.invariant in
     let within : l.s-index < length numbers = omega (arith, c.loop-s-test.true) in
     let s = get_or numbers l.s-index 0 in
     elim c.match-number.branch [
       | in-Some w ↦
           rw w.self-is (
-            settled_next old.sessions l.self.sessions numbers l.s-index w.in-Some.tid
+            applied_next old.sessions l.self.sessions numbers l.s-index w.in-Some.tid
                 w.written.result.now _ _ _ sessions within (sym c.number.ensures ∙ w.in-Some.is)
-                w.written.ensures.names settled w.settle_names.ensures.settled,
-            both_keep old.pages.pool l.self.pages.pool w.settle_names.new.pool pins
-                w.settle_names.ensures.pins,
+                w.written.ensures.names applied w.apply_names.ensures.applied,
+            both_keep old.pages.pool l.self.pages.pool w.apply_names.new.pool pins
+                w.apply_names.ensures.pool.pins,
             parts,
             sessions,
           )

@@ -36,7 +36,7 @@ use Rattle.unit_io.proofs.CostLemmas.{costs_none, spends_none, spends_wait, spen
 use Rattle.unit_io.proofs.LeadsLemmas.{leads_waited}
 use Rattle.unit_io.proofs.UnreadLemmas.{unread_waited}
 use Rattle.status_renewal.specs.Recovers.{RestsTidily}
-use Rattle.status_renewal.specs.Settling.{is_known_below, knows_logs, waits_for, WaitsWhere, NoneMarked}
+use Rattle.status_renewal.specs.Securing.{is_known_below, knows_logs, waits_for, WaitsWhere, NoneMarked}
 
 -- ---- what is known
 

@@ -1,6 +1,6 @@
 use Rattle.std.proofs.Common.{◌∙◌, length, sym, arith}
-use Rattle.status_renewal.proofs.SettlingLemmas.{known_within}
-use Rattle.status_renewal.proofs.settling.knows_logs.Goals as goal
+use Rattle.status_renewal.proofs.SecuringLemmas.{known_within}
+use Rattle.status_renewal.proofs.securing.knows_logs.Goals as goal
 
 pub returns-then-is_known : goal.returns-then-is_known
 returns-then-is_known c =

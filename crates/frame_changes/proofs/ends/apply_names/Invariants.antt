@@ -1,16 +1,13 @@
-use Rattle.std.proofs.Common.{◌≡◌, take, map}
-use Rattle.buffer_pool.specs.Holding.{KeepsPins}
-use Rattle.buffer_pool.specs.Uses.{used_of}
+use Rattle.std.proofs.Common.{take, map}
 use Rattle.store_laws.specs.Frames.{IsCommittedFrame}
 use Rattle.frame_changes.specs.Views.{frames_of}
+use Rattle.frame_changes.specs.Changes.{KeepsPool}
 use Rattle.store_laws.specs.NamedFrames.{NamedFramesChange}
-use Rattle.frame_changes.proofs.ends.settle_names.Given as goal
+use Rattle.frame_changes.proofs.ends.apply_names.Given as goal
 
 -- the frames of the names so far
 abbrev pub invariant-loop-name : goal.invariant-loop-name
 invariant-loop-name l =
     NamedFramesChange (IsCommittedFrame l.tid) (map (λ n. n.0) (take l.name-index l.names)) (frames_of l.fn.pool)
     (frames_of l.pool)
-    × KeepsPins l.fn.pool l.pool
-    × (used_of l.pool ≡ used_of l.fn.pool)
-    × (l.pool.order ≡ l.fn.pool.order)
+    × KeepsPool l.fn.pool l.pool

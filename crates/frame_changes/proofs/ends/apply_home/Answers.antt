@@ -1,8 +1,8 @@
 use Rattle.store_laws.specs.Frames.{IsCommittedFrame}
 use Rattle.frame_changes.specs.Views.{frames_of}
-use Rattle.frame_changes.proofs.PutLemmas.{no_frame, frame_changes, frame_pins, frame_uses, settled, with_frame_under}
+use Rattle.frame_changes.proofs.PutLemmas.{no_frame, frame_changes, frame_keeps, applied, with_frame_under}
 use Rattle.frame_changes.proofs.NameLemmas.{only_this, none_changes}
-use Rattle.frame_changes.proofs.ends.settle_home.Goals as goal
+use Rattle.frame_changes.proofs.ends.apply_home.Goals as goal
 
 pub returns-in-Some-clause-changes : goal.returns-in-Some-clause-changes
 returns-in-Some-clause-changes c =
@@ -11,17 +11,17 @@ returns-in-Some-clause-changes c =
     let at = c.home-at.result in
     let once = c.facts.ensures.once in
     let has = c.in-Some.ensures.found in
-    let f = c.settle_tid.new.self in
+    let f = c.apply_tid.new.self in
     only_this (IsCommittedFrame tid) (frames_of p) (frames_of (with_frame_under p c.in-Some.key f)) c.args.name.0 at c.home-at.ensures.home
     (frame_changes p at.unit at.page c.in-Some.key once has (IsCommittedFrame tid) f
-    (settled p at.unit at.page c.in-Some.key once has tid f c.frame_under.result.now
-    (c.frame_under.ensures.value has.buffer has.stored) c.settle_tid.ensures))
+    (applied p at.unit at.page c.in-Some.key once has tid f c.frame_under.result.now
+    (c.frame_under.ensures.value has.buffer has.stored) c.apply_tid.ensures))
 
-pub returns-in-Some-clause-pins : goal.returns-in-Some-clause-pins
-returns-in-Some-clause-pins c =
+pub returns-in-Some-clause-pool : goal.returns-in-Some-clause-pool
+returns-in-Some-clause-pool c =
     let at = c.home-at.result in
-    frame_pins c.args.pool.now at.unit at.page c.in-Some.key c.facts.ensures.once c.in-Some.ensures.found
-    c.settle_tid.new.self
+    frame_keeps c.args.pool.now at.unit at.page c.in-Some.key c.facts.ensures.once c.in-Some.ensures.found
+    c.apply_tid.new.self
 
 pub returns-in_default-clause-changes : goal.returns-in_default-clause-changes
 returns-in_default-clause-changes c =
@@ -29,9 +29,3 @@ returns-in_default-clause-changes c =
     let at = c.home-at.result in
     none_changes (IsCommittedFrame c.args.tid) (frames_of p) c.args.name.0 at c.home-at.ensures.home
     (no_frame p at.unit at.page c.facts.ensures.once c.in_default.ensures.none)
-
-pub returns-in-Some-clause-uses : goal.returns-in-Some-clause-uses
-returns-in-Some-clause-uses c =
-    let at = c.home-at.result in
-    frame_uses c.args.pool.now at.unit at.page c.in-Some.key c.facts.ensures.once c.in-Some.ensures.found
-    c.settle_tid.new.self

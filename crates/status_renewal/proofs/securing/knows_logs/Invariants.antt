@@ -1,6 +1,6 @@
 use Rattle.std.proofs.Common.{◌≡◌, false}
-use Rattle.status_renewal.specs.Settling.{is_known_below}
-use Rattle.status_renewal.proofs.settling.knows_logs.Given as goal
+use Rattle.status_renewal.specs.Securing.{is_known_below}
+use Rattle.status_renewal.proofs.securing.knows_logs.Given as goal
 
 abbrev pub invariant-loop-unit : goal.invariant-loop-unit
 invariant-loop-unit l = record {

@@ -2,11 +2,11 @@ use Rattle.std.proofs.Common.{◌<◌, length, refl, arith}
 use Rattle.std.specs.Prelude.{slice_index_or}
 use Rattle.std.proofs.lemmas.List.Elements.{Contains-get_or}
 use Rattle.serial_view.specs.Running.{run_of}
-use Rattle.serial_view.proofs.FollowLemmas.{follows_none, settles_more, settles_all}
-use Rattle.serial_view.proofs.running.Running.settle_all.Goals as goal
+use Rattle.serial_view.proofs.FollowLemmas.{follows_none, applies_more, applies_all}
+use Rattle.serial_view.proofs.running.Running.apply_all.Goals as goal
 
-pub settle-requires : goal.settle-requires
-settle-requires c =
+pub apply-requires : goal.apply-requires
+apply-requires c =
     let sessions = c.args.sessions.now in
     let within : c.loop-s.s-index < length sessions = omega (arith, c.loop-s-test.true) in
     c.requires (slice_index_or sessions c.loop-s.s-index 0) (Contains-get_or sessions c.loop-s.s-index 0 within)
@@ -16,11 +16,11 @@ loop-s-init c = follows_none (run_of c.args.self.now)
 
 pub loop-s-preserved : goal.loop-s-preserved
 loop-s-preserved c =
-    settles_more (run_of c.args.self.now) (run_of c.loop-s.self) (run_of c.settle.new.self) c.args.sessions.now
+    applies_more (run_of c.args.self.now) (run_of c.loop-s.self) (run_of c.apply.new.self) c.args.sessions.now
     c.loop-s.s-index (slice_index_or c.args.sessions.now c.loop-s.s-index 0) c.loop-s-test.true refl
-    c.loop-s.invariant c.settle.ensures
+    c.loop-s.invariant c.apply.ensures
 
 pub returns : goal.returns
 returns c =
-    settles_all (run_of c.args.self.now) (run_of c.loop-s.self) c.args.sessions.now c.loop-s.s-index
+    applies_all (run_of c.args.self.now) (run_of c.loop-s.self) c.args.sessions.now c.loop-s.s-index
     c.loop-s-test.false c.loop-s.invariant

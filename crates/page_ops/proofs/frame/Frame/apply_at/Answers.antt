@@ -1,14 +1,14 @@
 use Rattle.std.proofs.Common.{◌<◌, ◌∙◌, refl, sym, length, ap, arith}
 use Rattle.page_ops.specs.Pending.{seen_by, without_pending}
 use Rattle.page_ops.specs.Frames.{FrameView, pending_in, values_in}
-use Rattle.page_ops.proofs.FrameLemmas.{dropped_frame, room_to_settle, settled_frame}
+use Rattle.page_ops.proofs.FrameLemmas.{dropped_frame, room_to_apply, applied_frame}
 use Rattle.page_ops.proofs.SlotLemmas.{becomes, changed_others, gone, not_seen, stays}
-use Rattle.page_ops.proofs.frame.Frame.settle_at.Goals as goal
+use Rattle.page_ops.proofs.frame.Frame.apply_at.Goals as goal
 
 pub copy_slot-requires-clause-room : goal.copy_slot-requires-clause-room
 copy_slot-requires-clause-room c =
     let p = c.self.inside in
-    room_to_settle p.page _ p.numbers p.values c.args.slot c.self.invariant refl
+    room_to_apply p.page _ p.numbers p.values c.args.slot c.self.invariant refl
     c.text.ensures.text.slots
 
 pub invariant_of-self : goal.invariant_of-self
@@ -16,10 +16,10 @@ invariant_of-self c =
     let p = c.self.inside in
     let within : c.args.slot < length c.clear.new.self =
     omega (arith, c.clear.ensures.page.slots, c.requires) in
-    let settled = settled_frame p.page c.copy_slot.new.to p.numbers p.values c.args.slot
+    let applied = applied_frame p.page c.copy_slot.new.to p.numbers p.values c.args.slot
     c.self.invariant c.copy_slot.ensures.copied c.text.ensures.text.slots in
     dropped_frame c.copy_slot.new.to p.numbers c.take.new.self p.values c.clear.new.self
-    c.args.slot settled c.requires within c.take.ensures c.clear.ensures.cleared
+    c.args.slot applied c.requires within c.take.ensures c.clear.ensures.cleared
 
 pub returns-then-is_of-clause-value : goal.returns-then-is_of-clause-value
 returns-then-is_of-clause-value c =

@@ -2,7 +2,7 @@
 ghost use Rattle.std.specs.Prelude.{◌≡◌};
 ghost use Rattle.unit_io.specs.Accounts.{Accounts};
 ghost use Rattle.unit_io.specs.Leads.{IsStopped};
-ghost use Rattle.status_renewal.specs.Settling.{knows_logs, WaitsWhere};
+ghost use Rattle.status_renewal.specs.Securing.{knows_logs, WaitsWhere};
 
 use chip_trait::Chip;
 use ipl_base::ChipFault;
@@ -24,7 +24,7 @@ fn knows_logs(directory: &Directory) -> bool
 /// Makes sure of what the chip holds, if something is known by a mark: only behind a barrier a marked
 /// sector that is blank stays so, whatever a power cut leaves. Where nothing is known, the chip isn't
 /// asked.
-pub(crate) fn settle_marks<C: Chip>(chip: &mut C, directory: &Directory) -> Result<(), ChipFault>
+pub(crate) fn secure_marks<C: Chip>(chip: &mut C, directory: &Directory) -> Result<(), ChipFault>
     ensures waits { WaitsWhere (knows_logs directory.now) result
         (C.told chip.old) (C.told chip.new) }
     ensures accounts { Accounts IsStopped result (C.told chip.old) (C.told chip.new) }

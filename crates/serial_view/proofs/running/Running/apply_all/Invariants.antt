@@ -1,7 +1,7 @@
 use Rattle.std.proofs.Common.{take}
 use Rattle.ipl_rules.specs.Operations.{after_batch}
 use Rattle.serial_view.specs.Running.{run_of, Follows}
-use Rattle.serial_view.proofs.running.Running.settle_all.Given as goal
+use Rattle.serial_view.proofs.running.Running.apply_all.Given as goal
 
 -- the sessions so far are closed
 abbrev pub invariant-loop-s : goal.invariant-loop-s
