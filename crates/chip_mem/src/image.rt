@@ -72,7 +72,7 @@ fn chosen_bytes(start: &[[u8; 512]], events: &[Event], pick: &Pick) -> Option<[u
 {
     let closed = closed_count(events);
     match &pick.choice {
-        Choice::Old => Some(held_at(start, &events[..settled], pick.place, pick.sector)),
+        Choice::Old => Some(held_at(start, &events[..closed], pick.place, pick.sector)),
         Choice::After(number) => {
             let number = *number;
             if number < closed as u64 || events.len() as u64 <= number {

@@ -10,7 +10,7 @@ use Rattle.number_set.specs.Numbers.{among}
 use Rattle.place_taking.specs.Spending.{is_worn_out}
 use Rattle.page_rebuild.specs.Loaded.{load_fault}
 use Rattle.buffer_pool.specs.Pools.{AreOnce, with_use}
-use Rattle.frame_changes.proofs.FrameLemmas.{pins_keep_frames}
+use Rattle.page_frames.proofs.FrameViewLemmas.{pins_keep_frames}
 use Rattle.record_locks.specs.Held.{SessionSlots}
 use Rattle.store_laws.specs.Frames.{PageFrame}
 use Rattle.store_laws.specs.Advances.{memory_of, MemoryFits}

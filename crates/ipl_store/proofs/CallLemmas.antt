@@ -32,7 +32,7 @@ use Rattle.store_laws.specs.Keeps.{ShowsState}
 use Rattle.store_laws.proofs.AdvanceLemmas.{answers_advance, calls_advance, failures_advance}
 use Rattle.store_laws.proofs.KeeperLemmas.{nothing_keeps_states}
 use Rattle.store_laws.proofs.LeadLemmas.{keepers_lead_still}
-use Rattle.page_writing.specs.Spending.{ErasesAndLogs}
+use Rattle.page_frames.specs.Spending.{ErasesAndLogs}
 use Rattle.page_frames.specs.declared.pages.Pages.{Pages}
 use Rattle.page_frames.specs.Complete.{FailsByChip}
 use Rattle.page_frames.specs.Faulty.{FailsByPage, TellsFaults}

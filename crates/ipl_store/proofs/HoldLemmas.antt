@@ -15,7 +15,7 @@ use Rattle.buffer_pool.specs.Holding.{is_pinned, pinned_count, IsHeld, KeepsPins
 use Rattle.buffer_pool.specs.Laws.{buffer_of, TellsBuffers}
 use Rattle.store_laws.specs.Frames.{Frames}
 use Rattle.store_laws.specs.Advances.{memory_of, LeadsTo}
-use Rattle.frame_changes.specs.Views.{frame_in}
+use Rattle.page_frames.specs.Views.{frame_in}
 use Rattle.page_frames.specs.Pages.{tables_in, frames_in, KeepsFramed}
 use Rattle.ipl_store.specs.declared.store.Store.{Store}
 use Rattle.ipl_store.specs.Calls.{memory_of_store, is_held, bad_page, holds_full, not_held, refuses_hold, refuses_release, KeepsHolds, Calls}

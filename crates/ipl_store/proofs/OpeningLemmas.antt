@@ -44,7 +44,7 @@ use Rattle.store_laws.specs.Keeps.{View, limits_of, ShowsState, KeepsStore, open
 use Rattle.store_laws.proofs.AdvanceLemmas.{same_held}
 use Rattle.store_laws.proofs.FaultLemmas.{opened_stores_keep}
 use Rattle.store_laws.proofs.LeadLemmas.{restarts_lead}
-use Rattle.frame_changes.specs.Views.{frame_in}
+use Rattle.page_frames.specs.Views.{frame_in}
 use Rattle.page_frames.specs.Pages.{tables_in, frames_in}
 use Rattle.ipl_store.specs.declared.store.Store.{Store}
 use Rattle.ipl_store.specs.Calls.{memory_of_store, view_of, counter_of, IsMade, IsSound}

@@ -21,7 +21,7 @@ use Rattle.place_taking.specs.Spending.{is_worn_out, tells_worn}
 use Rattle.selective_merge.specs.declared.parts.Parts.{Parts}
 use Rattle.selective_merge.specs.Moving.{tables_of}
 use Rattle.selective_merge.specs.Spotting.{HasHomeSpot}
-use Rattle.page_writing.specs.Spending.{ErasesAndLogs}
+use Rattle.page_frames.specs.Spending.{ErasesAndLogs}
 use Rattle.store_laws.specs.Frames.{PageFrame, Frames}
 use Rattle.store_laws.specs.Room.{overfills_at}
 use Rattle.store_laws.specs.Advances.{memory_of, LeadsTo}

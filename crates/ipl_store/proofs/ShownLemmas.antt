@@ -21,7 +21,7 @@ use Rattle.record_locks.specs.Held.{number_of}
 use Rattle.page_ops.specs.Pending.{seen_by}
 use Rattle.buffer_pool.specs.Uses.{IsUsedLast}
 use Rattle.buffer_pool.proofs.HoldingLemmas.{nothing_keeps, both_keep}
-use Rattle.page_writing.specs.Spending.{ErasesAndLogs}
+use Rattle.page_frames.specs.Spending.{ErasesAndLogs}
 use Rattle.page_frames.specs.declared.pages.Pages.{Pages}
 use Rattle.page_frames.specs.Pages.{tables_in, frames_in, IsFramed, KeepsFramedFor}
 use Rattle.page_frames.proofs.AskLemmas.{one_of_none}

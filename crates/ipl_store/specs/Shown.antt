@@ -17,7 +17,7 @@ use Rattle.buffer_pool.specs.Holding.{IsHeld, IsSamePage, IsAtRest}
 use Rattle.buffer_pool.specs.Uses.{IsUsedLast, UsesPage}
 use Rattle.store_laws.specs.Advances.{MemoryFits}
 use Rattle.store_laws.specs.Keeps.{View, TellsName}
-use Rattle.page_writing.specs.Spending.{ErasesAndLogs}
+use Rattle.page_frames.specs.Spending.{ErasesAndLogs}
 use Rattle.page_frames.specs.Pages.{frames_in, IsFramed, KeepsFramedFor, HasFreeFrame}
 use Rattle.ipl_store.specs.declared.store.Store.{Store}
 use Rattle.ipl_store.specs.Calls.{view_of, KeepsHolds, Calls, ends_worn_out}

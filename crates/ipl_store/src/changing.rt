@@ -22,9 +22,9 @@ ghost use Rattle.ipl_store.specs.Shown.{IsUsedLastIn};
 
 use crate::Store;
 use chip_trait::Chip;
-use frame_changes::overfills;
 use ipl_base::{Name, Refusal, StoreFault, Value};
 use log_records::Change;
+use page_frames::overfills;
 use store_laws::passing_laws;
 
 impl Store {

@@ -23,8 +23,8 @@ use crate::Store;
 use crate::refusals::is_held;
 use buffer_pool::{holding_laws, pool_laws, use_laws};
 use chip_trait::Chip;
-use frame_changes::buffer_laws;
 use ipl_base::StoreFault;
+use page_frames::buffer_laws;
 
 impl Store {
     /// Holds a page of a unit in a frame: a `get` of a name there makes no chip call until it is

@@ -27,8 +27,8 @@ ghost use Rattle.ipl_store.specs.Shown.{answered, AsksFor, Fetches, IsSeen, HasC
 
 use crate::Store;
 use chip_trait::Chip;
-use frame_changes::{committed_value, seen_value};
 use ipl_base::{Name, StoreFault, home};
+use page_frames::{committed_value, seen_value};
 use store_laws::passing_laws;
 
 impl Store {

@@ -14,9 +14,9 @@ use Rattle.store_laws.specs.Frames.{logs_of}
 use Rattle.selective_merge.specs.declared.parts.Parts.{Parts}
 use Rattle.selective_merge.specs.Moving.{tables_of}
 use Rattle.selective_merge.specs.Spotting.{HasHomeSpot}
-use Rattle.frame_changes.specs.Changes.{MayPut}
-use Rattle.page_writing.specs.Spending.{ErasesAndLogs, WritingCosts}
-use Rattle.page_writing.proofs.SpendLemmas.{no_kind}
+use Rattle.page_frames.specs.Changes.{MayPut}
+use Rattle.page_frames.specs.Spending.{ErasesAndLogs, WritingCosts}
+use Rattle.page_frames.proofs.RecordSpendLemmas.{no_kind}
 use Rattle.page_frames.specs.declared.pages.Pages.{Pages}
 use Rattle.page_frames.specs.Pages.{tables_in, frames_in, IsFramed}
 use Rattle.page_frames.specs.Asks.{AsksToWriteOut, AsksToFetch, AsksToBring, AsksToPrepare}

@@ -7,7 +7,7 @@ use Rattle.ipl_format.specs.Record.{Record}
 use Rattle.ipl_meaning.specs.Last.{size_of, size_of_all}
 use Rattle.store_laws.specs.Frames.{Frames, with_frame_log}
 use Rattle.store_laws.proofs.SameLemmas.{frame_here}
-use Rattle.frame_changes.specs.Changes.{MayPut}
+use Rattle.page_frames.specs.Changes.{MayPut}
 use Rattle.page_frames.specs.declared.pages.Pages.{Pages}
 use Rattle.page_frames.specs.Pages.{frames_in, IsFramed, IsCleanFrame, KeepsValues, BringsPage, frames_after}
 use Rattle.page_frames.proofs.HeldLemmas.{some_of}

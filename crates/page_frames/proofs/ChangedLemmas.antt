@@ -11,7 +11,7 @@ use Rattle.unit_io.proofs.CostLemmas.{costs_none, spends_none, spends_then, spen
 use Rattle.place_taking.proofs.SpendingLemmas.{retiring_of, retiring_then, retiring_at_most, retires_none, retires_then}
 use Rattle.buffer_pool.specs.Index.{page_number}
 use Rattle.store_laws.specs.Frames.{Frames, logs_of}
-use Rattle.page_writing.specs.Spending.{ErasesAndLogs}
+use Rattle.page_frames.specs.Spending.{ErasesAndLogs}
 use Rattle.page_frames.specs.Asks.{ErasesAndLogsOf}
 use Rattle.page_frames.specs.Changed.{is_on_page, has_some, is_changed}
 

@@ -8,8 +8,8 @@ use Rattle.buffer_pool.specs.Passes.{LeavesFrame, ComesIn}
 use Rattle.buffer_pool.specs.Uses.{used_of, CountsNoUse, IsUsedFirst}
 use Rattle.buffer_pool.proofs.HoldingLemmas.{brings_keep, evictions_keep, nothing_keeps}
 use Rattle.buffer_pool.proofs.UseLemmas.{brings_count_no_other, changes_keep_uses, evictions_count_no_use, kept_uses_are_last, same_counts}
-use Rattle.frame_changes.specs.Views.{frame_in, frames_of}
-use Rattle.frame_changes.proofs.FrameLemmas.{brings_add_a_frame, evictions_take_a_frame, pins_keep_frames}
+use Rattle.page_frames.specs.Views.{frame_in, frames_of}
+use Rattle.page_frames.proofs.FrameViewLemmas.{brings_add_a_frame, evictions_take_a_frame, pins_keep_frames}
 use Rattle.store_laws.specs.Frames.{Frames, logs_of}
 use Rattle.page_frames.specs.declared.pages.Pages.{Pages}
 use Rattle.page_frames.specs.Frames.{FreesFrame, Gives, IsVictimFor, IsUnheld, MayGive, TakesFrame, Victim}

@@ -12,8 +12,8 @@ use Rattle.buffer_pool.proofs.BufferLemmas.{buffers_are_told}
 use Rattle.buffer_pool.proofs.CallerLemmas.{may_leave}
 use Rattle.buffer_pool.proofs.IndexLemmas.{some_is}
 use Rattle.store_laws.specs.Frames.{PageFrame, Frames, logs_of, with_frame_at}
-use Rattle.frame_changes.specs.Views.{frame_in, frames_of}
-use Rattle.frame_changes.proofs.FrameLemmas.{frame_here, frame_found}
+use Rattle.page_frames.specs.Views.{frame_in, frames_of}
+use Rattle.page_frames.proofs.FrameViewLemmas.{frame_here, frame_found}
 use Rattle.page_frames.specs.Frames.{IsUnheld}
 
 pub none_some : {X : Type 0} (x : X) → Some x ≡ None → ⊥

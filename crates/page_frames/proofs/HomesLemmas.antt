@@ -13,7 +13,7 @@ use Rattle.unit_io.proofs.CostLemmas.{costs_none, costs_then, costs_at_most, spe
 use Rattle.selective_merge.specs.Spotting.{HasHomeSpot}
 use Rattle.buffer_pool.specs.Index.{page_number}
 use Rattle.store_laws.specs.Frames.{Frames, logs_of}
-use Rattle.page_writing.specs.Spending.{UsesHome}
+use Rattle.page_frames.specs.Spending.{UsesHome}
 use Rattle.page_frames.specs.declared.pages.Pages.{Pages}
 use Rattle.page_frames.specs.Pages.{tables_in, frames_in}
 use Rattle.page_frames.specs.Asks.{AsksToWriteOut}

@@ -17,7 +17,7 @@ use Rattle.store_laws.specs.Advances.{KeepsState}
 use Rattle.merge_laws.specs.Known.{KnowsPlaces}
 use Rattle.selective_merge.specs.Moving.{tables_of}
 use Rattle.store_laws.proofs.KeeperLemmas.{evictions_keep_states}
-use Rattle.frame_changes.specs.Views.{frame_in, frames_of}
+use Rattle.page_frames.specs.Views.{frame_in, frames_of}
 use Rattle.page_frames.specs.declared.pages.Pages.{Pages}
 use Rattle.page_frames.specs.Frames.{IsUnheld}
 use Rattle.page_frames.specs.Pages.{tables_in, frames_in, ArePagesReady, Upholds, emptied}

@@ -1,3 +1,20 @@
+pub mod FrameViewLemmas
+pub mod FrameRoomLemmas
+pub mod PutLemmas
+pub mod NameLemmas
+pub mod FillLemmas
+pub mod WrittenLemmas
+mod SpotLemmas
+mod LogLemmas
+pub mod RecordRoomLemmas
+mod FoundLemmas
+mod RecordLemmas
+pub mod KeepLemmas
+mod CauseLemmas
+pub mod RecordSpendLemmas
+mod TidyLemmas
+pub mod WearLemmas
+mod InPlaceLemmas
 pub mod FrameLemmas
 pub mod FramedLemmas
 pub mod HeldLemmas

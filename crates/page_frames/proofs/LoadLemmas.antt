@@ -29,7 +29,7 @@ use Rattle.store_laws.proofs.KeeperLemmas.{loads_anywhere_keep_states, reads_any
 use Rattle.unit_io.specs.Reads.{OfContents}
 use Rattle.unit_io.specs.ReadsAt.{Anywhere, ReadsAt}
 use Rattle.unit_io.proofs.ReadsAtLemmas.{at_wider}
-use Rattle.frame_changes.proofs.FrameLemmas.{put_again, put_same}
+use Rattle.page_frames.proofs.FrameViewLemmas.{put_again, put_same}
 use Rattle.unit_io.specs.Accounts.{Accounts}
 use Rattle.merge_laws.specs.Known.{KnowsPlaces}
 use Rattle.buffer_pool.specs.Holding.{KeepsPins}

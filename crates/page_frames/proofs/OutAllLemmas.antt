@@ -16,8 +16,8 @@ use Rattle.store_laws.specs.Numbers.{IsOut}
 use Rattle.buffer_pool.specs.declared.pool.Buffer.{Buffer}
 use Rattle.buffer_pool.specs.Laws.{buffer_of}
 use Rattle.buffer_pool.proofs.BufferLemmas.{buffers_are_told}
-use Rattle.frame_changes.specs.Views.{frame_in, frames_of}
-use Rattle.frame_changes.proofs.FrameLemmas.{frame_found}
+use Rattle.page_frames.specs.Views.{frame_in, frames_of}
+use Rattle.page_frames.proofs.FrameViewLemmas.{frame_found}
 use Rattle.page_frames.proofs.HeldLemmas.{none_some}
 use Rattle.page_frames.specs.declared.pages.Pages.{Pages}
 use Rattle.page_frames.specs.Pages.{frames_in, KeepsFramed, ArePagesReady, Upholds, emptied}

@@ -17,11 +17,11 @@ use Rattle.step_laws.specs.Steps.{Tidies}
 use Rattle.place_taking.specs.Spending.{tells_worn}
 use Rattle.place_taking.specs.Wear.{TellsOfWear}
 use Rattle.store_laws.specs.Advances.{KeepsState}
-use Rattle.page_writing.specs.Causes.{WritingCause}
-use Rattle.page_writing.specs.Laws.{frames_out}
-use Rattle.page_writing.specs.Writing.{WritesOut, WritesOutInSteps}
-use Rattle.page_writing.proofs.KeepLemmas.{writings_keep_states}
-use Rattle.frame_changes.specs.Changes.{FrameChanges, IsClearedFrame}
+use Rattle.page_frames.specs.Causes.{WritingCause}
+use Rattle.page_frames.specs.RecordLaws.{frames_out}
+use Rattle.page_frames.specs.Writing.{WritesOut, WritesOutInSteps}
+use Rattle.page_frames.proofs.KeepLemmas.{writings_keep_states}
+use Rattle.page_frames.specs.Changes.{FrameChanges, IsClearedFrame}
 use Rattle.page_frames.specs.declared.pages.Pages.{Pages}
 use Rattle.page_frames.specs.Pages.{tables_in, frames_in, ArePagesReady, Upholds, PageCause, emptied, frames_after}
 use Rattle.page_frames.proofs.FrameLemmas.{emptied_there}

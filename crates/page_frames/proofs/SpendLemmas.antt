@@ -5,9 +5,9 @@ use Rattle.ipl_meaning.specs.Tables.{Places}
 use Rattle.unit_io.specs.Costs.{Costs, Spends}
 use Rattle.unit_io.specs.ReadsAt.{ReadsAt}
 use Rattle.unit_io.proofs.CostLemmas.{costs_none, costs_at_most, spends_none, spends_then, spends_weaker, spends_reads}
-use Rattle.page_writing.specs.Spending.{ErasesAndLogs}
+use Rattle.page_frames.specs.Spending.{ErasesAndLogs}
 use Rattle.place_taking.proofs.SpendingLemmas.{none_found, retiring_of, retiring_then, retiring_at_most, retires_none, retires_still, tries_none, tries_still}
-use Rattle.page_writing.proofs.SpendLemmas.{no_kind}
+use Rattle.page_frames.proofs.RecordSpendLemmas.{no_kind}
 
 pub reads_alone : (At : ℕ → ℕ → Type 0) (old new : Told) → ReadsAt At old new
     → Spends (Costs 0 0 0 []) old new

@@ -27,14 +27,14 @@ use Rattle.store_laws.specs.Frames.{Frames}
 use Rattle.store_laws.specs.Advances.{TurnsTables, KeepsState}
 use Rattle.store_laws.proofs.KeeperLemmas.{table_calls_keep_states}
 use Rattle.store_laws.proofs.StepLemmas.{steps_weaker}
-use Rattle.page_writing.proofs.RoomLemmas.{turned_same, turned_merged}
+use Rattle.page_frames.proofs.RecordRoomLemmas.{turned_same, turned_merged}
 use Rattle.merge_laws.specs.Known.{KnowsPlaces}
 use Rattle.buffer_pool.specs.Pools.{PoolView}
 use Rattle.buffer_pool.specs.Holding.{IsAtRest, KeepsPins}
 use Rattle.buffer_pool.proofs.HoldingLemmas.{nothing_keeps}
 use Rattle.status_renewal.specs.Passes.{RenewsTold, HoldsRenewed, KeepsInSteps, RenewCause}
 use Rattle.status_renewal.proofs.CauseLemmas.{merge_accounts}
-use Rattle.frame_changes.specs.Views.{frames_of}
+use Rattle.page_frames.specs.Views.{frames_of}
 use Rattle.page_frames.proofs.RenewLemmas.{renew_keeps}
 use Rattle.page_frames.specs.declared.pages.Pages.{Pages}
 use Rattle.page_frames.specs.Pages.{tables_in, frames_in, ArePagesReady, Upholds, PageCause}

@@ -19,7 +19,7 @@ use Rattle.selective_merge.proofs.CompleteLemmas.{merge_fails_so}
 use Rattle.status_renewal.specs.InPlace.{RenewalFailsInPlace}
 use Rattle.number_set.specs.Numbers.{among}
 use Rattle.page_rebuild.specs.Loaded.{OfTables, load_fault}
-use Rattle.page_writing.specs.InPlace.{StaysInPlace}
+use Rattle.page_frames.specs.InPlace.{StaysInPlace}
 use Rattle.store_laws.proofs.FitLemmas.{merges_are_small}
 use Rattle.store_laws.specs.Advances.{memory_of, MemoryFits, KeepsState}
 use Rattle.page_frames.specs.declared.pages.Pages.{Pages}

@@ -16,7 +16,7 @@ use Rattle.step_laws.proofs.TablesLemmas.{tables_none}
 use Rattle.place_taking.proofs.WearLemmas.{alike_tables, nothing_wears}
 use Rattle.store_laws.specs.Advances.{KeepsState}
 use Rattle.store_laws.proofs.KeeperLemmas.{nothing_keeps_states}
-use Rattle.frame_changes.specs.Views.{frames_of}
+use Rattle.page_frames.specs.Views.{frames_of}
 use Rattle.page_frames.specs.declared.pages.Pages.{Pages}
 use Rattle.page_frames.specs.Pages.{tables_in, frames_in, KeepsFramed, KeepsFramedFor, ArePagesReady, Upholds}
 

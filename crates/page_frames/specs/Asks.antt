@@ -11,8 +11,8 @@ use Rattle.unit_io.specs.ReadsAt.{Anywhere, ReadsAt}
 use Rattle.place_taking.specs.Spending.{RetiringCosts, RetiresWorn, is_worn_out}
 use Rattle.selective_merge.specs.Spotting.{HasHomeSpot}
 use Rattle.store_laws.specs.Frames.{logs_of}
-use Rattle.frame_changes.specs.Changes.{MayPut}
-use Rattle.page_writing.specs.Spending.{ErasesAndLogs, UsesHome}
+use Rattle.page_frames.specs.Changes.{MayPut}
+use Rattle.page_frames.specs.Spending.{ErasesAndLogs, UsesHome}
 use Rattle.page_frames.specs.declared.pages.Pages.{Pages}
 use Rattle.page_frames.specs.Pages.{tables_in, frames_in, IsFramed, HasFreeFrame, OnlyUses, PageCause}
 use Rattle.page_frames.specs.Frames.{Victim}

@@ -9,7 +9,7 @@ use Rattle.buffer_pool.specs.Holding.{KeepsPins}
 use Rattle.buffer_pool.specs.Uses.{used_of, CountsNoOther, CountsNoUse, IsUsedFirst, IsUsedLast}
 use Rattle.store_laws.specs.Frames.{logs_of, with_frame_at}
 use Rattle.store_laws.specs.Views.{frame_of}
-use Rattle.frame_changes.specs.Views.{frames_of}
+use Rattle.page_frames.specs.Views.{frames_of}
 
 -- the page is in a frame, and no hold keeps it there
 pub record IsUnheld (p : PoolView) (u page : ℕ) : Type 0 where

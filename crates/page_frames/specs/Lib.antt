@@ -1,3 +1,12 @@
+pub mod Views
+pub mod Changes
+pub mod FrameLaws
+pub mod Rooms
+pub mod Writing
+pub mod Spending
+pub mod Causes
+pub mod RecordLaws
+pub mod InPlace
 pub mod Frames
 pub mod Pages
 pub mod Changed

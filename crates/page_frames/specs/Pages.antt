@@ -24,7 +24,7 @@ use Rattle.number_set.specs.Numbers.{among}
 use Rattle.page_ops.specs.Frames.{FrameView}
 use Rattle.page_rebuild.specs.Loaded.{IsLoaded}
 use Rattle.store_laws.specs.Views.{frame_of}
-use Rattle.frame_changes.specs.Views.{frames_of}
+use Rattle.page_frames.specs.Views.{frames_of}
 use Rattle.page_frames.specs.declared.pages.Pages.{Pages}
 
 -- ---- what is seen

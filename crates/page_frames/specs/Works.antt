@@ -4,7 +4,7 @@ use Rattle.chip_trait.specs.Told.{Told}
 use Rattle.ipl_base.specs.declared.fault.ChipFault.{ChipFault}
 use Rattle.ipl_format.specs.Record.{Record}
 use Rattle.buffer_pool.specs.Uses.{IsUsedLast}
-use Rattle.frame_changes.specs.Changes.{MayPut}
+use Rattle.page_frames.specs.Changes.{MayPut}
 use Rattle.page_frames.specs.declared.pages.Pages.{Pages}
 use Rattle.page_frames.specs.Pages.{frames_in, IsFramed, IsCleanFrame, KeepsValues, Upholds}
 use Rattle.page_frames.specs.Complete.{FailsByChip}

@@ -8,7 +8,7 @@ ghost use Rattle.buffer_pool.specs.Holding.{IsAtRest};
 ghost use Rattle.buffer_pool.specs.Uses.{used_of};
 ghost use Rattle.store_laws.specs.Frames.{logs_of};
 ghost use Rattle.log_records.specs.View.{record_of};
-ghost use Rattle.frame_changes.specs.Views.{frames_of};
+ghost use Rattle.page_frames.specs.Views.{frames_of};
 ghost use Rattle.page_frames.specs.Asks.{AsksToBring, AsksToEmpty, AsksToFetch, AsksToLoad, AsksToPrepare};
 ghost use Rattle.page_frames.specs.Frames.{IsVictimFor, IsUnheld, KeepsUnheld, MayGive, TakesFrame};
 ghost use Rattle.page_frames.specs.Complete.{CompletesLoad};
@@ -29,9 +29,9 @@ ghost use Rattle.page_frames.specs.Works.{ComesFresh, ComesToFrame, PreparesPage
 
 use crate::Pages;
 use crate::frames::{free_frame, give_frame, is_framed, short, use_page};
+use crate::puts::has_room;
 use buffer_pool::Room;
 use chip_trait::Chip;
-use frame_changes::has_room;
 use ipl_base::ChipFault;
 use log_records::Record;
 use page_rebuild::load;

@@ -7,7 +7,7 @@ ghost use Rattle.log_records.specs.View.{record_of};
 ghost use Rattle.buffer_pool.specs.Holding.{KeepsPins};
 ghost use Rattle.buffer_pool.specs.Uses.{CountsNoOther, IsUsedLast, UsesPage};
 ghost use Rattle.store_laws.specs.Frames.{logs_of};
-ghost use Rattle.frame_changes.specs.Views.{frames_of};
+ghost use Rattle.page_frames.specs.Views.{frames_of};
 ghost use Rattle.page_frames.specs.Frames.{FreesFrame, GivesTo, IsUnheld, MayGive, TakesFrame};
 
 use buffer_pool::Pool;

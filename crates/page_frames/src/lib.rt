@@ -1,8 +1,8 @@
 //! Pages of a store in frames, over its tables of the chip: a page is brought into a frame, for which
 //! another page may have to leave, and its records in memory are written out where a frame, a log
 //! sector in memory or a commit asks for it. It stands on `buffer_pool` for the frames, on
-//! `page_rebuild` for what a page is on the chip, and on `page_writing` for its records on their way
-//! there. A contract sees the tables (`tables_in`) and the frames by unit and page (`frames_in`), and
+//! `page_rebuild` for what a page is on the chip, and on `selective_merge` for a place of their
+//! log sector; what commands do to frames in memory alone is here too. A contract sees the tables (`tables_in`) and the frames by unit and page (`frames_in`), and
 //! that each call keeps whatever state they stand for (`KeepsState`), and over a chip that holds one
 //! fails only where a call of the chip failed (`Completes`), or by a page that doesn't read well or has
 //! no room for its values with what is pending there (`TellsFaults`).
@@ -27,14 +27,46 @@
 //! unit has as many log sectors clean at home as it has such pages. A record of a page that is in a
 //! frame costs one log sector where one is clean at its unit's home, and nothing where it fits behind
 //! those in memory; the values of its frame stay.
+//!
+//! Proved, by `write_records`, `writing_laws`: a page's records written out: done, the unit's log has
+//! one entry more, with exactly these records, behind nothing, a new overflow place or a merge, by
+//! the rules; where it failed and no write did, the state is kept. At each moment a power cut
+//! leaves the same map. At most one place is erased, the least worn free one that isn't found worn then, and
+//! at most one sector programmed elsewhere, a log sector; where one is clean at the unit's home, nothing is read or
+//! erased, there is no barrier, and no other sector counts as written than before. What is retired
+//! besides was found worn, and the status header lists no other place as it. Over what the chip
+//! holds it fails with what is wrong with the unit that it had to merge, which is where it was, or
+//! where a call of the chip failed; with that alone where the unit's pages show values and few log
+//! sectors would be carried.
+//!
+//! Proved, by its calls, `buffer_laws`, `room_laws`: a put changes the frame of its page by its record
+//! and no other, exactly where the page has room for all that may become values then; whether a put
+//! might come to take more than its page has, by the frame's values and the sessions' marks; the end of
+//! a session makes its changes values, or drops them and its records, in the frames of the names'
+//! pages; a slot's value is that of the frame; all pins and holds are kept, and no use of a page is
+//! counted.
 #![tactic(auto)]
 
 mod bringing;
+mod ends;
+mod filling;
+mod frame_laws;
 mod frames;
 mod pages;
+mod puts;
+mod record_laws;
+mod records;
 mod sessions;
+mod sizes;
 mod tables;
+mod values;
 mod writing;
 
+pub use ends::{apply_names, drop_names};
+pub use filling::overfills;
+pub use frame_laws::{buffer_laws, room_laws};
 pub use frames::{has_records, is_framed};
 pub use pages::Pages;
+pub use puts::put_record;
+pub use record_laws::writing_laws;
+pub use values::{committed_value, seen_value};

@@ -8,10 +8,10 @@ ghost use Rattle.page_frames.specs.Works.{WorksOn};
 
 use crate::Pages;
 use crate::frames::has_records;
+use crate::puts::{clear_log, log_payload};
+use crate::records::write_records;
 use chip_trait::Chip;
-use frame_changes::{clear_log, log_payload};
 use ipl_base::ChipFault;
-use page_writing::write_records;
 
 impl Pages {
     /// Writes the records out that a page has in memory, where it is in a frame and has some. It stays

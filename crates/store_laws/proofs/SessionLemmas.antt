@@ -51,7 +51,7 @@ pub map_written : (state : State) (s : ℕ) (w : Write)
 map_written state s w = map_with state (get state.sessions s) _ (λ x. refl)
 
 -- a session that holds no written name wrote nothing
-wrote_none : (slots : held.Slots) (state : State) (s : ℕ) → AreSessionsOf slots state
+wrote_none : (slots : held.SessionSlots) (state : State) (s : ℕ) → AreSessionsOf slots state
     → written_of slots s ≡ [] → (n : ℕ) → wrote state s n ≡ false
 wrote_none slots state s are none n = false_from_ne_true (wrote state s n) (λ is.
     contains_nil n (subst (λ (l : List ℕ). Contains l n) none

@@ -23,6 +23,6 @@ pub use laws::{
     session_laws,
 };
 pub use pending::{
-    chip_laws, fitting_laws, frame_laws, memory_laws, pending_laws, room_laws, saying_laws,
+    chip_laws, fill_laws, fitting_laws, frame_laws, memory_laws, pending_laws, saying_laws,
     telling_laws,
 };

@@ -74,7 +74,7 @@ pub fn telling_laws()
 
 /// Its pages have room for what sessions wrote, also with what is pending there; and whether a put finds
 /// its page full.
-pub fn room_laws()
+pub fn fill_laws()
     ensures written { WrittenPagesFit }
     ensures loaded { LoadedPagesFit }
     ensures marks { FramesKeepMarks }

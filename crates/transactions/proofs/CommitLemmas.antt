@@ -36,7 +36,7 @@ use Rattle.store_laws.specs.Refusals.{AreOpenSessions}
 use Rattle.store_laws.specs.SessionLaws.{with_numbers_of}
 use Rattle.store_laws.proofs.CommitLemmas.{numbers_lead, failed_numbers_lead}
 use Rattle.store_laws.proofs.SessionLemmas.{empty_commits_lead}
-use Rattle.frame_changes.specs.Views.{frames_of}
+use Rattle.page_frames.specs.Views.{frames_of}
 use Rattle.page_frames.specs.declared.pages.Pages.{Pages}
 use Rattle.page_frames.specs.Pages.{tables_in, frames_in, PageCause, Upholds}
 use Rattle.transactions.specs.declared.transactions.Transactions.{Transactions}

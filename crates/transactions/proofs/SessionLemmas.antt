@@ -14,7 +14,7 @@ use Rattle.store_laws.specs.Fits.{LocksHold}
 use Rattle.store_laws.specs.NamedFrames.{NamedFramesChange, IsSameOr}
 use Rattle.store_laws.specs.SessionLaws.{with_numbers_of}
 use Rattle.store_laws.proofs.SessionLemmas.{begins_lead, shares_lead, aborts_lead}
-use Rattle.frame_changes.specs.Views.{frames_of}
+use Rattle.page_frames.specs.Views.{frames_of}
 use Rattle.page_frames.specs.declared.pages.Pages.{Pages}
 use Rattle.page_frames.specs.Pages.{tables_in, frames_in}
 use Rattle.transactions.specs.declared.transactions.Transactions.{Transactions}

@@ -34,9 +34,9 @@ use Rattle.step_laws.specs.Steps.{Tidies}
 use Rattle.step_laws.proofs.TablesLemmas.{tables_none}
 use Rattle.store_laws.specs.Advances.{Memory, memory_of, MemoryFits, KeepsState, LeadsTo}
 use Rattle.store_laws.proofs.SessionLemmas.{writes_lead}
-use Rattle.frame_changes.specs.Changes.{FrameChanges, MayPut, PutHasRoom}
-use Rattle.frame_changes.proofs.RoomLemmas.{puts_by_marks_have_room}
-use Rattle.page_writing.specs.Spending.{ErasesAndLogs}
+use Rattle.page_frames.specs.Changes.{FrameChanges, MayPut, PutHasRoom}
+use Rattle.page_frames.proofs.FrameRoomLemmas.{puts_by_marks_have_room}
+use Rattle.page_frames.specs.Spending.{ErasesAndLogs}
 use Rattle.page_frames.specs.declared.pages.Pages.{Pages}
 use Rattle.page_frames.specs.Pages.{tables_in, frames_in, IsFramed, KeepsValues, Upholds}
 use Rattle.place_taking.proofs.WearLemmas.{alike_tables, nothing_wears}

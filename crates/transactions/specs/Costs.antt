@@ -12,7 +12,7 @@ use Rattle.txn_status.specs.Status.{room_of}
 use Rattle.selective_merge.specs.Spotting.{HasHomeSpot}
 use Rattle.store_laws.specs.Frames.{PageFrame}
 use Rattle.record_locks.specs.Held.{written_by}
-use Rattle.page_writing.specs.Spending.{ErasesAndLogs}
+use Rattle.page_frames.specs.Spending.{ErasesAndLogs}
 use Rattle.page_frames.specs.declared.pages.Pages.{Pages}
 use Rattle.page_frames.specs.Pages.{tables_in, frames_in, IsFramed, HasFreeFrame}
 use Rattle.page_frames.specs.Changed.{changed_pages, HasHomesFor}

@@ -21,8 +21,8 @@ use crate::Transactions;
 use crate::adding::add_numbers;
 use crate::numbers::writer_numbers;
 use chip_trait::Chip;
-use frame_changes::apply_names;
 use ipl_base::ChipFault;
+use page_frames::apply_names;
 use selective_merge::Active;
 use status_renewal::KeptNumbers;
 

@@ -11,8 +11,8 @@ ghost use Rattle.transactions.specs.Turns.{TurnsInMemory, IsSameButActive};
 
 use crate::Transactions;
 use crate::numbers::active_numbers;
-use frame_changes::drop_names;
 use ipl_base::Name;
+use page_frames::drop_names;
 
 impl Transactions {
     /// Opens a session (0 to 31), with the next number as its own.

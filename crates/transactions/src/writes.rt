@@ -17,9 +17,9 @@ ghost use Rattle.transactions.specs.Turns.{CompletesFor, IsInOrder, MayTake, Tel
 
 use crate::Transactions;
 use chip_trait::Chip;
-use frame_changes::put_record;
 use ipl_base::{ChipFault, Name, home};
 use log_records::{Change, Record};
+use page_frames::put_record;
 
 impl Transactions {
     /// Puts or deletes a name of the chip for a session (0 to 31), which no lock keeps it from; a

@@ -10,14 +10,14 @@ pub returns-in-Err-clause-leaves : goal.returns-in-Err-clause-leaves
 returns-in-Err-clause-leaves g c =
     rw c.format_end.ensures (failed_format c.args.spares (g.D.Chip.told c.args.desk.now)
     (g.D.Chip.told c.format.new.chip) c.format.ensures.counts c.in-Err.fault
-    c.in-Err.ensures.unchanged c.in-Err.ensures.stopped c.in-Err.ensures.worn
+    c.in-Err.ensures.unchanged c.in-Err.ensures.fails.stopped c.in-Err.ensures.fails.worn
     c.in-Err.ensures.formats)
 
 pub returns-in-Err-clause-cause : goal.returns-in-Err-clause-cause
 returns-in-Err-clause-cause g c =
     rw c.format_end.ensures (failed_cause c.args.spares (g.D.Chip.told c.args.desk.now)
     (g.D.Chip.told c.format.new.chip) c.in-Err.fault c.in-Err.ensures.geometry.0
-    c.in-Err.ensures.stopped c.in-Err.ensures.worn c.in-Err.ensures.formats)
+    c.in-Err.ensures.fails.stopped c.in-Err.ensures.fails.worn c.in-Err.ensures.formats)
 
 pub returns-in-Ok-say-clause-leaves : goal.returns-in-Ok-say-clause-leaves
 returns-in-Ok-say-clause-leaves g c = said_ok c.args.spares (g.D.Chip.told c.args.desk.now)

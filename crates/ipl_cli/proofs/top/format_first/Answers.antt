@@ -12,5 +12,5 @@ returns-in-Err g c = record {
   formats = rw c.format_end.ensures
       (not_formatted (g.D.Chip.told c.args.desk.now) (g.D.Chip.told c.format.new.chip)
       c.requires.fits c.format.ensures.counts c.in-Err.fault c.in-Err.ensures.geometry.0
-      c.in-Err.ensures.stopped c.in-Err.ensures.worn c.in-Err.ensures.formats);
+      c.in-Err.ensures.fails.stopped c.in-Err.ensures.fails.worn c.in-Err.ensures.formats);
 }

@@ -2,7 +2,7 @@ use Rattle.std.proofs.Common.{IsSome, refl, sym, subst}
 use Rattle.buffer_pool.specs.Pools.{with_use}
 use Rattle.buffer_pool.proofs.HoldingLemmas.{changes_keep}
 use Rattle.buffer_pool.proofs.UseLemmas.{changes_count_no_other}
-use Rattle.frame_changes.proofs.FrameLemmas.{pins_keep_frames}
+use Rattle.page_frames.proofs.FrameViewLemmas.{pins_keep_frames}
 use Rattle.page_frames.proofs.HeldLemmas.{framed_there}
 use Rattle.page_frames.proofs.frames.use_page.Goals as goal
 

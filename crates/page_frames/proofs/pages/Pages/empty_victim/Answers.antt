@@ -1,7 +1,7 @@
 use Rattle.std.proofs.Common.{sym, ◌∙◌, ap, subst}
 use Rattle.std.proofs.lemmas.Result.{err_from_is_err_and}
 use Rattle.store_laws.specs.Frames.{Frames, logs_of}
-use Rattle.frame_changes.specs.Views.{frame_in}
+use Rattle.page_frames.specs.Views.{frame_in}
 use Rattle.page_frames.specs.Frames.{IsVictimFor, IsUnheld, MayGive}
 use Rattle.page_frames.specs.Pages.{frames_in}
 use Rattle.page_frames.proofs.FrameLemmas.{emptied_out, emptied_none}

@@ -9,7 +9,7 @@ use Rattle.page_ops.specs.Frames.{empty_frame}
 use Rattle.buffer_pool.specs.Pools.{PoolView}
 use Rattle.store_laws.specs.Frames.{Frames, logs_of}
 use Rattle.store_laws.specs.Views.{frame_of}
-use Rattle.frame_changes.specs.Views.{frames_of}
+use Rattle.page_frames.specs.Views.{frames_of}
 use Rattle.page_frames.specs.declared.pages.Pages.{Pages}
 use Rattle.page_frames.specs.Faulty.{FailsAsPage}
 use Rattle.page_frames.specs.Filling.{with_pool}

@@ -3,7 +3,7 @@ use Rattle.buffer_pool.proofs.HoldingLemmas.{both_keep}
 use Rattle.buffer_pool.proofs.UseLemmas.{kept_uses_are_last, same_counts}
 use Rattle.page_ops.specs.Frames.{empty_frame}
 use Rattle.store_laws.specs.Frames.{Frames, logs_of}
-use Rattle.frame_changes.specs.Views.{frames_of}
+use Rattle.page_frames.specs.Views.{frames_of}
 use Rattle.unit_io.specs.ReadsAt.{Anywhere}
 use Rattle.store_laws.specs.Views.{frame_of}
 use Rattle.page_frames.specs.Pages.{frames_in}

@@ -6,8 +6,8 @@ use Rattle.unit_io.specs.Faults.{TellsChipFault}
 use Rattle.std.proofs.lemmas.Result.{on_ok_weaker}
 use Rattle.ipl_format.specs.Record.{Record}
 use Rattle.buffer_pool.specs.Lending.{with_frame}
-use Rattle.frame_changes.proofs.FrameLemmas.{loans_change_a_frame}
-use Rattle.frame_changes.proofs.PutLemmas.{stored_then, frame_pins, frame_uses}
+use Rattle.page_frames.proofs.FrameViewLemmas.{loans_change_a_frame}
+use Rattle.page_frames.proofs.PutLemmas.{stored_then, frame_pins, frame_uses}
 use Rattle.store_laws.specs.Frames.{with_frame_at}
 use Rattle.store_laws.specs.Views.{frame_of}
 use Rattle.page_frames.specs.Pages.{tables_in, frames_in}

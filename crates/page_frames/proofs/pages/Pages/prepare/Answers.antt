@@ -4,7 +4,7 @@ use Rattle.std.proofs.lemmas.Result.{on_ok_weaker}
 use Rattle.log_records.specs.View.{record_of}
 use Rattle.place_taking.specs.Spending.{is_worn_out}
 use Rattle.store_laws.specs.Frames.{Frames}
-use Rattle.frame_changes.specs.Changes.{MayPut}
+use Rattle.page_frames.specs.Changes.{MayPut}
 use Rattle.page_frames.specs.declared.pages.Pages.{Pages}
 use Rattle.buffer_pool.proofs.UseLemmas.{same_counts}
 use Rattle.page_frames.proofs.AskLemmas.{fitting_asks, framed_asks, fetched_asks}

@@ -23,13 +23,13 @@ returns-then-not-has_records-clause-frames g c =
     sym (emptied_same (frames_in c.args.self.now) c.args.unit c.args.page
     (c.if-not-has_records.ensures.none refl))
 
-pub returns-in_err-write_out-clause-works : goal.returns-in_err-write_out-clause-works
-returns-in_err-write_out-clause-works g c =
-    let is = c.in_err-write_out.ensures in
+pub returns-in_err-write_records-clause-works : goal.returns-in_err-write_records-clause-works
+returns-in_err-write_records-clause-works g c =
+    let is = c.in_err-write_records.ensures in
     let pages = c.args.self.now in
     let after : Pages = record { parts = c.write_records.new.parts; pool = pages.pool } in
     let old = g.C.Chip.told c.args.chip.now in
-    let fault = c.in_err-write_out.field-0.0 in
+    let fault = c.in_err-write_records.field-0.0 in
     let e = err_from_is_err_and c.from_residual.result c.from_residual.ensures.1 in
     rw (e.1, e.2) (record {
       upholds = out_failed c.args.unit c.args.page c.log_payload-payload.result pages after fault old
@@ -46,17 +46,17 @@ pub returns-then-not-has_records-clause-asks : goal.returns-then-not-has_records
 returns-then-not-has_records-clause-asks g c =
     none_to_write c.args.unit c.args.page c.args.self.now (g.C.Chip.told c.args.chip.now)
 
-pub returns-in_err-write_out-clause-asks : goal.returns-in_err-write_out-clause-asks
-returns-in_err-write_out-clause-asks g c =
+pub returns-in_err-write_records-clause-asks : goal.returns-in_err-write_records-clause-asks
+returns-in_err-write_records-clause-asks g c =
     let e = err_from_is_err_and c.from_residual.result c.from_residual.ensures.1 in
-    rw (e.1, e.2) (some_to_write c.args.unit c.args.page (Err c.in_err-write_out.field-0.0)
+    rw (e.1, e.2) (some_to_write c.args.unit c.args.page (Err c.in_err-write_records.field-0.0)
     c.args.self.now (record { parts = c.write_records.new.parts; pool = c.args.self.now.pool })
     (g.C.Chip.told c.args.chip.now) (g.C.Chip.told c.write_records.new.chip)
-    (c.if-not-has_records.ensures.full refl) c.in_err-write_out.ensures.costs)
+    (c.if-not-has_records.ensures.full refl) c.in_err-write_records.ensures.costs)
 
 pub returns-clause-works : goal.returns-clause-works
 returns-clause-works g c =
-    let is = c.in_ok-write_out.ensures in
+    let is = c.in_ok-write_records.ensures in
     let pages = c.args.self.now in
     let after : Pages = record { parts = c.write_records.new.parts; pool = c.clear_log.new.pool } in
     let old = g.C.Chip.told c.args.chip.now in
@@ -76,13 +76,13 @@ returns-clause-asks g c =
     some_to_write c.args.unit c.args.page (Ok tt) c.args.self.now
     (record { parts = c.write_records.new.parts; pool = c.clear_log.new.pool })
     (g.C.Chip.told c.args.chip.now) (g.C.Chip.told c.write_records.new.chip)
-    (c.if-not-has_records.ensures.full refl) c.in_ok-write_out.ensures.costs
+    (c.if-not-has_records.ensures.full refl) c.in_ok-write_records.ensures.costs
 
 pub returns-then-not-has_records-clause-framed : goal.returns-then-not-has_records-clause-framed
 returns-then-not-has_records-clause-framed g c = λ u page is. is
 
-pub returns-in_err-write_out-clause-framed : goal.returns-in_err-write_out-clause-framed
-returns-in_err-write_out-clause-framed g c = λ u page is. is
+pub returns-in_err-write_records-clause-framed : goal.returns-in_err-write_records-clause-framed
+returns-in_err-write_records-clause-framed g c = λ u page is. is
 
 pub returns-clause-framed : goal.returns-clause-framed
 returns-clause-framed g c =
@@ -91,7 +91,7 @@ returns-clause-framed g c =
     (cleared_frames (frames_in c.args.self.now) (frames_in new) c.args.unit c.args.page
     c.clear_log.ensures.cleared)
 
-pub returns-in_err-write_out-clause-exact : goal.returns-in_err-write_out-clause-exact
-returns-in_err-write_out-clause-exact g c =
+pub returns-in_err-write_records-clause-exact : goal.returns-in_err-write_records-clause-exact
+returns-in_err-write_records-clause-exact g c =
     let e = err_from_is_err_and c.from_residual.result c.from_residual.ensures.1 in
-    rw (e.1, e.2) c.in_err-write_out.ensures.fault
+    rw (e.1, e.2) c.in_err-write_records.ensures.fault

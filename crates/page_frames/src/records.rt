@@ -1,0 +1,162 @@
+//! The records of a page, written as one log sector of its unit.
+ghost use Rattle.ipl_base.specs.declared.limits.TheConstants.{VERSION};
+ghost use Rattle.std.specs.Prelude.{◌≡◌, ◌<◌, ◌≤◌, ◌+◌, ◌^◌, [], length, false, OnOk, OnErr, IsTrue, is_ok};
+ghost use Rattle.unit_io.specs.Accounts.{Accounts};
+ghost use Rattle.unit_io.specs.Charts.{Charts};
+ghost use Rattle.unit_io.specs.Costs.{ProgramsAt, Spends};
+ghost use Rattle.unit_io.specs.Leads.{IsStopped};
+ghost use Rattle.step_laws.specs.Steps.{Tidies};
+ghost use Rattle.place_taking.specs.Spending.{is_worn_out};
+ghost use Rattle.place_taking.specs.Wear.{TellsOfWear};
+ghost use Rattle.merge_laws.specs.Known.{KnowsPlaces};
+ghost use Rattle.selective_merge.specs.Merging.{FailsAsMerge, CompletesMerge};
+ghost use Rattle.selective_merge.specs.Moving.{tables_of, Holds};
+ghost use Rattle.selective_merge.specs.Spotting.{IsHomeSpot, IsSpotFor};
+ghost use Rattle.page_frames.specs.Causes.{WritingCause};
+ghost use Rattle.page_frames.specs.InPlace.{StaysInPlace};
+ghost use Rattle.page_frames.specs.Spending.{UsesHome, WritingCosts};
+ghost use Rattle.page_frames.specs.Writing.{
+  IsAfterLog,
+  WritesLog,
+  WritesLogInSteps,
+  WritesOut,
+  WritesOutInSteps,
+};
+
+use chip_trait::Chip;
+use ipl_base::{ChipFault, Spot};
+use log_records::Payload;
+use overflow::overflow_laws;
+use sector_format::Head;
+use selective_merge::{Parts, log_place};
+use unit_io::program_log;
+use unit_log::mask_of;
+
+/// Whether a spot is the first clean log sector at the unit's home.
+fn is_home(parts: &Parts, unit: u32, spot: Spot) -> bool
+    requires { unit < length parts.now.directory.current }
+    ensures home { IsTrue result
+        → IsHomeSpot (tables_of parts.now) unit spot.place spot.sector }
+    ensures other { result ≡ false
+        → ¬ IsHomeSpot (tables_of parts.now) unit spot.place spot.sector }
+{
+    match parts.directory.next_log(unit) {
+        Some(sector) => parts.directory.current(unit) == spot.place && sector == spot.sector,
+        None => false,
+    }
+}
+
+/// Counts a spot as written that was one for a log sector of the unit, which names these pages.
+fn use_spot(parts: &mut Parts, unit: u32, spot: Spot, mask: u16, places: u32)
+    requires known { KnowsPlaces places (tables_of parts.old) }
+    requires unit { unit < length parts.old.directory.current }
+    requires spot { IsSpotFor (tables_of parts.old) unit spot.place spot.sector }
+    ensures { IsAfterLog (tables_of parts.old) (tables_of parts.new) unit spot.place spot.sector
+        mask parts.old.counter }
+{
+    overflow_laws();
+    parts.overflow.facts();
+    if is_home(parts, unit, spot) {
+        parts.directory.used_log(unit);
+        parts.directory.set_mask(unit, spot.sector, mask);
+    } else {
+        parts.overflow.add(unit, spot, mask);
+    }
+}
+
+/// Writes records to a spot for a log sector of their unit. It fails only where a write failed.
+fn write_log<C: Chip>(
+    chip: &mut C,
+    parts: &mut Parts,
+    unit: u32,
+    at: Spot,
+    payload: &Payload,
+) -> Result<(), ChipFault>
+    requires known { KnowsPlaces (C.told chip.old).places (tables_of parts.old) }
+    requires unit { unit < length parts.old.directory.current }
+    requires spot { IsSpotFor (tables_of parts.old) unit at.place at.sector }
+    requires left { parts.old.counter + 1 < 2 ^ 64 }
+    requires version { payload.now.version ≡ VERSION }
+    ensures tells { OnOk result (Charts (WritesLog (C.told chip.old).places unit at payload.now
+        (tables_of parts.old) (tables_of parts.new)) (C.told chip.old) (C.told chip.new)) }
+    ensures steps { WritesLogInSteps (C.told chip.old).places unit at payload.now
+        (tables_of parts.old) (tables_of parts.new) (C.told chip.old) result (C.told chip.new) }
+    ensures holds { Holds (C.told chip.old).places (tables_of parts.old) (tables_of parts.new) }
+    ensures places { parts.new.directory.current ≡ parts.old.directory.current }
+    ensures uses { UsesHome result parts.old.directory parts.new.directory unit }
+    ensures drawn { parts.new.counter ≡ parts.old.counter + 1 }
+    ensures costs { Spends (ProgramsAt at.place 1 0 5) (C.told chip.old) (C.told chip.new) }
+    ensures wears { TellsOfWear (tables_of parts.old) (tables_of parts.new) (is_ok result)
+        (is_worn_out result) (C.told chip.old) (C.told chip.new) }
+    ensures tidy { Tidies (tables_of parts.old) result (tables_of parts.new)
+        (C.told chip.old) (C.told chip.new) }
+    ensures accounts { Accounts IsStopped result (C.told chip.old) (C.told chip.new) }
+{
+    parts.directory.facts();
+    parts.overflow.facts();
+    let places = chip.units();
+    let mask = mask_of(payload);
+    let generation = parts.directory.generation(unit);
+    let head = Head::written(Head::LOG, unit, generation, parts.counter.draw());
+    program_log(chip, at, &head, payload)?;
+    use_spot(parts, unit, at, mask, places);
+    Ok(())
+}
+
+/// Writes the records of a page that are in memory only to the chip, as one log sector of its unit,
+/// and empties the list. They are in the version that is written. Where a log sector is clean at the
+/// unit's home, that is one program, with no erase and no barrier. Where none is, a merge of the unit
+/// or a new overflow place may come first, by the rules of `log_place`.
+///
+/// Whatever a power cut leaves at any moment stands for the map on which the story rested, and where
+/// no write failed, it rests on that map at the end: nothing makes sure of the sector, which is for
+/// the next barrier. Where it failed, the list is as it was; at most 14 numbers are drawn.
+///
+/// It fails as `log_place` does, also where more places are worn than are spare, or where a write
+/// failed.
+pub(crate) fn write_records<C: Chip>(
+    chip: &mut C,
+    parts: &mut Parts,
+    unit: u32,
+    payload: &mut Payload,
+) -> Result<(), ChipFault>
+    requires known { KnowsPlaces (C.told chip.old).places (tables_of parts.old) }
+    requires unit { unit < length parts.old.directory.current }
+    requires left { parts.old.counter + 14 < 2 ^ 64 }
+    requires version { payload.old.version ≡ VERSION }
+
+    // What the chip holds then, and what a power cut leaves.
+    ensures tells { WritesOut (C.told chip.old).places unit payload.old
+        (tables_of parts.old) (tables_of parts.new) (C.told chip.old) result (C.told chip.new) }
+    ensures steps { WritesOutInSteps (C.told chip.old).places payload.old
+        (tables_of parts.old) (tables_of parts.new) (C.told chip.old) result (C.told chip.new) }
+
+    // Why it fails over what the chip holds: where the unit's pages show values and few log sectors
+    // would be carried, only where a call of the chip failed. Else the unit is where it was.
+    ensures fault { FailsAsMerge (C.told chip.old).places (tables_of parts.old) unit result
+        (C.told chip.old) }
+    ensures complete { CompletesMerge (C.told chip.old).places (tables_of parts.old) unit result
+        (C.told chip.old) }
+    ensures stays { StaysInPlace (C.told chip.old).places (tables_of parts.old) unit
+        (tables_of parts.new) result (C.told chip.old) }
+
+    // What is in memory, whatever the chip tells.
+    ensures empty { OnOk result (payload.new ≡ record { version = VERSION; bytes = [] }) }
+    ensures kept { OnErr result (payload.new ≡ payload.old) }
+    ensures holds { Holds (C.told chip.old).places (tables_of parts.old) (tables_of parts.new) }
+    ensures draws { (parts.old.counter ≤ parts.new.counter)
+        × (parts.new.counter ≤ parts.old.counter + 14) }
+    ensures costs { WritingCosts result (tables_of parts.old) (tables_of parts.new) unit
+        (C.told chip.old) (C.told chip.new) }
+    ensures wears { TellsOfWear (tables_of parts.old) (tables_of parts.new) (is_ok result)
+        (is_worn_out result) (C.told chip.old) (C.told chip.new) }
+    ensures tidy { Tidies (tables_of parts.old) result (tables_of parts.new)
+        (C.told chip.old) (C.told chip.new) }
+    ensures accounts { Accounts (WritingCause parts.new.directory (tables_of parts.old) unit) result
+        (C.told chip.old) (C.told chip.new) }
+{
+    let at = log_place(chip, parts, unit)?;
+    write_log(chip, parts, unit, at, payload)?;
+    *payload = Payload::empty();
+    Ok(())
+}

@@ -1,6 +1,0 @@
-pub mod Rooms
-pub mod Writing
-pub mod Spending
-pub mod Causes
-pub mod Laws
-pub mod InPlace
