@@ -1,5 +1,5 @@
 -- What a clean close leaves.
-use Rattle.std.specs.Prelude.{ℕ, ◌≡◌, ◌↔◌, ◌<◌, ◌≤◌, List, ◌∷◌, length, slice_index, Some, Result}
+use Rattle.std.specs.Prelude.{ℕ, ◌≡◌, ◌↔◌, ◌<◌, ◌≤◌, ◌+◌, List, ◌∷◌, length, slice_index, Some, Result, OnOk, OnErr}
 use Rattle.chip_trait.specs.declared.event.Event.TheVariants.{Program, Barrier}
 use Rattle.chip_trait.specs.Image.{IsClosed}
 use Rattle.chip_trait.specs.Story.{Story, Contents, blank, held}
@@ -16,6 +16,8 @@ use Rattle.ipl_meaning.specs.Rests.{EachStands, StoryRests}
 use Rattle.ipl_meaning.specs.Tables.{Tables, written_of, UNKNOWN_LOGS, IsCountedClean}
 use Rattle.unit_io.specs.Leads.{IsSteady}
 use Rattle.step_laws.specs.Steps.{Settled, NoOtherEnd, EndsWith, OutcomeWhere, TidyWork}
+use Rattle.txn_status.specs.Status.{after_mark}
+use Rattle.selective_merge.specs.declared.parts.Parts.{Parts}
 
 -- at the units' places exactly those sectors are marked that the tables count as clean
 abbrev pub MarksWhatCounts : ℕ → Tables → Contents → Type 0
@@ -72,3 +74,11 @@ pub record EndsWithMark (added : Story) : Type 0 where
   pub kind : mark.kind ≡ 7
   pub before : Story
   pub events : added ≡ Barrier ∷ Program place number bytes ∷ before
+
+-- Done, the status has one sector less that is known clean; and where it failed, the status is as it was. One number at
+-- most was drawn, and all else is as it was.
+pub record MarksOrStays (result : Result (Unit {0}) ChipFault) (old new : Parts) : Type 0 where
+  pub marked : OnOk result (new.status ≡ after_mark old.status)
+  pub same : OnErr result (new.status ≡ old.status)
+  pub rest : new ≡ record old { status = new.status; counter = new.counter }
+  pub drawn : (old.counter ≤ new.counter) × (new.counter ≤ old.counter + 1)

@@ -1,13 +1,13 @@
 //! The mark is written.
-ghost use Rattle.std.specs.Prelude.{◌≡◌, ◌<◌, ◌≤◌, ◌+◌, ◌^◌, OnOk, OnErr};
+ghost use Rattle.std.specs.Prelude.{◌≡◌, ◌<◌, ◌+◌, ◌^◌, OnOk};
 ghost use Rattle.unit_io.specs.Accounts.{Accounts};
 ghost use Rattle.unit_io.specs.Costs.{ProgramsAt, Spends};
 ghost use Rattle.unit_io.specs.Leads.{IsStopped};
 ghost use Rattle.step_laws.specs.Steps.{Tidies};
-ghost use Rattle.txn_status.specs.Status.{after_mark, room_of};
+ghost use Rattle.txn_status.specs.Status.{AdvancesTo, after_mark, room_of};
 ghost use Rattle.merge_laws.specs.Known.{KnowsPlaces};
 ghost use Rattle.selective_merge.specs.Moving.{tables_of};
-ghost use Rattle.clean_close.specs.Closing.{ClosesClosed, ClosesInSteps, EndsWithMark};
+ghost use Rattle.clean_close.specs.Closing.{ClosesClosed, ClosesInSteps, EndsWithMark, MarksOrStays};
 
 use crate::payload::known_units;
 use chip_trait::Chip;
@@ -22,8 +22,8 @@ fn write_mark<C: Chip>(chip: &mut C, parts: &mut Parts) -> Result<(), ChipFault>
     requires left { parts.old.counter + 1 < 2 ^ 64 }
     ensures steps { ClosesClosed (C.told chip.old).places (tables_of parts.old) (tables_of parts.new)
         (C.told chip.old) result (C.told chip.new) }
-    ensures marked { OnOk result (parts.new.status ≡ after_mark parts.old.status) }
-    ensures same { OnErr result (parts.new.status ≡ parts.old.status) }
+    ensures marked { AdvancesTo (after_mark parts.old.status) result parts.old.status parts.new.status
+        parts.old.counter parts.new.counter }
     ensures rest { parts.new ≡ record parts.old { status = parts.new.status; counter = parts.old.counter + 1 } }
     ensures tidy { Tidies (tables_of parts.old) result (tables_of parts.new) (C.told chip.old) (C.told chip.new) }
     ensures ends { OnOk result (Spends EndsWithMark (C.told chip.old) (C.told chip.new)) }
@@ -49,10 +49,7 @@ pub fn close<C: Chip>(chip: &mut C, parts: &mut Parts) -> Result<(), ChipFault>
     ensures steps { ClosesInSteps (C.told chip.old).places (tables_of parts.old) (tables_of parts.new)
         (C.told chip.old) result (C.told chip.new) }
     // What the tables have, whatever the chip tells.
-    ensures marked { OnOk result (parts.new.status ≡ after_mark parts.old.status) }
-    ensures same { OnErr result (parts.new.status ≡ parts.old.status) }
-    ensures rest { parts.new ≡ record parts.old { status = parts.new.status; counter = parts.new.counter } }
-    ensures drawn { (parts.old.counter ≤ parts.new.counter) × (parts.new.counter ≤ parts.old.counter + 1) }
+    ensures leaves { MarksOrStays result parts.old parts.new }
     // Whatever the chip holds, it is lawful; and the last two events are the program of a mark and a barrier.
     ensures tidy { Tidies (tables_of parts.old) result (tables_of parts.new) (C.told chip.old) (C.told chip.new) }
     ensures ends { OnOk result (Spends EndsWithMark (C.told chip.old) (C.told chip.new)) }

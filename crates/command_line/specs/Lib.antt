@@ -1,3 +1,4 @@
+pub mod Ends
 pub mod Ipl
 pub mod Chip
 pub mod Asked

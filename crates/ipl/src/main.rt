@@ -5,11 +5,10 @@
 use chip_image::{AttachFault, FileChip, NoChip};
 use chip_mem::PlainChip;
 use chip_trait::Chip;
-use command_line::{Choice, Request, chip_choice, request};
+use command_line::{Choice, End, NoteLine, Request, chip_choice, request, status};
 use ipl_base::{Geometry, OutOfMemory};
 use ipl_cli::RealDesk;
 use ipl_cli::top::top;
-use program_end::{End, NoteLine, status};
 use std::alloc::Global;
 use std::env;
 use std::io::{ErrorKind, Write};

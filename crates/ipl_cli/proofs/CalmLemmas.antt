@@ -12,8 +12,8 @@ use Rattle.status_renewal.specs.Chains.{starts_at}
 use Rattle.status_renewal.proofs.ChainLemmas.{images_rest}
 use Rattle.command_line.specs.declared.asked.Request.{Request}
 use Rattle.command_line.specs.declared.asked.Request.TheVariants.{Format, Run, Serial, Check, Trial}
-use Rattle.program_end.specs.Ends.{fault_status}
-use Rattle.program_end.specs.declared.end.End.TheVariants.{Words, Chip, OutOfMemory, Script, Output, TooLong}
+use Rattle.command_line.specs.Ends.{fault_status}
+use Rattle.command_line.specs.declared.end.End.TheVariants.{Words, Chip, OutOfMemory, Script, Output, TooLong}
 use Rattle.ipl_cli.specs.Ending.{Ending, status_at}
 use Rattle.ipl_cli.specs.Top.{RestsWithNumbersLeft, StrayCause, OpenedCause, FormatCause, AnewCause, FormattedCause, ChipCause, IsTooLong, EndCause, StrayCause, SpentCause, IsMetLater, IsUnfit, IsSilent, IsCalm, IsTold, Suffices, EndsInTime}
 use Rattle.ipl_cli.proofs.StartLemmas.{opened_excused}

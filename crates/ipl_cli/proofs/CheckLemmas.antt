@@ -13,9 +13,9 @@ use Rattle.store_trait.specs.Onward.{Further}
 use Rattle.store_trait.proofs.OnwardLemmas.{onward_said, further_onward}
 use Rattle.image_check.specs.Checked.{IsCheckCause, IsUnwell}
 use Rattle.command_line.specs.declared.asked.Request.TheVariants.{Check}
-use Rattle.program_end.specs.declared.end.End.{End}
-use Rattle.program_end.specs.Ends.{fault_status}
-use Rattle.program_end.specs.declared.end.End.TheVariants.{Words, Chip, OutOfMemory, Script, Output, TooLong}
+use Rattle.command_line.specs.declared.end.End.{End}
+use Rattle.command_line.specs.Ends.{fault_status}
+use Rattle.command_line.specs.declared.end.End.TheVariants.{Words, Chip, OutOfMemory, Script, Output, TooLong}
 use Rattle.ipl_cli.specs.Adds.{AddsLawful}
 use Rattle.ipl_cli.specs.Ending.{Ending, IsLeftAlone, but_noted}
 use Rattle.ipl_cli.specs.Checks.{records_line, HoldsAsMany, IsSaid, Counted, Unwell, CheckedCause, CheckLeaves}

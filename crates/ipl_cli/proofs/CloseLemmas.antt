@@ -1,9 +1,9 @@
 -- A run behind which the chip is closed.
-use Rattle.std.proofs.Common.{◌≡◌, ◌≤◌, ◌+◌, ◌++◌, ℕ, Bool, true, Result, Ok, Err, OnOk, IfErr, is_ok, refl, sym, ◌∙◌, ap, subst, arith}
+use Rattle.std.proofs.Common.{◌≡◌, ◌≤◌, ◌+◌, ◌++◌, ℕ, Bool, true, Result, Ok, Err, OnOk, is_ok, refl, sym, ◌∙◌, ap, subst, arith}
 use Rattle.std.specs.Prelude.{IsErrOf, max}
 use Rattle.std.specs.Option.{option_map}
 use Rattle.chip_trait.specs.Story.{Story}
-use Rattle.chip_trait.specs.Told.{Told, Beside, Grew, adds_all}
+use Rattle.chip_trait.specs.Told.{Told, Beside, adds_all}
 use Rattle.chip_trait.proofs.HistoryLemmas.{history_then}
 use Rattle.ipl_model.specs.Grammar.{commands_of}
 use Rattle.ipl_model.specs.Run.{after_all}
@@ -16,7 +16,7 @@ use Rattle.store_trait.proofs.DrawLemmas.{numbers_last}
 use Rattle.script_run.specs.declared.fault.Stop.{Stop}
 use Rattle.script_run.specs.declared.fault.Stop.TheVariants as stop
 use Rattle.script_run.specs.Behind.{stop_of}
-use Rattle.script_run.specs.Goes.{StopCause, LearnsAlong, CompletesOver, HasRead, ReadsAll, RunsScript}
+use Rattle.script_run.specs.Goes.{LearnsAlong, CompletesOver, EndsScript, ReadsAll, ReadsTooMany, RunsScript}
 use Rattle.script_run.proofs.BehindLemmas.{runs_behind, tidy_behind, cause_behind, learns_behind, completes_behind, further_both}
 use Rattle.script_run.proofs.CompleteLemmas.{completes_more}
 use Rattle.script_store.specs.declared.store.ScriptStore.{ScriptStore}
@@ -49,9 +49,8 @@ closed_since first old mid new before closed = record {
 -- ---- a script
 
 -- a script that is told has as many bytes as were read of it
-pub too_long : (old new : Told) → HasRead 4294967295 old new
-    × Grew old.beside.script_bytes 4294967295 new.beside.script_bytes → IsTooLong old new
-too_long old new (read, grew) = record { grew = grew; told = λ source left. (read source left).1 }
+pub too_long : (old new : Told) → ReadsTooMany old new → IsTooLong old new
+too_long old new many = record { grew = many.grew; told = λ source left. (many.read source left).1 }
 
 module _ (before then : ScriptStore) (old new : Told) (closes : Bool) where
   -- it was run, and nothing else done
@@ -60,23 +59,20 @@ module _ (before then : ScriptStore) (old new : Told) (closes : Bool) where
       → LeavesTidy (script_keeping old.places) before then old new (is_ok result)
       → Draws (script_keeping old.places) SCRIPT_DRAWS before (IsErrOf result (stop.Store fault.Spent)) then
       → CompletesOver (script_keeping old.places) SCRIPT_DRAWS before old result then new
-      → IfErr result (λ s. StopCause (script_keeping old.places) old new s)
       → LearnsAlong (script_keeping old.places) before old result then new
-      → Further old new
-      → (IsErrOf result stop.TooLong → HasRead 4294967295 old new
-      × Grew old.beside.script_bytes 4294967295 new.beside.script_bytes)
-      → OnOk result (ReadsAll old new) → OnOk result (closes ≡ true → ClosesScript before old new)
+      → Further old new → EndsScript (script_keeping old.places) old result new
+      → OnOk result (closes ≡ true → ClosesScript before old new)
       → RunsClosing closes result before old then new
-  ran_alone result low runs tidy draws completes cause learns further long read closed = record {
+  ran_alone result low runs tidy draws completes learns further ends closed = record {
     runs = runs;
     tidy = tidy;
     completes = λ limits keeps. completes_more (completes limits keeps) (omega arith);
-    cause = cause;
+    cause = ends.cause;
     learns = learns;
     unspent = numbers_last draws low;
-    long = λ is. too_long old new (long is);
+    long = λ is. too_long old new (ends.long is);
     further = further;
-    read = read;
+    read = ends.all;
     closed = closed;
   }
 

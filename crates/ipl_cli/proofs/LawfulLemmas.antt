@@ -21,7 +21,7 @@ use Rattle.unit_io.specs.Reads.{OfContents}
 use Rattle.ipl_store.specs.Openings.{Tries}
 use Rattle.script_store.specs.declared.store.ScriptStore.{ScriptStore}
 use Rattle.script_store.specs.Keeps.{script_keeping}
-use Rattle.program_end.specs.declared.end.End.{End}
+use Rattle.command_line.specs.declared.end.End.{End}
 use Rattle.command_line.specs.declared.asked.Request.TheVariants.{Format, Run, Serial, Check, Trial}
 use Rattle.ipl_cli.specs.Adds.{AddsLawful, AddsLawfulByMark, AddsAsAsked}
 use Rattle.ipl_cli.specs.Ending.{AskedFor, but_noted}

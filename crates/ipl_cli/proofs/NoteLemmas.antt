@@ -10,8 +10,8 @@ use Rattle.unit_io.specs.Leads.{IsSteady}
 use Rattle.store_trait.specs.Onward.{Further}
 use Rattle.command_line.specs.declared.asked.Request.{Request}
 use Rattle.command_line.specs.declared.asked.Request.TheVariants.{Format, Run, Serial, Check, Trial}
-use Rattle.program_end.specs.declared.end.End.{End}
-use Rattle.program_end.specs.declared.end.End.TheVariants.{Words, Chip, OutOfMemory, Script, Output, TooLong}
+use Rattle.command_line.specs.declared.end.End.{End}
+use Rattle.command_line.specs.declared.end.End.TheVariants.{Words, Chip, OutOfMemory, Script, Output, TooLong}
 use Rattle.ipl_cli.specs.Ending.{AskedFor, Ending, StopsEarly, IsFormatStopped, IsLeftAlone, but_noted, note_at, status_at}
 use Rattle.ipl_cli.specs.Trials.{Trials, TrialsFormatted, TrialsOrStops, TrialLeaves}
 use Rattle.ipl_cli.specs.Top.{OpenedCause, FormatCause, FormattedCause, RequestCause, EndCause, Runs, RunsOpened, RunsFormatted, RunsOrStops, IsLaidOut, LaysOut, OnlyLooks, IsRefused, OpenedRuns, FormatLeaves, FormattedLeaves, OpenedLeaves, EndLeaves, Ends, NoneFalls}

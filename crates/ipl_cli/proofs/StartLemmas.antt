@@ -55,9 +55,9 @@ use Rattle.script_store.specs.declared.store.ScriptStore.{ScriptStore}
 use Rattle.script_store.specs.Keeps.{IsRunning, script_keeping, next_number}
 use Rattle.script_store.specs.Worn.{WearsOut, ChipWears, ImageWears}
 use Rattle.script_store.proofs.ReopenLemmas.{opening_knows, opening_wears}
-use Rattle.program_end.specs.Ends.{fault_status}
-use Rattle.program_end.specs.declared.end.End.{End}
-use Rattle.program_end.specs.declared.end.End.TheVariants.{Words, Chip, OutOfMemory, Script, Output, TooLong}
+use Rattle.command_line.specs.Ends.{fault_status}
+use Rattle.command_line.specs.declared.end.End.{End}
+use Rattle.command_line.specs.declared.end.End.TheVariants.{Words, Chip, OutOfMemory, Script, Output, TooLong}
 use Rattle.command_line.specs.declared.asked.Request.TheVariants.{Run}
 use Rattle.ipl_cli.specs.Ending.{Ending, StopsEarly, StopRose, format_end}
 use Rattle.ipl_cli.specs.Top.{IsLaidWell, RestsWithNumbersLeft, IsMetLater, LaidCause, StrayCause, OpenedCause, WornOutCause, AnewCause, FormattedCause, FindsWorn, IsTooLong, RequestCause, EndCause, RunsOpened, IsRefused, OpenedRuns, FormattedLeaves, OpenedLeaves}

@@ -28,7 +28,7 @@ use Rattle.unit_io.specs.Leads.{IsSteady}
 use Rattle.status_renewal.specs.Chains.{starts_at}
 use Rattle.status_renewal.proofs.ChainLemmas.{images_rest}
 use Rattle.store_laws.specs.Keeps.{limits_of}
-use Rattle.program_end.specs.declared.end.End.TheVariants.{Words, Chip, OutOfMemory, Script, Output, TooLong}
+use Rattle.command_line.specs.declared.end.End.TheVariants.{Words, Chip, OutOfMemory, Script, Output, TooLong}
 use Rattle.ipl_cli.specs.Ending.{AskedFor, Ending, AsksFormatted, AtStatus, StopsEarly, StopRose, IsLeftAlone, but_noted}
 use Rattle.ipl_cli.specs.Top.{Runs, RunsOpened, FormattedLeaves, EndLeaves, Ends}
 use Rattle.ipl_cli.specs.Survives.{StandsAfterAnswered, Survives, SurvivesFormat, SurvivesAnew}

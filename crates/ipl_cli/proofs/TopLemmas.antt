@@ -15,8 +15,8 @@ use Rattle.script_run.specs.Goes.{ReadsAll}
 use Rattle.script_store.specs.Worn.{WearsOut}
 use Rattle.command_line.specs.declared.asked.Request.{Request}
 use Rattle.command_line.specs.declared.asked.Request.TheVariants.{Format, Run, Serial, Check, Trial}
-use Rattle.program_end.specs.Ends.{status_of, fault_status}
-use Rattle.program_end.specs.declared.end.End.TheVariants.{Words, Chip, OutOfMemory, Script, Output, TooLong}
+use Rattle.command_line.specs.Ends.{status_of, fault_status}
+use Rattle.command_line.specs.declared.end.End.TheVariants.{Words, Chip, OutOfMemory, Script, Output, TooLong}
 use Rattle.ipl_cli.specs.Ending.{AskedFor, AsksOpened, AsksFormatted, AsksAnew, AtStatus, Ending, IsLeftAlone, but_noted, format_end, status_at, units_beside}
 use Rattle.ipl_cli.specs.Trials.{TrialLeaves}
 use Rattle.ipl_cli.specs.Checks.{CheckLeaves}

@@ -40,8 +40,8 @@ use Rattle.store_trait.specs.Keeping.{FOUND_NUMBER}
 use Rattle.trial_run.specs.Words.{trial_commands}
 use Rattle.trial_run.specs.Trial.{ChipStandsBehind as StandsBehindOf, TrialRuns as LeavesOf, TrialEnds, EndsInWork, RunsTrial, IsTrialStop}
 use Rattle.command_line.specs.declared.asked.Request.TheVariants.{Run, Trial}
-use Rattle.program_end.specs.declared.end.End.{End}
-use Rattle.program_end.specs.declared.end.End.TheVariants.{Words, Chip, OutOfMemory, Script, Output, TooLong}
+use Rattle.command_line.specs.declared.end.End.{End}
+use Rattle.command_line.specs.declared.end.End.TheVariants.{Words, Chip, OutOfMemory, Script, Output, TooLong}
 use Rattle.ipl_cli.specs.Ending.{Ending, StopsEarly}
 use Rattle.ipl_cli.specs.Top.{IsTooLong, RequestCause, EndCause}
 use Rattle.ipl_cli.specs.Trials.{commands_on, state_after, summary, ChipStandsBehind, EndsAlong, EndsTrial, Trials, TrialsFormatted, TrialLeaves}

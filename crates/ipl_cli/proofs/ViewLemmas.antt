@@ -8,10 +8,10 @@ use Rattle.ipl_base.specs.Places.{units_on}
 use Rattle.ipl_model.specs.Plain.{limits_for}
 use Rattle.store_trait.proofs.OnwardLemmas.{further_none}
 use Rattle.script_run.proofs.RunLemmas.{says_none, says_prefix}
-use Rattle.serial_run.specs.View.{ReadsScript, OnlySays, SaysView}
-use Rattle.serial_run.specs.declared.stop.ViewStop.{ViewStop}
-use Rattle.serial_run.specs.declared.stop.ViewStop.TheVariants as stop
-use Rattle.program_end.specs.declared.end.End.TheVariants.{Words, Chip, OutOfMemory, Script, Output, TooLong}
+use Rattle.script_run.specs.View.{ReadsScript, OnlySays, SaysView}
+use Rattle.script_run.specs.declared.view_stop.ViewStop.{ViewStop}
+use Rattle.script_run.specs.declared.view_stop.ViewStop.TheVariants as stop
+use Rattle.command_line.specs.declared.end.End.TheVariants.{Words, Chip, OutOfMemory, Script, Output, TooLong}
 use Rattle.ipl_cli.specs.Ending.{Ending, IsLeftAlone, but_noted}
 use Rattle.ipl_cli.specs.Views.{Views, ViewsTold, OnlyViews, OnlyHears, SerialLeaves, view_end, view_on}
 

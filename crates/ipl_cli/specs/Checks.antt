@@ -14,7 +14,7 @@ use Rattle.unit_io.specs.Reads.{OfContents}
 use Rattle.opening_laws.specs.Chosen.{units_at}
 use Rattle.restart.specs.Looks.{OnlyReads}
 use Rattle.image_check.specs.Checked.{IsCheckCause, IsUnwell, records_in}
-use Rattle.program_end.specs.declared.end.End.TheVariants.{Words, Chip, OutOfMemory, Script, Output, TooLong}
+use Rattle.command_line.specs.declared.end.End.TheVariants.{Words, Chip, OutOfMemory, Script, Output, TooLong}
 use Rattle.ipl_cli.specs.Ending.{Ending, IsLeftAlone, but_noted}
 
 -- the line that says how many records there are

@@ -9,9 +9,9 @@ use Rattle.ipl_base.specs.declared.fault.ImageFault.TheVariants as image
 use Rattle.restart.specs.Fresh.{Formats}
 use Rattle.command_line.specs.declared.asked.Request.{Request}
 use Rattle.command_line.specs.declared.asked.Request.TheVariants.{Run, Trial}
-use Rattle.program_end.specs.Ends.{status_of, note_of}
-use Rattle.program_end.specs.declared.end.End.{End}
-use Rattle.program_end.specs.declared.end.End.TheVariants.{Chip}
+use Rattle.command_line.specs.Ends.{status_of, note_of}
+use Rattle.command_line.specs.declared.end.End.{End}
+use Rattle.command_line.specs.declared.end.End.TheVariants.{Chip}
 
 -- what the words ask, where they are valid
 abbrev pub AskedFor : Type 0

@@ -32,8 +32,8 @@ use Rattle.clean_close.specs.Closing.{EndsWithMark}
 use Rattle.unit_io.specs.Costs.{Spends}
 use Rattle.trial_run.specs.Words.{trial_commands}
 use Rattle.trial_run.specs.Trial.{RunsTrial, IsTrialStop}
-use Rattle.program_end.specs.declared.end.End.{End}
-use Rattle.program_end.specs.declared.end.End.TheVariants.{Words, Chip, OutOfMemory, Script, Output, TooLong}
+use Rattle.command_line.specs.declared.end.End.{End}
+use Rattle.command_line.specs.declared.end.End.TheVariants.{Words, Chip, OutOfMemory, Script, Output, TooLong}
 use Rattle.ipl_cli.specs.Ending.{Ending, IsFormatStopped, StopRose, format_end}
 use Rattle.ipl_cli.specs.Top.{FindsWorn, IsTooLong, OverTold, WereUnused, Runs}
 

@@ -33,9 +33,9 @@ use Rattle.script_run.specs.Run.{SaysLines, EndsBetween, EndsUnsaid}
 use Rattle.script_run.specs.Goes.{ReadsAll}
 use Rattle.command_line.specs.declared.asked.Request.{Request}
 use Rattle.command_line.specs.declared.asked.Request.TheVariants.{Format, Run, Serial, Check, Trial}
-use Rattle.program_end.specs.declared.end.End.{End}
-use Rattle.program_end.specs.declared.end.End.TheVariants.{Words, Chip, OutOfMemory, Script, Output, TooLong}
-use Rattle.program_end.specs.Ends.{fault_status}
+use Rattle.command_line.specs.declared.end.End.{End}
+use Rattle.command_line.specs.declared.end.End.TheVariants.{Words, Chip, OutOfMemory, Script, Output, TooLong}
+use Rattle.command_line.specs.Ends.{fault_status}
 use Rattle.ipl_cli.specs.Ending.{AskedFor, AsksOpened, AsksAnew, Ending, StopsEarly, IsFormatStopped, IsLeftAlone, but_noted, note_at, status_at, units_beside}
 use Rattle.ipl_cli.specs.Trials.{TrialLeaves}
 use Rattle.ipl_cli.specs.Views.{ViewedCause, SerialLeaves}

@@ -22,7 +22,7 @@ use Rattle.store_laws.specs.Keeps.{limits_of}
 use Rattle.script_run.specs.Run.{SaysLines, IsUnsaid}
 use Rattle.trial_run.specs.Words.{trial_commands}
 use Rattle.trial_run.specs.Summary.{trial_lines}
-use Rattle.program_end.specs.declared.end.End.TheVariants.{Words, Chip, OutOfMemory, Script, Output, TooLong}
+use Rattle.command_line.specs.declared.end.End.TheVariants.{Words, Chip, OutOfMemory, Script, Output, TooLong}
 use Rattle.ipl_cli.specs.Ending.{Ending, StopsEarly, IsLeftAlone}
 
 -- the commands of a seed, so many, on so many places, none of which is spare

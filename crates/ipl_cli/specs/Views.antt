@@ -9,11 +9,11 @@ use Rattle.ipl_base.specs.declared.fault.ImageFault.TheVariants as image
 use Rattle.ipl_model.specs.Plain.{limits_for}
 use Rattle.store_trait.specs.Onward.{sayings}
 use Rattle.script_run.specs.Run.{SaysLines}
-use Rattle.serial_run.specs.View.{ReadsScript, OnlySays, view_lines}
-use Rattle.serial_run.specs.declared.stop.ViewStop.{ViewStop}
-use Rattle.serial_run.specs.declared.stop.ViewStop.TheVariants as stop
-use Rattle.program_end.specs.declared.end.End.{End}
-use Rattle.program_end.specs.declared.end.End.TheVariants.{Words, Chip, OutOfMemory, Script, Output, TooLong}
+use Rattle.script_run.specs.View.{ReadsScript, OnlySays, view_lines}
+use Rattle.script_run.specs.declared.view_stop.ViewStop.{ViewStop}
+use Rattle.script_run.specs.declared.view_stop.ViewStop.TheVariants as stop
+use Rattle.command_line.specs.declared.end.End.{End}
+use Rattle.command_line.specs.declared.end.End.TheVariants.{Words, Chip, OutOfMemory, Script, Output, TooLong}
 use Rattle.ipl_cli.specs.Ending.{Ending, IsLeftAlone, but_noted}
 
 -- the end that a view is which isn't said to its end

@@ -3,15 +3,15 @@ ghost use Rattle.std.specs.Prelude.{◌≡◌, OnOk, OnErr, IfErr, Some};
 ghost use Rattle.chip_trait.specs.Told.{FailsToSay, Rose, SayCounts};
 ghost use Rattle.store_trait.specs.Onward.{Further};
 ghost use Rattle.command_line.specs.declared.asked.Request.TheVariants.{Check};
-ghost use Rattle.program_end.specs.declared.end.End.TheVariants.{Output};
+ghost use Rattle.command_line.specs.declared.end.End.TheVariants.{Output};
 ghost use Rattle.ipl_cli.specs.Adds.{AddsLawful};
 ghost use Rattle.ipl_cli.specs.Checks.{CheckLeaves, IsSaid, records_line};
 ghost use Rattle.ipl_cli.specs.Top.{EndCause};
 
 use chip_trait::Desk;
+use command_line::End;
 use image_check::{CheckFault, check};
 use plain_text::TextLine;
-use program_end::End;
 use std::alloc::Global;
 
 /// Says how many records there are.

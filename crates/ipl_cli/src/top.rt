@@ -28,14 +28,12 @@ ghost use Rattle.ipl_cli.specs.Runs.{StartsFormatted, StartsOpened, MakesStore, 
 
 use crate::checking::check_chip;
 use chip_trait::Desk;
-use command_line::{Request, request};
+use command_line::{End, NoteLine, Request, request, status};
 use ipl_base::{ChipFault, FormatFault, Geometry, ImageFault, MOST_UNITS};
 use ipl_store::Store;
-use program_end::{End, NoteLine, status};
 use restart::format;
-use script_run::{Stop, run_script};
+use script_run::{Stop, ViewStop, run_script, say_serial_view};
 use script_store::ScriptStore;
-use serial_run::{ViewStop, say_serial_view};
 use std::alloc::Global;
 use store_trait::Fault;
 use trial_run::run_trial;

@@ -95,14 +95,6 @@ HoldsAgain (Err e) u page old new = new ≡ old
 abbrev pub IsUsedLastIn : Store → ℕ → ℕ → Type 0
 IsUsedLastIn store u page = IsUsedLast store.transactions.pages.pool u page
 
--- Done, the page is in a frame, and the one used last. Where it is in a frame or a frame is free, no page
--- leaves its frame.
-pub record BringsPage (u page : ℕ) (old : Store) (result : Result (Unit {0}) StoreFault) (new : Store)
-    : Type 0 where
-  pub framed : OnOk result (IsFramed new.transactions.pages u page)
-  pub used : OnOk result (IsUsedLastIn new u page)
-  pub stays : KeepsFramedFor u page old.transactions.pages new.transactions.pages
-
 -- ---- what is asked of the chip for a page
 
 -- nothing where it is in a frame, and only reads where a frame is free

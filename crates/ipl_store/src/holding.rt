@@ -3,7 +3,7 @@ ghost use Rattle.std.specs.Prelude.{◌≡◌, ◌<◌, ◌≤◌, ◌+◌, true
 ghost use Rattle.buffer_pool.specs.Holding.{pinned_count, IsHeld, IsAtRest};
 ghost use Rattle.buffer_pool.specs.Uses.{CountsNoOther, UsesPage};
 ghost use Rattle.store_trait.specs.Keeping.{LAST_NUMBER};
-ghost use Rattle.page_frames.specs.Pages.{IsFramed, KeepsFramed};
+ghost use Rattle.page_frames.specs.Pages.{FramesPage, IsFramed, KeepsFramed};
 ghost use Rattle.ipl_store.specs.Calls.{
   counter_of,
   IsSound,
@@ -17,7 +17,7 @@ ghost use Rattle.ipl_store.specs.Calls.{
   refuses_hold,
   refuses_release,
 };
-ghost use Rattle.ipl_store.specs.Shown.{AsksLittle, BringsPage, CostsOnePage, HoldsAgain, HoldsAlso, HoldsBut, IsRepooled, IsUsedLastIn};
+ghost use Rattle.ipl_store.specs.Shown.{AsksLittle, CostsOnePage, HoldsAgain, HoldsAlso, HoldsBut, IsRepooled, IsUsedLastIn};
 
 use crate::Store;
 use crate::refusals::is_held;
@@ -35,7 +35,8 @@ impl Store {
             (refuses_hold self.old.units self.old.transactions.pages.pool unit page))
             (λ state. state) 14 self.old (C.told chip.old) result self.new (C.told chip.new) }
         ensures holds { OnOk result (HoldsAlso self.old unit page self.new) }
-        ensures brings { BringsPage unit page self.old result self.new }
+        ensures brings { FramesPage unit page result self.old.transactions.pages
+            self.new.transactions.pages }
         ensures same { OnErr result (KeepsHolds self.old self.new) }
         ensures again { is_held self.old.transactions.pages.pool unit page ≡ true
             → HoldsAgain result unit page self.old self.new × (C.told chip.new ≡ C.told chip.old) }
@@ -86,7 +87,8 @@ impl Store {
         ensures calls { Calls None (λ state. state) 14
             self.old (C.told chip.old) result self.new (C.told chip.new) }
         ensures holds { KeepsHolds self.old self.new }
-        ensures brings { BringsPage unit page self.old result self.new }
+        ensures brings { FramesPage unit page result self.old.transactions.pages
+            self.new.transactions.pages }
         // Nothing where the page is in a frame, and only reads where a frame is free.
         ensures asks { AsksLittle unit page self.old (C.told chip.old) (C.told chip.new) }
         // And at most what writes one page out.

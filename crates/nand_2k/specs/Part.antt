@@ -18,8 +18,8 @@ pub record PartTold : Type 0 where
   pub contents : Option Contents
 
 -- these are the quarters of the page, where its contents are told
-abbrev pub IsPageOf : Option Contents → ℕ → ℕ → List (List ℕ) → Type 0
-IsPageOf contents block page quarters = (x : Contents) (q : ℕ) → contents ≡ Some x → q < 4 → get_or quarters q [] ≡ x block (page * 4 + q)
+abbrev pub AreQuarters : Option Contents → ℕ → ℕ → List (List ℕ) → Type 0
+AreQuarters contents block page quarters = (x : Contents) (q : ℕ) → contents ≡ Some x → q < 4 → get_or quarters q [] ≡ x block (page * 4 + q)
 
 -- nothing is told anew but what the part says of its last call
 abbrev pub ChangesStatus : PartTold → PartTold → Type 0

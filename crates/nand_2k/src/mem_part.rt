@@ -34,7 +34,7 @@ impl Part for MemPart {
     ghost use Rattle.std.specs.Prelude.{◌<◌, ◌+◌, ◌*◌};
     ghost use Rattle.chip_trait.specs.declared.event.Event.TheVariants.{Program, Erase};
     ghost use Rattle.nand_2k.specs.declared.part.Status.TheVariants.{Passed};
-    ghost use Rattle.nand_2k.specs.Part.{IsPageOf, AsksPart, AsksErase};
+    ghost use Rattle.nand_2k.specs.Part.{AreQuarters, AsksPart, AsksErase};
     ghost use Rattle.nand_2k.specs.Views.{mem_told_of};
 
     ghost told = { mem_told_of };
@@ -48,7 +48,7 @@ impl Part for MemPart {
         requires block { block < (mem_told_of self.old).blocks }
         requires page { page < 64 }
         ensures only { mem_told_of self.new ≡ mem_told_of self.old }
-        ensures bytes { IsPageOf (mem_told_of self.old).contents block page into.new }
+        ensures bytes { AreQuarters (mem_told_of self.old).contents block page into.new }
         ensures passed { result ≡ Passed }
     {
         for quarter in 0..4 {

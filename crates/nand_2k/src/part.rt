@@ -2,7 +2,7 @@
 ghost use Rattle.std.specs.Prelude.{◌≡◌, ◌<◌, ◌+◌, ◌*◌};
 ghost use Rattle.chip_trait.specs.declared.event.Event.TheVariants.{Program, Erase};
 ghost use Rattle.nand_2k.specs.declared.part.Status.TheVariants.{Passed};
-ghost use Rattle.nand_2k.specs.Part.{PartTold, IsPageOf, AsksPart, AsksErase};
+ghost use Rattle.nand_2k.specs.Part.{PartTold, AreQuarters, AsksPart, AsksErase};
 
 /// What a part says of a call, once it is ready again.
 #[derive(Clone, Copy, Debug, PartialEq, Eq)]
@@ -34,7 +34,7 @@ pub trait Part {
         requires block { block < (told self.old).blocks }
         requires page { page < 64 }
         ensures only { told self.new ≡ record (told self.old) { status = result } }
-        ensures bytes { result ≡ Passed → IsPageOf (told self.old).contents block page into.new };
+        ensures bytes { result ≡ Passed → AreQuarters (told self.old).contents block page into.new };
 
     /// Programs a quarter of a page, 0 to 3. Unless it passed, the part holds anything: but a driver
     /// owes that this is so of that quarter alone, also where a power cut meets it.

@@ -1,5 +1,5 @@
 -- The records of a page, written out from its frame.
-use Rattle.std.proofs.Common.{◌≡◌, ◌≤◌, ◌+◌, ℕ, true, false, [], Option, Some, Result, Ok, Err, refl, sym, ◌∙◌, ap, subst, arith}
+use Rattle.std.proofs.Common.{◌≡◌, ℕ, [], Option, Some, Result, Ok, Err, refl, sym, ◌∙◌, ap, subst, arith}
 use Rattle.std.specs.Prelude.{IsSome}
 use Rattle.std.specs.Option.{option_map, option_map_or}
 use Rattle.chip_trait.specs.Told.{Told}
@@ -8,17 +8,14 @@ use Rattle.ipl_base.specs.declared.fault.ChipFault.{ChipFault}
 use Rattle.ipl_base.specs.declared.fault.ChipFault.TheVariants.{ReadFault, Stopped, Damaged, Malformed, WornOut}
 use Rattle.ipl_meaning.specs.Tables.{Places, Tables}
 use Rattle.unit_io.specs.Accounts.{Accounts}
-use Rattle.selective_merge.specs.Moving.{Holds}
 use Rattle.status_renewal.specs.Passes.{RenewCause}
 use Rattle.buffer_pool.specs.Holding.{KeepsPins}
 use Rattle.buffer_pool.proofs.HoldingLemmas.{rest_stays}
 use Rattle.store_laws.specs.Frames.{PageFrame, Frames, logs_of, with_frame_at, with_frame_log}
-use Rattle.step_laws.specs.Steps.{Tidies}
-use Rattle.place_taking.specs.Spending.{tells_worn}
-use Rattle.place_taking.specs.Wear.{TellsOfWear}
 use Rattle.store_laws.specs.Advances.{KeepsState}
 use Rattle.page_frames.specs.Causes.{WritingCause}
 use Rattle.page_frames.specs.RecordLaws.{frames_out}
+use Rattle.page_frames.specs.Leaving.{LeavesWritten}
 use Rattle.page_frames.specs.Writing.{WritesOut, WritesOutInSteps}
 use Rattle.page_frames.proofs.KeepLemmas.{writings_keep_states}
 use Rattle.page_frames.specs.Changes.{FrameChanges, IsClearedFrame}
@@ -75,18 +72,15 @@ pub out_failed : (u page : ℕ) (payload : Versioned) (old new : Pages) (e : Chi
     → IsSome (frames_in old u page) → Spells payload (logs_of (frames_in old) u page)
     → WritesOut before.places u payload (tables_in old) (tables_in new) before (Err e) after
     → WritesOutInSteps before.places payload (tables_in old) (tables_in new) before (Err e) after
-    → Holds before.places (tables_in old) (tables_in new)
-    → Tidies {T = Unit {0}} {E = ChipFault} (tables_in old) (Err e) (tables_in new) before after
-    → TellsOfWear (tables_in old) (tables_in new) false (tells_worn e) before after
-    → (old.parts.counter ≤ new.parts.counter) × (new.parts.counter ≤ old.parts.counter + 14)
-    → Accounts {T = Unit {0}} (WritingCause new.parts.directory (tables_in old) u) (Err e) before after
+    → LeavesWritten 14 (WritingCause new.parts.directory (tables_in old) u) (tables_in old)
+    (tables_in new) (Err e) before after
     → Upholds {T = Unit {0}} 14 old before (Err e) new after
-out_failed u page payload old new e before after ready same there spelled tells steps holds
-    tidy wears draws accounts =
+out_failed u page payload old new e before after ready same there spelled tells steps leaves =
+    let holds = leaves.holds in
     tables_uphold 14 old new (Err e) before after ready same holds.known holds.units holds.active
     (out_keeps (tables_in old) (tables_in new) (frames_in old) u page payload before after
-    (Err e) there spelled tells steps accounts) tidy wears draws
-    (out_accounts new.parts.directory (tables_in old) u (Err e) before after accounts)
+    (Err e) there spelled tells steps leaves.accounts) leaves.tidy leaves.wears leaves.draws
+    (out_accounts new.parts.directory (tables_in old) u (Err e) before after leaves.accounts)
 
 -- ---- done
 
@@ -102,21 +96,18 @@ pub out_done : (u page : ℕ) (payload : Versioned) (old new : Pages) (before af
     → FrameChanges IsClearedFrame (frames_in old) (frames_in new) u page → KeepsPins old.pool new.pool
     → WritesOut before.places u payload (tables_in old) (tables_in new) before (Ok tt) after
     → WritesOutInSteps before.places payload (tables_in old) (tables_in new) before (Ok tt) after
-    → Holds before.places (tables_in old) (tables_in new)
-    → Tidies {T = Unit {0}} {E = ChipFault} (tables_in old) (Ok tt) (tables_in new) before after
-    → TellsOfWear (tables_in old) (tables_in new) true false before after
-    → (old.parts.counter ≤ new.parts.counter) × (new.parts.counter ≤ old.parts.counter + 14)
-    → Accounts {T = Unit {0}} {E = ChipFault} (WritingCause new.parts.directory (tables_in old) u) (Ok tt) before after
+    → LeavesWritten 14 (WritingCause new.parts.directory (tables_in old) u) (tables_in old)
+    (tables_in new) (Ok tt) before after
     → Upholds {T = Unit {0}} 14 old before (Ok tt) new after
-out_done u page payload old new before after ready spelled did pins tells steps holds tidy wears
-    draws accounts =
-    let is = cleared_frames (frames_in old) (frames_in new) u page did in record {
+out_done u page payload old new before after ready spelled did pins tells steps leaves =
+    let is = cleared_frames (frames_in old) (frames_in new) u page did in
+    let holds = leaves.holds in record {
       keeps = subst (λ (later : Frames). KeepsState {T = Unit {0}} {E = ChipFault} (tables_in old)
           (frames_in old) before (Ok tt) (tables_in new) later after) (sym is)
           (out_keeps (tables_in old) (tables_in new) (frames_in old) u page payload before after
-          (Ok tt) (subst IsSome (sym did.there) refl) spelled tells steps accounts);
-      tidy = tidy;
-      wears = wears;
+          (Ok tt) (subst IsSome (sym did.there) refl) spelled tells steps leaves.accounts);
+      tidy = leaves.tidy;
+      wears = leaves.wears;
       ready = record {
         known = holds.known;
         within = λ v q f there.
@@ -129,7 +120,8 @@ out_done u page payload old new before after ready spelled did pins tells steps 
       units = holds.units;
       active = holds.active;
       pins = pins;
-      least = draws.0;
-      drawn = draws.1;
-      accounts = out_accounts new.parts.directory (tables_in old) u (Ok tt) before after accounts;
+      least = leaves.draws.0;
+      drawn = leaves.draws.1;
+      accounts = out_accounts new.parts.directory (tables_in old) u (Ok tt) before after
+          leaves.accounts;
     }

@@ -106,12 +106,15 @@ pub log_active : (t after : Tables) (u p s mask next : ℕ) → IsAfterLog t aft
 log_active t after u p s mask next (inl (home, is)) = ap (λ (x : Tables). x.active) is
 log_active t after u p s mask next (inr (over, is)) = ap (λ (x : Tables). x.active) is
 
-log_units : (t after : Tables) (u p s mask next : ℕ) → IsAfterLog t after u p s mask next
-    → length after.places.current ≡ length t.places.current
-log_units t after u p s mask next (inl (home, is)) =
-    ap (λ (x : Tables). length x.places.current) is
-log_units t after u p s mask next (inr (over, is)) =
-    ap (λ (x : Tables). length x.places.current) is
+pub log_current : (t after : Tables) (u p s mask next : ℕ) → IsAfterLog t after u p s mask next
+    → after.places.current ≡ t.places.current
+log_current t after u p s mask next (inl (home, is)) = ap (λ (x : Tables). x.places.current) is
+log_current t after u p s mask next (inr (over, is)) = ap (λ (x : Tables). x.places.current) is
+
+pub log_next : (t after : Tables) (u p s mask next : ℕ) → IsAfterLog t after u p s mask next
+    → after.next ≡ next
+log_next t after u p s mask next (inl (home, is)) = ap (λ (x : Tables). x.next) is
+log_next t after u p s mask next (inr (over, is)) = ap (λ (x : Tables). x.next) is
 
 pub log_status : (t after : Tables) (u p s mask next : ℕ) → IsAfterLog t after u p s mask next
     → after.status ≡ t.status
@@ -254,7 +257,7 @@ module _ (places : ℕ) (t : Tables) (u p s mask next : ℕ) (known : KnowsPlace
 
   pub log_holds : (after : Tables) → IsAfterLog t after u p s mask next → Holds places t after
   log_holds after is = record {
-    units = log_units t after u p s mask next is;
+    units = ap length (log_current t after u p s mask next is);
     homes = log_homes t after u p s mask next is;
     active = log_active t after u p s mask next is;
     status = log_status t after u p s mask next is;

@@ -7,6 +7,7 @@ pub mod Spending
 pub mod Causes
 pub mod RecordLaws
 pub mod InPlace
+pub mod Leaving
 pub mod Frames
 pub mod Pages
 pub mod Changed

@@ -10,7 +10,7 @@ use Rattle.ipl_meaning.specs.Tables.{Places, Tables}
 use Rattle.unit_io.specs.Reads.{OfContents}
 use Rattle.slab.specs.Slab.{slab_len}
 use Rattle.buffer_pool.specs.Holding.{IsAtRest, KeepsPins}
-use Rattle.buffer_pool.specs.Uses.{CountsNoOther, IsUsedFirst, UsesPage}
+use Rattle.buffer_pool.specs.Uses.{CountsNoOther, IsUsedFirst, IsUsedLast, UsesPage}
 use Rattle.place_taking.specs.Spending.{is_worn_out}
 use Rattle.place_taking.specs.Wear.{TellsOfWear}
 use Rattle.merge_laws.specs.Known.{KnowsPlaces}
@@ -59,6 +59,13 @@ pub record KeepsFramedFor (u page : ℕ) (old new : Pages) : Type 0 where
   pub stay : (IsFramed old u page ⊎ HasFreeFrame old) → KeepsFramed old new
   pub leaves : (v q : ℕ) → IsFramed old v q → ¬ IsFramed new v q → IsUsedFirst old.pool v q
   pub uses : CountsNoOther u page old.pool new.pool
+
+-- Done, the page is in a frame, as the one used last; and however it ends, other pages stay in their frames but
+-- for one that may have had to leave its.
+pub record FramesPage {T E : Type 0} (u page : ℕ) (result : Result T E) (old new : Pages) : Type 0 where
+  pub framed : OnOk result (IsFramed new u page)
+  pub used : OnOk result (IsUsedLast new.pool u page)
+  pub stays : KeepsFramedFor u page old new
 
 -- a use of a page in a frame is counted, and nothing else changes
 pub record OnlyUses (u page : ℕ) (old new : Pages) : Type 0 where

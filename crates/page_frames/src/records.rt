@@ -1,20 +1,20 @@
 //! The records of a page, written as one log sector of its unit.
 ghost use Rattle.ipl_base.specs.declared.limits.TheConstants.{VERSION};
-ghost use Rattle.std.specs.Prelude.{◌≡◌, ◌<◌, ◌≤◌, ◌+◌, ◌^◌, [], length, false, OnOk, OnErr, IsTrue, is_ok};
-ghost use Rattle.unit_io.specs.Accounts.{Accounts};
+ghost use Rattle.std.specs.Prelude.{◌≡◌, ◌<◌, ◌+◌, ◌^◌, length, false, OnOk, IsTrue};
 ghost use Rattle.unit_io.specs.Charts.{Charts};
-ghost use Rattle.unit_io.specs.Costs.{ProgramsAt, Spends};
 ghost use Rattle.unit_io.specs.Leads.{IsStopped};
-ghost use Rattle.step_laws.specs.Steps.{Tidies};
-ghost use Rattle.place_taking.specs.Spending.{is_worn_out};
-ghost use Rattle.place_taking.specs.Wear.{TellsOfWear};
 ghost use Rattle.merge_laws.specs.Known.{KnowsPlaces};
-ghost use Rattle.selective_merge.specs.Merging.{FailsAsMerge, CompletesMerge};
-ghost use Rattle.selective_merge.specs.Moving.{tables_of, Holds};
-ghost use Rattle.selective_merge.specs.Spotting.{IsHomeSpot, IsSpotFor};
+ghost use Rattle.selective_merge.specs.Moving.{tables_of};
+ghost use Rattle.selective_merge.specs.Spotting.{IsHomeSpot};
 ghost use Rattle.page_frames.specs.Causes.{WritingCause};
-ghost use Rattle.page_frames.specs.InPlace.{StaysInPlace};
-ghost use Rattle.page_frames.specs.Spending.{UsesHome, WritingCosts};
+ghost use Rattle.page_frames.specs.Leaving.{
+  EmptiesPayload,
+  FailsByUnit,
+  LeavesWritten,
+  MayUseSpot,
+  UsesOneSector,
+};
+ghost use Rattle.page_frames.specs.Spending.{WritingCosts};
 ghost use Rattle.page_frames.specs.Writing.{
   IsAfterLog,
   WritesLog,
@@ -48,9 +48,7 @@ fn is_home(parts: &Parts, unit: u32, spot: Spot) -> bool
 
 /// Counts a spot as written that was one for a log sector of the unit, which names these pages.
 fn use_spot(parts: &mut Parts, unit: u32, spot: Spot, mask: u16, places: u32)
-    requires known { KnowsPlaces places (tables_of parts.old) }
-    requires unit { unit < length parts.old.directory.current }
-    requires spot { IsSpotFor (tables_of parts.old) unit spot.place spot.sector }
+    requires { MayUseSpot places (tables_of parts.old) unit spot.place spot.sector }
     ensures { IsAfterLog (tables_of parts.old) (tables_of parts.new) unit spot.place spot.sector
         mask parts.old.counter }
 {
@@ -72,25 +70,17 @@ fn write_log<C: Chip>(
     at: Spot,
     payload: &Payload,
 ) -> Result<(), ChipFault>
-    requires known { KnowsPlaces (C.told chip.old).places (tables_of parts.old) }
-    requires unit { unit < length parts.old.directory.current }
-    requires spot { IsSpotFor (tables_of parts.old) unit at.place at.sector }
+    requires may { MayUseSpot (C.told chip.old).places (tables_of parts.old) unit at.place at.sector }
     requires left { parts.old.counter + 1 < 2 ^ 64 }
     requires version { payload.now.version ≡ VERSION }
     ensures tells { OnOk result (Charts (WritesLog (C.told chip.old).places unit at payload.now
         (tables_of parts.old) (tables_of parts.new)) (C.told chip.old) (C.told chip.new)) }
     ensures steps { WritesLogInSteps (C.told chip.old).places unit at payload.now
         (tables_of parts.old) (tables_of parts.new) (C.told chip.old) result (C.told chip.new) }
-    ensures holds { Holds (C.told chip.old).places (tables_of parts.old) (tables_of parts.new) }
-    ensures places { parts.new.directory.current ≡ parts.old.directory.current }
-    ensures uses { UsesHome result parts.old.directory parts.new.directory unit }
-    ensures drawn { parts.new.counter ≡ parts.old.counter + 1 }
-    ensures costs { Spends (ProgramsAt at.place 1 0 5) (C.told chip.old) (C.told chip.new) }
-    ensures wears { TellsOfWear (tables_of parts.old) (tables_of parts.new) (is_ok result)
-        (is_worn_out result) (C.told chip.old) (C.told chip.new) }
-    ensures tidy { Tidies (tables_of parts.old) result (tables_of parts.new)
+    ensures uses { UsesOneSector unit at.place (tables_of parts.old) (tables_of parts.new) result
         (C.told chip.old) (C.told chip.new) }
-    ensures accounts { Accounts IsStopped result (C.told chip.old) (C.told chip.new) }
+    ensures leaves { LeavesWritten 1 IsStopped (tables_of parts.old) (tables_of parts.new) result
+        (C.told chip.old) (C.told chip.new) }
 {
     parts.directory.facts();
     parts.overflow.facts();
@@ -133,26 +123,14 @@ pub(crate) fn write_records<C: Chip>(
 
     // Why it fails over what the chip holds: where the unit's pages show values and few log sectors
     // would be carried, only where a call of the chip failed. Else the unit is where it was.
-    ensures fault { FailsAsMerge (C.told chip.old).places (tables_of parts.old) unit result
+    ensures fails { FailsByUnit (tables_of parts.old) unit (tables_of parts.new) result
         (C.told chip.old) }
-    ensures complete { CompletesMerge (C.told chip.old).places (tables_of parts.old) unit result
-        (C.told chip.old) }
-    ensures stays { StaysInPlace (C.told chip.old).places (tables_of parts.old) unit
-        (tables_of parts.new) result (C.told chip.old) }
 
     // What is in memory, whatever the chip tells.
-    ensures empty { OnOk result (payload.new ≡ record { version = VERSION; bytes = [] }) }
-    ensures kept { OnErr result (payload.new ≡ payload.old) }
-    ensures holds { Holds (C.told chip.old).places (tables_of parts.old) (tables_of parts.new) }
-    ensures draws { (parts.old.counter ≤ parts.new.counter)
-        × (parts.new.counter ≤ parts.old.counter + 14) }
+    ensures empties { EmptiesPayload result payload.old payload.new }
+    ensures leaves { LeavesWritten 14 (WritingCause parts.new.directory (tables_of parts.old) unit)
+        (tables_of parts.old) (tables_of parts.new) result (C.told chip.old) (C.told chip.new) }
     ensures costs { WritingCosts result (tables_of parts.old) (tables_of parts.new) unit
-        (C.told chip.old) (C.told chip.new) }
-    ensures wears { TellsOfWear (tables_of parts.old) (tables_of parts.new) (is_ok result)
-        (is_worn_out result) (C.told chip.old) (C.told chip.new) }
-    ensures tidy { Tidies (tables_of parts.old) result (tables_of parts.new)
-        (C.told chip.old) (C.told chip.new) }
-    ensures accounts { Accounts (WritingCause parts.new.directory (tables_of parts.old) unit) result
         (C.told chip.old) (C.told chip.new) }
 {
     let at = log_place(chip, parts, unit)?;

@@ -1,5 +1,5 @@
 -- A page that is loaded from the chip into a frame.
-use Rattle.std.specs.Prelude.{ℕ, ◌≡◌, ◌⊎◌, ◌<◌, ◌≤◌, ◌↔◌, Bool, List, Option, Some, None, nat_lt, slice_index, if◌then◌else◌}
+use Rattle.std.specs.Prelude.{ℕ, ◌≡◌, ◌⊎◌, ◌<◌, ◌≤◌, ◌+◌, ◌↔◌, Bool, List, Option, Some, None, nat_lt, length, slice_index, Result, IfErr, OnOk, if◌then◌else◌}
 use Rattle.std.specs.Option.{option_or}
 use Rattle.ipl_base.specs.declared.limits.TheConstants.{PAGE_LEN, SLOTS, PAGE_SECTORS}
 use Rattle.chip_trait.specs.Story.{Contents}
@@ -7,21 +7,23 @@ use Rattle.chip_trait.specs.Told.{Told}
 use Rattle.ipl_base.specs.declared.fault.ChipFault.{ChipFault}
 use Rattle.ipl_base.specs.declared.fault.ChipFault.TheVariants.{Malformed}
 use Rattle.ipl_rules.specs.State.{Map}
+use Rattle.ipl_meaning.specs.Allowed.{IsAllowed}
 use Rattle.ipl_meaning.specs.Chart.{Chart, chart_of}
 use Rattle.ipl_meaning.specs.Values.{Values, after_records}
 use Rattle.ipl_meaning.specs.Layout.{Layout, Laid, records_of}
+use Rattle.ipl_meaning.specs.Masks.{of_page}
 use Rattle.number_set.specs.Numbers.{among}
 use Rattle.ipl_meaning.specs.Stands.{Shows, page_in}
 use Rattle.ipl_meaning.specs.Tables.{Places, OverflowLists, StatusTable, Tables}
 use Rattle.unit_io.specs.Faults.{page_fault, text_below, IsPageCause}
 use Rattle.unit_io.specs.Reads.{OfContents}
-use Rattle.unit_io.specs.ReadsAt.{IsCauseAt}
+use Rattle.unit_io.specs.ReadsAt.{IsCauseAt, ReadsAt}
 use Rattle.unit_io.specs.Spots.{IsPieceSpot}
 use Rattle.unit_log.specs.declared.live.UnitHead.{UnitHead}
 use Rattle.unit_log.specs.declared.scratch.LogSector.{LogSector}
 use Rattle.unit_log.specs.Kept.{records_kept}
 use Rattle.unit_log.specs.Live.{MatchesLayout, AreMirrored}
-use Rattle.unit_log.specs.Paged.{IsPageLogRead}
+use Rattle.unit_log.specs.Paged.{AddsAtMost, IsPageLogRead, page_spots}
 use Rattle.page_ops.specs.Pending.{Pendings, fill_by}
 use Rattle.page_ops.specs.Frames.{FrameView, values_in, pending_in}
 use Rattle.page_ops.specs.Rebuilt.{values_of, with_records}
@@ -131,6 +133,14 @@ SoundPagesShowValues = (x : Contents) (it : Layout) (active : ℕ → Bool) (u p
 abbrev pub IsBaseRead : ℕ → ℕ → ℕ → ℕ → ℕ → Type 0
 IsBaseRead home page pieces p s = (p ≡ home) × IsPieceSpot page pieces s
 
+-- What a call reads that reads the base sectors of a page, so many: each of them at most, and at most 16
+-- sectors. Where it failed, this is its cause.
+pub record ReadsBase (place page pieces : ℕ) (Cause : ChipFault → Told → Told → Type 0)
+    (result : Result (Unit {0}) ChipFault) (old new : Told) : Type 0 where
+  pub reads : ReadsAt (IsBaseRead place page pieces) old new
+  pub count : AddsAtMost PAGE_SECTORS old new
+  pub cause : IfErr result (λ e. Cause e old new)
+
 -- where a page may be read: its unit's header, these spots, and its base sectors
 abbrev pub IsLoadRead : ℕ → List (ℕ × ℕ) → ℕ → ℕ → ℕ → Type 0
 IsLoadRead home spots page p s = IsPageLogRead home spots p s ⊎ IsBaseRead home page PAGE_SECTORS p s
@@ -146,3 +156,16 @@ IsRebuildCause place page fault old new =
 abbrev pub IsLoadCause : ℕ → List (ℕ × ℕ) → ℕ → ChipFault → Told → Told → Type 0
 IsLoadCause home spots page fault old new =
     IsCauseAt (IsPageLogRead home spots) fault old new ⊎ IsPageCause home page fault old new
+
+-- What a load of a page reads: no sectors but those that the tables say; where they mirror the chip, those
+-- from which the page may be rebuilt, and done, at most 17 and one for each log sector that has a record of
+-- the page. Where it failed, this is its cause.
+pub record LooksAtPage (u page : ℕ) (directory : Places) (overflow : OverflowLists) (status : StatusTable)
+    (result : Result (Unit {0}) ChipFault) (old new : Told) : Type 0 where
+  pub allowed : OfTables old directory overflow status (λ x it. ReadsAt (IsAllowed it u page) old new)
+  pub count : OnOk result (OfTables old directory overflow status
+      (λ x it. AddsAtMost (17 + length (of_page page (it.units u).log)) old new))
+  pub reads : ReadsAt (IsLoadRead (slice_index directory.current u) (page_spots directory overflow u page)
+      page) old new
+  pub cause : IfErr result (λ e. IsLoadCause (slice_index directory.current u)
+      (page_spots directory overflow u page) page e old new)

@@ -1,20 +1,25 @@
 //! A page is read, and its unit's log.
-ghost use Rattle.std.specs.Prelude.{◌≡◌, ◌≤◌, ◌<◌, ◌+◌, ℕ, length, slice_index, All, IfErr, OnOk, OnErr};
+ghost use Rattle.std.specs.Prelude.{◌≡◌, ◌≤◌, ◌<◌, length, slice_index, All, OnOk, OnErr};
 ghost use Rattle.ipl_base.specs.declared.limits.TheConstants.{LIVE_SECTORS, PAGE_SECTORS};
-ghost use Rattle.chip_trait.specs.Told.{Told};
 ghost use Rattle.ipl_rules.specs.State.{Map};
 ghost use Rattle.ipl_format.specs.Page.{empty_page};
 ghost use Rattle.ipl_meaning.specs.Chart.{chart_of};
-ghost use Rattle.ipl_meaning.specs.Allowed.{IsAllowed};
-ghost use Rattle.ipl_meaning.specs.Masks.{of_page};
 ghost use Rattle.ipl_meaning.specs.Stands.{Stands};
 ghost use Rattle.number_set.specs.Numbers.{among};
 ghost use Rattle.unit_io.specs.Faults.{page_fault, TellsChipFault, HoldsPage, IsPageCause};
 ghost use Rattle.unit_io.specs.Reads.{OfContents};
-ghost use Rattle.unit_io.specs.ReadsAt.{ReadsAt};
-ghost use Rattle.unit_log.specs.Paged.{page_spots, AddsAtMost};
+ghost use Rattle.unit_log.specs.Live.{SuitChip};
 ghost use Rattle.page_ops.specs.Frames.{empty_frame, HasNonePending};
-ghost use Rattle.page_rebuild.specs.Loaded.{IsLoaded, OfKnown, OfTables, HasPageOf, IsBaseRead, IsLoadRead, IsLoadCause, IsRebuildCause, load_fault};
+ghost use Rattle.page_rebuild.specs.Loaded.{
+  IsLoaded,
+  OfKnown,
+  OfTables,
+  HasPageOf,
+  IsRebuildCause,
+  ReadsBase,
+  LooksAtPage,
+  load_fault,
+};
 ghost use Rattle.page_rebuild.specs.Keeps.{KeepsWhatRests};
 
 use crate::taking::take_sectors;
@@ -50,11 +55,8 @@ fn read_base<C: Chip>(
         frame.new.page)) }
     ensures empty { OnErr result (frame.new.page ≡ empty_page) }
     ensures pending { frame.new.pending ≡ frame.old.pending }
-    ensures reads { ReadsAt (IsBaseRead place page (slice_index header.now.pieces page))
-        (C.told chip.old) (C.told chip.new) }
-    ensures count { AddsAtMost PAGE_SECTORS (C.told chip.old) (C.told chip.new) }
-    ensures cause { IfErr result (λ e.
-        IsPageCause place page e (C.told chip.old) (C.told chip.new)) }
+    ensures looks { ReadsBase place page (slice_index header.now.pieces page)
+        (IsPageCause place page) result (C.told chip.old) (C.told chip.new) }
 {
     let head = Head {
         kind: Head::DATA_HEADER,
@@ -104,11 +106,8 @@ pub fn rebuild<C: Chip>(
     ensures fault { OfKnown (C.told chip.old) place unit page header.now sectors.now status.now
         (λ x it. TellsChipFault (load_fault x it (among active.now) unit page) result) }
     ensures empty { OnErr result (frame.new ≡ empty_frame) }
-    ensures reads { ReadsAt (IsBaseRead place page (slice_index header.now.pieces page))
-        (C.told chip.old) (C.told chip.new) }
-    ensures count { AddsAtMost PAGE_SECTORS (C.told chip.old) (C.told chip.new) }
-    ensures cause { IfErr result (λ e.
-        IsRebuildCause place page e (C.told chip.old) (C.told chip.new)) }
+    ensures looks { ReadsBase place page (slice_index header.now.pieces page)
+        (IsRebuildCause place page) result (C.told chip.old) (C.told chip.new) }
 {
     frame.reset();
     read_base(chip, place, unit, header, page, frame)?;
@@ -139,9 +138,7 @@ pub fn load<C: Chip>(
     frame: &mut Frame,
 ) -> Result<(), ChipFault>
     requires unit { unit < length directory.now.current }
-    requires size { length directory.now.in_use ≡ (C.told chip.old).places }
-    requires units { length overflow.now.spots ≡ length directory.now.current }
-    requires sized { overflow.now.places ≡ (C.told chip.old).places }
+    requires suits { SuitChip (C.told chip.old).places directory.now overflow.now }
     requires page { page < 15 }
 
     // What the frame has then, and the exact fault, where the tables mirror what the chip holds.
@@ -155,20 +152,9 @@ pub fn load<C: Chip>(
     ensures empty { OnErr result (frame.new ≡ empty_frame) }
 
     // What it reads, and why it fails.
-    ensures allowed { OfTables (C.told chip.old) directory.now overflow.now status.now
-        (λ x it. ReadsAt (IsAllowed it unit page) (C.told chip.old) (C.told chip.new)) }
-    ensures count { OnOk result (OfTables (C.told chip.old) directory.now overflow.now status.now
-        (λ x it. AddsAtMost (17 + length (of_page page (it.units unit).log))
-        (C.told chip.old) (C.told chip.new))) }
-    ensures reads { ReadsAt
-        (IsLoadRead (slice_index directory.now.current unit)
-        (page_spots directory.now overflow.now unit page) page)
+    ensures looks { LooksAtPage unit page directory.now overflow.now status.now result
         (C.told chip.old) (C.told chip.new) }
     ensures keeps { KeepsWhatRests result (C.told chip.old) (C.told chip.new) }
-    ensures cause { IfErr result (λ e. IsLoadCause
-        (slice_index directory.now.current unit)
-        (page_spots directory.now overflow.now unit page) page e
-        (C.told chip.old) (C.told chip.new)) }
 {
     let place = directory.current(unit);
     let header = match read_page_log(chip, directory, overflow, unit, page, scratch) {

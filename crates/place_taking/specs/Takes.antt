@@ -9,7 +9,7 @@ use Rattle.ipl_meaning.specs.Chart.{Chart}
 use Rattle.ipl_meaning.specs.Layout.{Layout}
 use Rattle.ipl_meaning.specs.Rests.{now, EachStands}
 use Rattle.ipl_meaning.specs.Tables.{Places, Tables, with_use, with_erased}
-use Rattle.unit_directory.specs.Free.{IsNextFree, spares_of, aside, AreNext}
+use Rattle.unit_directory.specs.Free.{IsNextFree, IsReadyToTake, spares_of, aside, AreNext}
 use Rattle.unit_io.specs.Accounts.{Accounts}
 use Rattle.unit_io.specs.Charts.{Charts, IsCleared}
 use Rattle.unit_io.specs.Costs.{Spends, is_erased}
@@ -19,6 +19,12 @@ use Rattle.step_laws.specs.Steps.{Settled, EndsWith, Outcome, RestsAgreeing}
 use Rattle.place_taking.specs.Spending.{ErasesFree, SparesClean, IsFreshFrom, SparesUsed, is_worn_out}
 
 -- ---- the directory
+
+-- A place of the chip may be taken: the directory is made for as many, and one place more is free or retired
+-- than are spare.
+pub record MayTakeFrom (told : Told) (directory : Places) : Type 0 where
+  pub places : length directory.in_use ≡ told.places
+  pub ready : IsReadyToTake directory
 
 -- These places were found worn, each the next free one in its turn: they are in use and retired.
 pub record IsAsideFrom (before after : Places) : Type 0 where

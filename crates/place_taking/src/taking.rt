@@ -6,14 +6,15 @@ ghost use Rattle.unit_io.specs.Costs.{Spends};
 ghost use Rattle.unit_io.specs.Unread.{ReadsNothing};
 ghost use Rattle.place_taking.specs.Spending.{SparesUsed};
 ghost use Rattle.place_taking.specs.Takes.{
-  IsTakenFrom,
-  IsAsideFrom,
-  ErasesNext,
   ClearsNext,
+  ErasesNext,
+  IsAsideFrom,
   IsNotTaken,
-  TellsTaking,
-  TakesPlace,
+  IsTakenFrom,
+  MayTakeFrom,
   TakesFree,
+  TakesPlace,
+  TellsTaking,
 };
 ghost use Rattle.place_taking.specs.Turns.{TriesNext};
 
@@ -93,8 +94,7 @@ fn take_in_turn<C: Chip>(chip: &mut C, directory: &mut Directory) -> Result<u32,
 /// Whatever a power cut leaves at any moment stands for the map on which the story rested; and where
 /// no write failed the story rests on that map, also where too many places are worn.
 pub fn take_place<C: Chip>(chip: &mut C, directory: &mut Directory) -> Result<u32, ChipFault>
-    requires places { length directory.old.in_use ≡ (C.told chip.old).places }
-    requires ready { IsReadyToTake directory.old }
+    requires { MayTakeFrom (C.told chip.old) directory.old }
 
     // What the directory has, whatever the chip tells.
     ensures taken { IfOk result (λ place. IsTakenFrom directory.old place directory.new) }

@@ -6,8 +6,8 @@ use Rattle.ipl_format.specs.Record.{Record}
 use Rattle.ipl_format.specs.Sector.{Sector}
 use Rattle.ipl_meaning.specs.Chart.{Chart}
 use Rattle.number_set.proofs.NumberLemmas.{with_numbers_grow}
-use Rattle.kept_numbers.specs.Joins.{committed_in, joined}
-use Rattle.kept_numbers.proofs.JoinLemmas.{too_many}
+use Rattle.restart.specs.Joins.{committed_in, joined}
+use Rattle.restart.proofs.JoinLemmas.{too_many}
 use Rattle.opening_laws.specs.Chosen.{KeptHeader, Winner}
 use Rattle.opening_laws.specs.Live.{kept, seen, is_live, live_at}
 use Rattle.opening_laws.proofs.ScanLemmas.{live_here}

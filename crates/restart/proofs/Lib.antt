@@ -1,3 +1,5 @@
+pub mod JoinLemmas
+pub mod KeepsLemmas
 pub mod WriteLemmas
 pub mod EventLemmas
 pub mod HeldLemmas

@@ -11,9 +11,9 @@ use Rattle.ipl_meaning.specs.Chart.{Chart}
 use Rattle.ipl_meaning.specs.Layout.{Entry, records_of}
 use Rattle.number_set.specs.Numbers.{AreRising}
 use Rattle.number_set.proofs.NumberLemmas.{contains_cons, contains_here, contains_there, numbers_are_a_union, rising_with_numbers}
-use Rattle.kept_numbers.specs.Joins.{committed_in, joined}
-use Rattle.kept_numbers.specs.Keeps.{IsLogged, KeepsBelow}
-use Rattle.kept_numbers.proofs.JoinLemmas.{IsNumberOf, committed_is_logged}
+use Rattle.restart.specs.Joins.{committed_in, joined}
+use Rattle.restart.specs.Keeps.{IsLogged, KeepsBelow}
+use Rattle.restart.proofs.JoinLemmas.{IsNumberOf, committed_is_logged}
 use Rattle.opening_laws.specs.First.{at}
 use Rattle.opening_laws.specs.Chosen.{KeptHeader, Winner, header_at, current_at}
 use Rattle.opening_laws.specs.LaidOut.{entry_of, entry_at, log_in, layout_in}

@@ -7,8 +7,8 @@ use Rattle.ipl_format.specs.Sector.{Sector}
 use Rattle.log_records.specs.Reading.{records_of}
 use Rattle.ipl_meaning.specs.Chart.{Chart}
 use Rattle.number_set.specs.Numbers.{AreRising}
-use Rattle.kept_numbers.specs.Joins.{joined}
-use Rattle.kept_numbers.specs.Keeps.{KeepsBelow}
+use Rattle.restart.specs.Joins.{joined}
+use Rattle.restart.specs.Keeps.{KeepsBelow}
 use Rattle.opening_laws.specs.Chosen.{KeptHeader, Winner}
 use Rattle.opening_laws.specs.LaidOut.{layout_in}
 use Rattle.opening_laws.specs.Live.{live_at}

@@ -1,3 +1,5 @@
+pub mod Joins
+pub mod Keeps
 pub mod Writes
 pub mod Events
 pub mod Fresh

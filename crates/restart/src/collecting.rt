@@ -2,11 +2,11 @@
 ghost use Rattle.std.specs.Prelude.{◌≡◌, ◌≤◌, ℕ, List, true, length};
 ghost use Rattle.ipl_base.specs.declared.limits.TheConstants.{PAYLOAD_LEN};
 ghost use Rattle.log_records.specs.Reading.{records_of};
-ghost use Rattle.kept_numbers.specs.Joins.{joined};
+ghost use Rattle.restart.specs.Joins.{joined};
 ghost use Rattle.opening_laws.specs.Payloads.{is_log_payload};
 ghost use Rattle.restart.specs.Collected.{AreKept};
 
-use kept_numbers::KeptNumbers;
+use crate::numbers::KeptNumbers;
 use log_records::Payload;
 use txn_status::Status;
 

@@ -1,3 +1,6 @@
+mod GatherLemmas
+mod SayLemmas
+mod ViewLemmas
 pub mod ReadLemmas
 pub mod LineLemmas
 mod FeedLemmas

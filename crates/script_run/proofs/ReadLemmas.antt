@@ -1,11 +1,11 @@
 -- Reads of the script, and what stands beside the chip over them.
-use Rattle.std.proofs.Common.{◌≡◌, ℕ, ◌+◌, List, drop, Some, Result, Ok, Err, ◌∙◌, ap, arith}
+use Rattle.std.proofs.Common.{◌≡◌, ℕ, ◌≤◌, ◌+◌, List, drop, Some, Result, Ok, Err, sym, ◌∙◌, ap, subst, arith}
 use Rattle.std.specs.Prelude.{OnOk}
 use Rattle.std.specs.Option.{option_map}
 use Rattle.std.proofs.lemmas.List.{drop-drop, length-drop}
 use Rattle.chip_trait.specs.Told.{Told, Beside, IsBeside, Grew, IsNext}
 use Rattle.store_trait.specs.Onward.{Onward, Further}
-use Rattle.script_run.specs.Goes.{HasRead, ReadsAll}
+use Rattle.script_run.specs.Goes.{HasRead, ReadsAll, ReadsPiece, ReadsTooMany}
 
 pub further_read : (old new : Told) (n : ℕ) → IsBeside old new
     → new.beside ≡ record old.beside { left = option_map (λ l. drop n l) old.beside.left; script_bytes = new.beside.script_bytes; script_faults = new.beside.script_faults }
@@ -60,16 +60,35 @@ read_then old mid new n m first next = λ source told.
     (then.0 ∙ ap Some (drop-drop m n source), omega (arith, at.1, then.1, length-drop n source))
 
 -- by one read, and what else was done
-pub read_once : (old mid new : Told) (n : ℕ) (buffer : List ℕ) → mid.beside ≡ record old.beside { left = option_map (λ l. drop n l) old.beside.left; script_bytes = mid.beside.script_bytes; script_faults = mid.beside.script_faults }
+read_once : (old mid new : Told) (n : ℕ) (buffer : List ℕ) → mid.beside ≡ record old.beside { left = option_map (λ l. drop n l) old.beside.left; script_bytes = mid.beside.script_bytes; script_faults = mid.beside.script_faults }
     → ((source : List ℕ) → old.beside.left ≡ Some source → IsNext source buffer n) → Onward mid new → HasRead n old new
 read_once old mid new n buffer read next on = λ source told.
     (ap (λ (b : Beside). b.left) on.keeps ∙ ap (λ (b : Beside). b.left) read ∙ ap (option_map (λ l. drop n l)) told, (next source told).within)
 
 -- where a read found no byte, nothing was left
-pub read_ended : (old mid new : Told) (n : ℕ) (buffer : List ℕ) → mid.beside ≡ record old.beside { left = option_map (λ l. drop n l) old.beside.left; script_bytes = mid.beside.script_bytes; script_faults = mid.beside.script_faults }
+read_ended : (old mid new : Told) (n : ℕ) (buffer : List ℕ) → mid.beside ≡ record old.beside { left = option_map (λ l. drop n l) old.beside.left; script_bytes = mid.beside.script_bytes; script_faults = mid.beside.script_faults }
     → ((source : List ℕ) → old.beside.left ≡ Some source → IsNext source buffer n) → Onward mid new → n ≡ 0 → ReadsAll old new
 read_ended old mid new n buffer read next on none = λ source told.
     left_then old mid new n source read on told ∙ ap (λ (k : ℕ). Some (drop k source)) none ∙ ap Some ((next source told).ends none)
+
+-- so a piece was read for which there was room
+pub piece_read : (old mid new : Told) (room n : ℕ) (buffer : List ℕ) → mid.beside ≡ record old.beside { left = option_map (λ l. drop n l) old.beside.left; script_bytes = mid.beside.script_bytes; script_faults = mid.beside.script_faults }
+    → Grew old.beside.script_bytes n mid.beside.script_bytes → ((source : List ℕ) → old.beside.left ≡ Some source → IsNext source buffer n)
+    → Onward mid new → n ≤ room → ReadsPiece room n old new
+piece_read old mid new room n buffer read grew next on few = record {
+  bytes = subst (λ (b : ℕ). Grew old.beside.script_bytes n b) (sym (ap (λ (b : Beside). b.script_bytes) on.keeps)) grew;
+  read = read_once old mid new n buffer read next on;
+  ended = λ none. read_ended old mid new n buffer read next on none;
+  few = few;
+}
+
+-- as many bytes were read as make a script too long
+pub too_many : (old new : Told) (total : ℕ) → total ≡ 4294967295
+    → Grew old.beside.script_bytes total new.beside.script_bytes → HasRead total old new → ReadsTooMany old new
+too_many old new total is grew read = record {
+  grew = subst (λ (n : ℕ). Grew old.beside.script_bytes n new.beside.script_bytes) is grew;
+  read = subst (λ (n : ℕ). HasRead n old new) is read;
+}
 
 -- so all was read, however the last line was answered
 read_all : (first old mid new : Told) (n : ℕ) → HasRead n first old → ReadsAll old mid → Onward mid new → ReadsAll first new

@@ -1,5 +1,5 @@
 -- How a run goes on as the bytes of its script come.
-use Rattle.std.specs.Prelude.{◌≡◌, ℕ, ◌≤◌, ◌+◌, ◌-◌, ◌^◌, min, true, false, take, drop, length, List, [], ◌++◌, Option, Some, Result, Ok, Err, MatchResult, IfErr, OnOk, IsErrOf, is_ok, map}
+use Rattle.std.specs.Prelude.{◌≡◌, ℕ, ◌≤◌, ◌+◌, ◌-◌, ◌*◌, ◌^◌, min, max, true, false, take, drop, length, List, [], ◌++◌, Option, Some, Result, Ok, Err, MatchResult, IfErr, OnOk, IsErrOf, is_ok, map}
 use Rattle.ipl_rules.specs.State.{Map, State, Limits}
 use Rattle.ipl_rules.specs.Operations.{row_of, rows_from}
 use Rattle.ipl_model.specs.declared.command.Command.{Command}
@@ -7,11 +7,12 @@ use Rattle.ipl_model.specs.Step.{row_reply}
 use Rattle.ipl_model.specs.Text.{reply_text}
 use Rattle.ipl_model.specs.Run.{after_all}
 use Rattle.ipl_model.specs.Grammar.{commands_of}
-use Rattle.chip_trait.specs.Told.{History, Told, adds_all, Rose, IsPrefix}
+use Rattle.chip_trait.specs.Told.{History, Told, adds_all, Grew, Rose, IsPrefix}
 use Rattle.script_run.specs.declared.fault.Stop.{Stop}
 use Rattle.script_run.specs.declared.fault.Stop.TheVariants as stop
 use Rattle.script_run.specs.Lines.{commands_from}
-use Rattle.store_trait.specs.Keeping.{Keeping, LeavesTidy, Stays, Draws, Excuses}
+use Rattle.store_trait.specs.Keeping.{Keeping, FOUND_NUMBER, COMMAND_DRAWS, LeavesTidy, Stays, Draws, Excuses}
+use Rattle.store_trait.specs.Onward.{Onward}
 use Rattle.store_trait.specs.declared.fault.Fault.{Fault}
 use Rattle.store_trait.specs.declared.fault.Fault.TheVariants.{Spent}
 use Rattle.script_run.specs.Run.{IsUnsaid, RunLeaves, SayingLeaves, SaysLines}
@@ -33,6 +34,18 @@ HasRead n old new = (source : List ℕ) → old.beside.left ≡ Some source
 abbrev pub ReadsAll : Told → Told → Type 0
 ReadsAll old new = (source : List ℕ) → old.beside.left ≡ Some source → new.beside.left ≡ Some []
 
+-- n bytes of the script were read, no more than there was room for; none only where all of it was read
+pub record ReadsPiece (room n : ℕ) (old new : Told) : Type 0 where
+  pub bytes : Grew old.beside.script_bytes n new.beside.script_bytes
+  pub read : HasRead n old new
+  pub ended : n ≡ 0 → ReadsAll old new
+  pub few : n ≤ room
+
+-- as many bytes of the script were read as make it too long; where it is told it has as many
+pub record ReadsTooMany (old new : Told) : Type 0 where
+  pub grew : Grew old.beside.script_bytes 4294967295 new.beside.script_bytes
+  pub read : HasRead 4294967295 old new
+
 -- how far lines were said where a run stopped in them: a line couldn't be said, or all that was
 -- said are whole lines
 abbrev pub SaysPart : Stop → List (List ℕ) → List (List ℕ) → Type 0
@@ -43,6 +56,11 @@ SaysPart stop.TooLong lines said = IsPrefix said lines
 
 -- over stores of one kind
 module _ {S : Type 0} (k : Keeping S) where
+  -- the desk has so many places, and the store suits it
+  pub record FitsDesk (n : ℕ) (store : S) (t : Told) : Type 0 where
+    pub places : t.places ≡ n
+    pub suits : k.suits store
+
   -- when each end comes that isn't the end of the script
   abbrev pub StopCause : Told → Told → Stop → Type 0
   StopCause old new (stop.Store fault) = k.cause fault old new
@@ -97,6 +115,18 @@ module _ {S : Type 0} (k : Keeping S) where
   CompletesOver n before old result then new =
       (limits : Limits) → KeepsSome limits before old → Completes limits n before old result then new
 
+  -- for a piece of n bytes no more numbers were drawn than n commands may draw
+  pub record DrawsPiece (n : ℕ) (before : S) (old : Told) (result : Result ℕ Stop) (then : S) (new : Told) : Type 0 where
+    pub drew : k.counter then ≤ max (k.counter before) FOUND_NUMBER + COMMAND_DRAWS * n
+    pub completed : CompletesOver (COMMAND_DRAWS * n) before old result then new
+
+  -- How a run of a script ends: all of it was read, or the stop has its cause. It is too long only where so many bytes
+  -- were read.
+  pub record EndsScript (old : Told) (result : Result (Unit {0}) Stop) (new : Told) : Type 0 where
+    pub cause : IfErr result (λ s. StopCause old new s)
+    pub long : IsErrOf result stop.TooLong → ReadsTooMany old new
+    pub all : OnOk result (ReadsAll old new)
+
   -- these lines were said, chip calls between them, and the store keeps the same state; or a part of them was
   pub record SaysSome (limits : Limits) (state : State) (lines : List (List ℕ)) (before : S) (h : History)
       (then : S) (old new : Told) (s : Stop) : Type 0 where
@@ -114,6 +144,15 @@ module _ {S : Type 0} (k : Keeping S) where
       × k.holds limits then new (adds_all leaves.added h) state)
       (λ s. SaysSome limits state (lines state) before h then old new s)
 
+  -- under such limits these lines were said, or a part of them, with what goes along and what is done with a store that
+  -- keeps a state
+  pub record SaysAlong (Such : Limits → Type 0) (lines : State → List (List ℕ)) (n : ℕ) (before : S) (old : Told)
+      (result : Result (Unit {0}) Stop) (then : S) (new : Told) : Type 0 where
+    pub says : (limits : Limits) → Such limits → SaysUnder limits lines before old result then new
+    pub along : Along Onward n before old result then new
+    pub completes : (limits : Limits) → Such limits → KeepsSome limits before old
+        → Completes limits n before old result then new
+
   -- commands were answered, or it stopped in them
   abbrev pub Answers : List Command → S → Told → Result (Unit {0}) Stop → S → Told → Type 0
   Answers commands before old result then new = (limits : Limits) (state : State) (h : History)
@@ -122,6 +161,13 @@ module _ {S : Type 0} (k : Keeping S) where
       (λ _. (leaves : RunLeaves k limits state commands before h (k.holds limits then new) then old new (Ok tt))
       × k.holds limits then new (adds_all leaves.added h) (after_all limits state commands))
       (λ s. RunLeaves k limits state commands before h (Stays k limits then old new) then old new (Err s))
+
+  -- commands were answered, or it stopped in them, with what goes along and what is done with a store that keeps a state
+  pub record AnswersAlong (commands : List Command) (n : ℕ) (before : S) (old : Told)
+      (result : Result (Unit {0}) Stop) (then : S) (new : Told) : Type 0 where
+    pub answers : Answers commands before old result then new
+    pub along : Along Onward n before old result then new
+    pub completes : CompletesOver n before old result then new
 
   -- From one moment of a run to a later one, while some bytes were taken: commands were answered, and with those still to come
   -- they are those that were to come before.
@@ -140,6 +186,14 @@ module _ {S : Type 0} (k : Keeping S) where
       (λ _. Goes limits state line bytes before h then later old new)
       (λ s. (tail : List ℕ) → RunLeaves k limits state (commands_from line (bytes ++ tail)) before h
       (Stays k limits then old new) then old new (Err s))
+
+  -- bytes of the script were taken, or it stopped in them, with what goes along and what is done with a store that keeps
+  -- a state
+  pub record TakesAlong (bytes : List ℕ) (n : ℕ) (before : S) (line : List ℕ) (old : Told)
+      (result : Result (Unit {0}) Stop) (then : S) (later : List ℕ) (new : Told) : Type 0 where
+    pub takes : TakesBytes bytes before line old result then later new
+    pub along : Along Onward n before old result then new
+    pub completes : CompletesOver n before old result then new
 
   -- the next n bytes of the source
   pub record Took (limits : Limits) (state : State) (line source : List ℕ) (before : S) (h : History) (n : ℕ)

@@ -1,3 +1,4 @@
+pub mod View
 pub mod Run
 pub mod Lines
 pub mod Goes

@@ -1,15 +1,14 @@
 //! One command: the store's work, and then its reply.
-ghost use Rattle.std.specs.Prelude.{◌≡◌, ◌≤◌, ◌<◌, ◌+◌, ◌-◌, ◌*◌, ◌∷◌, ◌++◌, [], ℕ, List, IfErr, IsErrOf, MatchResult};
+ghost use Rattle.std.specs.Prelude.{◌≤◌, ◌<◌, ◌-◌, ◌*◌, ◌∷◌, [], ℕ, IfErr, MatchResult};
 ghost use Rattle.chip_trait.specs.declared.event.Event.TheVariants.{Said};
-ghost use Rattle.chip_trait.specs.Told.{Told, Rose, Appends, FailsToSay};
-ghost use Rattle.ipl_rules.specs.State.{State, Limits};
+ghost use Rattle.chip_trait.specs.Told.{Rose, Appends, FailsToSay};
 ghost use Rattle.std.specs.FinMap.{get};
 ghost use Rattle.ipl_model.specs.Text.{reply_text};
 ghost use Rattle.ipl_model.specs.Grammar.{line_of, commands_in};
 ghost use Rattle.ipl_model.specs.declared.command.Command.TheVariants as command;
 ghost use Rattle.store_trait.specs.Onward.{Onward};
 ghost use Rattle.store_trait.specs.Keeping.{IsSingle, WORK_DRAWS, LOOK_UP_DRAWS, COMMAND_DRAWS};
-ghost use Rattle.script_run.specs.Goes.{Along, CompletesOver, KeepsSome, Completes, Answers, SaysUnder, row_lines, rows_lines};
+ghost use Rattle.script_run.specs.Goes.{FitsDesk, AnswersAlong, SaysAlong, row_lines, rows_lines};
 
 use crate::Stop;
 use chip_trait::{Desk, Failed};
@@ -36,13 +35,9 @@ fn say_reply<D: Desk>(desk: &mut D, reply: &Reply) -> Result<(), Failed>
 fn answer_one<S: Store, D: Desk>(store: &mut S, desk: &mut D, command: &Command) -> Result<(), Stop>
     ghost places: { ℕ }
     requires single { IsSingle command.now }
-    requires places { (D.told desk.old).places ≡ places }
-    requires suits { (S.keeping places).suits store.old }
-    ensures answers { Answers (S.keeping places) (command.now ∷ []) store.old (D.told desk.old) result store.new
-        (D.told desk.new) }
-    ensures along { Along (S.keeping places) Onward WORK_DRAWS store.old (D.told desk.old) result store.new (D.told desk.new) }
-    ensures completes { CompletesOver (S.keeping places) WORK_DRAWS store.old (D.told desk.old) result store.new
-        (D.told desk.new) }
+    requires suits { FitsDesk (S.keeping places) places store.old (D.told desk.old) }
+    ensures { AnswersAlong (S.keeping places) (command.now ∷ []) WORK_DRAWS store.old (D.told desk.old) result
+        store.new (D.told desk.new) }
 {
     let reply = store.work(desk, command)?;
     match say_reply(desk, &reply) {
@@ -54,17 +49,9 @@ fn answer_one<S: Store, D: Desk>(store: &mut S, desk: &mut D, command: &Command)
 /// Says the record of a name, where there is one.
 fn say_row<S: Store, D: Desk>(store: &mut S, desk: &mut D, n: u32) -> Result<(), Stop>
     ghost places: { ℕ }
-    requires places { (D.told desk.old).places ≡ places }
-    requires suits { (S.keeping places).suits store.old }
-    ensures says { (limits : Limits) → n < limits.names
-        → SaysUnder (S.keeping places) limits (λ state. row_lines n (get state.map n)) store.old
-        (D.told desk.old) result store.new (D.told desk.new) }
-    ensures along { Along (S.keeping places) Onward LOOK_UP_DRAWS store.old (D.told desk.old) result store.new
-        (D.told desk.new) }
-    ensures completes { (limits : Limits) → n < limits.names
-        → KeepsSome (S.keeping places) limits store.old (D.told desk.old)
-        → Completes (S.keeping places) limits LOOK_UP_DRAWS store.old (D.told desk.old) result store.new
-        (D.told desk.new) }
+    requires { FitsDesk (S.keeping places) places store.old (D.told desk.old) }
+    ensures { SaysAlong (S.keeping places) (λ limits. n < limits.names) (λ state. row_lines n (get state.map n))
+        LOOK_UP_DRAWS store.old (D.told desk.old) result store.new (D.told desk.new) }
 {
     match store.look_up(desk, n)? {
         Some(value) => match say_reply(desk, &Reply::Row(n, value)) {
@@ -83,17 +70,10 @@ fn say_rows<S: Store, D: Desk>(
     end: u32,
 ) -> Result<(), Stop>
     ghost places: { ℕ }
-    requires places { (D.told desk.old).places ≡ places }
-    requires suits { (S.keeping places).suits store.old }
-    ensures says { (limits : Limits) → end ≤ limits.names
-        → SaysUnder (S.keeping places) limits (λ state. rows_lines state.map first (end - first)) store.old
+    requires { FitsDesk (S.keeping places) places store.old (D.told desk.old) }
+    ensures { SaysAlong (S.keeping places) (λ limits. end ≤ limits.names)
+        (λ state. rows_lines state.map first (end - first)) (LOOK_UP_DRAWS * (end - first)) store.old
         (D.told desk.old) result store.new (D.told desk.new) }
-    ensures along { Along (S.keeping places) Onward (LOOK_UP_DRAWS * (end - first)) store.old
-        (D.told desk.old) result store.new (D.told desk.new) }
-    ensures completes { (limits : Limits) → end ≤ limits.names
-        → KeepsSome (S.keeping places) limits store.old (D.told desk.old)
-        → Completes (S.keeping places) limits (LOOK_UP_DRAWS * (end - first)) store.old (D.told desk.old)
-        result store.new (D.told desk.new) }
 {
     for n in first..end {
         say_row(store, desk, n)?;
@@ -104,14 +84,9 @@ fn say_rows<S: Store, D: Desk>(
 /// Answers a list: its records and then a line that ends it, or a refusal.
 fn list<S: Store, D: Desk>(store: &mut S, desk: &mut D, first: u32, last: u32) -> Result<(), Stop>
     ghost places: { ℕ }
-    requires places { (D.told desk.old).places ≡ places }
-    requires suits { (S.keeping places).suits store.old }
-    ensures answers { Answers (S.keeping places) (command.List first last ∷ []) store.old (D.told desk.old) result store.new
-        (D.told desk.new) }
-    ensures along { Along (S.keeping places) Onward COMMAND_DRAWS store.old (D.told desk.old) result store.new
-        (D.told desk.new) }
-    ensures completes { CompletesOver (S.keeping places) COMMAND_DRAWS store.old (D.told desk.old) result store.new
-        (D.told desk.new) }
+    requires { FitsDesk (S.keeping places) places store.old (D.told desk.old) }
+    ensures { AnswersAlong (S.keeping places) (command.List first last ∷ []) COMMAND_DRAWS store.old
+        (D.told desk.old) result store.new (D.told desk.new) }
 {
     let names = store.names();
     if first >= names || last >= names {
@@ -130,14 +105,9 @@ fn list<S: Store, D: Desk>(store: &mut S, desk: &mut D, first: u32, last: u32) -
 /// Answers one command.
 fn answer<S: Store, D: Desk>(store: &mut S, desk: &mut D, command: &Command) -> Result<(), Stop>
     ghost places: { ℕ }
-    requires places { (D.told desk.old).places ≡ places }
-    requires suits { (S.keeping places).suits store.old }
-    ensures answers { Answers (S.keeping places) (command.now ∷ []) store.old (D.told desk.old) result store.new
-        (D.told desk.new) }
-    ensures along { Along (S.keeping places) Onward COMMAND_DRAWS store.old (D.told desk.old) result store.new
-        (D.told desk.new) }
-    ensures completes { CompletesOver (S.keeping places) COMMAND_DRAWS store.old (D.told desk.old) result store.new
-        (D.told desk.new) }
+    requires { FitsDesk (S.keeping places) places store.old (D.told desk.old) }
+    ensures { AnswersAlong (S.keeping places) (command.now ∷ []) COMMAND_DRAWS store.old (D.told desk.old) result
+        store.new (D.told desk.new) }
 {
     match command {
         Command::List(first, last) => list(store, desk, *first, *last),
@@ -152,14 +122,9 @@ pub(crate) fn answer_line<S: Store, D: Desk>(
     line: &[u8],
 ) -> Result<(), Stop>
     ghost places: { ℕ }
-    requires places { (D.told desk.old).places ≡ places }
-    requires suits { (S.keeping places).suits store.old }
-    ensures answers { Answers (S.keeping places) (commands_in (line_of line.now)) store.old
+    requires { FitsDesk (S.keeping places) places store.old (D.told desk.old) }
+    ensures { AnswersAlong (S.keeping places) (commands_in (line_of line.now)) COMMAND_DRAWS store.old
         (D.told desk.old) result store.new (D.told desk.new) }
-    ensures along { Along (S.keeping places) Onward COMMAND_DRAWS store.old (D.told desk.old) result store.new
-        (D.told desk.new) }
-    ensures completes { CompletesOver (S.keeping places) COMMAND_DRAWS store.old (D.told desk.old) result store.new
-        (D.told desk.new) }
 {
     match parse(line) {
         Line::Skip => Ok(()),

@@ -1,11 +1,10 @@
 //! A script to its end, in whatever pieces its bytes come.
-ghost use Rattle.std.specs.Prelude.{◌≡◌, ◌≤◌, ◌+◌, ◌-◌, ◌*◌, ◌^◌, ◌∷◌, ◌<◌, max, [], ℕ, List, length, IfOk, OnOk, IfErr, IsErrOf, is_ok};
+ghost use Rattle.std.specs.Prelude.{◌≡◌, ◌*◌, ◌∷◌, ◌<◌, [], ℕ, length, IfOk, OnOk, IsErrOf, is_ok};
 ghost use Rattle.std.specs.List.{position};
-ghost use Rattle.chip_trait.specs.Told.{Told, Grew};
 ghost use Rattle.ipl_model.specs.Grammar.{is_line_feed};
-ghost use Rattle.store_trait.specs.Onward.{Onward, Further};
-ghost use Rattle.store_trait.specs.Keeping.{Draws, LeavesTidy, FOUND_NUMBER, COMMAND_DRAWS, SCRIPT_DRAWS};
-ghost use Rattle.script_run.specs.Goes.{Along, LearnsAlong, CompletesOver, HasRead, ReadsAll, StopCause, TakesBytes, TakesNext, RunsScript};
+ghost use Rattle.store_trait.specs.Onward.{Further};
+ghost use Rattle.store_trait.specs.Keeping.{Draws, LeavesTidy, COMMAND_DRAWS, SCRIPT_DRAWS};
+ghost use Rattle.script_run.specs.Goes.{FitsDesk, Along, LearnsAlong, CompletesOver, DrawsPiece, ReadsPiece, EndsScript, TakesAlong, TakesNext, RunsScript};
 
 use crate::Stop;
 use crate::answer::answer_line;
@@ -33,14 +32,9 @@ fn end_line<S: Store, D: Desk>(
     line: &mut LineBuffer,
 ) -> Result<(), Stop>
     ghost places: { ℕ }
-    requires places { (D.told desk.old).places ≡ places }
-    requires suits { (S.keeping places).suits store.old }
-    ensures takes { TakesBytes (S.keeping places) (10 ∷ []) store.old line.old (D.told desk.old) result store.new line.new
-        (D.told desk.new) }
-    ensures along { Along (S.keeping places) Onward COMMAND_DRAWS store.old (D.told desk.old) result store.new
-        (D.told desk.new) }
-    ensures completes { CompletesOver (S.keeping places) COMMAND_DRAWS store.old (D.told desk.old) result store.new
-        (D.told desk.new) }
+    requires { FitsDesk (S.keeping places) places store.old (D.told desk.old) }
+    ensures { TakesAlong (S.keeping places) (10 ∷ []) COMMAND_DRAWS store.old line.old (D.told desk.old) result
+        store.new line.new (D.told desk.new) }
 {
     let answered = answer_line(store, desk, line.bytes());
     line.clear();
@@ -56,14 +50,9 @@ fn take_piece<S: Store, D: Desk>(
     piece: &[u8],
 ) -> Result<(), Stop>
     ghost places: { ℕ }
-    requires places { (D.told desk.old).places ≡ places }
-    requires suits { (S.keeping places).suits store.old }
-    ensures takes { TakesBytes (S.keeping places) piece.now store.old line.old (D.told desk.old) result store.new line.new
-        (D.told desk.new) }
-    ensures along { Along (S.keeping places) Onward (COMMAND_DRAWS * length piece.now) store.old
-        (D.told desk.old) result store.new (D.told desk.new) }
-    ensures completes { CompletesOver (S.keeping places) (COMMAND_DRAWS * length piece.now) store.old
-        (D.told desk.old) result store.new (D.told desk.new) }
+    requires { FitsDesk (S.keeping places) places store.old (D.told desk.old) }
+    ensures { TakesAlong (S.keeping places) piece.now (COMMAND_DRAWS * length piece.now) store.old line.old
+        (D.told desk.old) result store.new line.new (D.told desk.new) }
 {
     let mut at = 0;
     while let Some(count) = line_feed(&piece[at..]) {
@@ -84,23 +73,17 @@ fn take_next<S: Store, D: Desk>(
 ) -> Result<usize, Stop>
     ghost places: { ℕ }
     requires some { 0 < length piece.old }
-    requires places { (D.told desk.old).places ≡ places }
-    requires suits { (S.keeping places).suits store.old }
+    requires suits { FitsDesk (S.keeping places) places store.old (D.told desk.old) }
     ensures takes { TakesNext (S.keeping places) store.old line.old (D.told desk.old) result store.new line.new
         (D.told desk.new) }
     ensures along { Along (S.keeping places) Further (COMMAND_DRAWS * length piece.old) store.old
         (D.told desk.old) result store.new (D.told desk.new) }
     ensures completes { CompletesOver (S.keeping places) (COMMAND_DRAWS * length piece.old) store.old
         (D.told desk.old) result store.new (D.told desk.new) }
-    ensures drew { IfOk result (λ n. (S.keeping places).counter store.new
-        ≤ max ((S.keeping places).counter store.old) FOUND_NUMBER + COMMAND_DRAWS * n) }
-    ensures completed { IfOk result (λ n. CompletesOver (S.keeping places) (COMMAND_DRAWS * n) store.old
-        (D.told desk.old) result store.new (D.told desk.new)) }
-    ensures bytes { IfOk result
-        (λ n. Grew (D.told desk.old).beside.script_bytes n (D.told desk.new).beside.script_bytes) }
-    ensures read { IfOk result (λ n. HasRead n (D.told desk.old) (D.told desk.new)) }
-    ensures ended { IfOk result (λ n. n ≡ 0 → ReadsAll (D.told desk.old) (D.told desk.new)) }
-    ensures few { IfOk result (λ n. n ≤ length piece.old) }
+    // How many bytes it were, and what they draw.
+    ensures read { IfOk result (λ n. ReadsPiece (length piece.old) n (D.told desk.old) (D.told desk.new)) }
+    ensures draws { IfOk result (λ n. DrawsPiece (S.keeping places) n store.old (D.told desk.old) result store.new
+        (D.told desk.new)) }
 {
     match desk.read_script(piece) {
         Ok(count) => {
@@ -115,8 +98,7 @@ fn take_next<S: Store, D: Desk>(
 /// moment the power is cut at, the chip stands for the records after the commands whose replies were said, or after one more.
 pub fn run_script<S: Store, D: Desk>(store: &mut S, desk: &mut D) -> Result<(), Stop>
     ghost places: { ℕ }
-    requires places { (D.told desk.old).places ≡ places }
-    requires suits { (S.keeping places).suits store.old }
+    requires { FitsDesk (S.keeping places) places store.old (D.told desk.old) }
     ensures run { RunsScript (S.keeping places) store.old (D.told desk.old) result store.new (D.told desk.new) }
     ensures tidy { LeavesTidy (S.keeping places) store.old store.new (D.told desk.old) (D.told desk.new) (is_ok result) }
     ensures draws { Draws (S.keeping places) SCRIPT_DRAWS store.old (IsErrOf result (Stop.Store Fault.Spent)) store.new }
@@ -124,11 +106,8 @@ pub fn run_script<S: Store, D: Desk>(store: &mut S, desk: &mut D) -> Result<(), 
     ensures completes { CompletesOver (S.keeping places) SCRIPT_DRAWS store.old (D.told desk.old) result store.new
         (D.told desk.new) }
     ensures further { Further (D.told desk.old) (D.told desk.new) }
-    ensures cause { IfErr result (λ stop. StopCause (S.keeping places) (D.told desk.old) (D.told desk.new) stop) }
-    ensures long { IsErrOf result Stop.TooLong → HasRead 4294967295 (D.told desk.old) (D.told desk.new)
-        × Grew (D.told desk.old).beside.script_bytes 4294967295 (D.told desk.new).beside.script_bytes }
+    ensures ends { EndsScript (S.keeping places) (D.told desk.old) result (D.told desk.new) }
     ensures suited { OnOk result ((S.keeping places).suits store.new) }
-    ensures all { OnOk result (ReadsAll (D.told desk.old) (D.told desk.new)) }
 {
     let mut line = LineBuffer::new();
     let mut piece = [0u8; PIECE];

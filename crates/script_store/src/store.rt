@@ -1,10 +1,8 @@
 //! The store that a run of a script works with.
-ghost use Rattle.std.specs.Prelude.{◌≡◌, ◌≤◌, ℕ, false, IfOk, IfErr, OnOk, IsErrOf, is_ok};
-ghost use Rattle.chip_trait.specs.Told.{History, Told, Counts};
+ghost use Rattle.std.specs.Prelude.{◌≡◌, ◌≤◌, ℕ, false, IfOk};
+ghost use Rattle.chip_trait.specs.Told.{History, Told};
 ghost use Rattle.ipl_rules.specs.State.{State, Limits};
-ghost use Rattle.store_trait.specs.declared.fault.Fault.TheVariants.{Spent};
-ghost use Rattle.store_trait.specs.Keeping.{IsSingle, Works, LooksUp, LeavesTidy, Learns, DoneRecalls, is_restart, Draws, WORK_DRAWS, LOOK_UP_DRAWS};
-ghost use Rattle.store_laws.specs.Keeps.{StoreCause};
+ghost use Rattle.store_trait.specs.Keeping.{IsSingle, Works, LooksUp, WorksAlong, DoneRecalls, is_restart, WORK_DRAWS, LOOK_UP_DRAWS};
 ghost use Rattle.script_store.specs.Keeps.{IsRunning, KeepsScript, DoesCommand, script_keeping};
 ghost use Rattle.script_store.specs.Done.{HasDone, HasFound};
 
@@ -84,21 +82,13 @@ impl store_trait::Store for ScriptStore {
     fn work<C: Chip>(&mut self, chip: &mut C, command: &Command) -> Result<Reply, Fault>
         requires single { IsSingle command.now }
         requires suits { IsRunning (C.told chip.old).places self.old }
-        ensures draws { Draws (script_keeping (C.told chip.old).places) WORK_DRAWS self.old
-            (IsErrOf result Spent) self.new }
+        ensures along { WorksAlong (script_keeping (C.told chip.old).places) WORK_DRAWS self.old (C.told chip.old)
+            result self.new (C.told chip.new) }
         ensures works { Works (script_keeping (C.told chip.old).places) command.now self.old
             (C.told chip.old) result self.new (C.told chip.new) }
-        ensures tidy { LeavesTidy (script_keeping (C.told chip.old).places) self.old self.new
-            (C.told chip.old) (C.told chip.new) (is_ok result) }
-        ensures suited { OnOk result (IsRunning (C.told chip.old).places self.new) }
-        ensures learns { Learns (script_keeping (C.told chip.old).places) self.old (C.told chip.old)
-            result self.new (C.told chip.new) }
         ensures recalls { is_restart command.now ≡ false
             → DoneRecalls (script_keeping (C.told chip.old).places) self.old (C.told chip.old)
             result self.new (C.told chip.new) }
-        ensures counts { Counts (C.told chip.old) (C.told chip.new) }
-        ensures cause { IfErr result (λ fault. StoreCause (C.told chip.old).places fault
-            (C.told chip.old) (C.told chip.new)) }
         // And what it has done by itself, also where not all pages of the chip read well.
         ensures done { IfOk result (λ reply. HasDone command.now self.old (C.told chip.old) reply
             self.new (C.told chip.new)) }
@@ -108,20 +98,12 @@ impl store_trait::Store for ScriptStore {
 
     fn look_up<C: Chip>(&mut self, chip: &mut C, n: u32) -> Result<Option<Value>, Fault>
         requires { IsRunning (C.told chip.old).places self.old }
-        ensures draws { Draws (script_keeping (C.told chip.old).places) LOOK_UP_DRAWS self.old
-            (IsErrOf result Spent) self.new }
+        ensures along { WorksAlong (script_keeping (C.told chip.old).places) LOOK_UP_DRAWS self.old (C.told chip.old)
+            result self.new (C.told chip.new) }
         ensures looks_up { LooksUp (script_keeping (C.told chip.old).places) n self.old
             (C.told chip.old) result self.new (C.told chip.new) }
-        ensures tidy { LeavesTidy (script_keeping (C.told chip.old).places) self.old self.new
-            (C.told chip.old) (C.told chip.new) (is_ok result) }
-        ensures suited { OnOk result (IsRunning (C.told chip.old).places self.new) }
-        ensures learns { Learns (script_keeping (C.told chip.old).places) self.old (C.told chip.old)
-            result self.new (C.told chip.new) }
         ensures recalls { DoneRecalls (script_keeping (C.told chip.old).places) self.old (C.told chip.old)
             result self.new (C.told chip.new) }
-        ensures counts { Counts (C.told chip.old) (C.told chip.new) }
-        ensures cause { IfErr result (λ fault. StoreCause (C.told chip.old).places fault
-            (C.told chip.old) (C.told chip.new)) }
         // What the name's own page shows, also where others don't read well.
         ensures done { IfOk result (λ found. HasFound n self.old (C.told chip.old) found) }
     {

@@ -29,7 +29,7 @@ use Rattle.place_taking.specs.Takes.{IsNotTaken}
 use Rattle.selective_merge.specs.Throughout.{ChartsThroughout}
 use Rattle.status_renewal.specs.InPlace.{FailsInPlace}
 use Rattle.status_renewal.specs.Leaving.{UnitFails}
-use Rattle.kept_numbers.specs.Joins.{joined}
+use Rattle.restart.specs.Joins.{joined}
 use Rattle.status_renewal.specs.Passes.{kept_below, has_room, HasPassed, SparesUnits, IsRenewalFault, FailsAsPass, AreMergeable}
 use Rattle.status_renewal.specs.Recovers.{IsOpeningFault}
 use Rattle.status_renewal.proofs.CompleteLemmas.{carried_none, not_taken_failed}

@@ -12,9 +12,9 @@ use Rattle.ipl_meaning.specs.Tables.{Tables}
 use Rattle.ipl_meaning.proofs.OnceLemmas.{laid_once}
 use Rattle.number_set.specs.Numbers.{with_numbers, AreRising}
 use Rattle.number_set.proofs.NumberLemmas.{numbers_are_a_union, length_with_numbers, with_numbers_grow, rising_with_numbers, rising_lists_are_one}
-use Rattle.kept_numbers.specs.Joins.{committed_in, joined}
-use Rattle.kept_numbers.specs.Keeps.{IsLogged, KeepsBelow}
-use Rattle.kept_numbers.proofs.KeepsLemmas.{none_are_kept, units_join, joined_numbers_join}
+use Rattle.restart.specs.Joins.{committed_in, joined}
+use Rattle.restart.specs.Keeps.{IsLogged, KeepsBelow}
+use Rattle.restart.proofs.KeepsLemmas.{none_are_kept, units_join, joined_numbers_join}
 use Rattle.opening_laws.specs.LaidOut.{layout_in}
 use Rattle.restart.specs.Collected.{AreCollected}
 use Rattle.unit_io.specs.Costs.{Spends}

@@ -16,11 +16,11 @@ use Rattle.ipl_meaning.specs.Tables.{Tables, StatusTable}
 use Rattle.merge_laws.specs.Merged.{IsMergedUnit, merged_shape}
 use Rattle.merge_laws.specs.Packs.{packs_of, entries_from}
 use Rattle.unit_io.specs.Charts.{Charts}
-use Rattle.kept_numbers.specs.Joins.{joined}
-use Rattle.kept_numbers.specs.Keeps.{JoinsLog}
+use Rattle.restart.specs.Joins.{joined}
+use Rattle.restart.specs.Keeps.{JoinsLog}
 use Rattle.selective_merge.specs.Merging.{StaysMirrored}
 use Rattle.status_renewal.specs.Passes.{kept_below, has_room, IsRepacked, HasPassed, HasStopped, TellsChart, PassEnds}
-use Rattle.kept_numbers.proofs.KeepsLemmas.{none_are_kept, units_join, joined_numbers_join, merged_units_add_nothing}
+use Rattle.restart.proofs.KeepsLemmas.{none_are_kept, units_join, joined_numbers_join, merged_units_add_nothing}
 use Rattle.status_renewal.proofs.UnitLemmas.{kept_fits, kept_stays, repacked_waits}
 
 -- ---- layouts

@@ -19,8 +19,8 @@ use Rattle.selective_merge.specs.Throughout.{ChartsThroughout}
 use Rattle.selective_merge.proofs.TakenLemmas.{told_not}
 use Rattle.status_renewal.specs.Passes.{HasPassed, HasRenewed, HasStopped, TellsChart, PassEnds}
 use Rattle.status_renewal.specs.Renewed.{with_tables, IsGivenBack, MayRenew, MovesStatus, Renews}
-use Rattle.kept_numbers.specs.Keeps.{KeepsBelow}
-use Rattle.kept_numbers.proofs.KeepsLemmas.{kept_numbers_keep, kept_numbers_are_exact}
+use Rattle.restart.specs.Keeps.{KeepsBelow}
+use Rattle.restart.proofs.KeepsLemmas.{kept_numbers_keep, kept_numbers_are_exact}
 use Rattle.status_renewal.proofs.ReadyLemmas.{kept_numbers_are_old}
 use Rattle.status_renewal.proofs.TidyLemmas.{back_is_same}
 

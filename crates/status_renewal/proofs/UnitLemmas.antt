@@ -11,7 +11,7 @@ use Rattle.log_records.proofs.RecordsLemmas.{records_list}
 use Rattle.merge_laws.specs.Packs.{among, packs_of}
 use Rattle.merge_laws.proofs.PacksLemmas.{among_contains, carried_all, packs_join, entries_records}
 use Rattle.unit_log.specs.Kept.{kept_of, records_kept}
-use Rattle.kept_numbers.specs.Joins.{joined}
+use Rattle.restart.specs.Joins.{joined}
 use Rattle.status_renewal.specs.Passes.{kept_below, has_room, IsRepacked}
 
 -- ---- the records that were read are the unit's

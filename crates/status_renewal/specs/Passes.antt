@@ -29,8 +29,8 @@ use Rattle.txn_status.specs.Switching.{ListsAt}
 use Rattle.unit_io.specs.Costs.{is_erased}
 use Rattle.unit_io.specs.Leads.{IsSteady}
 use Rattle.unit_io.specs.Reads.{OfContents}
-use Rattle.kept_numbers.specs.Joins.{joined}
-use Rattle.kept_numbers.specs.Keeps.{IsLoggedBelow, KeepsBelow}
+use Rattle.restart.specs.Joins.{joined}
+use Rattle.restart.specs.Keeps.{IsLoggedBelow, KeepsBelow}
 
 -- ---- which numbers are kept
 

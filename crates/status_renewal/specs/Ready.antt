@@ -9,7 +9,7 @@ use Rattle.ipl_meaning.specs.Rests.{now, StoryRests}
 use Rattle.ipl_meaning.specs.Stands.{Says, Stands}
 use Rattle.ipl_meaning.specs.Tables.{Tables}
 use Rattle.txn_status.specs.Switching.{MayKeep}
-use Rattle.kept_numbers.specs.Keeps.{KeepsBelow}
+use Rattle.restart.specs.Keeps.{KeepsBelow}
 
 -- a chart that stands for a map says it in the way it is laid out
 abbrev pub LayoutsSay : Type 0

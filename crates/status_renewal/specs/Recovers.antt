@@ -37,7 +37,7 @@ use Rattle.unit_io.specs.Costs.{Spends}
 use Rattle.unit_io.specs.Leads.{IsSteady}
 use Rattle.unit_io.specs.Reads.{OfContents}
 use Rattle.unit_io.specs.Unread.{ReadsEachOnce}
-use Rattle.kept_numbers.specs.Keeps.{IsLoggedBelow}
+use Rattle.restart.specs.Keeps.{IsLoggedBelow}
 use Rattle.status_renewal.specs.Passes.{HasErased, TellsChart, ListsRetired}
 use Rattle.status_renewal.specs.Securing.{knows_logs, waits_for, NoneMarked}
 

@@ -13,7 +13,7 @@ use Rattle.number_set.specs.Numbers.{among}
 use Rattle.step_laws.specs.Steps.{Steps}
 use Rattle.unit_io.specs.Accounts.{Accounts}
 use Rattle.unit_io.specs.Leads.{IsSteady}
-use Rattle.kept_numbers.specs.Keeps.{IsLoggedBelow}
+use Rattle.restart.specs.Keeps.{IsLoggedBelow}
 use Rattle.status_renewal.specs.Passes.{ArePassed, HasStopped, HasRenewed, RenewsTold, KeepsInSteps, RenewCause}
 
 -- ---- a story that rests on a map

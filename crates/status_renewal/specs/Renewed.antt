@@ -82,7 +82,7 @@ pub record PlacesStatus (before : Places) (old : StatusTable) (next : ℕ) (kept
 
 -- Tables with that directory, status and counter that know each place of the chip know each then, and what they
 -- count as clean is erased and programmed as they say.
-pub record KeepsTables (before : Places) (old : StatusTable) (next : ℕ) (result : Result (Unit {0}) ChipFault)
+pub record KeepsRenewed (before : Places) (old : StatusTable) (next : ℕ) (result : Result (Unit {0}) ChipFault)
     (after : Places) (new : StatusTable) (then : ℕ) (chip told : Told) : Type 0 where
   pub known : (t : Tables) → HasTables t before old next → KnowsPlaces chip.places t
       → KnowsPlaces chip.places (with_tables t after new then)

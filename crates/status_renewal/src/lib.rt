@@ -1,5 +1,5 @@
 //! The renewal of the status place: which committed numbers a new one keeps, and the new place in
-//! all tables; and the opening of a chip, which ends with one. It stands on `kept_numbers` for the
+//! all tables; and the opening of a chip, which ends with one. It stands on `restart` for the
 //! numbers, on `unit_log` for the log sectors of a unit, on `selective_merge` for a unit whose numbers
 //! don't fit, on `txn_status` for the new place itself, and on `restart` for what an opening reads. A
 //! contract sees the numbers that are kept as a list in rising order, and what a call leaves as
@@ -34,7 +34,7 @@ mod recovering;
 mod renewing;
 mod securing;
 
-pub use kept_numbers::{KeptNumbers, keeping_laws};
 pub use laws::{chaining_laws, ready_laws, renewal_laws};
 pub use recovering::recover;
 pub use renewing::renew;
+pub use restart::{KeptNumbers, keeping_laws};

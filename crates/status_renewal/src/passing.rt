@@ -16,7 +16,7 @@ ghost use Rattle.status_renewal.specs.Passes.{KeepsAll, HasPassed, PassEnds, Goe
 
 use chip_trait::Chip;
 use ipl_base::ChipFault;
-use kept_numbers::KeptNumbers;
+use restart::KeptNumbers;
 use selective_merge::{Parts, merge};
 use unit_log::read_live;
 

@@ -4,7 +4,7 @@ ghost use Rattle.selective_merge.specs.Throughout.{ChartsThroughout};
 ghost use Rattle.txn_status.specs.Status.{FitStatusPlace};
 ghost use Rattle.txn_status.specs.Switching.{ListsAt};
 ghost use Rattle.unit_io.specs.Charts.{Charts};
-ghost use Rattle.status_renewal.specs.Renewed.{KeepsTables, MayMoveStatus, PlacesStatus, Renews, RenewsInSteps, WritesStatus};
+ghost use Rattle.status_renewal.specs.Renewed.{KeepsRenewed, MayMoveStatus, PlacesStatus, Renews, RenewsInSteps, WritesStatus};
 
 use chip_trait::Chip;
 use ipl_base::{ChipFault, Counter};
@@ -50,7 +50,7 @@ pub(crate) fn renew_place<C: Chip>(
     // What the tables have, whatever the chip tells.
     ensures moves { PlacesStatus directory.old status.old counter.old kept.now result
         directory.new status.new counter.new }
-    ensures tables { KeepsTables directory.old status.old counter.old result
+    ensures tables { KeepsRenewed directory.old status.old counter.old result
         directory.new status.new counter.new (C.told chip.old) (C.told chip.new) }
 
     // What the chip holds then, and what a power cut leaves.

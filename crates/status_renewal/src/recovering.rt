@@ -7,8 +7,7 @@ use crate::renewing::renew_with;
 use crate::securing::secure_marks;
 use chip_trait::Chip;
 use ipl_base::ImageFault;
-use kept_numbers::KeptNumbers;
-use restart::Scratch;
+use restart::{KeptNumbers, Scratch};
 use selective_merge::Parts;
 
 /// Opens a chip, for whose number of places the scratch memory and the tables were made: reads all

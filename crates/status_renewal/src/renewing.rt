@@ -12,8 +12,8 @@ use crate::passing::find_numbers;
 use crate::place::renew_place;
 use chip_trait::Chip;
 use ipl_base::ChipFault;
-use kept_numbers::KeptNumbers;
 use merge_laws::known_laws;
+use restart::KeptNumbers;
 use selective_merge::Parts;
 
 /// Writes a new status place as `renew` does, but without a pass where the numbers are found

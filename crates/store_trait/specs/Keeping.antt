@@ -1,5 +1,5 @@
 -- How a store keeps a state on a chip, and what one command's work leaves.
-use Rattle.std.specs.Prelude.{IfErr, OnOk, ◌≡◌, ◌⊎◌, ◌<◌, ◌≤◌, ◌+◌, ◌-◌, ◌^◌, ◌||◌, max, ℕ, Bool, true, false, List, [], ◌∷◌, Option, Result, MatchResult, is_ok}
+use Rattle.std.specs.Prelude.{IfErr, IsErrOf, OnOk, ◌≡◌, ◌⊎◌, ◌<◌, ◌≤◌, ◌+◌, ◌-◌, ◌^◌, ◌||◌, max, ℕ, Bool, true, false, List, [], ◌∷◌, Option, Result, MatchResult, is_ok}
 use Rattle.std.specs.Option.{option_map}
 use Rattle.std.specs.FinMap.{get}
 use Rattle.ipl_base.specs.Calls.{IsFailedCall}
@@ -14,7 +14,7 @@ use Rattle.chip_trait.specs.declared.event.Event.TheVariants.{Said}
 use Rattle.chip_trait.specs.Story.{Story, Contents, pieces}
 use Rattle.chip_trait.specs.Moment.{AtEachMoment, Leaves}
 use Rattle.chip_trait.specs.Lawful.{IsLawfulAfter, LeavesClean}
-use Rattle.chip_trait.specs.Told.{History, Told, adds_all, Rose, Unrisen}
+use Rattle.chip_trait.specs.Told.{History, Told, Counts, adds_all, Rose, Unrisen}
 use Rattle.store_trait.specs.declared.fault.Fault.{Fault}
 use Rattle.store_trait.specs.declared.fault.Fault.TheVariants.{Chip, Image, Spent}
 use Rattle.store_trait.specs.Onward.{Further, Still, sayings}
@@ -197,6 +197,18 @@ module _ {S : Type 0} (k : Keeping S) where
   pub record Draws (n : ℕ) (before : S) (IsSpent : Type 0) (then : S) : Type 0 where
     pub most : k.counter then ≤ max (k.counter before) FOUND_NUMBER + n
     pub spent : IsSpent → LAST_NUMBER < max (k.counter before) FOUND_NUMBER + n
+
+  -- What goes along with any work, whatever the chip tells: at most n numbers were drawn, what is added is lawful
+  -- by the sectors that the store counts as clean, done, the store suits its chip still, what is worn is known
+  -- still, no count of the chip fell, and a fault has its cause.
+  pub record WorksAlong {T : Type 0} (n : ℕ) (before : S) (old : Told) (result : Result T Fault) (then : S)
+      (new : Told) : Type 0 where
+    pub draws : Draws n before (IsErrOf result Spent) then
+    pub tidy : LeavesTidy before then old new (is_ok result)
+    pub suited : OnOk result (k.suits then)
+    pub learns : Learns before old result then new
+    pub counts : Counts old new
+    pub cause : IfErr result (λ fault. k.cause fault old new)
 
   -- the store still keeps the state, unless a write failed
   abbrev pub Stays : Limits → S → Told → Told → History → State → Type 0

@@ -1,6 +1,6 @@
 //! What keeps records on a chip and does the work of commands.
-ghost use Rattle.std.specs.Prelude.{◌≡◌, ◌<◌, ◌≤◌, ℕ, false, IfErr, OnOk, IsErrOf, is_ok};
-ghost use Rattle.chip_trait.specs.Told.{History, Told, Counts};
+ghost use Rattle.std.specs.Prelude.{◌≡◌, ◌≤◌, ℕ, false};
+ghost use Rattle.chip_trait.specs.Told.{History, Told};
 
 use crate::Fault;
 use chip_trait::Chip;
@@ -10,7 +10,7 @@ use ipl_model::{Command, Reply};
 /// A store of records over a chip. It says nothing; a run says its replies.
 pub trait Store {
     ghost use Rattle.ipl_rules.specs.State.{State, Limits};
-    ghost use Rattle.store_trait.specs.Keeping.{Keeping, IsSingle, Works, LooksUp, LeavesTidy, Learns, DoneRecalls, is_restart, Draws, WORK_DRAWS, LOOK_UP_DRAWS};
+    ghost use Rattle.store_trait.specs.Keeping.{Keeping, IsSingle, Works, LooksUp, WorksAlong, DoneRecalls, is_restart, WORK_DRAWS, LOOK_UP_DRAWS};
 
     /// How it keeps a state on a chip of so many places.
     ghost keeping: { ℕ → Keeping Self };
@@ -25,35 +25,21 @@ pub trait Store {
     fn work<C: Chip>(&mut self, chip: &mut C, command: &Command) -> Result<Reply, Fault>
         requires single { IsSingle command.now }
         requires suits { (keeping (C.told chip.old).places).suits self.old }
-        ensures draws { Draws (keeping (C.told chip.old).places) WORK_DRAWS self.old (IsErrOf result Fault.Spent) self.new }
-        ensures works { Works (keeping (C.told chip.old).places) command.now self.old (C.told chip.old) result self.new
+        ensures along { WorksAlong (keeping (C.told chip.old).places) WORK_DRAWS self.old (C.told chip.old) result self.new
             (C.told chip.new) }
-        ensures tidy { LeavesTidy (keeping (C.told chip.old).places) self.old self.new (C.told chip.old) (C.told chip.new)
-            (is_ok result) }
-        ensures suited { OnOk result ((keeping (C.told chip.old).places).suits self.new) }
-        ensures learns { Learns (keeping (C.told chip.old).places) self.old (C.told chip.old) result self.new
+        ensures works { Works (keeping (C.told chip.old).places) command.now self.old (C.told chip.old) result self.new
             (C.told chip.new) }
         ensures recalls { is_restart command.now ≡ false
             → DoneRecalls (keeping (C.told chip.old).places) self.old (C.told chip.old) result self.new
-            (C.told chip.new) }
-        ensures counts { Counts (C.told chip.old) (C.told chip.new) }
-        ensures cause { IfErr result
-            (λ fault. (keeping (C.told chip.old).places).cause fault (C.told chip.old) (C.told chip.new)) };
+            (C.told chip.new) };
 
     /// The committed record of a name, where there is one.
     fn look_up<C: Chip>(&mut self, chip: &mut C, n: u32) -> Result<Option<Value>, Fault>
         requires { (keeping (C.told chip.old).places).suits self.old }
-        ensures draws { Draws (keeping (C.told chip.old).places) LOOK_UP_DRAWS self.old (IsErrOf result Fault.Spent) self.new }
+        ensures along { WorksAlong (keeping (C.told chip.old).places) LOOK_UP_DRAWS self.old (C.told chip.old) result self.new
+            (C.told chip.new) }
         ensures looks_up { LooksUp (keeping (C.told chip.old).places) n self.old (C.told chip.old) result self.new
             (C.told chip.new) }
-        ensures tidy { LeavesTidy (keeping (C.told chip.old).places) self.old self.new (C.told chip.old) (C.told chip.new)
-            (is_ok result) }
-        ensures suited { OnOk result ((keeping (C.told chip.old).places).suits self.new) }
-        ensures learns { Learns (keeping (C.told chip.old).places) self.old (C.told chip.old) result self.new
-            (C.told chip.new) }
         ensures recalls { DoneRecalls (keeping (C.told chip.old).places) self.old (C.told chip.old) result self.new
-            (C.told chip.new) }
-        ensures counts { Counts (C.told chip.old) (C.told chip.new) }
-        ensures cause { IfErr result
-            (λ fault. (keeping (C.told chip.old).places).cause fault (C.told chip.old) (C.told chip.new)) };
+            (C.told chip.new) };
 }

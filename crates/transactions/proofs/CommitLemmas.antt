@@ -15,7 +15,7 @@ use Rattle.place_taking.specs.Spending.{tells_worn}
 use Rattle.place_taking.specs.Wear.{TellsOfWear}
 use Rattle.place_taking.proofs.HomeLemmas.{homes_equal}
 use Rattle.place_taking.proofs.WearLemmas.{alike_tables, failures_wear, nothing_wears, programs_leave_places, programs_wear_nothing}
-use Rattle.unit_io.specs.Costs.{ProgramsAt, Spends}
+use Rattle.unit_io.specs.Costs.{Spends}
 use Rattle.unit_io.specs.Spots.{Programs, IsSpot}
 use Rattle.step_laws.specs.Steps.{Settled, Tidies}
 use Rattle.step_laws.proofs.TablesLemmas.{tables_none, tables_fewer, tables_programmed}
@@ -40,6 +40,7 @@ use Rattle.page_frames.specs.Views.{frames_of}
 use Rattle.page_frames.specs.declared.pages.Pages.{Pages}
 use Rattle.page_frames.specs.Pages.{tables_in, frames_in, PageCause, Upholds}
 use Rattle.transactions.specs.declared.transactions.Transactions.{Transactions}
+use Rattle.transactions.specs.Adding.{WritesCommit}
 use Rattle.transactions.specs.Turns.{memory_in, IsInOrder, MayAddNumbers, Turns, IsSameButActive}
 use Rattle.transactions.proofs.OrderLemmas.{changed_had, same_had, still_ready, memory_is}
 use Rattle.transactions.proofs.FramedLemmas.{StaysFramed, in_turn_stays}
@@ -87,13 +88,11 @@ pub numbers_added : (ss tids : List ℕ) (old new : Transactions) (added : Pages
     → IsSameButActive added new.pages
     → new.sessions ≡ slots_after old.sessions ss
     → new.pages.parts.active ≡ numbers_in new.sessions → LocksHold new.sessions
-    → Spends (Programs old.pages.parts.status.place (IsSpot old.pages.parts.status.first) true) before after
-    → Spends (ProgramsAt old.pages.parts.status.place 1 2 6) before after
+    → WritesCommit old.pages.parts.status.place old.pages.parts.status.first (Ok tt) before after
     → Charts (KeepsFirstAt old.pages.parts.status.place) before after
-    → Accounts IsStopped (Ok (tt {0})) before after
     → Turns (λ state. after_batch state ss) 1 old before (Ok (tt {0})) new after
 numbers_added ss tids old new added before after order are may writers adds steps directory overflow
-    status counter applied pins rest slots active locks programs costs header accounts =
+    status counter applied pins rest slots active locks wrote header =
     let ended = slots_after old.sessions ss in
     let stands = old.pages.parts.status in
     let next = old.pages.parts.counter in
@@ -122,14 +121,14 @@ numbers_added ss tids old new added before after order are may writers adds step
       tidy = number_tidy before.places (tables_in old.pages) (tables_in new.pages) true (Ok tt) before
           after order.ready.known may.room
           (λ end q n counted. subst (λ (m : Memory). IsCountedClean m.tables q n) (sym same) counted)
-          programs;
+          wrote.tidy;
       wears = programs_wear_nothing (tables_in old.pages) (tables_in new.pages) true false before after
           (alike_tables (tables_in old.pages) (tables_in new.pages) (rest.directory ∙ directory)
           (ap (λ (it : StatusTable). it.place) (rest.status ∙ status)))
           (programs_leave_places (tables_in old.pages).places (tables_in new.pages).places stands.place 1 2
           6 before after (ap (λ (d : Places). d.retired) (rest.directory ∙ directory))
           (homes_equal (tables_in old.pages).places (tables_in new.pages).places
-          (rest.directory ∙ directory)) costs)
+          (rest.directory ∙ directory)) wrote.costs)
           (λ done. header);
       order = record {
         ready = still_ready before.places old.pages new.pages (record {
@@ -148,7 +147,7 @@ numbers_added ss tids old new added before after order are may writers adds step
       pins = pins_then;
       least = omega (arith, rest.counter, counter);
       drawn = omega (arith, rest.counter, counter);
-      accounts = stopped_accounts new.pages.parts.directory before after (Ok tt) accounts;
+      accounts = stopped_accounts new.pages.parts.directory before after (Ok tt) wrote.accounts;
     }
 
 -- they weren't added
@@ -165,25 +164,24 @@ pub numbers_not_added : (ss tids : List ℕ) (e : ChipFault) (old new : Transact
     → new.pages.parts.active ≡ old.pages.parts.active
     → (old.pages.parts.counter ≤ new.pages.parts.counter)
     × (new.pages.parts.counter ≤ old.pages.parts.counter + 1)
-    → Spends (Programs old.pages.parts.status.place (IsSpot old.pages.parts.status.first) false) before after
-    → Spends (ProgramsAt old.pages.parts.status.place 1 2 6) before after
-    → Accounts {T = Unit {0}} IsStopped (Err e) before after
+    → WritesCommit old.pages.parts.status.place old.pages.parts.status.first (Err e) before after
     → Turns {T = Unit {0}} (λ state. after_batch state ss) 1 old before (Err e) new after
 numbers_not_added ss tids e old new before after order are may writers steps sessions pool directory
-    overflow status active draws programs costs accounts =
+    overflow status active draws wrote =
+    let accounts = wrote.accounts in
     let pins = subst (KeepsPins old.pages.pool) (sym pool) (nothing_keeps old.pages.pool) in record {
       leads = failed_numbers_lead ss (memory_in old) (memory_in new) e e before after are may.out
           (subst (λ (l : List ℕ). AddsNumbersInSteps before.places old.pages.parts.status
           old.pages.parts.counter l (Err e) before after) writers steps) accounts.cause;
       tidy = number_tidy before.places (tables_in old.pages) (tables_in new.pages) false (Err e)
           before after order.ready.known may.room
-          (λ unrisen. absurd (omega (arith, accounts.cause.1, unrisen))) programs;
+          (λ unrisen. absurd (omega (arith, accounts.cause.1, unrisen))) wrote.tidy;
       wears = subst (λ (f : ChipFault). TellsOfWear (tables_in old.pages) (tables_in new.pages) false
           (tells_worn f) before after) (sym accounts.cause.0)
           (failures_wear (tables_in old.pages) (tables_in new.pages) false before after
           (programs_leave_places (tables_in old.pages).places (tables_in new.pages).places
           old.pages.parts.status.place 1 2 6 before after (ap (λ (d : Places). d.retired) directory)
-          (homes_equal (tables_in old.pages).places (tables_in new.pages).places directory) costs));
+          (homes_equal (tables_in old.pages).places (tables_in new.pages).places directory) wrote.costs));
       order = record {
         ready = still_ready before.places old.pages new.pages (record {
           places = directory;

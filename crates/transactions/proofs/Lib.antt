@@ -5,6 +5,7 @@ pub mod BatchLemmas
 pub mod OrderLemmas
 pub mod SessionLemmas
 pub mod FramedLemmas
+pub mod AddingLemmas
 pub mod CommitLemmas
 pub mod TurnLemmas
 pub mod WriteLemmas

@@ -1,13 +1,14 @@
 -- What writes and commits ask of the chip.
-use Rattle.std.specs.Prelude.{ℕ, ◌≡◌, ◌<◌, ◌≤◌, ◌+◌, ◌*◌, Bool, List, [], ◌∷◌, Some, None, length}
+use Rattle.std.specs.Prelude.{ℕ, ◌≡◌, ◌<◌, ◌≤◌, ◌+◌, ◌*◌, Bool, false, List, [], ◌∷◌, Some, None, length, Result}
 use Rattle.chip_trait.specs.Story.{Story}
 use Rattle.chip_trait.specs.Told.{Told}
+use Rattle.ipl_base.specs.declared.fault.ChipFault.{ChipFault}
 use Rattle.ipl_base.specs.Places.{home_of}
 use Rattle.ipl_format.specs.Record.{Change, value_of}
 use Rattle.ipl_meaning.specs.Last.{size_of_all}
 use Rattle.ipl_meaning.specs.Tables.{Places}
-use Rattle.unit_io.specs.Costs.{Costs, Spends}
-use Rattle.place_taking.specs.Spending.{RetiringCosts, RetiresWorn}
+use Rattle.unit_io.specs.Costs.{Costs, ProgramsAt, Spends}
+use Rattle.place_taking.specs.Spending.{RetiringCosts, RetiresWorn, is_worn_out}
 use Rattle.txn_status.specs.Status.{room_of}
 use Rattle.selective_merge.specs.Spotting.{HasHomeSpot}
 use Rattle.store_laws.specs.Frames.{PageFrame}
@@ -58,3 +59,11 @@ pub record CommitAsks (it : Transactions) (ss : List ℕ) (worn_out : Bool) (new
       it.pages.parts.directory new.parts.directory worn_out) before after
   pub homes : 0 < room_of it.pages.parts.status → HasHomesFor it.pages (written_by it.sessions ss)
       → Spends (Costs 0 (pages_to_write it ss + 1) 2 (5 ∷ 6 ∷ [])) before after
+
+-- What the numbers of sessions alone ask, once their records are written out: one commit sector at this place and
+-- two barriers. The directory stays, and no place is found worn.
+pub record AsksToCommit (place : ℕ) (result : Result (Unit {0}) ChipFault) (old new : Pages)
+    (before after : Told) : Type 0 where
+  pub directory : new.parts.directory ≡ old.parts.directory
+  pub costs : Spends (ProgramsAt place 1 2 6) before after
+  pub unworn : is_worn_out result ≡ false

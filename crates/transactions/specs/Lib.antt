@@ -1,2 +1,4 @@
 pub mod Turns
 pub mod Costs
+pub mod Writing
+pub mod Adding

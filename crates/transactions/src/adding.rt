@@ -1,14 +1,11 @@
 //! The numbers of sessions that are committed.
-ghost use Rattle.std.specs.Prelude.{◌≡◌, ◌<◌, ◌≤◌, ◌+◌, ◌^◌, [], ◌∷◌, length, OnOk, OnErr, is_ok};
+ghost use Rattle.std.specs.Prelude.{◌<◌, ◌≤◌, ◌+◌, ◌^◌, length, OnOk};
 ghost use Rattle.ipl_base.specs.declared.limits.TheConstants.{SESSIONS};
-ghost use Rattle.unit_io.specs.Accounts.{Accounts};
 ghost use Rattle.unit_io.specs.Charts.{Charts};
-ghost use Rattle.unit_io.specs.Costs.{ProgramsAt, Spends};
-ghost use Rattle.unit_io.specs.Leads.{IsStopped};
-ghost use Rattle.unit_io.specs.Spots.{Programs, IsSpot};
 ghost use Rattle.txn_status.specs.Adding.{KeepsFirstAt};
-ghost use Rattle.txn_status.specs.Status.{room_of, after_add};
+ghost use Rattle.txn_status.specs.Status.{room_of};
 ghost use Rattle.store_laws.specs.Numbers.{AddsNumbers, AddsNumbersInSteps};
+ghost use Rattle.transactions.specs.Adding.{AddsOrStays, WritesCommit};
 
 use chip_trait::Chip;
 use ipl_base::{ChipFault, Counter};
@@ -32,10 +29,7 @@ pub(crate) fn add_numbers<C: Chip>(
     requires some { 1 ≤ length tids.now }
     requires few { length tids.now ≤ SESSIONS }
     requires left { counter.old + 1 < 2 ^ 64 }
-    ensures added { OnOk result (status.new ≡ after_add status.old tids.now) }
-    ensures same { OnErr result (status.new ≡ status.old) }
-    ensures drawn { OnOk result (counter.new ≡ counter.old + 1) }
-    ensures draws { (counter.old ≤ counter.new) × (counter.new ≤ counter.old + 1) }
+    ensures added { AddsOrStays tids.now result status.old status.new counter.old counter.new }
 
     // What the chip holds then, and what a power cut leaves.
     ensures adds { OnOk result (Charts
@@ -46,13 +40,9 @@ pub(crate) fn add_numbers<C: Chip>(
         (C.told chip.old) (C.told chip.new)) }
     ensures steps { AddsNumbersInSteps (C.told chip.old).places status.old counter.old tids.now
         result (C.told chip.old) (C.told chip.new) }
-    // One program and two barriers.
-    ensures costs { Spends (ProgramsAt status.old.place 1 2 6)
-        (C.told chip.old) (C.told chip.new) }
     // Whatever the chip holds, only the first sector that is known clean is programmed.
-    ensures tidy { Spends (Programs status.old.place (IsSpot status.old.first) (is_ok result))
+    ensures writes { WritesCommit status.old.place status.old.first result
         (C.told chip.old) (C.told chip.new) }
-    ensures accounts { Accounts IsStopped result (C.told chip.old) (C.told chip.new) }
 {
     // The records have to last before the numbers count.
     barrier(chip)?;

@@ -1,7 +1,6 @@
 //! Sessions are committed, one or several together.
-ghost use Rattle.std.specs.Prelude.{◌≡◌, ◌<◌, ◌≤◌, ◌+◌, ◌*◌, ◌^◌, length, false, OnOk};
+ghost use Rattle.std.specs.Prelude.{◌≡◌, ◌<◌, ◌≤◌, ◌+◌, ◌*◌, ◌^◌, length, OnOk};
 ghost use Rattle.ipl_base.specs.declared.limits.TheConstants.{SESSIONS};
-ghost use Rattle.unit_io.specs.Costs.{ProgramsAt, Spends};
 ghost use Rattle.place_taking.specs.Spending.{is_worn_out};
 ghost use Rattle.txn_status.specs.Status.{room_of};
 ghost use Rattle.ipl_rules.specs.Operations.{after_batch};
@@ -15,7 +14,7 @@ ghost use Rattle.page_frames.specs.Complete.{FailsByChip};
 ghost use Rattle.page_frames.specs.Faulty.{TellsFaults};
 ghost use Rattle.page_frames.specs.Pages.{frames_in, KeepsFramed, Upholds};
 ghost use Rattle.transactions.specs.Turns.{IsInOrder, MayAddNumbers, Turns};
-ghost use Rattle.transactions.specs.Costs.{CommitAsks};
+ghost use Rattle.transactions.specs.Costs.{AsksToCommit, CommitAsks};
 
 use crate::Transactions;
 use crate::adding::add_numbers;
@@ -87,10 +86,8 @@ impl Transactions {
             self.old (C.told chip.old) result self.new (C.told chip.new) }
         ensures complete { FailsByChipAlone result }
         ensures framed { KeepsFramed self.old.pages self.new.pages }
-        ensures directory { self.new.pages.parts.directory ≡ self.old.pages.parts.directory }
-        ensures costs { Spends (ProgramsAt self.old.pages.parts.status.place 1 2 6)
-            (C.told chip.old) (C.told chip.new) }
-        ensures unworn { is_worn_out result ≡ false }
+        ensures asks { AsksToCommit self.old.pages.parts.status.place result
+            self.old.pages self.new.pages (C.told chip.old) (C.told chip.new) }
     {
         let parts = &mut self.pages.parts;
         add_numbers(chip, &mut parts.status, &mut parts.counter, tids.as_slice())?;

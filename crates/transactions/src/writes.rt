@@ -1,19 +1,17 @@
 //! A name is changed.
-ghost use Rattle.std.specs.Prelude.{◌≡◌, ◌<◌, ◌+◌, ◌*◌, ◌^◌, ◌≤◌, length, slice_index, false, None, OnOk, OnErr};
+ghost use Rattle.std.specs.Prelude.{◌≡◌, ◌<◌, ◌+◌, ◌^◌, ◌≤◌, length, slice_index, false, OnErr};
 ghost use Rattle.ipl_base.specs.declared.fault.ChipFault.TheVariants.{Malformed};
-ghost use Rattle.ipl_base.specs.declared.limits.TheConstants.{VALUE_LEN, VERSION, SESSIONS};
+ghost use Rattle.ipl_base.specs.declared.limits.TheConstants.{VALUE_LEN, VERSION};
 ghost use Rattle.ipl_base.specs.Places.{home_of};
 ghost use Rattle.ipl_base.specs.Sizes.{size_in_page};
 ghost use Rattle.ipl_format.specs.Record.{IsRecord, value_of};
 ghost use Rattle.log_records.specs.View.{change_of, record_of};
 ghost use Rattle.ipl_rules.specs.Operations.{after_write};
 ghost use Rattle.place_taking.specs.Spending.{is_worn_out};
-ghost use Rattle.record_locks.specs.Locks.{refuses_write};
-ghost use Rattle.buffer_pool.specs.Uses.{IsUsedLast};
-ghost use Rattle.page_frames.specs.Faulty.{FailsAsPage};
-ghost use Rattle.page_frames.specs.Pages.{tables_in, frames_in, HasFreeFrame, IsFramed, KeepsFramedFor};
+ghost use Rattle.page_frames.specs.Pages.{FramesPage};
 ghost use Rattle.transactions.specs.Costs.{HasRoomFor, AsksToWrite};
-ghost use Rattle.transactions.specs.Turns.{CompletesFor, IsInOrder, MayTake, TellsFaultsFor, Turns};
+ghost use Rattle.transactions.specs.Turns.{IsInOrder, Turns};
+ghost use Rattle.transactions.specs.Writing.{FailsAsWrite, MayWrite};
 
 use crate::Transactions;
 use chip_trait::Chip;
@@ -37,24 +35,12 @@ impl Transactions {
         change: Change,
     ) -> Result<(), ChipFault>
         requires order { IsInOrder (C.told chip.old).places self.old }
-        requires session { s < SESSIONS }
-        requires name { name.0 < 960 * length self.old.pages.parts.directory.current }
-        requires unrefused { refuses_write self.old.sessions s name.0
-            (size_in_page (change_of change)) ≡ None }
-        requires room { MayTake self.old name.0 (change_of change) }
+        requires may { MayWrite self.old s name.0 (change_of change) }
         requires left { self.old.pages.parts.counter + 14 < 2 ^ 64 }
         ensures turns { Turns (λ state. after_write state s (name.0, change_of change)) 14
             self.old (C.told chip.old) result self.new (C.told chip.new) }
-        ensures complete { CompletesFor self.old result (C.told chip.old) }
-        ensures faults { TellsFaultsFor self.old result (C.told chip.old) self.new.pages }
-        ensures exact { frames_in self.old.pages (home_of name.0).unit (home_of name.0).page ≡ None
-            → HasFreeFrame self.old.pages → FailsAsPage (tables_in self.old.pages)
-            (home_of name.0).unit (home_of name.0).page result (C.told chip.old) }
-        ensures framed { OnOk result
-            (IsFramed self.new.pages (home_of name.0).unit (home_of name.0).page) }
-        ensures used { OnOk result
-            (IsUsedLast self.new.pages.pool (home_of name.0).unit (home_of name.0).page) }
-        ensures stays { KeepsFramedFor (home_of name.0).unit (home_of name.0).page
+        ensures fails { FailsAsWrite self.old name.0 result (C.told chip.old) self.new.pages }
+        ensures frames { FramesPage (home_of name.0).unit (home_of name.0).page result
             self.old.pages self.new.pages }
         ensures asks { AsksToWrite name.0 (change_of change) (is_worn_out result)
             self.old.pages self.new.pages

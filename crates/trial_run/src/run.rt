@@ -1,10 +1,9 @@
 //! A whole trial.
-ghost use Rattle.std.specs.Prelude.{ℕ, ◌≡◌, ◌≤◌, IfErr};
+ghost use Rattle.std.specs.Prelude.{ℕ, ◌≤◌, IfErr};
 ghost use Rattle.ipl_base.specs.declared.limits.TheConstants.{MOST_UNITS};
-ghost use Rattle.chip_trait.specs.Told.{Told};
 ghost use Rattle.store_trait.specs.Onward.{Onward};
 ghost use Rattle.store_trait.specs.Keeping.{SCRIPT_DRAWS};
-ghost use Rattle.script_run.specs.Goes.{Along, CompletesOver};
+ghost use Rattle.script_run.specs.Goes.{FitsDesk, Along, CompletesOver};
 ghost use Rattle.trial_run.specs.Words.{trial_commands};
 ghost use Rattle.trial_run.specs.Trial.{RunsTrial, IsTrialStop};
 
@@ -29,8 +28,7 @@ pub fn run_trial<S: Store, D: Desk>(
 ) -> Result<(), Stop>
     ghost places: { ℕ }
     requires units { units ≤ MOST_UNITS }
-    requires places { (D.told desk.old).places ≡ places }
-    requires suits { (S.keeping places).suits store.old }
+    requires suits { FitsDesk (S.keeping places) places store.old (D.told desk.old) }
     ensures run { RunsTrial (S.keeping places) (trial_commands units seed count) store.old (D.told desk.old)
         result store.new (D.told desk.new) }
     // It draws no more numbers than a script may.

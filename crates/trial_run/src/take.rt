@@ -1,11 +1,10 @@
 //! The records after a trial, looked up.
-ghost use Rattle.std.specs.Prelude.{◌≡◌, ◌≤◌, ◌<◌, ◌+◌, ◌*◌, ℕ, IfErr, OnOk};
+ghost use Rattle.std.specs.Prelude.{◌≡◌, ◌≤◌, ◌<◌, ◌+◌, ◌*◌, ℕ, IfErr};
 ghost use Rattle.std.specs.FinMap.{get};
-ghost use Rattle.chip_trait.specs.Told.{Told};
-ghost use Rattle.ipl_rules.specs.State.{State, Limits};
+ghost use Rattle.ipl_rules.specs.State.{Limits};
 ghost use Rattle.store_trait.specs.Onward.{Onward};
 ghost use Rattle.store_trait.specs.Keeping.{LOOK_UP_DRAWS};
-ghost use Rattle.script_run.specs.Goes.{Along, KeepsSome, Completes, CompletesOver, row_lines};
+ghost use Rattle.script_run.specs.Goes.{FitsDesk, Along, KeepsSome, Completes, CompletesOver, row_lines};
 ghost use Rattle.trial_run.specs.Summary.{record_lines};
 ghost use Rattle.trial_run.specs.Trial.{TakesAll, IsStoreStop};
 
@@ -23,8 +22,7 @@ fn take_one<S: Store, D: Desk>(
 ) -> Result<(), Stop>
     ghost places: { ℕ }
     requires room { records.old.count < 4294967295 }
-    requires places { (D.told desk.old).places ≡ places }
-    requires suits { (S.keeping places).suits store.old }
+    requires suits { FitsDesk (S.keeping places) places store.old (D.told desk.old) }
     ensures takes { (limits : Limits) → n < limits.names
         → TakesAll (S.keeping places) limits (λ state. row_lines n (get state.map n)) records.old store.old
         (D.told desk.old) result records.new store.new (D.told desk.new) }
@@ -52,8 +50,7 @@ fn take_below<S: Store, D: Desk>(
 ) -> Result<(), Stop>
     ghost places: { ℕ }
     requires none { records.old.count ≡ 0 }
-    requires places { (D.told desk.old).places ≡ places }
-    requires suits { (S.keeping places).suits store.old }
+    requires suits { FitsDesk (S.keeping places) places store.old (D.told desk.old) }
     ensures takes { (limits : Limits) → names ≤ limits.names
         → TakesAll (S.keeping places) limits (λ state. record_lines state.map names) records.old store.old
         (D.told desk.old) result records.new store.new (D.told desk.new) }
@@ -79,8 +76,7 @@ pub(crate) fn take_all<S: Store, D: Desk>(
 ) -> Result<(), Stop>
     ghost places: { ℕ }
     requires none { records.old.count ≡ 0 }
-    requires places { (D.told desk.old).places ≡ places }
-    requires suits { (S.keeping places).suits store.old }
+    requires suits { FitsDesk (S.keeping places) places store.old (D.told desk.old) }
     ensures takes { (limits : Limits)
         → TakesAll (S.keeping places) limits (λ state. record_lines state.map limits.names) records.old store.old
         (D.told desk.old) result records.new store.new (D.told desk.new) }

@@ -1,9 +1,8 @@
 //! The work of the commands of a trial.
-ghost use Rattle.std.specs.Prelude.{◌≡◌, ◌≤◌, ◌<◌, ◌+◌, ◌*◌, ◌∷◌, [], ℕ, IfErr, OnOk};
-ghost use Rattle.chip_trait.specs.Told.{Told};
+ghost use Rattle.std.specs.Prelude.{◌≡◌, ◌<◌, ◌+◌, ◌*◌, ◌∷◌, [], ℕ, IfErr, OnOk};
 ghost use Rattle.store_trait.specs.Onward.{Onward};
 ghost use Rattle.store_trait.specs.Keeping.{WORK_DRAWS};
-ghost use Rattle.script_run.specs.Goes.{Along, CompletesOver};
+ghost use Rattle.script_run.specs.Goes.{FitsDesk, Along, CompletesOver};
 ghost use Rattle.trial_run.specs.Words.{IsOfTrial, commands_from};
 ghost use Rattle.trial_run.specs.Trial.{DoesAll, IsStoreStop};
 
@@ -23,8 +22,7 @@ fn do_one<S: Store, D: Desk>(
     ghost places: { ℕ }
     requires kind { IsOfTrial command.now }
     requires room { tally.old.commands < 4294967295 }
-    requires places { (D.told desk.old).places ≡ places }
-    requires suits { (S.keeping places).suits store.old }
+    requires suits { FitsDesk (S.keeping places) places store.old (D.told desk.old) }
     ensures does { DoesAll (S.keeping places) (command.now ∷ []) tally.old store.old (D.told desk.old) result
         tally.new store.new (D.told desk.new) }
     ensures along { Along (S.keeping places) Onward WORK_DRAWS store.old (D.told desk.old) result store.new
@@ -49,8 +47,7 @@ pub fn do_all<S: Store, D: Desk>(
 ) -> Result<(), Stop>
     ghost places: { ℕ }
     requires none { tally.old.commands ≡ 0 }
-    requires places { (D.told desk.old).places ≡ places }
-    requires suits { (S.keeping places).suits store.old }
+    requires suits { FitsDesk (S.keeping places) places store.old (D.told desk.old) }
     ensures does { DoesAll (S.keeping places) (commands_from commands.old count) tally.old store.old
         (D.told desk.old) result tally.new store.new (D.told desk.new) }
     ensures along { Along (S.keeping places) Onward (WORK_DRAWS * count) store.old (D.told desk.old) result

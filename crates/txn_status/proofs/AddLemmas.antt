@@ -41,7 +41,7 @@ use Rattle.number_set.proofs.NumberLemmas.{numbers_are_a_union}
 use Rattle.number_set.proofs.AmongLemmas.{also_is_a_union}
 use Rattle.txn_status.specs.Commits.{commit_sector}
 use Rattle.txn_status.specs.Adding.{HasStatus, MayAdd, with_added, layout_added, Added, Adds, AddsInSteps}
-use Rattle.txn_status.specs.Writing.{LeadsCommit}
+use Rattle.unit_io.specs.Writing.{LeadsCommit}
 use Rattle.txn_status.proofs.SetLemmas.{mirrors_looks_at_the_set}
 
 -- ---- the chart and the tables

@@ -25,7 +25,8 @@ use Rattle.unit_layout.specs.Header.{SpellsStatus}
 use Rattle.unit_io.proofs.SpotLemmas.{programs_none, programs_then, programs_wider}
 use Rattle.txn_status.specs.Commits.{commit_sector, part_of}
 use Rattle.txn_status.specs.Switching.{HasParts, IsPartSpot, IsStatusHead}
-use Rattle.txn_status.specs.Writing.{LeadsPart, KeepsParts, IsHeaded}
+use Rattle.unit_io.specs.Writing.{LeadsAside}
+use Rattle.txn_status.specs.Writing.{KeepsParts, IsHeaded}
 
 -- ---- the header
 
@@ -121,7 +122,7 @@ pub keeps_more : (places p generation serial : ℕ) (numbers : List ℕ) (m : Ma
     → ((s : ℕ) → IsPartSpot total s → age h.story p s ≡ Clean)
     → (old mid new : Told) (result : Result (Unit {0}) ChipFault)
     → KeepsParts places p generation serial numbers i m h old (Ok tt) mid
-    → LeadsPart places p (1 + i) (commit_sector generation (serial + i) (part_of numbers i))
+    → LeadsAside places p (1 + i) (commit_sector generation (serial + i) (part_of numbers i))
     mid result new
     → KeepsParts places p generation serial numbers (i + 1) m h old result new
 keeps_more places p generation serial numbers m h total i few bare clean old mid new result so one =

@@ -27,7 +27,7 @@ use Rattle.step_laws.specs.Steps.{NoOtherEnd}
 use Rattle.step_laws.proofs.StepLemmas.{outcome_written}
 use Rattle.txn_status.specs.Adding.{HasStatus}
 use Rattle.txn_status.specs.Marking.{mark_sector, IsReadyToMark, MarksInSteps}
-use Rattle.txn_status.specs.Writing.{LeadsMark}
+use Rattle.unit_io.specs.Writing.{LeadsMark}
 
 module _ (places : ℕ) (status : StatusTable) (next : ℕ) (payload : List ℕ) (least : 1 ≤ status.first)
     (room : status.first < 256) (h : History) (it : Layout) (t : Tables) (m : Map)

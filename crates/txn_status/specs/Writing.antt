@@ -1,25 +1,21 @@
--- What the calls leave that write one sector of a status place, or several.
-use Rattle.std.specs.Prelude.{ℕ, ◌≡◌, ◌≢◌, List, Some, None, Result, is_ok}
-use Rattle.chip_trait.specs.declared.event.Event.TheVariants.{Program}
-use Rattle.chip_trait.specs.Image.{IsClosed}
+-- What the calls leave that write one sector of a status place, or several. Of one alone `unit_io` says
+-- what a power cut leaves.
+use Rattle.std.specs.Prelude.{ℕ, ◌≡◌, List, None, Result, is_ok}
 use Rattle.chip_trait.specs.Lawful.{Clean, age}
 use Rattle.chip_trait.specs.Chart.{with_sector}
-use Rattle.chip_trait.specs.Story.{Story}
-use Rattle.chip_trait.specs.Told.{History, Told, adds}
+use Rattle.chip_trait.specs.Told.{History, Told}
 use Rattle.ipl_base.specs.declared.fault.ChipFault.{ChipFault}
-use Rattle.ipl_format.specs.Sector.{Sector, sector_in}
+use Rattle.ipl_format.specs.Sector.{Sector}
 use Rattle.ipl_rules.specs.State.{Map}
 use Rattle.ipl_meaning.specs.Chart.{Chart}
 use Rattle.ipl_meaning.specs.Stands.{StandsBeside}
-use Rattle.ipl_meaning.specs.Rests.{now, IsUntouched, EachStands, WornAreIdle, StoryRests}
-use Rattle.ipl_meaning.specs.Tables.{Tables, IsCountedClean}
-use Rattle.ipl_meaning.specs.Marks.{AreUnused, KeepsMarks, MarksNoMore}
+use Rattle.ipl_meaning.specs.Rests.{now, WornAreIdle, StoryRests}
+use Rattle.ipl_meaning.specs.Marks.{MarksNoMore}
 use Rattle.unit_io.specs.Accounts.{Accounts}
 use Rattle.unit_io.specs.Costs.{ProgramsAt, Spends}
-use Rattle.unit_io.specs.Leads.{IsSteady, IsStopped, LeadsWhere, RestsAdded, KeepsMap, SwitchesMap}
+use Rattle.unit_io.specs.Leads.{IsSteady, IsStopped, KeepsMap}
 use Rattle.unit_io.specs.Spots.{Programs, IsSpot}
 use Rattle.unit_io.specs.Charts.{Gains}
-use Rattle.unit_io.specs.Unread.{ReadsNothing}
 use Rattle.txn_status.specs.Status.{parts_of}
 use Rattle.txn_status.specs.Switching.{HasParts, IsPartSpot, IsStatusHead}
 
@@ -33,47 +29,7 @@ pub record WritesOneSector (p s kind : ℕ) (result : Result (Unit {0}) ChipFaul
   pub tidy : Spends (Programs p (IsSpot s) (is_ok result)) old new
   pub accounts : Accounts IsStopped result old new
 
--- Programs of this place alone, at these spots and each once, at this cost; nothing is read. It fails
--- only where a write failed.
-pub record OnlyPrograms (Cost : Story → Type 0) (p : ℕ) (Spot : ℕ → Type 0)
-    (result : Result (Unit {0}) ChipFault) (old new : Told) : Type 0 where
-  pub costs : Spends Cost old new
-  pub tidy : Spends (Programs p Spot (is_ok result)) old new
-  pub unread : Spends ReadsNothing old new
-  pub accounts : Accounts IsStopped result old new
-
 -- ---- what a power cut leaves
-
--- a commit sector, added where nothing is open and after which no more is marked: it switches the
--- map to what stands with it
-abbrev pub LeadsCommit : ℕ → ℕ → ℕ → Sector
-    → Told → Result (Unit {0}) ChipFault → Told → Type 0
-LeadsCommit places p s sector old result new = (m n : Map) (h : History)
-    → IsSteady h old → StoryRests places m h → IsClosed h.story → IsUntouched h p s
-    → StandsBeside places (now h) (with_sector (now h) p s sector) n
-    → WornAreIdle places h.story (with_sector (now h) p s sector)
-    → MarksNoMore places (now h) (with_sector (now h) p s sector) p
-    → SwitchesMap places m n (Programs p (IsSpot s)) (λ done. Gains p s sector) h old result new
-
--- a close mark, added where nothing is open: where the map stands with it, it keeps the map, and marks,
--- where they are kept if what some tables count as clean is unused, on that condition
-abbrev pub LeadsMark : ℕ → ℕ → ℕ → Sector
-    → Told → Result (Unit {0}) ChipFault → Told → Type 0
-LeadsMark places p s mark old result new = (t : Tables) (m : Map) (h : History)
-    → IsSteady h old → StoryRests places m h → IsClosed h.story → IsUntouched h p s
-    → StandsBeside places (now h) (with_sector (now h) p s mark) m
-    → WornAreIdle places h.story (with_sector (now h) p s mark)
-    → (AreUnused (IsCountedClean t) h.story → (bytes : List ℕ) → sector_in bytes ≡ Some mark
-    → KeepsMarks places h (adds (Program p s bytes) h))
-    → LeadsWhere (AreUnused (IsCountedClean t) h.story) (EachStands places m) (Programs p (IsSpot s))
-    (λ done k. RestsAdded places m p s mark h k) h old result new
-
--- a commit sector in a place without a header: it keeps the map
-abbrev pub LeadsPart : ℕ → ℕ → ℕ → Sector
-    → Told → Result (Unit {0}) ChipFault → Told → Type 0
-LeadsPart places p s sector old result new = (m : Map) (h : History)
-    → IsSteady h old → StoryRests places m h → now h p 0 ≡ None → s ≢ 0 → IsUntouched h p s
-    → KeepsMap places m (Programs p (IsSpot s)) (λ done. Gains p s sector) h old result new
 
 -- the first n parts of the numbers, in such a place
 abbrev pub KeepsParts : ℕ → ℕ → ℕ → ℕ → List ℕ → ℕ → Map

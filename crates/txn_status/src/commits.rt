@@ -7,7 +7,8 @@ ghost use Rattle.unit_io.specs.Charts.{Charts, Gains};
 ghost use Rattle.unit_io.specs.Spots.{AddsSector, IsSpot};
 ghost use Rattle.txn_status.specs.Commits.{commit_bytes, commit_sector};
 ghost use Rattle.txn_status.specs.Marking.{mark_sector};
-ghost use Rattle.txn_status.specs.Writing.{LeadsCommit, LeadsMark, LeadsPart, OnlyPrograms, WritesOneSector};
+ghost use Rattle.unit_io.specs.Writing.{LeadsCommit, LeadsMark, LeadsAside, OnlyPrograms};
+ghost use Rattle.txn_status.specs.Writing.{WritesOneSector};
 ghost use Rattle.sector_format.specs.Written.{written_head};
 
 use arrayvec::ArrayVec;
@@ -111,7 +112,7 @@ pub(crate) fn write_part<C: Chip>(
     requires place { spot.place < (C.told chip.old).places }
     requires sector { spot.sector < 256 }
     requires few { length numbers.now ≤ 60 }
-    ensures aside { LeadsPart (C.told chip.old).places spot.place spot.sector
+    ensures aside { LeadsAside (C.told chip.old).places spot.place spot.sector
         (commit_sector generation serial numbers.now) (C.told chip.old) result (C.told chip.new) }
     ensures tells { OnOk result (Charts
         (Gains spot.place spot.sector (commit_sector generation serial numbers.now))

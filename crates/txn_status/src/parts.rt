@@ -8,7 +8,8 @@ ghost use Rattle.unit_io.specs.Spots.{IsSpot};
 ghost use Rattle.txn_status.specs.Commits.{part_of};
 ghost use Rattle.txn_status.specs.Status.{parts_of};
 ghost use Rattle.txn_status.specs.Switching.{HasParts, IsPartSpot};
-ghost use Rattle.txn_status.specs.Writing.{LeadsParts, LeadsHeader, IsHeaded, OnlyPrograms};
+ghost use Rattle.unit_io.specs.Writing.{OnlyPrograms};
+ghost use Rattle.txn_status.specs.Writing.{LeadsParts, LeadsHeader, IsHeaded};
 
 use crate::commits::write_part;
 use chip_trait::Chip;

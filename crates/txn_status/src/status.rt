@@ -17,7 +17,8 @@ ghost use Rattle.txn_status.specs.Status.{after_mark, empty_status, room_of, aft
 ghost use Rattle.txn_status.specs.Adding.{Adds, AddsInSteps, KeepsFirstAt};
 ghost use Rattle.place_taking.specs.Fills.{FillsAt};
 ghost use Rattle.txn_status.specs.Switching.{IsStatusSpot, ListsAt, Switches, SwitchesInSteps};
-ghost use Rattle.txn_status.specs.Writing.{OnlyPrograms, WritesOneSector};
+ghost use Rattle.unit_io.specs.Writing.{OnlyPrograms};
+ghost use Rattle.txn_status.specs.Writing.{WritesOneSector};
 
 use crate::commits::{write_commit, write_mark};
 use crate::last_mark::LastMark;

@@ -17,3 +17,4 @@ pub mod TidyLemmas
 pub mod OnceLemmas
 pub mod UnreadLemmas
 pub mod TailLemmas
+pub mod WritingLemmas

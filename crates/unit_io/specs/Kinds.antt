@@ -9,6 +9,10 @@ abbrev pub of_kinds : ℕ → ℕ → Option Sector → Option Sector
 of_kinds first last None = None
 of_kinds first last (Some sector) = if nat_le first sector.kind && nat_le sector.kind last then Some sector else None
 
+-- the sector, of whatever kind
+abbrev pub any_sector : Option Sector → Option Sector
+any_sector o = o
+
 -- a header
 abbrev pub header_only : Option Sector → Option Sector
 header_only o = of_kinds 1 3 o

@@ -12,3 +12,5 @@ pub mod ReadsAt
 pub mod Unread
 pub mod Costs
 pub mod Tails
+pub mod Reading
+pub mod Writing

@@ -1,10 +1,16 @@
--- Which sectors a call programs or erases, and in what order.
+-- Which sectors a chip has, and which of them a call programs or erases, and in what order.
 use Rattle.std.specs.Prelude.{Bool, true, ℕ, ◌≡◌, ◌≢◌, ◌<◌, ◌≤◌, ◌+◌, ◌*◌, List, [], ◌∷◌, ◌++◌, Some}
 use Rattle.ipl_base.specs.declared.limits.TheConstants.{PAGE_SECTORS}
 use Rattle.chip_trait.specs.Story.{Story, pieces}
+use Rattle.chip_trait.specs.Told.{Told}
 use Rattle.chip_trait.specs.declared.event.Event.TheVariants.{Program, Barrier}
 use Rattle.chip_trait.specs.Lawful.{Clean, age, IsLawful}
 use Rattle.ipl_format.specs.Sector.{Sector, sector_in}
+
+-- the chip has this place, and a place this sector
+pub record IsOnChip (told : Told) (p s : ℕ) : Type 0 where
+  pub place : p < told.places
+  pub sector : s < 256
 
 -- The events program sectors of this place that stand at these spots, each once, and say nothing. They are lawful after any
 -- lawful events that leave these spots clean; and what was clean elsewhere is so after them.

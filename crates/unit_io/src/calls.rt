@@ -6,6 +6,7 @@ ghost use Rattle.unit_io.specs.Accounts.{Accounts};
 ghost use Rattle.unit_io.specs.Leads.{Did, Wore, Waited, IsStopped};
 ghost use Rattle.unit_io.specs.Costs.{Costs, Spends};
 ghost use Rattle.unit_io.specs.Reads.{Asked, OfContents, IsReadFault};
+ghost use Rattle.unit_io.specs.Spots.{IsOnChip};
 
 use chip_trait::{Chip, Wear};
 use ipl_base::ChipFault;
@@ -29,8 +30,7 @@ pub(crate) fn program<C: Chip>(
     sector: u32,
     bytes: &[u8; 512],
 ) -> Result<(), ChipFault>
-    requires place { place < (C.told chip.old).places }
-    requires sector { sector < 256 }
+    requires spot { IsOnChip (C.told chip.old) place sector }
     ensures did { Did (Program place sector bytes.now) result (C.told chip.old) (C.told chip.new) }
     ensures accounts { Accounts IsStopped result (C.told chip.old) (C.told chip.new) }
 {
@@ -59,8 +59,7 @@ pub(crate) fn read<C: Chip>(
     sector: u32,
     into: &mut [u8; 512],
 ) -> Result<(), ChipFault>
-    requires place { place < (C.told chip.old).places }
-    requires sector { sector < 256 }
+    requires spot { IsOnChip (C.told chip.old) place sector }
     ensures asks { Asked (Read place sector) result (C.told chip.old) (C.told chip.new) }
     ensures bytes { OnOk result (OfContents (C.told chip.old) (λ x. into.new ≡ x place sector)) }
     ensures accounts { Accounts IsReadFault result (C.told chip.old) (C.told chip.new) }

@@ -1,6 +1,5 @@
 //! Commit sectors and marks, programmed.
-ghost use Rattle.std.specs.Prelude.{◌≡◌, ◌≢◌, ◌<◌, ◌≤◌, ℕ, List, length, OnOk, is_ok, Some, None};
-ghost use Rattle.ipl_base.specs.declared.limits.TheConstants.{PAYLOAD_LEN, VERSION};
+ghost use Rattle.std.specs.Prelude.{◌≡◌, ◌<◌, ℕ, List, OnOk, Some};
 ghost use Rattle.chip_trait.specs.declared.event.Event.TheVariants.{Program};
 ghost use Rattle.chip_trait.specs.Image.{IsClosed};
 ghost use Rattle.chip_trait.specs.Chart.{with_sector};
@@ -9,15 +8,14 @@ ghost use Rattle.ipl_rules.specs.State.{Map};
 ghost use Rattle.ipl_format.specs.Sector.{IsKind, sector_in};
 ghost use Rattle.sector_format.specs.Decode.{sector_of};
 ghost use Rattle.ipl_meaning.specs.Stands.{StandsBeside};
-ghost use Rattle.ipl_meaning.specs.Rests.{now, IsUntouched, EachStands, EachStandsEither, WornAreIdle, StoryRests};
+ghost use Rattle.ipl_meaning.specs.Rests.{now, IsUntouched, EachStandsEither, WornAreIdle, StoryRests};
 ghost use Rattle.ipl_meaning.specs.Tables.{Tables, IsCountedClean};
-ghost use Rattle.ipl_meaning.specs.Marks.{AreUnused, KeepsMarks, MarksNoMore};
-ghost use Rattle.unit_io.specs.Accounts.{Accounts};
-ghost use Rattle.unit_io.specs.Leads.{IsSteady, LeadsWhere, RestsAdded, KeepsMap, SwitchesMap, IsStopped};
-ghost use Rattle.unit_io.specs.Unread.{ReadsNothing};
-ghost use Rattle.unit_io.specs.Spots.{AddsSector, Programs, IsSpot};
+ghost use Rattle.ipl_meaning.specs.Marks.{AreUnused, KeepsMarks};
+ghost use Rattle.unit_io.specs.Leads.{IsSteady, LeadsWhere, RestsAdded};
+ghost use Rattle.unit_io.specs.Spots.{IsOnChip, AddsSector, Programs, IsSpot};
 ghost use Rattle.unit_io.specs.Costs.{ProgramsAt, Spends};
 ghost use Rattle.unit_io.specs.Charts.{Charts, Gains};
+ghost use Rattle.unit_io.specs.Writing.{MayProgram, OnlyPrograms, LeadsAside, LeadsCommit, LeadsMark};
 
 use crate::calls::{barrier, program};
 use crate::sectors::program_aside;
@@ -33,20 +31,14 @@ pub fn prepare_commit<C: Chip>(
     head: &Head,
     payload: &[u8],
 ) -> Result<(), ChipFault>
-    requires place { spot.place < (C.told chip.old).places }
-    requires sector { spot.sector < 256 }
+    requires spot { IsOnChip (C.told chip.old) spot.place spot.sector }
     requires kind { head.now.kind ≡ 6 }
-    requires version { head.now.version ≡ VERSION }
-    requires fits { length payload.now ≤ PAYLOAD_LEN }
-    ensures aside { (m : Map) (h : History) → IsSteady h (C.told chip.old) → StoryRests (C.told chip.old).places m h
-        → now h spot.place 0 ≡ None → spot.sector ≢ 0 → IsUntouched h spot.place spot.sector
-        → KeepsMap (C.told chip.old).places m (Programs spot.place (IsSpot spot.sector))
-        (λ done. Gains spot.place spot.sector (sector_of head.now payload.now)) h (C.told chip.old) result (C.told chip.new) }
+    requires written { MayProgram head.now payload.now }
+    ensures aside { LeadsAside (C.told chip.old).places spot.place spot.sector
+        (sector_of head.now payload.now) (C.told chip.old) result (C.told chip.new) }
     ensures tells { OnOk result (Charts (Gains spot.place spot.sector (sector_of head.now payload.now)) (C.told chip.old) (C.told chip.new)) }
-    ensures costs { Spends (ProgramsAt spot.place 1 0 6) (C.told chip.old) (C.told chip.new) }
-    ensures tidy { Spends (Programs spot.place (IsSpot spot.sector) (is_ok result)) (C.told chip.old) (C.told chip.new) }
-    ensures unread { Spends ReadsNothing (C.told chip.old) (C.told chip.new) }
-    ensures accounts { Accounts IsStopped result (C.told chip.old) (C.told chip.new) }
+    ensures writes { OnlyPrograms (ProgramsAt spot.place 1 0 6) spot.place (IsSpot spot.sector) result
+        (C.told chip.old) (C.told chip.new) }
 {
     let mut bytes = [0; 512];
     encode(head, payload, &mut bytes);
@@ -60,11 +52,9 @@ fn add_sector<C: Chip>(
     head: &Head,
     payload: &[u8],
 ) -> Result<(), ChipFault>
-    requires place { spot.place < (C.told chip.old).places }
-    requires sector { spot.sector < 256 }
+    requires spot { IsOnChip (C.told chip.old) spot.place spot.sector }
     requires known { IsKind head.now.kind }
-    requires version { head.now.version ≡ VERSION }
-    requires fits { length payload.now ≤ PAYLOAD_LEN }
+    requires written { MayProgram head.now payload.now }
     ensures leads { (t : Tables) (m n : Map) (h : History) → IsSteady h (C.told chip.old)
         → StoryRests (C.told chip.old).places m h → IsClosed h.story → IsUntouched h spot.place spot.sector
         → StandsBeside (C.told chip.old).places (now h) (with_sector (now h) spot.place spot.sector (sector_of head.now payload.now)) n
@@ -77,9 +67,8 @@ fn add_sector<C: Chip>(
         h (C.told chip.old) result (C.told chip.new) }
     ensures adds { OnOk result (Spends (AddsSector spot.place spot.sector (sector_of head.now payload.now)) (C.told chip.old) (C.told chip.new)) }
     ensures tells { OnOk result (Charts (Gains spot.place spot.sector (sector_of head.now payload.now)) (C.told chip.old) (C.told chip.new)) }
-    ensures costs { Spends (ProgramsAt spot.place 1 1 head.now.kind) (C.told chip.old) (C.told chip.new) }
-    ensures tidy { Spends (Programs spot.place (IsSpot spot.sector) (is_ok result)) (C.told chip.old) (C.told chip.new) }
-    ensures accounts { Accounts IsStopped result (C.told chip.old) (C.told chip.new) }
+    ensures writes { OnlyPrograms (ProgramsAt spot.place 1 1 head.now.kind) spot.place (IsSpot spot.sector) result
+        (C.told chip.old) (C.told chip.new) }
 {
     let mut bytes = [0; 512];
     encode(head, payload, &mut bytes);
@@ -97,22 +86,14 @@ pub fn add_commit<C: Chip>(
     head: &Head,
     payload: &[u8],
 ) -> Result<(), ChipFault>
-    requires place { spot.place < (C.told chip.old).places }
-    requires sector { spot.sector < 256 }
+    requires spot { IsOnChip (C.told chip.old) spot.place spot.sector }
     requires kind { head.now.kind ≡ 6 }
-    requires version { head.now.version ≡ VERSION }
-    requires fits { length payload.now ≤ PAYLOAD_LEN }
-    ensures leads { (m n : Map) (h : History) → IsSteady h (C.told chip.old)
-        → StoryRests (C.told chip.old).places m h → IsClosed h.story → IsUntouched h spot.place spot.sector
-        → StandsBeside (C.told chip.old).places (now h) (with_sector (now h) spot.place spot.sector (sector_of head.now payload.now)) n
-        → WornAreIdle (C.told chip.old).places h.story (with_sector (now h) spot.place spot.sector (sector_of head.now payload.now))
-        → MarksNoMore (C.told chip.old).places (now h) (with_sector (now h) spot.place spot.sector (sector_of head.now payload.now)) spot.place
-        → SwitchesMap (C.told chip.old).places m n (Programs spot.place (IsSpot spot.sector))
-        (λ done. Gains spot.place spot.sector (sector_of head.now payload.now)) h (C.told chip.old) result (C.told chip.new) }
+    requires written { MayProgram head.now payload.now }
+    ensures leads { LeadsCommit (C.told chip.old).places spot.place spot.sector
+        (sector_of head.now payload.now) (C.told chip.old) result (C.told chip.new) }
     ensures tells { OnOk result (Charts (Gains spot.place spot.sector (sector_of head.now payload.now)) (C.told chip.old) (C.told chip.new)) }
-    ensures costs { Spends (ProgramsAt spot.place 1 1 6) (C.told chip.old) (C.told chip.new) }
-    ensures tidy { Spends (Programs spot.place (IsSpot spot.sector) (is_ok result)) (C.told chip.old) (C.told chip.new) }
-    ensures accounts { Accounts IsStopped result (C.told chip.old) (C.told chip.new) }
+    ensures writes { OnlyPrograms (ProgramsAt spot.place 1 1 6) spot.place (IsSpot spot.sector) result
+        (C.told chip.old) (C.told chip.new) }
 {
     add_sector(chip, spot, head, payload)
 }
@@ -128,26 +109,15 @@ pub fn add_mark<C: Chip>(
     head: &Head,
     payload: &[u8],
 ) -> Result<(), ChipFault>
-    requires place { spot.place < (C.told chip.old).places }
-    requires sector { spot.sector < 256 }
+    requires spot { IsOnChip (C.told chip.old) spot.place spot.sector }
     requires kind { head.now.kind ≡ 7 }
-    requires version { head.now.version ≡ VERSION }
-    requires fits { length payload.now ≤ PAYLOAD_LEN }
-    ensures keeps { (t : Tables) (m : Map) (h : History) → IsSteady h (C.told chip.old)
-        → StoryRests (C.told chip.old).places m h → IsClosed h.story → IsUntouched h spot.place spot.sector
-        → StandsBeside (C.told chip.old).places (now h) (with_sector (now h) spot.place spot.sector (sector_of head.now payload.now)) m
-        → WornAreIdle (C.told chip.old).places h.story (with_sector (now h) spot.place spot.sector (sector_of head.now payload.now))
-        → (AreUnused (IsCountedClean t) h.story → (bytes : List ℕ) → sector_in bytes ≡ Some (sector_of head.now payload.now)
-        → KeepsMarks (C.told chip.old).places h (adds (Program spot.place spot.sector bytes) h))
-        → LeadsWhere (AreUnused (IsCountedClean t) h.story) (EachStands (C.told chip.old).places m)
-        (Programs spot.place (IsSpot spot.sector))
-        (λ done k. RestsAdded (C.told chip.old).places m spot.place spot.sector (sector_of head.now payload.now) h k)
-        h (C.told chip.old) result (C.told chip.new) }
+    requires written { MayProgram head.now payload.now }
+    ensures keeps { LeadsMark (C.told chip.old).places spot.place spot.sector
+        (sector_of head.now payload.now) (C.told chip.old) result (C.told chip.new) }
     ensures adds { OnOk result (Spends (AddsSector spot.place spot.sector (sector_of head.now payload.now)) (C.told chip.old) (C.told chip.new)) }
     ensures tells { OnOk result (Charts (Gains spot.place spot.sector (sector_of head.now payload.now)) (C.told chip.old) (C.told chip.new)) }
-    ensures costs { Spends (ProgramsAt spot.place 1 1 7) (C.told chip.old) (C.told chip.new) }
-    ensures tidy { Spends (Programs spot.place (IsSpot spot.sector) (is_ok result)) (C.told chip.old) (C.told chip.new) }
-    ensures accounts { Accounts IsStopped result (C.told chip.old) (C.told chip.new) }
+    ensures writes { OnlyPrograms (ProgramsAt spot.place 1 1 7) spot.place (IsSpot spot.sector) result
+        (C.told chip.old) (C.told chip.new) }
 {
     add_sector(chip, spot, head, payload)
 }

@@ -1,5 +1,5 @@
 //! The base sectors of a page, read and tested one after another.
-ghost use Rattle.std.specs.Prelude.{◌≡◌, ◌≢◌, ◌<◌, ◌≤◌, ◌+◌, ◌*◌, ◌++◌, ℕ, List, length, take, drop, true, false, Some, IfErr, IfOk, OnOk, OnErr};
+ghost use Rattle.std.specs.Prelude.{◌≡◌, ◌≢◌, ◌<◌, ◌≤◌, ◌+◌, ◌*◌, ◌++◌, ℕ, List, length, take, drop, true, false, Some, IfErr, IfOk, OnOk};
 ghost use Rattle.std.specs.Bool.{OnTrue};
 ghost use Rattle.ipl_base.specs.declared.limits.TheConstants.{PAGE_LEN, PAGE_SECTORS, PAYLOAD_LEN, VERSION};
 ghost use Rattle.chip_trait.specs.declared.event.Event.TheVariants.{Read};
@@ -13,8 +13,9 @@ ghost use Rattle.ipl_meaning.specs.Chart.{chart_of};
 ghost use Rattle.unit_io.specs.Accounts.{Accounts};
 ghost use Rattle.unit_io.specs.Reads.{Asked, OfContents, PageAsked};
 ghost use Rattle.unit_io.specs.Tails.{AreTails};
+ghost use Rattle.unit_io.specs.Reading.{ReadsText, ReadsPage};
 ghost use Rattle.ipl_base.specs.First.{first_below};
-ghost use Rattle.unit_io.specs.Faults.{is_filled, is_piece, piece_fault, piece_fault_at, payload_of, text_below, page_fault, TellsChipFault, IsPageCause, HoldsPage};
+ghost use Rattle.unit_io.specs.Faults.{is_filled, is_piece, piece_fault, piece_fault_at, payload_of, text_below, TellsChipFault, IsPageCause};
 
 use crate::calls::read;
 use chip_trait::Chip;
@@ -123,12 +124,10 @@ fn read_piece<C: Chip>(
     requires empty { text.old.page ≡ empty_page }
     ensures exact { OfContents (C.told chip.old) (λ x. TellsChipFault (piece_fault place (base_sector_of page piece)
         head.now.version head.now.unit head.now.generation (page * PAGE_SECTORS + piece) is_last (x place (base_sector_of page piece))) result) }
-    ensures text { IfOk result (λ end. OfContents (C.told chip.old) (λ x.
-        take end text.new.bytes ≡ take (PAYLOAD_LEN * piece) text.old.bytes ++ payload_of (chart_of x place (base_sector_of page piece)))) }
+    ensures text { ReadsText (λ x. take (PAYLOAD_LEN * piece) text.old.bytes ++ payload_of (chart_of x place (base_sector_of page piece)))
+        (PAYLOAD_LEN * piece + PAYLOAD_LEN) text.new result (C.told chip.old) }
     ensures tails { AreTails (take (PAYLOAD_LEN * piece) text.old.bytes) tails.old
         → IfOk result (λ end. AreTails (take end text.new.bytes) tails.new) }
-    ensures empty { text.new.page ≡ empty_page }
-    ensures within { IfOk result (λ end. end ≤ PAYLOAD_LEN * piece + PAYLOAD_LEN) }
     ensures whole { is_last ≡ false → IfOk result (λ end. end ≡ PAYLOAD_LEN * piece + PAYLOAD_LEN) }
     ensures asks { Asked (Read place (base_sector_of page piece)) result (C.told chip.old) (C.told chip.new) }
     ensures accounts { Accounts (IsPageCause place page) result (C.told chip.old) (C.told chip.new) }
@@ -161,11 +160,8 @@ fn read_pieces<C: Chip>(
     requires empty { text.old.page ≡ empty_page }
     ensures exact { OfContents (C.told chip.old) (λ x. TellsChipFault (first_below
         (piece_fault_at x place head.now.version head.now.unit head.now.generation page pieces) pieces) result) }
-    ensures text { IfOk result (λ end. OfContents (C.told chip.old) (λ x.
-        take end text.new.bytes ≡ text_below (chart_of x) place page pieces)) }
+    ensures text { ReadsText (λ x. text_below (chart_of x) place page pieces) PAGE_LEN text.new result (C.told chip.old) }
     ensures tails { IfOk result (λ end. AreTails (take end text.new.bytes) tails.new) }
-    ensures empty { text.new.page ≡ empty_page }
-    ensures within { IfOk result (λ end. end ≤ PAGE_LEN) }
     ensures asks { PageAsked place page pieces result (C.told chip.old) (C.told chip.new) }
     ensures accounts { Accounts (IsPageCause place page) result (C.told chip.old) (C.told chip.new) }
 {
@@ -190,13 +186,7 @@ fn read_first_page<C: Chip>(
     requires page { page < 15 }
     requires pieces { pieces ≤ PAGE_SECTORS }
     requires version { head.now.version ≡ 1 }
-    ensures exact { OfContents (C.told chip.old) (λ x.
-        TellsChipFault (page_fault x place head.now.version head.now.unit head.now.generation page pieces) result) }
-    ensures page { OnOk result (OfContents (C.told chip.old) (λ x.
-        HoldsPage (chart_of x) place head.now.version head.now.unit head.now.generation page pieces into.new)) }
-    ensures empty { OnErr result (into.new ≡ empty_page) }
-    ensures asks { PageAsked place page pieces result (C.told chip.old) (C.told chip.new) }
-    ensures accounts { Accounts (IsPageCause place page) result (C.told chip.old) (C.told chip.new) }
+    ensures reads { ReadsPage place head.now page pieces into.new result (C.told chip.old) (C.told chip.new) }
 {
     into.reset();
     let mut beside = PageMap::empty();
@@ -231,15 +221,9 @@ pub fn read_page<C: Chip>(
     requires place { place < (C.told chip.old).places }
     requires page { page < 15 }
     requires pieces { pieces ≤ PAGE_SECTORS }
-    ensures exact { OfContents (C.told chip.old) (λ x.
-        TellsChipFault (page_fault x place head.now.version head.now.unit head.now.generation page pieces) result) }
-    ensures page { OnOk result (OfContents (C.told chip.old) (λ x.
-        HoldsPage (chart_of x) place head.now.version head.now.unit head.now.generation page pieces into.new)) }
-    ensures empty { OnErr result (into.new ≡ empty_page) }
+    ensures reads { ReadsPage place head.now page pieces into.new result (C.told chip.old) (C.told chip.new) }
     ensures tails { head.now.version ≢ 1
         → OnOk result (AreTails (page_text VERSION into.new) tails.new) }
-    ensures asks { PageAsked place page pieces result (C.told chip.old) (C.told chip.new) }
-    ensures accounts { Accounts (IsPageCause place page) result (C.told chip.old) (C.told chip.new) }
 {
     if head.version == 1 {
         return read_first_page(chip, place, head, page, pieces, into);

@@ -1,5 +1,5 @@
 //! The base sectors of a page.
-ghost use Rattle.std.specs.Prelude.{◌≡◌, ◌<◌, ◌≤◌, ◌+◌, ◌*◌, ℕ, List, length, Some, None, IfOk, IfSome, OnOk, is_ok};
+ghost use Rattle.std.specs.Prelude.{◌≡◌, ◌<◌, ◌≤◌, ◌+◌, ◌*◌, ℕ, List, length, Some, None, IfOk, IfSome, OnOk};
 ghost use Rattle.ipl_base.specs.declared.limits.TheConstants.{PAGE_LEN, PAGE_SECTORS, PAYLOAD_LEN, VERSION};
 ghost use Rattle.chip_trait.specs.Lawful.{Clean, age};
 ghost use Rattle.chip_trait.specs.Told.{Told, History};
@@ -11,13 +11,13 @@ ghost use Rattle.ipl_format.specs.Version.{IsVersion};
 ghost use Rattle.ipl_format.specs.Place.{base_sector_of};
 ghost use Rattle.ipl_meaning.specs.Layout.{base_sector};
 ghost use Rattle.ipl_meaning.specs.Rests.{now, StoryRests};
-ghost use Rattle.unit_io.specs.Accounts.{Accounts};
-ghost use Rattle.unit_io.specs.Leads.{IsSteady, KeepsMap, IsStopped};
+ghost use Rattle.unit_io.specs.Leads.{IsSteady, KeepsMap};
 ghost use Rattle.unit_io.specs.Spots.{Programs, IsSpot, IsPieceSpot};
-ghost use Rattle.unit_io.specs.Costs.{ProgramsAt, Spends};
+ghost use Rattle.unit_io.specs.Costs.{ProgramsAt};
 ghost use Rattle.unit_io.specs.Charts.{Charts, Spares, Gains, HasPieces, HasPageSectors};
 ghost use Rattle.unit_io.specs.Plain.{AddsPlain};
 ghost use Rattle.unit_io.specs.Tails.{AreTails};
+ghost use Rattle.unit_io.specs.Writing.{AddsPage, OnlyPrograms};
 ghost use Rattle.sector_format.specs.Decode.{sector_of};
 
 use crate::sectors::program_aside;
@@ -86,9 +86,8 @@ fn program_piece<C: Chip>(
     ensures tells { OnOk result (Charts (Gains place (base_sector_of page piece) (base_sector VERSION head.now.unit head.now.generation page piece text.now)) (C.told chip.old) (C.told chip.new)) }
     ensures plain { AddsPlain (C.told chip.old) (C.told chip.new) }
     ensures spares { OnOk result (Spares place (C.told chip.old) (C.told chip.new)) }
-    ensures costs { Spends (ProgramsAt place 1 0 4) (C.told chip.old) (C.told chip.new) }
-    ensures tidy { Spends (Programs place (IsSpot (base_sector_of page piece)) (is_ok result)) (C.told chip.old) (C.told chip.new) }
-    ensures accounts { Accounts IsStopped result (C.told chip.old) (C.told chip.new) }
+    ensures writes { OnlyPrograms (ProgramsAt place 1 0 4) place (IsSpot (base_sector_of page piece)) result
+        (C.told chip.old) (C.told chip.new) }
 {
     let serial = u64::from(page * PAGE_SECTORS + piece);
     let base = Head::written(Head::BASE, head.unit, head.generation, serial);
@@ -123,14 +122,11 @@ fn program_pieces<C: Chip>(
         → now h place 0 ≡ None → ((s : ℕ) → IsPieceSpot page PAGE_SECTORS s → age h.story place s ≡ Clean)
         → KeepsMap (C.told chip.old).places m (Programs place (IsPieceSpot page PAGE_SECTORS))
         (λ n. HasPieces place head.now.unit head.now.generation page text.now n) h (C.told chip.old) result (C.told chip.new) }
-    ensures tells { IfOk result (λ n. Charts (HasPieces place head.now.unit head.now.generation page text.now n) (C.told chip.old) (C.told chip.new)) }
-    ensures plain { AddsPlain (C.told chip.old) (C.told chip.new) }
     ensures cut { IfOk result (λ n. IsCutInto text.now n) }
-    ensures few { IfOk result (λ n. n ≤ PAGE_SECTORS) }
-    ensures spares { OnOk result (Spares place (C.told chip.old) (C.told chip.new)) }
-    ensures costs { Spends (ProgramsAt place PAGE_SECTORS 0 4) (C.told chip.old) (C.told chip.new) }
-    ensures tidy { Spends (Programs place (IsPieceSpot page PAGE_SECTORS) (is_ok result)) (C.told chip.old) (C.told chip.new) }
-    ensures accounts { Accounts IsStopped result (C.told chip.old) (C.told chip.new) }
+    ensures adds { AddsPage (HasPieces place head.now.unit head.now.generation page text.now) place result
+        (C.told chip.old) (C.told chip.new) }
+    ensures writes { OnlyPrograms (ProgramsAt place PAGE_SECTORS 0 4) place (IsPieceSpot page PAGE_SECTORS) result
+        (C.told chip.old) (C.told chip.new) }
 {
     let count = piece_count(text);
     for piece in 0..count {
@@ -163,13 +159,10 @@ pub fn program_page<C: Chip>(
         → now h place 0 ≡ None → ((s : ℕ) → IsPieceSpot page PAGE_SECTORS s → age h.story place s ≡ Clean)
         → KeepsMap (C.told chip.old).places m (Programs place (IsPieceSpot page PAGE_SECTORS))
         (λ n. HasPageSectors place head.now.unit head.now.generation page map.now n) h (C.told chip.old) result (C.told chip.new) }
-    ensures tells { IfOk result (λ n. Charts (HasPageSectors place head.now.unit head.now.generation page map.now n) (C.told chip.old) (C.told chip.new)) }
-    ensures plain { AddsPlain (C.told chip.old) (C.told chip.new) }
-    ensures few { IfOk result (λ n. n ≤ PAGE_SECTORS) }
-    ensures spares { OnOk result (Spares place (C.told chip.old) (C.told chip.new)) }
-    ensures costs { Spends (ProgramsAt place PAGE_SECTORS 0 4) (C.told chip.old) (C.told chip.new) }
-    ensures tidy { Spends (Programs place (IsPieceSpot page PAGE_SECTORS) (is_ok result)) (C.told chip.old) (C.told chip.new) }
-    ensures accounts { Accounts IsStopped result (C.told chip.old) (C.told chip.new) }
+    ensures adds { AddsPage (HasPageSectors place head.now.unit head.now.generation page map.now) place result
+        (C.told chip.old) (C.told chip.new) }
+    ensures writes { OnlyPrograms (ProgramsAt place PAGE_SECTORS 0 4) place (IsPieceSpot page PAGE_SECTORS) result
+        (C.told chip.old) (C.told chip.new) }
 {
     program_pieces(chip, place, head, page, map.text(), tails)
 }

@@ -1,6 +1,5 @@
 //! A place taken, and sealed with a header.
-ghost use Rattle.std.specs.Prelude.{◌≡◌, ◌<◌, ◌≤◌, ℕ, length, OnOk, IfOk, is_ok, Some};
-ghost use Rattle.ipl_base.specs.declared.limits.TheConstants.{PAYLOAD_LEN, VERSION};
+ghost use Rattle.std.specs.Prelude.{◌≡◌, ◌<◌, ℕ, OnOk, IfOk, is_ok, Some};
 ghost use Rattle.chip_trait.specs.Image.{IsClosed};
 ghost use Rattle.chip_trait.specs.Lawful.{Clean, age};
 ghost use Rattle.chip_trait.specs.Chart.{with_sector};
@@ -20,6 +19,7 @@ ghost use Rattle.unit_io.specs.Spots.{Clears, Programs, IsSpot};
 ghost use Rattle.unit_io.specs.Costs.{ErasesOnce, ProgramsAt, Spends};
 ghost use Rattle.unit_io.specs.Charts.{Charts, Spares, Begun, Gains};
 ghost use Rattle.unit_io.specs.Plain.{AddsPlain, IsPlain, IsPlainSector};
+ghost use Rattle.unit_io.specs.Writing.{MayProgram, OnlyPrograms};
 
 use crate::calls::{barrier, erase, program};
 use chip_trait::{Chip, Wear};
@@ -86,8 +86,7 @@ fn add_header<C: Chip>(chip: &mut C, place: u32, bytes: &[u8; 512]) -> Result<()
 pub fn seal<C: Chip>(chip: &mut C, place: u32, head: &Head, payload: &[u8]) -> Result<(), ChipFault>
     requires place { place < (C.told chip.old).places }
     requires known { IsKind head.now.kind }
-    requires version { head.now.version ≡ VERSION }
-    requires fits { length payload.now ≤ PAYLOAD_LEN }
+    requires written { MayProgram head.now payload.now }
     ensures leads { (m n : Map) (h : History) → IsSteady h (C.told chip.old)
         → StoryRests (C.told chip.old).places m h → age h.story place 0 ≡ Clean
         → StandsBeside (C.told chip.old).places (now h) (with_sector (now h) place 0 (sector_of head.now payload.now)) n
@@ -98,10 +97,8 @@ pub fn seal<C: Chip>(chip: &mut C, place: u32, head: &Head, payload: &[u8]) -> R
     ensures tells { OnOk result (Charts (Gains place 0 (sector_of head.now payload.now)) (C.told chip.old) (C.told chip.new)) }
     ensures plain { IsPlainSector (sector_of head.now payload.now) → AddsPlain (C.told chip.old) (C.told chip.new) }
     ensures spares { OnOk result (Spares place (C.told chip.old) (C.told chip.new)) }
-    ensures costs { Spends (ProgramsAt place 1 2 head.now.kind) (C.told chip.old) (C.told chip.new) }
-    ensures tidy { Spends (Programs place (IsSpot 0) (is_ok result)) (C.told chip.old) (C.told chip.new) }
-    ensures unread { Spends ReadsNothing (C.told chip.old) (C.told chip.new) }
-    ensures accounts { Accounts IsStopped result (C.told chip.old) (C.told chip.new) }
+    ensures writes { OnlyPrograms (ProgramsAt place 1 2 head.now.kind) place (IsSpot 0) result
+        (C.told chip.old) (C.told chip.new) }
 {
     let mut bytes = [0; 512];
     encode(head, payload, &mut bytes);

@@ -10,8 +10,10 @@ ghost use Rattle.sector_format.specs.Decode.{IsDecoded, sector_read};
 ghost use Rattle.ipl_meaning.specs.Chart.{chart_of};
 ghost use Rattle.unit_io.specs.Accounts.{Accounts};
 ghost use Rattle.unit_io.specs.Reads.{Asked, OfContents, IsReadFault};
-ghost use Rattle.unit_io.specs.Kinds.{of_kinds, header_only, log_only, commit_only, status_only, sector_named};
+ghost use Rattle.unit_io.specs.Kinds.{any_sector, of_kinds, header_only, log_only, commit_only, status_only, sector_named};
 ghost use Rattle.unit_io.specs.Found.{checked};
+ghost use Rattle.unit_io.specs.Reading.{ReadsSector};
+ghost use Rattle.unit_io.specs.Spots.{IsOnChip};
 ghost use Rattle.unit_io.specs.declared.reading.Found.TheVariants.{Erased};
 
 use crate::calls::read;
@@ -61,8 +63,7 @@ pub fn read_found<C: Chip>(
     spot: Spot,
     into: &mut [u8; 512],
 ) -> Result<Found, ChipFault>
-    requires place { spot.place < (C.told chip.old).places }
-    requires sector { spot.sector < 256 }
+    requires spot { IsOnChip (C.told chip.old) spot.place spot.sector }
     ensures exact { IfOk result (λ found. OfContents (C.told chip.old) (λ x.
         sector_named into.new (checked found) ≡ chart_of x spot.place spot.sector)) }
     ensures erased { IfOk result (λ found. OfContents (C.told chip.old) (λ x.
@@ -84,15 +85,10 @@ pub fn read_sector<C: Chip>(
     spot: Spot,
     into: &mut [u8; 512],
 ) -> Result<Option<(Head, usize)>, ChipFault>
-    requires place { spot.place < (C.told chip.old).places }
-    requires sector { spot.sector < 256 }
-    ensures exact { IfOk result (λ o. OfContents (C.told chip.old) (λ x.
-        sector_named into.new o ≡ chart_of x spot.place spot.sector)) }
+    requires spot { IsOnChip (C.told chip.old) spot.place spot.sector }
+    ensures reads { ReadsSector any_sector spot.place spot.sector into.new result (C.told chip.old) (C.told chip.new) }
     ensures bytes { OnOk result (OfContents (C.told chip.old) (λ x. into.new ≡ x spot.place spot.sector)) }
-    ensures fits { IfOk result (λ o. IfSome o (λ found. found.1 ≤ PAYLOAD_LEN)) }
     ensures whole { OnOk result (OfContents (C.told chip.old) (λ x. IsWhole (x spot.place spot.sector))) }
-    ensures asks { Asked (Read spot.place spot.sector) result (C.told chip.old) (C.told chip.new) }
-    ensures accounts { Accounts IsReadFault result (C.told chip.old) (C.told chip.new) }
 {
     let found = read_found(chip, spot, into)?;
     Ok(checked(found))
@@ -118,15 +114,10 @@ fn read_of_kinds<C: Chip>(
     last: u8,
     into: &mut [u8; 512],
 ) -> Result<Option<(Head, usize)>, ChipFault>
-    requires place { spot.place < (C.told chip.old).places }
-    requires sector { spot.sector < 256 }
-    ensures exact { IfOk result (λ o. OfContents (C.told chip.old) (λ x.
-        sector_named into.new o ≡ of_kinds first last (chart_of x spot.place spot.sector))) }
+    requires spot { IsOnChip (C.told chip.old) spot.place spot.sector }
+    ensures reads { ReadsSector (of_kinds first last) spot.place spot.sector into.new result (C.told chip.old) (C.told chip.new) }
     ensures bytes { OnOk result (OfContents (C.told chip.old) (λ x. into.new ≡ x spot.place spot.sector)) }
     ensures kind { IfOk result (λ o. IfSome o (λ found. (first ≤ found.0.kind) × (found.0.kind ≤ last))) }
-    ensures fits { IfOk result (λ o. IfSome o (λ found. found.1 ≤ PAYLOAD_LEN)) }
-    ensures asks { Asked (Read spot.place spot.sector) result (C.told chip.old) (C.told chip.new) }
-    ensures accounts { Accounts IsReadFault result (C.told chip.old) (C.told chip.new) }
 {
     let found = read_sector(chip, spot, into)?;
     Ok(of_kinds(found, first, last))
@@ -140,12 +131,8 @@ pub fn read_head<C: Chip>(
     into: &mut [u8; 512],
 ) -> Result<Option<(Head, usize)>, ChipFault>
     requires { place < (C.told chip.old).places }
-    ensures exact { IfOk result (λ o. OfContents (C.told chip.old) (λ x.
-        sector_named into.new o ≡ header_only (chart_of x place 0))) }
+    ensures reads { ReadsSector header_only place 0 into.new result (C.told chip.old) (C.told chip.new) }
     ensures kind { IfOk result (λ o. IfSome o (λ found. (1 ≤ found.0.kind) × (found.0.kind ≤ 3))) }
-    ensures fits { IfOk result (λ o. IfSome o (λ found. found.1 ≤ PAYLOAD_LEN)) }
-    ensures asks { Asked (Read place 0) result (C.told chip.old) (C.told chip.new) }
-    ensures accounts { Accounts IsReadFault result (C.told chip.old) (C.told chip.new) }
 {
     read_of_kinds(
         chip,
@@ -163,14 +150,9 @@ pub fn read_log<C: Chip>(
     spot: Spot,
     into: &mut [u8; 512],
 ) -> Result<Option<(Head, usize)>, ChipFault>
-    requires place { spot.place < (C.told chip.old).places }
-    requires sector { spot.sector < 256 }
-    ensures exact { IfOk result (λ o. OfContents (C.told chip.old) (λ x.
-        sector_named into.new o ≡ log_only (chart_of x spot.place spot.sector))) }
+    requires spot { IsOnChip (C.told chip.old) spot.place spot.sector }
+    ensures reads { ReadsSector log_only spot.place spot.sector into.new result (C.told chip.old) (C.told chip.new) }
     ensures kind { IfOk result (λ o. IfSome o (λ found. found.0.kind ≡ 5)) }
-    ensures fits { IfOk result (λ o. IfSome o (λ found. found.1 ≤ PAYLOAD_LEN)) }
-    ensures asks { Asked (Read spot.place spot.sector) result (C.told chip.old) (C.told chip.new) }
-    ensures accounts { Accounts IsReadFault result (C.told chip.old) (C.told chip.new) }
 {
     read_of_kinds(chip, spot, Head::LOG, Head::LOG, into)
 }
@@ -182,15 +164,10 @@ pub fn read_commit<C: Chip>(
     spot: Spot,
     into: &mut [u8; 512],
 ) -> Result<Option<(Head, usize)>, ChipFault>
-    requires place { spot.place < (C.told chip.old).places }
-    requires sector { spot.sector < 256 }
-    ensures exact { IfOk result (λ o. OfContents (C.told chip.old) (λ x.
-        sector_named into.new o ≡ commit_only (chart_of x spot.place spot.sector))) }
+    requires spot { IsOnChip (C.told chip.old) spot.place spot.sector }
+    ensures reads { ReadsSector commit_only spot.place spot.sector into.new result (C.told chip.old) (C.told chip.new) }
     ensures bytes { OnOk result (OfContents (C.told chip.old) (λ x. into.new ≡ x spot.place spot.sector)) }
     ensures kind { IfOk result (λ o. IfSome o (λ found. found.0.kind ≡ 6)) }
-    ensures fits { IfOk result (λ o. IfSome o (λ found. found.1 ≤ PAYLOAD_LEN)) }
-    ensures asks { Asked (Read spot.place spot.sector) result (C.told chip.old) (C.told chip.new) }
-    ensures accounts { Accounts IsReadFault result (C.told chip.old) (C.told chip.new) }
 {
     read_of_kinds(chip, spot, Head::COMMIT, Head::COMMIT, into)
 }
@@ -202,15 +179,10 @@ pub fn read_noted<C: Chip>(
     spot: Spot,
     into: &mut [u8; 512],
 ) -> Result<Option<(Head, usize)>, ChipFault>
-    requires place { spot.place < (C.told chip.old).places }
-    requires sector { spot.sector < 256 }
-    ensures exact { IfOk result (λ o. OfContents (C.told chip.old) (λ x.
-        sector_named into.new o ≡ status_only (chart_of x spot.place spot.sector))) }
+    requires spot { IsOnChip (C.told chip.old) spot.place spot.sector }
+    ensures reads { ReadsSector status_only spot.place spot.sector into.new result (C.told chip.old) (C.told chip.new) }
     ensures bytes { OnOk result (OfContents (C.told chip.old) (λ x. into.new ≡ x spot.place spot.sector)) }
     ensures kind { IfOk result (λ o. IfSome o (λ found. (6 ≤ found.0.kind) × (found.0.kind ≤ 7))) }
-    ensures fits { IfOk result (λ o. IfSome o (λ found. found.1 ≤ PAYLOAD_LEN)) }
-    ensures asks { Asked (Read spot.place spot.sector) result (C.told chip.old) (C.told chip.new) }
-    ensures accounts { Accounts IsReadFault result (C.told chip.old) (C.told chip.new) }
 {
     read_of_kinds(chip, spot, Head::COMMIT, Head::MARK, into)
 }

@@ -1,5 +1,5 @@
 //! One sector of a place, programmed.
-ghost use Rattle.std.specs.Prelude.{◌≡◌, ◌≢◌, ◌<◌, ℕ, List, Some, None, OnOk, is_ok};
+ghost use Rattle.std.specs.Prelude.{◌≡◌, ◌<◌, ℕ, List, Some, OnOk, is_ok};
 ghost use Rattle.ipl_base.specs.declared.limits.TheConstants.{VERSION};
 ghost use Rattle.chip_trait.specs.Told.{Told, History};
 ghost use Rattle.ipl_rules.specs.State.{Map};
@@ -12,10 +12,11 @@ ghost use Rattle.ipl_meaning.specs.Steps.{MayLog};
 ghost use Rattle.unit_io.specs.Accounts.{Accounts};
 ghost use Rattle.unit_io.specs.Leads.{IsSteady, KeepsMap, IsStopped};
 ghost use Rattle.unit_io.specs.Unread.{ReadsNothing};
-ghost use Rattle.unit_io.specs.Spots.{Programs, IsSpot};
+ghost use Rattle.unit_io.specs.Spots.{IsOnChip, Programs, IsSpot};
 ghost use Rattle.unit_io.specs.Costs.{ProgramsAt, Spends};
 ghost use Rattle.unit_io.specs.Charts.{Charts, Spares, Gains};
 ghost use Rattle.unit_io.specs.Plain.{AddsPlain, IsPlain};
+ghost use Rattle.unit_io.specs.Writing.{LeadsAside, OnlyPrograms};
 
 use crate::calls::program;
 use chip_trait::Chip;
@@ -30,12 +31,9 @@ pub(crate) fn program_aside<C: Chip>(
     sector: u32,
     bytes: &[u8; 512],
 ) -> Result<(), ChipFault>
-    requires place { place < (C.told chip.old).places }
-    requires sector { sector < 256 }
-    ensures aside { (m : Map) (h : History) (said : Sector) → sector_in bytes.now ≡ Some said → IsSteady h (C.told chip.old)
-        → StoryRests (C.told chip.old).places m h → now h place 0 ≡ None → sector ≢ 0 → IsUntouched h place sector
-        → KeepsMap (C.told chip.old).places m (Programs place (IsSpot sector))
-        (λ done. Gains place sector said) h (C.told chip.old) result (C.told chip.new) }
+    requires spot { IsOnChip (C.told chip.old) place sector }
+    ensures aside { (said : Sector) → sector_in bytes.now ≡ Some said
+        → LeadsAside (C.told chip.old).places place sector said (C.told chip.old) result (C.told chip.new) }
     ensures tells { (said : Sector) → sector_in bytes.now ≡ Some said → OnOk result (Charts (Gains place sector said) (C.told chip.old) (C.told chip.new)) }
     ensures plain { IsPlain bytes.now → AddsPlain (C.told chip.old) (C.told chip.new) }
     ensures spares { OnOk result (Spares place (C.told chip.old) (C.told chip.new)) }
@@ -59,8 +57,7 @@ pub fn program_log<C: Chip>(
     head: &Head,
     payload: &Payload,
 ) -> Result<(), ChipFault>
-    requires place { spot.place < (C.told chip.old).places }
-    requires sector { spot.sector < 256 }
+    requires spot { IsOnChip (C.told chip.old) spot.place spot.sector }
     requires kind { head.now.kind ≡ 5 }
     requires version { head.now.version ≡ VERSION }
     ensures keeps { (m : Map) (it : Layout) (h : History) (u : ℕ) (records : List Record) → IsSteady h (C.told chip.old)
@@ -69,15 +66,12 @@ pub fn program_log<C: Chip>(
         → IsUntouched h spot.place spot.sector
         → KeepsMap (C.told chip.old).places m (Programs spot.place (IsSpot spot.sector))
         (λ done. Gains spot.place spot.sector (sector_of head.now payload.now.bytes)) h (C.told chip.old) result (C.told chip.new) }
-    ensures aside { (m : Map) (h : History) → IsSteady h (C.told chip.old) → StoryRests (C.told chip.old).places m h
-        → now h spot.place 0 ≡ None → spot.sector ≢ 0 → IsUntouched h spot.place spot.sector
-        → KeepsMap (C.told chip.old).places m (Programs spot.place (IsSpot spot.sector))
-        (λ done. Gains spot.place spot.sector (sector_of head.now payload.now.bytes)) h (C.told chip.old) result (C.told chip.new) }
+    ensures aside { LeadsAside (C.told chip.old).places spot.place spot.sector
+        (sector_of head.now payload.now.bytes) (C.told chip.old) result (C.told chip.new) }
     ensures tells { OnOk result (Charts (Gains spot.place spot.sector (sector_of head.now payload.now.bytes)) (C.told chip.old) (C.told chip.new)) }
     ensures spares { OnOk result (Spares spot.place (C.told chip.old) (C.told chip.new)) }
-    ensures costs { Spends (ProgramsAt spot.place 1 0 5) (C.told chip.old) (C.told chip.new) }
-    ensures tidy { Spends (Programs spot.place (IsSpot spot.sector) (is_ok result)) (C.told chip.old) (C.told chip.new) }
-    ensures accounts { Accounts IsStopped result (C.told chip.old) (C.told chip.new) }
+    ensures writes { OnlyPrograms (ProgramsAt spot.place 1 0 5) spot.place (IsSpot spot.sector) result
+        (C.told chip.old) (C.told chip.new) }
 {
     let mut bytes = [0; 512];
     encode(head, payload.bytes(), &mut bytes);

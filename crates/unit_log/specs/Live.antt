@@ -1,5 +1,5 @@
 -- The live log sectors of a unit, read from the tables.
-use Rattle.std.specs.Prelude.{ℕ, zero, suc, ◌≡◌, ◌⊎◌, ◌+◌, ◌-◌, List, [], ◌∷◌, ◌++◌, map, Some, Result, MatchResult}
+use Rattle.std.specs.Prelude.{ℕ, zero, suc, ◌≡◌, ◌⊎◌, ◌+◌, ◌-◌, List, [], ◌∷◌, ◌++◌, map, length, Some, Result, MatchResult}
 use Rattle.ipl_base.specs.declared.limits.TheConstants.{FIRST_LOG_SECTOR}
 use Rattle.chip_trait.specs.Told.{Told}
 use Rattle.ipl_base.specs.declared.fault.ChipFault.{ChipFault}
@@ -40,6 +40,12 @@ pub record MatchesLayout (it : Layout) (u : ℕ) (head : UnitHead) (kept : List 
   pub generation : head.generation ≡ (it.units u).head.generation
   pub pieces : head.pieces ≡ (it.units u).pieces
   pub log : kept ≡ map kept_of (it.units u).log
+
+-- the directory and the overflow lists are made for a chip of so many places, and for as many units
+pub record SuitChip (places : ℕ) (directory : Places) (overflow : OverflowLists) : Type 0 where
+  pub size : length directory.in_use ≡ places
+  pub units : length overflow.spots ≡ length directory.current
+  pub sized : overflow.places ≡ places
 
 -- tables with this directory and these overflow lists mirror the chart
 pub record AreMirrored (places : ℕ) (c : Chart) (it : Layout) (t : Tables)

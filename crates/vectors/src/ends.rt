@@ -2,7 +2,7 @@
 use crate::words::{number, words_of};
 use anyhow::{Result, bail};
 use ipl_base::{ChipFault, ImageFault};
-use program_end::{End, NoteLine, status};
+use command_line::{End, NoteLine, status};
 use std::alloc::Global;
 
 /// What comes of a row `end NAME NUMBERS`: the status of the end, and the line that is noted,

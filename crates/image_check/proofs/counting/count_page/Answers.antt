@@ -16,14 +16,14 @@ returns-in_err-rebuild-clause-told g c = λ x told it known.
 
 pub returns-in_err-rebuild-clause-reads : goal.returns-in_err-rebuild-clause-reads
 returns-in_err-rebuild-clause-reads g c =
-    at_wider _ Anywhere (g.C.Chip.told c.args.chip.now) (g.C.Chip.told c.rebuild.new.chip) (λ p s is. tt) c.rebuild.ensures.reads
+    at_wider _ Anywhere (g.C.Chip.told c.args.chip.now) (g.C.Chip.told c.rebuild.new.chip) (λ p s is. tt) c.rebuild.ensures.looks.reads
 
 pub returns-in_err-rebuild-clause-cause : goal.returns-in_err-rebuild-clause-cause
 returns-in_err-rebuild-clause-cause g c =
     let old = g.C.Chip.told c.args.chip.now in
     let new = g.C.Chip.told c.rebuild.new.chip in
     cause_exit old old new _ c.from_residual.result c.from_residual.ensures.1 (counts_none old)
-    (rebuild_reads old new c.args.place c.args.page _ c.in_err-rebuild.ensures.cause)
+    (rebuild_reads old new c.args.place c.args.page _ c.in_err-rebuild.ensures.looks.cause)
 
 pub returns-clause-told : goal.returns-clause-told
 returns-clause-told g c = λ x told it known. (
@@ -35,4 +35,4 @@ returns-clause-told g c = λ x told it known. (
 
 pub returns-clause-reads : goal.returns-clause-reads
 returns-clause-reads g c =
-    at_wider _ Anywhere (g.C.Chip.told c.args.chip.now) (g.C.Chip.told c.rebuild.new.chip) (λ p s is. tt) c.rebuild.ensures.reads
+    at_wider _ Anywhere (g.C.Chip.told c.args.chip.now) (g.C.Chip.told c.rebuild.new.chip) (λ p s is. tt) c.rebuild.ensures.looks.reads

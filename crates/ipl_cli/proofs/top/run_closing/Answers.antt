@@ -11,7 +11,7 @@ returns-in_err-run_script g c =
     let did = c.in_err-run_script.ensures in record {
       runs = rw (e.1, e.2) (ran_alone c.args.store.now c.run_script.new.store (g.D.Chip.told c.args.desk.now)
           (g.D.Chip.told c.run_script.new.desk) c.args.closes (Err c.in_err-run_script.field-0.0) c.requires.left
-          did.run did.tidy did.draws did.completes did.cause did.learns did.further did.long tt tt);
+          did.run did.tidy did.draws did.completes did.learns did.further did.ends tt);
     }
 
 pub returns-else-closes : goal.returns-else-closes
@@ -19,7 +19,7 @@ returns-else-closes g c =
     let did = c.in_ok-run_script.ensures in record {
       runs = ran_alone c.args.store.now c.run_script.new.store (g.D.Chip.told c.args.desk.now)
           (g.D.Chip.told c.run_script.new.desk) c.args.closes (Ok tt) c.requires.left did.run did.tidy did.draws
-          did.completes tt did.learns did.further did.long did.all
+          did.completes did.learns did.further did.ends
           (λ is. absurd (let clash : true ≡ false = sym is ∙ c.if-closes.false in cc clash));
     }
 
@@ -35,7 +35,7 @@ returns-in_err-close_behind g c =
           c.close_behind.new.store new) (sym closing.result_is)
           (ran_closing c.args.store.now c.run_script.new.store c.close_behind.new.store old
           (g.D.Chip.told c.run_script.new.desk) new c.args.closes closing.closed did.further closing.closes
-          c.requires.left did.run did.tidy did.draws did.completes did.learns did.all));
+          c.requires.left did.run did.tidy did.draws did.completes did.learns did.ends.all));
     }
 
 pub returns-in_ok-close_behind : goal.returns-in_ok-close_behind
@@ -48,5 +48,5 @@ returns-in_ok-close_behind g c =
           c.close_behind.new.store new) (sym closing.result_is)
           (ran_closing c.args.store.now c.run_script.new.store c.close_behind.new.store old
           (g.D.Chip.told c.run_script.new.desk) new c.args.closes closing.closed did.further closing.closes
-          c.requires.left did.run did.tidy did.draws did.completes did.learns did.all);
+          c.requires.left did.run did.tidy did.draws did.completes did.learns did.ends.all);
     }

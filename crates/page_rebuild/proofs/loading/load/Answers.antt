@@ -1,4 +1,4 @@
-use Rattle.std.proofs.Common.{Err, ◌+◌, length, ◌∙◌, arith}
+use Rattle.std.proofs.Common.{Err, ◌+◌, length, inl, ◌∙◌, arith}
 use Rattle.unit_log.specs.Paged.{page_spots, IsPageLogRead}
 use Rattle.unit_log.proofs.CountLemmas.{most_then, most_wider}
 use Rattle.step_laws.proofs.MapLemmas.{reads_keep_tables}
@@ -13,19 +13,21 @@ pub returns-in-Err-clause-fault : goal.returns-in-Err-clause-fault
 returns-in-Err-clause-fault g c = λ x told it t are other.
     absurd (other (c.in-Err.ensures.exact x told it t are.mirrored))
 
-pub returns-in-Err-clause-allowed : goal.returns-in-Err-clause-allowed
-returns-in-Err-clause-allowed g c = λ x told it t are.
-    log_allowed are c.requires.unit c.args.page c.read_page_log.ensures.looks.reads
+pub returns-in-Err-clause-looks : goal.returns-in-Err-clause-looks
+returns-in-Err-clause-looks g c =
+    let reads = c.read_page_log.ensures.looks.reads in
+    record {
+      allowed = λ x told it t are. log_allowed are c.requires.unit c.args.page reads;
+      count = tt;
+      reads = log_read (page_spots c.args.directory.now c.args.overflow.now c.args.unit c.args.page)
+          c.args.page reads;
+      cause = inl c.in-Err.ensures.looks.cause;
+    }
 
 pub returns-in-Err-clause-keeps : goal.returns-in-Err-clause-keeps
 returns-in-Err-clause-keeps g c = λ m it t h steady rests agrees.
     reads_keep_tables {T = Unit {0}} (IsPageLogRead _ _) _ m it t h (Err c.in-Err.fault)
     (g.C.Chip.told c.args.chip.now) (g.C.Chip.told c.read_page_log.new.chip) steady rests agrees
-    c.read_page_log.ensures.looks.reads
-
-pub returns-in-Err-clause-reads : goal.returns-in-Err-clause-reads
-returns-in-Err-clause-reads g c =
-    log_read (page_spots c.args.directory.now c.args.overflow.now c.args.unit c.args.page) c.args.page
     c.read_page_log.ensures.looks.reads
 
 -- ---- the log is read, and the page is made anew by it
@@ -48,35 +50,31 @@ returns-clause-stands g c =
     ok_then c.rebuild.result (returns-clause-loads g c) (λ loads x told it t are m stands.
     page_of_map are.mirrored.mirrors.laid (within are c.requires.unit) c.requires.page stands (loads x told it t are))
 
-pub returns-clause-allowed : goal.returns-clause-allowed
-returns-clause-allowed g c = λ x told it t are.
-    both_allowed are c.requires.unit c.args.page c.current-place.ensures.place
-    (count_is are c.requires.unit c.current-place.ensures.place c.args.page (c.in-Ok.ensures.exact x told it t are.mirrored))
-    c.read_page_log.ensures.looks.reads c.rebuild.ensures.reads
-
-pub returns-clause-reads : goal.returns-clause-reads
-returns-clause-reads g c =
-    both_read (page_spots c.args.directory.now c.args.overflow.now c.args.unit c.args.page) c.args.page
-    c.current-place.ensures.place (few_at c.in-Ok.header.pieces c.args.page c.in-Ok.ensures.few)
-    c.read_page_log.ensures.looks.reads c.rebuild.ensures.reads
+pub returns-clause-looks : goal.returns-clause-looks
+returns-clause-looks g c =
+    let old = g.C.Chip.told c.args.chip.now in
+    let mid = g.C.Chip.told c.read_page_log.new.chip in
+    let new = g.C.Chip.told c.rebuild.new.chip in
+    let page = c.args.page in
+    let spots = page_spots c.args.directory.now c.args.overflow.now c.args.unit page in
+    let log = c.read_page_log.ensures.looks.reads in
+    let base = c.rebuild.ensures.looks in
+    record {
+      allowed = λ x told it t are. both_allowed are c.requires.unit page c.current-place.ensures.place
+          (count_is are c.requires.unit c.current-place.ensures.place page
+          (c.in-Ok.ensures.exact x told it t are.mirrored)) log base.reads;
+      count = ok_always c.rebuild.result (λ x told it t are.
+          most_wider (1 + length spots + 16) _ old new
+          (omega (arith, c.in-Ok.ensures.as_many x told it t are.mirrored))
+          (most_then (1 + length spots) 16 old mid new c.read_page_log.ensures.each base.count));
+      reads = both_read spots page c.current-place.ensures.place
+          (few_at c.in-Ok.header.pieces page c.in-Ok.ensures.few) log base.reads;
+      cause = rebuilt_cause _ _ page spots old mid new c.current-place.ensures.place c.rebuild.result
+          log.counts base.cause;
+    }
 
 pub returns-clause-keeps : goal.returns-clause-keeps
 returns-clause-keeps g c = λ m it t h steady rests agrees.
     reads_keep_tables (IsLoadRead _ _ c.args.page) _ m it t h c.rebuild.result
     (g.C.Chip.told c.args.chip.now) (g.C.Chip.told c.rebuild.new.chip) steady rests agrees
-    (returns-clause-reads g c)
-
-pub returns-clause-cause : goal.returns-clause-cause
-returns-clause-cause g c =
-    rebuilt_cause _ _ c.args.page (page_spots c.args.directory.now c.args.overflow.now c.args.unit c.args.page)
-    (g.C.Chip.told c.args.chip.now) (g.C.Chip.told c.read_page_log.new.chip) (g.C.Chip.told c.rebuild.new.chip)
-    c.current-place.ensures.place c.rebuild.result c.read_page_log.ensures.looks.reads.counts c.rebuild.ensures.cause
-
-pub returns-clause-count : goal.returns-clause-count
-returns-clause-count g c =
-    let spots = page_spots c.args.directory.now c.args.overflow.now c.args.unit c.args.page in
-    ok_always c.rebuild.result (λ x told it t are.
-    most_wider (1 + length spots + 16) _ (g.C.Chip.told c.args.chip.now) (g.C.Chip.told c.rebuild.new.chip)
-    (omega (arith, c.in-Ok.ensures.as_many x told it t are.mirrored))
-    (most_then (1 + length spots) 16 (g.C.Chip.told c.args.chip.now) (g.C.Chip.told c.read_page_log.new.chip)
-    (g.C.Chip.told c.rebuild.new.chip) c.read_page_log.ensures.each c.rebuild.ensures.count))
+    (returns-clause-looks g c).reads

@@ -1,4 +1,4 @@
-use Rattle.std.proofs.Common.{◌≤◌, ◌<◌, inr, refl, sym, ◌∙◌}
+use Rattle.std.proofs.Common.{inl, inr, refl, sym, ◌∙◌}
 use Rattle.std.proofs.lemmas.Result.{err_from_is_err_and}
 use Rattle.number_set.specs.Numbers.{among}
 use Rattle.page_rebuild.proofs.ReadLemmas.{fault_told}
@@ -42,3 +42,21 @@ pub returns-clause-loads : goal.returns-clause-loads
 returns-clause-loads g c = λ x told it known.
     loaded known c.read_base.new.frame (c.in_ok-read_base.ensures.page x told) c.args.active.now
     (c.if-not-take_sectors.ensures.room.0 refl) c.if-not-take_sectors.ensures.taken
+
+-- ---- what is read
+
+pub returns-in_err-read_base-clause-looks : goal.returns-in_err-read_base-clause-looks
+returns-in_err-read_base-clause-looks g c =
+    let e = err_from_is_err_and c.from_residual.result c.from_residual.ensures.1 in
+    let says = c.in_err-read_base.ensures.looks in
+    rw (e.1, e.2) (record { reads = says.reads; count = says.count; cause = inl says.cause })
+
+pub returns-then-not-take_sectors-clause-looks : goal.returns-then-not-take_sectors-clause-looks
+returns-then-not-take_sectors-clause-looks g c =
+    let says = c.in_ok-read_base.ensures.looks in
+    record { reads = says.reads; count = says.count; cause = inr refl }
+
+pub returns-clause-looks : goal.returns-clause-looks
+returns-clause-looks g c =
+    let says = c.in_ok-read_base.ensures.looks in
+    record { reads = says.reads; count = says.count; cause = tt }

@@ -7,7 +7,7 @@ use Rattle.opening_laws.specs.Live.{mark_of, is_overflow_place}
 use Rattle.opening_laws.specs.Faults.{TellsImageFault, log_test}
 use Rattle.opening_laws.proofs.TellsLemmas.{tells_exit}
 use Rattle.opening_laws.specs.Found.{mask_of_sector}
-use Rattle.kept_numbers.specs.Joins.{joined}
+use Rattle.restart.specs.Joins.{joined}
 use Rattle.restart.specs.Collected.{records_at, AreKept}
 use Rattle.restart.specs.Notes.{IsNoted}
 use Rattle.restart.proofs.LogLemmas.{live_low, unit_low, spot_sector, serial_fits, roomy_more, sized_more, noted_live, none_live, some_live}

@@ -17,13 +17,6 @@ loop-n-init g c = record {
   none = λ lt. refl;
 }
 
-pub returns-in_err-say_row-clause-says : goal.returns-in_err-say_row-clause-says
-returns-in_err-say_row-clause-says g c = λ limits named state h holds.
-    let stop = err_from_is_err_and c.from_residual.result c.from_residual.ensures.1 in
-    let so_far = c.loop-n.invariant.says limits named state h holds in
-    rw stop.1 (rw stop.2 (rows_stop (g.S.Store.keeping g.places) limits state c.args.first c.loop-n.n c.args.end c.args.store.now c.loop-n.store c.say_row.new.store h _ _ _ _ (omega arith) (omega arith) c.loop-n.invariant.along.beside.writes so_far.0
-    (c.in_err-say_row.ensures.says limits (omega arith) state (adds_all so_far.0.added h) so_far.1)))
-
 pub loop-n-preserved : goal.loop-n-preserved
 loop-n-preserved g c = record {
   says = λ limits named state h holds.
@@ -37,24 +30,26 @@ loop-n-preserved g c = record {
   none = λ lt. absurd (omega arith);
 }
 
-pub returns-clause-says : goal.returns-clause-says
-returns-clause-says g c = λ limits named state h holds.
-    let all : c.loop-n.n - c.args.first ≡ c.args.end - c.args.first = grind (arith, c.loop-n.invariant.none) in
-    let so_far = c.loop-n.invariant.says limits named state h holds in
-    subst (λ (j : ℕ). (leaves : SayingLeaves (g.S.Store.keeping g.places) limits state.map (rows_lines state.map c.args.first j) c.args.store.now h c.loop-n.store (g.D.Chip.told c.args.desk.now) (g.D.Chip.told c.loop-n.desk) true)
-    × (g.S.Store.keeping g.places).holds limits c.loop-n.store (g.D.Chip.told c.loop-n.desk) (adds_all leaves.added h) state) all so_far
+pub returns-in_err-say_row : goal.returns-in_err-say_row
+returns-in_err-say_row g c = record {
+  says = λ limits named state h holds.
+      let stop = err_from_is_err_and c.from_residual.result c.from_residual.ensures.1 in
+      let so_far = c.loop-n.invariant.says limits named state h holds in
+      rw stop.1 (rw stop.2 (rows_stop (g.S.Store.keeping g.places) limits state c.args.first c.loop-n.n c.args.end c.args.store.now c.loop-n.store c.say_row.new.store h _ _ _ _ (omega arith) (omega arith) c.loop-n.invariant.along.beside.writes so_far.0
+      (c.in_err-say_row.ensures.says limits (omega arith) state (adds_all so_far.0.added h) so_far.1)));
+  along = along_more (along_then c.loop-n.invariant.along (along_stop c.from_residual.result c.from_residual.ensures.1 c.in_err-say_row.ensures.along)) (omega arith);
+  completes = λ limits named keeps.
+      completes_more (completes_then (c.loop-n.invariant.completes limits named keeps) (further_onward _ _ c.loop-n.invariant.along.beside)
+      (λ now. completes_stop c.from_residual.result c.from_residual.ensures.1 (c.in_err-say_row.ensures.completes limits (omega arith) now))) (omega arith);
+}
 
-pub returns-in_err-say_row-clause-along : goal.returns-in_err-say_row-clause-along
-returns-in_err-say_row-clause-along g c =
-    along_more (along_then c.loop-n.invariant.along (along_stop c.from_residual.result c.from_residual.ensures.1 c.in_err-say_row.ensures.along)) (omega arith)
-
-pub returns-clause-along : goal.returns-clause-along
-returns-clause-along g c = along_more c.loop-n.invariant.along (grind (arith, c.loop-n.invariant.none))
-
-pub returns-in_err-say_row-clause-completes : goal.returns-in_err-say_row-clause-completes
-returns-in_err-say_row-clause-completes g c = λ limits named keeps.
-    completes_more (completes_then (c.loop-n.invariant.completes limits named keeps) (further_onward _ _ c.loop-n.invariant.along.beside)
-    (λ now. completes_stop c.from_residual.result c.from_residual.ensures.1 (c.in_err-say_row.ensures.completes limits (omega arith) now))) (omega arith)
-
-pub returns-clause-completes : goal.returns-clause-completes
-returns-clause-completes g c = λ limits named keeps. completes_more (c.loop-n.invariant.completes limits named keeps) (grind (arith, c.loop-n.invariant.none))
+pub returns : goal.returns
+returns g c = record {
+  says = λ limits named state h holds.
+      let all : c.loop-n.n - c.args.first ≡ c.args.end - c.args.first = grind (arith, c.loop-n.invariant.none) in
+      let so_far = c.loop-n.invariant.says limits named state h holds in
+      subst (λ (j : ℕ). (leaves : SayingLeaves (g.S.Store.keeping g.places) limits state.map (rows_lines state.map c.args.first j) c.args.store.now h c.loop-n.store (g.D.Chip.told c.args.desk.now) (g.D.Chip.told c.loop-n.desk) true)
+      × (g.S.Store.keeping g.places).holds limits c.loop-n.store (g.D.Chip.told c.loop-n.desk) (adds_all leaves.added h) state) all so_far;
+  along = along_more c.loop-n.invariant.along (grind (arith, c.loop-n.invariant.none));
+  completes = λ limits named keeps. completes_more (c.loop-n.invariant.completes limits named keeps) (grind (arith, c.loop-n.invariant.none));
+}

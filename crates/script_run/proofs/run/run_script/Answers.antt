@@ -3,13 +3,11 @@ use Rattle.std.proofs.lemmas.List.{length-take}
 use Rattle.std.proofs.lemmas.Result.{err_from_is_err_and, on_ok_weaker}
 use Rattle.ipl_model.specs.Grammar.{line_of, commands_in}
 use Rattle.store_trait.specs.Keeping.{Stays}
-use Rattle.script_run.specs.declared.fault.Stop.{Stop}
-use Rattle.chip_trait.specs.Told.{Grew}
-use Rattle.script_run.specs.Goes.{Answers, HasRead, StopCause}
+use Rattle.script_run.specs.Goes.{Answers}
 use Rattle.store_trait.proofs.TidyLemmas.{tidy_same, tidy_part, tidy_then}
 use Rattle.store_trait.proofs.OnwardLemmas.{further_none, further_then}
-use Rattle.script_run.proofs.ReadLemmas.{grew_none, grew_then, read_none, read_then, all_answered}
-use Rattle.script_run.proofs.CauseLemmas.{cause_earlier}
+use Rattle.script_run.proofs.ReadLemmas.{grew_none, grew_then, read_none, read_then, too_many, all_answered}
+use Rattle.script_run.proofs.CauseLemmas.{cause_earlier, causes_earlier}
 use Rattle.script_run.proofs.GoesLemmas.{Running, running_none, running_more, running_stopped, running_failed, running_last, stays_later, stops_weaker, ends_later}
 use Rattle.script_run.proofs.CompleteLemmas.{completes_none, completes_more, completes_then, completes_stop, completes_ok, completes_long}
 use Rattle.script_run.proofs.run.run_script.Goals as goal
@@ -44,12 +42,12 @@ loop-total-preserved g c =
       suited = λ suits. o.along.suited (was.suited suits);
       learns = λ entry knows. o.along.learns entry (was.learns entry knows);
       further = further_then (at c.args.desk.now) (at c.loop-total.desk) (at t.new.desk) was.further t.ensures.along.beside;
-      bytes = grew_then (at c.args.desk.now).beside.script_bytes (at c.loop-total.desk).beside.script_bytes (at t.new.desk).beside.script_bytes c.loop-total.total c.in_ok-count.count was.bytes o.bytes;
-      read = read_then (at c.args.desk.now) (at c.loop-total.desk) (at t.new.desk) c.loop-total.total c.in_ok-count.count was.read o.read;
-      drew = let d = o.drew in omega (arith, was.drew, d);
+      bytes = grew_then (at c.args.desk.now).beside.script_bytes (at c.loop-total.desk).beside.script_bytes (at t.new.desk).beside.script_bytes c.loop-total.total c.in_ok-count.count was.bytes o.read.bytes;
+      read = read_then (at c.args.desk.now) (at c.loop-total.desk) (at t.new.desk) c.loop-total.total c.in_ok-count.count was.read o.read.read;
+      drew = let d = o.draws.drew in omega (arith, was.drew, d);
       completes = λ limits keeps.
-          completes_more (completes_then (was.completes limits keeps) was.further (λ now. completes_ok tt (o.completed limits now))) (omega arith);
-      few = let count = o.few in omega (arith, count, length-take c.min-most.result c.loop-total.piece, c.loop-total-test.true);
+          completes_more (completes_then (was.completes limits keeps) was.further (λ now. completes_ok tt (o.draws.completed limits now))) (omega arith);
+      few = let count = o.read.few in omega (arith, count, length-take c.min-most.result c.loop-total.piece, c.loop-total-test.true);
     }
 
 pub returns-clause-run : goal.returns-clause-run
@@ -68,12 +66,16 @@ returns-in_err-count-clause-run g c = λ limits state h holds source left.
     (λ s g' now rest more. stops_weaker k limits s _ rest c.loop-total.store t.new.store g' _ _ (at c.loop-total.desk) (at t.new.desk) _
     (λ a n. stays_later k limits t.new.store (at c.args.desk.now) (at c.loop-total.desk) (at t.new.desk) a n c.loop-total.invariant.further.writes) (c.in_err-count.ensures.takes limits s g' now rest more))))
 
-pub returns-in_err-count-clause-cause : goal.returns-in_err-count-clause-cause
-returns-in_err-count-clause-cause g c =
+pub returns-in_err-count-clause-ends : goal.returns-in_err-count-clause-ends
+returns-in_err-count-clause-ends g c =
     let at = g.D.Chip.told in
+    let failed = c.in_err-count.ensures.along in
     let stop = err_from_is_err_and c.from_residual.result c.from_residual.ensures.1 in
-    rw stop.1 (subst (λ (s : Stop). StopCause (g.S.Store.keeping g.places) (at c.args.desk.now) (at c.take_next.new.desk) s) (sym stop.2)
-    (cause_earlier (g.S.Store.keeping g.places) (at c.args.desk.now) (at c.loop-total.desk) (at c.take_next.new.desk) _ c.loop-total.invariant.further c.in_err-count.ensures.along.cause))
+    rw stop.1 (rw stop.2 (record {
+      cause = cause_earlier (g.S.Store.keeping g.places) (at c.args.desk.now) (at c.loop-total.desk) (at c.take_next.new.desk) _ c.loop-total.invariant.further failed.cause;
+      long = λ is. absurd (failed.never cc);
+      all = tt;
+    }))
 
 pub returns-then-count-eq0-clause-run : goal.returns-then-count-eq0-clause-run
 returns-then-count-eq0-clause-run g c = λ limits state h holds source left.
@@ -86,24 +88,33 @@ returns-then-count-eq0-clause-run g c = λ limits state h holds source left.
     (running_last k limits state source c.args.store.now c.loop-total.store t.new.store a.new.store h c.loop-total.line t.new.line (at c.args.desk.now) (at c.loop-total.desk) (at t.new.desk) (at a.new.desk) c.in_ok-count.count a.result
     (c.loop-total.invariant.running limits state h holds source left) (λ s g' now. c.in_ok-count.ensures.takes limits s g' now) c.if-count-eq0.true answers a.ensures.along.beside)
 
-pub returns-clause-long : goal.returns-clause-long
-returns-clause-long g c = λ x.
-    let old = g.D.Chip.told c.args.desk.now in
-    let new = g.D.Chip.told c.loop-total.desk in
-    let total : c.loop-total.total ≡ 4294967295 = omega (arith, c.loop-total.invariant.few, c.loop-total-test.false) in (
-      subst (λ (n : ℕ). HasRead n old new) total c.loop-total.invariant.read,
-      subst (λ (n : ℕ). Grew old.beside.script_bytes n new.beside.script_bytes) total c.loop-total.invariant.bytes,
-    )
+pub returns-clause-ends : goal.returns-clause-ends
+returns-clause-ends g c =
+    let was = c.loop-total.invariant in
+    let total : c.loop-total.total ≡ 4294967295 = omega (arith, was.few, c.loop-total-test.false) in record {
+      cause = omega (arith, was.bytes.at_least, total);
+      long = λ is. too_many (g.D.Chip.told c.args.desk.now) (g.D.Chip.told c.loop-total.desk) c.loop-total.total total was.bytes was.read;
+      all = tt;
+    }
 
 pub returns-then-count-eq0-clause-suited : goal.returns-then-count-eq0-clause-suited
 returns-then-count-eq0-clause-suited g c = on_ok_weaker c.answer_line.result
-    (λ suited. suited (c.in_ok-count.ensures.along.suited (c.loop-total.invariant.suited c.requires.1.1.1))) c.answer_line.ensures.along.suited
+    (λ suited. suited (c.in_ok-count.ensures.along.suited (c.loop-total.invariant.suited c.requires.1.1.suits))) c.answer_line.ensures.along.suited
 
-pub returns-then-count-eq0-clause-all : goal.returns-then-count-eq0-clause-all
-returns-then-count-eq0-clause-all g c =
+pub returns-then-count-eq0-clause-ends : goal.returns-then-count-eq0-clause-ends
+returns-then-count-eq0-clause-ends g c =
     let at = g.D.Chip.told in
-    all_answered c.answer_line.result (at c.args.desk.now) (at c.loop-total.desk) (at c.take_next.new.desk) (at c.answer_line.new.desk) c.loop-total.total c.loop-total.invariant.read
-    (c.in_ok-count.ensures.ended c.if-count-eq0.true) c.answer_line.ensures.along.beside
+    let k = g.S.Store.keeping g.places in
+    let old = at c.args.desk.now in
+    let mid = at c.take_next.new.desk in
+    let last = c.answer_line in
+    let new = at last.new.desk in
+    let took = c.in_ok-count.ensures in
+    let further = further_then old (at c.loop-total.desk) mid c.loop-total.invariant.further took.along.beside in record {
+      cause = causes_earlier k old mid new last.result further last.ensures.along.cause;
+      long = λ is. absurd (last.ensures.along.never is);
+      all = all_answered last.result old (at c.loop-total.desk) mid new c.loop-total.total c.loop-total.invariant.read (took.read.ended c.if-count-eq0.true) last.ensures.along.beside;
+    }
 
 pub returns-clause-completes : goal.returns-clause-completes
 returns-clause-completes g c = λ limits keeps. completes_long (c.loop-total.invariant.completes limits keeps) (omega (arith, c.loop-total.invariant.few))
@@ -117,7 +128,7 @@ returns-in_err-count-clause-completes g c = λ limits keeps.
 pub returns-then-count-eq0-clause-completes : goal.returns-then-count-eq0-clause-completes
 returns-then-count-eq0-clause-completes g c = λ limits keeps.
     let a = c.in_ok-count.ensures in
-    completes_more (completes_then (completes_then (c.loop-total.invariant.completes limits keeps) c.loop-total.invariant.further (λ now. completes_ok tt (a.completed limits now)))
+    completes_more (completes_then (completes_then (c.loop-total.invariant.completes limits keeps) c.loop-total.invariant.further (λ now. completes_ok tt (a.draws.completed limits now)))
     (further_then _ _ _ c.loop-total.invariant.further a.along.beside) (λ now. c.answer_line.ensures.completes limits now)) (omega (arith, c.loop-total-test.true, c.if-count-eq0.true))
 
 pub returns-clause-tidy : goal.returns-clause-tidy

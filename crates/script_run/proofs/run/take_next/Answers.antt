@@ -5,7 +5,7 @@ use Rattle.store_trait.specs.Keeping.{Stays}
 use Rattle.store_trait.proofs.OnwardLemmas.{still_beside}
 use Rattle.script_run.proofs.GoesLemmas.{holds_beside, took, stopped, stopped_at_once, stays_later}
 use Rattle.script_run.proofs.RunLemmas.{run_weaker}
-use Rattle.script_run.proofs.ReadLemmas.{further_read, further_failed, read_once, read_ended}
+use Rattle.script_run.proofs.ReadLemmas.{further_read, further_failed, piece_read}
 use Rattle.script_run.proofs.AlongLemmas.{along_more, along_later, along_stop, along_ok, along_unread}
 use Rattle.script_run.proofs.CompleteLemmas.{completes_more, completes_stop, completes_ok, completes_later, completes_unread}
 use Rattle.script_run.proofs.run.take_next.Goals as goal
@@ -65,13 +65,8 @@ pub returns-in_ok-take_piece-in-Ok-clause-read : goal.returns-in_ok-take_piece-i
 returns-in_ok-take_piece-in-Ok-clause-read g c =
     let at = g.D.Chip.told in
     let r = c.in-Ok.ensures in
-    read_once (at c.args.desk.now) (at c.read_script.new.self) (at c.take_piece.new.desk) c.in-Ok.count c.read_script.new.buf r.bytes.0 r.bytes.2 c.take_piece.ensures.along.beside
-
-pub returns-in_ok-take_piece-in-Ok-clause-ended : goal.returns-in_ok-take_piece-in-Ok-clause-ended
-returns-in_ok-take_piece-in-Ok-clause-ended g c = λ none.
-    let at = g.D.Chip.told in
-    let r = c.in-Ok.ensures in
-    read_ended (at c.args.desk.now) (at c.read_script.new.self) (at c.take_piece.new.desk) c.in-Ok.count c.read_script.new.buf r.bytes.0 r.bytes.2 c.take_piece.ensures.along.beside none
+    piece_read (at c.args.desk.now) (at c.read_script.new.self) (at c.take_piece.new.desk) _ c.in-Ok.count c.read_script.new.buf r.bytes.0 r.bytes.1 r.bytes.2 c.take_piece.ensures.along.beside
+    (omega (arith, r.bound))
 
 pub returns-in_err-take_piece-in-Ok-clause-completes : goal.returns-in_err-take_piece-in-Ok-clause-completes
 returns-in_err-take_piece-in-Ok-clause-completes g c = λ limits keeps.
@@ -83,10 +78,13 @@ returns-in_ok-take_piece-in-Ok-clause-completes g c = λ limits keeps.
     completes_ok c.in-Ok.count
     (completes_more (completes_later c.in-Ok.ensures.chip keeps (λ now. c.in_ok-take_piece-in-Ok.ensures.completes limits now)) (omega (arith, length-take c.in-Ok.count c.read_script.new.buf)))
 
-pub returns-in_ok-take_piece-in-Ok-clause-completed : goal.returns-in_ok-take_piece-in-Ok-clause-completed
-returns-in_ok-take_piece-in-Ok-clause-completed g c = λ limits keeps.
-    completes_ok c.in-Ok.count
-    (completes_more (completes_later c.in-Ok.ensures.chip keeps (λ now. c.in_ok-take_piece-in-Ok.ensures.completes limits now)) (omega (arith, length-take c.in-Ok.count c.read_script.new.buf)))
+pub returns-in_ok-take_piece-in-Ok-clause-draws : goal.returns-in_ok-take_piece-in-Ok-clause-draws
+returns-in_ok-take_piece-in-Ok-clause-draws g c = record {
+  drew = omega (arith, c.in_ok-take_piece-in-Ok.ensures.along.draws.most, length-take c.in-Ok.count c.read_script.new.buf);
+  completed = λ limits keeps.
+      completes_ok c.in-Ok.count
+      (completes_more (completes_later c.in-Ok.ensures.chip keeps (λ now. c.in_ok-take_piece-in-Ok.ensures.completes limits now)) (omega (arith, length-take c.in-Ok.count c.read_script.new.buf)));
+}
 
 pub returns-in-Err-clause-completes : goal.returns-in-Err-clause-completes
 returns-in-Err-clause-completes g c = λ limits keeps. completes_unread

@@ -40,40 +40,34 @@ loop-count-preserved g c =
       inside = omega (arith, there.0);
     }
 
-pub returns-in_err-end_line-clause-takes : goal.returns-in_err-end_line-clause-takes
-returns-in_err-end_line-clause-takes g c = λ limits state h holds.
+pub returns-in_err-end_line : goal.returns-in_err-end_line
+returns-in_err-end_line g c =
     let told_of = g.D.Chip.told in
-    let k = g.S.Store.keeping g.places in
-    let t = c.end_line in
-    let place = c.loop-count.at + c.in-Some.count in
-    let there = feed_at c.args.piece.now c.loop-count.at c.in-Some.count c.in-Some.ensures in
-    let stop = err_from_is_err_and c.from_residual.result c.from_residual.ensures.1 in
-    rw stop.1 (rw stop.2 (stops_in_piece k limits state c.args.line.now c.args.piece.now place c.args.store.now c.loop-count.store t.new.store h (Stays k limits t.new.store (told_of c.args.desk.now) (told_of t.new.desk))
-    c.extend.new.self (told_of c.args.desk.now) (told_of c.loop-count.desk) (told_of t.new.desk) _ there.0
-    (goes_before k limits state c.args.line.now c.args.piece.now c.loop-count.at c.in-Some.count c.args.store.now c.loop-count.store h c.loop-count.line c.extend.new.self (told_of c.args.desk.now) (told_of c.loop-count.desk)
-    c.in-Some.ensures c.extend.ensures (c.loop-count.invariant.goes limits state h holds))
-    (λ s g' now tail. rw there.1 (run_weaker k limits s _ c.loop-count.store t.new.store g' _ _ (told_of c.loop-count.desk) (told_of t.new.desk) _
-    (λ a n. stays_later k limits t.new.store (told_of c.args.desk.now) (told_of c.loop-count.desk) (told_of t.new.desk) a n c.loop-count.invariant.along.beside.writes) (c.in_err-end_line.ensures.takes limits s g' now tail)))))
+    let there = feed_at c.args.piece.now c.loop-count.at c.in-Some.count c.in-Some.ensures in record {
+      takes = λ limits state h holds.
+          let k = g.S.Store.keeping g.places in
+          let t = c.end_line in
+          let place = c.loop-count.at + c.in-Some.count in
+          let stop = err_from_is_err_and c.from_residual.result c.from_residual.ensures.1 in
+          rw stop.1 (rw stop.2 (stops_in_piece k limits state c.args.line.now c.args.piece.now place c.args.store.now c.loop-count.store t.new.store h (Stays k limits t.new.store (told_of c.args.desk.now) (told_of t.new.desk))
+          c.extend.new.self (told_of c.args.desk.now) (told_of c.loop-count.desk) (told_of t.new.desk) _ there.0
+          (goes_before k limits state c.args.line.now c.args.piece.now c.loop-count.at c.in-Some.count c.args.store.now c.loop-count.store h c.loop-count.line c.extend.new.self (told_of c.args.desk.now) (told_of c.loop-count.desk)
+          c.in-Some.ensures c.extend.ensures (c.loop-count.invariant.goes limits state h holds))
+          (λ s g' now tail. rw there.1 (run_weaker k limits s _ c.loop-count.store t.new.store g' _ _ (told_of c.loop-count.desk) (told_of t.new.desk) _
+          (λ a n. stays_later k limits t.new.store (told_of c.args.desk.now) (told_of c.loop-count.desk) (told_of t.new.desk) a n c.loop-count.invariant.along.beside.writes) (c.in_err-end_line.ensures.takes limits s g' now tail)))));
+      along = along_more (along_then c.loop-count.invariant.along (along_stop c.from_residual.result c.from_residual.ensures.1 c.in_err-end_line.ensures.along)) (omega (arith, there.0));
+      completes = λ limits keeps.
+          completes_more (completes_then (c.loop-count.invariant.completes limits keeps) (further_onward _ _ c.loop-count.invariant.along.beside)
+          (λ now. completes_stop c.from_residual.result c.from_residual.ensures.1 (c.in_err-end_line.ensures.completes limits now))) (omega (arith, there.0));
+    }
 
-pub returns-in_err-end_line-clause-along : goal.returns-in_err-end_line-clause-along
-returns-in_err-end_line-clause-along g c =
-    let there = feed_at c.args.piece.now c.loop-count.at c.in-Some.count c.in-Some.ensures in
-    along_more (along_then c.loop-count.invariant.along (along_stop c.from_residual.result c.from_residual.ensures.1 c.in_err-end_line.ensures.along)) (omega (arith, there.0))
-
-pub returns-in_err-end_line-clause-completes : goal.returns-in_err-end_line-clause-completes
-returns-in_err-end_line-clause-completes g c = λ limits keeps.
-    let there = feed_at c.args.piece.now c.loop-count.at c.in-Some.count c.in-Some.ensures in
-    completes_more (completes_then (c.loop-count.invariant.completes limits keeps) (further_onward _ _ c.loop-count.invariant.along.beside)
-    (λ now. completes_stop c.from_residual.result c.from_residual.ensures.1 (c.in_err-end_line.ensures.completes limits now))) (omega (arith, there.0))
-
-pub returns-clause-takes : goal.returns-clause-takes
-returns-clause-takes g c = λ limits state h holds.
-    let told_of = g.D.Chip.told in
-    goes_behind (g.S.Store.keeping g.places) limits state c.args.line.now c.args.piece.now c.loop-count.at c.args.store.now c.loop-count.store h c.loop-count.line c.extend-2.new.self (told_of c.args.desk.now) (told_of c.loop-count.desk)
-    (λ n is. c.in_default.not-Some n (c.line_feed.ensures ∙ is)) c.extend-2.ensures (c.loop-count.invariant.goes limits state h holds)
-
-pub returns-clause-along : goal.returns-clause-along
-returns-clause-along g c = along_more c.loop-count.invariant.along (omega (arith, c.loop-count.invariant.inside))
-
-pub returns-clause-completes : goal.returns-clause-completes
-returns-clause-completes g c = λ limits keeps. completes_more (c.loop-count.invariant.completes limits keeps) (omega (arith, c.loop-count.invariant.inside))
+pub returns : goal.returns
+returns g c =
+    let was = c.loop-count.invariant in record {
+      takes = λ limits state h holds.
+          let told_of = g.D.Chip.told in
+          goes_behind (g.S.Store.keeping g.places) limits state c.args.line.now c.args.piece.now c.loop-count.at c.args.store.now c.loop-count.store h c.loop-count.line c.extend-2.new.self (told_of c.args.desk.now) (told_of c.loop-count.desk)
+          (λ n is. c.in_default.not-Some n (c.line_feed.ensures ∙ is)) c.extend-2.ensures (was.goes limits state h holds);
+      along = along_more was.along (omega (arith, was.inside));
+      completes = λ limits keeps. completes_more (was.completes limits keeps) (omega (arith, was.inside));
+    }

@@ -61,12 +61,11 @@ back_is t p d taken then is =
     is ∙ (ap (λ (e : Places). with_use e p false) taken.places_is
     ∙ given_back (set_aside t taken.worn).places p taken.next.within taken.next.free)
 
-pub take_place-requires-clause-places : goal.take_place-requires-clause-places
-take_place-requires-clause-places g c = c.requires.known.suits.all
-
-pub take_place-requires-clause-ready : goal.take_place-requires-clause-ready
-take_place-requires-clause-ready g c =
-    c.known_laws.ensures.ready _ (tables_of c.args.parts.now) c.requires.known
+pub take_place-requires : goal.take_place-requires
+take_place-requires g c = record {
+  places = c.requires.known.suits.all;
+  ready = c.known_laws.ensures.ready _ (tables_of c.args.parts.now) c.requires.known;
+}
 
 -- the place that was taken isn't where the unit stands
 home_apart : (places : ℕ) (t : Tables) (u place p : ℕ) → KnowsPlaces places t

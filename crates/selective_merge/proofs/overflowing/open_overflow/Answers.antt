@@ -23,12 +23,11 @@ use Rattle.selective_merge.proofs.TakenLemmas.{aside_mirrors, has_counts, steps_
 use Rattle.selective_merge.proofs.TidyLemmas.{opens_tidily, gives_back_tidily, untaken_tidily}
 use Rattle.selective_merge.proofs.overflowing.open_overflow.Goals as goal
 
-pub take_place-requires-clause-places : goal.take_place-requires-clause-places
-take_place-requires-clause-places g c = c.requires.known.suits.all
-
-pub take_place-requires-clause-ready : goal.take_place-requires-clause-ready
-take_place-requires-clause-ready g c =
-    c.known_laws.ensures.ready _ (tables_of c.args.parts.now) c.requires.known
+pub take_place-requires : goal.take_place-requires
+take_place-requires g c = record {
+  places = c.requires.known.suits.all;
+  ready = c.known_laws.ensures.ready _ (tables_of c.args.parts.now) c.requires.known;
+}
 
 pub write_overflow-requires : goal.write_overflow-requires
 write_overflow-requires g c =

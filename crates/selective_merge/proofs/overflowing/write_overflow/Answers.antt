@@ -51,7 +51,7 @@ returns-clause-tells g c =
 pub returns-clause-costs : goal.returns-clause-costs
 returns-clause-costs g c =
     subst (λ (w : Head). Spends (ProgramsAt c.args.place 1 2 w.kind) (g.C.Chip.told c.args.chip.now)
-    (g.C.Chip.told c.seal.new.chip)) c.written-head.ensures c.seal.ensures.costs
+    (g.C.Chip.told c.seal.new.chip)) c.written-head.ensures c.seal.ensures.writes.costs
 
 pub returns-clause-tidy : goal.returns-clause-tidy
-returns-clause-tidy g c = c.seal.ensures.tidy
+returns-clause-tidy g c = c.seal.ensures.writes.tidy

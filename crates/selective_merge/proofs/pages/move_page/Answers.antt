@@ -32,7 +32,7 @@ returns-in_err-read_page-clause-moves g c =
     rw e.1 (page_unread old.places from c.args.place c.args.head.now.generation c.args.page e.0
     old new (page_asked_at {T = Unit {0}} from.place c.args.page c.from-count.result
     (Err c.in_err-read_page.field-0.0) old new
-    c.in_err-read_page.ensures.asks c.in_err-read_page.ensures.accounts.counts))
+    c.in_err-read_page.ensures.reads.asks c.in_err-read_page.ensures.reads.accounts.counts))
 
 pub returns-clause-moves : goal.returns-clause-moves
 returns-clause-moves g c =
@@ -40,14 +40,14 @@ returns-clause-moves g c =
     let mid = g.C.Chip.told c.read_page.new.chip in
     let late = g.C.Chip.told c.program_page.new.chip in
     let from = from_home c.args.home.now c.args.status.now.numbers c.args.log.now in
-    let read = c.in_ok-read_page.ensures in
+    let read = c.in_ok-read_page.ensures.reads in
     page_moves old.places from c.args.place c.args.head.now.generation c.args.page
     c.read_page.new.into c.make_anew.new.slots c.if-not-make_anew.ensures.page
     c.if-not-make_anew.ensures.rebased old mid late
     (page_asked_at {T = Unit {0}} from.place c.args.page c.from-count.result (Ok tt) old mid read.asks
-    read.accounts.counts) _ c.from-count.ensures c.args.head.now.unit c.requires.unit read.page
+    read.accounts.counts) _ c.from-count.ensures c.args.head.now.unit c.requires.unit read.holds
     c.program_page.result c.program_page.ensures.keeps
-    read.accounts.counts.places c.program_page.ensures.accounts.cause
+    read.accounts.counts.places c.program_page.ensures.writes.accounts.cause
 
 pub returns-clause-tells : goal.returns-clause-tells
 returns-clause-tells g c =
@@ -55,13 +55,13 @@ returns-clause-tells g c =
     let mid = g.C.Chip.told c.read_page.new.chip in
     let late = g.C.Chip.told c.program_page.new.chip in
     let from = from_home c.args.home.now c.args.status.now.numbers c.args.log.now in
-    let read = c.in_ok-read_page.ensures in
+    let read = c.in_ok-read_page.ensures.reads in
     page_tells old.places from c.args.place c.args.head.now.generation c.args.page
     c.read_page.new.into c.make_anew.new.slots c.if-not-make_anew.ensures.page
     c.if-not-make_anew.ensures.rebased old mid late
     (page_asked_at {T = Unit {0}} from.place c.args.page c.from-count.result (Ok tt) old mid read.asks
-    read.accounts.counts) _ c.from-count.ensures c.args.head.now.unit c.requires.unit read.page
-    c.program_page.result c.program_page.ensures.tells c.program_page.ensures.accounts.cause
+    read.accounts.counts) _ c.from-count.ensures c.args.head.now.unit c.requires.unit read.holds
+    c.program_page.result c.program_page.ensures.adds.tells c.program_page.ensures.writes.accounts.cause
 
 pub returns-in_err-read_page-clause-fault : goal.returns-in_err-read_page-clause-fault
 returns-in_err-read_page-clause-fault g c = λ x told.
@@ -69,7 +69,7 @@ returns-in_err-read_page-clause-fault g c = λ x told.
     let e = err_from_is_err_and c.from_residual.result c.from_residual.ensures.1 in
     rw e.1 (fault_as _ e.0 c.in_err-read_page.field-0.0 e.2
     (page_told x from c.args.page c.from-count.result c.in_err-read_page.field-0.0
-    c.from-count.ensures (c.in_err-read_page.ensures.exact x told)))
+    c.from-count.ensures (c.in_err-read_page.ensures.reads.exact x told)))
 
 pub returns-clause-fault : goal.returns-clause-fault
 returns-clause-fault g c = λ x told.
@@ -77,10 +77,10 @@ returns-clause-fault g c = λ x told.
     tells_written (page_fault_from x from c.args.page) (g.C.Chip.told c.read_page.new.chip)
     (g.C.Chip.told c.program_page.new.chip) c.program_page.result
     (page_fine x from c.args.page c.from-count.result c.read_page.new.into c.from-count.ensures
-    (c.in_ok-read_page.ensures.page x told)
+    (c.in_ok-read_page.ensures.reads.holds x told)
     (rebased_fits from.committed from.records c.args.page c.read_page.new.into c.make_anew.new.slots
     c.if-not-make_anew.ensures.rebased c.if-not-make_anew.ensures.page))
-    c.program_page.ensures.accounts.cause
+    c.program_page.ensures.writes.accounts.cause
 
 -- ---- no room
 
@@ -89,7 +89,7 @@ returns-then-not-make_anew-clause-moves g c =
     let old = g.C.Chip.told c.args.chip.now in
     let new = g.C.Chip.told c.read_page.new.chip in
     let from = from_home c.args.home.now c.args.status.now.numbers c.args.log.now in
-    let read = c.in_ok-read_page.ensures in
+    let read = c.in_ok-read_page.ensures.reads in
     page_unread old.places from c.args.place c.args.head.now.generation c.args.page
     (Malformed from.place 0) old new (page_asked_at {T = Unit {0}} from.place c.args.page
     c.from-count.result (Ok tt) old new read.asks read.accounts.counts)
@@ -98,7 +98,7 @@ pub returns-then-not-make_anew-clause-tells : goal.returns-then-not-make_anew-cl
 returns-then-not-make_anew-clause-tells g c =
     let old = g.C.Chip.told c.args.chip.now in
     let new = g.C.Chip.told c.read_page.new.chip in
-    let read = c.in_ok-read_page.ensures in
+    let read = c.in_ok-read_page.ensures.reads in
     λ soft x told. (
       x,
       (page_asked_at {T = Unit {0}} c.args.home.now.place c.args.page c.from-count.result (Ok tt)
@@ -110,7 +110,7 @@ pub returns-then-not-make_anew-clause-fault : goal.returns-then-not-make_anew-cl
 returns-then-not-make_anew-clause-fault g c = λ x told alone.
     page_full x (from_home c.args.home.now c.args.status.now.numbers c.args.log.now) c.args.page
     c.from-count.result c.read_page.new.into c.from-count.ensures
-    (c.in_ok-read_page.ensures.page x told) c.if-not-make_anew.ensures.full
+    (c.in_ok-read_page.ensures.reads.holds x told) c.if-not-make_anew.ensures.full
 
 -- ---- what is spent
 
@@ -131,7 +131,7 @@ returns-in_err-read_page-clause-spends g c =
     let new = g.C.Chip.told c.read_page.new.chip in
     let home = c.args.home.now.place in
     let fault = c.in_err-read_page.field-0.0 in
-    let unread = c.in_err-read_page.ensures in
+    let unread = c.in_err-read_page.ensures.reads in
     let e = err_from_is_err_and c.from_residual.result c.from_residual.ensures.1 in
     rw (e.1 ∙ ap Err e.2) (unmoved _ home c.args.place c.args.page fault old new
     (page_asked_at {T = Unit {0}} home c.args.page c.from-count.result (Err fault) old new unread.asks
@@ -143,7 +143,7 @@ returns-then-not-make_anew-clause-spends g c =
     let old = g.C.Chip.told c.args.chip.now in
     let new = g.C.Chip.told c.read_page.new.chip in
     let home = c.args.home.now.place in
-    let read = c.in_ok-read_page.ensures in
+    let read = c.in_ok-read_page.ensures.reads in
     unmoved _ home c.args.place c.args.page (Malformed home 0) old new
     (page_asked_at {T = Unit {0}} home c.args.page c.from-count.result (Ok tt) old new read.asks
     read.accounts.counts) (refl, inr refl)
@@ -155,16 +155,16 @@ returns-clause-spends g c =
     let new = g.C.Chip.told c.program_page.new.chip in
     let home = c.args.home.now.place in
     let p = c.args.place in
-    let read = c.in_ok-read_page.ensures in
+    let read = c.in_ok-read_page.ensures.reads in
     let wrote = c.program_page.ensures in
     let reads = page_asked_at {T = Unit {0}} home c.args.page c.from-count.result (Ok tt) old mid read.asks
     read.accounts.counts in record {
       spares = spares_behind p old mid new c.program_page.result (spares_none p old mid reads.contents)
-          wrote.spares;
-      costs = programs_behind _ p 16 4 old mid new reads wrote.costs;
-      tidy = tidy_behind _ p (IsPieceSpot c.args.page 16) _ old mid new reads wrote.tidy;
+          wrote.adds.spares;
+      costs = programs_behind _ p 16 4 old mid new reads wrote.writes.costs;
+      tidy = tidy_behind _ p (IsPieceSpot c.args.page 16) _ old mid new reads wrote.writes.tidy;
       accounts = record {
-        counts = counts_then old mid new read.accounts.counts wrote.accounts.counts;
-        cause = stopped_unmoved home c.program_page.result old mid new read.accounts.counts wrote.accounts.cause;
+        counts = counts_then old mid new read.accounts.counts wrote.writes.accounts.counts;
+        cause = stopped_unmoved home c.program_page.result old mid new read.accounts.counts wrote.writes.accounts.cause;
       };
     }

@@ -30,7 +30,7 @@ pub returns-clause-spends : goal.returns-clause-spends
 returns-clause-spends g c = record {
   spares = c.seal.ensures.spares;
   costs = subst (λ (kind : ℕ). Spends (ProgramsAt c.args.place 1 2 kind) (g.C.Chip.told c.args.chip.now)
-      (g.C.Chip.told c.seal.new.chip)) c.requires.kind c.seal.ensures.costs;
-  tidy = c.seal.ensures.tidy;
-  accounts = c.seal.ensures.accounts;
+      (g.C.Chip.told c.seal.new.chip)) c.requires.kind c.seal.ensures.writes.costs;
+  tidy = c.seal.ensures.writes.tidy;
+  accounts = c.seal.ensures.writes.accounts;
 }

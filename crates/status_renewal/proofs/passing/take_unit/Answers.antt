@@ -13,11 +13,11 @@ use Rattle.selective_merge.specs.Throughout.{ChartsThroughout}
 use Rattle.place_taking.specs.Spending.{tells_worn}
 use Rattle.step_laws.specs.Steps.{RestsAgreeing}
 use Rattle.unit_log.specs.Kept.{records_kept}
-use Rattle.kept_numbers.specs.Joins.{joined}
+use Rattle.restart.specs.Joins.{joined}
 use Rattle.status_renewal.specs.Passes.{HasPassed, PassEnds}
 use Rattle.status_renewal.proofs.CauseLemmas.{read_cause, read_not_worn, merge_accounts, accounts_then}
 use Rattle.status_renewal.proofs.CostLemmas.{reads_erase, place_erases, reads_then_erase}
-use Rattle.kept_numbers.proofs.JoinLemmas.{too_many}
+use Rattle.restart.proofs.JoinLemmas.{too_many}
 use Rattle.status_renewal.proofs.PassLemmas.{passed_read, passed_joined, merge_ends, stopped_from}
 use Rattle.status_renewal.proofs.UnitLemmas.{records_are_logged}
 use Rattle.status_renewal.proofs.PreserveLemmas.{reads_preserve, steps_preserve, read_then}

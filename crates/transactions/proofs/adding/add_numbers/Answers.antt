@@ -1,9 +1,7 @@
-use Rattle.std.proofs.Common.{Ok, Err, is_ok, arith}
+use Rattle.std.proofs.Common.{refl, arith}
 use Rattle.std.proofs.lemmas.Result.{err_from_is_err_and}
-use Rattle.unit_io.proofs.CostLemmas.{spends_barred, spends_at_then, spends_at_most}
-use Rattle.unit_io.specs.Spots.{IsSpot}
-use Rattle.unit_io.proofs.TidyLemmas.{tidy_halted, tidy_waits_then}
 use Rattle.store_laws.proofs.NumberLemmas.{header_stays, numbers_add, numbers_in_steps, no_numbers_in_steps}
+use Rattle.transactions.proofs.AddingLemmas.{added_so, written_behind, written_nothing}
 use Rattle.transactions.proofs.adding.add_numbers.Goals as goal
 
 pub returns-in_err-barrier-clause-steps : goal.returns-in_err-barrier-clause-steps
@@ -15,14 +13,6 @@ returns-in_err-barrier-clause-steps g c =
     rw e.1
     (no_numbers_in_steps old.places c.args.status.now c.args.counter.now c.args.tids.now
     c.in_err-barrier.field-0.0 old new says.did says.accounts.cause)
-
-pub returns-in_err-barrier-clause-costs : goal.returns-in_err-barrier-clause-costs
-returns-in_err-barrier-clause-costs g c =
-    let old = g.C.Chip.told c.args.chip.now in
-    let new = g.C.Chip.told c.barrier.new.chip in
-    let place = c.args.status.now.place in
-    spends_at_most place 0 1 1 2 6 old new (omega arith) (omega arith)
-    (spends_barred place 6 old new (Err c.in_err-barrier.field-0.0) c.in_err-barrier.ensures.did)
 
 pub returns-clause-adds : goal.returns-clause-adds
 returns-clause-adds g c =
@@ -48,24 +38,28 @@ returns-clause-steps g c =
     c.add.result old mid (g.C.Chip.told c.add.new.chip) waited.accounts.counts.places
     waited.accounts.counts waited.did c.add.ensures.steps
 
-pub returns-clause-costs : goal.returns-clause-costs
-returns-clause-costs g c =
-    let old = g.C.Chip.told c.args.chip.now in
-    let mid = g.C.Chip.told c.barrier.new.chip in
-    let place = c.args.status.now.place in
-    spends_at_then place 0 1 1 1 6 old mid (g.C.Chip.told c.add.new.chip)
-    (spends_barred place 6 old mid (Ok tt) c.in_ok-barrier.ensures.did) c.add.ensures.writes.costs
-
-pub returns-in_err-barrier-clause-tidy : goal.returns-in_err-barrier-clause-tidy
-returns-in_err-barrier-clause-tidy g c =
-    let status = c.args.status.now in
+pub returns-in_err-barrier-clause-added : goal.returns-in_err-barrier-clause-added
+returns-in_err-barrier-clause-added g c =
     let e = err_from_is_err_and c.from_residual.result c.from_residual.ensures.1 in
-    rw e.1 (tidy_halted status.place (IsSpot status.first) e.0 (g.C.Chip.told c.args.chip.now)
-    (g.C.Chip.told c.barrier.new.chip) c.in_err-barrier.ensures.did)
+    rw e.1 (record { added = tt; same = refl; drawn = tt; draws = (omega arith, omega arith) })
 
-pub returns-clause-tidy : goal.returns-clause-tidy
-returns-clause-tidy g c =
+pub returns-clause-added : goal.returns-clause-added
+returns-clause-added g c =
+    added_so c.args.tids.now c.add.result c.args.status.now c.add.new.self c.args.counter.now
+    c.add.new.counter c.add.ensures.added
+
+pub returns-in_err-barrier-clause-writes : goal.returns-in_err-barrier-clause-writes
+returns-in_err-barrier-clause-writes g c =
     let status = c.args.status.now in
-    tidy_waits_then status.place (IsSpot status.first) (is_ok c.add.result)
-    (g.C.Chip.told c.args.chip.now) (g.C.Chip.told c.barrier.new.chip)
-    (g.C.Chip.told c.add.new.chip) c.in_ok-barrier.ensures.did c.add.ensures.writes.tidy
+    let says = c.in_err-barrier.ensures in
+    let e = err_from_is_err_and c.from_residual.result c.from_residual.ensures.1 in
+    rw (e.1, e.2) (written_nothing status.place status.first c.in_err-barrier.field-0.0
+    (g.C.Chip.told c.args.chip.now) (g.C.Chip.told c.barrier.new.chip) says.did says.accounts)
+
+pub returns-clause-writes : goal.returns-clause-writes
+returns-clause-writes g c =
+    let status = c.args.status.now in
+    let waited = c.in_ok-barrier.ensures in
+    written_behind status.place status.first c.add.result (g.C.Chip.told c.args.chip.now)
+    (g.C.Chip.told c.barrier.new.chip) (g.C.Chip.told c.add.new.chip) waited.accounts.counts waited.did
+    c.add.ensures.writes

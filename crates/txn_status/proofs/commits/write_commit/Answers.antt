@@ -3,7 +3,7 @@ use Rattle.ipl_format.specs.Sector.{Sector}
 use Rattle.sector_format.specs.Decode.{sector_of}
 use Rattle.txn_status.specs.Commits.{commit_sector}
 use Rattle.txn_status.proofs.PartLemmas.{same_sector}
-use Rattle.txn_status.specs.Writing.{LeadsCommit}
+use Rattle.unit_io.specs.Writing.{LeadsCommit}
 use Rattle.txn_status.proofs.commits.write_commit.Goals as goal
 
 pub returns-clause-leads : goal.returns-clause-leads

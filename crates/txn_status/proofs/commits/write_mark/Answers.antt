@@ -2,7 +2,7 @@ use Rattle.std.proofs.Common.{OnOk, subst}
 use Rattle.ipl_format.specs.Sector.{Sector}
 use Rattle.unit_io.specs.Costs.{Spends}
 use Rattle.unit_io.specs.Spots.{AddsSector}
-use Rattle.txn_status.specs.Writing.{LeadsMark}
+use Rattle.unit_io.specs.Writing.{LeadsMark}
 use Rattle.txn_status.proofs.MarkingLemmas.{same_mark}
 use Rattle.txn_status.proofs.commits.write_mark.Goals as goal
 

@@ -7,7 +7,8 @@ use Rattle.ipl_format.specs.Sector.{Sector}
 use Rattle.unit_io.specs.Charts.{Charts, Gains}
 use Rattle.txn_status.specs.Commits.{commit_sector, part_of}
 use Rattle.txn_status.specs.Status.{parts_of}
-use Rattle.txn_status.specs.Writing.{LeadsPart, KeepsParts}
+use Rattle.unit_io.specs.Writing.{LeadsAside}
+use Rattle.txn_status.specs.Writing.{KeepsParts}
 use Rattle.txn_status.proofs.KeptLemmas.{keeps_none, keeps_more, keeps_failed, told_none, told_more}
 use Rattle.unit_io.specs.Costs.{ProgramsAt}
 use Rattle.unit_io.proofs.CostLemmas.{spends_none, spends_at_then, spends_at_most, nothing_at}
@@ -25,10 +26,10 @@ next_part generation a b xs ys same also_same =
 -- what its call says, of a chip with as many places as at first
 next_leads : (q places p s : ℕ) (own sector : Sector) (mid new : Told)
     (result : Result (Unit {0}) ChipFault) → q ≡ places → own ≡ sector
-    → LeadsPart q p s own mid result new → LeadsPart places p s sector mid result new
+    → LeadsAside q p s own mid result new → LeadsAside places p s sector mid result new
 next_leads q places p s own sector mid new result at same says =
-    subst (λ (z : Sector). LeadsPart places p s z mid result new) same
-    (subst (λ (n : ℕ). LeadsPart n p s own mid result new) at says)
+    subst (λ (z : Sector). LeadsAside places p s z mid result new) same
+    (subst (λ (n : ℕ). LeadsAside n p s own mid result new) at says)
 
 pub loop-i-init : goal.loop-i-init
 loop-i-init g c =

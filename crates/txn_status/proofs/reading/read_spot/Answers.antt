@@ -18,8 +18,8 @@ returns-in_err-found-clause-looks g c =
     let new = g.C.Chip.told c.read_noted.new.chip in
     let e = err_from_is_err_and c.from_residual.result c.from_residual.ensures.1 in
     rw (e.1 ∙ ap Err e.2) (looks_asked place s c.read_noted.result (Err c.in_err-found.field-0.0) old new
-    c.read_noted.ensures.asks c.read_noted.ensures.accounts.counts
-    (read_failed (IsAt place s) c.in_err-found.field-0.0 old new c.in_err-found.ensures.accounts.cause))
+    c.read_noted.ensures.reads.asks c.read_noted.ensures.reads.accounts.counts
+    (read_failed (IsAt place s) c.in_err-found.field-0.0 old new c.in_err-found.ensures.reads.accounts.cause))
 
 pub returns-in_err-greatest-clause-looks : goal.returns-in_err-greatest-clause-looks
 returns-in_err-greatest-clause-looks g c =
@@ -29,14 +29,14 @@ returns-in_err-greatest-clause-looks g c =
     c.from_residual-in_err-greatest.ensures.1 in
     rw (e.1 ∙ ap Err (e.2 ∙ c.in_err-greatest.ensures.cause))
     (looks_asked place s c.read_noted.result (Err (Malformed place s)) (g.C.Chip.told c.args.chip.now)
-    (g.C.Chip.told c.read_noted.new.chip) c.read_noted.ensures.asks
-    c.read_noted.ensures.accounts.counts (refl, refl))
+    (g.C.Chip.told c.read_noted.new.chip) c.read_noted.ensures.reads.asks
+    c.read_noted.ensures.reads.accounts.counts (refl, refl))
 
 pub returns-clause-looks : goal.returns-clause-looks
 returns-clause-looks g c =
     looks_asked c.args.spot.place c.args.spot.sector c.read_noted.result
     (Ok c.in_ok-greatest.greatest) (g.C.Chip.told c.args.chip.now) (g.C.Chip.told c.read_noted.new.chip)
-    c.read_noted.ensures.asks c.read_noted.ensures.accounts.counts tt
+    c.read_noted.ensures.reads.asks c.read_noted.ensures.reads.accounts.counts tt
 
 pub returns-clause-takes : goal.returns-clause-takes
 returns-clause-takes g c = λ x told.
@@ -44,7 +44,7 @@ returns-clause-takes g c = λ x told.
     c.take_found.new.numbers.list c.args.mark.now c.take_found.new.mark)
     (noted_found (chart_of x) c.args.spot.place c.args.generation c.args.spot.sector
     (sector_named c.read_noted.new.into c.in_ok-found.found) c.requires.first
-    (c.in_ok-found.ensures.exact x told)) c.in_ok-greatest.ensures.takes
+    (c.in_ok-found.ensures.reads.exact x told)) c.in_ok-greatest.ensures.takes
 
 pub returns-clause-whole : goal.returns-clause-whole
 returns-clause-whole g c = λ x told.

@@ -5,7 +5,7 @@ use Rattle.unit_io.specs.Spots.{Programs, IsSpot}
 use Rattle.unit_io.specs.Charts.{Gains}
 use Rattle.unit_io.proofs.LeadsLemmas.{leads_sound, leads_weaker, count_nothing, nothing_is_unused}
 use Rattle.unit_io.proofs.SealLemmas.{added_gains}
-use Rattle.unit_io.proofs.CostLemmas.{spends_of_kind}
+use Rattle.unit_io.proofs.WritingLemmas.{only_of_kind}
 use Rattle.unit_io.proofs.commits.add_commit.Goals as goal
 
 pub returns-clause-leads : goal.returns-clause-leads
@@ -21,5 +21,6 @@ returns-clause-leads g c = λ m n h steady rests closed fresh stands worn no_mor
     (c.add_sector.ensures.leads count_nothing m n h steady rests closed fresh stands worn
     (λ _ bytes says. programs_keep_marks _ m h p s bytes _ rests closed fresh says worn no_more)))
 
-pub returns-clause-costs : goal.returns-clause-costs
-returns-clause-costs g c = spends_of_kind c.args.spot.place 1 1 _ 6 _ _ c.requires.kind c.add_sector.ensures.costs
+pub returns-clause-writes : goal.returns-clause-writes
+returns-clause-writes g c =
+    only_of_kind c.args.spot.place 1 1 _ 6 (IsSpot c.args.spot.sector) _ _ _ c.requires.kind c.add_sector.ensures.writes

@@ -23,17 +23,16 @@ overflow_add-result g c =
     omega arith
 
 pub returns-clause-text : goal.returns-clause-text
-returns-clause-text g c = λ x told.
-    let short : c.in_ok-used.used ≤ 480 = c.in_ok-used.ensures.fits c.read.new.into c.decode_by-answer.ensures.decoded in
-    text_put (c.args.piece * 480) c.in_ok-used.used (480 * c.args.piece) c.args.text.now.bytes (take c.in_ok-used.used (drop 32 c.read.new.into)) _ c.put_piece.new.text.bytes _
-    c.put_piece.ensures.bytes (omega (arith, c.put_piece.ensures.size)) (used_is c.read.new.into c.in_ok-used.used c.read.array_long short) (omega arith)
-    (rw c.base_sector.ensures.sector at (payload_is c.read.new.into _ c.decode_by-answer.result c.in_ok-used.used (c.in_ok-read.ensures.bytes x told) c.decode_by-answer.ensures.sector
-    (c.in_ok-used.ensures.payload c.read.new.into)))
-
-pub returns-clause-within : goal.returns-clause-within
-returns-clause-within g c =
-    let short : c.in_ok-used.used ≤ 480 = c.in_ok-used.ensures.fits c.read.new.into c.decode_by-answer.ensures.decoded in
-    omega arith
+returns-clause-text g c =
+    let short : c.in_ok-used.used ≤ 480 = c.in_ok-used.ensures.fits c.read.new.into c.decode_by-answer.ensures.decoded in record {
+      text = λ x told.
+          text_put (c.args.piece * 480) c.in_ok-used.used (480 * c.args.piece) c.args.text.now.bytes (take c.in_ok-used.used (drop 32 c.read.new.into)) _ c.put_piece.new.text.bytes _
+          c.put_piece.ensures.bytes (omega (arith, c.put_piece.ensures.size)) (used_is c.read.new.into c.in_ok-used.used c.read.array_long short) (omega arith)
+          (rw c.base_sector.ensures.sector at (payload_is c.read.new.into _ c.decode_by-answer.result c.in_ok-used.used (c.in_ok-read.ensures.bytes x told) c.decode_by-answer.ensures.sector
+          (c.in_ok-used.ensures.payload c.read.new.into)));
+      within = omega arith;
+      empty = c.put_piece.ensures.empty;
+    }
 
 pub returns-clause-tails : goal.returns-clause-tails
 returns-clause-tails g c = λ before.

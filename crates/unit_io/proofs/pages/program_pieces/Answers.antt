@@ -1,15 +1,16 @@
-use Rattle.std.proofs.Common.{◌≡◌, ◌<◌, ◌≤◌, ◌+◌, ℕ, Ok, Err, refl, subst, arith}
+use Rattle.std.proofs.Common.{◌≡◌, ◌<◌, ◌≤◌, ◌+◌, ℕ, Ok, Err, refl, subst, ap, ◌∙◌, arith}
 use Rattle.std.proofs.lemmas.Result.{err_from_is_err_and}
 use Rattle.unit_io.proofs.PageLemmas.{piled_none, piled_more, piled_fails, piled_all, charts_none, charts_more, IsOpenFor, PieceSays, Piled}
 use Rattle.chip_trait.proofs.CountsLemmas.{counts_none, counts_then}
 use Rattle.unit_io.proofs.PlainLemmas.{plain_none, plain_then}
 use Rattle.unit_io.specs.Costs.{ProgramsAt}
-use Rattle.unit_io.proofs.CostLemmas.{spends_none, spends_weaker, nothing_at, programs_at_most, one_piece_more}
+use Rattle.unit_io.proofs.CostLemmas.{spends_none, spends_at_most, nothing_at, one_piece_more}
 use Rattle.unit_io.proofs.SparesLemmas.{spares_none, spares_then}
 use Rattle.std.proofs.Common.{true, false}
 use Rattle.unit_io.specs.Spots.{Programs, IsPieceSpot}
 use Rattle.unit_io.proofs.SpotLemmas.{programs_none}
 use Rattle.unit_io.proofs.TidyLemmas.{tidy_piece_more, tidy_pieces}
+use Rattle.unit_io.proofs.UnreadLemmas.{unread_none, unread_then}
 use Rattle.unit_io.proofs.pages.program_pieces.Goals as goal
 
 pub loop-piece-init : goal.loop-piece-init
@@ -20,6 +21,7 @@ loop-piece-init g c = record {
   spares = spares_none c.args.place (g.C.Chip.told c.args.chip.now) (g.C.Chip.told c.args.chip.now) refl;
   costs = spends_none (ProgramsAt c.args.place 0 0 4) (g.C.Chip.told c.args.chip.now) (nothing_at c.args.place 0 0 4);
   tidy = spends_none (Programs c.args.place (IsPieceSpot c.args.page 0) true) (g.C.Chip.told c.args.chip.now) (programs_none c.args.place (IsPieceSpot c.args.page 0) true);
+  unread = unread_none (g.C.Chip.told c.args.chip.now);
   counts = counts_none (g.C.Chip.told c.args.chip.now);
 }
 
@@ -34,9 +36,10 @@ loop-piece-preserved g c =
       tells = charts_more c.args.place c.args.head.now.unit c.args.head.now.generation c.args.page c.args.text.now c.loop-piece.piece (g.C.Chip.told c.args.chip.now) (g.C.Chip.told c.loop-piece.chip) (g.C.Chip.told c.program_piece.new.chip) so_far.tells c.in_ok-program_piece.ensures.tells;
       plain = plain_then (g.C.Chip.told c.args.chip.now) (g.C.Chip.told c.loop-piece.chip) (g.C.Chip.told c.program_piece.new.chip) so_far.plain c.in_ok-program_piece.ensures.plain;
       spares = spares_then c.args.place (g.C.Chip.told c.args.chip.now) (g.C.Chip.told c.loop-piece.chip) (g.C.Chip.told c.program_piece.new.chip) so_far.spares c.in_ok-program_piece.ensures.spares;
-      costs = one_piece_more c.args.place c.loop-piece.piece (g.C.Chip.told c.args.chip.now) (g.C.Chip.told c.loop-piece.chip) (g.C.Chip.told c.program_piece.new.chip) so_far.costs c.in_ok-program_piece.ensures.costs;
-      tidy = tidy_piece_more c.args.place c.args.page c.loop-piece.piece true (g.C.Chip.told c.args.chip.now) (g.C.Chip.told c.loop-piece.chip) (g.C.Chip.told c.program_piece.new.chip) so_far.tidy c.in_ok-program_piece.ensures.tidy;
-      counts = counts_then (g.C.Chip.told c.args.chip.now) (g.C.Chip.told c.loop-piece.chip) (g.C.Chip.told c.program_piece.new.chip) so_far.counts c.in_ok-program_piece.ensures.accounts.counts;
+      costs = one_piece_more c.args.place c.loop-piece.piece (g.C.Chip.told c.args.chip.now) (g.C.Chip.told c.loop-piece.chip) (g.C.Chip.told c.program_piece.new.chip) so_far.costs c.in_ok-program_piece.ensures.writes.costs;
+      tidy = tidy_piece_more c.args.place c.args.page c.loop-piece.piece true (g.C.Chip.told c.args.chip.now) (g.C.Chip.told c.loop-piece.chip) (g.C.Chip.told c.program_piece.new.chip) so_far.tidy c.in_ok-program_piece.ensures.writes.tidy;
+      unread = unread_then (g.C.Chip.told c.args.chip.now) (g.C.Chip.told c.loop-piece.chip) (g.C.Chip.told c.program_piece.new.chip) so_far.unread c.in_ok-program_piece.ensures.writes.unread;
+      counts = counts_then (g.C.Chip.told c.args.chip.now) (g.C.Chip.told c.loop-piece.chip) (g.C.Chip.told c.program_piece.new.chip) so_far.counts c.in_ok-program_piece.ensures.writes.accounts.counts;
     }
 
 pub returns-in_err-program_piece-clause-keeps : goal.returns-in_err-program_piece-clause-keeps
@@ -57,37 +60,47 @@ returns-clause-keeps g c = λ m h steady rests bare clean.
     (subst (λ (n : ℕ). Piled (g.C.Chip.told c.args.chip.now).places c.args.place c.args.head.now.unit c.args.head.now.generation c.args.page c.args.text.now m h (g.C.Chip.told c.args.chip.now) n (g.C.Chip.told c.loop-piece.chip)) done
     (c.loop-piece.invariant.keeps m h steady (record { rests = rests; bare = bare; clean = clean })))
 
-pub returns-in_err-program_piece-clause-plain : goal.returns-in_err-program_piece-clause-plain
-returns-in_err-program_piece-clause-plain g c =
-    plain_then (g.C.Chip.told c.args.chip.now) (g.C.Chip.told c.loop-piece.chip) (g.C.Chip.told c.program_piece.new.chip) c.loop-piece.invariant.plain c.in_err-program_piece.ensures.plain
-
-pub returns-clause-plain : goal.returns-clause-plain
-returns-clause-plain g c = c.loop-piece.invariant.plain
-
-pub returns-in_err-program_piece-clause-costs : goal.returns-in_err-program_piece-clause-costs
-returns-in_err-program_piece-clause-costs g c =
-    let few : c.loop-piece.piece < 16 = omega (arith, c.piece_count-count.ensures.few) in
-    spends_weaker (ProgramsAt c.args.place (c.loop-piece.piece + 1) 0 4) (ProgramsAt c.args.place 16 0 4) _ _
-    (λ added. programs_at_most c.args.place (c.loop-piece.piece + 1) 16 0 0 4 added (omega (arith, few)) (omega arith))
-    (one_piece_more c.args.place c.loop-piece.piece (g.C.Chip.told c.args.chip.now) (g.C.Chip.told c.loop-piece.chip) (g.C.Chip.told c.program_piece.new.chip) c.loop-piece.invariant.costs c.in_err-program_piece.ensures.costs)
-
-pub returns-clause-costs : goal.returns-clause-costs
-returns-clause-costs g c =
-    let few : c.loop-piece.piece ≤ 16 = omega (arith, c.piece_count-count.ensures.few) in
-    spends_weaker (ProgramsAt c.args.place c.loop-piece.piece 0 4) (ProgramsAt c.args.place 16 0 4) _ _
-    (λ added. programs_at_most c.args.place c.loop-piece.piece 16 0 0 4 added few (omega arith)) c.loop-piece.invariant.costs
-
-pub returns-clause-spares : goal.returns-clause-spares
-returns-clause-spares g c = c.loop-piece.invariant.spares
-
-pub returns-in_err-program_piece-clause-tidy : goal.returns-in_err-program_piece-clause-tidy
-returns-in_err-program_piece-clause-tidy g c =
-    let few : c.loop-piece.piece < 16 = omega (arith, c.piece_count-count.ensures.few) in
+pub returns-in_err-program_piece-clause-adds : goal.returns-in_err-program_piece-clause-adds
+returns-in_err-program_piece-clause-adds g c =
     let e = err_from_is_err_and c.from_residual.result c.from_residual.ensures.1 in
-    rw e.1 (tidy_pieces c.args.place c.args.page (c.loop-piece.piece + 1) false false (g.C.Chip.told c.args.chip.now) (g.C.Chip.told c.program_piece.new.chip) (omega (arith, few))
-    (tidy_piece_more c.args.place c.args.page c.loop-piece.piece false (g.C.Chip.told c.args.chip.now) (g.C.Chip.told c.loop-piece.chip) (g.C.Chip.told c.program_piece.new.chip) c.loop-piece.invariant.tidy c.in_err-program_piece.ensures.tidy))
+    rw e.1 (record {
+      tells = tt;
+      few = tt;
+      plain = plain_then (g.C.Chip.told c.args.chip.now) (g.C.Chip.told c.loop-piece.chip) (g.C.Chip.told c.program_piece.new.chip)
+          c.loop-piece.invariant.plain c.in_err-program_piece.ensures.plain;
+      spares = tt;
+    })
 
-pub returns-clause-tidy : goal.returns-clause-tidy
-returns-clause-tidy g c =
-    let few : c.loop-piece.piece ≤ 16 = omega (arith, c.piece_count-count.ensures.few) in
-    tidy_pieces c.args.place c.args.page c.loop-piece.piece true true (g.C.Chip.told c.args.chip.now) (g.C.Chip.told c.loop-piece.chip) few c.loop-piece.invariant.tidy
+pub returns-in_err-program_piece-clause-writes : goal.returns-in_err-program_piece-clause-writes
+returns-in_err-program_piece-clause-writes g c =
+    let so_far = c.loop-piece.invariant in
+    let w = c.in_err-program_piece.ensures.writes in
+    let place = c.args.place in
+    let piece = c.loop-piece.piece in
+    let old = g.C.Chip.told c.args.chip.now in
+    let mid = g.C.Chip.told c.loop-piece.chip in
+    let new = g.C.Chip.told c.program_piece.new.chip in
+    let few : piece < 16 = omega (arith, c.piece_count-count.ensures.few) in
+    let e = err_from_is_err_and c.from_residual.result c.from_residual.ensures.1 in
+    rw (e.1 ∙ ap Err e.2) (record {
+      costs = spends_at_most place (piece + 1) 16 0 0 4 old new (omega (arith, few)) (omega arith)
+          (one_piece_more place piece old mid new so_far.costs w.costs);
+      tidy = tidy_pieces place c.args.page (piece + 1) false false old new (omega (arith, few))
+          (tidy_piece_more place c.args.page piece false old mid new so_far.tidy w.tidy);
+      unread = unread_then old mid new so_far.unread w.unread;
+      accounts = record {
+        counts = counts_then old mid new so_far.counts w.accounts.counts;
+        cause = (w.accounts.cause.0, omega (arith, so_far.counts.writes, w.accounts.cause.1));
+      };
+    })
+
+pub returns-clause-writes : goal.returns-clause-writes
+returns-clause-writes g c =
+    let so_far = c.loop-piece.invariant in
+    let piece = c.loop-piece.piece in
+    let few : piece ≤ 16 = omega (arith, c.piece_count-count.ensures.few) in record {
+      costs = spends_at_most c.args.place piece 16 0 0 4 _ _ few (omega arith) so_far.costs;
+      tidy = tidy_pieces c.args.place c.args.page piece true true _ _ few so_far.tidy;
+      unread = so_far.unread;
+      accounts = record { counts = so_far.counts; cause = tt };
+    }

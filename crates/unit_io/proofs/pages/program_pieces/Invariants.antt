@@ -6,6 +6,7 @@ use Rattle.unit_io.specs.Charts.{Charts, Spares, HasPieces}
 use Rattle.unit_io.specs.Plain.{AddsPlain}
 use Rattle.unit_io.specs.Spots.{Programs, IsPieceSpot}
 use Rattle.unit_io.specs.Costs.{ProgramsAt, Spends}
+use Rattle.unit_io.specs.Unread.{ReadsNothing}
 use Rattle.unit_io.proofs.PageLemmas.{IsOpenFor, Piled}
 use Rattle.unit_io.proofs.pages.program_pieces.Given as goal
 
@@ -17,6 +18,7 @@ pub record IsPiled (first t : Told) (place unit generation page : ℕ) (text : L
   pub spares : Spares place first t
   pub costs : Spends (ProgramsAt place n 0 4) first t
   pub tidy : Spends (Programs place (IsPieceSpot page n) true) first t
+  pub unread : Spends ReadsNothing first t
   pub counts : Counts first t
 
 abbrev pub invariant-loop-piece : goal.invariant-loop-piece

@@ -1,9 +1,8 @@
-use Rattle.std.proofs.Common.{refl, ap}
+use Rattle.std.proofs.Common.{Ok, Err, refl, ap, ◌∙◌, arith, rules}
 use Rattle.std.proofs.lemmas.Result.{err_from_is_err_and}
 use Rattle.chip_trait.specs.Lawful.{settled}
 use Rattle.unit_io.proofs.SealLemmas.{seal_leads, seal_fails, settled_rests, worn_settled, steady_settled}
 use Rattle.unit_io.proofs.PlainLemmas.{plain_then, plain_waited, plain_said}
-use Rattle.std.proofs.Common.{Ok, Err, arith}
 use Rattle.unit_io.proofs.CostLemmas.{spends_at_most, spends_at_then, spends_barred}
 use Rattle.unit_io.proofs.SparesLemmas.{spares_behind, spares_waited}
 use Rattle.unit_io.proofs.TidyLemmas.{tidy_halted, tidy_waits_then}
@@ -33,17 +32,6 @@ returns-clause-plain g c = λ plain.
     (plain_waited (g.C.Chip.told c.args.chip.now) (g.C.Chip.told c.barrier.new.chip) c.barrier.result c.barrier.ensures.did)
     (c.add_header.ensures.plain (plain_said _ _ c.encode.ensures.said plain))
 
-pub returns-in_err-barrier-clause-costs : goal.returns-in_err-barrier-clause-costs
-returns-in_err-barrier-clause-costs g c =
-    spends_at_most c.args.place 0 1 1 2 c.args.head.now.kind _ _ (omega arith) (omega arith)
-    (spends_barred c.args.place c.args.head.now.kind _ _ (Err c.in_err-barrier.field-0.0) c.in_err-barrier.ensures.did)
-
-pub returns-clause-costs : goal.returns-clause-costs
-returns-clause-costs g c =
-    spends_at_then c.args.place 0 1 1 1 c.args.head.now.kind _ (g.C.Chip.told c.barrier.new.chip) _
-    (spends_barred c.args.place c.args.head.now.kind _ _ (Ok tt) c.in_ok-barrier.ensures.did)
-    (c.add_header.ensures.costs _ c.encode.ensures.said)
-
 pub returns-clause-spares : goal.returns-clause-spares
 returns-clause-spares g c =
     let old = g.C.Chip.told c.args.chip.now in
@@ -52,23 +40,32 @@ returns-clause-spares g c =
     (spares_waited c.args.place old mid (Ok tt) c.in_ok-barrier.ensures.did)
     c.add_header.ensures.spares
 
-pub returns-in_err-barrier-clause-tidy : goal.returns-in_err-barrier-clause-tidy
-returns-in_err-barrier-clause-tidy g c =
+pub returns-in_err-barrier-clause-writes : goal.returns-in_err-barrier-clause-writes
+returns-in_err-barrier-clause-writes g c =
+    let place = c.args.place in
+    let old = g.C.Chip.told c.args.chip.now in
+    let new = g.C.Chip.told c.barrier.new.chip in
     let e = err_from_is_err_and c.from_residual.result c.from_residual.ensures.1 in
-    rw e.1 (tidy_halted c.args.place (IsSpot 0) e.0 (g.C.Chip.told c.args.chip.now) (g.C.Chip.told c.barrier.new.chip) c.in_err-barrier.ensures.did)
+    let fault = c.in_err-barrier.field-0.0 in
+    rw (e.1 ∙ ap Err e.2) (record {
+      costs = spends_at_most place 0 1 1 2 c.args.head.now.kind old new (omega arith) (omega arith)
+          (spends_barred place c.args.head.now.kind old new (Err fault) c.in_err-barrier.ensures.did);
+      tidy = tidy_halted place (IsSpot 0) fault old new c.in_err-barrier.ensures.did;
+      unread = unread_waited (Err fault) old new c.in_err-barrier.ensures.did;
+      accounts = c.in_err-barrier.ensures.accounts;
+    })
 
-pub returns-clause-tidy : goal.returns-clause-tidy
-returns-clause-tidy g c =
-    tidy_waits_then c.args.place (IsSpot 0) (is_ok c.add_header.result) _ (g.C.Chip.told c.barrier.new.chip) _ c.in_ok-barrier.ensures.did
-    c.add_header.ensures.tidy
-
-pub returns-in_err-barrier-clause-unread : goal.returns-in_err-barrier-clause-unread
-returns-in_err-barrier-clause-unread g c =
-    unread_waited c.barrier.result (g.C.Chip.told c.args.chip.now) (g.C.Chip.told c.barrier.new.chip) c.barrier.ensures.did
-
-pub returns-clause-unread : goal.returns-clause-unread
-returns-clause-unread g c =
+pub returns-clause-writes : goal.returns-clause-writes
+returns-clause-writes g c =
+    let place = c.args.place in
     let old = g.C.Chip.told c.args.chip.now in
     let mid = g.C.Chip.told c.barrier.new.chip in
-    unread_then old mid (g.C.Chip.told c.add_header.new.chip) (unread_waited c.barrier.result old mid c.barrier.ensures.did)
-    c.add_header.ensures.unread
+    let new = g.C.Chip.told c.add_header.new.chip in
+    record {
+      costs = spends_at_then place 0 1 1 1 c.args.head.now.kind old mid new
+          (spends_barred place c.args.head.now.kind old mid (Ok tt) c.in_ok-barrier.ensures.did)
+          (c.add_header.ensures.costs _ c.encode.ensures.said);
+      tidy = tidy_waits_then place (IsSpot 0) (is_ok c.add_header.result) old mid new c.in_ok-barrier.ensures.did c.add_header.ensures.tidy;
+      unread = unread_then old mid new (unread_waited (Ok tt) old mid c.in_ok-barrier.ensures.did) c.add_header.ensures.unread;
+      accounts = search rules;
+    }

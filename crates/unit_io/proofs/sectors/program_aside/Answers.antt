@@ -8,7 +8,7 @@ use Rattle.unit_io.proofs.UnreadLemmas.{unread_programmed}
 use Rattle.unit_io.proofs.sectors.program_aside.Goals as goal
 
 pub returns-clause-aside : goal.returns-clause-aside
-returns-clause-aside g c = λ m h said says steady rests bare other fresh.
+returns-clause-aside g c = λ said says m h steady rests bare other fresh.
     aside_leads c.args.place c.args.sector c.args.bytes.now said says m h _ _ _ steady c.program.ensures.did rests fresh bare other
 
 pub returns-clause-plain : goal.returns-clause-plain

@@ -10,30 +10,30 @@ pub returns-in_err-found-clause-looks : goal.returns-in_err-found-clause-looks
 returns-in_err-found-clause-looks g c =
     let e = err_from_is_err_and c.from_residual.result c.from_residual.ensures.1 in
     looks_missed c.args.place 0 _ e.0 _ (g.C.Chip.told c.args.chip.now)
-    (g.C.Chip.told c.read_head.new.chip) e.1 e.2 c.in_err-found.ensures.asks
-    c.in_err-found.ensures.accounts
+    (g.C.Chip.told c.read_head.new.chip) e.1 e.2 c.in_err-found.ensures.reads.asks
+    c.in_err-found.ensures.reads.accounts
 
 pub returns-in-Some-clause-looks : goal.returns-in-Some-clause-looks
 returns-in-Some-clause-looks g c =
     looks_read c.args.place 0 _ _ (g.C.Chip.told c.args.chip.now)
-    (g.C.Chip.told c.read_head.new.chip) c.in_ok-found.ensures.asks
-    c.in_ok-found.ensures.accounts tt
+    (g.C.Chip.told c.read_head.new.chip) c.in_ok-found.ensures.reads.asks
+    c.in_ok-found.ensures.reads.accounts tt
 
 pub returns-in-None-clause-looks : goal.returns-in-None-clause-looks
 returns-in-None-clause-looks g c =
     looks_read c.args.place 0 _ _ (g.C.Chip.told c.args.chip.now)
-    (g.C.Chip.told c.read_head.new.chip) c.in_ok-found.ensures.asks
-    c.in_ok-found.ensures.accounts refl
+    (g.C.Chip.told c.read_head.new.chip) c.in_ok-found.ensures.reads.asks
+    c.in_ok-found.ensures.reads.accounts refl
 
 pub returns-in-Some-clause-exact : goal.returns-in-Some-clause-exact
 returns-in-Some-clause-exact g c = λ x told head pieces has.
-    c.in-Some.ensures.some head has.units (c.in_ok-found.ensures.exact x told
+    c.in-Some.ensures.some head has.units (c.in_ok-found.ensures.reads.exact x told
     ∙ head_named (chart_of x) c.args.place c.args.unit head pieces has) has.kind has.unit pieces
     has.spelled
 
 pub returns-in-None-clause-exact : goal.returns-in-None-clause-exact
 returns-in-None-clause-exact g c = λ x told head pieces has.
-    absurd (c.in-None.ensures.some head has.units (c.in_ok-found.ensures.exact x told
+    absurd (c.in-None.ensures.some head has.units (c.in_ok-found.ensures.reads.exact x told
     ∙ head_named (chart_of x) c.args.place c.args.unit head pieces has) has.kind has.unit pieces
     has.spelled)
 
@@ -43,21 +43,21 @@ returns-in-Some-clause-header g c = λ x told.
     record {
       sector = found.0;
       here = head_stands (chart_of x c.args.place 0) found.0
-          (sym (c.in_ok-found.ensures.exact x told) ∙ found.1);
+          (sym (c.in_ok-found.ensures.reads.exact x told) ∙ found.1);
       says = found.2;
     }
 
 pub returns-in_err-found-clause-one : goal.returns-in_err-found-clause-one
 returns-in_err-found-clause-one g c =
     most_missed c.args.place 0 (g.C.Chip.told c.args.chip.now)
-    (g.C.Chip.told c.read_head.new.chip) c.in_err-found.ensures.asks
+    (g.C.Chip.told c.read_head.new.chip) c.in_err-found.ensures.reads.asks
 
 pub returns-in-Some-clause-one : goal.returns-in-Some-clause-one
 returns-in-Some-clause-one g c =
     most_read c.args.place 0 (g.C.Chip.told c.args.chip.now)
-    (g.C.Chip.told c.read_head.new.chip) c.in_ok-found.ensures.asks
+    (g.C.Chip.told c.read_head.new.chip) c.in_ok-found.ensures.reads.asks
 
 pub returns-in-None-clause-one : goal.returns-in-None-clause-one
 returns-in-None-clause-one g c =
     most_read c.args.place 0 (g.C.Chip.told c.args.chip.now)
-    (g.C.Chip.told c.read_head.new.chip) c.in_ok-found.ensures.asks
+    (g.C.Chip.told c.read_head.new.chip) c.in_ok-found.ensures.reads.asks

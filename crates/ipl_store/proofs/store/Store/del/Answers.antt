@@ -27,8 +27,8 @@ returns-clause-calls g c =
     c.requires.sound
     (writes_move (λ state. after_write state c.args.s (c.args.n, None)) 14 store.transactions
     c.write-done.new.self old after c.write-done.result c.write-done.ensures.turns
-    c.write-done.ensures.complete
-    c.write-done.ensures.faults)
+    c.write-done.ensures.fails.complete
+    c.write-done.ensures.fails.faults)
     c.end.ensures.rest c.end.ensures.ends early none
 
 pub returns-clause-holds : goal.returns-clause-holds
@@ -38,7 +38,7 @@ returns-clause-holds g c = kept_holds c.args.self.now c.end.new.self c.write-don
 pub returns-clause-framed : goal.returns-clause-framed
 returns-clause-framed g c = ended_framed (home_of c.args.n).unit (home_of c.args.n).page
     c.args.self.now c.end.new.self c.write-done.new.self c.args.self.now.kept c.write-done.result
-    c.end.result c.end.ensures.rest c.end.ensures.ends c.write-done.ensures.framed
+    c.end.result c.end.ensures.rest c.end.ensures.ends c.write-done.ensures.frames.framed
 
 pub returns-in_err-admit-clause-stays : goal.returns-in_err-admit-clause-stays
 returns-in_err-admit-clause-stays g c =
@@ -47,12 +47,12 @@ returns-in_err-admit-clause-stays g c =
 pub returns-clause-stays : goal.returns-clause-stays
 returns-clause-stays g c = kept_for (home_of c.args.n).unit (home_of c.args.n).page
     c.args.self.now c.end.new.self c.write-done.new.self c.args.self.now.kept c.end.ensures.rest
-    c.write-done.ensures.stays
+    c.write-done.ensures.frames.stays
 
 pub returns-clause-used : goal.returns-clause-used
 returns-clause-used g c = ended_used (home_of c.args.n).unit (home_of c.args.n).page
     c.args.self.now c.end.new.self c.write-done.new.self c.args.self.now.kept c.write-done.result
-    c.end.result c.end.ensures.rest c.end.ensures.ends c.write-done.ensures.used
+    c.end.result c.end.ensures.rest c.end.ensures.ends c.write-done.ensures.frames.used
 
 pub returns-in_err-admit-clause-calls : goal.returns-in_err-admit-clause-calls
 returns-in_err-admit-clause-calls g c =

@@ -158,11 +158,11 @@ written g c =
     (subst (λ (b : List ℕ). HasWritten c.args.s c.args.n b c.bring.new.self.transactions between
     c.write-done.result c.write-done.new.self after) c.in-Some.ensures.some.0 (record {
       turns = wrote.turns;
-      complete = wrote.complete;
-      faults = wrote.faults;
-      framed = wrote.framed;
-      used = wrote.used;
-      stays = wrote.stays;
+      complete = wrote.fails.complete;
+      faults = wrote.fails.faults;
+      framed = wrote.frames.framed;
+      used = wrote.frames.used;
+      stays = wrote.frames.stays;
       asks = wrote.asks;
       sessions = wrote.sessions;
       idle = wrote.idle;

@@ -12,7 +12,7 @@ returns-in_err-written-clause-marks g c =
     marks_store c.args.self.now c.close-written.new.parts c.is_ok-self.result
     (g.C.Chip.told c.args.chip.now) (g.C.Chip.told c.close-written.new.chip) c.close-written.result
     c.from_residual.result ends c.is_ok-self.ensures.value did.steps did.tidy did.ends did.costs
-    did.accounts did.rest did.drawn.1
+    did.accounts did.leaves.rest did.leaves.drawn.1
 
 pub returns-clause-marks : goal.returns-clause-marks
 returns-clause-marks g c =
@@ -20,5 +20,5 @@ returns-clause-marks g c =
     let ends = done_marking c.close-written.result c.in_ok-written.field-0 c.in_ok-written.was in
     marks_store c.args.self.now c.close-written.new.parts c.is_ok-self.result
     (g.C.Chip.told c.args.chip.now) (g.C.Chip.told c.close-written.new.chip) c.close-written.result
-    (Ok tt) ends c.is_ok-self.ensures.value did.steps did.tidy did.ends did.costs did.accounts did.rest
-    did.drawn.1
+    (Ok tt) ends c.is_ok-self.ensures.value did.steps did.tidy did.ends did.costs did.accounts
+    did.leaves.rest did.leaves.drawn.1

@@ -22,6 +22,11 @@ unreachable-requires g c =
     let is = c.requires.unheld in
     c.in_default.ensures.none is.key (unheld_page c.args.self.now.pool c.args.unit c.args.page is)
 
+pub load-requires-clause-suits : goal.load-requires-clause-suits
+load-requires-clause-suits g c =
+    let suits = c.requires.suits in
+    record { size = suits.all; units = suits.overflow; sized = suits.sized }
+
 pub returns-clause-loads : goal.returns-clause-loads
 returns-clause-loads g c =
     let p = c.args.self.now.pool in
@@ -89,4 +94,4 @@ pub returns-clause-asks : goal.returns-clause-asks
 returns-clause-asks g c =
     load_asks c.args.self.now.parts.directory _ _ c.args.page c.load.result
     (g.C.Chip.told c.args.chip.now) (g.C.Chip.told c.load.new.chip) c.requires.page.few
-    c.load.ensures.reads c.load.ensures.cause
+    c.load.ensures.looks.reads c.load.ensures.looks.cause

@@ -35,11 +35,11 @@ returns-in_err-write_records-clause-works g c =
       upholds = out_failed c.args.unit c.args.page c.log_payload-payload.result pages after fault old
           (g.C.Chip.told c.write_records.new.chip) c.requires.ready refl
           (c.if-not-has_records.ensures.some refl) c.log_payload-payload.ensures.records is.tells is.steps
-          is.holds is.tidy is.wears is.draws is.accounts;
+          is.leaves;
       complete = merge_completes {T = Unit {0}} c.args.unit pages (Err fault) old c.requires.page.unit
-          is.complete;
+          is.fails.complete;
       faults = merge_tells {T = Unit {0}} c.args.unit pages after (Err fault) old c.requires.page.unit
-          is.holds.active is.fault is.stays;
+          is.leaves.holds.active is.fails.fault is.fails.stays;
     })
 
 pub returns-then-not-has_records-clause-asks : goal.returns-then-not-has_records-clause-asks
@@ -63,7 +63,7 @@ returns-clause-works g c =
     let new = g.C.Chip.told c.write_records.new.chip in
     works_done 14 pages after old new (out_done c.args.unit c.args.page c.log_payload-payload.result pages
     after old new c.requires.ready c.log_payload-payload.ensures.records c.clear_log.ensures.cleared
-    c.clear_log.ensures.pool.pins is.tells is.steps is.holds is.tidy is.wears is.draws is.accounts)
+    c.clear_log.ensures.pool.pins is.tells is.steps is.leaves)
 
 pub returns-clause-frames : goal.returns-clause-frames
 returns-clause-frames g c =
@@ -94,4 +94,4 @@ returns-clause-framed g c =
 pub returns-in_err-write_records-clause-exact : goal.returns-in_err-write_records-clause-exact
 returns-in_err-write_records-clause-exact g c =
     let e = err_from_is_err_and c.from_residual.result c.from_residual.ensures.1 in
-    rw (e.1, e.2) c.in_err-write_records.ensures.fault
+    rw (e.1, e.2) c.in_err-write_records.ensures.fails.fault

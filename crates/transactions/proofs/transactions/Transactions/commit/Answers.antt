@@ -98,5 +98,5 @@ returns-clause-asks g c =
     (c.as_slice.ensures.numbers ∙ c.writer_numbers-tids.ensures) c.is_empty.result c.is_empty.ensures c.if-is_empty.false)
     c.in_ok-write_sessions_out.ensures.asks refl c.write_sessions_out.new.self.pages.parts.status.place
     (is_worn_out c.commit_numbers.result) c.commit_numbers.new.self.pages (g.C.Chip.told c.commit_numbers.new.chip)
-    (ap (λ (it : Places). it.retired) c.commit_numbers.ensures.directory)
-    c.commit_numbers.ensures.unworn c.commit_numbers.ensures.costs
+    (ap (λ (it : Places). it.retired) c.commit_numbers.ensures.asks.directory)
+    c.commit_numbers.ensures.asks.unworn c.commit_numbers.ensures.asks.costs

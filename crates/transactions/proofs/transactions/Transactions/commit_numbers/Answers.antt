@@ -25,8 +25,8 @@ returns-in_err-add_numbers-clause-turns g c =
       };
       sessions = old.sessions;
     }) (g.C.Chip.told c.args.chip.now) (g.C.Chip.told c.add_numbers.new.chip) c.requires.order
-    c.requires.open c.requires.may_add (c.as_slice.ensures.numbers ∙ c.requires.tids) says.steps refl refl refl refl says.same refl says.draws
-    says.tidy says.costs says.accounts)
+    c.requires.open c.requires.may_add (c.as_slice.ensures.numbers ∙ c.requires.tids) says.steps refl refl refl refl
+    says.added.same refl says.added.draws says.writes)
 
 pub returns-clause-turns : goal.returns-clause-turns
 returns-clause-turns g c =
@@ -38,18 +38,17 @@ returns-clause-turns g c =
     c.requires.open c.requires.may_add (c.as_slice.ensures.numbers ∙ c.requires.tids) says.adds
     says.steps (ap (λ (parts : Parts). parts.directory) same)
     (ap (λ (parts : Parts). parts.overflow) same)
-    (ap (λ (parts : Parts). parts.status) same ∙ says.added)
-    (ap (λ (parts : Parts). parts.counter) same ∙ says.drawn) c.apply_all.ensures.applied
+    (ap (λ (parts : Parts). parts.status) same ∙ says.added.added)
+    (ap (λ (parts : Parts). parts.counter) same ∙ says.added.drawn) c.apply_all.ensures.applied
     c.apply_all.ensures.pins c.end_all.ensures.rest
     (c.end_all.ensures.sessions ∙ ap (λ (slots : SessionSlots). after_batch slots c.args.numbers.now)
-    c.apply_all.ensures.sessions) c.end_all.ensures.active c.end_all.ensures.locks says.tidy says.costs
-    says.header says.accounts
+    c.apply_all.ensures.sessions) c.end_all.ensures.active c.end_all.ensures.locks says.writes says.header
 
 pub returns-in_err-add_numbers-clause-complete : goal.returns-in_err-add_numbers-clause-complete
 returns-in_err-add_numbers-clause-complete g c =
     let e = err_from_is_err_and c.from_residual.result c.from_residual.ensures.1 in
     rw (e.1, e.2)
-    (subst IsFailedCall (sym c.in_err-add_numbers.ensures.accounts.cause.0) tt)
+    (subst IsFailedCall (sym c.in_err-add_numbers.ensures.writes.accounts.cause.0) tt)
 
 pub returns-in_err-add_numbers-clause-framed : goal.returns-in_err-add_numbers-clause-framed
 returns-in_err-add_numbers-clause-framed g c = λ u page is. is
@@ -60,11 +59,20 @@ returns-clause-framed g c =
     c.apply_all.new.self.pages c.end_all.new.self.pages c.requires.open.opens
     c.apply_all.ensures.applied c.end_all.ensures.rest.pool
 
-pub returns-in_err-add_numbers-clause-unworn : goal.returns-in_err-add_numbers-clause-unworn
-returns-in_err-add_numbers-clause-unworn g c =
+pub returns-in_err-add_numbers-clause-asks : goal.returns-in_err-add_numbers-clause-asks
+returns-in_err-add_numbers-clause-asks g c =
     let e = err_from_is_err_and c.from_residual.result c.from_residual.ensures.1 in
-    rw (e.1, e.2) (ap tells_worn c.in_err-add_numbers.ensures.accounts.cause.0)
+    let wrote = c.in_err-add_numbers.ensures.writes in
+    rw (e.1, e.2) (record {
+      directory = refl;
+      costs = wrote.costs;
+      unworn = ap tells_worn wrote.accounts.cause.0;
+    })
 
-pub returns-clause-directory : goal.returns-clause-directory
-returns-clause-directory g c =
-    c.end_all.ensures.rest.directory ∙ ap (λ (parts : Parts). parts.directory) c.apply_all.ensures.parts
+pub returns-clause-asks : goal.returns-clause-asks
+returns-clause-asks g c = record {
+  directory = c.end_all.ensures.rest.directory
+      ∙ ap (λ (parts : Parts). parts.directory) c.apply_all.ensures.parts;
+  costs = c.in_ok-add_numbers.ensures.writes.costs;
+  unworn = refl;
+}

@@ -40,7 +40,7 @@ record_put change at tid =
 pub unreachable-requires : goal.unreachable-requires
 unreachable-requires g c =
     let mine = writes_numbered c.args.self.now.sessions c.args.s c.args.name.0
-    (size_in_page (change_of c.args.change)) c.requires.unrefused in
+    (size_in_page (change_of c.args.change)) c.requires.may.unrefused in
     none-some mine.0 (sym c.in_default.is ∙ c.number.ensures ∙ mine.1)
 
 pub returns-in_err-prepare-clause-turns : goal.returns-in_err-prepare-clause-turns
@@ -63,7 +63,7 @@ returns-clause-turns g c =
     let size = size_in_page (change_of c.args.change) in
     let did = unrefused_done c.write.result (refuses_write old.sessions s name size)
     (c.write.ensures.refusal ∙ ap (refuses_write old.sessions s name) c.size_in_page.ensures)
-    c.requires.unrefused c.write.ensures.ok in
+    c.requires.may.unrefused c.write.ensures.ok in
     let put = OnTrue_at c.if-not-put_record.false c.put_record.ensures.put in
     was_written s name at.unit
     (record_put c.args.change at c.in-Some.tid) old
@@ -71,57 +71,73 @@ returns-clause-turns g c =
       pages = record { parts = c.prepare.new.self.parts; pool = c.put_record.new.pool };
       sessions = c.write.new.self;
     }) c.prepare.new.self (g.C.Chip.told c.args.chip.now) (g.C.Chip.told c.prepare.new.chip)
-    c.requires.order c.requires.session (sym c.number.ensures ∙ c.in-Some.is) c.requires.name
+    c.requires.order c.requires.may.session (sym c.number.ensures ∙ c.in-Some.is) c.requires.may.name
     c.home-home.ensures.exact c.has_spelling.ensures c.in_ok-prepare.ensures.works.upholds
     (did ∙ ap (after_slots old.sessions s name) c.size_in_page.ensures)
     (locks_of c.write.new.self c.facts.ensures.all c.facts.ensures.one_writer c.facts.ensures.sized
     c.facts.ensures.few) refl put
     (page_has_room name at (record_put c.args.change at c.in-Some.tid) old c.prepare.new.self
-    put.was c.home-home.ensures.home refl refl c.requires.room c.in_ok-prepare.ensures.prepares.values put.there)
+    put.was c.home-home.ensures.home refl refl c.requires.may.room c.in_ok-prepare.ensures.prepares.values put.there)
     c.put_record.ensures.pool.pins
 
-pub returns-in_err-prepare-clause-complete : goal.returns-in_err-prepare-clause-complete
-returns-in_err-prepare-clause-complete g c =
+-- ---- why it fails, and where the page is then
+
+pub returns-in_err-prepare-clause-fails : goal.returns-in_err-prepare-clause-fails
+returns-in_err-prepare-clause-fails g c =
+    let old = c.args.self.now in
+    let told = g.C.Chip.told c.args.chip.now in
+    let failed = c.in_err-prepare.field-0.0 in
+    let says = c.in_err-prepare.ensures in
     let e = err_from_is_err_and c.from_residual.result c.from_residual.ensures.1 in
-    rw (e.1, e.2) (completes_for c.args.self.now (Err c.in_err-prepare.field-0.0)
-    (g.C.Chip.told c.args.chip.now) c.in_err-prepare.ensures.works.complete)
+    rw (e.1, e.2) (record {
+      complete = completes_for old (Err failed) told says.works.complete;
+      faults = tells_for old (Err failed) told c.prepare.new.self says.works.faults;
+      exact = subst (λ (h : Home). frames_in old.pages h.unit h.page ≡ None → HasFreeFrame old.pages
+          → FailsAsPage {T = Unit {0}} (tables_in old.pages) h.unit h.page (Err failed) told)
+          c.home-home.ensures.home says.exact;
+    })
 
-pub returns-clause-framed : goal.returns-clause-framed
-returns-clause-framed g c =
-    let at = home_of c.args.name.0 in
-    put_framed (IsWrittenFrame (record_put c.args.change c.home-home.result c.in-Some.tid))
-    c.home-home.result.unit c.home-home.result.page at c.prepare.new.self
-    (record { parts = c.prepare.new.self.parts; pool = c.put_record.new.pool })
-    (ap (λ (h : Home). h.unit) (sym c.home-home.ensures.home))
-    (ap (λ (h : Home). h.page) (sym c.home-home.ensures.home))
-    (OnTrue_at c.if-not-put_record.false c.put_record.ensures.put)
+pub returns-clause-fails : goal.returns-clause-fails
+returns-clause-fails g c = record {
+  complete = λ x told layout state fits says. tt;
+  faults = λ x told layout state fits. tt;
+  exact = λ none free x told layout mirrors. tt;
+}
 
-pub returns-in_err-prepare-clause-stays : goal.returns-in_err-prepare-clause-stays
-returns-in_err-prepare-clause-stays g c =
-    subst (λ (h : Home). KeepsFramedFor h.unit h.page c.args.self.now.pages c.prepare.new.self)
-    c.home-home.ensures.home c.in_err-prepare.ensures.framed
+pub returns-in_err-prepare-clause-frames : goal.returns-in_err-prepare-clause-frames
+returns-in_err-prepare-clause-frames g c =
+    let e = err_from_is_err_and c.from_residual.result c.from_residual.ensures.1 in
+    rw e.1 (record {
+      framed = tt;
+      used = tt;
+      stays = subst (λ (h : Home). KeepsFramedFor h.unit h.page c.args.self.now.pages c.prepare.new.self)
+          c.home-home.ensures.home c.in_err-prepare.ensures.framed;
+    })
 
-pub returns-clause-stays : goal.returns-clause-stays
-returns-clause-stays g c =
+pub returns-clause-frames : goal.returns-clause-frames
+returns-clause-frames g c =
     let at = c.home-home.result in
     let home = home_of c.args.name.0 in
     let put = OnTrue_at c.if-not-put_record.false c.put_record.ensures.put in
     let old = c.args.self.now.pages in
     let mid = c.prepare.new.self in
-    let new : Pages = record { parts = mid.parts; pool = c.put_record.new.pool } in
-    framed_then home.unit home.page old mid new
-    (subst (λ (h : Home). KeepsFramedFor h.unit h.page old mid) c.home-home.ensures.home
-    c.in_ok-prepare.ensures.framed)
-    (set_framed at.unit at.page put.now mid new put.frames)
-    (same_counts home.unit home.page mid.pool new.pool c.put_record.ensures.pool.uses)
-
-pub returns-clause-used : goal.returns-clause-used
-returns-clause-used g c =
-    let at = c.home-home.result in
     let pool = c.put_record.new.pool in
-    subst (λ (h : Home). IsUsedLast pool h.unit h.page) c.home-home.ensures.home
-    (kept_uses_are_last c.prepare.new.self.pool pool at.unit at.page c.put_record.ensures.pool.uses
-    c.in_ok-prepare.ensures.prepares.used)
+    let new : Pages = record { parts = mid.parts; pool = pool } in
+    record {
+      framed = put_framed (IsWrittenFrame (record_put c.args.change at c.in-Some.tid)) at.unit at.page
+          home mid new (ap (λ (h : Home). h.unit) (sym c.home-home.ensures.home))
+          (ap (λ (h : Home). h.page) (sym c.home-home.ensures.home)) put;
+      used = subst (λ (h : Home). IsUsedLast pool h.unit h.page) c.home-home.ensures.home
+          (kept_uses_are_last mid.pool pool at.unit at.page c.put_record.ensures.pool.uses
+          c.in_ok-prepare.ensures.prepares.used);
+      stays = framed_then home.unit home.page old mid new
+          (subst (λ (h : Home). KeepsFramedFor h.unit h.page old mid) c.home-home.ensures.home
+          c.in_ok-prepare.ensures.framed)
+          (set_framed at.unit at.page put.now mid new put.frames)
+          (same_counts home.unit home.page mid.pool pool c.put_record.ensures.pool.uses);
+    }
+
+-- ---- what it asks
 
 pub returns-in_err-prepare-clause-asks : goal.returns-in_err-prepare-clause-asks
 returns-in_err-prepare-clause-asks g c =
@@ -141,20 +157,6 @@ returns-clause-asks g c =
     (record_put c.args.change c.home-home.result c.in-Some.tid) (g.C.Chip.told c.args.chip.now)
     (g.C.Chip.told c.prepare.new.chip) c.home-home.ensures.home refl refl refl
     c.in_ok-prepare.ensures.asks
-
-pub returns-in_err-prepare-clause-faults : goal.returns-in_err-prepare-clause-faults
-returns-in_err-prepare-clause-faults g c =
-    let e = err_from_is_err_and c.from_residual.result c.from_residual.ensures.1 in
-    rw (e.1, e.2) (tells_for c.args.self.now (Err c.in_err-prepare.field-0.0)
-    (g.C.Chip.told c.args.chip.now) c.prepare.new.self c.in_err-prepare.ensures.works.faults)
-
-pub returns-in_err-prepare-clause-exact : goal.returns-in_err-prepare-clause-exact
-returns-in_err-prepare-clause-exact g c =
-    let old = c.args.self.now.pages in
-    let e = err_from_is_err_and c.from_residual.result c.from_residual.ensures.1 in
-    rw (e.1, e.2) (subst (λ (h : Home). frames_in old h.unit h.page ≡ None → HasFreeFrame old
-    → FailsAsPage {T = Unit {0}} (tables_in old) h.unit h.page (Err c.in_err-prepare.field-0.0)
-    (g.C.Chip.told c.args.chip.now)) c.home-home.ensures.home c.in_err-prepare.ensures.exact)
 
 pub returns-in_err-prepare-clause-idle : goal.returns-in_err-prepare-clause-idle
 returns-in_err-prepare-clause-idle g c =
@@ -187,7 +189,7 @@ refused g c =
       keeps = c.in_ok-prepare.ensures.works.upholds.keeps;
       room = page_has_room c.args.name.0 at (record_put c.args.change at c.in-Some.tid)
           c.args.self.now c.prepare.new.self put.frame c.home-home.ensures.home refl refl
-          c.requires.room c.in_ok-prepare.ensures.prepares.values put.there;
+          c.requires.may.room c.in_ok-prepare.ensures.prepares.values put.there;
       some = λ none. false≢true (sym c.if-not-put_record.true ∙ c.put_record.ensures.deletes none);
       full = λ fits. false≢true (sym c.if-not-put_record.true
           ∙ (c.put_record.ensures.room put.frame put.there).1 fits);
@@ -213,37 +215,38 @@ returns-then-not-put_record-clause-turns g c =
     (OnFalse_at c.if-not-put_record.true c.put_record.ensures.kept) c.put_record.ensures.pool.pins))
     refl tt refl)
 
-pub returns-then-not-put_record-clause-complete : goal.returns-then-not-put_record-clause-complete
-returns-then-not-put_record-clause-complete g c =
-    refused_completes c.home-home.result.unit
-    (record_put c.args.change c.home-home.result c.in-Some.tid) c.args.self.now c.prepare.new.self
-    (g.C.Chip.told c.args.chip.now) (g.C.Chip.told c.prepare.new.chip) (refused g c)
-    c.no_room.result
+pub returns-then-not-put_record-clause-fails : goal.returns-then-not-put_record-clause-fails
+returns-then-not-put_record-clause-fails g c =
+    let u = c.home-home.result.unit in
+    let r = record_put c.args.change c.home-home.result c.in-Some.tid in
+    let old = c.args.self.now in
+    let mid = c.prepare.new.self in
+    let before = g.C.Chip.told c.args.chip.now in
+    let after = g.C.Chip.told c.prepare.new.chip in
+    let is = refused g c in
+    record {
+      complete = refused_completes u r old mid before after is c.no_room.result;
+      faults = refused_tells u r old mid before after is c.no_room.result
+          (record { parts = mid.parts; pool = c.put_record.new.pool });
+      exact = λ none free. absurd (unframed_put c.args.name.0 old (change_of c.args.change)
+          c.requires.may.room is.some none);
+    }
 
-pub returns-then-not-put_record-clause-faults : goal.returns-then-not-put_record-clause-faults
-returns-then-not-put_record-clause-faults g c =
-    refused_tells c.home-home.result.unit
-    (record_put c.args.change c.home-home.result c.in-Some.tid) c.args.self.now c.prepare.new.self
-    (g.C.Chip.told c.args.chip.now) (g.C.Chip.told c.prepare.new.chip) (refused g c)
-    c.no_room.result
-    (record { parts = c.prepare.new.self.parts; pool = c.put_record.new.pool })
-
-pub returns-then-not-put_record-clause-exact : goal.returns-then-not-put_record-clause-exact
-returns-then-not-put_record-clause-exact g c = λ none free.
-    absurd (unframed_put c.args.name.0 c.args.self.now (change_of c.args.change) c.requires.room
-    (refused g c).some none)
-
-pub returns-then-not-put_record-clause-stays : goal.returns-then-not-put_record-clause-stays
-returns-then-not-put_record-clause-stays g c =
+pub returns-then-not-put_record-clause-frames : goal.returns-then-not-put_record-clause-frames
+returns-then-not-put_record-clause-frames g c =
     let home = home_of c.args.name.0 in
     let old = c.args.self.now.pages in
     let mid = c.prepare.new.self in
     let pool = c.put_record.new.pool in
-    framed_then home.unit home.page old mid (record { parts = mid.parts; pool = pool })
-    (subst (λ (h : Home). KeepsFramedFor h.unit h.page old mid) c.home-home.ensures.home
-    c.in_ok-prepare.ensures.framed)
-    (used_framed mid pool (OnFalse_at c.if-not-put_record.true c.put_record.ensures.kept))
-    (same_counts home.unit home.page mid.pool pool c.put_record.ensures.pool.uses)
+    record {
+      framed = tt;
+      used = tt;
+      stays = framed_then home.unit home.page old mid (record { parts = mid.parts; pool = pool })
+          (subst (λ (h : Home). KeepsFramedFor h.unit h.page old mid) c.home-home.ensures.home
+          c.in_ok-prepare.ensures.framed)
+          (used_framed mid pool (OnFalse_at c.if-not-put_record.true c.put_record.ensures.kept))
+          (same_counts home.unit home.page mid.pool pool c.put_record.ensures.pool.uses);
+    }
 
 pub returns-then-not-put_record-clause-asks : goal.returns-then-not-put_record-clause-asks
 returns-then-not-put_record-clause-asks g c =

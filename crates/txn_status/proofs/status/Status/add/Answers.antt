@@ -6,7 +6,8 @@ use Rattle.number_set.specs.Numbers.{Numbers, AreRising}
 use Rattle.number_set.proofs.NumberLemmas.{length_with_numbers, rising_with_numbers}
 use Rattle.txn_status.specs.Commits.{commit_sector}
 use Rattle.txn_status.specs.Adding.{Adds, AddsInSteps, KeepsFirstAt}
-use Rattle.txn_status.specs.Writing.{LeadsCommit, WritesOneSector}
+use Rattle.unit_io.specs.Writing.{LeadsCommit}
+use Rattle.txn_status.specs.Writing.{WritesOneSector}
 use Rattle.txn_status.proofs.AddLemmas.{AreSpelled, spelled_from, added_in_steps, adds_told}
 use Rattle.txn_status.proofs.FirstLemmas.{firsts_stay}
 use Rattle.txn_status.proofs.status.Status.add.Goals as goal

@@ -5,7 +5,8 @@ use Rattle.unit_io.specs.Charts.{Charts, Gains}
 use Rattle.unit_io.specs.Costs.{Spends}
 use Rattle.unit_io.specs.Spots.{AddsSector}
 use Rattle.txn_status.specs.Marking.{mark_sector, MarksInSteps}
-use Rattle.txn_status.specs.Writing.{LeadsMark, WritesOneSector}
+use Rattle.unit_io.specs.Writing.{LeadsMark}
+use Rattle.txn_status.specs.Writing.{WritesOneSector}
 use Rattle.txn_status.proofs.MarkingLemmas.{marked_in_steps}
 use Rattle.txn_status.proofs.status.Status.mark.Goals as goal
 

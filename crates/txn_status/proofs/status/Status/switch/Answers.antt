@@ -16,7 +16,8 @@ use Rattle.place_taking.specs.Fills.{FillsAt}
 use Rattle.place_taking.proofs.JoinLemmas.{fills_at_most, fills_programs, fills_then}
 use Rattle.txn_status.specs.Status.{parts_of}
 use Rattle.txn_status.specs.Switching.{HasParts, IsPartSpot, IsStatusSpot}
-use Rattle.txn_status.specs.Writing.{LeadsParts, LeadsHeader, IsHeaded, OnlyPrograms}
+use Rattle.unit_io.specs.Writing.{OnlyPrograms}
+use Rattle.txn_status.specs.Writing.{LeadsParts, LeadsHeader, IsHeaded}
 use Rattle.txn_status.proofs.ListedLemmas.{lists_told}
 use Rattle.txn_status.proofs.SwitchLemmas.{AreLong}
 use Rattle.txn_status.proofs.SwitchedLemmas.{parts_failed, switched_in_steps, switches_told}
@@ -38,7 +39,7 @@ header_leads places q p units erases retired next mid new result at says =
 
 -- the parts were programmed, and the header or some of it
 programs_switched : (p n : ℕ) (result : Result (Unit {0}) ChipFault) (old mid new : Told)
-    → OnlyPrograms (ProgramsAt p 64 0 6) p (IsPartSpot n) (Ok tt) old mid
+    → OnlyPrograms {T = Unit {0}} (ProgramsAt p 64 0 6) p (IsPartSpot n) (Ok tt) old mid
     → OnlyPrograms (ProgramsAt p 1 2 2) p (IsSpot 0) result mid new
     → OnlyPrograms (FillsAt p 2) p (IsStatusSpot n) result old new
 programs_switched p n result old mid new first then = record {

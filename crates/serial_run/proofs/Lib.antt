@@ -1,3 +1,0 @@
-mod GatherLemmas
-mod SayLemmas
-mod ViewLemmas

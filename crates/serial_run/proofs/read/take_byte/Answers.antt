@@ -1,8 +1,0 @@
-use Rattle.std.proofs.lemmas.Bool.{ne_eqb}
-use Rattle.serial_run.proofs.GatherLemmas.{gathers_kept}
-use Rattle.serial_run.proofs.read.take_byte.Goals as goal
-
-pub returns : goal.returns
-returns c =
-    gathers_kept c.args.byte c.args.commands.now.items c.args.line.now c.push.new.self
-    (ne_eqb c.args.byte 10 c.if-byte-eq10.false) c.push.ensures

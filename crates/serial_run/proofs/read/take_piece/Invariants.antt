@@ -1,7 +1,0 @@
-use Rattle.std.proofs.Common.{take}
-use Rattle.serial_run.specs.View.{GathersCommands}
-use Rattle.serial_run.proofs.read.take_piece.Given as goal
-
--- the bytes so far became commands, or are kept
-abbrev pub invariant-loop-byte : goal.invariant-loop-byte
-invariant-loop-byte l = GathersCommands (take l.byte-index l.piece) l.fn.commands.items l.fn.line l.commands.items l.line

@@ -1,6 +1,0 @@
-use Rattle.ipl_model.specs.Plain.{state_of}
-use Rattle.serial_run.proofs.ViewLemmas.{starts_at_rest}
-use Rattle.serial_run.proofs.say.order_from_nothing.Goals as goal
-
-pub serial_order-requires-clause-at_rest : goal.serial_order-requires-clause-at_rest
-serial_order-requires-clause-at_rest c = starts_at_rest (state_of c.in_ok-start.start) c.in_ok-start.ensures.state
