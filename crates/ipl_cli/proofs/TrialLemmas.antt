@@ -38,7 +38,7 @@ use Rattle.script_store.specs.declared.store.ScriptStore.{ScriptStore}
 use Rattle.script_store.specs.Keeps.{KeepsScript, script_keeping, next_number}
 use Rattle.store_trait.specs.Keeping.{FOUND_NUMBER}
 use Rattle.trial_run.specs.Words.{trial_commands}
-use Rattle.trial_run.specs.Trial.{ChipStandsBehind as StandsBehindOf, TrialRuns as LeavesOf, TrialEnds, EndsInWork, RunsTrial, IsTrialStop}
+use Rattle.trial_run.specs.Trial.{StandsBehind, TrialRuns, TrialEnds, EndsInWork, RunsTrial, IsTrialStop}
 use Rattle.command_line.specs.declared.asked.Request.TheVariants.{Run, Trial}
 use Rattle.command_line.specs.declared.end.End.{End}
 use Rattle.command_line.specs.declared.end.End.TheVariants.{Words, Chip, OutOfMemory, Script, Output, TooLong}
@@ -53,7 +53,7 @@ use Rattle.ipl_cli.proofs.StartLemmas.{cause_anew, over_cause, not_started_cause
 -- ---- what the chip stands for
 
 behind : (places : ℕ) (commands : List Command) (lines : List (List ℕ)) (x : Contents)
-    → StandsBehindOf (script_keeping places) (limits_of (units_on places)) (at_rest empty) commands
+    → StandsBehind (script_keeping places) (limits_of (units_on places)) (at_rest empty) commands
     lines x
     → ChipStandsBehind places commands lines x
 behind places commands [] x (done, later, are, stands) = (done, later, are, stands)
@@ -115,7 +115,7 @@ module _ (places : ℕ) (commands : List Command) (h : History) (first : Story)
       (left : new.beside.left ≡ old.beside.left) where
     module _ (R : History → State → Type 0) (result : Result (Unit {0}) Stop)
         (stays : (k : History) (s : State) → R k s → Stays (script_keeping places) limits then mid new k s)
-        (leaves : LeavesOf (script_keeping places) limits (at_rest empty) commands before (adds_all first h)
+        (leaves : TrialRuns (script_keeping places) limits (at_rest empty) commands before (adds_all first h)
         R then mid new result) where
       abbrev last : History
       last = adds_all leaves.added (adds_all first h)
@@ -134,7 +134,7 @@ module _ (places : ℕ) (commands : List Command) (h : History) (first : Story)
       all_history = history_behind first leaves.added h
 
       later_found : AtEachMoment (λ f. Found (f ++ first)) leaves.added
-      later_found = at_weaker (λ e. Leaves (says sector_in) (StandsBehindOf (script_keeping places) limits
+      later_found = at_weaker (λ e. Leaves (says sector_in) (StandsBehind (script_keeping places) limits
           (at_rest empty) commands (pieces e)) (adds_all first h) e) (λ f. Found (f ++ first))
           leaves.added (λ f found x image.
           subst (λ (lines : List (List ℕ)). ChipStandsBehind places commands lines x)

@@ -1,8 +1,8 @@
 //! Ends of the program: `end NAME NUMBERS`, the status and the line that is noted.
 use crate::words::{number, words_of};
 use anyhow::{Result, bail};
-use ipl_base::{ChipFault, ImageFault};
 use command_line::{End, NoteLine, status};
+use ipl_base::{ChipFault, ImageFault};
 use std::alloc::Global;
 
 /// What comes of a row `end NAME NUMBERS`: the status of the end, and the line that is noted,

@@ -12,17 +12,12 @@ use Rattle.page_frames.proofs.WearLemmas.{logs_wear_nothing, unwritten_wears}
 use Rattle.page_frames.proofs.records.write_log.Given.{Over}
 use Rattle.page_frames.proofs.records.write_log.Goals as goal
 
-pub program_log-requires-clause-place : goal.program_log-requires-clause-place
-program_log-requires-clause-place g c =
-    (spot_within (g.C.Chip.told c.args.chip.now).places (tables_of c.args.parts.now) c.args.unit
+pub program_log-requires-clause-spot : goal.program_log-requires-clause-spot
+program_log-requires-clause-spot g c =
+    let within = spot_within (g.C.Chip.told c.args.chip.now).places (tables_of c.args.parts.now) c.args.unit
     c.args.at.place c.args.at.sector c.requires.may.known.suits c.requires.may.unit
-    c.facts.ensures c.facts-2.ensures c.requires.may.spot).0
-
-pub program_log-requires-clause-sector : goal.program_log-requires-clause-sector
-program_log-requires-clause-sector g c =
-    (spot_within (g.C.Chip.told c.args.chip.now).places (tables_of c.args.parts.now) c.args.unit
-    c.args.at.place c.args.at.sector c.requires.may.known.suits c.requires.may.unit
-    c.facts.ensures c.facts-2.ensures c.requires.may.spot).1
+    c.facts.ensures c.facts-2.ensures c.requires.may.spot in
+    record { place = within.0; sector = within.1 }
 
 pub use_spot-requires : goal.use_spot-requires
 use_spot-requires g c =
@@ -70,7 +65,7 @@ returns-in_err-program_log-clause-steps g c =
     rw (e.1, e.2) (log_steps old.places c.args.unit at payload t (with_next t c.draw.new.self)
     (sector_of head payload.bytes) old
     (g.C.Chip.told c.program_log.new.chip) c.requires.may.unit is
-    (Err c.in_err-program_log.field-0.0) c.requires.may.spot tt says.keeps says.accounts.cause)
+    (Err c.in_err-program_log.field-0.0) c.requires.may.spot tt says.keeps says.writes.accounts.cause)
 
 pub returns-clause-steps : goal.returns-clause-steps
 returns-clause-steps g c =
@@ -88,7 +83,7 @@ returns-clause-steps g c =
     log_steps old.places u at payload t after (sector_of head payload.bytes) old
     (g.C.Chip.told c.program_log.new.chip)
     c.requires.may.unit is (Ok tt) c.requires.may.spot tables says.keeps
-    says.accounts.cause
+    says.writes.accounts.cause
 
 pub returns-clause-tells : goal.returns-clause-tells
 returns-clause-tells g c =
@@ -118,7 +113,7 @@ returns-in_err-program_log-clause-uses g c =
       places = refl;
       uses = refl;
       drawn = c.draw.ensures.next;
-      costs = c.in_err-program_log.ensures.costs;
+      costs = c.in_err-program_log.ensures.writes.costs;
     })
 
 pub returns-clause-uses : goal.returns-clause-uses
@@ -133,7 +128,7 @@ returns-clause-uses g c =
       places = log_current t after u at.place at.sector mask (t.next + 1) is;
       uses = log_uses t after u at.place at.sector mask (t.next + 1) is;
       drawn = log_next t after u at.place at.sector mask (t.next + 1) is;
-      costs = c.in_ok-program_log.ensures.costs;
+      costs = c.in_ok-program_log.ensures.writes.costs;
     }
 
 pub returns-in_err-program_log-clause-leaves : goal.returns-in_err-program_log-clause-leaves
@@ -151,11 +146,11 @@ returns-in_err-program_log-clause-leaves g c =
     rw (e.1, e.2) (record {
       holds = holds_drawn old.places t next may.known;
       draws = (omega (arith, drawn), omega (arith, drawn));
-      wears = rw says.accounts.cause.0 (unwritten_wears t (with_next t next) at.place 5 old new refl
-          says.costs);
+      wears = rw says.writes.accounts.cause.0 (unwritten_wears t (with_next t next) at.place 5 old new refl
+          says.writes.costs);
       tidy = fails_tidily old.places t t c.args.unit at.place at.sector 0 next may.known may.unit
-          (Unit {0}) fault old new may.spot says.accounts.cause.1 says.tidy;
-      accounts = says.accounts;
+          (Unit {0}) fault old new may.spot says.writes.accounts.cause.1 says.writes.tidy;
+      accounts = says.writes.accounts;
     })
 
 pub returns-clause-leaves : goal.returns-clause-leaves
@@ -175,8 +170,8 @@ returns-clause-leaves g c =
       holds = log_holds old.places t u at.place at.sector (mask_by payload) (t.next + 1) may.known after is;
       draws = (omega (arith, drawn), omega (arith, drawn));
       wears = logs_wear_nothing t after u at.place at.sector (mask_by payload) (t.next + 1)
-          (sector_of c.written-head.result payload.bytes) old new is says.costs says.tells;
+          (sector_of c.written-head.result payload.bytes) old new is says.writes.costs says.tells;
       tidy = logs_tidily old.places t after u at.place at.sector (mask_by payload) (t.next + 1) may.known
-          may.unit (Unit {0}) (Ok tt) old new c.facts.ensures.logs is says.tidy;
-      accounts = says.accounts;
+          may.unit (Unit {0}) (Ok tt) old new c.facts.ensures.logs is says.writes.tidy;
+      accounts = says.writes.accounts;
     }
