@@ -1,12 +1,15 @@
 -- What the calls leave that write a unit to a place: page by page, sector by sector, and sealed.
-use Rattle.std.specs.Prelude.{ℕ, ◌≡◌, ◌≢◌, ◌<◌, ◌≤◌, ◌+◌, List, length, None, Result, is_ok, OnOk}
+use Rattle.std.specs.Prelude.{ℕ, ◌≡◌, ◌≢◌, ◌<◌, ◌≤◌, ◌+◌, Bool, List, length, Option, None, Result, is_ok, IfSome, IfNone, OnSome, OnOk}
 use Rattle.log_records.specs.View.{Versioned}
-use Rattle.ipl_base.specs.declared.limits.TheConstants.{PAGES, PAGE_SECTORS, FIRST_LOG_SECTOR}
+use Rattle.ipl_base.specs.Sizes.{size_of_values}
+use Rattle.ipl_base.specs.declared.limits.TheConstants.{PAGES, PAGE_LEN, PAGE_SECTORS, FIRST_LOG_SECTOR, VERSION}
 use Rattle.chip_trait.specs.Chart.{with_sector}
 use Rattle.chip_trait.specs.Lawful.{Clean, age}
 use Rattle.chip_trait.specs.Story.{Story}
 use Rattle.chip_trait.specs.Told.{History, Told}
 use Rattle.ipl_base.specs.declared.fault.ChipFault.{ChipFault}
+use Rattle.ipl_format.specs.Page.{Slots, IsPage, page_text, value_in}
+use Rattle.ipl_format.specs.Record.{Record}
 use Rattle.ipl_format.specs.Sector.{Sector}
 use Rattle.ipl_rules.specs.State.{Map}
 use Rattle.ipl_meaning.specs.Chart.{Chart}
@@ -22,8 +25,10 @@ use Rattle.unit_io.specs.Charts.{Gains, Spares}
 use Rattle.unit_io.specs.Costs.{Spends}
 use Rattle.unit_io.specs.Leads.{IsSteady, KeepsMap}
 use Rattle.unit_io.specs.Spots.{Programs, IsSpot, IsPieceSpot}
+use Rattle.unit_io.specs.Tails.{FitTails}
+use Rattle.page_ops.specs.Rebuilt.{with_records}
 use Rattle.merge_laws.specs.Merged.{IsUnitHead, IsToMerge, IsWritten}
-use Rattle.merge_laws.specs.Moved.{Source, MovesPage, HasMoved, IsAside}
+use Rattle.merge_laws.specs.Moved.{Source, IsRebased, MovesPage, HasMoved, IsAside}
 use Rattle.merge_laws.specs.Packs.{IsLogSpotBelow, HasLogs}
 use Rattle.merge_laws.specs.Pages.{IsBaseSpotBelow, IsFew}
 use Rattle.selective_merge.specs.Throughout.{KeepsThroughout}
@@ -55,6 +60,15 @@ pub record DrawsSerials {T : Type 0} (n : ℕ) (result : Result T ChipFault) (be
   pub draws : (before ≤ after) × (after ≤ before + n)
 
 -- ---- pages
+
+-- The page in memory was made anew with the records of committed numbers, and these are tails of it. Or
+-- it has no room for them, and then there are none.
+pub record MakesAnew (committed : ℕ → Bool) (records : List Record) (page : ℕ)
+    (result : Option (List (Option ℕ))) (base new : Slots) : Type 0 where
+  pub rebased : OnSome result (IsRebased committed records page base new)
+  pub fits : OnSome result (IsPage VERSION new)
+  pub tails : IfSome result (λ tails. FitTails (page_text VERSION new) tails)
+  pub full : IfNone result (PAGE_LEN < size_of_values (with_records committed page records (value_in base)))
 
 -- one page, moved to a place without a header
 abbrev pub MovesOnePage : ℕ → Source → ℕ → ℕ → ℕ → Told → Result ℕ ChipFault → Told → Type 0

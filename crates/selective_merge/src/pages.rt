@@ -1,13 +1,14 @@
 //! The pages of a unit, moved to another place with the committed records applied.
-ghost use Rattle.std.specs.Prelude.{◌≡◌, ◌<◌, ◌≤◌, ◌+◌, length, take, drop, replicate, slice_index, IfOk, IfSome};
+ghost use Rattle.std.specs.Prelude.{◌≡◌, ◌<◌, ◌≤◌, ◌+◌, length, take, drop, IfOk};
 ghost use Rattle.std.specs.Bool.{OnTrue, OnFalse};
 ghost use Rattle.ipl_base.specs.Sizes.{size_of_values};
-ghost use Rattle.ipl_base.specs.declared.limits.TheConstants.{LIVE_RECORDS, PAGE_LEN, PAGE_SECTORS, SLOTS, VERSION};
-ghost use Rattle.ipl_format.specs.Page.{IsPage, value_in};
+ghost use Rattle.ipl_base.specs.declared.limits.TheConstants.{LIVE_RECORDS, PAGE_LEN, PAGE_SECTORS, VERSION};
+ghost use Rattle.ipl_format.specs.Page.{IsPage, page_text, value_in};
 ghost use Rattle.ipl_meaning.specs.Values.{Values};
 ghost use Rattle.unit_io.specs.Costs.{ProgramsAt};
 ghost use Rattle.unit_io.specs.Reads.{OfContents};
 ghost use Rattle.unit_io.specs.Spots.{IsPieceSpot};
+ghost use Rattle.unit_io.specs.Tails.{FitTails};
 ghost use Rattle.page_ops.specs.Rebuilt.{with_records, AreComing, IsMaking};
 ghost use Rattle.merge_laws.specs.Faults.{page_fault_from, pages_fault, TellsTheFault};
 ghost use Rattle.merge_laws.specs.Pages.{IsBaseSpotBelow, IsFew};
@@ -16,17 +17,17 @@ ghost use Rattle.merge_laws.specs.Moved.{IsRebased, MovesPage, HasMoved, IsAside
 ghost use Rattle.selective_merge.specs.Homes.{from_home, is_counted, MoveCause};
 ghost use Rattle.selective_merge.specs.Logs.{nth_record};
 ghost use Rattle.selective_merge.specs.Throughout.{ChartsThroughout};
-ghost use Rattle.selective_merge.specs.Writing.{MayMove, MovesOnePage, MovesPages, WritesPlace};
+ghost use Rattle.selective_merge.specs.Writing.{MakesAnew, MayMove, MovesOnePage, MovesPages, WritesPlace};
 
 use crate::home::HomeHeader;
 use crate::log::Log;
 use chip_trait::Chip;
-use ipl_base::{ChipFault, PAGES, VERSION};
+use ipl_base::{ChipFault, PAGE_LEN, PAGES, VERSION};
 use page_ops::{Coming, apply_where_room};
 use page_text::PageMap;
 use sector_format::Head;
 use txn_status::Status;
-use unit_io::{program_page, read_page};
+use unit_io::{kept_tails, known_tails, program_page, read_page};
 
 /// Whether a number is committed.
 fn is_committed(status: &Status, tid: u64) -> bool
@@ -101,41 +102,75 @@ fn take_record(
 
 /// Makes a page (0 to 14) anew with the records whose numbers are committed, of which so many are to
 /// come: each slot that has such records is emptied, and then its last one is done. False where the
-/// page has no room for all of them. Where none is to come, the page stays as it is.
-fn make_anew(slots: &mut PageMap, mut coming: Coming, page: u32, log: &Log, status: &Status) -> bool
+/// page has no room for all of them.
+fn apply_coming(
+    slots: &mut PageMap,
+    mut coming: Coming,
+    page: u32,
+    log: &Log,
+    status: &Status,
+) -> bool
     requires coming { AreComing (among status.now.numbers) page log.now coming }
-    ensures kept { coming ≡ replicate SLOTS 0 → slots.new ≡ slots.old }
     ensures rebased { OnTrue result
         (IsRebased (among status.now.numbers) log.now page slots.old slots.new) }
     ensures page { OnTrue result (IsPage VERSION slots.new) }
     ensures full { OnFalse result (PAGE_LEN < size_of_values
         (with_records (among status.now.numbers) page log.now (value_in slots.old))) }
 {
-    // What is kept in memory as a text has room for it.
-    let _ = slots.text();
-    if coming.is_none() {
-        return true;
-    }
     coming.clear(slots);
     for i in 0..log.len() {
         if !take_record(slots, &mut coming, page, log, i, status) {
             return false;
         }
     }
+    // What is kept in memory as a text has room for it.
     let _ = slots.text();
     true
 }
 
-/// What the pieces of a page bring into sums, where it is written as it was read: its text is of the
-/// version that is written, and no record is to come on any slot.
-fn known_tails<'a>(tails: &'a [u32; 16], version: u8, coming: &Coming) -> Option<&'a [u32; 16]>
-    ensures { IfSome result (λ all.
-        (all.now ≡ tails.now) × (version ≡ VERSION) × (coming.now ≡ replicate SLOTS 0)) }
+/// Makes a page (0 to 14) anew with the records whose numbers are committed, of which so many are to
+/// come, and answers its tails, by those that it had: of each piece of its text that stays the same.
+/// None where the page has no room for all of them.
+fn make_changed(
+    slots: &mut PageMap,
+    coming: Coming,
+    page: u32,
+    log: &Log,
+    status: &Status,
+    tails: &[Option<u32>; 16],
+) -> Option<[Option<u32>; 16]>
+    requires coming { AreComing (among status.now.numbers) page log.now coming }
+    requires tails { FitTails (page_text VERSION slots.old) tails.now }
+    ensures makes { MakesAnew (among status.now.numbers) log.now page result slots.old slots.new }
 {
-    if version == VERSION && coming.is_none() {
-        return Some(tails);
+    let mut before = [0; PAGE_LEN];
+    let end = page_text::write(slots, &mut before, VERSION);
+    if !apply_coming(slots, coming, page, log, status) {
+        return None;
     }
-    None
+    Some(kept_tails(&before[..end], slots.text(), tails))
+}
+
+/// Makes a page (0 to 14) anew as `make_changed` does. Where no record is to come, the page stays as
+/// it is, with all of its tails.
+fn make_anew(
+    slots: &mut PageMap,
+    coming: Coming,
+    page: u32,
+    log: &Log,
+    status: &Status,
+    tails: &[Option<u32>; 16],
+) -> Option<[Option<u32>; 16]>
+    requires coming { AreComing (among status.now.numbers) page log.now coming }
+    requires tails { FitTails (page_text VERSION slots.old) tails.now }
+    ensures makes { MakesAnew (among status.now.numbers) log.now page result slots.old slots.new }
+{
+    // What is kept in memory as a text has room for it.
+    let _ = slots.text();
+    if coming.is_none() {
+        return Some(*tails);
+    }
+    make_changed(slots, coming, page, log, status, tails)
 }
 
 /// Reads a page (0 to 14) where the unit stands into a page in memory, and programs it as the
@@ -172,15 +207,15 @@ fn move_page<C: Chip>(
     let count = u32::from(home.pieces[page as usize]);
     let mut tails = [0; 16];
     read_page(chip, home.place, &home.head, page, count, slots, &mut tails)?;
+    let known = known_tails(&tails, home.head.version);
     let coming = count_coming(page, log, status);
-    let known = known_tails(&tails, home.head.version, &coming);
-    if !make_anew(slots, coming, page, log, status) {
+    let Some(kept) = make_anew(slots, coming, page, log, status, &known) else {
         return Err(ChipFault::Malformed {
             place: home.place,
             sector: 0,
         });
-    }
-    program_page(chip, place, head, page, slots, known)
+    };
+    program_page(chip, place, head, page, slots, &kept)
 }
 
 /// Moves all pages of a unit to a place without a header, as the committed records leave them, and

@@ -1,5 +1,5 @@
 -- What the pieces of a text bring into the sums of the sectors that hold them.
-use Rattle.std.specs.Prelude.{ℕ, ◌≡◌, ◌<◌, ◌*◌, List, length, slice_index}
+use Rattle.std.specs.Prelude.{ℕ, ◌≡◌, ◌<◌, ◌*◌, List, length, Option, None, IfSome, slice_index, slice_index_or}
 use Rattle.crc_sum.specs.Crc.{tail_sum}
 use Rattle.ipl_base.specs.declared.limits.TheConstants.{PAYLOAD_LEN}
 use Rattle.ipl_format.specs.Sector.{filled}
@@ -9,3 +9,8 @@ use Rattle.ipl_format.specs.Page.{piece_of}
 abbrev pub AreTails : List ℕ → List ℕ → Type 0
 AreTails text tails = (i : ℕ) → PAYLOAD_LEN * i < length text
     → slice_index tails i ≡ tail_sum (filled (piece_of text i))
+
+-- the same for some of the pieces: a tail that is there is that of its piece
+abbrev pub FitTails : List ℕ → List (Option ℕ) → Type 0
+FitTails text tails = (i : ℕ) → PAYLOAD_LEN * i < length text
+    → IfSome (slice_index_or tails i None) (λ tail. tail ≡ tail_sum (filled (piece_of text i)))

@@ -14,8 +14,8 @@
 //! Proved, by `read_head`, `read_log`, `read_commit`, `read_noted`, `read_page`, `page_laws`:
 //! headers, log sectors, commit sectors, marks and pages are read exactly as the chip holds them;
 //! the first fault of a page in order; which reads were asked; and what the pieces of a page bring
-//! into sums, with which it is programmed at another place (`AreTails`). By `read_found`: which
-//! sectors are erased.
+//! into sums (`AreTails`). By `known_tails`, `kept_tails`: with which of them it is programmed at
+//! another place (`FitTails`). By `read_found`: which sectors are erased.
 #![tactic(auto)]
 
 mod calls;
@@ -26,6 +26,7 @@ mod pages;
 mod places;
 mod reading;
 mod sectors;
+mod tails;
 
 pub use calls::barrier;
 pub use commits::{add_commit, add_mark, prepare_commit};
@@ -35,3 +36,4 @@ pub use pages::program_page;
 pub use places::{begin_unit, seal};
 pub use reading::{Found, read_commit, read_found, read_head, read_log, read_noted, read_sector};
 pub use sectors::program_log;
+pub use tails::{kept_tails, known_tails};

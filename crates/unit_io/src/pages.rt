@@ -1,5 +1,5 @@
 //! The base sectors of a page.
-ghost use Rattle.std.specs.Prelude.{◌≡◌, ◌<◌, ◌≤◌, ◌+◌, ◌*◌, ℕ, List, length, Some, None, IfOk, IfSome, OnOk};
+ghost use Rattle.std.specs.Prelude.{◌≡◌, ◌<◌, ◌≤◌, ◌+◌, ◌*◌, ℕ, length, Some, None, IfOk, IfSome, OnOk};
 ghost use Rattle.ipl_base.specs.declared.limits.TheConstants.{PAGE_LEN, PAGE_SECTORS, PAYLOAD_LEN, VERSION};
 ghost use Rattle.chip_trait.specs.Lawful.{Clean, age};
 ghost use Rattle.chip_trait.specs.Told.{Told, History};
@@ -16,7 +16,7 @@ ghost use Rattle.unit_io.specs.Spots.{Programs, IsSpot, IsPieceSpot};
 ghost use Rattle.unit_io.specs.Costs.{ProgramsAt};
 ghost use Rattle.unit_io.specs.Charts.{Charts, Spares, Gains, HasPieces, HasPageSectors};
 ghost use Rattle.unit_io.specs.Plain.{AddsPlain};
-ghost use Rattle.unit_io.specs.Tails.{AreTails};
+ghost use Rattle.unit_io.specs.Tails.{FitTails};
 ghost use Rattle.unit_io.specs.Writing.{AddsPage, OnlyPrograms};
 ghost use Rattle.sector_format.specs.Decode.{sector_of};
 
@@ -28,7 +28,7 @@ use sector_format::{Head, encode, encode_by};
 use unit_layout::base_sector;
 
 /// A piece (0 to 15) of a text: 480 bytes, or what is left.
-fn piece_of(text: &[u8], piece: u32) -> &[u8]
+pub(crate) fn piece_of(text: &[u8], piece: u32) -> &[u8]
     requires few { piece < PAGE_SECTORS }
     requires within { PAYLOAD_LEN * piece ≤ length text.now }
     ensures piece { result.now ≡ piece_of text.now piece }
@@ -36,16 +36,6 @@ fn piece_of(text: &[u8], piece: u32) -> &[u8]
 {
     let start = piece as usize * PAYLOAD_LEN;
     &text[start..text.len().min(start + PAYLOAD_LEN)]
-}
-
-/// What a piece (0 to 15) brings into the sum of its sector, where that was taken before.
-fn tail_at(tails: Option<&[u32; 16]>, piece: u32) -> Option<u32>
-    requires { piece < PAGE_SECTORS }
-    ensures { (text : List ℕ) → IfSome tails.entry (λ all. AreTails text all.now)
-        → PAYLOAD_LEN * piece < length text
-        → IfSome result (λ tail. tail ≡ tail_sum (filled (piece_of text piece))) }
-{
-    Some(tails?[piece as usize])
 }
 
 /// Writes the sector of a head and a payload, by what the payload brings into the sum where that was
@@ -97,7 +87,7 @@ fn program_piece<C: Chip>(
 }
 
 /// How many pieces a text of at most 7,680 bytes is cut into.
-fn piece_count(text: &[u8]) -> u32
+pub(crate) fn piece_count(text: &[u8]) -> u32
     requires { length text.now ≤ PAGE_LEN }
     ensures cut { IsCutInto text.now result }
     ensures few { result ≤ PAGE_SECTORS }
@@ -112,12 +102,12 @@ fn program_pieces<C: Chip>(
     head: &Head,
     page: u32,
     text: &[u8],
-    tails: Option<&[u32; 16]>,
+    tails: &[Option<u32>; 16],
 ) -> Result<u32, ChipFault>
     requires place { place < (C.told chip.old).places }
     requires page { page < 15 }
     requires fits { length text.now ≤ PAGE_LEN }
-    requires tails { IfSome tails (λ all. AreTails text.now all.now) }
+    requires tails { FitTails text.now tails.now }
     ensures keeps { (m : Map) (h : History) → IsSteady h (C.told chip.old) → StoryRests (C.told chip.old).places m h
         → now h place 0 ≡ None → ((s : ℕ) → IsPieceSpot page PAGE_SECTORS s → age h.story place s ≡ Clean)
         → KeepsMap (C.told chip.old).places m (Programs place (IsPieceSpot page PAGE_SECTORS))
@@ -130,7 +120,7 @@ fn program_pieces<C: Chip>(
 {
     let count = piece_count(text);
     for piece in 0..count {
-        let tail = tail_at(tails, piece);
+        let tail = tails[piece as usize];
         program_piece(chip, place, head, page, piece, text, tail)?;
     }
     Ok(count)
@@ -142,19 +132,19 @@ fn program_pieces<C: Chip>(
 /// At a place without a header, whatever a power cut leaves stands for the map on which the story rested, and done, it rests
 /// on that map. Nothing makes sure of the sectors: that is for the barrier before the header.
 ///
-/// Tails that are given are those of the page's text, as where it is moved as it was read. Then its
-/// pieces aren't summed again.
+/// Tails that are given are those of the page's text, as of its pieces that are moved as they were
+/// read. These aren't summed again.
 pub fn program_page<C: Chip>(
     chip: &mut C,
     place: u32,
     head: &Head,
     page: u32,
     map: &PageMap,
-    tails: Option<&[u32; 16]>,
+    tails: &[Option<u32>; 16],
 ) -> Result<u32, ChipFault>
     requires place { place < (C.told chip.old).places }
     requires page { page < 15 }
-    requires tails { IfSome tails (λ all. AreTails (page_text VERSION map.now) all.now) }
+    requires tails { FitTails (page_text VERSION map.now) tails.now }
     ensures keeps { (m : Map) (h : History) → IsSteady h (C.told chip.old) → StoryRests (C.told chip.old).places m h
         → now h place 0 ≡ None → ((s : ℕ) → IsPieceSpot page PAGE_SECTORS s → age h.story place s ≡ Clean)
         → KeepsMap (C.told chip.old).places m (Programs place (IsPieceSpot page PAGE_SECTORS))

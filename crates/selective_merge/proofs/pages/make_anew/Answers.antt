@@ -1,25 +1,17 @@
-use Rattle.std.proofs.Common.{◌≡◌, replicate, refl, arith, rules}
+use Rattle.std.proofs.Common.{◌≡◌, replicate, rules}
 use Rattle.ipl_format.specs.Page.{value_in}
 use Rattle.merge_laws.specs.Packs.{among}
-use Rattle.page_ops.proofs.RebuildLemmas.{making_first, none_comes}
-use Rattle.selective_merge.proofs.PageLemmas.{made_all}
+use Rattle.page_ops.proofs.RebuildLemmas.{none_comes}
 use Rattle.selective_merge.proofs.pages.make_anew.Goals as goal
 
-pub loop-i-init : goal.loop-i-init
-loop-i-init c = record {
-  making = making_first (among c.args.status.now.numbers) c.args.page c.args.log.now
-      (value_in c.args.slots.now) c.args.coming c.args.slots.now _
-      c.requires.coming (λ slot low. refl) c.clear.ensures.cleared;
-}
-
-pub returns-clause-rebased : goal.returns-clause-rebased
-returns-clause-rebased c =
-    made_all (among c.args.status.now.numbers) c.args.page c.args.log.now
-    c.loop-i.i _ c.loop-i.coming c.loop-i.slots
-    (omega arith) c.loop-i.invariant.making
-
-pub returns-then-is_none-clause-rebased : goal.returns-then-is_none-clause-rebased
-returns-then-is_none-clause-rebased c =
-    let none : c.args.coming ≡ replicate 64 0 = search rules in
-    none_comes (among c.args.status.now.numbers) c.args.page c.args.log.now c.args.coming
-    (value_in c.args.slots.now) c.requires.coming none
+pub returns-then-is_none : goal.returns-then-is_none
+returns-then-is_none c =
+    let none : c.args.coming ≡ replicate 64 0 = search rules in record {
+      makes = record {
+        rebased = none_comes (among c.args.status.now.numbers) c.args.page c.args.log.now c.args.coming
+            (value_in c.args.slots.now) c.requires.coming none;
+        fits = c.text.ensures.text.slots;
+        tails = c.requires.tails;
+        full = tt;
+      };
+    }

@@ -42,8 +42,8 @@ returns-clause-moves g c =
     let from = from_home c.args.home.now c.args.status.now.numbers c.args.log.now in
     let read = c.in_ok-read_page.ensures.reads in
     page_moves old.places from c.args.place c.args.head.now.generation c.args.page
-    c.read_page.new.into c.make_anew.new.slots c.if-not-make_anew.ensures.page
-    c.if-not-make_anew.ensures.rebased old mid late
+    c.read_page.new.into c.make_anew.new.slots c.in-Some.ensures.makes.fits
+    c.in-Some.ensures.makes.rebased old mid late
     (page_asked_at {T = Unit {0}} from.place c.args.page c.from-count.result (Ok tt) old mid read.asks
     read.accounts.counts) _ c.from-count.ensures c.args.head.now.unit c.requires.unit read.holds
     c.program_page.result c.program_page.ensures.keeps
@@ -57,8 +57,8 @@ returns-clause-tells g c =
     let from = from_home c.args.home.now c.args.status.now.numbers c.args.log.now in
     let read = c.in_ok-read_page.ensures.reads in
     page_tells old.places from c.args.place c.args.head.now.generation c.args.page
-    c.read_page.new.into c.make_anew.new.slots c.if-not-make_anew.ensures.page
-    c.if-not-make_anew.ensures.rebased old mid late
+    c.read_page.new.into c.make_anew.new.slots c.in-Some.ensures.makes.fits
+    c.in-Some.ensures.makes.rebased old mid late
     (page_asked_at {T = Unit {0}} from.place c.args.page c.from-count.result (Ok tt) old mid read.asks
     read.accounts.counts) _ c.from-count.ensures c.args.head.now.unit c.requires.unit read.holds
     c.program_page.result c.program_page.ensures.adds.tells c.program_page.ensures.writes.accounts.cause
@@ -79,13 +79,13 @@ returns-clause-fault g c = λ x told.
     (page_fine x from c.args.page c.from-count.result c.read_page.new.into c.from-count.ensures
     (c.in_ok-read_page.ensures.reads.holds x told)
     (rebased_fits from.committed from.records c.args.page c.read_page.new.into c.make_anew.new.slots
-    c.if-not-make_anew.ensures.rebased c.if-not-make_anew.ensures.page))
+    c.in-Some.ensures.makes.rebased c.in-Some.ensures.makes.fits))
     c.program_page.ensures.writes.accounts.cause
 
 -- ---- no room
 
-pub returns-then-not-make_anew-clause-moves : goal.returns-then-not-make_anew-clause-moves
-returns-then-not-make_anew-clause-moves g c =
+pub returns-in_default-clause-moves : goal.returns-in_default-clause-moves
+returns-in_default-clause-moves g c =
     let old = g.C.Chip.told c.args.chip.now in
     let new = g.C.Chip.told c.read_page.new.chip in
     let from = from_home c.args.home.now c.args.status.now.numbers c.args.log.now in
@@ -94,8 +94,8 @@ returns-then-not-make_anew-clause-moves g c =
     (Malformed from.place 0) old new (page_asked_at {T = Unit {0}} from.place c.args.page
     c.from-count.result (Ok tt) old new read.asks read.accounts.counts)
 
-pub returns-then-not-make_anew-clause-tells : goal.returns-then-not-make_anew-clause-tells
-returns-then-not-make_anew-clause-tells g c =
+pub returns-in_default-clause-tells : goal.returns-in_default-clause-tells
+returns-in_default-clause-tells g c =
     let old = g.C.Chip.told c.args.chip.now in
     let new = g.C.Chip.told c.read_page.new.chip in
     let read = c.in_ok-read_page.ensures.reads in
@@ -106,11 +106,11 @@ returns-then-not-make_anew-clause-tells g c =
       aside_none c.args.place (chart_of x),
     )
 
-pub returns-then-not-make_anew-clause-fault : goal.returns-then-not-make_anew-clause-fault
-returns-then-not-make_anew-clause-fault g c = λ x told alone.
+pub returns-in_default-clause-fault : goal.returns-in_default-clause-fault
+returns-in_default-clause-fault g c = λ x told alone.
     page_full x (from_home c.args.home.now c.args.status.now.numbers c.args.log.now) c.args.page
     c.from-count.result c.read_page.new.into c.from-count.ensures
-    (c.in_ok-read_page.ensures.reads.holds x told) c.if-not-make_anew.ensures.full
+    (c.in_ok-read_page.ensures.reads.holds x told) c.in_default.ensures.makes.full
 
 -- ---- what is spent
 
@@ -138,8 +138,8 @@ returns-in_err-read_page-clause-spends g c =
     unread.accounts.counts)
     (page_unmoved home c.args.page fault old new c.requires.page unread.accounts.cause))
 
-pub returns-then-not-make_anew-clause-spends : goal.returns-then-not-make_anew-clause-spends
-returns-then-not-make_anew-clause-spends g c =
+pub returns-in_default-clause-spends : goal.returns-in_default-clause-spends
+returns-in_default-clause-spends g c =
     let old = g.C.Chip.told c.args.chip.now in
     let new = g.C.Chip.told c.read_page.new.chip in
     let home = c.args.home.now.place in

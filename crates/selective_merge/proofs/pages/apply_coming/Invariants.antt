@@ -2,7 +2,7 @@ use Rattle.std.proofs.Common.{drop}
 use Rattle.ipl_format.specs.Page.{value_in}
 use Rattle.merge_laws.specs.Packs.{among}
 use Rattle.page_ops.specs.Rebuilt.{IsMaking}
-use Rattle.selective_merge.proofs.pages.make_anew.Given as goal
+use Rattle.selective_merge.proofs.pages.apply_coming.Given as goal
 
 abbrev pub invariant-loop-i : goal.invariant-loop-i
 invariant-loop-i l = record {
