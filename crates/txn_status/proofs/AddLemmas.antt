@@ -41,8 +41,19 @@ use Rattle.number_set.proofs.NumberLemmas.{numbers_are_a_union}
 use Rattle.number_set.proofs.AmongLemmas.{also_is_a_union}
 use Rattle.txn_status.specs.Commits.{commit_sector}
 use Rattle.txn_status.specs.Adding.{HasStatus, MayAdd, with_added, layout_added, Added, Adds, AddsInSteps}
-use Rattle.unit_io.specs.Writing.{LeadsCommit}
+use Rattle.unit_io.specs.Costs.{ProgramsAt}
+use Rattle.unit_io.specs.Writing.{LeadsCommit, OnlyPrograms}
+use Rattle.txn_status.specs.Writing.{WritesOneSector}
 use Rattle.txn_status.proofs.SetLemmas.{mirrors_looks_at_the_set}
+
+-- ---- what is programmed
+
+-- one sector of a kind, and a barrier
+pub one_sector : (p s kind : ℕ) (result : Result (Unit {0}) ChipFault) (old new : Told)
+    → OnlyPrograms (ProgramsAt p 1 1 kind) p (IsSpot s) result old new
+    → WritesOneSector p s kind result old new
+one_sector p s kind result old new only =
+    record { costs = only.costs; tidy = only.tidy; accounts = only.accounts }
 
 -- ---- the chart and the tables
 

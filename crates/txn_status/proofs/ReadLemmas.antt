@@ -179,12 +179,13 @@ noted_found c p generation s o some is =
 
 -- ---- the sectors of a place
 
-pub number_more : (c : Chart) (p generation s greatest next : ℕ)
+pub number_more : (c : Chart) (p generation s greatest noted next : ℕ)
     → greatest ≡ greatest_of_notes 0 c (under p generation) s
-    → next ≡ max greatest (noted_number (noted_at c (under p generation) s))
+    → noted ≡ noted_number (noted_at c (under p generation) s) → next ≡ max greatest noted
     → next ≡ greatest_of_notes 0 c (under p generation) (s + 1)
-number_more c p generation s greatest next so_far number =
-    number ∙ ap (λ (n : ℕ). max n (noted_number (noted_at c (under p generation) s))) so_far
+number_more c p generation s greatest noted next so_far own number =
+    number ∙ ap (max greatest) own
+    ∙ ap (λ (n : ℕ). max n (noted_number (noted_at c (under p generation) s))) so_far
     ∙ sym (greatest_step 0 (λ j. noted_number (noted_at c (under p generation) j)) s)
 
 -- the marks with one sector more

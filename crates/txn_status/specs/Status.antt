@@ -4,6 +4,11 @@ use Rattle.ipl_base.specs.declared.limits.TheConstants.{SECTORS, COMMIT_NUMBERS,
 use Rattle.ipl_meaning.specs.Tables.{StatusTable}
 use Rattle.number_set.specs.Numbers.{with_numbers, AreRising}
 
+-- the status of these
+abbrev pub status_of : ℕ → ℕ → List ℕ → ℕ → StatusTable
+status_of place generation numbers first =
+    record { place = place; generation = generation; numbers = numbers; first = first }
+
 -- no number is committed, and no sector of place 0 is known clean
 abbrev pub empty_status : StatusTable
 empty_status = record { place = 0; generation = 0; numbers = []; first = SECTORS }

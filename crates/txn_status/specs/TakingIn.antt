@@ -1,5 +1,5 @@
 -- What is taken in of a status place: numbers, marks, and the greatest number found.
-use Rattle.std.specs.Prelude.{ℕ, ◌≡◌, max, List, [], Option}
+use Rattle.std.specs.Prelude.{ℕ, ◌≡◌, List, [], Option}
 use Rattle.ipl_format.specs.Sector.{Sector}
 use Rattle.ipl_meaning.specs.Chart.{Chart}
 use Rattle.opening_laws.specs.Live.{sectors, kept, is_commit_sector}
@@ -9,13 +9,13 @@ use Rattle.number_set.specs.Numbers.{with_numbers}
 use Rattle.txn_status.specs.ReadingIn.{under}
 use Rattle.txn_status.specs.Marks.{MarksRead, with_noted, marks_in}
 
--- What is noted at a sector came to the numbers and to the marks that were read before; and this is
--- the greatest number, of the one before and its own.
-pub record TakesIn (noted : Option Sector) (greatest n : ℕ) (old new : List ℕ)
-    (before after : MarksRead) : Type 0 where
+-- what is noted at a sector came to the numbers and to the marks that were read before; and this is
+-- its greatest number
+pub record TakesIn (noted : Option Sector) (n : ℕ) (old new : List ℕ) (before after : MarksRead)
+    : Type 0 where
   pub numbers : new ≡ with_numbers (numbers_of (kept is_commit_sector noted)) old
   pub marks : after ≡ with_noted noted before
-  pub number : n ≡ max greatest (noted_number noted)
+  pub number : n ≡ noted_number noted
 
 -- the numbers and the marks are those of the sectors of this generation at a place, and this is the
 -- greatest number found there

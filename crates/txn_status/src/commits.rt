@@ -2,20 +2,20 @@
 ghost use Rattle.std.specs.Prelude.{◌≡◌, ◌≤◌, ◌<◌, ◌+◌, ◌++◌, length, OnOk};
 ghost use Rattle.ipl_base.specs.declared.limits.TheConstants.{PAYLOAD_LEN};
 ghost use Rattle.ipl_format.specs.Numbers.{long};
-ghost use Rattle.unit_io.specs.Costs.{ProgramsAt, Spends};
+ghost use Rattle.unit_io.specs.Costs.{Spends};
 ghost use Rattle.unit_io.specs.Charts.{Charts, Gains};
-ghost use Rattle.unit_io.specs.Spots.{AddsSector, IsSpot};
+ghost use Rattle.unit_io.specs.Spots.{AddsSector};
 ghost use Rattle.txn_status.specs.Commits.{commit_bytes, commit_sector};
 ghost use Rattle.txn_status.specs.Marking.{mark_sector};
-ghost use Rattle.unit_io.specs.Writing.{LeadsCommit, LeadsMark, LeadsAside, OnlyPrograms};
+ghost use Rattle.unit_io.specs.Writing.{LeadsMark};
 ghost use Rattle.txn_status.specs.Writing.{WritesOneSector};
-ghost use Rattle.sector_format.specs.Written.{written_head};
 
 use arrayvec::ArrayVec;
 use chip_trait::Chip;
 use ipl_base::{ChipFault, PAYLOAD_LEN, Spot};
 use sector_format::Head;
-use unit_io::{add_commit, add_mark, prepare_commit};
+use std::marker::Model;
+use unit_io::{Noted, add_mark};
 
 /// Puts the eight bytes of a number behind others.
 #[tactic(auto, unfolding(ipl_format::specs::Numbers::long))]
@@ -40,40 +40,45 @@ fn payload_of(numbers: &[u64]) -> ArrayVec<u8, PAYLOAD_LEN>
     bytes
 }
 
-/// The head of a commit sector.
-fn commit_head(generation: u64, serial: u64) -> Head
-    ensures { result ≡ written_head 6 0 generation serial }
-{
-    Head::written(Head::COMMIT, 0, generation, serial)
+/// A commit sector that is to be programmed. A contract sees it as that sector.
+#[derive(Drop)]
+pub(crate) struct CommitSector {
+    head: Head,
+    payload: ArrayVec<u8, PAYLOAD_LEN>,
 }
 
-/// Programs a commit sector of these numbers, at most 60, where nothing is open, and makes sure of
-/// it.
-pub(crate) fn write_commit<C: Chip>(
-    chip: &mut C,
-    spot: Spot,
-    generation: u64,
-    serial: u64,
-    numbers: &[u64],
-) -> Result<(), ChipFault>
-    requires place { spot.place < (C.told chip.old).places }
-    requires sector { spot.sector < 256 }
-    requires few { length numbers.now ≤ 60 }
-    ensures leads { LeadsCommit (C.told chip.old).places spot.place spot.sector
-        (commit_sector generation serial numbers.now) (C.told chip.old) result (C.told chip.new) }
-    ensures tells { OnOk result (Charts
-        (Gains spot.place spot.sector (commit_sector generation serial numbers.now))
-        (C.told chip.old) (C.told chip.new)) }
-    ensures writes { WritesOneSector spot.place spot.sector 6 result
-        (C.told chip.old) (C.told chip.new) }
-{
-    let payload = payload_of(numbers);
-    add_commit(
-        chip,
-        spot,
-        &commit_head(generation, serial),
-        payload.as_slice(),
-    )
+impl Model for CommitSector {
+    ghost use Rattle.std.specs.Prelude.{◌≤◌, length};
+    ghost use Rattle.ipl_base.specs.declared.limits.TheConstants.{PAYLOAD_LEN};
+    ghost use Rattle.ipl_format.specs.Sector.{Sector};
+    ghost use Rattle.sector_format.specs.Decode.{sector_of};
+
+    ghost Value = { Sector };
+
+    ghost view = { λ s. sector_of s.head s.payload.items };
+
+    ghost invariant = { λ s. length s.payload.items ≤ PAYLOAD_LEN };
+}
+
+impl CommitSector {
+    /// The commit sector of these numbers, at most 60.
+    pub(crate) fn of(generation: u64, serial: u64, numbers: &[u64]) -> CommitSector
+        requires { length numbers.now ≤ 60 }
+        ensures { result ≡ commit_sector generation serial numbers.now }
+    {
+        CommitSector {
+            head: Head::written(Head::COMMIT, 0, generation, serial),
+            payload: payload_of(numbers),
+        }
+    }
+
+    /// The same, as it is programmed.
+    pub(crate) fn noted(&self) -> Noted<'_>
+        ensures same { result ≡ self.now }
+        ensures fits { length result.payload ≤ PAYLOAD_LEN }
+    {
+        Noted::of(&self.head, self.payload.as_slice())
+    }
 }
 
 /// Programs a close mark of this payload where nothing is open, and makes sure of it.
@@ -98,33 +103,5 @@ pub fn write_mark<C: Chip>(
         (C.told chip.old) (C.told chip.new) }
 {
     let head = Head::written(Head::MARK, 0, generation, serial);
-    add_mark(chip, spot, &head, payload)
-}
-
-/// Programs a commit sector of these numbers, at most 60, into a place without a header.
-pub(crate) fn write_part<C: Chip>(
-    chip: &mut C,
-    spot: Spot,
-    generation: u64,
-    serial: u64,
-    numbers: &[u64],
-) -> Result<(), ChipFault>
-    requires place { spot.place < (C.told chip.old).places }
-    requires sector { spot.sector < 256 }
-    requires few { length numbers.now ≤ 60 }
-    ensures aside { LeadsAside (C.told chip.old).places spot.place spot.sector
-        (commit_sector generation serial numbers.now) (C.told chip.old) result (C.told chip.new) }
-    ensures tells { OnOk result (Charts
-        (Gains spot.place spot.sector (commit_sector generation serial numbers.now))
-        (C.told chip.old) (C.told chip.new)) }
-    ensures writes { OnlyPrograms (ProgramsAt spot.place 1 0 6) spot.place (IsSpot spot.sector) result
-        (C.told chip.old) (C.told chip.new) }
-{
-    let payload = payload_of(numbers);
-    prepare_commit(
-        chip,
-        spot,
-        &commit_head(generation, serial),
-        payload.as_slice(),
-    )
+    add_mark(chip, spot, &Noted::of(&head, payload))
 }

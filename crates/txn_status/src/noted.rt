@@ -15,7 +15,7 @@ ghost use Rattle.txn_status.specs.TakingIn.{TakesIn};
 
 use crate::last_mark::LastMark;
 use crate::payloads::{add_numbers, greatest_number, is_commit};
-use ipl_base::{ChipFault, Spot};
+use ipl_base::ChipFault;
 use number_set::NumberSet;
 use sector_format::Head;
 use unit_layout::is_mark;
@@ -61,77 +61,76 @@ fn take_noted(
     }
 }
 
-/// Takes in the commit sector or close mark at a spot where it has this generation: the greatest
-/// number found, of those before and its own.
+/// A status place that is read: the generation of its header, and how many units the chip has.
+#[derive(Clone, Copy)]
+pub(crate) struct StatusPlace {
+    pub(crate) place: u32,
+    pub(crate) generation: u64,
+    pub(crate) units: u32,
+}
+
+/// Takes in a commit sector or close mark of a place where it has the place's generation, and answers
+/// the greatest number in it; 0 where it hasn't.
 fn take_sector(
-    spot: Spot,
-    generation: u64,
-    units: u32,
+    from: StatusPlace,
+    sector: u32,
     head: &Head,
     payload: &[u8],
     numbers: &mut NumberSet,
     mark: &mut LastMark,
-    greatest: u64,
 ) -> Result<u64, ChipFault>
     requires kind { (6 ≤ head.now.kind) × (head.now.kind ≤ 7) }
-    requires units { units ≤ MOST_UNITS }
+    requires units { from.units ≤ MOST_UNITS }
     requires room { length numbers.old.list + 60 ≤ numbers.old.most }
     ensures takes { IfOk result (λ n. TakesIn
-        (kept (is_noted_of generation) (Some (sector_of head.now payload.now)))
-        greatest n numbers.old.list numbers.new.list mark.old mark.new) }
+        (kept (is_noted_of from.generation) (Some (sector_of head.now payload.now)))
+        n numbers.old.list numbers.new.list mark.old mark.new) }
     ensures grows { GrowsBy 60 numbers.old numbers.new }
-    ensures fault { TellsImageFault (noted_test units spot.place spot.sector
-        (kept (is_noted_of generation) (Some (sector_of head.now payload.now))))
+    ensures fault { TellsImageFault (noted_test from.units from.place sector
+        (kept (is_noted_of from.generation) (Some (sector_of head.now payload.now))))
         (of_image result) }
-    ensures cause { IfErr result (λ e. e ≡ Malformed spot.place spot.sector) }
+    ensures cause { IfErr result (λ e. e ≡ Malformed from.place sector) }
 {
-    if head.generation != generation {
-        return Ok(greatest);
+    if head.generation != from.generation {
+        return Ok(0);
     }
-    if !is_noted(head, payload, units) {
+    if !is_noted(head, payload, from.units) {
         return Err(ChipFault::Malformed {
-            place: spot.place,
-            sector: spot.sector,
+            place: from.place,
+            sector,
         });
     }
-    Ok(greatest.max(take_noted(head, payload, units, numbers, mark)))
+    Ok(take_noted(head, payload, from.units, numbers, mark))
 }
 
-/// Takes in what was found at a spot, a commit sector, a close mark or nothing.
-pub fn take_found(
-    spot: Spot,
-    generation: u64,
-    units: u32,
+/// Takes in what was found at a sector of a place, a commit sector, a close mark or nothing, and answers
+/// the greatest number in it.
+pub(crate) fn take_found(
+    from: StatusPlace,
+    sector: u32,
     found: Option<(Head, usize)>,
     bytes: &[u8; 512],
     numbers: &mut NumberSet,
     mark: &mut LastMark,
-    greatest: u64,
 ) -> Result<u64, ChipFault>
     requires kind { IfSome found (λ it. (6 ≤ it.0.kind) × (it.0.kind ≤ 7)) }
     requires fits { IfSome found (λ it. it.1 ≤ PAYLOAD_LEN) }
-    requires units { units ≤ MOST_UNITS }
+    requires units { from.units ≤ MOST_UNITS }
     requires room { length numbers.old.list + 60 ≤ numbers.old.most }
     ensures takes { IfOk result (λ n. TakesIn
-        (kept (is_noted_of generation) (sector_named bytes.now found))
-        greatest n numbers.old.list numbers.new.list mark.old mark.new) }
+        (kept (is_noted_of from.generation) (sector_named bytes.now found))
+        n numbers.old.list numbers.new.list mark.old mark.new) }
     ensures grows { GrowsBy 60 numbers.old numbers.new }
-    ensures fault { TellsImageFault (noted_test units spot.place spot.sector
-        (kept (is_noted_of generation) (sector_named bytes.now found))) (of_image result) }
-    ensures cause { IfErr result (λ e. e ≡ Malformed spot.place spot.sector) }
+    ensures fault { TellsImageFault (noted_test from.units from.place sector
+        (kept (is_noted_of from.generation) (sector_named bytes.now found))) (of_image result) }
+    ensures cause { IfErr result (λ e. e ≡ Malformed from.place sector) }
     ensures whole { IsWhole bytes.now }
 {
     match found {
-        None => Ok(greatest),
-        Some((head, used)) => take_sector(
-            spot,
-            generation,
-            units,
-            &head,
-            &bytes[32..32 + used],
-            numbers,
-            mark,
-            greatest,
-        ),
+        None => Ok(0),
+        Some((head, used)) => {
+            let payload = &bytes[32..32 + used];
+            take_sector(from, sector, &head, payload, numbers, mark)
+        }
     }
 }

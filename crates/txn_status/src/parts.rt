@@ -11,11 +11,11 @@ ghost use Rattle.txn_status.specs.Switching.{HasParts, IsPartSpot};
 ghost use Rattle.unit_io.specs.Writing.{OnlyPrograms};
 ghost use Rattle.txn_status.specs.Writing.{LeadsParts, LeadsHeader, IsHeaded};
 
-use crate::commits::write_part;
+use crate::commits::CommitSector;
 use chip_trait::Chip;
 use ipl_base::{COMMIT_NUMBERS, ChipFault, Counter, Spot};
 use sector_format::Head;
-use unit_io::seal;
+use unit_io::{prepare_commit, seal};
 use unit_layout::{StatusHeader, write_status_header};
 
 /// How many commit sectors numbers fill, at most 3,840 of them.
@@ -63,11 +63,12 @@ pub(crate) fn write_parts<C: Chip>(
     let count = part_count(numbers);
     for i in 0..count {
         let serial = counter.draw();
+        let part = CommitSector::of(generation, serial, part_of(numbers, i));
         let spot = Spot {
             place,
             sector: 1 + i,
         };
-        write_part(chip, spot, generation, serial, part_of(numbers, i))?;
+        prepare_commit(chip, spot, &part.noted())?;
     }
     Ok(())
 }

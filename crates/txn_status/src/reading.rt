@@ -4,6 +4,7 @@ ghost use Rattle.ipl_base.specs.declared.limits.TheConstants.{MOST_UNITS, STATUS
 ghost use Rattle.ipl_format.specs.Sector.{Sector};
 ghost use Rattle.ipl_meaning.specs.Chart.{chart_of};
 ghost use Rattle.unit_io.specs.Reads.{OfContents};
+ghost use Rattle.unit_io.specs.Spots.{IsOnChip};
 ghost use Rattle.unit_io.specs.ReadsAt.{IsAt, ReadsAt, IsCauseAt};
 ghost use Rattle.ipl_base.specs.First.{first_below};
 ghost use Rattle.opening_laws.specs.Live.{sectors, noted_at};
@@ -13,7 +14,7 @@ ghost use Rattle.txn_status.specs.ReadingIn.{under, of_image, GrowsBy, IsCommitS
 ghost use Rattle.txn_status.specs.TakingIn.{TakesIn, TakesInPlace};
 
 use crate::last_mark::LastMark;
-use crate::noted::take_found;
+use crate::noted::{StatusPlace, take_found};
 use chip_trait::Chip;
 use ipl_base::{ChipFault, SECTORS, Spot};
 use number_set::NumberSet;
@@ -39,72 +40,69 @@ pub(crate) fn read_generation<C: Chip>(chip: &mut C, place: u32) -> Result<u64, 
     }
 }
 
-/// Reads one sector of a place, 1 to 255, and takes in what is found there.
+/// Reads one sector of a place, 1 to 255, takes in what is found there, and answers the greatest number
+/// in it, 0 for none.
 fn read_spot<C: Chip>(
     chip: &mut C,
-    spot: Spot,
-    generation: u64,
-    units: u32,
+    from: StatusPlace,
+    sector: u32,
     numbers: &mut NumberSet,
     mark: &mut LastMark,
-    greatest: u64,
 ) -> Result<u64, ChipFault>
-    requires place { spot.place < (C.told chip.old).places }
-    requires first { 1 ≤ spot.sector }
-    requires sector { spot.sector < 256 }
-    requires units { units ≤ MOST_UNITS }
+    requires spot { IsOnChip (C.told chip.old) from.place sector }
+    requires first { 1 ≤ sector }
+    requires units { from.units ≤ MOST_UNITS }
     requires room { length numbers.old.list + 60 ≤ numbers.old.most }
     ensures takes { IfOk result (λ n. OfContents (C.told chip.old) (λ x.
-        TakesIn (noted_at (chart_of x) (under spot.place generation) spot.sector)
-        greatest n numbers.old.list numbers.new.list mark.old mark.new)) }
+        TakesIn (noted_at (chart_of x) (under from.place from.generation) sector)
+        n numbers.old.list numbers.new.list mark.old mark.new)) }
     ensures grows { GrowsBy 60 numbers.old numbers.new }
     ensures fault { OfContents (C.told chip.old) (λ x. TellsImageFault
-        (noted_fault units (chart_of x) (under spot.place generation) spot.sector)
+        (noted_fault from.units (chart_of x) (under from.place from.generation) sector)
         (of_image result)) }
-    ensures whole { OnOk result (OfContents (C.told chip.old) (λ x.
-        IsWhole (x spot.place spot.sector))) }
-    ensures looks { LooksOnceAt (IsAt spot.place spot.sector) result
+    ensures whole { OnOk result (OfContents (C.told chip.old) (λ x. IsWhole (x from.place sector))) }
+    ensures looks { LooksOnceAt (IsAt from.place sector) result
         (C.told chip.old) (C.told chip.new) }
 {
+    let spot = Spot {
+        place: from.place,
+        sector,
+    };
     let mut bytes = [0; 512];
     let found = read_noted(chip, spot, &mut bytes)?;
-    let greatest = take_found(
-        spot, generation, units, found, &bytes, numbers, mark, greatest,
-    )?;
-    Ok(greatest)
+    let noted = take_found(from, sector, found, &bytes, numbers, mark)?;
+    Ok(noted)
 }
 
 /// Makes the numbers of the commit sectors of this place and generation these numbers, and the
 /// close mark that counts there this mark, and answers the greatest number found, 0 for none. After
 /// a fault they are any numbers, and it is any mark.
-pub fn read_commits<C: Chip>(
+pub(crate) fn read_commits<C: Chip>(
     chip: &mut C,
-    place: u32,
-    generation: u64,
-    units: u32,
+    from: StatusPlace,
     numbers: &mut NumberSet,
     mark: &mut LastMark,
 ) -> Result<u64, ChipFault>
-    requires place { place < (C.told chip.old).places }
-    requires units { units ≤ MOST_UNITS }
+    requires place { from.place < (C.told chip.old).places }
+    requires units { from.units ≤ MOST_UNITS }
     requires room { STATUS_NUMBERS ≤ numbers.old.most }
     ensures takes { IfOk result (λ n. OfContents (C.told chip.old) (λ x.
-        TakesInPlace (chart_of x) place generation n numbers.new.list mark.new)) }
+        TakesInPlace (chart_of x) from.place from.generation n numbers.new.list mark.new)) }
     ensures few { length numbers.new.list ≤ STATUS_NUMBERS }
     ensures most { numbers.new.most ≡ numbers.old.most }
     ensures fault { OfContents (C.told chip.old) (λ x. TellsImageFault
-        (first_below (noted_fault units (chart_of x) (under place generation)) sectors)
+        (first_below (noted_fault from.units (chart_of x) (under from.place from.generation)) sectors)
         (of_image result)) }
     ensures whole { OnOk result (OfContents (C.told chip.old) (λ x.
-        (s : ℕ) → 1 ≤ s → s < 256 → IsWhole (x place s))) }
-    ensures looks { LooksOnceAt (IsCommitSpot place) result (C.told chip.old) (C.told chip.new) }
+        (s : ℕ) → 1 ≤ s → s < 256 → IsWhole (x from.place s))) }
+    ensures looks { LooksOnceAt (IsCommitSpot from.place) result (C.told chip.old) (C.told chip.new) }
 {
     numbers.clear();
     *mark = LastMark::none();
-    let mut greatest = 0;
+    let mut greatest: u64 = 0;
     for sector in 1..SECTORS {
-        let spot = Spot { place, sector };
-        greatest = read_spot(chip, spot, generation, units, numbers, mark, greatest)?;
+        let noted = read_spot(chip, from, sector, numbers, mark)?;
+        greatest = greatest.max(noted);
     }
     Ok(greatest)
 }

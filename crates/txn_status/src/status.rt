@@ -20,8 +20,9 @@ ghost use Rattle.txn_status.specs.Switching.{IsStatusSpot, ListsAt, Switches, Sw
 ghost use Rattle.unit_io.specs.Writing.{OnlyPrograms};
 ghost use Rattle.txn_status.specs.Writing.{WritesOneSector};
 
-use crate::commits::{write_commit, write_mark};
+use crate::commits::{CommitSector, write_mark};
 use crate::last_mark::LastMark;
+use crate::noted::StatusPlace;
 use crate::parts::{part_count, seal_status, write_parts};
 use crate::reading::{read_commits, read_generation};
 use chip_trait::Chip;
@@ -29,6 +30,7 @@ use ipl_base::{ChipFault, Counter, Geometry, OutOfMemory, SECTORS, STATUS_NUMBER
 use number_set::NumberSet;
 use std::alloc::Global;
 use std::marker::Model;
+use unit_io::add_commit;
 use unit_layout::StatusHeader;
 
 /// The committed numbers, the status place with its generation, and the first of its sectors that
@@ -46,24 +48,15 @@ impl Model for Status {
     ghost use Rattle.std.specs.Prelude.{◌≡◌};
     ghost use Rattle.ipl_base.specs.declared.limits.TheConstants.{STATUS_NUMBERS};
     ghost use Rattle.ipl_meaning.specs.Tables.{StatusTable};
-    ghost use Rattle.txn_status.specs.Status.{IsSoundStatus};
+    ghost use Rattle.txn_status.specs.Status.{status_of, IsSoundStatus};
 
     ghost Value = { StatusTable };
 
-    ghost view = { λ s. record {
-      place = s.place;
-      generation = s.generation;
-      numbers = s.numbers.list;
-      first = s.first;
-    } };
+    ghost view = { λ s. status_of s.place s.generation s.numbers.list s.first };
 
     // That the numbers have room follows from the facts: no call asks whether there is.
-    ghost invariant = { λ s. IsSoundStatus (record {
-      place = s.place;
-      generation = s.generation;
-      numbers = s.numbers.list;
-      first = s.first;
-    }) × (s.numbers.most ≡ STATUS_NUMBERS) };
+    ghost invariant = { λ s. IsSoundStatus (status_of s.place s.generation s.numbers.list s.first)
+        × (s.numbers.most ≡ STATUS_NUMBERS) };
 }
 
 impl Status {
@@ -121,6 +114,17 @@ impl Status {
         SECTORS - self.first
     }
 
+    // The first of its sectors that is known clean, where there is one.
+    fn first_clean(&self) -> Spot
+        ensures place { result.place ≡ self.now.place }
+        ensures sector { result.sector ≡ self.now.first }
+    {
+        Spot {
+            place: self.place,
+            sector: self.first,
+        }
+    }
+
     /// Takes in the numbers of the commit sectors of this generation at a place (below the number
     /// of places), which is the status place then; none of its sectors is known clean. The close
     /// mark that counts there, where there are so many units (at most 1,024), is this mark then.
@@ -152,7 +156,12 @@ impl Status {
     {
         // With any numbers there is room only where no sector is known clean.
         self.first = SECTORS;
-        let answer = read_commits(chip, place, generation, units, &mut self.numbers, mark);
+        let from = StatusPlace {
+            place,
+            generation,
+            units,
+        };
+        let answer = read_commits(chip, from, &mut self.numbers, mark);
         self.numbers.rises();
         let greatest = answer?;
         self.place = place;
@@ -226,11 +235,9 @@ impl Status {
             (C.told chip.old) (C.told chip.new) }
     {
         let serial = counter.draw();
-        let spot = Spot {
-            place: self.place,
-            sector: self.first,
-        };
-        write_commit(chip, spot, self.generation, serial, tids)?;
+        let spot = self.first_clean();
+        let commit = CommitSector::of(self.generation, serial, tids);
+        add_commit(chip, spot, &commit.noted())?;
         // Only now: where the write failed nobody knows which numbers are committed.
         self.numbers.add_all(tids);
         self.first += 1;
@@ -273,10 +280,7 @@ impl Status {
             (C.told chip.old) (C.told chip.new) }
     {
         let serial = counter.draw();
-        let spot = Spot {
-            place: self.place,
-            sector: self.first,
-        };
+        let spot = self.first_clean();
         write_mark(chip, spot, self.generation, serial, payload)?;
         self.first += 1;
         Ok(())

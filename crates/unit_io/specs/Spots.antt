@@ -12,6 +12,17 @@ pub record IsOnChip (told : Told) (p s : ℕ) : Type 0 where
   pub place : p < told.places
   pub sector : s < 256
 
+-- the chip has this place, and a place this page
+pub record IsPageOnChip (told : Told) (p i : ℕ) : Type 0 where
+  pub place : p < told.places
+  pub page : i < 15
+
+-- and a page so many pieces
+pub record ArePiecesOnChip (told : Told) (p i n : ℕ) : Type 0 where
+  pub place : p < told.places
+  pub page : i < 15
+  pub pieces : n ≤ PAGE_SECTORS
+
 -- The events program sectors of this place that stand at these spots, each once, and say nothing. They are lawful after any
 -- lawful events that leave these spots clean; and what was clean elsewhere is so after them.
 pub record Programs (p : ℕ) (Spot : ℕ → Type 0) (done : Bool) (added : Story) : Type 0 where

@@ -9,7 +9,6 @@ use Rattle.ipl_base.specs.declared.fault.ChipFault.{ChipFault}
 use Rattle.ipl_base.specs.declared.limits.TheConstants.{PAGE_SECTORS, PAYLOAD_LEN, VERSION}
 use Rattle.ipl_format.specs.Sector.{Sector, sector_in}
 use Rattle.ipl_rules.specs.State.{Map}
-use Rattle.sector_format.specs.declared.sector.Head.{Head}
 use Rattle.ipl_meaning.specs.Chart.{Chart}
 use Rattle.ipl_meaning.specs.Stands.{StandsBeside}
 use Rattle.ipl_meaning.specs.Rests.{now, IsUntouched, EachStands, WornAreIdle, StoryRests}
@@ -25,10 +24,10 @@ use Rattle.unit_io.specs.Unread.{ReadsNothing}
 
 -- ---- what may be programmed
 
--- the head is of the version that is written, and a sector has room for the payload
-pub record MayProgram (head : Head) (payload : List ℕ) : Type 0 where
-  pub version : head.version ≡ VERSION
-  pub fits : length payload ≤ PAYLOAD_LEN
+-- it is of the version that is written, and a sector has room for its payload
+pub record MayProgram (sector : Sector) : Type 0 where
+  pub version : sector.version ≡ VERSION
+  pub fits : length sector.payload ≤ PAYLOAD_LEN
 
 -- ---- what is programmed
 

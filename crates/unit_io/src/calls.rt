@@ -9,7 +9,7 @@ ghost use Rattle.unit_io.specs.Reads.{Asked, OfContents, IsReadFault};
 ghost use Rattle.unit_io.specs.Spots.{IsOnChip};
 
 use chip_trait::{Chip, Wear};
-use ipl_base::ChipFault;
+use ipl_base::{ChipFault, Spot};
 
 /// Erases a place, or finds it worn.
 pub(crate) fn erase<C: Chip>(chip: &mut C, place: u32) -> Result<Wear, ChipFault>
@@ -24,17 +24,12 @@ pub(crate) fn erase<C: Chip>(chip: &mut C, place: u32) -> Result<Wear, ChipFault
 }
 
 /// Programs a sector (0 to 255) of a place.
-pub(crate) fn program<C: Chip>(
-    chip: &mut C,
-    place: u32,
-    sector: u32,
-    bytes: &[u8; 512],
-) -> Result<(), ChipFault>
-    requires spot { IsOnChip (C.told chip.old) place sector }
-    ensures did { Did (Program place sector bytes.now) result (C.told chip.old) (C.told chip.new) }
+pub(crate) fn program<C: Chip>(chip: &mut C, at: Spot, bytes: &[u8; 512]) -> Result<(), ChipFault>
+    requires spot { IsOnChip (C.told chip.old) at.place at.sector }
+    ensures did { Did (Program at.place at.sector bytes.now) result (C.told chip.old) (C.told chip.new) }
     ensures accounts { Accounts IsStopped result (C.told chip.old) (C.told chip.new) }
 {
-    match chip.program(place, sector, bytes) {
+    match chip.program(at.place, at.sector, bytes) {
         Ok(()) => Ok(()),
         Err(_) => Err(ChipFault::Stopped),
     }
@@ -53,18 +48,13 @@ pub fn barrier<C: Chip>(chip: &mut C) -> Result<(), ChipFault>
 }
 
 /// Reads a sector (0 to 255) of a place. After a failure the buffer holds anything.
-pub(crate) fn read<C: Chip>(
-    chip: &mut C,
-    place: u32,
-    sector: u32,
-    into: &mut [u8; 512],
-) -> Result<(), ChipFault>
-    requires spot { IsOnChip (C.told chip.old) place sector }
-    ensures asks { Asked (Read place sector) result (C.told chip.old) (C.told chip.new) }
-    ensures bytes { OnOk result (OfContents (C.told chip.old) (λ x. into.new ≡ x place sector)) }
+pub(crate) fn read<C: Chip>(chip: &mut C, at: Spot, into: &mut [u8; 512]) -> Result<(), ChipFault>
+    requires spot { IsOnChip (C.told chip.old) at.place at.sector }
+    ensures asks { Asked (Read at.place at.sector) result (C.told chip.old) (C.told chip.new) }
+    ensures bytes { OnOk result (OfContents (C.told chip.old) (λ x. into.new ≡ x at.place at.sector)) }
     ensures accounts { Accounts IsReadFault result (C.told chip.old) (C.told chip.new) }
 {
-    match chip.read(place, sector, into) {
+    match chip.read(at.place, at.sector, into) {
         Ok(()) => Ok(()),
         Err(_) => Err(ChipFault::ReadFault),
     }

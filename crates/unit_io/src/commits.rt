@@ -22,57 +22,86 @@ use crate::sectors::program_aside;
 use chip_trait::Chip;
 use ipl_base::{ChipFault, Spot};
 use sector_format::{Head, encode};
+use std::marker::Model;
+
+/// A commit sector or a mark that is to be programmed: its head, and its payload. A contract sees it as
+/// that sector.
+#[derive(Drop)]
+pub struct Noted<'a> {
+    head: Head,
+    payload: &'a [u8],
+}
+
+impl<'a> Model for Noted<'a> {
+    ghost use Rattle.ipl_format.specs.Sector.{Sector};
+    ghost use Rattle.sector_format.specs.Decode.{sector_of};
+
+    ghost Value = { Sector };
+
+    ghost view = { λ s. sector_of s.head s.payload.now };
+}
+
+impl<'a> Noted<'a> {
+    /// The sector of this head and this payload.
+    pub fn of(head: &Head, payload: &'a [u8]) -> Noted<'a>
+        ensures { result ≡ sector_of head.now payload.entry.now }
+    {
+        Noted {
+            head: *head,
+            payload,
+        }
+    }
+
+    // Writes its bytes.
+    fn encode(&self, out: &mut [u8; 512])
+        requires known { IsKind self.now.kind }
+        requires written { MayProgram self.now }
+        ensures { sector_in out.new ≡ Some self.now }
+    {
+        encode(&self.head, self.payload, out);
+    }
+}
 
 /// Programs a commit sector (1 to 255 of its place) into a place that has no header yet: whatever a power cut leaves of it
 /// counts for nothing. Nothing makes sure of it: that is for the barrier before the header.
-pub fn prepare_commit<C: Chip>(
-    chip: &mut C,
-    spot: Spot,
-    head: &Head,
-    payload: &[u8],
-) -> Result<(), ChipFault>
+pub fn prepare_commit<C: Chip>(chip: &mut C, spot: Spot, noted: &Noted<'_>) -> Result<(), ChipFault>
     requires spot { IsOnChip (C.told chip.old) spot.place spot.sector }
-    requires kind { head.now.kind ≡ 6 }
-    requires written { MayProgram head.now payload.now }
+    requires kind { noted.now.kind ≡ 6 }
+    requires written { MayProgram noted.now }
     ensures aside { LeadsAside (C.told chip.old).places spot.place spot.sector
-        (sector_of head.now payload.now) (C.told chip.old) result (C.told chip.new) }
-    ensures tells { OnOk result (Charts (Gains spot.place spot.sector (sector_of head.now payload.now)) (C.told chip.old) (C.told chip.new)) }
+        noted.now (C.told chip.old) result (C.told chip.new) }
+    ensures tells { OnOk result (Charts (Gains spot.place spot.sector noted.now) (C.told chip.old) (C.told chip.new)) }
     ensures writes { OnlyPrograms (ProgramsAt spot.place 1 0 6) spot.place (IsSpot spot.sector) result
         (C.told chip.old) (C.told chip.new) }
 {
     let mut bytes = [0; 512];
-    encode(head, payload, &mut bytes);
-    program_aside(chip, spot.place, spot.sector, &bytes)
+    noted.encode(&mut bytes);
+    program_aside(chip, spot, &bytes)
 }
 
 /// Programs a sector (1 to 255 of its place) where nothing is open, and makes sure of it.
-fn add_sector<C: Chip>(
-    chip: &mut C,
-    spot: Spot,
-    head: &Head,
-    payload: &[u8],
-) -> Result<(), ChipFault>
+fn add_sector<C: Chip>(chip: &mut C, spot: Spot, noted: &Noted<'_>) -> Result<(), ChipFault>
     requires spot { IsOnChip (C.told chip.old) spot.place spot.sector }
-    requires known { IsKind head.now.kind }
-    requires written { MayProgram head.now payload.now }
+    requires known { IsKind noted.now.kind }
+    requires written { MayProgram noted.now }
     ensures leads { (t : Tables) (m n : Map) (h : History) → IsSteady h (C.told chip.old)
         → StoryRests (C.told chip.old).places m h → IsClosed h.story → IsUntouched h spot.place spot.sector
-        → StandsBeside (C.told chip.old).places (now h) (with_sector (now h) spot.place spot.sector (sector_of head.now payload.now)) n
-        → WornAreIdle (C.told chip.old).places h.story (with_sector (now h) spot.place spot.sector (sector_of head.now payload.now))
-        → (AreUnused (IsCountedClean t) h.story → (bytes : List ℕ) → sector_in bytes ≡ Some (sector_of head.now payload.now)
+        → StandsBeside (C.told chip.old).places (now h) (with_sector (now h) spot.place spot.sector noted.now) n
+        → WornAreIdle (C.told chip.old).places h.story (with_sector (now h) spot.place spot.sector noted.now)
+        → (AreUnused (IsCountedClean t) h.story → (bytes : List ℕ) → sector_in bytes ≡ Some noted.now
         → KeepsMarks (C.told chip.old).places h (adds (Program spot.place spot.sector bytes) h))
         → LeadsWhere (AreUnused (IsCountedClean t) h.story) (EachStandsEither (C.told chip.old).places m n)
         (Programs spot.place (IsSpot spot.sector))
-        (λ done k. RestsAdded (C.told chip.old).places n spot.place spot.sector (sector_of head.now payload.now) h k)
+        (λ done k. RestsAdded (C.told chip.old).places n spot.place spot.sector noted.now h k)
         h (C.told chip.old) result (C.told chip.new) }
-    ensures adds { OnOk result (Spends (AddsSector spot.place spot.sector (sector_of head.now payload.now)) (C.told chip.old) (C.told chip.new)) }
-    ensures tells { OnOk result (Charts (Gains spot.place spot.sector (sector_of head.now payload.now)) (C.told chip.old) (C.told chip.new)) }
-    ensures writes { OnlyPrograms (ProgramsAt spot.place 1 1 head.now.kind) spot.place (IsSpot spot.sector) result
+    ensures adds { OnOk result (Spends (AddsSector spot.place spot.sector noted.now) (C.told chip.old) (C.told chip.new)) }
+    ensures tells { OnOk result (Charts (Gains spot.place spot.sector noted.now) (C.told chip.old) (C.told chip.new)) }
+    ensures writes { OnlyPrograms (ProgramsAt spot.place 1 1 noted.now.kind) spot.place (IsSpot spot.sector) result
         (C.told chip.old) (C.told chip.new) }
 {
     let mut bytes = [0; 512];
-    encode(head, payload, &mut bytes);
-    program(chip, spot.place, spot.sector, &bytes)?;
+    noted.encode(&mut bytes);
+    program(chip, spot, &bytes)?;
     // What it says has to last before anybody is told of it.
     barrier(chip)
 }
@@ -80,22 +109,17 @@ fn add_sector<C: Chip>(
 /// Programs a commit sector (1 to 255 of its place) where nothing is open, and makes sure of it.
 ///
 /// A power cut leaves what stood before or what stands with its numbers, and done, the story rests on what stands with them.
-pub fn add_commit<C: Chip>(
-    chip: &mut C,
-    spot: Spot,
-    head: &Head,
-    payload: &[u8],
-) -> Result<(), ChipFault>
+pub fn add_commit<C: Chip>(chip: &mut C, spot: Spot, noted: &Noted<'_>) -> Result<(), ChipFault>
     requires spot { IsOnChip (C.told chip.old) spot.place spot.sector }
-    requires kind { head.now.kind ≡ 6 }
-    requires written { MayProgram head.now payload.now }
+    requires kind { noted.now.kind ≡ 6 }
+    requires written { MayProgram noted.now }
     ensures leads { LeadsCommit (C.told chip.old).places spot.place spot.sector
-        (sector_of head.now payload.now) (C.told chip.old) result (C.told chip.new) }
-    ensures tells { OnOk result (Charts (Gains spot.place spot.sector (sector_of head.now payload.now)) (C.told chip.old) (C.told chip.new)) }
+        noted.now (C.told chip.old) result (C.told chip.new) }
+    ensures tells { OnOk result (Charts (Gains spot.place spot.sector noted.now) (C.told chip.old) (C.told chip.new)) }
     ensures writes { OnlyPrograms (ProgramsAt spot.place 1 1 6) spot.place (IsSpot spot.sector) result
         (C.told chip.old) (C.told chip.new) }
 {
-    add_sector(chip, spot, head, payload)
+    add_sector(chip, spot, noted)
 }
 
 /// Programs a mark (1 to 255 of its place) where nothing is open, and makes sure of it.
@@ -103,21 +127,16 @@ pub fn add_commit<C: Chip>(
 /// Where the mark changes nothing of what stands, whatever a power cut leaves stands for the map on which the story rested, and
 /// done, it rests on that map. That no used sector is marked then is for the caller to know (`ClosesKeepMarks`), by what tables
 /// count as clean, where that is unused.
-pub fn add_mark<C: Chip>(
-    chip: &mut C,
-    spot: Spot,
-    head: &Head,
-    payload: &[u8],
-) -> Result<(), ChipFault>
+pub fn add_mark<C: Chip>(chip: &mut C, spot: Spot, noted: &Noted<'_>) -> Result<(), ChipFault>
     requires spot { IsOnChip (C.told chip.old) spot.place spot.sector }
-    requires kind { head.now.kind ≡ 7 }
-    requires written { MayProgram head.now payload.now }
+    requires kind { noted.now.kind ≡ 7 }
+    requires written { MayProgram noted.now }
     ensures keeps { LeadsMark (C.told chip.old).places spot.place spot.sector
-        (sector_of head.now payload.now) (C.told chip.old) result (C.told chip.new) }
-    ensures adds { OnOk result (Spends (AddsSector spot.place spot.sector (sector_of head.now payload.now)) (C.told chip.old) (C.told chip.new)) }
-    ensures tells { OnOk result (Charts (Gains spot.place spot.sector (sector_of head.now payload.now)) (C.told chip.old) (C.told chip.new)) }
+        noted.now (C.told chip.old) result (C.told chip.new) }
+    ensures adds { OnOk result (Spends (AddsSector spot.place spot.sector noted.now) (C.told chip.old) (C.told chip.new)) }
+    ensures tells { OnOk result (Charts (Gains spot.place spot.sector noted.now) (C.told chip.old) (C.told chip.new)) }
     ensures writes { OnlyPrograms (ProgramsAt spot.place 1 1 7) spot.place (IsSpot spot.sector) result
         (C.told chip.old) (C.told chip.new) }
 {
-    add_sector(chip, spot, head, payload)
+    add_sector(chip, spot, noted)
 }

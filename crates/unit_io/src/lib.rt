@@ -29,11 +29,13 @@ mod sectors;
 mod tails;
 
 pub use calls::barrier;
-pub use commits::{add_commit, add_mark, prepare_commit};
+pub use commits::{Noted, add_commit, add_mark, prepare_commit};
 pub use laws::page_laws;
 pub use page_reading::read_page;
 pub use pages::program_page;
 pub use places::{begin_unit, seal};
-pub use reading::{Found, read_commit, read_found, read_head, read_log, read_noted, read_sector};
+pub use reading::{
+    Found, SectorRead, read_commit, read_found, read_head, read_log, read_noted, read_sector,
+};
 pub use sectors::program_log;
 pub use tails::{kept_tails, known_tails};

@@ -12,6 +12,7 @@ ghost use Rattle.sector_format.specs.Decode.{IsDecoded, sector_of, sector_read};
 ghost use Rattle.ipl_meaning.specs.Chart.{chart_of};
 ghost use Rattle.unit_io.specs.Accounts.{Accounts};
 ghost use Rattle.unit_io.specs.Reads.{Asked, OfContents, PageAsked};
+ghost use Rattle.unit_io.specs.Spots.{IsPageOnChip, ArePiecesOnChip};
 ghost use Rattle.unit_io.specs.Tails.{AreTails};
 ghost use Rattle.unit_io.specs.Reading.{ReadsText, ReadsPage};
 ghost use Rattle.ipl_base.specs.First.{first_below};
@@ -19,7 +20,7 @@ ghost use Rattle.unit_io.specs.Faults.{is_filled, is_piece, piece_fault, piece_f
 
 use crate::calls::read;
 use chip_trait::Chip;
-use ipl_base::{ChipFault, PAGE_SECTORS, PAYLOAD_LEN};
+use ipl_base::{ChipFault, PAGE_SECTORS, PAYLOAD_LEN, Spot};
 use page_text::{PageBytes, PageMap};
 use sector_format::{Decoded, Head, decode_by, payload_in, tail_of};
 use unit_layout::base_sector;
@@ -118,8 +119,7 @@ fn read_piece<C: Chip>(
     text: &mut PageBytes,
     tails: &mut [u32; 16],
 ) -> Result<usize, ChipFault>
-    requires place { place < (C.told chip.old).places }
-    requires page { page < 15 }
+    requires page { IsPageOnChip (C.told chip.old) place page }
     requires piece { piece < PAGE_SECTORS }
     requires empty { text.old.page ≡ empty_page }
     ensures exact { OfContents (C.told chip.old) (λ x. TellsChipFault (piece_fault place (base_sector_of page piece)
@@ -133,7 +133,8 @@ fn read_piece<C: Chip>(
     ensures accounts { Accounts (IsPageCause place page) result (C.told chip.old) (C.told chip.new) }
 {
     let mut bytes = [0; 512];
-    read(chip, place, base_sector(page, piece), &mut bytes)?;
+    let sector = base_sector(page, piece);
+    read(chip, Spot { place, sector }, &mut bytes)?;
     let tail = tail_of(&bytes);
     let answer = decode_by(&bytes, tail);
     let used = check_piece(answer, place, head, page, piece, is_last)?;
@@ -154,9 +155,7 @@ fn read_pieces<C: Chip>(
     text: &mut PageBytes,
     tails: &mut [u32; 16],
 ) -> Result<usize, ChipFault>
-    requires place { place < (C.told chip.old).places }
-    requires page { page < 15 }
-    requires pieces { pieces ≤ PAGE_SECTORS }
+    requires pieces { ArePiecesOnChip (C.told chip.old) place page pieces }
     requires empty { text.old.page ≡ empty_page }
     ensures exact { OfContents (C.told chip.old) (λ x. TellsChipFault (first_below
         (piece_fault_at x place head.now.version head.now.unit head.now.generation page pieces) pieces) result) }
@@ -182,9 +181,7 @@ fn read_first_page<C: Chip>(
     pieces: u32,
     into: &mut PageMap,
 ) -> Result<(), ChipFault>
-    requires place { place < (C.told chip.old).places }
-    requires page { page < 15 }
-    requires pieces { pieces ≤ PAGE_SECTORS }
+    requires pieces { ArePiecesOnChip (C.told chip.old) place page pieces }
     requires version { head.now.version ≡ 1 }
     ensures reads { ReadsPage place head.now page pieces into.new result (C.told chip.old) (C.told chip.new) }
 {
@@ -218,9 +215,7 @@ pub fn read_page<C: Chip>(
     into: &mut PageMap,
     tails: &mut [u32; 16],
 ) -> Result<(), ChipFault>
-    requires place { place < (C.told chip.old).places }
-    requires page { page < 15 }
-    requires pieces { pieces ≤ PAGE_SECTORS }
+    requires pieces { ArePiecesOnChip (C.told chip.old) place page pieces }
     ensures reads { ReadsPage place head.now page pieces into.new result (C.told chip.old) (C.told chip.new) }
     ensures tails { head.now.version ≢ 1
         → OnOk result (AreTails (page_text VERSION into.new) tails.new) }

@@ -12,7 +12,7 @@ ghost use Rattle.ipl_format.specs.Place.{base_sector_of};
 ghost use Rattle.ipl_meaning.specs.Layout.{base_sector};
 ghost use Rattle.ipl_meaning.specs.Rests.{now, StoryRests};
 ghost use Rattle.unit_io.specs.Leads.{IsSteady, KeepsMap};
-ghost use Rattle.unit_io.specs.Spots.{Programs, IsSpot, IsPieceSpot};
+ghost use Rattle.unit_io.specs.Spots.{IsPageOnChip, Programs, IsSpot, IsPieceSpot};
 ghost use Rattle.unit_io.specs.Costs.{ProgramsAt};
 ghost use Rattle.unit_io.specs.Charts.{Charts, Spares, Gains, HasPieces, HasPageSectors};
 ghost use Rattle.unit_io.specs.Plain.{AddsPlain};
@@ -22,7 +22,7 @@ ghost use Rattle.sector_format.specs.Decode.{sector_of};
 
 use crate::sectors::program_aside;
 use chip_trait::Chip;
-use ipl_base::{ChipFault, PAGE_SECTORS, PAYLOAD_LEN};
+use ipl_base::{ChipFault, PAGE_SECTORS, PAYLOAD_LEN, Spot};
 use page_text::PageMap;
 use sector_format::{Head, encode, encode_by};
 use unit_layout::base_sector;
@@ -63,8 +63,7 @@ fn program_piece<C: Chip>(
     text: &[u8],
     tail: Option<u32>,
 ) -> Result<(), ChipFault>
-    requires place { place < (C.told chip.old).places }
-    requires page { page < 15 }
+    requires page { IsPageOnChip (C.told chip.old) place page }
     requires few { piece < PAGE_SECTORS }
     requires within { PAYLOAD_LEN * piece ≤ length text.now }
     requires tail { IfSome tail (λ sum. sum ≡ tail_sum (filled (piece_of text.now piece))) }
@@ -83,7 +82,8 @@ fn program_piece<C: Chip>(
     let base = Head::written(Head::BASE, head.unit, head.generation, serial);
     let mut bytes = [0; 512];
     encode_piece(&base, piece_of(text, piece), tail, &mut bytes);
-    program_aside(chip, place, base_sector(page, piece), &bytes)
+    let sector = base_sector(page, piece);
+    program_aside(chip, Spot { place, sector }, &bytes)
 }
 
 /// How many pieces a text of at most 7,680 bytes is cut into.
@@ -104,8 +104,7 @@ fn program_pieces<C: Chip>(
     text: &[u8],
     tails: &[Option<u32>; 16],
 ) -> Result<u32, ChipFault>
-    requires place { place < (C.told chip.old).places }
-    requires page { page < 15 }
+    requires page { IsPageOnChip (C.told chip.old) place page }
     requires fits { length text.now ≤ PAGE_LEN }
     requires tails { FitTails text.now tails.now }
     ensures keeps { (m : Map) (h : History) → IsSteady h (C.told chip.old) → StoryRests (C.told chip.old).places m h
@@ -142,8 +141,7 @@ pub fn program_page<C: Chip>(
     map: &PageMap,
     tails: &[Option<u32>; 16],
 ) -> Result<u32, ChipFault>
-    requires place { place < (C.told chip.old).places }
-    requires page { page < 15 }
+    requires page { IsPageOnChip (C.told chip.old) place page }
     requires tails { FitTails (page_text VERSION map.now) tails.now }
     ensures keeps { (m : Map) (h : History) → IsSteady h (C.told chip.old) → StoryRests (C.told chip.old).places m h
         → now h place 0 ≡ None → ((s : ℕ) → IsPieceSpot page PAGE_SECTORS s → age h.story place s ≡ Clean)

@@ -23,7 +23,7 @@ ghost use Rattle.unit_io.specs.Writing.{MayProgram, OnlyPrograms};
 
 use crate::calls::{barrier, erase, program};
 use chip_trait::{Chip, Wear};
-use ipl_base::ChipFault;
+use ipl_base::{ChipFault, Spot};
 use sector_format::{Head, encode};
 
 /// Erases a place at which nothing counts, and makes sure of it; or finds it worn.
@@ -74,7 +74,7 @@ fn add_header<C: Chip>(chip: &mut C, place: u32, bytes: &[u8; 512]) -> Result<()
     ensures unread { Spends ReadsNothing (C.told chip.old) (C.told chip.new) }
     ensures accounts { Accounts IsStopped result (C.told chip.old) (C.told chip.new) }
 {
-    program(chip, place, 0, bytes)?;
+    program(chip, Spot { place, sector: 0 }, bytes)?;
     // The header has to last before anybody is told of what it makes count.
     barrier(chip)
 }
@@ -86,7 +86,7 @@ fn add_header<C: Chip>(chip: &mut C, place: u32, bytes: &[u8; 512]) -> Result<()
 pub fn seal<C: Chip>(chip: &mut C, place: u32, head: &Head, payload: &[u8]) -> Result<(), ChipFault>
     requires place { place < (C.told chip.old).places }
     requires known { IsKind head.now.kind }
-    requires written { MayProgram head.now payload.now }
+    requires written { MayProgram (sector_of head.now payload.now) }
     ensures leads { (m n : Map) (h : History) → IsSteady h (C.told chip.old)
         → StoryRests (C.told chip.old).places m h → age h.story place 0 ≡ Clean
         → StandsBeside (C.told chip.old).places (now h) (with_sector (now h) place 0 (sector_of head.now payload.now)) n

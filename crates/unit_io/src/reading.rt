@@ -32,6 +32,10 @@ pub enum Found {
     Sector(Head, usize),
 }
 
+/// The answer of a call that reads a sector: its head and how many bytes of payload it uses, or `None`
+/// where it isn't of the kind that was asked for.
+pub type SectorRead = Result<Option<(Head, usize)>, ChipFault>;
+
 /// What the bytes of a sector are.
 fn found_in(bytes: &[u8; 512]) -> Found
     ensures exact { sector_named bytes.now (checked result) ≡ sector_in bytes.now }
@@ -74,17 +78,13 @@ pub fn read_found<C: Chip>(
     ensures asks { Asked (Read spot.place spot.sector) result (C.told chip.old) (C.told chip.new) }
     ensures accounts { Accounts IsReadFault result (C.told chip.old) (C.told chip.new) }
 {
-    read(chip, spot.place, spot.sector, into)?;
+    read(chip, spot, into)?;
     Ok(found_in(into))
 }
 
 /// Reads a sector (0 to 255 of its place), and answers its head and how many bytes of payload it uses, from byte 32 of the
 /// buffer on; `None` exactly where it doesn't check. After a fault the buffer holds anything.
-pub fn read_sector<C: Chip>(
-    chip: &mut C,
-    spot: Spot,
-    into: &mut [u8; 512],
-) -> Result<Option<(Head, usize)>, ChipFault>
+pub fn read_sector<C: Chip>(chip: &mut C, spot: Spot, into: &mut [u8; 512]) -> SectorRead
     requires spot { IsOnChip (C.told chip.old) spot.place spot.sector }
     ensures reads { ReadsSector any_sector spot.place spot.sector into.new result (C.told chip.old) (C.told chip.new) }
     ensures bytes { OnOk result (OfContents (C.told chip.old) (λ x. into.new ≡ x spot.place spot.sector)) }
@@ -113,7 +113,7 @@ fn read_of_kinds<C: Chip>(
     first: u8,
     last: u8,
     into: &mut [u8; 512],
-) -> Result<Option<(Head, usize)>, ChipFault>
+) -> SectorRead
     requires spot { IsOnChip (C.told chip.old) spot.place spot.sector }
     ensures reads { ReadsSector (of_kinds first last) spot.place spot.sector into.new result (C.told chip.old) (C.told chip.new) }
     ensures bytes { OnOk result (OfContents (C.told chip.old) (λ x. into.new ≡ x spot.place spot.sector)) }
@@ -125,11 +125,7 @@ fn read_of_kinds<C: Chip>(
 
 /// Reads the header of a place: its head and how many bytes of payload it uses, from byte 32 of the buffer on; `None`
 /// exactly where sector 0 doesn't check as a header of any kind. After a fault the buffer holds anything.
-pub fn read_head<C: Chip>(
-    chip: &mut C,
-    place: u32,
-    into: &mut [u8; 512],
-) -> Result<Option<(Head, usize)>, ChipFault>
+pub fn read_head<C: Chip>(chip: &mut C, place: u32, into: &mut [u8; 512]) -> SectorRead
     requires { place < (C.told chip.old).places }
     ensures reads { ReadsSector header_only place 0 into.new result (C.told chip.old) (C.told chip.new) }
     ensures kind { IfOk result (λ o. IfSome o (λ found. (1 ≤ found.0.kind) × (found.0.kind ≤ 3))) }
@@ -145,11 +141,7 @@ pub fn read_head<C: Chip>(
 
 /// Reads a log sector (0 to 255 of its place): its head and how many bytes of payload it uses, from byte 32 of the buffer
 /// on; `None` exactly where the sector doesn't check as a log sector. After a fault the buffer holds anything.
-pub fn read_log<C: Chip>(
-    chip: &mut C,
-    spot: Spot,
-    into: &mut [u8; 512],
-) -> Result<Option<(Head, usize)>, ChipFault>
+pub fn read_log<C: Chip>(chip: &mut C, spot: Spot, into: &mut [u8; 512]) -> SectorRead
     requires spot { IsOnChip (C.told chip.old) spot.place spot.sector }
     ensures reads { ReadsSector log_only spot.place spot.sector into.new result (C.told chip.old) (C.told chip.new) }
     ensures kind { IfOk result (λ o. IfSome o (λ found. found.0.kind ≡ 5)) }
@@ -159,11 +151,7 @@ pub fn read_log<C: Chip>(
 
 /// Reads a commit sector (0 to 255 of its place): its head and how many bytes of payload it uses, from byte 32 of the buffer
 /// on; `None` exactly where the sector doesn't check as a commit sector. After a fault the buffer holds anything.
-pub fn read_commit<C: Chip>(
-    chip: &mut C,
-    spot: Spot,
-    into: &mut [u8; 512],
-) -> Result<Option<(Head, usize)>, ChipFault>
+pub fn read_commit<C: Chip>(chip: &mut C, spot: Spot, into: &mut [u8; 512]) -> SectorRead
     requires spot { IsOnChip (C.told chip.old) spot.place spot.sector }
     ensures reads { ReadsSector commit_only spot.place spot.sector into.new result (C.told chip.old) (C.told chip.new) }
     ensures bytes { OnOk result (OfContents (C.told chip.old) (λ x. into.new ≡ x spot.place spot.sector)) }
@@ -174,11 +162,7 @@ pub fn read_commit<C: Chip>(
 
 /// Reads a commit sector or a mark (0 to 255 of its place): its head and how many bytes of payload it uses, from byte 32 of
 /// the buffer on; `None` exactly where the sector checks as neither. After a fault the buffer holds anything.
-pub fn read_noted<C: Chip>(
-    chip: &mut C,
-    spot: Spot,
-    into: &mut [u8; 512],
-) -> Result<Option<(Head, usize)>, ChipFault>
+pub fn read_noted<C: Chip>(chip: &mut C, spot: Spot, into: &mut [u8; 512]) -> SectorRead
     requires spot { IsOnChip (C.told chip.old) spot.place spot.sector }
     ensures reads { ReadsSector status_only spot.place spot.sector into.new result (C.told chip.old) (C.told chip.new) }
     ensures bytes { OnOk result (OfContents (C.told chip.old) (λ x. into.new ≡ x spot.place spot.sector)) }

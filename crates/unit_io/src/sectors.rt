@@ -27,23 +27,22 @@ use sector_format::{Head, encode};
 /// Programs a sector of a place that has no header: whatever a power cut leaves of it counts for nothing.
 pub(crate) fn program_aside<C: Chip>(
     chip: &mut C,
-    place: u32,
-    sector: u32,
+    spot: Spot,
     bytes: &[u8; 512],
 ) -> Result<(), ChipFault>
-    requires spot { IsOnChip (C.told chip.old) place sector }
+    requires spot { IsOnChip (C.told chip.old) spot.place spot.sector }
     ensures aside { (said : Sector) → sector_in bytes.now ≡ Some said
-        → LeadsAside (C.told chip.old).places place sector said (C.told chip.old) result (C.told chip.new) }
-    ensures tells { (said : Sector) → sector_in bytes.now ≡ Some said → OnOk result (Charts (Gains place sector said) (C.told chip.old) (C.told chip.new)) }
+        → LeadsAside (C.told chip.old).places spot.place spot.sector said (C.told chip.old) result (C.told chip.new) }
+    ensures tells { (said : Sector) → sector_in bytes.now ≡ Some said → OnOk result (Charts (Gains spot.place spot.sector said) (C.told chip.old) (C.told chip.new)) }
     ensures plain { IsPlain bytes.now → AddsPlain (C.told chip.old) (C.told chip.new) }
-    ensures spares { OnOk result (Spares place (C.told chip.old) (C.told chip.new)) }
+    ensures spares { OnOk result (Spares spot.place (C.told chip.old) (C.told chip.new)) }
     ensures costs { (said : Sector) → sector_in bytes.now ≡ Some said
-        → Spends (ProgramsAt place 1 0 said.kind) (C.told chip.old) (C.told chip.new) }
-    ensures tidy { Spends (Programs place (IsSpot sector) (is_ok result)) (C.told chip.old) (C.told chip.new) }
+        → Spends (ProgramsAt spot.place 1 0 said.kind) (C.told chip.old) (C.told chip.new) }
+    ensures tidy { Spends (Programs spot.place (IsSpot spot.sector) (is_ok result)) (C.told chip.old) (C.told chip.new) }
     ensures unread { Spends ReadsNothing (C.told chip.old) (C.told chip.new) }
     ensures accounts { Accounts IsStopped result (C.told chip.old) (C.told chip.new) }
 {
-    program(chip, place, sector, bytes)
+    program(chip, spot, bytes)
 }
 
 /// Programs a log sector (1 to 255 of its place) whose head is of that kind, and of the version that
@@ -75,5 +74,5 @@ pub fn program_log<C: Chip>(
 {
     let mut bytes = [0; 512];
     encode(head, payload.bytes(), &mut bytes);
-    program(chip, spot.place, spot.sector, &bytes)
+    program(chip, spot, &bytes)
 }

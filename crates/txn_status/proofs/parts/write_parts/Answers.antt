@@ -17,10 +17,11 @@ use Rattle.txn_status.proofs.TidyLemmas.{tidy_parts_none, tidy_parts_more, tidy_
 use Rattle.txn_status.proofs.parts.write_parts.Goals as goal
 
 -- the sector that was programmed is the next part
-next_part : (generation a b : ℕ) (xs ys : List ℕ) → a ≡ b → xs ≡ ys
-    → commit_sector generation a xs ≡ commit_sector generation b ys
-next_part generation a b xs ys same also_same =
-    ap (λ (n : ℕ). commit_sector generation n xs) same
+next_part : (generation a b : ℕ) (xs ys : List ℕ) (noted part : Sector) → noted ≡ part
+    → part ≡ commit_sector generation a xs → a ≡ b → xs ≡ ys
+    → noted ≡ commit_sector generation b ys
+next_part generation a b xs ys noted part is_part is same also_same =
+    is_part ∙ is ∙ ap (λ (n : ℕ). commit_sector generation n xs) same
     ∙ ap (λ (l : List ℕ). commit_sector generation b l) also_same
 
 -- what its call says, of a chip with as many places as at first
@@ -48,16 +49,16 @@ loop-i-init g c =
 pub loop-i-preserved : goal.loop-i-preserved
 loop-i-preserved g c =
     let so = c.loop-i.invariant in
-    let w = c.in_ok-write_part.ensures in
+    let w = c.in_ok-prepare_commit.ensures in
     let i = c.loop-i.i in
     let numbers = c.args.numbers.now in
     let old = g.C.Chip.told c.args.chip.now in
     let mid = g.C.Chip.told c.loop-i.chip in
-    let new = g.C.Chip.told c.write_part.new.chip in
+    let new = g.C.Chip.told c.prepare_commit.new.chip in
     let low : i < parts_of numbers =
     omega (arith, c.part_count-count.ensures.parts, c.loop-i-test.true) in
-    let same = next_part c.args.generation _ (c.args.counter.now + i) _ (part_of numbers i)
-    (c.draw-serial.ensures.drawn ∙ so.drawn) c.part_of.ensures.part in record {
+    let same = next_part c.args.generation _ (c.args.counter.now + i) _ (part_of numbers i) _ _
+    c.noted.ensures.same c.of-part.ensures (c.draw-serial.ensures.drawn ∙ so.drawn) c.part_of.ensures.part in record {
       keeps = λ m h steady rests bare clean.
           keeps_more old.places c.args.place c.args.generation c.args.counter.now numbers m h
           (parts_of numbers) i low bare clean old mid new (Ok tt) (so.keeps m h steady rests bare clean)
@@ -73,26 +74,26 @@ loop-i-preserved g c =
       drawn = omega (arith, c.draw-serial.ensures.next, so.drawn);
     }
 
-pub returns-in_err-write_part-clause-keeps : goal.returns-in_err-write_part-clause-keeps
-returns-in_err-write_part-clause-keeps g c = λ m h steady rests bare clean.
+pub returns-in_err-prepare_commit-clause-keeps : goal.returns-in_err-prepare_commit-clause-keeps
+returns-in_err-prepare_commit-clause-keeps g c = λ m h steady rests bare clean.
     let so = c.loop-i.invariant in
     let i = c.loop-i.i in
     let numbers = c.args.numbers.now in
     let old = g.C.Chip.told c.args.chip.now in
     let mid = g.C.Chip.told c.loop-i.chip in
-    let new = g.C.Chip.told c.write_part.new.chip in
-    let fault = c.in_err-write_part.field-0.0 in
+    let new = g.C.Chip.told c.prepare_commit.new.chip in
+    let fault = c.in_err-prepare_commit.field-0.0 in
     let low : i < parts_of numbers =
     omega (arith, c.part_count-count.ensures.parts, c.loop-i-test.true) in
-    let same = next_part c.args.generation _ (c.args.counter.now + i) _ (part_of numbers i)
-    (c.draw-serial.ensures.drawn ∙ so.drawn) c.part_of.ensures.part in
+    let same = next_part c.args.generation _ (c.args.counter.now + i) _ (part_of numbers i) _ _
+    c.noted.ensures.same c.of-part.ensures (c.draw-serial.ensures.drawn ∙ so.drawn) c.part_of.ensures.part in
     let e = err_from_is_err_and c.from_residual.result c.from_residual.ensures.1 in
     rw e.1 (keeps_failed old.places c.args.place c.args.generation c.args.counter.now numbers m h
     (i + 1) (parts_of numbers) fault e.0 old new (omega (arith, low))
     (keeps_more old.places c.args.place c.args.generation c.args.counter.now numbers m h
     (parts_of numbers) i low bare clean old mid new (Err fault) (so.keeps m h steady rests bare clean)
     (next_leads mid.places old.places c.args.place (1 + i) _ _ mid new (Err fault)
-    so.counts.places same c.in_err-write_part.ensures.aside)))
+    so.counts.places same c.in_err-prepare_commit.ensures.aside)))
 
 pub returns-clause-keeps : goal.returns-clause-keeps
 returns-clause-keeps g c = λ m h steady rests bare clean.
@@ -102,16 +103,16 @@ returns-clause-keeps g c = λ m h steady rests bare clean.
     c.args.generation c.args.counter.now c.args.numbers.now n m h
     (g.C.Chip.told c.args.chip.now) (Ok tt) (g.C.Chip.told c.loop-i.chip)) done (c.loop-i.invariant.keeps m h steady rests bare clean)
 
-pub returns-in_err-write_part-clause-writes : goal.returns-in_err-write_part-clause-writes
-returns-in_err-write_part-clause-writes g c =
+pub returns-in_err-prepare_commit-clause-writes : goal.returns-in_err-prepare_commit-clause-writes
+returns-in_err-prepare_commit-clause-writes g c =
     let so = c.loop-i.invariant in
-    let w = c.in_err-write_part.ensures.writes in
+    let w = c.in_err-prepare_commit.ensures.writes in
     let place = c.args.place in
     let i = c.loop-i.i in
     let parts = parts_of c.args.numbers.now in
     let old = g.C.Chip.told c.args.chip.now in
     let mid = g.C.Chip.told c.loop-i.chip in
-    let new = g.C.Chip.told c.write_part.new.chip in
+    let new = g.C.Chip.told c.prepare_commit.new.chip in
     let low : i < parts =
     omega (arith, c.part_count-count.ensures.parts, c.loop-i-test.true) in
     let few : i < 64 = omega (arith, c.part_count-count.ensures.few, c.loop-i-test.true) in

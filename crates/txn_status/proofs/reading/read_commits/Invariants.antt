@@ -33,4 +33,4 @@ pub record AreRead (first t : Told) (place generation units s greatest room : â„
 
 abbrev pub invariant-loop-sector : goal.invariant-loop-sector
 invariant-loop-sector g l = AreRead (g.C.Chip.told l.fn.chip)
-    (g.C.Chip.told l.chip) l.place l.generation l.units l.sector l.greatest l.fn.numbers.most l.numbers l.mark
+    (g.C.Chip.told l.chip) l.from.place l.from.generation l.from.units l.sector l.greatest l.fn.numbers.most l.numbers l.mark

@@ -12,8 +12,8 @@ use Rattle.txn_status.proofs.reading.read_spot.Goals as goal
 
 pub returns-in_err-found-clause-looks : goal.returns-in_err-found-clause-looks
 returns-in_err-found-clause-looks g c =
-    let place = c.args.spot.place in
-    let s = c.args.spot.sector in
+    let place = c.args.from.place in
+    let s = c.args.sector in
     let old = g.C.Chip.told c.args.chip.now in
     let new = g.C.Chip.told c.read_noted.new.chip in
     let e = err_from_is_err_and c.from_residual.result c.from_residual.ensures.1 in
@@ -21,30 +21,30 @@ returns-in_err-found-clause-looks g c =
     c.read_noted.ensures.reads.asks c.read_noted.ensures.reads.accounts.counts
     (read_failed (IsAt place s) c.in_err-found.field-0.0 old new c.in_err-found.ensures.reads.accounts.cause))
 
-pub returns-in_err-greatest-clause-looks : goal.returns-in_err-greatest-clause-looks
-returns-in_err-greatest-clause-looks g c =
-    let place = c.args.spot.place in
-    let s = c.args.spot.sector in
-    let e = err_from_is_err_and c.from_residual-in_err-greatest.result
-    c.from_residual-in_err-greatest.ensures.1 in
-    rw (e.1 ∙ ap Err (e.2 ∙ c.in_err-greatest.ensures.cause))
+pub returns-in_err-noted-clause-looks : goal.returns-in_err-noted-clause-looks
+returns-in_err-noted-clause-looks g c =
+    let place = c.args.from.place in
+    let s = c.args.sector in
+    let e = err_from_is_err_and c.from_residual-in_err-noted.result
+    c.from_residual-in_err-noted.ensures.1 in
+    rw (e.1 ∙ ap Err (e.2 ∙ c.in_err-noted.ensures.cause))
     (looks_asked place s c.read_noted.result (Err (Malformed place s)) (g.C.Chip.told c.args.chip.now)
     (g.C.Chip.told c.read_noted.new.chip) c.read_noted.ensures.reads.asks
     c.read_noted.ensures.reads.accounts.counts (refl, refl))
 
 pub returns-clause-looks : goal.returns-clause-looks
 returns-clause-looks g c =
-    looks_asked c.args.spot.place c.args.spot.sector c.read_noted.result
-    (Ok c.in_ok-greatest.greatest) (g.C.Chip.told c.args.chip.now) (g.C.Chip.told c.read_noted.new.chip)
+    looks_asked c.args.from.place c.args.sector c.read_noted.result
+    (Ok c.in_ok-noted.noted) (g.C.Chip.told c.args.chip.now) (g.C.Chip.told c.read_noted.new.chip)
     c.read_noted.ensures.reads.asks c.read_noted.ensures.reads.accounts.counts tt
 
 pub returns-clause-takes : goal.returns-clause-takes
 returns-clause-takes g c = λ x told.
-    subst (λ (o : Option Sector). TakesIn o c.args.greatest c.in_ok-greatest.greatest c.args.numbers.now.list
+    subst (λ (o : Option Sector). TakesIn o c.in_ok-noted.noted c.args.numbers.now.list
     c.take_found.new.numbers.list c.args.mark.now c.take_found.new.mark)
-    (noted_found (chart_of x) c.args.spot.place c.args.generation c.args.spot.sector
+    (noted_found (chart_of x) c.args.from.place c.args.from.generation c.args.sector
     (sector_named c.read_noted.new.into c.in_ok-found.found) c.requires.first
-    (c.in_ok-found.ensures.reads.exact x told)) c.in_ok-greatest.ensures.takes
+    (c.in_ok-found.ensures.reads.exact x told)) c.in_ok-noted.ensures.takes
 
 pub returns-clause-whole : goal.returns-clause-whole
 returns-clause-whole g c = λ x told.

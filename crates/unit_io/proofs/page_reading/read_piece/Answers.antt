@@ -28,7 +28,7 @@ returns-clause-text g c =
       text = λ x told.
           text_put (c.args.piece * 480) c.in_ok-used.used (480 * c.args.piece) c.args.text.now.bytes (take c.in_ok-used.used (drop 32 c.read.new.into)) _ c.put_piece.new.text.bytes _
           c.put_piece.ensures.bytes (omega (arith, c.put_piece.ensures.size)) (used_is c.read.new.into c.in_ok-used.used c.read.array_long short) (omega arith)
-          (rw c.base_sector.ensures.sector at (payload_is c.read.new.into _ c.decode_by-answer.result c.in_ok-used.used (c.in_ok-read.ensures.bytes x told) c.decode_by-answer.ensures.sector
+          (rw c.base_sector-sector.ensures.sector at (payload_is c.read.new.into _ c.decode_by-answer.result c.in_ok-used.used (c.in_ok-read.ensures.bytes x told) c.decode_by-answer.ensures.sector
           (c.in_ok-used.ensures.payload c.read.new.into)));
       within = omega arith;
       empty = c.put_piece.ensures.empty;

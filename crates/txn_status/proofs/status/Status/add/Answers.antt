@@ -8,12 +8,15 @@ use Rattle.txn_status.specs.Commits.{commit_sector}
 use Rattle.txn_status.specs.Adding.{Adds, AddsInSteps, KeepsFirstAt}
 use Rattle.unit_io.specs.Writing.{LeadsCommit}
 use Rattle.txn_status.specs.Writing.{WritesOneSector}
-use Rattle.txn_status.proofs.AddLemmas.{AreSpelled, spelled_from, added_in_steps, adds_told}
+use Rattle.txn_status.proofs.AddLemmas.{AreSpelled, one_sector, spelled_from, added_in_steps, adds_told}
 use Rattle.txn_status.proofs.FirstLemmas.{firsts_stay}
 use Rattle.txn_status.proofs.status.Status.add.Goals as goal
 
-pub returns-in_err-write_commit-clause-steps : goal.returns-in_err-write_commit-clause-steps
-returns-in_err-write_commit-clause-steps g c =
+pub returns-in_err-add_commit-clause-steps : goal.returns-in_err-add_commit-clause-steps
+returns-in_err-add_commit-clause-steps g c =
+    let place_is = c.first_clean-spot.ensures.place ∙ sym (ap (λ (s : StatusTable). s.place) c.self.view_is) in
+    let first_is = c.first_clean-spot.ensures.sector ∙ sym (ap (λ (s : StatusTable). s.first) c.self.view_is) in
+    let same = c.noted.ensures.same ∙ c.of-commit.ensures in
     let inside = c.self.inside in
     let st : StatusTable = record {
       place = inside.place;
@@ -26,9 +29,9 @@ returns-in_err-write_commit-clause-steps g c =
     (λ i. omega (arith, c.type_inv.tids i)) in
     let room : inside.first < 256 =
     omega (arith, c.requires.room, ap (λ (s : StatusTable). s.first) c.self.view_is) in
-    let fault = c.in_err-write_commit.field-0.0 in
+    let fault = c.in_err-add_commit.field-0.0 in
     let old = g.C.Chip.told c.args.chip.now in
-    let new = g.C.Chip.told c.write_commit.new.chip in
+    let new = g.C.Chip.told c.add_commit.new.chip in
     let e = err_from_is_err_and c.from_residual.result c.from_residual.ensures.1 in
     rw e.1
     (subst (λ (s : StatusTable). AddsInSteps old.places s c.args.counter.now tids (Err fault) old new)
@@ -37,7 +40,7 @@ returns-in_err-write_commit-clause-steps g c =
     c.self.invariant.0.least room
     (subst (λ (k : ℕ). LeadsCommit old.places inside.place inside.first
     (commit_sector inside.generation k tids) old (Err fault) new) c.draw-serial.ensures.drawn
-    c.in_err-write_commit.ensures.leads) c.in_err-write_commit.ensures.writes.accounts.cause))
+    (rw (place_is, first_is, same) at c.in_err-add_commit.ensures.leads)) c.in_err-add_commit.ensures.writes.accounts.cause))
 
 pub invariant_of-self : goal.invariant_of-self
 invariant_of-self g c =
@@ -64,6 +67,9 @@ invariant_of-self g c =
 
 pub returns-clause-adds : goal.returns-clause-adds
 returns-clause-adds g c =
+    let place_is = c.first_clean-spot.ensures.place ∙ sym (ap (λ (s : StatusTable). s.place) c.self.view_is) in
+    let first_is = c.first_clean-spot.ensures.sector ∙ sym (ap (λ (s : StatusTable). s.first) c.self.view_is) in
+    let same = c.noted.ensures.same ∙ c.of-commit.ensures in
     let inside = c.self.inside in
     let st : StatusTable = record {
       place = inside.place;
@@ -77,17 +83,20 @@ returns-clause-adds g c =
     let room : inside.first < 256 =
     omega (arith, c.requires.room, ap (λ (s : StatusTable). s.first) c.self.view_is) in
     let old = g.C.Chip.told c.args.chip.now in
-    let new = g.C.Chip.told c.write_commit.new.chip in
+    let new = g.C.Chip.told c.add_commit.new.chip in
     subst (λ (s : StatusTable). Charts (Adds old.places s c.args.counter.now tids) old new)
     c.self.view_is
     (adds_told old.places st c.args.counter.now tids (Ok tt) old new are
     c.self.invariant.0.least room
     (subst (λ (k : ℕ). Charts (Gains inside.place inside.first
     (commit_sector inside.generation k tids)) old new) c.draw-serial.ensures.drawn
-    c.in_ok-write_commit.ensures.tells))
+    (rw (place_is, first_is, same) at c.in_ok-add_commit.ensures.tells)))
 
 pub returns-clause-steps : goal.returns-clause-steps
 returns-clause-steps g c =
+    let place_is = c.first_clean-spot.ensures.place ∙ sym (ap (λ (s : StatusTable). s.place) c.self.view_is) in
+    let first_is = c.first_clean-spot.ensures.sector ∙ sym (ap (λ (s : StatusTable). s.first) c.self.view_is) in
+    let same = c.noted.ensures.same ∙ c.of-commit.ensures in
     let inside = c.self.inside in
     let st : StatusTable = record {
       place = inside.place;
@@ -101,33 +110,41 @@ returns-clause-steps g c =
     let room : inside.first < 256 =
     omega (arith, c.requires.room, ap (λ (s : StatusTable). s.first) c.self.view_is) in
     let old = g.C.Chip.told c.args.chip.now in
-    let new = g.C.Chip.told c.write_commit.new.chip in
+    let new = g.C.Chip.told c.add_commit.new.chip in
     subst (λ (s : StatusTable). AddsInSteps old.places s c.args.counter.now tids (Ok tt) old new)
     c.self.view_is
     (added_in_steps old.places st c.args.counter.now tids (Ok tt) old new are
     c.self.invariant.0.least room
     (subst (λ (k : ℕ). LeadsCommit old.places inside.place inside.first
     (commit_sector inside.generation k tids) old (Ok tt) new) c.draw-serial.ensures.drawn
-    c.in_ok-write_commit.ensures.leads) tt)
+    (rw (place_is, first_is, same) at c.in_ok-add_commit.ensures.leads)) tt)
 
 pub returns-clause-header : goal.returns-clause-header
 returns-clause-header g c =
+    let place_is = c.first_clean-spot.ensures.place ∙ sym (ap (λ (s : StatusTable). s.place) c.self.view_is) in
+    let first_is = c.first_clean-spot.ensures.sector ∙ sym (ap (λ (s : StatusTable). s.first) c.self.view_is) in
+    let same = c.noted.ensures.same ∙ c.of-commit.ensures in
     let inside = c.self.inside in
     let old = g.C.Chip.told c.args.chip.now in
-    let new = g.C.Chip.told c.write_commit.new.chip in
+    let new = g.C.Chip.told c.add_commit.new.chip in
     subst (λ (s : StatusTable). Charts (KeepsFirstAt s.place) old new) c.self.view_is
     (firsts_stay inside.place inside.first (commit_sector inside.generation c.draw-serial.result c.args.tids.now) old
-    new c.self.invariant.0.least c.in_ok-write_commit.ensures.tells)
+    new c.self.invariant.0.least (rw (place_is, first_is, same) at c.in_ok-add_commit.ensures.tells))
 
-pub returns-in_err-write_commit-clause-writes : goal.returns-in_err-write_commit-clause-writes
-returns-in_err-write_commit-clause-writes g c =
+pub returns-in_err-add_commit-clause-writes : goal.returns-in_err-add_commit-clause-writes
+returns-in_err-add_commit-clause-writes g c =
+    let place_is = c.first_clean-spot.ensures.place ∙ sym (ap (λ (s : StatusTable). s.place) c.self.view_is) in
+    let first_is = c.first_clean-spot.ensures.sector ∙ sym (ap (λ (s : StatusTable). s.first) c.self.view_is) in
     let e = err_from_is_err_and c.from_residual.result c.from_residual.ensures.1 in
     rw (e.1 ∙ ap Err e.2) (subst (λ (s : StatusTable). WritesOneSector s.place s.first 6
-    (Err c.in_err-write_commit.field-0.0) (g.C.Chip.told c.args.chip.now)
-    (g.C.Chip.told c.write_commit.new.chip)) c.self.view_is c.in_err-write_commit.ensures.writes)
+    (Err c.in_err-add_commit.field-0.0) (g.C.Chip.told c.args.chip.now)
+    (g.C.Chip.told c.add_commit.new.chip)) c.self.view_is
+    (rw (place_is, first_is) at (one_sector _ _ 6 _ _ _ c.in_err-add_commit.ensures.writes)))
 
 pub returns-clause-writes : goal.returns-clause-writes
 returns-clause-writes g c =
+    let place_is = c.first_clean-spot.ensures.place ∙ sym (ap (λ (s : StatusTable). s.place) c.self.view_is) in
+    let first_is = c.first_clean-spot.ensures.sector ∙ sym (ap (λ (s : StatusTable). s.first) c.self.view_is) in
     subst (λ (s : StatusTable). WritesOneSector s.place s.first 6 (Ok tt)
-    (g.C.Chip.told c.args.chip.now) (g.C.Chip.told c.write_commit.new.chip)) c.self.view_is
-    c.in_ok-write_commit.ensures.writes
+    (g.C.Chip.told c.args.chip.now) (g.C.Chip.told c.add_commit.new.chip)) c.self.view_is
+    (rw (place_is, first_is) at (one_sector _ _ 6 _ _ _ c.in_ok-add_commit.ensures.writes))

@@ -1,4 +1,4 @@
-use Rattle.std.proofs.Common.{◌<◌, ℕ, Ok, Err, subst, ap, ◌∙◌, arith}
+use Rattle.std.proofs.Common.{◌<◌, ℕ, Ok, Err, sym, subst, ap, ◌∙◌, arith}
 use Rattle.std.proofs.lemmas.Result.{err_from_is_err_and}
 use Rattle.ipl_meaning.specs.Tables.{StatusTable}
 use Rattle.unit_io.specs.Charts.{Charts, Gains}
@@ -12,6 +12,8 @@ use Rattle.txn_status.proofs.status.Status.mark.Goals as goal
 
 pub returns-in_err-write_mark-clause-steps : goal.returns-in_err-write_mark-clause-steps
 returns-in_err-write_mark-clause-steps g c =
+    let place_is = c.first_clean-spot.ensures.place ∙ sym (ap (λ (s : StatusTable). s.place) c.self.view_is) in
+    let first_is = c.first_clean-spot.ensures.sector ∙ sym (ap (λ (s : StatusTable). s.first) c.self.view_is) in
     let inside = c.self.inside in
     let st : StatusTable = record {
       place = inside.place;
@@ -33,7 +35,7 @@ returns-in_err-write_mark-clause-steps g c =
     c.self.invariant.0.least room
     (subst (λ (k : ℕ). LeadsMark old.places inside.place inside.first
     (mark_sector inside.generation k payload) old (Err fault) new) c.draw-serial.ensures.drawn
-    c.in_err-write_mark.ensures.leads) c.in_err-write_mark.ensures.writes.accounts.cause))
+    (rw (place_is, first_is) at c.in_err-write_mark.ensures.leads)) c.in_err-write_mark.ensures.writes.accounts.cause))
 
 pub invariant_of-self : goal.invariant_of-self
 invariant_of-self g c =
@@ -51,6 +53,8 @@ invariant_of-self g c =
 
 pub returns-clause-tells : goal.returns-clause-tells
 returns-clause-tells g c =
+    let place_is = c.first_clean-spot.ensures.place ∙ sym (ap (λ (s : StatusTable). s.place) c.self.view_is) in
+    let first_is = c.first_clean-spot.ensures.sector ∙ sym (ap (λ (s : StatusTable). s.first) c.self.view_is) in
     let inside = c.self.inside in
     let payload = c.args.payload.now in
     let old = g.C.Chip.told c.args.chip.now in
@@ -59,10 +63,12 @@ returns-clause-tells g c =
     (mark_sector s.generation c.args.counter.now payload)) old new) c.self.view_is
     (subst (λ (k : ℕ). Charts (Gains inside.place inside.first
     (mark_sector inside.generation k payload)) old new) c.draw-serial.ensures.drawn
-    c.in_ok-write_mark.ensures.tells)
+    (rw (place_is, first_is) at c.in_ok-write_mark.ensures.tells))
 
 pub returns-clause-steps : goal.returns-clause-steps
 returns-clause-steps g c =
+    let place_is = c.first_clean-spot.ensures.place ∙ sym (ap (λ (s : StatusTable). s.place) c.self.view_is) in
+    let first_is = c.first_clean-spot.ensures.sector ∙ sym (ap (λ (s : StatusTable). s.first) c.self.view_is) in
     let inside = c.self.inside in
     let st : StatusTable = record {
       place = inside.place;
@@ -81,10 +87,12 @@ returns-clause-steps g c =
     c.self.invariant.0.least room
     (subst (λ (k : ℕ). LeadsMark old.places inside.place inside.first
     (mark_sector inside.generation k payload) old (Ok tt) new) c.draw-serial.ensures.drawn
-    c.in_ok-write_mark.ensures.leads) tt)
+    (rw (place_is, first_is) at c.in_ok-write_mark.ensures.leads)) tt)
 
 pub returns-clause-adds : goal.returns-clause-adds
 returns-clause-adds g c =
+    let place_is = c.first_clean-spot.ensures.place ∙ sym (ap (λ (s : StatusTable). s.place) c.self.view_is) in
+    let first_is = c.first_clean-spot.ensures.sector ∙ sym (ap (λ (s : StatusTable). s.first) c.self.view_is) in
     let inside = c.self.inside in
     let payload = c.args.payload.now in
     let old = g.C.Chip.told c.args.chip.now in
@@ -93,17 +101,22 @@ returns-clause-adds g c =
     (mark_sector s.generation c.args.counter.now payload)) old new) c.self.view_is
     (subst (λ (k : ℕ). Spends (AddsSector inside.place inside.first
     (mark_sector inside.generation k payload)) old new) c.draw-serial.ensures.drawn
-    c.in_ok-write_mark.ensures.adds)
+    (rw (place_is, first_is) at c.in_ok-write_mark.ensures.adds))
 
 pub returns-in_err-write_mark-clause-writes : goal.returns-in_err-write_mark-clause-writes
 returns-in_err-write_mark-clause-writes g c =
+    let place_is = c.first_clean-spot.ensures.place ∙ sym (ap (λ (s : StatusTable). s.place) c.self.view_is) in
+    let first_is = c.first_clean-spot.ensures.sector ∙ sym (ap (λ (s : StatusTable). s.first) c.self.view_is) in
     let e = err_from_is_err_and c.from_residual.result c.from_residual.ensures.1 in
     rw (e.1 ∙ ap Err e.2) (subst (λ (s : StatusTable). WritesOneSector s.place s.first 7
     (Err c.in_err-write_mark.field-0.0) (g.C.Chip.told c.args.chip.now)
-    (g.C.Chip.told c.write_mark.new.chip)) c.self.view_is c.in_err-write_mark.ensures.writes)
+    (g.C.Chip.told c.write_mark.new.chip)) c.self.view_is
+    (rw (place_is, first_is) at c.in_err-write_mark.ensures.writes))
 
 pub returns-clause-writes : goal.returns-clause-writes
 returns-clause-writes g c =
+    let place_is = c.first_clean-spot.ensures.place ∙ sym (ap (λ (s : StatusTable). s.place) c.self.view_is) in
+    let first_is = c.first_clean-spot.ensures.sector ∙ sym (ap (λ (s : StatusTable). s.first) c.self.view_is) in
     subst (λ (s : StatusTable). WritesOneSector s.place s.first 7 (Ok tt)
     (g.C.Chip.told c.args.chip.now) (g.C.Chip.told c.write_mark.new.chip)) c.self.view_is
-    c.in_ok-write_mark.ensures.writes
+    (rw (place_is, first_is) at c.in_ok-write_mark.ensures.writes)
