@@ -1,6 +1,6 @@
 -- The live log sectors of a unit, read from the tables.
-use Rattle.std.specs.Prelude.{ℕ, zero, suc, ◌≡◌, ◌⊎◌, ◌+◌, ◌-◌, List, [], ◌∷◌, ◌++◌, map, length, Some, Result, MatchResult}
-use Rattle.ipl_base.specs.declared.limits.TheConstants.{FIRST_LOG_SECTOR}
+use Rattle.std.specs.Prelude.{ℕ, zero, suc, ◌≡◌, ◌⊎◌, ◌<◌, ◌≤◌, ◌+◌, ◌-◌, List, [], ◌∷◌, ◌++◌, map, length, Some, Result, MatchResult}
+use Rattle.ipl_base.specs.declared.limits.TheConstants.{FIRST_LOG_SECTOR, SECTORS}
 use Rattle.chip_trait.specs.Told.{Told}
 use Rattle.ipl_base.specs.declared.fault.ChipFault.{ChipFault}
 use Rattle.ipl_base.specs.declared.fault.ChipFault.TheVariants.{ReadFault}
@@ -25,6 +25,12 @@ spots_from p s (suc n) = (p, s) ∷ spots_from p (s + 1) n
 abbrev pub log_spots : ℕ → ℕ → List (ℕ × ℕ) → List (ℕ × ℕ)
 log_spots home end listed = spots_from home FIRST_LOG_SECTOR (end - FIRST_LOG_SECTOR) ++ listed
 
+-- a chip of so many places has this one, and its sectors from 241 up to this end
+pub record HasLogEnd (places p end : ℕ) : Type 0 where
+  pub place : p < places
+  pub least : FIRST_LOG_SECTOR ≤ end
+  pub most : end ≤ SECTORS
+
 -- The log sectors at the spots that are the unit's and of the generation are put into those that
 -- were
 -- kept before; or, where no read failed, one of them can't be.
@@ -43,6 +49,13 @@ pub record MatchesLayout (it : Layout) (u : ℕ) (head : UnitHead) (kept : List 
 
 -- the directory and the overflow lists are made for a chip of so many places, and for as many units
 pub record SuitChip (places : ℕ) (directory : Places) (overflow : OverflowLists) : Type 0 where
+  pub size : length directory.in_use ≡ places
+  pub units : length overflow.spots ≡ length directory.current
+  pub sized : overflow.places ≡ places
+
+-- and they have this unit
+pub record HaveUnit (places : ℕ) (directory : Places) (overflow : OverflowLists) (u : ℕ) : Type 0 where
+  pub unit : u < length directory.current
   pub size : length directory.in_use ≡ places
   pub units : length overflow.spots ≡ length directory.current
   pub sized : overflow.places ≡ places

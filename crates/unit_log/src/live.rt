@@ -10,13 +10,13 @@ ghost use Rattle.ipl_meaning.specs.Masks.{of_page};
 ghost use Rattle.overflow.specs.Lists.{spots_in};
 ghost use Rattle.unit_io.specs.Kinds.{sector_named};
 ghost use Rattle.unit_io.specs.Reads.{OfContents};
-ghost use Rattle.unit_log.specs.Live.{MatchesLayout, OfMirrored, HasHead, SaysHead, HasUnitHead};
+ghost use Rattle.unit_log.specs.Live.{HaveUnit, MatchesLayout, OfMirrored, HasHead, SaysHead, HasUnitHead};
 ghost use Rattle.unit_io.specs.ReadsAt.{IsAt};
 ghost use Rattle.unit_log.specs.Looks.{IsLogRead, LooksAt};
 ghost use Rattle.unit_log.specs.Paged.{page_spots, IsLiveOf, IsPageLogRead, AddsAtMost};
 
 use crate::pages::page_spots;
-use crate::reading::{read_listed, read_sectors};
+use crate::reading::{Owner, read_listed, read_sectors};
 use crate::scratch::Scratch;
 use chip_trait::Chip;
 use ipl_base::{ChipFault, SECTORS};
@@ -97,10 +97,7 @@ pub fn read_live<C: Chip>(
     unit: u32,
     scratch: &mut Scratch,
 ) -> Result<UnitHead, ChipFault>
-    requires unit { unit < length directory.now.current }
-    requires size { length directory.now.in_use ≡ (C.told chip.old).places }
-    requires units { length overflow.now.spots ≡ length directory.now.current }
-    requires sized { overflow.now.places ≡ (C.told chip.old).places }
+    requires unit { HaveUnit (C.told chip.old).places directory.now overflow.now unit }
     ensures exact { OfMirrored (C.told chip.old) directory.now overflow.now (λ it.
         MatchResult result (λ head. MatchesLayout it unit head scratch.new) (λ fault. fault ≡ ReadFault)) }
     ensures header { IfOk result (λ head. OfContents (C.told chip.old) (λ x.
@@ -116,15 +113,11 @@ pub fn read_live<C: Chip>(
     scratch.clear();
     let head = read_header(chip, place, unit)?;
     let spots = overflow.list(unit);
-    read_sectors(
-        chip,
-        place,
-        end,
-        spots.as_slice(),
+    let owner = Owner {
         unit,
-        head.generation,
-        scratch,
-    )?;
+        generation: head.generation,
+    };
+    read_sectors(chip, owner, place, end, spots.as_slice(), scratch)?;
     scratch.facts();
     Ok(head)
 }
@@ -144,10 +137,7 @@ pub fn read_page_log<C: Chip>(
     page: u32,
     scratch: &mut Scratch,
 ) -> Result<UnitHead, ChipFault>
-    requires unit { unit < length directory.now.current }
-    requires size { length directory.now.in_use ≡ (C.told chip.old).places }
-    requires units { length overflow.now.spots ≡ length directory.now.current }
-    requires sized { overflow.now.places ≡ (C.told chip.old).places }
+    requires unit { HaveUnit (C.told chip.old).places directory.now overflow.now unit }
     requires page { page < 15 }
     ensures exact { OfMirrored (C.told chip.old) directory.now overflow.now (λ it.
         MatchResult result (λ head. IsLiveOf it unit page head scratch.new)
@@ -168,7 +158,11 @@ pub fn read_page_log<C: Chip>(
     let spots = page_spots(directory, overflow, unit, page);
     scratch.clear();
     let head = read_header(chip, place, unit)?;
-    read_listed(chip, spots.as_slice(), unit, head.generation, scratch)?;
+    let owner = Owner {
+        unit,
+        generation: head.generation,
+    };
+    read_listed(chip, owner, spots.as_slice(), scratch)?;
     scratch.facts();
     Ok(head)
 }

@@ -6,7 +6,7 @@ ghost use Rattle.ipl_base.specs.declared.fault.ChipFault.TheVariants.{Malformed}
 ghost use Rattle.overflow.specs.Lists.{pair_of, AreWithin};
 ghost use Rattle.unit_io.specs.Kinds.{sector_named};
 ghost use Rattle.unit_log.specs.Kept.{kept_if, with_found, CannotBeKept};
-ghost use Rattle.unit_log.specs.Live.{spots_from, log_spots, Gathers};
+ghost use Rattle.unit_log.specs.Live.{HasLogEnd, spots_from, log_spots, Gathers};
 ghost use Rattle.unit_io.specs.ReadsAt.{IsAt};
 ghost use Rattle.unit_log.specs.Looks.{IsFrom, IsListed, IsLogRead, LooksAt};
 ghost use Rattle.unit_log.specs.Paged.{AddsAtMost};
@@ -17,6 +17,13 @@ use ipl_base::{ChipFault, FIRST_LOG_SECTOR, Spot};
 use log_records::{Payload, is_list};
 use sector_format::Head;
 use unit_io::read_log;
+
+/// Whose log sectors are read: a unit's, in the generation of its header.
+#[derive(Clone, Copy)]
+pub(crate) struct Owner {
+    pub(crate) unit: u32,
+    pub(crate) generation: u64,
+}
 
 /// Keeps a log sector with this payload, of this version, or tells why it can't be one of the unit's.
 fn keep(
@@ -57,24 +64,23 @@ fn keep(
 /// Keeps what was found, where it is a log sector of the unit and the generation.
 fn take_found(
     scratch: &mut Scratch,
+    owner: Owner,
     spot: Spot,
-    unit: u32,
-    generation: u64,
     found: Option<(Head, usize)>,
     bytes: &[u8; 512],
 ) -> Result<(), ChipFault>
     requires room { length scratch.old < LIVE_SECTORS }
     requires fits { IfSome found (λ it. it.1 ≤ PAYLOAD_LEN) }
     ensures kept { OnOk result (scratch.new
-        ≡ with_found (kept_if unit generation (sector_named bytes.now found)) scratch.old) }
+        ≡ with_found (kept_if owner.unit owner.generation (sector_named bytes.now found)) scratch.old) }
     ensures unfit { IfErr result (λ fault.
-        CannotBeKept (kept_if unit generation (sector_named bytes.now found)) scratch.old) }
+        CannotBeKept (kept_if owner.unit owner.generation (sector_named bytes.now found)) scratch.old) }
     ensures fault { IfErr result (λ fault. fault ≡ Malformed spot.place spot.sector) }
     ensures count { length scratch.new ≤ length scratch.old + 1 }
 {
     match found {
         Some((head, used)) => {
-            if head.unit != unit || head.generation != generation {
+            if head.unit != owner.unit || head.generation != owner.generation {
                 return Ok(());
             }
             keep(
@@ -92,15 +98,14 @@ fn take_found(
 /// Reads a spot where a log sector of the unit may stand.
 fn read_spot<C: Chip>(
     chip: &mut C,
+    owner: Owner,
     spot: Spot,
-    unit: u32,
-    generation: u64,
     scratch: &mut Scratch,
 ) -> Result<(), ChipFault>
     requires place { spot.place < (C.told chip.old).places }
     requires sector { spot.sector < 256 }
     requires room { length scratch.old < LIVE_SECTORS }
-    ensures gathers { Gathers (C.told chip.old) unit generation (pair_of spot ∷ [])
+    ensures gathers { Gathers (C.told chip.old) owner.unit owner.generation (pair_of spot ∷ [])
         scratch.old scratch.new result }
     ensures count { length scratch.new ≤ length scratch.old + 1 }
     ensures looks { LooksAt (IsAt spot.place spot.sector) result
@@ -109,29 +114,26 @@ fn read_spot<C: Chip>(
 {
     let mut bytes = [0; 512];
     let found = read_log(chip, spot, &mut bytes)?;
-    take_found(scratch, spot, unit, generation, found, &bytes)
+    take_found(scratch, owner, spot, found, &bytes)
 }
 
 /// Reads the sectors of a place from 241 up to this one (241 to 256).
 fn read_home<C: Chip>(
     chip: &mut C,
+    owner: Owner,
     place: u32,
     end: u32,
-    unit: u32,
-    generation: u64,
     scratch: &mut Scratch,
 ) -> Result<(), ChipFault>
-    requires place { place < (C.told chip.old).places }
-    requires least { 241 ≤ end }
-    requires most { end ≤ 256 }
+    requires end { HasLogEnd (C.told chip.old).places place end }
     requires room { length scratch.old ≤ OVERFLOW_SECTORS }
-    ensures gathers { Gathers (C.told chip.old) unit generation (spots_from place 241 (end - 241))
+    ensures gathers { Gathers (C.told chip.old) owner.unit owner.generation (spots_from place 241 (end - 241))
         scratch.old scratch.new result }
     ensures count { length scratch.new ≤ length scratch.old + 15 }
     ensures looks { LooksAt (IsFrom place 241) result (C.told chip.old) (C.told chip.new) }
 {
     for sector in FIRST_LOG_SECTOR..end {
-        read_spot(chip, Spot { place, sector }, unit, generation, scratch)?;
+        read_spot(chip, owner, Spot { place, sector }, scratch)?;
     }
     Ok(())
 }
@@ -139,21 +141,20 @@ fn read_home<C: Chip>(
 /// Reads these spots, at most 31.
 pub(crate) fn read_listed<C: Chip>(
     chip: &mut C,
+    owner: Owner,
     spots: &[Spot],
-    unit: u32,
-    generation: u64,
     scratch: &mut Scratch,
 ) -> Result<(), ChipFault>
     requires within { AreWithin (C.told chip.old).places (map pair_of spots.now) }
     requires room { length scratch.old + length spots.now ≤ LIVE_SECTORS }
-    ensures gathers { Gathers (C.told chip.old) unit generation (map pair_of spots.now)
+    ensures gathers { Gathers (C.told chip.old) owner.unit owner.generation (map pair_of spots.now)
         scratch.old scratch.new result }
     ensures looks { LooksAt (IsListed (map pair_of spots.now)) result
         (C.told chip.old) (C.told chip.new) }
     ensures each { AddsAtMost (length spots.now) (C.told chip.old) (C.told chip.new) }
 {
     for spot in spots {
-        read_spot(chip, *spot, unit, generation, scratch)?;
+        read_spot(chip, owner, *spot, scratch)?;
     }
     Ok(())
 }
@@ -161,24 +162,21 @@ pub(crate) fn read_listed<C: Chip>(
 /// Reads the sectors of a place from 241 up to this one (241 to 256), then these spots, at most 16.
 pub(crate) fn read_sectors<C: Chip>(
     chip: &mut C,
+    owner: Owner,
     place: u32,
     end: u32,
     spots: &[Spot],
-    unit: u32,
-    generation: u64,
     scratch: &mut Scratch,
 ) -> Result<(), ChipFault>
-    requires place { place < (C.told chip.old).places }
-    requires least { 241 ≤ end }
-    requires most { end ≤ 256 }
+    requires end { HasLogEnd (C.told chip.old).places place end }
     requires within { AreWithin (C.told chip.old).places (map pair_of spots.now) }
     requires few { length spots.now ≤ OVERFLOW_SECTORS }
     requires none { scratch.old ≡ [] }
-    ensures gathers { Gathers (C.told chip.old) unit generation
+    ensures gathers { Gathers (C.told chip.old) owner.unit owner.generation
         (log_spots place end (map pair_of spots.now)) scratch.old scratch.new result }
     ensures looks { LooksAt (IsLogRead place (map pair_of spots.now)) result
         (C.told chip.old) (C.told chip.new) }
 {
-    read_home(chip, place, end, unit, generation, scratch)?;
-    read_listed(chip, spots, unit, generation, scratch)
+    read_home(chip, owner, place, end, scratch)?;
+    read_listed(chip, owner, spots, scratch)
 }

@@ -15,7 +15,7 @@ pub read_sectors-requires-clause-within : goal.read_sectors-requires-clause-with
 read_sectors-requires-clause-within g c =
     let spots = spots_in c.args.overflow.now c.args.unit in
     let size : c.args.overflow.now.places ≡ (g.C.Chip.told c.read_header.new.chip).places =
-    omega (arith, c.requires.sized, c.in_ok-head.ensures.looks.reads.counts.places) in
+    omega (arith, c.requires.unit.sized, c.in_ok-head.ensures.looks.reads.counts.places) in
     subst (λ l. AreWithin (g.C.Chip.told c.read_header.new.chip).places l)
     (sym (ap (map pair_of) c.as_slice.ensures.value ∙ c.list-spots.ensures.spots))
     (subst (λ n. AreWithin n spots) size c.list-spots.ensures.within)
@@ -79,7 +79,7 @@ returns-in_err-head-clause-exact g c = λ x told it t are.
     ∙ c.in_err-head.ensures.exact x told
     (it.units c.args.unit).head (it.units c.args.unit).pieces
     (has_head _ c.current-place.result c.args.unit
-    (chart_of x) it t c.args.directory.now c.args.overflow.now are c.requires.unit
+    (chart_of x) it t c.args.directory.now c.args.overflow.now are c.requires.unit.unit
     c.current-place.ensures.place))
 
 pub returns-in_err-read_sectors-clause-exact : goal.returns-in_err-read_sectors-clause-exact
@@ -90,14 +90,14 @@ returns-in_err-read_sectors-clause-exact g c = λ x told it t are.
     let head =
     c.in_ok-head.ensures.exact x told (it.units c.args.unit).head (it.units c.args.unit).pieces
     (has_head _ c.current-place.result c.args.unit
-    (chart_of x) it t c.args.directory.now c.args.overflow.now are c.requires.unit
+    (chart_of x) it t c.args.directory.now c.args.overflow.now are c.requires.unit.unit
     c.current-place.ensures.place) in
     let told_then = c.in_ok-head.ensures.looks.reads.contents ∙ told in
     rw e.1 (elim (c.in_err-read_sectors.ensures.gathers x told_then) [
       | inl read ↦ e.2 ∙ read
       | inr unfit ↦
           absurd (no_unfit _ c.current-place.result c.args.unit
-          (chart_of x) it t c.args.directory.now c.args.overflow.now are c.requires.unit
+          (chart_of x) it t c.args.directory.now c.args.overflow.now are c.requires.unit.unit
           c.current-place.ensures.place
           c.next_log.result c.unwrap_or-end.result
           (map pair_of c.as_slice.result.now) c.in_ok-head.head.generation head.0
@@ -113,7 +113,7 @@ returns-clause-exact g c = λ x told it t are.
     let head =
     c.in_ok-head.ensures.exact x told (it.units c.args.unit).head (it.units c.args.unit).pieces
     (has_head _ c.current-place.result c.args.unit
-    (chart_of x) it t c.args.directory.now c.args.overflow.now are c.requires.unit
+    (chart_of x) it t c.args.directory.now c.args.overflow.now are c.requires.unit.unit
     c.current-place.ensures.place) in
     let all =
     c.in_ok-read_sectors.ensures.gathers x (c.in_ok-head.ensures.looks.reads.contents ∙ told)
@@ -126,7 +126,7 @@ returns-clause-exact g c = λ x told it t are.
       pieces = head.1;
       log =
           log_read _ c.current-place.result c.args.unit
-          (chart_of x) it t c.args.directory.now c.args.overflow.now are c.requires.unit
+          (chart_of x) it t c.args.directory.now c.args.overflow.now are c.requires.unit.unit
           c.current-place.ensures.place
           c.next_log.result c.unwrap_or-end.result
           (map pair_of c.as_slice.result.now) c.in_ok-head.head.generation head.0

@@ -17,7 +17,7 @@ pub read_listed-requires-clause-within : goal.read_listed-requires-clause-within
 read_listed-requires-clause-within g c =
     let spots = page_spots c.args.directory.now c.args.overflow.now c.args.unit c.args.page in
     let size : length c.args.directory.now.in_use ≡ (g.C.Chip.told c.read_header.new.chip).places =
-    omega (arith, c.requires.size, c.in_ok-head.ensures.looks.reads.counts.places) in
+    omega (arith, c.requires.unit.size, c.in_ok-head.ensures.looks.reads.counts.places) in
     subst (λ l. AreWithin (g.C.Chip.told c.read_header.new.chip).places l)
     (sym (ap (map pair_of) c.as_slice.ensures.value ∙ c.page_spots-spots.ensures.spots))
     (subst (λ n. AreWithin n spots) size c.page_spots-spots.ensures.within)
@@ -99,7 +99,7 @@ returns-in_err-head-clause-exact g c = λ x told it t are.
     ∙ c.in_err-head.ensures.exact x told
     (it.units c.args.unit).head (it.units c.args.unit).pieces
     (has_head _ c.current-place.result c.args.unit
-    (chart_of x) it t c.args.directory.now c.args.overflow.now are c.requires.unit
+    (chart_of x) it t c.args.directory.now c.args.overflow.now are c.requires.unit.unit
     c.current-place.ensures.place))
 
 pub returns-in_err-read_listed-clause-exact : goal.returns-in_err-read_listed-clause-exact
@@ -110,7 +110,7 @@ returns-in_err-read_listed-clause-exact g c = λ x told it t are.
     let head =
     c.in_ok-head.ensures.exact x told (it.units c.args.unit).head (it.units c.args.unit).pieces
     (has_head _ c.current-place.result c.args.unit
-    (chart_of x) it t c.args.directory.now c.args.overflow.now are c.requires.unit
+    (chart_of x) it t c.args.directory.now c.args.overflow.now are c.requires.unit.unit
     c.current-place.ensures.place) in
     let told_then = c.in_ok-head.ensures.looks.reads.contents ∙ told in
     let own = map pair_of c.as_slice.result.now in
@@ -118,7 +118,7 @@ returns-in_err-read_listed-clause-exact g c = λ x told it t are.
       | inl read ↦ e.2 ∙ read
       | inr unfit ↦
           absurd (no_unfit_page _ c.current-place.result c.args.unit
-          (chart_of x) it t c.args.directory.now c.args.overflow.now are c.requires.unit
+          (chart_of x) it t c.args.directory.now c.args.overflow.now are c.requires.unit.unit
           c.current-place.ensures.place
           c.args.page own c.in_ok-head.head.generation head.0
           (ap (map pair_of) c.as_slice.ensures.value ∙ c.page_spots-spots.ensures.spots)
@@ -130,7 +130,7 @@ returns-clause-exact g c = λ x told it t are.
     let head =
     c.in_ok-head.ensures.exact x told (it.units c.args.unit).head (it.units c.args.unit).pieces
     (has_head _ c.current-place.result c.args.unit
-    (chart_of x) it t c.args.directory.now c.args.overflow.now are c.requires.unit
+    (chart_of x) it t c.args.directory.now c.args.overflow.now are c.requires.unit.unit
     c.current-place.ensures.place) in
     let own = map pair_of c.as_slice.result.now in
     let all =
@@ -142,7 +142,7 @@ returns-clause-exact g c = λ x told it t are.
       pieces = head.1;
       log =
           page_read _ c.current-place.result c.args.unit
-          (chart_of x) it t c.args.directory.now c.args.overflow.now are c.requires.unit
+          (chart_of x) it t c.args.directory.now c.args.overflow.now are c.requires.unit.unit
           c.current-place.ensures.place
           c.args.page own c.in_ok-head.head.generation head.0
           (ap (map pair_of) c.as_slice.ensures.value ∙ c.page_spots-spots.ensures.spots)
@@ -154,14 +154,14 @@ returns-clause-as_many g c = λ x told it t are.
     let head =
     c.in_ok-head.ensures.exact x told (it.units c.args.unit).head (it.units c.args.unit).pieces
     (has_head _ c.current-place.result c.args.unit
-    (chart_of x) it t c.args.directory.now c.args.overflow.now are c.requires.unit
+    (chart_of x) it t c.args.directory.now c.args.overflow.now are c.requires.unit.unit
     c.current-place.ensures.place) in
     let own = map pair_of c.as_slice.result.now in
     let all =
     c.in_ok-read_listed.ensures.gathers x (c.in_ok-head.ensures.looks.reads.contents ∙ told)
     ∙ ap (gathered (chart_of x) c.args.unit c.in_ok-head.head.generation own) c.clear.ensures in
     page_size _ c.current-place.result c.args.unit
-    (chart_of x) it t c.args.directory.now c.args.overflow.now are c.requires.unit
+    (chart_of x) it t c.args.directory.now c.args.overflow.now are c.requires.unit.unit
     c.current-place.ensures.place
     c.args.page own c.in_ok-head.head.generation head.0
     (ap (map pair_of) c.as_slice.ensures.value ∙ c.page_spots-spots.ensures.spots)

@@ -8,7 +8,7 @@ use Rattle.unit_log.proofs.reading.read_home.Goals as goal
 pub loop-sector-init : goal.loop-sector-init
 loop-sector-init g c = record {
   read =
-      read_none (IsFrom c.args.place 241) c.args.unit c.args.generation
+      read_none (IsFrom c.args.place 241) c.args.owner.unit c.args.owner.generation
       (spots_from c.args.place 241 (c.args.end - 241)) c.args.scratch.now
       (g.C.Chip.told c.args.chip.now);
   count = omega arith;
@@ -26,13 +26,13 @@ loop-sector-preserved g c =
     let end = c.args.end in
     record {
       read =
-          read_more (IsFrom p 241) c.args.unit c.args.generation (spots_from p 241 (end - 241))
+          read_more (IsFrom p 241) c.args.owner.unit c.args.owner.generation (spots_from p 241 (end - 241))
           (spots_from p s (end - s)) (spots_from p (s + 1) (end - (s + 1))) p s
           c.args.scratch.now c.loop-sector.scratch c.read_spot.new.scratch
           (g.C.Chip.told c.args.chip.now) (g.C.Chip.told c.loop-sector.chip)
           (g.C.Chip.told c.read_spot.new.chip)
           (home_step p s end c.loop-sector-test.true)
-          (in_place p s end c.loop-sector.auto.sector c.loop-sector-test.true c.requires.most)
+          (in_place p s end c.loop-sector.auto.sector c.loop-sector-test.true c.requires.end.most)
           so_far.read
           c.in_ok-read_spot.ensures.gathers c.in_ok-read_spot.ensures.looks.reads;
       count = omega (arith, so_far.count, c.read_spot.ensures.count);
@@ -40,7 +40,7 @@ loop-sector-preserved g c =
 
 pub read_spot-requires-clause-place : goal.read_spot-requires-clause-place
 read_spot-requires-clause-place g c =
-    omega (arith, c.requires.place, c.loop-sector.invariant.read.reads.counts.places)
+    omega (arith, c.requires.end.place, c.loop-sector.invariant.read.reads.counts.places)
 
 pub read_spot-requires-clause-room : goal.read_spot-requires-clause-room
 read_spot-requires-clause-room g c =
@@ -48,7 +48,7 @@ read_spot-requires-clause-room g c =
       arith,
       c.loop-sector.invariant.count,
       c.requires.room,
-      c.requires.most,
+      c.requires.end.most,
       c.loop-sector-test.true,
     )
 
@@ -58,12 +58,12 @@ returns-in_err-read_spot-clause-gathers g c =
     let p = c.args.place in
     let s = c.loop-sector.sector in
     let end = c.args.end in
-    read_fails (IsFrom p 241) c.args.unit c.args.generation (spots_from p 241 (end - 241))
+    read_fails (IsFrom p 241) c.args.owner.unit c.args.owner.generation (spots_from p 241 (end - 241))
     (spots_from p s (end - s)) (spots_from p (s + 1) (end - (s + 1))) p s
     c.args.scratch.now c.loop-sector.scratch c.read_spot.new.scratch (g.C.Chip.told c.args.chip.now)
     (g.C.Chip.told c.loop-sector.chip) (g.C.Chip.told c.read_spot.new.chip)
     (home_step p s end c.loop-sector-test.true)
-    (in_place p s end c.loop-sector.auto.sector c.loop-sector-test.true c.requires.most)
+    (in_place p s end c.loop-sector.auto.sector c.loop-sector-test.true c.requires.end.most)
     c.loop-sector.invariant.read
     _ e.0 _ e.1 e.2 c.in_err-read_spot.ensures.gathers
 
@@ -73,11 +73,11 @@ returns-in_err-read_spot-clause-looks g c =
     let p = c.args.place in
     let s = c.loop-sector.sector in
     let end = c.args.end in
-    looks_fails (IsFrom p 241) c.args.unit c.args.generation (spots_from p 241 (end - 241))
+    looks_fails (IsFrom p 241) c.args.owner.unit c.args.owner.generation (spots_from p 241 (end - 241))
     (spots_from p s (end - s)) (spots_from p (s + 1) (end - (s + 1))) p s
     c.args.scratch.now c.loop-sector.scratch c.read_spot.new.scratch (g.C.Chip.told c.args.chip.now)
     (g.C.Chip.told c.loop-sector.chip) (g.C.Chip.told c.read_spot.new.chip)
     (home_step p s end c.loop-sector-test.true)
-    (in_place p s end c.loop-sector.auto.sector c.loop-sector-test.true c.requires.most)
+    (in_place p s end c.loop-sector.auto.sector c.loop-sector-test.true c.requires.end.most)
     c.loop-sector.invariant.read
     _ e.0 _ e.1 e.2 c.in_err-read_spot.ensures.looks

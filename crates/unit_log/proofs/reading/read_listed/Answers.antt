@@ -10,7 +10,7 @@ use Rattle.unit_log.proofs.reading.read_listed.Goals as goal
 pub loop-spot-init : goal.loop-spot-init
 loop-spot-init g c = record {
   read =
-      read_none (IsListed (map pair_of c.args.spots.now)) c.args.unit c.args.generation
+      read_none (IsListed (map pair_of c.args.spots.now)) c.args.owner.unit c.args.owner.generation
       (map pair_of c.args.spots.now) c.args.scratch.now (g.C.Chip.told c.args.chip.now);
   added = most_none (g.C.Chip.told c.args.chip.now);
   count = omega arith;
@@ -24,7 +24,7 @@ loop-spot-preserved g c =
     let spot : Spot = get_or spots i (record { place = 0; sector = 0 }) in
     record {
       read =
-          read_more (IsListed (map pair_of spots)) c.args.unit c.args.generation (map pair_of spots)
+          read_more (IsListed (map pair_of spots)) c.args.owner.unit c.args.owner.generation (map pair_of spots)
           (rest_of spots i) (rest_of spots (i + 1)) spot.place spot.sector
           c.args.scratch.now c.loop-spot.scratch c.read_spot.new.scratch
           (g.C.Chip.told c.args.chip.now) (g.C.Chip.told c.loop-spot.chip)
@@ -65,7 +65,7 @@ returns-in_err-read_spot-clause-gathers g c =
     let spots = c.args.spots.now in
     let i = c.loop-spot.spot-index in
     let spot : Spot = get_or spots i (record { place = 0; sector = 0 }) in
-    read_fails (IsListed (map pair_of spots)) c.args.unit c.args.generation (map pair_of spots)
+    read_fails (IsListed (map pair_of spots)) c.args.owner.unit c.args.owner.generation (map pair_of spots)
     (rest_of spots i) (rest_of spots (i + 1)) spot.place spot.sector
     c.args.scratch.now c.loop-spot.scratch c.read_spot.new.scratch (g.C.Chip.told c.args.chip.now)
     (g.C.Chip.told c.loop-spot.chip) (g.C.Chip.told c.read_spot.new.chip)
@@ -80,7 +80,7 @@ returns-in_err-read_spot-clause-looks g c =
     let spots = c.args.spots.now in
     let i = c.loop-spot.spot-index in
     let spot : Spot = get_or spots i (record { place = 0; sector = 0 }) in
-    looks_fails (IsListed (map pair_of spots)) c.args.unit c.args.generation (map pair_of spots)
+    looks_fails (IsListed (map pair_of spots)) c.args.owner.unit c.args.owner.generation (map pair_of spots)
     (rest_of spots i) (rest_of spots (i + 1)) spot.place spot.sector
     c.args.scratch.now c.loop-spot.scratch c.read_spot.new.scratch (g.C.Chip.told c.args.chip.now)
     (g.C.Chip.told c.loop-spot.chip) (g.C.Chip.told c.read_spot.new.chip)

@@ -23,7 +23,7 @@ read_listed-requires-clause-within g c =
 pub returns-in_err-read_home-clause-gathers : goal.returns-in_err-read_home-clause-gathers
 returns-in_err-read_home-clause-gathers g c =
     let e = err_from_is_err_and c.from_residual.result c.from_residual.ensures.1 in
-    gathers_failed (g.C.Chip.told c.args.chip.now) c.args.unit c.args.generation
+    gathers_failed (g.C.Chip.told c.args.chip.now) c.args.owner.unit c.args.owner.generation
     (spots_from c.args.place 241 (c.args.end - 241)) (map pair_of c.args.spots.now)
     c.args.scratch.now c.read_home.new.scratch _ e.0 _ e.1 e.2 c.in_err-read_home.ensures.gathers
 
@@ -41,7 +41,7 @@ returns-in_err-read_home-clause-looks g c =
 pub returns-clause-gathers : goal.returns-clause-gathers
 returns-clause-gathers g c =
     gathers_then (g.C.Chip.told c.args.chip.now)
-    (g.C.Chip.told c.read_home.new.chip) c.args.unit c.args.generation
+    (g.C.Chip.told c.read_home.new.chip) c.args.owner.unit c.args.owner.generation
     (spots_from c.args.place 241 (c.args.end - 241)) (map pair_of c.args.spots.now)
     c.args.scratch.now c.read_home.new.scratch c.read_listed.new.scratch c.read_listed.result
     c.in_ok-read_home.ensures.looks.reads.contents

@@ -7,7 +7,7 @@ use Rattle.unit_log.proofs.reading.read_spot.Goals as goal
 pub returns-in_err-found-clause-gathers : goal.returns-in_err-found-clause-gathers
 returns-in_err-found-clause-gathers g c =
     let e = err_from_is_err_and c.from_residual.result c.from_residual.ensures.1 in
-    spot_missed (g.C.Chip.told c.args.chip.now) c.args.unit c.args.generation c.args.spot.place
+    spot_missed (g.C.Chip.told c.args.chip.now) c.args.owner.unit c.args.owner.generation c.args.spot.place
     c.args.spot.sector c.args.scratch.now c.args.scratch.now _ e.0 _ e.1 e.2
     c.in_err-found.ensures.reads.accounts.cause.0
 
@@ -20,7 +20,7 @@ returns-in_err-found-clause-looks g c =
 
 pub returns-clause-gathers : goal.returns-clause-gathers
 returns-clause-gathers g c =
-    spot_gathers (g.C.Chip.told c.args.chip.now) c.args.unit c.args.generation c.args.spot.place
+    spot_gathers (g.C.Chip.told c.args.chip.now) c.args.owner.unit c.args.owner.generation c.args.spot.place
     c.args.spot.sector c.args.scratch.now c.take_found.new.scratch _ c.take_found.result
     c.in_ok-found.ensures.reads.exact c.take_found.ensures.kept c.take_found.ensures.unfit
 
