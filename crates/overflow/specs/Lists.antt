@@ -20,6 +20,11 @@ short_pair spot = (spot.place, spot.sector)
 abbrev pub first_of : PlaceInUse → ℕ × ℕ
 first_of it = (it.place, it.first)
 
+-- the lists of these
+abbrev pub overflow_table : ℕ → List (List (ℕ × ℕ)) → List (List ℕ) → List (ℕ × ℕ) → OverflowLists
+overflow_table places spots masks in_use =
+    record { places = places; spots = spots; masks = masks; in_use = in_use }
+
 -- the unit's spots
 abbrev pub spots_in : OverflowLists → ℕ → List (ℕ × ℕ)
 spots_in it u = slice_index_or it.spots u []

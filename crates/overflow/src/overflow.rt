@@ -30,24 +30,15 @@ pub struct Overflow {
 impl Model for Overflow {
     ghost use Rattle.std.specs.Prelude.{map};
     ghost use Rattle.ipl_meaning.specs.Tables.{OverflowLists};
-    ghost use Rattle.overflow.specs.Lists.{first_of, IsSoundOverflow};
+    ghost use Rattle.overflow.specs.Lists.{overflow_table, first_of, IsSoundOverflow};
     ghost use Rattle.ipl_base.specs.Places.{HasUnitRoom};
 
     ghost Value = { OverflowLists };
 
-    ghost view = { λ o. record {
-      places = o.places;
-      spots = o.spots.items;
-      masks = o.masks.items;
-      in_use = map first_of o.in_use.items;
-    } };
+    ghost view = { λ o. overflow_table o.places o.spots.items o.masks.items (map first_of o.in_use.items) };
 
-    ghost invariant = { λ o. IsSoundOverflow (record {
-      places = o.places;
-      spots = o.spots.items;
-      masks = o.masks.items;
-      in_use = map first_of o.in_use.items;
-    })
+    ghost invariant = { λ o. IsSoundOverflow
+        (overflow_table o.places o.spots.items o.masks.items (map first_of o.in_use.items))
         × HasUnitRoom o.places o.spots
         × HasUnitRoom o.places o.masks };
 }

@@ -5,8 +5,8 @@ use Rattle.ipl_meaning.specs.Tables.{StatusTable}
 use Rattle.number_set.specs.Numbers.{with_numbers, AreRising}
 
 -- the status of these
-abbrev pub status_of : ℕ → ℕ → List ℕ → ℕ → StatusTable
-status_of place generation numbers first =
+abbrev pub status_table : ℕ → ℕ → List ℕ → ℕ → StatusTable
+status_table place generation numbers first =
     record { place = place; generation = generation; numbers = numbers; first = first }
 
 -- no number is committed, and no sector of place 0 is known clean

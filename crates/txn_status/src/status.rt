@@ -48,14 +48,14 @@ impl Model for Status {
     ghost use Rattle.std.specs.Prelude.{◌≡◌};
     ghost use Rattle.ipl_base.specs.declared.limits.TheConstants.{STATUS_NUMBERS};
     ghost use Rattle.ipl_meaning.specs.Tables.{StatusTable};
-    ghost use Rattle.txn_status.specs.Status.{status_of, IsSoundStatus};
+    ghost use Rattle.txn_status.specs.Status.{status_table, IsSoundStatus};
 
     ghost Value = { StatusTable };
 
-    ghost view = { λ s. status_of s.place s.generation s.numbers.list s.first };
+    ghost view = { λ s. status_table s.place s.generation s.numbers.list s.first };
 
     // That the numbers have room follows from the facts: no call asks whether there is.
-    ghost invariant = { λ s. IsSoundStatus (status_of s.place s.generation s.numbers.list s.first)
+    ghost invariant = { λ s. IsSoundStatus (status_table s.place s.generation s.numbers.list s.first)
         × (s.numbers.most ≡ STATUS_NUMBERS) };
 }
 

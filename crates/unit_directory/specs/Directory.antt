@@ -9,6 +9,18 @@ use Rattle.ipl_meaning.specs.Tables.{Places, with_use, masks_in, MARKED_LOGS, UN
 abbrev pub no_masks : List ℕ
 no_masks = replicate LOG_SECTORS 0
 
+-- the directory of these
+abbrev pub places_table : List ℕ → List Bool → List ℕ → List ℕ → List ℕ → List ℕ → List (List ℕ) → Places
+places_table current in_use erases retired written generations masks = record {
+  current = current;
+  in_use = in_use;
+  erases = erases;
+  retired = retired;
+  written = written;
+  generations = generations;
+  masks = masks;
+}
+
 -- with so many places and units: no place is in use or retired, each was erased once, each unit has place 0 and generation
 -- 0, nothing is known of its log sectors, and none names a page
 abbrev pub empty_places : ℕ → ℕ → Places

@@ -40,30 +40,17 @@ const NO_MASKS: [u16; 15] = [0; 15];
 impl Model for Directory {
     ghost use Rattle.std.specs.Prelude.{length};
     ghost use Rattle.ipl_meaning.specs.Tables.{Places};
-    ghost use Rattle.unit_directory.specs.Directory.{IsSoundDirectory};
+    ghost use Rattle.unit_directory.specs.Directory.{places_table, IsSoundDirectory};
     ghost use Rattle.ipl_base.specs.Places.{HasUnitRoom};
 
     ghost Value = { Places };
 
-    ghost view = { λ d. record {
-      current = d.current.items;
-      in_use = d.in_use.items;
-      erases = d.erases.items;
-      retired = d.retired.items;
-      written = d.written.items;
-      generations = d.generations.items;
-      masks = d.masks.items;
-    } };
+    ghost view = { λ d. places_table d.current.items d.in_use.items d.erases.items d.retired.items
+        d.written.items d.generations.items d.masks.items };
 
-    ghost invariant = { λ d. IsSoundDirectory (record {
-      current = d.current.items;
-      in_use = d.in_use.items;
-      erases = d.erases.items;
-      retired = d.retired.items;
-      written = d.written.items;
-      generations = d.generations.items;
-      masks = d.masks.items;
-    })
+    ghost invariant = { λ d. IsSoundDirectory
+        (places_table d.current.items d.in_use.items d.erases.items d.retired.items
+        d.written.items d.generations.items d.masks.items)
         × HasUnitRoom (length d.in_use.items) d.current
         × HasUnitRoom (length d.in_use.items) d.written
         × HasUnitRoom (length d.in_use.items) d.generations

@@ -36,6 +36,18 @@ pub enum Found {
 /// where it isn't of the kind that was asked for.
 pub type SectorRead = Result<Option<(Head, usize)>, ChipFault>;
 
+impl Found {
+    /// Its head and how many bytes of payload it uses, where it checks.
+    pub fn checked(self) -> Option<(Head, usize)>
+        ensures { result ≡ checked self }
+    {
+        match self {
+            Found::Sector(head, used) => Some((head, used)),
+            _ => None,
+        }
+    }
+}
+
 /// What the bytes of a sector are.
 fn found_in(bytes: &[u8; 512]) -> Found
     ensures exact { sector_named bytes.now (checked result) ≡ sector_in bytes.now }
@@ -47,16 +59,6 @@ fn found_in(bytes: &[u8; 512]) -> Found
         Decoded::Erased => Found::Erased,
         Decoded::Sector(head, used) => Found::Sector(head, used),
         Decoded::Bad { .. } | Decoded::Strange => Found::Bad,
-    }
-}
-
-/// Its head and its used length, where it checks.
-fn checked(found: Found) -> Option<(Head, usize)>
-    ensures { result ≡ checked found }
-{
-    match found {
-        Found::Sector(head, used) => Some((head, used)),
-        _ => None,
     }
 }
 
@@ -91,7 +93,7 @@ pub fn read_sector<C: Chip>(chip: &mut C, spot: Spot, into: &mut [u8; 512]) -> S
     ensures whole { OnOk result (OfContents (C.told chip.old) (λ x. IsWhole (x spot.place spot.sector))) }
 {
     let found = read_found(chip, spot, into)?;
-    Ok(checked(found))
+    Ok(found.checked())
 }
 
 /// What was found, if its kind is one of these.
