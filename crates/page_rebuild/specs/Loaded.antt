@@ -1,5 +1,5 @@
 -- A page that is loaded from the chip into a frame.
-use Rattle.std.specs.Prelude.{ℕ, ◌≡◌, ◌⊎◌, ◌<◌, ◌≤◌, ◌+◌, ◌↔◌, Bool, List, Option, Some, None, nat_lt, length, slice_index, Result, IfErr, OnOk, if◌then◌else◌}
+use Rattle.std.specs.Prelude.{ℕ, ◌≡◌, ◌⊎◌, ◌<◌, ◌≤◌, ◌+◌, ◌↔◌, Bool, List, Option, Some, None, nat_lt, length, slice_index, Result, All, IfErr, OnOk, if◌then◌else◌}
 use Rattle.std.specs.Option.{option_or}
 use Rattle.ipl_base.specs.declared.limits.TheConstants.{PAGE_LEN, SLOTS, PAGE_SECTORS}
 use Rattle.chip_trait.specs.Story.{Contents}
@@ -132,6 +132,13 @@ SoundPagesShowValues = (x : Contents) (it : Layout) (active : ℕ → Bool) (u p
 -- one of the first base sectors of the page, so many, at the unit's place
 abbrev pub IsBaseRead : ℕ → ℕ → ℕ → ℕ → ℕ → Type 0
 IsBaseRead home page pieces p s = (p ≡ home) × IsPieceSpot page pieces s
+
+-- a page may be read at this place, by a header that says of no page that it has more than 16 base
+-- sectors
+pub record MayReadBase (told : Told) (p i : ℕ) (header : UnitHead) : Type 0 where
+  pub place : p < told.places
+  pub few : All (λ n. n ≤ PAGE_SECTORS) header.pieces
+  pub page : i < 15
 
 -- What a call reads that reads the base sectors of a page, so many: each of them at most, and at most 16
 -- sectors. Where it failed, this is its cause.

@@ -1,6 +1,6 @@
 //! A page is read, and its unit's log.
-ghost use Rattle.std.specs.Prelude.{◌≡◌, ◌≤◌, ◌<◌, length, slice_index, All, OnOk, OnErr};
-ghost use Rattle.ipl_base.specs.declared.limits.TheConstants.{LIVE_SECTORS, PAGE_SECTORS};
+ghost use Rattle.std.specs.Prelude.{◌≡◌, ◌≤◌, ◌<◌, length, slice_index, OnOk, OnErr};
+ghost use Rattle.ipl_base.specs.declared.limits.TheConstants.{LIVE_SECTORS};
 ghost use Rattle.ipl_rules.specs.State.{Map};
 ghost use Rattle.ipl_format.specs.Page.{empty_page};
 ghost use Rattle.ipl_meaning.specs.Chart.{chart_of};
@@ -16,6 +16,7 @@ ghost use Rattle.page_rebuild.specs.Loaded.{
   OfTables,
   HasPageOf,
   IsRebuildCause,
+  MayReadBase,
   ReadsBase,
   LooksAtPage,
   load_fault,
@@ -43,9 +44,7 @@ fn read_base<C: Chip>(
     page: u32,
     frame: &mut Frame,
 ) -> Result<(), ChipFault>
-    requires place { place < (C.told chip.old).places }
-    requires few { All (λ n. n ≤ PAGE_SECTORS) header.now.pieces }
-    requires page { page < 15 }
+    requires base { MayReadBase (C.told chip.old) place page header.now }
     requires idle { HasNonePending frame.old }
     ensures exact { OfContents (C.told chip.old) (λ x. TellsChipFault
         (page_fault x place header.now.version unit header.now.generation page
@@ -97,10 +96,8 @@ pub fn rebuild<C: Chip>(
     active: &[u64],
     frame: &mut Frame,
 ) -> Result<(), ChipFault>
-    requires place { place < (C.told chip.old).places }
-    requires few { All (λ n. n ≤ PAGE_SECTORS) header.now.pieces }
+    requires base { MayReadBase (C.told chip.old) place page header.now }
     requires sectors { length sectors.now ≤ LIVE_SECTORS }
-    requires page { page < 15 }
     ensures loads { OnOk result (OfKnown (C.told chip.old) place unit page header.now sectors.now
         status.now (λ x it. IsLoaded (chart_of x) it (among active.now) unit page frame.new)) }
     ensures fault { OfKnown (C.told chip.old) place unit page header.now sectors.now status.now
