@@ -42,6 +42,11 @@ abbrev pub with_found : Option LogSector → List LogSector → List LogSector
 with_found None kept = kept
 with_found (Some x) kept = with_kept x kept
 
+-- one that was found with this serial, and a payload of this version
+abbrev pub log_found : ℕ → ℕ → List ℕ → Option LogSector
+log_found serial version bytes =
+    Some (record { serial = serial; payload = record { version = version; bytes = bytes } })
+
 -- what is kept of a sector, where it is the unit's and of the generation
 abbrev pub kept_if : ℕ → ℕ → Option Sector → Option LogSector
 kept_if u generation None = None

@@ -1,11 +1,11 @@
 //! Log sectors are read, and those of the unit are kept.
-ghost use Rattle.std.specs.Prelude.{◌≡◌, ◌≤◌, ◌<◌, ◌+◌, ◌-◌, [], ◌∷◌, length, map, Some, IfErr, IfSome, OnOk};
+ghost use Rattle.std.specs.Prelude.{◌≡◌, ◌≤◌, ◌<◌, ◌+◌, ◌-◌, [], ◌∷◌, length, map, IfErr, IfSome, OnOk};
 ghost use Rattle.ipl_base.specs.declared.limits.TheConstants.{LIVE_SECTORS, OVERFLOW_SECTORS, PAYLOAD_LEN};
 ghost use Rattle.chip_trait.specs.Told.{Told};
 ghost use Rattle.ipl_base.specs.declared.fault.ChipFault.TheVariants.{Malformed};
 ghost use Rattle.overflow.specs.Lists.{pair_of, AreWithin};
 ghost use Rattle.unit_io.specs.Kinds.{sector_named};
-ghost use Rattle.unit_log.specs.Kept.{kept_if, with_found, CannotBeKept};
+ghost use Rattle.unit_log.specs.Kept.{kept_if, log_found, with_found, CannotBeKept};
 ghost use Rattle.unit_log.specs.Live.{HasLogEnd, spots_from, log_spots, Gathers};
 ghost use Rattle.unit_io.specs.ReadsAt.{IsAt};
 ghost use Rattle.unit_log.specs.Looks.{IsFrom, IsListed, IsLogRead, LooksAt};
@@ -35,16 +35,10 @@ fn keep(
 ) -> Result<(), ChipFault>
     requires room { length scratch.old < LIVE_SECTORS }
     requires fits { length payload.now ≤ PAYLOAD_LEN }
-    ensures kept { OnOk result (scratch.new
-        ≡ with_found (Some (record {
-          serial = serial;
-          payload = record { version = version; bytes = payload.now };
-        })) scratch.old) }
+    ensures kept { OnOk result
+        (scratch.new ≡ with_found (log_found serial version payload.now) scratch.old) }
     ensures unfit { IfErr result (λ fault.
-        CannotBeKept (Some (record {
-          serial = serial;
-          payload = record { version = version; bytes = payload.now };
-        })) scratch.old) }
+        CannotBeKept (log_found serial version payload.now) scratch.old) }
     ensures fault { IfErr result (λ fault. fault ≡ Malformed spot.place spot.sector) }
     ensures count { length scratch.new ≤ length scratch.old + 1 }
 {
