@@ -22,6 +22,7 @@ mod RoomLemmas
 mod SpendLemmas
 mod LeavingLemmas
 mod FewLemmas
+mod UnitMergeLemmas
 pub mod TidyLemmas
 pub mod CompleteLemmas
 pub mod MaskedLemmas

@@ -1,5 +1,5 @@
 -- What the calls leave that make room.
-use Rattle.std.proofs.Common.{◌≡◌, ℕ, Some, Result, Ok, Err, IfOk, ◌∙◌}
+use Rattle.std.proofs.Common.{◌≡◌, ℕ, Some, Result, Ok, Err, IfOk, inl, ◌∙◌, subst}
 use Rattle.chip_trait.specs.Story.{Contents, held}
 use Rattle.chip_trait.specs.Told.{History, Told}
 use Rattle.ipl_base.specs.declared.fault.ChipFault.{ChipFault}
@@ -14,19 +14,17 @@ use Rattle.unit_io.specs.ReadsAt.{ReadsAt}
 use Rattle.step_laws.specs.Steps.{TidyWork, Steps, RestsAgreeing}
 use Rattle.step_laws.proofs.StepLemmas.{outcome_none, outcome_weaker}
 use Rattle.step_laws.proofs.TidyLemmas.{tidy_none}
-use Rattle.merge_laws.specs.Merged.{IsMergedUnit}
-use Rattle.selective_merge.specs.Merging.{Merges, StaysMirrored, RestsMerged, MergesInSteps}
-use Rattle.selective_merge.specs.Placing.{OpensOverflow, SaysErases, RestsOpened, OpensInSteps, IsPlaced, MakesRoom, RestsWithRoom, MakesRoomInSteps}
+use Rattle.selective_merge.specs.Merging.{MergesUnit, StaysMirrored, RestsMerged}
+use Rattle.selective_merge.specs.Placing.{OpensOverflow, SaysErases, RestsOpened, OpensInSteps, IsMergedSpot, MakesRoom, RestsWithRoom, MakesRoomInSteps, PlacesLog}
+use Rattle.selective_merge.specs.Spotting.{IsHomeSpot}
 use Rattle.selective_merge.specs.Throughout.{ChartsThroughout}
+use Rattle.selective_merge.proofs.CompleteLemmas.{fails_behind}
+use Rattle.selective_merge.proofs.LeavingLemmas.{finds_behind, finds_merged, finds_unmerged}
 use Rattle.selective_merge.proofs.WholeLemmas.{steps_behind, read_failed}
 
 -- what room there is, by the charts before and after, the tables before and after, and the spot
 abbrev pub RoomOf : Type 1
 RoomOf = ℕ → Chart → Chart → Layout → Tables → ℕ → Tables → ℕ → ℕ → Type 0
-
--- the unit was merged
-abbrev pub Merged : RoomOf
-Merged places c y it t u after p s = IsMergedUnit places c y it t u after
 
 -- ---- ends of calls
 
@@ -45,6 +43,10 @@ pub if_ok : {T E : Type 0} (P Q : T → Type 0) (result : Result T E) → ((v : 
     → IfOk result P → IfOk result Q
 if_ok P Q (Ok v) more is = more v is
 if_ok P Q (Err e) more is = is
+
+pub all_ok : {T E : Type 0} (P : T → Type 0) (result : Result T E) → ((v : T) → P v) → IfOk result P
+all_ok P (Ok v) each = each v
+all_ok P (Err e) each = tt
 
 -- ---- a call that asks nothing of the chip
 
@@ -71,37 +73,43 @@ told_none Is places u t spot told is x there =
 
 -- ---- a merge
 
-module _ (Is : RoomOf) (places u : ℕ) (t after : Tables) (old new : Told) where
-  pub makes_by_merge : (result : Result Spot ChipFault)
-      → MergesInSteps places u t after old result new
-      → IfOk result (λ spot. (c y : Chart) (it : Layout) → IsMergedUnit places c y it t u after
-      → Is places c y it t u after spot.place spot.sector)
-      → MakesRoomInSteps Is places u t after old result new
-  makes_by_merge (Ok spot) says is m it h steady rests agrees =
-      steps_done (EachStands places m) t after
-      (λ (v : Spot) k. RestsMerged places m (now h) it t u after k)
-      (λ v k. RestsWithRoom Is places m (now h) it t u after v k)
-      (λ k. RestsAgreeing places m it after k) h spot spot old new
+-- the unit was merged
+pub merged_room : (u : ℕ) (t after : Tables) (spot : Spot) (old new : Told)
+    → IsHomeSpot after u spot.place spot.sector → MergesUnit u t after (Ok tt) old new
+    → PlacesLog IsMergedSpot u t after (Ok spot) old new
+merged_room u t after spot old new home merges = record {
+  tells = λ x told.
+      let (y, told_y, merged) = merges.tells x told in
+      (y, told_y, λ it mirrors. record { merged = merged it mirrors; spot = home });
+  steps = λ m it h steady rests agrees.
+      steps_done (EachStands old.places m) t after
+      (λ (v : Unit {0}) k. RestsMerged old.places m (now h) it t u after k)
+      (λ v k. RestsWithRoom IsMergedSpot old.places m (now h) it t u after v k)
+      (λ k. RestsAgreeing old.places m it after k) h tt spot old new
       (λ k done. record {
         rests = done.rests;
-        room = is (now h) (now k) it done.unit;
+        room = record { merged = done.unit; spot = home };
         tidy = done.tidy;
-      }) (says m it h steady rests agrees)
-  makes_by_merge (Err e) says is m it h steady rests agrees = says m it h steady rests agrees
+      }) (merges.steps m it h steady rests agrees);
+  fault = λ x told it mirrors. tt;
+  spot = inl home;
+  finds = finds_merged u t after tt spot old new merges.moves;
+}
 
-  pub told_by_merge : (result : Result Spot ChipFault)
-      → ChartsThroughout (λ (spot : Spot). Merges places u t after) (StaysMirrored places t after)
-      result old new
-      → IfOk result (λ spot. (c y : Chart) (it : Layout) → IsMergedUnit places c y it t u after
-      → Is places c y it t u after spot.place spot.sector)
-      → ChartsThroughout (MakesRoom Is places u t after) (StaysMirrored places t after)
-      result old new
-  told_by_merge (Ok spot) tells is = λ x there.
-      let (y, told_y, merges) = tells x there in
-      (y, told_y, λ it mirrors. is (chart_of x) (chart_of y) it (merges it mirrors))
-  told_by_merge (Err e) tells is = tells
+-- or wasn't
+pub unmerged_room : (u : ℕ) (t after : Tables) (fault : ChipFault) (old new : Told)
+    → MergesUnit u t after (Err fault) old new → PlacesLog IsMergedSpot u t after (Err fault) old new
+unmerged_room u t after fault old new merges = record {
+  tells = merges.tells;
+  steps = λ m it h steady rests agrees. merges.steps m it h steady rests agrees;
+  fault = λ x told it mirrors. merges.fault x told it mirrors;
+  spot = tt;
+  finds = finds_unmerged u t after fault old new merges.moves;
+}
 
-  -- a new overflow place
+-- ---- a new overflow place
+
+module _ (Is : RoomOf) (places u : ℕ) (t after : Tables) (old new : Told) where
   pub makes_by_opening : (result : Result Spot ChipFault)
       → OpensInSteps places t after old result new
       → IfOk result (λ spot. (c y : Chart) (it : Layout) → Mirrors places y it after
@@ -148,22 +156,22 @@ makes_unread Is At places u t e old new did m it h steady rests agrees =
     (λ spot k. RestsWithRoom Is places m (now h) it t u t spot k) h e old new steady rests agrees
     did
 
-module _ (One : RoomOf) (At : ℕ → ℕ → Type 0) (u : ℕ) (t after : Tables) (old mid new : Told)
+module _ (One Two : RoomOf) (At : ℕ → ℕ → Type 0) (u : ℕ) (t after : Tables) (old mid new : Told)
     (did : ReadsAt At old mid) where
   -- what is so of the spot, by what the chip held before
   abbrev pub Gives : Spot → Type 0
   Gives spot = (x : Contents) (y : Chart) (it : Layout) → old.contents ≡ Some x
       → Mirrors old.places (chart_of x) it t
       → One old.places (chart_of x) y it t u after spot.place spot.sector
-      → IsPlaced old.places (chart_of x) y it t u after spot.place spot.sector
+      → Two old.places (chart_of x) y it t u after spot.place spot.sector
 
   pub placed_behind : (result : Result Spot ChipFault) → IfOk result Gives
       → MakesRoomInSteps One old.places u t after mid result new
-      → MakesRoomInSteps IsPlaced old.places u t after old result new
+      → MakesRoomInSteps Two old.places u t after old result new
   placed_behind (Ok spot) gives says m it h steady rests agrees =
       steps_done (EachStands old.places m) t after
       (λ v k. RestsWithRoom One old.places m (now h) it t u after v k)
-      (λ v k. RestsWithRoom IsPlaced old.places m (now h) it t u after v k)
+      (λ v k. RestsWithRoom Two old.places m (now h) it t u after v k)
       (λ k. RestsAgreeing old.places m it after k) h spot spot old new
       (λ k done. record {
         rests = done.rests;
@@ -184,9 +192,21 @@ module _ (One : RoomOf) (At : ℕ → ℕ → Type 0) (u : ℕ) (t after : Table
   pub placed_told : (result : Result Spot ChipFault) → IfOk result Gives
       → ChartsThroughout (MakesRoom One old.places u t after) (StaysMirrored old.places t after)
       result mid new
-      → ChartsThroughout (MakesRoom IsPlaced old.places u t after)
+      → ChartsThroughout (MakesRoom Two old.places u t after)
       (StaysMirrored old.places t after) result old new
   placed_told (Ok spot) gives tells = λ x there.
       let (y, told_y, makes) = tells x (did.contents ∙ there) in
       (y, told_y, λ it mirrors. gives x (chart_of y) it there mirrors (makes it mirrors))
   placed_told (Err e) gives tells = λ soft x there. tells soft x (did.contents ∙ there)
+
+  pub places_behind : (result : Result Spot ChipFault) → IfOk result Gives → PlacesLog One u t after result mid new
+      → PlacesLog Two u t after result old new
+  places_behind result gives says = record {
+    tells = placed_told result gives (subst (λ (q : ℕ). ChartsThroughout (MakesRoom One q u t after)
+        (StaysMirrored q t after) result mid new) did.counts.places says.tells);
+    steps = placed_behind result gives (subst (λ (q : ℕ). MakesRoomInSteps One q u t after mid result new)
+        did.counts.places says.steps);
+    fault = fails_behind t u old mid result did.counts.places did.contents says.fault;
+    spot = says.spot;
+    finds = finds_behind At u t after result old mid new did says.finds;
+  }

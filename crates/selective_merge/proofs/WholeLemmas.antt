@@ -93,10 +93,10 @@ pub told_unread : (At : ℕ → ℕ → Type 0) (places : ℕ) (t : Tables) (old
 told_unread At places t old new did x told =
     (x, did.contents ∙ told, λ it mirrors. (mirrors, λ v page now low few shows. shows))
 
-module _ (At : ℕ → ℕ → Type 0) (u : ℕ) (home : HomeHeader) (log : List Record)
-    (t after : Tables) (old mid new : Told) (result : Result (Unit {0}) ChipFault)
-    (did : ReadsAt At old mid)
-    (learns : LearnsHome t.places t.overflow u old (Ok home) log) where
+-- what was read of the unit is what is merged
+module _ (u : ℕ) (home : HomeHeader) (log : List Record) (t after : Tables) (old new : Told)
+    (result : Result (Unit {0}) ChipFault)
+    (learns : LearnsHome t.places t.overflow u old (Ok tt) home log) where
   abbrev from : Source
   from = from_home home t.status.numbers log
 
@@ -106,27 +106,50 @@ module _ (At : ℕ → ℕ → Type 0) (u : ℕ) (home : HomeHeader) (log : List
       source_is home t (it.units u) u log
       (learns x told it t (record { mirrors = mirrors; directory_is = refl; overflow_is = refl }))
 
-  pub merge_behind : MergesFromInSteps old.places u from t after mid result new
+  pub merge_read : MergesFromInSteps old.places u from t after old result new
       → MergesInSteps old.places u t after old result new
-  merge_behind says m it h steady rests agrees =
-      steps_behind At old.places m it t after
-      (λ c done k. RestsMerged old.places m c it t u after k)
-      (λ k. RestsAgreeing old.places m it after k) h old mid new result steady rests agrees did
-      (λ k steady_k rests_k agrees_k. says m it k steady_k rests_k agrees_k
-      (source_at (held h.start h.story) it steady.holds agrees.mirrors))
+  merge_read says m it h steady rests agrees =
+      says m it h steady rests agrees (source_at (held h.start h.story) it steady.holds agrees.mirrors)
 
   pub merged_told : ChartsThroughout (λ done. MergesFrom old.places u from t after)
-      (StaysMirrored old.places t after) result mid new
+      (StaysMirrored old.places t after) result old new
       → ChartsThroughout (λ done. Merges old.places u t after)
       (StaysMirrored old.places t after) result old new
   merged_told says = by_result result says
     where
       by_result : (r : Result (Unit {0}) ChipFault)
           → ChartsThroughout (λ done. MergesFrom old.places u from t after)
-          (StaysMirrored old.places t after) r mid new
+          (StaysMirrored old.places t after) r old new
           → ChartsThroughout (λ done. Merges old.places u t after)
           (StaysMirrored old.places t after) r old new
       by_result (Ok done) says = λ x told.
-          let (y, told_y, merges) = says x (did.contents ∙ told) in
+          let (y, told_y, merges) = says x told in
           (y, told_y, λ it mirrors. merges it mirrors (source_at x it told mirrors))
+      by_result (Err e) says = says
+
+-- a merge behind reads
+module _ (At : ℕ → ℕ → Type 0) (u : ℕ) (t after : Tables) (old mid new : Told)
+    (result : Result (Unit {0}) ChipFault) (did : ReadsAt At old mid) where
+  pub merge_behind : MergesInSteps mid.places u t after mid result new
+      → MergesInSteps old.places u t after old result new
+  merge_behind says m it h steady rests agrees =
+      steps_behind At old.places m it t after
+      (λ c done k. RestsMerged old.places m c it t u after k)
+      (λ k. RestsAgreeing old.places m it after k) h old mid new result steady rests agrees did
+      (subst (λ (n : ℕ). (k : History) → IsSteady k mid → StoryRests n m k → Agrees n k it t
+      → Steps (EachStands n m) t after (λ done j. RestsMerged n m (now k) it t u after j)
+      (λ j. RestsAgreeing n m it after j) k result mid new) did.counts.places
+      (λ k steady_k rests_k agrees_k. says m it k steady_k rests_k agrees_k))
+
+  pub told_behind : ChartsThroughout (λ done. Merges mid.places u t after) (StaysMirrored mid.places t after)
+      result mid new
+      → ChartsThroughout (λ done. Merges old.places u t after) (StaysMirrored old.places t after)
+      result old new
+  told_behind says = by_result result (subst (λ (n : ℕ). ChartsThroughout (λ done. Merges n u t after)
+      (StaysMirrored n t after) result mid new) did.counts.places says)
+    where
+      by_result : (r : Result (Unit {0}) ChipFault)
+          → ChartsThroughout (λ done. Merges old.places u t after) (StaysMirrored old.places t after) r mid new
+          → ChartsThroughout (λ done. Merges old.places u t after) (StaysMirrored old.places t after) r old new
+      by_result (Ok done) says = λ x told. says x (did.contents ∙ told)
       by_result (Err e) says = λ soft x told. says soft x (did.contents ∙ told)

@@ -42,11 +42,12 @@ pub record IsHomeOf (home : HomeHeader) (it : Shape) (u : ℕ) (log : List Recor
   pub pieces : home.pieces ≡ it.pieces
   pub log_is : log ≡ records_of it.log
 
--- where tables with this directory and these overflow lists mirror what the chip holds, it is where
+-- where tables with this directory and these overflow lists mirror what the chip holds, this is where
 -- the unit stands, unless a read failed
-abbrev pub LearnsHome : Places → OverflowLists → ℕ → Told → Result HomeHeader ChipFault → List Record → Type 0
-LearnsHome directory overflow u told result log = OfMirrored told directory overflow
-    (λ it. MatchResult result (λ home. IsHomeOf home (it.units u) u log) (λ fault. fault ≡ ReadFault))
+abbrev pub LearnsHome : Places → OverflowLists → ℕ → Told → Result (Unit {0}) ChipFault → HomeHeader → List Record
+    → Type 0
+LearnsHome directory overflow u told result home log = OfMirrored told directory overflow
+    (λ it. MatchResult result (λ done. IsHomeOf home (it.units u) u log) (λ fault. fault ≡ ReadFault))
 
 -- the tables have the unit there, and no page of it takes more than 16 sectors
 pub record IsHomeBy (t : Tables) (u : ℕ) (home : HomeHeader) : Type 0 where
@@ -55,7 +56,7 @@ pub record IsHomeBy (t : Tables) (u : ℕ) (home : HomeHeader) : Type 0 where
 
 -- what was read of the unit is this, by tables that are still so
 pub record IsLearnt (t : Tables) (u : ℕ) (told : Told) (home : HomeHeader) (log : List Record) : Type 0 where
-  pub learns : LearnsHome t.places t.overflow u told (Ok home) log
+  pub learns : LearnsHome t.places t.overflow u told (Ok tt) home log
   pub stands : IsHomeBy t u home
 
 -- ---- causes

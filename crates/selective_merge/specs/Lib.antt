@@ -4,7 +4,7 @@ pub mod Packing
 pub mod Homes
 pub mod Moving
 pub mod Writing
+pub mod Leaving
 pub mod Merging
 pub mod Spotting
 pub mod Placing
-pub mod Leaving

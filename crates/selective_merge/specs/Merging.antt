@@ -1,5 +1,5 @@
 -- What a merge leaves.
-use Rattle.std.specs.Prelude.{ℕ, ◌≡◌, ◌<◌, ◌≤◌, ◌⊎◌, Result, MatchResult, IfErr}
+use Rattle.std.specs.Prelude.{ℕ, ◌≡◌, ◌<◌, ◌≤◌, ◌+◌, ◌^◌, ◌⊎◌, length, slice_index, Result, MatchResult, IfErr}
 use Rattle.ipl_base.specs.declared.limits.TheConstants.{CARRIED_SECTORS}
 use Rattle.chip_trait.specs.Told.{History, Told}
 use Rattle.ipl_base.specs.declared.fault.ChipFault.{ChipFault}
@@ -7,6 +7,7 @@ use Rattle.ipl_base.specs.declared.fault.ChipFault.TheVariants.{Malformed, ReadF
 use Rattle.ipl_rules.specs.State.{Map}
 use Rattle.ipl_meaning.specs.Agrees.{IsTidy, Agrees}
 use Rattle.ipl_meaning.specs.Chart.{Chart, chart_of}
+use Rattle.ipl_meaning.specs.Last.{carried_count}
 use Rattle.ipl_meaning.specs.Layout.{Layout}
 use Rattle.ipl_meaning.specs.Mirrors.{Mirrors}
 use Rattle.ipl_meaning.specs.Rests.{now, EachStands, StoryRests}
@@ -16,8 +17,18 @@ use Rattle.unit_io.specs.Leads.{IsSteady}
 use Rattle.unit_io.specs.Reads.{OfContents}
 use Rattle.step_laws.specs.Steps.{Steps, RestsAgreeing}
 use Rattle.merge_laws.specs.Faults.{merge_fault, IsMergeable, IsTheFault, TellsTheFault, FailsByChipAlone}
+use Rattle.merge_laws.specs.Known.{KnowsPlaces}
 use Rattle.merge_laws.specs.Merged.{source_of, IsMergedUnit}
 use Rattle.merge_laws.specs.Moved.{Source}
+use Rattle.merge_laws.specs.Packs.{among}
+use Rattle.selective_merge.specs.Leaving.{MovesUnit}
+use Rattle.selective_merge.specs.Throughout.{ChartsThroughout}
+
+-- the tables know each place, the unit is one of theirs, and the numbers that a merge may draw are left
+pub record IsReadyToMerge (places : ℕ) (t : Tables) (u : ℕ) : Type 0 where
+  pub known : KnowsPlaces places t
+  pub unit : u < length t.places.current
+  pub left : t.next + 13 < 2 ^ 64
 
 -- ---- what the chip holds
 
@@ -94,3 +105,20 @@ MergesFromInSteps places u from t after old result new = (m : Map) (it : Layout)
     → IsSteady h old → StoryRests places m h → Agrees places h it t
     → from ≡ source_of t (it.units u) u
     → StepsMerging places m it t u after h result old new
+
+-- ---- a merge
+
+-- What a merge of the unit leaves, however it ends: what the chip holds then, and what a power cut leaves; that few
+-- log sectors are carried; why it fails over what the chip holds, which is only where a call of the chip failed,
+-- where the unit's pages show values and few log sectors would be carried; and what the tables have and what is
+-- spent, whatever the chip tells.
+pub record MergesUnit (u : ℕ) (t after : Tables) (result : Result (Unit {0}) ChipFault) (old new : Told)
+    : Type 0 where
+  pub tells : ChartsThroughout (λ done. Merges old.places u t after) (StaysMirrored old.places t after)
+      result old new
+  pub steps : MergesInSteps old.places u t after old result new
+  pub few : OfContents old (λ x. (it : Layout) → Mirrors old.places (chart_of x) it t
+      → CarriesFew (slice_index t.places.current u) (carried_count (among t.active) (it.units u).log) result)
+  pub fault : TellsMergeFault old.places t u result old
+  pub complete : CompletesMerge old.places t u result old
+  pub moves : MovesUnit u t after result old new

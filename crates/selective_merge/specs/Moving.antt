@@ -1,11 +1,16 @@
 -- The tables of a store, and a unit that moves.
-use Rattle.std.specs.Prelude.{ℕ, ◌≡◌, ◌≢◌, ◌⊎◌, ◌<◌, ◌≤◌, length, List, [], slice_index, slice_set, Contains, Option, Some}
+use Rattle.std.specs.Prelude.{ℕ, ◌≡◌, ◌≢◌, ◌⊎◌, ◌<◌, ◌≤◌, ◌+◌, length, List, [], slice_index, slice_set, AllPairs, Contains, Option, Some}
+use Rattle.ipl_meaning.specs.Mirrors.{AreApart, NoneIsLost}
 use Rattle.ipl_meaning.specs.Tables.{Places, IsFree, Tables, overflow_places}
+use Rattle.ipl_meaning.specs.TableSteps.{IsMoved}
 use Rattle.unit_directory.specs.Directory.{after_replace}
 use Rattle.unit_directory.specs.Free.{free_count, aside}
 use Rattle.place_taking.specs.Homes.{KeepsHomes}
 use Rattle.place_taking.specs.Takes.{with_places}
 use Rattle.merge_laws.specs.Known.{KnowsPlaces}
+use Rattle.merge_laws.specs.Moved.{Source}
+use Rattle.selective_merge.specs.Homes.{from_home}
+use Rattle.selective_merge.specs.Packing.{masks_of_payloads}
 use Rattle.selective_merge.specs.declared.parts.Parts.{Parts}
 
 -- the tables, as the meaning of a chip speaks of them
@@ -17,6 +22,14 @@ tables_of parts = record {
   next = parts.counter;
   active = parts.active;
 }
+
+-- the source of a move from where the unit was read
+abbrev pub source_read : Parts → Source
+source_read parts = from_home parts.scratch.home parts.status.numbers parts.scratch.log
+
+-- with numbers drawn, up to this one
+abbrev pub drawn_up_to : Parts → ℕ → Parts
+drawn_up_to parts next = record parts { counter = next }
 
 -- the tables with these places set aside, one after the other
 abbrev pub set_aside : Tables → List ℕ → Tables
@@ -68,3 +81,20 @@ pub record MayTakeHome (u p : ℕ) (t : Tables) : Type 0 where
   pub unit : u < length t.places.current
   pub place : p < length t.places.in_use
   pub another : p ≢ slice_index t.places.current u
+
+-- The unit stands at the place, which was taken, with a header of this generation and as many log sectors as were
+-- packed, which name the pages of these. Its old place is free, and so are overflow places that no list names any
+-- more; no place is lost.
+pub record MovesHome (u p generation : ℕ) (before after : Parts) : Type 0 where
+  pub moved : AllPairs AreApart (overflow_places (tables_of before))
+      → IsMoved (tables_of before) (tables_of after) u p (length before.scratch.packs.closed.items)
+  pub told : TellsUnit (tables_of before) (tables_of after) u generation
+      (masks_of_payloads 15 before.scratch.packs.closed.items)
+  pub stands : slice_index after.directory.current u ≡ p
+  pub room : slice_index after.directory.written u ≡ length before.scratch.packs.closed.items
+  pub lost : NoneIsLostBut p (length before.directory.in_use) (tables_of before)
+      → NoneIsLost (length before.directory.in_use) (tables_of after)
+  pub free : ¬ IsFree before.directory (slice_index before.directory.current u)
+      → free_count before.directory.in_use + 1 ≤ free_count after.directory.in_use
+  pub retired : after.directory.retired ≡ before.directory.retired
+  pub counter : after.counter ≡ before.counter

@@ -1,5 +1,5 @@
 -- What the calls leave that make room for a log sector.
-use Rattle.std.specs.Prelude.{ℕ, ◌≡◌, ◌⊎◌, Some, Result, slice_index}
+use Rattle.std.specs.Prelude.{ℕ, ◌≡◌, ◌⊎◌, Some, Result, IfOk, slice_index}
 use Rattle.chip_trait.specs.Told.{History, Told}
 use Rattle.ipl_base.specs.declared.fault.ChipFault.{ChipFault}
 use Rattle.ipl_base.specs.declared.spot.Spot.{Spot}
@@ -20,8 +20,11 @@ use Rattle.unit_io.specs.Spots.{Programs, IsSpot}
 use Rattle.step_laws.specs.Steps.{Steps, RestsAgreeing}
 use Rattle.merge_laws.specs.Merged.{IsMergedUnit}
 use Rattle.merge_laws.specs.Packs.{among}
+use Rattle.selective_merge.specs.Leaving.{FindsSpot}
+use Rattle.selective_merge.specs.Merging.{FailsAsMerge, StaysMirrored}
+use Rattle.selective_merge.specs.Spotting.{IsHomeSpot, IsSpotFor, MayOverflow, TakesOverflow, FollowsRules}
+use Rattle.selective_merge.specs.Throughout.{ChartsThroughout}
 use Rattle.selective_merge.specs.Writing.{IsCleanPlace}
-use Rattle.selective_merge.specs.Spotting.{IsHomeSpot, MayOverflow, TakesOverflow, FollowsRules}
 
 -- ---- a new overflow place
 
@@ -79,6 +82,12 @@ pub record MayHaveMerged (places : ℕ) (c y : Chart) (it : Layout) (t : Tables)
   pub keeps : KeepsPages places c it y layout
   pub how : (layout ≡ it) ⊎ IsMergedUnit places c y it t u after
 
+-- the unit was merged, and this is its first clean log sector
+pub record IsMergedSpot (places : ℕ) (c y : Chart) (it : Layout) (t : Tables) (u : ℕ)
+    (after : Tables) (p s : ℕ) : Type 0 where
+  pub merged : IsMergedUnit places c y it t u after
+  pub spot : IsHomeSpot after u p s
+
 -- there is room elsewhere: in an overflow place, where a sector is to be had; else the unit was merged.
 -- Where the place was free before, its header says its erases.
 pub record IsElsewhere (places : ℕ) (c y : Chart) (it : Layout) (t : Tables) (u : ℕ)
@@ -123,3 +132,15 @@ MakesRoomInSteps Is places u t after old result new = (m : Map) (it : Layout) (h
     → Steps (EachStands places m) t after
     (λ spot k. RestsWithRoom Is places m (now h) it t u after spot k)
     (λ k. RestsAgreeing places m it after k) h result old new
+
+-- What a call leaves that makes room as this says for a log sector of the unit, however it ends: what the chip holds
+-- then, and what a power cut leaves; why it fails over what the chip holds; and where the log sector may go, what
+-- the tables have and what is spent, whatever the chip tells.
+pub record PlacesLog (Is : ℕ → Chart → Chart → Layout → Tables → ℕ → Tables → ℕ → ℕ → Type 0)
+    (u : ℕ) (t after : Tables) (result : Result Spot ChipFault) (old new : Told) : Type 0 where
+  pub tells : ChartsThroughout (MakesRoom Is old.places u t after) (StaysMirrored old.places t after)
+      result old new
+  pub steps : MakesRoomInSteps Is old.places u t after old result new
+  pub fault : FailsAsMerge old.places t u result old
+  pub spot : IfOk result (λ spot. IsSpotFor after u spot.place spot.sector)
+  pub finds : FindsSpot u t after result old new

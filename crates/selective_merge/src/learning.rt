@@ -1,17 +1,16 @@
 //! What is read of a unit before it is merged.
-ghost use Rattle.std.specs.Prelude.{◌≡◌, ◌<◌, length, slice_index, IfOk};
+ghost use Rattle.std.specs.Prelude.{◌≡◌, ◌<◌, length, slice_index, OnOk};
 ghost use Rattle.overflow.specs.Lists.{spots_in};
 ghost use Rattle.unit_log.specs.Looks.{IsLogRead, LooksAt};
-ghost use Rattle.merge_laws.specs.Pages.{IsFew};
-ghost use Rattle.selective_merge.specs.Homes.{LearnsHome};
+ghost use Rattle.merge_laws.specs.Known.{Suits};
+ghost use Rattle.selective_merge.specs.Homes.{IsHomeBy, LearnsHome};
+ghost use Rattle.selective_merge.specs.Moving.{tables_of};
 
-use crate::MergeScratch;
+use crate::Parts;
 use crate::home::HomeHeader;
 use chip_trait::Chip;
 use ipl_base::ChipFault;
-use overflow::Overflow;
 use sector_format::Head;
-use unit_directory::Directory;
 use unit_log::{UnitHead, read_live};
 
 /// Where a unit stands whose header says this.
@@ -40,26 +39,26 @@ fn home_at(place: u32, unit: u32, head: UnitHead) -> HomeHeader
 /// serials, into the scratch memory.
 ///
 /// Where the tables mirror what the chip holds, it fails only where a read failed.
-pub(crate) fn learn<C: Chip>(
-    chip: &mut C,
-    directory: &Directory,
-    overflow: &Overflow,
-    unit: u32,
-    scratch: &mut MergeScratch,
-) -> Result<HomeHeader, ChipFault>
-    requires unit { unit < length directory.now.current }
-    requires size { length directory.now.in_use ≡ (C.told chip.old).places }
-    requires units { length overflow.now.spots ≡ length directory.now.current }
-    requires sized { overflow.now.places ≡ (C.told chip.old).places }
-    ensures learns { LearnsHome directory.now overflow.now unit (C.told chip.old) result scratch.new.log }
-    ensures place { IfOk result (λ home. home.place ≡ slice_index directory.now.current unit) }
-    ensures few { IfOk result (λ home. IsFew home.pieces) }
-    ensures looks { LooksAt
-        (IsLogRead (slice_index directory.now.current unit) (spots_in overflow.now unit))
-        result (C.told chip.old) (C.told chip.new) }
+pub(crate) fn learn<C: Chip>(chip: &mut C, parts: &mut Parts, unit: u32) -> Result<(), ChipFault>
+    requires suits { Suits (C.told chip.old).places (tables_of parts.old) }
+    requires unit { unit < length parts.old.directory.current }
+    ensures learns { LearnsHome parts.old.directory parts.old.overflow unit (C.told chip.old)
+        result parts.new.scratch.home parts.new.scratch.log }
+    ensures stands { OnOk result (IsHomeBy (tables_of parts.old) unit parts.new.scratch.home) }
+    ensures same { tables_of parts.new ≡ tables_of parts.old }
+    ensures looks { LooksAt (IsLogRead (slice_index parts.old.directory.current unit)
+        (spots_in parts.old.overflow unit)) result (C.told chip.old) (C.told chip.new) }
 {
-    let place = directory.current(unit);
-    let head = read_live(chip, directory, overflow, unit, &mut scratch.sectors)?;
+    let place = parts.directory.current(unit);
+    let scratch = &mut parts.scratch;
+    let head = read_live(
+        chip,
+        &parts.directory,
+        &parts.overflow,
+        unit,
+        &mut scratch.sectors,
+    )?;
     scratch.log.take(scratch.sectors.sectors());
-    Ok(home_at(place, unit, head))
+    scratch.home = home_at(place, unit, head);
+    Ok(())
 }

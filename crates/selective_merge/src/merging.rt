@@ -1,34 +1,18 @@
 //! The merge.
-ghost use Rattle.std.specs.Prelude.{◌≡◌, ◌<◌, ◌≤◌, ◌+◌, ◌^◌, length, slice_index};
+ghost use Rattle.std.specs.Prelude.{◌≡◌, ◌≤◌, length};
 ghost use Rattle.ipl_base.specs.declared.limits.TheConstants.{CARRIED_SECTORS};
-ghost use Rattle.ipl_meaning.specs.Chart.{chart_of};
-ghost use Rattle.ipl_meaning.specs.Last.{carried_count};
-ghost use Rattle.ipl_meaning.specs.Layout.{Layout};
-ghost use Rattle.ipl_meaning.specs.Mirrors.{Mirrors};
 ghost use Rattle.unit_io.specs.Reads.{OfContents};
-ghost use Rattle.merge_laws.specs.Faults.{pages_fault, fault_with, TellsTheFault};
-ghost use Rattle.merge_laws.specs.Known.{KnowsPlaces};
-ghost use Rattle.merge_laws.specs.Packs.{among, packs_of, payloads_of};
-ghost use Rattle.selective_merge.specs.Homes.{from_home, IsHomeBy, IsLearnt};
+ghost use Rattle.merge_laws.specs.Faults.{pages_fault, TellsTheFault};
+ghost use Rattle.merge_laws.specs.Packs.{packs_of, payloads_of};
+ghost use Rattle.selective_merge.specs.Homes.{IsHomeBy, IsLearnt};
 ghost use Rattle.selective_merge.specs.Leaving.{MovesUnit};
-ghost use Rattle.selective_merge.specs.Moving.{tables_of};
-ghost use Rattle.selective_merge.specs.Merging.{
-  CarriesFew,
-  Merges,
-  MergesFrom,
-  StaysMirrored,
-  MergesInSteps,
-  MergesFromInSteps,
-  TellsMergeFault,
-  CompletesMerge,
-};
+ghost use Rattle.selective_merge.specs.Moving.{source_read, tables_of};
+ghost use Rattle.selective_merge.specs.Merging.{IsReadyToMerge, MergesFrom, MergesFromInSteps, MergesUnit, StaysMirrored};
 ghost use Rattle.selective_merge.specs.Throughout.{ChartsThroughout};
 
 use crate::Parts;
 use crate::carry::pack_carried;
-use crate::home::HomeHeader;
 use crate::learning::learn;
-use crate::packs::masks_of;
 use crate::parts::move_unit;
 use crate::places::write_unit;
 use chip_trait::Chip;
@@ -37,30 +21,21 @@ use merge_laws::known_laws;
 use place_taking::take_place;
 use unit_directory::{aside_laws, directory_laws};
 
-/// Merges a unit that was read, and of which this is carried.
-fn merge_packed<C: Chip>(
-    chip: &mut C,
-    parts: &mut Parts,
-    unit: u32,
-    home: &HomeHeader,
-) -> Result<(), ChipFault>
-    requires known { KnowsPlaces (C.told chip.old).places (tables_of parts.old) }
-    requires unit { unit < length parts.old.directory.current }
-    requires left { parts.old.counter + 13 < 2 ^ 64 }
-    requires stands { IsHomeBy (tables_of parts.old) unit home.now }
+/// Merges a unit that was read, and of which what is carried was packed.
+fn merge_packed<C: Chip>(chip: &mut C, parts: &mut Parts, unit: u32) -> Result<(), ChipFault>
+    requires ready { IsReadyToMerge (C.told chip.old).places (tables_of parts.old) unit }
+    requires stands { IsHomeBy (tables_of parts.old) unit parts.old.scratch.home }
     requires packed { parts.old.scratch.packs.closed.items
         ≡ payloads_of (packs_of parts.old.active parts.old.scratch.log) }
-    ensures steps { MergesFromInSteps (C.told chip.old).places unit
-        (from_home home.now parts.old.status.numbers parts.old.scratch.log)
+    ensures steps { MergesFromInSteps (C.told chip.old).places unit (source_read parts.old)
         (tables_of parts.old) (tables_of parts.new) (C.told chip.old) result (C.told chip.new) }
     ensures tells { ChartsThroughout
-        (λ done. MergesFrom (C.told chip.old).places unit
-        (from_home home.now parts.old.status.numbers parts.old.scratch.log)
+        (λ done. MergesFrom (C.told chip.old).places unit (source_read parts.old)
         (tables_of parts.old) (tables_of parts.new))
         (StaysMirrored (C.told chip.old).places (tables_of parts.old) (tables_of parts.new))
         result (C.told chip.old) (C.told chip.new) }
-    ensures fault { OfContents (C.told chip.old) (λ x. TellsTheFault
-        (pages_fault x (from_home home.now parts.old.status.numbers parts.old.scratch.log)) result) }
+    ensures fault { OfContents (C.told chip.old) (λ x.
+        TellsTheFault (pages_fault x (source_read parts.old)) result) }
     ensures few { length (packs_of parts.old.active parts.old.scratch.log) ≤ CARRIED_SECTORS }
     ensures moves { MovesUnit unit (tables_of parts.old) (tables_of parts.new) result
         (C.told chip.old) (C.told chip.new) }
@@ -69,27 +44,11 @@ fn merge_packed<C: Chip>(
     directory_laws();
     aside_laws();
     parts.directory.facts();
-    let units = parts.directory.units();
     let generation = parts.counter.draw();
-    let payloads = parts.scratch.packs.payloads();
     let place = take_place(chip, &mut parts.directory)?;
-    let erases = parts.directory.erases(place);
-    let used = payloads.len() as u32;
-    let masks = masks_of(payloads);
-    match write_unit(
-        chip,
-        home,
-        &parts.scratch.log,
-        &parts.status,
-        place,
-        generation,
-        units,
-        erases,
-        payloads,
-        &mut parts.counter,
-    ) {
+    match write_unit(chip, parts, place, generation) {
         Ok(()) => {
-            move_unit(parts, unit, place, generation, used, masks);
+            move_unit(parts, unit, place, generation);
             Ok(())
         }
         Err(fault) => {
@@ -100,83 +59,28 @@ fn merge_packed<C: Chip>(
     }
 }
 
-/// Merges a unit that was read. Malformed at sector 0 of its place, where more than 12 log sectors
-/// would be carried.
-fn merge_known<C: Chip>(
+/// Merges a unit that `learn` read into the scratch memory, and of which nothing changed since: it
+/// leaves what `merge` leaves, and reads its pages alone. Malformed at sector 0 of its place, where more
+/// than 12 log sectors would be carried.
+pub(crate) fn merge_learnt<C: Chip>(
     chip: &mut C,
     parts: &mut Parts,
     unit: u32,
-    home: &HomeHeader,
 ) -> Result<(), ChipFault>
-    requires known { KnowsPlaces (C.told chip.old).places (tables_of parts.old) }
-    requires unit { unit < length parts.old.directory.current }
-    requires left { parts.old.counter + 13 < 2 ^ 64 }
-    requires stands { IsHomeBy (tables_of parts.old) unit home.now }
-    ensures steps { MergesFromInSteps (C.told chip.old).places unit
-        (from_home home.now parts.old.status.numbers parts.old.scratch.log)
-        (tables_of parts.old) (tables_of parts.new) (C.told chip.old) result (C.told chip.new) }
-    ensures tells { ChartsThroughout
-        (λ done. MergesFrom (C.told chip.old).places unit
-        (from_home home.now parts.old.status.numbers parts.old.scratch.log)
-        (tables_of parts.old) (tables_of parts.new))
-        (StaysMirrored (C.told chip.old).places (tables_of parts.old) (tables_of parts.new))
-        result (C.told chip.old) (C.told chip.new) }
-    ensures fault { OfContents (C.told chip.old) (λ x. TellsTheFault
-        (fault_with x (from_home home.now parts.old.status.numbers parts.old.scratch.log)
-        (length (packs_of parts.old.active parts.old.scratch.log))) result) }
-    ensures few { CarriesFew home.now.place
-        (length (packs_of parts.old.active parts.old.scratch.log)) result }
-    ensures moves { MovesUnit unit (tables_of parts.old) (tables_of parts.new) result
+    requires ready { IsReadyToMerge (C.told chip.old).places (tables_of parts.old) unit }
+    requires learnt { IsLearnt (tables_of parts.old) unit (C.told chip.old)
+        parts.old.scratch.home parts.old.scratch.log }
+    ensures { MergesUnit unit (tables_of parts.old) (tables_of parts.new) result
         (C.told chip.old) (C.told chip.new) }
 {
     let scratch = &mut parts.scratch;
     if !pack_carried(&scratch.log, &parts.active, &mut scratch.packs) {
         return Err(ChipFault::Malformed {
-            place: home.place,
+            place: scratch.home.place,
             sector: 0,
         });
     }
-    merge_packed(chip, parts, unit, home)
-}
-
-/// Merges a unit that `learn` read into the scratch memory, and of which nothing changed since: it
-/// leaves what `merge` leaves, and reads its pages alone.
-pub(crate) fn merge_learnt<C: Chip>(
-    chip: &mut C,
-    parts: &mut Parts,
-    unit: u32,
-    home: &HomeHeader,
-) -> Result<(), ChipFault>
-    requires known { KnowsPlaces (C.told chip.old).places (tables_of parts.old) }
-    requires unit { unit < length parts.old.directory.current }
-    requires left { parts.old.counter + 13 < 2 ^ 64 }
-    requires learnt { IsLearnt (tables_of parts.old) unit (C.told chip.old) home.now
-        parts.old.scratch.log }
-
-    // What the chip holds then, and what a power cut leaves.
-    ensures tells { ChartsThroughout
-        (λ done. Merges (C.told chip.old).places unit (tables_of parts.old) (tables_of parts.new))
-        (StaysMirrored (C.told chip.old).places (tables_of parts.old) (tables_of parts.new))
-        result (C.told chip.old) (C.told chip.new) }
-    ensures steps { MergesInSteps (C.told chip.old).places unit
-        (tables_of parts.old) (tables_of parts.new) (C.told chip.old) result (C.told chip.new) }
-    ensures few { OfContents (C.told chip.old) (λ x. (it : Layout)
-        → Mirrors (C.told chip.old).places (chart_of x) it (tables_of parts.old)
-        → CarriesFew (slice_index parts.old.directory.current unit)
-        (carried_count (among parts.old.active) (it.units unit).log) result) }
-
-    // Why it fails over what the chip holds: where the unit's pages show values and few log sectors
-    // would be carried, only where a call of the chip failed.
-    ensures fault { TellsMergeFault (C.told chip.old).places (tables_of parts.old) unit result
-        (C.told chip.old) }
-    ensures complete { CompletesMerge (C.told chip.old).places (tables_of parts.old) unit result
-        (C.told chip.old) }
-
-    // What the tables have and what is spent, whatever the chip tells.
-    ensures moves { MovesUnit unit (tables_of parts.old) (tables_of parts.new) result
-        (C.told chip.old) (C.told chip.new) }
-{
-    merge_known(chip, parts, unit, home)
+    merge_packed(chip, parts, unit)
 }
 
 /// Merges a unit: it is written to a place that was free, with the records of committed numbers
@@ -201,39 +105,10 @@ pub(crate) fn merge_learnt<C: Chip>(
 /// one too; and where neither is so, it fails only where a read or a write failed, or where too many
 /// places are worn.
 pub fn merge<C: Chip>(chip: &mut C, parts: &mut Parts, unit: u32) -> Result<(), ChipFault>
-    requires known { KnowsPlaces (C.told chip.old).places (tables_of parts.old) }
-    requires unit { unit < length parts.old.directory.current }
-    requires left { parts.old.counter + 13 < 2 ^ 64 }
-
-    // What the chip holds then, and what a power cut leaves.
-    ensures tells { ChartsThroughout
-        (λ done. Merges (C.told chip.old).places unit (tables_of parts.old) (tables_of parts.new))
-        (StaysMirrored (C.told chip.old).places (tables_of parts.old) (tables_of parts.new))
-        result (C.told chip.old) (C.told chip.new) }
-    ensures steps { MergesInSteps (C.told chip.old).places unit
-        (tables_of parts.old) (tables_of parts.new) (C.told chip.old) result (C.told chip.new) }
-    ensures few { OfContents (C.told chip.old) (λ x. (it : Layout)
-        → Mirrors (C.told chip.old).places (chart_of x) it (tables_of parts.old)
-        → CarriesFew (slice_index parts.old.directory.current unit)
-        (carried_count (among parts.old.active) (it.units unit).log) result) }
-
-    // Why it fails over what the chip holds: where the unit's pages show values and few log sectors
-    // would be carried, only where a call of the chip failed.
-    ensures fault { TellsMergeFault (C.told chip.old).places (tables_of parts.old) unit result
-        (C.told chip.old) }
-    ensures complete { CompletesMerge (C.told chip.old).places (tables_of parts.old) unit result
-        (C.told chip.old) }
-
-    // What the tables have and what is spent, whatever the chip tells.
-    ensures moves { MovesUnit unit (tables_of parts.old) (tables_of parts.new) result
+    requires { IsReadyToMerge (C.told chip.old).places (tables_of parts.old) unit }
+    ensures { MergesUnit unit (tables_of parts.old) (tables_of parts.new) result
         (C.told chip.old) (C.told chip.new) }
 {
-    let home = learn(
-        chip,
-        &parts.directory,
-        &parts.overflow,
-        unit,
-        &mut parts.scratch,
-    )?;
-    merge_known(chip, parts, unit, &home)
+    learn(chip, parts, unit)?;
+    merge_learnt(chip, parts, unit)
 }

@@ -52,6 +52,13 @@ impl Packs {
         &self.closed
     }
 
+    /// How many payloads are full, at most 12.
+    pub fn count(&self) -> u8
+        ensures { result ≡ length self.now.closed.items }
+    {
+        self.closed.len() as u8
+    }
+
     /// The payload that was being filled is full. False exactly where 12 are full; unchanged then.
     fn close(&mut self) -> bool
         ensures closed { OnTrue result

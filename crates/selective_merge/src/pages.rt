@@ -130,29 +130,8 @@ fn apply_coming(
 
 /// Makes a page (0 to 14) anew with the records whose numbers are committed, of which so many are to
 /// come, and answers its tails, by those that it had: of each piece of its text that stays the same.
-/// None where the page has no room for all of them.
-fn make_changed(
-    slots: &mut PageMap,
-    coming: Coming,
-    page: u32,
-    log: &Log,
-    status: &Status,
-    tails: &[Option<u32>; 16],
-) -> Option<[Option<u32>; 16]>
-    requires coming { AreComing (among status.now.numbers) page log.now coming }
-    requires tails { FitTails (page_text VERSION slots.old) tails.now }
-    ensures makes { MakesAnew (among status.now.numbers) log.now page result slots.old slots.new }
-{
-    let mut before = [0; PAGE_LEN];
-    let end = page_text::write(slots, &mut before, VERSION);
-    if !apply_coming(slots, coming, page, log, status) {
-        return None;
-    }
-    Some(kept_tails(&before[..end], slots.text(), tails))
-}
-
-/// Makes a page (0 to 14) anew as `make_changed` does. Where no record is to come, the page stays as
-/// it is, with all of its tails.
+/// Where no record is to come, the page stays as it is, with all of its tails. None where the page has
+/// no room for all of them.
 fn make_anew(
     slots: &mut PageMap,
     coming: Coming,
@@ -170,7 +149,12 @@ fn make_anew(
     if coming.is_none() {
         return Some(*tails);
     }
-    make_changed(slots, coming, page, log, status, tails)
+    let mut before = [0; PAGE_LEN];
+    let end = page_text::write(slots, &mut before, VERSION);
+    if !apply_coming(slots, coming, page, log, status) {
+        return None;
+    }
+    Some(kept_tails(&before[..end], slots.text(), tails))
 }
 
 /// Reads a page (0 to 14) where the unit stands into a page in memory, and programs it as the

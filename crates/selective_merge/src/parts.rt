@@ -1,12 +1,8 @@
 //! The tables of a store, as a merge needs them.
-ghost use Rattle.std.specs.Prelude.{◌≡◌, ◌≢◌, ◌<◌, ◌≤◌, ◌+◌, AllPairs, IfSome, [], length, slice_index, slice_set};
-ghost use Rattle.ipl_base.specs.declared.limits.TheConstants.{CARRIED_SECTORS};
-ghost use Rattle.ipl_meaning.specs.Mirrors.{AreApart, NoneIsLost};
-ghost use Rattle.ipl_meaning.specs.Tables.{IsFree, overflow_places};
-ghost use Rattle.ipl_meaning.specs.TableSteps.{IsMoved};
-ghost use Rattle.unit_directory.specs.Free.{free_count};
-ghost use Rattle.selective_merge.specs.Moving.{tables_of, places_moved, Frees, MayTakeHome, NoneIsLostBut, TellsUnit};
+ghost use Rattle.std.specs.Prelude.{◌≡◌, ◌≢◌, ◌<◌, ◌≤◌, IfSome, length, slice_index};
+ghost use Rattle.selective_merge.specs.Moving.{tables_of, places_moved, Frees, MayTakeHome, MovesHome};
 
+use crate::packs::masks_of;
 use crate::{Active, MergeScratch};
 use ipl_base::Counter;
 use overflow::{Overflow, overflow_laws};
@@ -53,35 +49,19 @@ fn free_one(directory: &mut Directory, place: Option<u32>)
     }
 }
 
-/// The unit stands at a place that was taken, with a header of this generation and so many log sectors
-/// written there, at most 12, which name these pages. Its old place is free, and so are overflow
-/// places that no list names any more.
-pub(crate) fn move_unit(
-    parts: &mut Parts,
-    unit: u32,
-    place: u32,
-    generation: u64,
-    used: u32,
-    masks: [u16; 15],
-)
-    requires may { MayTakeHome unit place (tables_of parts.old) }
-    requires few { used ≤ CARRIED_SECTORS }
-    ensures moved { AllPairs AreApart (overflow_places (tables_of parts.old))
-        → IsMoved (tables_of parts.old) (tables_of parts.new) unit place used }
-    ensures told { TellsUnit (tables_of parts.old) (tables_of parts.new) unit generation masks }
-    ensures stands { slice_index parts.new.directory.current unit ≡ place }
-    ensures room { slice_index parts.new.directory.written unit ≡ used }
-    ensures lost { NoneIsLostBut place (length parts.old.directory.in_use) (tables_of parts.old)
-        → NoneIsLost (length parts.old.directory.in_use) (tables_of parts.new) }
-    ensures free { ¬ IsFree parts.old.directory (slice_index parts.old.directory.current unit)
-        → free_count parts.old.directory.in_use + 1 ≤ free_count parts.new.directory.in_use }
-    ensures retired { parts.new.directory.retired ≡ parts.old.directory.retired }
-    ensures counter { parts.new.counter ≡ parts.old.counter }
+/// The unit stands at a place that was taken, with a header of this generation and as many log sectors
+/// written there as were packed, which name the pages of these. Its old place is free, and so are
+/// overflow places that no list names any more.
+pub(crate) fn move_unit(parts: &mut Parts, unit: u32, place: u32, generation: u64)
+    requires { MayTakeHome unit place (tables_of parts.old) }
+    ensures { MovesHome unit place generation parts.old parts.new }
 {
     overflow_laws();
     directory_laws();
     parts.directory.facts();
     parts.overflow.facts();
+    let used = u32::from(parts.scratch.packs.count());
+    let masks = masks_of(parts.scratch.packs.payloads());
     move_home(&mut parts.directory, unit, place, generation, used);
     let left = parts.overflow.drop_unit(unit);
     parts.overflow.facts();

@@ -1,5 +1,5 @@
 //! A unit written to a clean place.
-ghost use Rattle.std.specs.Prelude.{◌≡◌, ◌<◌, ◌≤◌, ◌+◌, ◌^◌, length, IfOk, OnOk};
+ghost use Rattle.std.specs.Prelude.{◌≡◌, ◌<◌, ◌≤◌, ◌+◌, ◌^◌, length, slice_index, IfOk, OnOk};
 ghost use Rattle.ipl_base.specs.declared.limits.TheConstants.{CARRIED_SECTORS, VERSION};
 ghost use Rattle.unit_io.specs.Charts.{Charts};
 ghost use Rattle.unit_io.specs.Costs.{ProgramsAt};
@@ -11,6 +11,7 @@ ghost use Rattle.merge_laws.specs.Faults.{pages_fault, TellsTheFault};
 ghost use Rattle.merge_laws.specs.Pages.{IsFew};
 ghost use Rattle.merge_laws.specs.Moved.{IsAside};
 ghost use Rattle.selective_merge.specs.Homes.{from_home, MoveCause};
+ghost use Rattle.selective_merge.specs.Moving.{drawn_up_to, source_read};
 ghost use Rattle.selective_merge.specs.Throughout.{ChartsThroughout};
 ghost use Rattle.selective_merge.specs.Writing.{
   DrawsSerials,
@@ -26,50 +27,47 @@ ghost use Rattle.selective_merge.specs.Writing.{
   WritesUnit,
 };
 
-use crate::home::HomeHeader;
-use crate::log::Log;
 use crate::logs::write_logs;
 use crate::pages::move_pages;
+use crate::{MergeScratch, Parts};
 use chip_trait::Chip;
 use ipl_base::{ChipFault, Counter};
-use log_records::Payload;
 use sector_format::Head;
 use txn_status::Status;
 use unit_io::seal;
 use unit_layout::{DataHeader, write_data_header};
 
-/// Fills a clean place with the pages of a unit, as the committed records leave them, and with log
-/// sectors of these payloads, at most 12. Answers how many sectors each page took.
+/// Fills a clean place with the pages of the unit that was read, as the committed records leave them,
+/// and with log sectors of what was packed. Answers how many sectors each page took.
 fn fill<C: Chip>(
     chip: &mut C,
-    home: &HomeHeader,
-    log: &Log,
+    scratch: &MergeScratch,
     status: &Status,
     place: u32,
     head: &Head,
-    payloads: &[Payload],
     counter: &mut Counter,
 ) -> Result<[u8; 15], ChipFault>
-    requires may { MayMove (C.told chip.old).places home.now place }
-    requires unit { head.now.unit ≡ home.now.head.unit }
-    requires twelve { length payloads.now ≤ CARRIED_SECTORS }
+    requires may { MayMove (C.told chip.old).places scratch.now.home place }
+    requires unit { head.now.unit ≡ scratch.now.home.head.unit }
     requires left { counter.old + CARRIED_SECTORS < 2 ^ 64 }
     ensures fills { FillsPlace (C.told chip.old).places
-        (from_home home.now status.now.numbers log.now) place head.now.generation counter.old
-        payloads.now (C.told chip.old) result (C.told chip.new) }
+        (from_home scratch.now.home status.now.numbers scratch.now.log) place head.now.generation
+        counter.old scratch.now.packs.closed.items (C.told chip.old) result (C.told chip.new) }
     ensures tells { ChartsThroughout
-        (λ pieces. GainsUnit (from_home home.now status.now.numbers log.now) place
-        head.now.generation counter.old pieces payloads.now)
+        (λ pieces. GainsUnit (from_home scratch.now.home status.now.numbers scratch.now.log) place
+        head.now.generation counter.old pieces scratch.now.packs.closed.items)
         (IsAside place) result (C.told chip.old) (C.told chip.new) }
     ensures fault { OfContents (C.told chip.old) (λ x. TellsTheFault
-        (pages_fault x (from_home home.now status.now.numbers log.now)) result) }
+        (pages_fault x (from_home scratch.now.home status.now.numbers scratch.now.log)) result) }
     ensures few { IfOk result IsFew }
-    ensures serials { DrawsSerials (length payloads.now) result counter.old counter.new }
-    ensures spends { WritesPlace place (FillsAt place 0) (IsFilledSpot (length payloads.now))
-        (MoveCause home.now.place) result (C.told chip.old) (C.told chip.new) }
+    ensures serials { DrawsSerials (length scratch.now.packs.closed.items) result
+        counter.old counter.new }
+    ensures spends { WritesPlace place (FillsAt place 0)
+        (IsFilledSpot (length scratch.now.packs.closed.items)) (MoveCause scratch.now.home.place)
+        result (C.told chip.old) (C.told chip.new) }
 {
-    let pieces = move_pages(chip, home, log, status, place, head)?;
-    write_logs(chip, place, head, payloads, counter)?;
+    let pieces = move_pages(chip, &scratch.home, &scratch.log, status, place, head)?;
+    write_logs(chip, place, head, scratch.packs.payloads(), counter)?;
     Ok(pieces)
 }
 
@@ -101,53 +99,46 @@ fn seal_unit<C: Chip>(
     seal(chip, place, head, &payload)
 }
 
-/// How many payloads there are, at most 12.
-fn count_of(payloads: &[Payload]) -> u8
-    requires { length payloads.now ≤ CARRIED_SECTORS }
-    ensures { result ≡ length payloads.now }
-{
-    payloads.len() as u8
-}
-
-/// Writes a unit to a clean place that was free, under a generation that was drawn for it: the place
-/// is filled, and its header, which tells how many units the tables have and how often the place was
-/// erased, makes it the unit's.
+/// Writes the unit that was read, with what was packed, to a clean place that was free, under a
+/// generation that was drawn for it: the place is filled, and its header, which tells how many units the
+/// tables have and how often the place was erased, makes it the unit's.
 pub(crate) fn write_unit<C: Chip>(
     chip: &mut C,
-    home: &HomeHeader,
-    log: &Log,
-    status: &Status,
+    parts: &mut Parts,
     place: u32,
     generation: u64,
-    units: u32,
-    erases: u32,
-    payloads: &[Payload],
-    counter: &mut Counter,
 ) -> Result<(), ChipFault>
-    requires may { MayMove (C.told chip.old).places home.now place }
-    requires twelve { length payloads.now ≤ CARRIED_SECTORS }
-    requires left { counter.old + CARRIED_SECTORS < 2 ^ 64 }
-    ensures writes { WritesUnit (C.told chip.old).places units erases
-        (from_home home.now status.now.numbers log.now) place generation counter.old
-        payloads.now (C.told chip.old) result (C.told chip.new) }
+    requires may { MayMove (C.told chip.old).places parts.old.scratch.home place }
+    requires taken { place < length parts.old.directory.in_use }
+    requires left { parts.old.counter + CARRIED_SECTORS < 2 ^ 64 }
+    ensures writes { WritesUnit (C.told chip.old).places (length parts.old.directory.current)
+        (slice_index parts.old.directory.erases place) (source_read parts.old) place generation
+        parts.old.counter parts.old.scratch.packs.closed.items
+        (C.told chip.old) result (C.told chip.new) }
     ensures tells { ChartsThroughout
-        (λ done. TellsWritten (C.told chip.old).places units erases
-        (from_home home.now status.now.numbers log.now) place generation counter.old payloads.now)
+        (λ done. TellsWritten (C.told chip.old).places (length parts.old.directory.current)
+        (slice_index parts.old.directory.erases place) (source_read parts.old) place generation
+        parts.old.counter parts.old.scratch.packs.closed.items)
         (IsAside place) result (C.told chip.old) (C.told chip.new) }
-    ensures fault { OfContents (C.told chip.old) (λ x. TellsTheFault
-        (pages_fault x (from_home home.now status.now.numbers log.now)) result) }
-    ensures serials { DrawsSerials (length payloads.now) result counter.old counter.new }
-    ensures spends { WritesPlace place (FillsAt place 2) (IsUnitSpot (length payloads.now))
-        (MoveCause home.now.place) result (C.told chip.old) (C.told chip.new) }
+    ensures fault { OfContents (C.told chip.old) (λ x.
+        TellsTheFault (pages_fault x (source_read parts.old)) result) }
+    ensures serials { DrawsSerials (length parts.old.scratch.packs.closed.items) result
+        parts.old.counter parts.new.counter }
+    ensures kept { parts.new ≡ drawn_up_to parts.old parts.new.counter }
+    ensures spends { WritesPlace place (FillsAt place 2)
+        (IsUnitSpot (length parts.old.scratch.packs.closed.items))
+        (MoveCause parts.old.scratch.home.place) result (C.told chip.old) (C.told chip.new) }
 {
-    let head = Head::written(Head::DATA_HEADER, home.head.unit, generation, generation);
-    let pieces = fill(chip, home, log, status, place, &head, payloads, counter)?;
-    let carried = count_of(payloads);
+    let scratch = &parts.scratch;
+    let unit = scratch.home.head.unit;
+    let head = Head::written(Head::DATA_HEADER, unit, generation, generation);
+    let counter = &mut parts.counter;
+    let pieces = fill(chip, scratch, &parts.status, place, &head, counter)?;
     let header = DataHeader {
-        units,
+        units: parts.directory.units(),
         pieces,
-        carried,
-        erases,
+        carried: scratch.packs.count(),
+        erases: parts.directory.erases(place),
     };
     seal_unit(chip, place, &head, &header)
 }

@@ -1,17 +1,13 @@
 //! Where a log sector of a unit goes: the rules.
-ghost use Rattle.std.specs.Prelude.{◌≡◌, ◌<◌, ◌+◌, ◌^◌, length, IfOk};
+ghost use Rattle.std.specs.Prelude.{◌≡◌, IfOk};
 ghost use Rattle.unit_io.specs.ReadsAt.{ReadsAt};
-ghost use Rattle.merge_laws.specs.Known.{KnowsPlaces};
 ghost use Rattle.selective_merge.specs.Homes.{IsLearnt};
-ghost use Rattle.selective_merge.specs.Leaving.{FindsSpot};
-ghost use Rattle.selective_merge.specs.Merging.{Merges, StaysMirrored, MergesInSteps, FailsAsMerge, CompletesMerge};
+ghost use Rattle.selective_merge.specs.Merging.{CompletesMerge, IsReadyToMerge};
 ghost use Rattle.selective_merge.specs.Moving.{tables_of};
-ghost use Rattle.selective_merge.specs.Placing.{IsElsewhere, IsPlaced, MakesRoom, MakesRoomInSteps};
-ghost use Rattle.selective_merge.specs.Spotting.{HasHomeSpot, IsHomeSpot, IsSpotFor};
-ghost use Rattle.selective_merge.specs.Throughout.{ChartsThroughout};
+ghost use Rattle.selective_merge.specs.Placing.{IsElsewhere, IsMergedSpot, IsPlaced, PlacesLog};
+ghost use Rattle.selective_merge.specs.Spotting.{HasHomeSpot};
 
 use crate::Parts;
-use crate::home::HomeHeader;
 use crate::learning::learn;
 use crate::merging::merge_learnt;
 use crate::overflowing::open_overflow;
@@ -20,31 +16,14 @@ use chip_trait::Chip;
 use ipl_base::{ChipFault, MERGE_THRESHOLD, Spot};
 
 /// Merges the unit that was read, and answers its first clean log sector.
-fn merged_spot<C: Chip>(
-    chip: &mut C,
-    parts: &mut Parts,
-    unit: u32,
-    home: &HomeHeader,
-) -> Result<Spot, ChipFault>
-    requires known { KnowsPlaces (C.told chip.old).places (tables_of parts.old) }
-    requires unit { unit < length parts.old.directory.current }
-    requires left { parts.old.counter + 13 < 2 ^ 64 }
-    requires learnt { IsLearnt (tables_of parts.old) unit (C.told chip.old) home.now
-        parts.old.scratch.log }
-    ensures tells { ChartsThroughout
-        (λ spot. Merges (C.told chip.old).places unit (tables_of parts.old) (tables_of parts.new))
-        (StaysMirrored (C.told chip.old).places (tables_of parts.old) (tables_of parts.new))
-        result (C.told chip.old) (C.told chip.new) }
-    ensures steps { MergesInSteps (C.told chip.old).places unit
-        (tables_of parts.old) (tables_of parts.new) (C.told chip.old) result (C.told chip.new) }
-    ensures fault { FailsAsMerge (C.told chip.old).places (tables_of parts.old) unit result
-        (C.told chip.old) }
-    ensures spot { IfOk result (λ spot.
-        IsHomeSpot (tables_of parts.new) unit spot.place spot.sector) }
-    ensures finds { FindsSpot unit (tables_of parts.old) (tables_of parts.new) result
+fn merged_spot<C: Chip>(chip: &mut C, parts: &mut Parts, unit: u32) -> Result<Spot, ChipFault>
+    requires ready { IsReadyToMerge (C.told chip.old).places (tables_of parts.old) unit }
+    requires learnt { IsLearnt (tables_of parts.old) unit (C.told chip.old)
+        parts.old.scratch.home parts.old.scratch.log }
+    ensures { PlacesLog IsMergedSpot unit (tables_of parts.old) (tables_of parts.new) result
         (C.told chip.old) (C.told chip.new) }
 {
-    merge_learnt(chip, parts, unit, home)?;
+    merge_learnt(chip, parts, unit)?;
     match home_spot(parts, unit) {
         Some(spot) => Ok(spot),
         None => unreachable!("a merge leaves three log sectors clean"),
@@ -53,35 +32,17 @@ fn merged_spot<C: Chip>(
 
 /// An overflow sector where one is to be had, else the first clean one of the merged unit, which was
 /// read.
-fn elsewhere<C: Chip>(
-    chip: &mut C,
-    parts: &mut Parts,
-    unit: u32,
-    home: &HomeHeader,
-) -> Result<Spot, ChipFault>
-    requires known { KnowsPlaces (C.told chip.old).places (tables_of parts.old) }
-    requires unit { unit < length parts.old.directory.current }
-    requires left { parts.old.counter + 13 < 2 ^ 64 }
-    requires learnt { IsLearnt (tables_of parts.old) unit (C.told chip.old) home.now
-        parts.old.scratch.log }
-    ensures tells { ChartsThroughout
-        (MakesRoom IsElsewhere (C.told chip.old).places unit
-        (tables_of parts.old) (tables_of parts.new))
-        (StaysMirrored (C.told chip.old).places (tables_of parts.old) (tables_of parts.new))
-        result (C.told chip.old) (C.told chip.new) }
-    ensures steps { MakesRoomInSteps IsElsewhere (C.told chip.old).places unit
-        (tables_of parts.old) (tables_of parts.new) (C.told chip.old) result (C.told chip.new) }
-    ensures fault { FailsAsMerge (C.told chip.old).places (tables_of parts.old) unit result
-        (C.told chip.old) }
-    ensures spot { IfOk result (λ spot.
-        IsSpotFor (tables_of parts.new) unit spot.place spot.sector) }
-    ensures finds { FindsSpot unit (tables_of parts.old) (tables_of parts.new) result
+fn elsewhere<C: Chip>(chip: &mut C, parts: &mut Parts, unit: u32) -> Result<Spot, ChipFault>
+    requires ready { IsReadyToMerge (C.told chip.old).places (tables_of parts.old) unit }
+    requires learnt { IsLearnt (tables_of parts.old) unit (C.told chip.old)
+        parts.old.scratch.home parts.old.scratch.log }
+    ensures { PlacesLog IsElsewhere unit (tables_of parts.old) (tables_of parts.new) result
         (C.told chip.old) (C.told chip.new) }
 {
     match overflow_choice(parts, unit) {
         OverflowChoice::Clean(spot) => Ok(spot),
         OverflowChoice::NewPlace => open_overflow(chip, parts),
-        OverflowChoice::Nothing => merged_spot(chip, parts, unit, home),
+        OverflowChoice::Nothing => merged_spot(chip, parts, unit),
     }
 }
 
@@ -95,48 +56,27 @@ fn elsewhere<C: Chip>(
 /// log are read once, also where it is merged then, at most one erase is tried and one more for each
 /// place that is retired, each of a free place, and nothing is programmed elsewhere.
 pub fn log_place<C: Chip>(chip: &mut C, parts: &mut Parts, unit: u32) -> Result<Spot, ChipFault>
-    requires known { KnowsPlaces (C.told chip.old).places (tables_of parts.old) }
-    requires unit { unit < length parts.old.directory.current }
-    requires left { parts.old.counter + 13 < 2 ^ 64 }
+    requires { IsReadyToMerge (C.told chip.old).places (tables_of parts.old) unit }
 
-    // What the chip holds then, and what a power cut leaves.
-    ensures tells { ChartsThroughout
-        (MakesRoom IsPlaced (C.told chip.old).places unit
-        (tables_of parts.old) (tables_of parts.new))
-        (StaysMirrored (C.told chip.old).places (tables_of parts.old) (tables_of parts.new))
-        result (C.told chip.old) (C.told chip.new) }
-    ensures steps { MakesRoomInSteps IsPlaced (C.told chip.old).places unit
-        (tables_of parts.old) (tables_of parts.new) (C.told chip.old) result (C.told chip.new) }
+    // What the chip holds then, what a power cut leaves, why it fails, and what the tables have.
+    ensures room { PlacesLog IsPlaced unit (tables_of parts.old) (tables_of parts.new) result
+        (C.told chip.old) (C.told chip.new) }
 
-    // Why it fails over what the chip holds: where the unit's pages show values and few log sectors
-    // would be carried, only where a call of the chip failed.
-    ensures fault { FailsAsMerge (C.told chip.old).places (tables_of parts.old) unit result
-        (C.told chip.old) }
+    // Where the unit's pages show values and few log sectors would be carried, it fails only where a
+    // call of the chip failed.
     ensures complete { CompletesMerge (C.told chip.old).places (tables_of parts.old) unit result
         (C.told chip.old) }
-
-    // What the tables have, whatever the chip tells.
-    ensures spot { IfOk result (λ spot.
-        IsSpotFor (tables_of parts.new) unit spot.place spot.sector) }
     ensures home { HasHomeSpot (tables_of parts.old) unit
         → (tables_of parts.new ≡ tables_of parts.old)
         × ReadsAt (λ p s. ⊥) (C.told chip.old) (C.told chip.new) }
-    ensures finds { FindsSpot unit (tables_of parts.old) (tables_of parts.new) result
-        (C.told chip.old) (C.told chip.new) }
 {
     if let Some(spot) = home_spot(parts, unit) {
         return Ok(spot);
     }
-    let home = learn(
-        chip,
-        &parts.directory,
-        &parts.overflow,
-        unit,
-        &mut parts.scratch,
-    )?;
+    learn(chip, parts, unit)?;
     let carried = packed_count(&mut parts.scratch, &parts.active);
     if carried <= MERGE_THRESHOLD {
-        return merged_spot(chip, parts, unit, &home);
+        return merged_spot(chip, parts, unit);
     }
-    elsewhere(chip, parts, unit, &home)
+    elsewhere(chip, parts, unit)
 }

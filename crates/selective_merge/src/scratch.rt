@@ -1,16 +1,20 @@
 //! The memory of one merge.
 ghost use Rattle.std.specs.Prelude.{◌≡◌, [], IfOk};
 
+use crate::home::HomeHeader;
 use crate::log::Log;
 use crate::packs::Packs;
 use ipl_base::OutOfMemory;
+use sector_format::Head;
 use std::alloc::Global;
 use unit_log::Scratch;
 
-/// The memory of one merge: log sectors as they are read, their records, and those that are carried.
+/// The memory of one merge: where the unit stands, its log sectors as they are read, their records, and
+/// those that are carried.
 /// What a call leaves there says nothing. Memory is taken by `new` alone.
 #[derive(Drop)]
 pub struct MergeScratch {
+    pub home: HomeHeader,
     pub sectors: Scratch,
     pub log: Log,
     pub packs: Packs,
@@ -23,10 +27,17 @@ impl MergeScratch {
         ensures log { IfOk result (λ scratch. scratch.log ≡ []) }
         ensures packs { IfOk result (λ scratch. scratch.packs.closed.items ≡ []) }
     {
+        let head = Head::written(Head::DATA_HEADER, 0, 0, 0);
+        let home = HomeHeader {
+            place: 0,
+            head,
+            pieces: [0; 15],
+        };
         let sectors = Scratch::new(alloc)?;
         let log = Log::new(alloc)?;
         let packs = Packs::new(alloc)?;
         Ok(MergeScratch {
+            home,
             sectors,
             log,
             packs,

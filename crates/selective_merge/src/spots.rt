@@ -7,7 +7,6 @@ ghost use Rattle.ipl_meaning.specs.Layout.{Layout};
 ghost use Rattle.ipl_meaning.specs.Mirrors.{Mirrors};
 ghost use Rattle.overflow.specs.Lists.{spots_in};
 ghost use Rattle.unit_io.specs.Reads.{OfContents};
-ghost use Rattle.unit_log.specs.Live.{OfMirrored};
 ghost use Rattle.unit_log.specs.Looks.{IsLogRead, LooksAt};
 ghost use Rattle.merge_laws.specs.Known.{Suits};
 ghost use Rattle.merge_laws.specs.Packs.{among, packs_of};
@@ -19,8 +18,6 @@ use crate::learning::learn;
 use crate::{Active, MergeScratch, Parts};
 use chip_trait::Chip;
 use ipl_base::{ChipFault, OVERFLOW_SECTORS, Spot};
-use overflow::Overflow;
-use unit_directory::Directory;
 
 /// The first log sector at the unit's home that is known clean and may be written, if there is one.
 pub(crate) fn home_spot(parts: &Parts, unit: u32) -> Option<Spot>
@@ -64,37 +61,13 @@ pub(crate) fn overflow_choice(parts: &Parts, unit: u32) -> OverflowChoice
 pub(crate) fn packed_count(scratch: &mut MergeScratch, active: &Active) -> u32
     ensures count { result ≡ min 13 (length (packs_of active.now scratch.old.log)) }
     ensures log { scratch.new.log ≡ scratch.old.log }
+    ensures home { scratch.new.home ≡ scratch.old.home }
 {
     if pack_carried(&scratch.log, active, &mut scratch.packs) {
-        scratch.packs.payloads().len() as u32
+        u32::from(scratch.packs.count())
     } else {
         13
     }
-}
-
-/// How many log sectors a merge of the unit would carry; more than 12 are counted as 13.
-pub(crate) fn count_carried<C: Chip>(
-    chip: &mut C,
-    directory: &Directory,
-    overflow: &Overflow,
-    active: &Active,
-    unit: u32,
-    scratch: &mut MergeScratch,
-) -> Result<u32, ChipFault>
-    requires unit { unit < length directory.now.current }
-    requires size { length directory.now.in_use ≡ (C.told chip.old).places }
-    requires units { length overflow.now.spots ≡ length directory.now.current }
-    requires sized { overflow.now.places ≡ (C.told chip.old).places }
-    ensures exact { OfMirrored (C.told chip.old) directory.now overflow.now (λ it.
-        MatchResult result (λ n. n ≡ min 13 (carried_count (among active.now) (it.units unit).log))
-        (λ fault. fault ≡ ReadFault)) }
-    ensures most { IfOk result (λ n. n ≤ 13) }
-    ensures looks { LooksAt
-        (IsLogRead (slice_index directory.now.current unit) (spots_in overflow.now unit))
-        result (C.told chip.old) (C.told chip.new) }
-{
-    learn(chip, directory, overflow, unit, scratch)?;
-    Ok(packed_count(scratch, active))
 }
 
 /// How many log sectors a merge of the unit would carry; more than 12 are counted as 13.
@@ -114,12 +87,6 @@ pub fn carried<C: Chip>(chip: &mut C, parts: &mut Parts, unit: u32) -> Result<u3
     ensures looks { LooksAt (IsLogRead (slice_index parts.old.directory.current unit)
         (spots_in parts.old.overflow unit)) result (C.told chip.old) (C.told chip.new) }
 {
-    count_carried(
-        chip,
-        &parts.directory,
-        &parts.overflow,
-        &parts.active,
-        unit,
-        &mut parts.scratch,
-    )
+    learn(chip, parts, unit)?;
+    Ok(packed_count(&mut parts.scratch, &parts.active))
 }

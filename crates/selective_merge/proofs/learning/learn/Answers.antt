@@ -23,7 +23,7 @@ returns-clause-learns g c = λ x told it t are.
     ) in
     let live = c.in_ok-head.ensures.exact x told it t are in
     let log = (are.mirrors.laid.each u low).log in
-    let at = c.home_at.ensures in record {
+    let at = c.home_at-scratch.ensures in record {
       place = at.place ∙ (c.current-place.ensures.place
           ∙ (ap (λ (d : Places). slice_index d.current u) (sym are.directory_is)
           ∙ are.mirrors.directory.current u low));

@@ -20,9 +20,11 @@ use Rattle.merge_laws.specs.Faults.{IsTheFault}
 use Rattle.merge_laws.specs.Known.{KnowsPlaces}
 use Rattle.merge_laws.specs.Moved.{Source, IsAside, IsUnsealed}
 use Rattle.merge_laws.proofs.FaultLemmas.{all_alike, fault_as, fault_not_taken}
-use Rattle.selective_merge.specs.Homes.{from_home, MoveCause}
+use Rattle.selective_merge.specs.declared.parts.Parts.{Parts}
+use Rattle.selective_merge.specs.Homes.{MoveCause}
 use Rattle.selective_merge.specs.Merging.{RestsMerged}
-use Rattle.selective_merge.specs.Moving.{tables_of, NoneIsLostBut, set_aside}
+use Rattle.selective_merge.specs.Moving.{source_read, tables_of, MayTakeHome, MovesHome, NoneIsLostBut, set_aside}
+use Rattle.selective_merge.specs.Packing.{masks_of_payloads}
 use Rattle.selective_merge.specs.Throughout.{ChartsThroughout}
 use Rattle.selective_merge.specs.Writing.{IsUnitSpot, TellsWritten}
 use Rattle.selective_merge.proofs.FewLemmas.{packs_few}
@@ -63,8 +65,8 @@ back_is t p d taken then is =
 
 pub take_place-requires : goal.take_place-requires
 take_place-requires g c = record {
-  places = c.requires.known.suits.all;
-  ready = c.known_laws.ensures.ready _ (tables_of c.args.parts.now) c.requires.known;
+  places = c.requires.ready.known.suits.all;
+  ready = c.known_laws.ensures.ready _ (tables_of c.args.parts.now) c.requires.ready.known;
 }
 
 -- the place that was taken isn't where the unit stands
@@ -85,35 +87,47 @@ write_unit-requires-clause-may g c =
     let t = tables_of c.args.parts.now in
     let taken_so = c.in_ok-place.ensures.taken in
     let stands = c.requires.stands in
-    let low = c.facts.ensures.within c.args.unit c.requires.unit in
+    let low = c.facts.ensures.within c.args.unit c.requires.ready.unit in
     let within = taken_within _ _ _ taken_so in
-    let all = c.requires.known.suits.all in
+    let all = c.requires.ready.known.suits.all in
     let places = c.in_ok-place.ensures.accounts.counts.places in record {
       home = omega (arith, stands.place, low, all, places);
       few = stands.few;
       place = omega (arith, within, all, places);
-      another = home_apart _ t c.args.unit c.args.home.now.place c.in_ok-place.place c.requires.known
-          c.requires.unit stands.place (taken_was_free _ _ _ taken_so);
+      another = home_apart _ t c.args.unit c.args.parts.now.scratch.home.place c.in_ok-place.place c.requires.ready.known
+          c.requires.ready.unit stands.place (taken_was_free _ _ _ taken_so);
     }
 
-pub move_unit-requires-clause-may : goal.move_unit-requires-clause-may
-move_unit-requires-clause-may g c =
+pub write_unit-requires-clause-taken : goal.write_unit-requires-clause-taken
+write_unit-requires-clause-taken g c =
+    let taken = c.in_ok-place.ensures.taken in
+    let between = set_aside (tables_of c.args.parts.now) taken.worn in
+    omega (
+      arith,
+      taken.next.within,
+      ap (λ (d : Places). length d.in_use) taken.places_is,
+      length-set between.places.in_use c.in_ok-place.place true,
+    )
+
+pub move_unit-requires : goal.move_unit-requires
+move_unit-requires g c =
     let t = tables_of c.args.parts.now in
     let taken = c.in_ok-place.ensures.taken in
     let between = set_aside t taken.worn in
-    let known = known_aside _ t taken.worn c.requires.known taken.in_turn in
+    let known = known_aside _ t taken.worn c.requires.ready.known taken.in_turn in
     let units = units_aside t taken.worn taken.in_turn in
     let current = ap (λ (d : Places). length d.current) taken.places_is in
     let in_use = ap (λ (d : Places). length d.in_use) taken.places_is in
-    let all = length-set between.places.in_use c.in_ok-place.place true in record {
-      overflow = omega (arith, c.requires.known.suits.overflow, units, current);
+    let all = length-set between.places.in_use c.in_ok-place.place true in
+    subst (λ (w : Parts). MayTakeHome c.args.unit c.in_ok-place.place (tables_of w)) (sym c.in-Ok.ensures.kept) (record {
+      overflow = omega (arith, c.requires.ready.known.suits.overflow, units, current);
       sized = omega (arith, known.suits.sized, known.suits.all, in_use, all);
-      unit = omega (arith, c.requires.unit, units, current);
+      unit = omega (arith, c.requires.ready.unit, units, current);
       place = omega (arith, taken.next.within, in_use, all);
-      another = λ same. home_used _ between c.args.unit known (omega (arith, c.requires.unit, units))
+      another = λ same. home_used _ between c.args.unit known (omega (arith, c.requires.ready.unit, units))
           (subst (IsFree between.places)
           (same ∙ ap (λ (d : Places). slice_index d.current c.args.unit) taken.places_is) taken.next.free);
-    }
+    })
 
 pub returns-in-Ok-clause-steps : goal.returns-in-Ok-clause-steps
 returns-in-Ok-clause-steps g c = λ m it h steady rests agrees source.
@@ -128,21 +142,22 @@ returns-in-Ok-clause-steps g c = λ m it h steady rests agrees source.
     let between = set_aside t worn in
     let drawn = c.draw-generation.result in
     let serial = c.draw-generation.new.self in
-    let next = c.write_unit.new.counter in
-    let payloads = c.payloads-payloads.result.now in
-    let from = from_home c.args.home.now c.args.parts.now.status.numbers
-    c.args.parts.now.scratch.log in
+    let next = c.write_unit.new.parts.counter in
+    let payloads = c.args.parts.now.scratch.packs.closed.items in
+    let from = source_read c.args.parts.now in
     let what = to_merge places (now h) it between u p drawn serial from payloads
     c.args.parts.now.scratch.packs.closed.items c.args.parts.now.active
     c.args.parts.now.scratch.log (aside_mirrors places (now h) it t worn agrees.mirrors taken_so.in_turn)
-    (omega (arith, c.requires.unit, units_aside t worn taken_so.in_turn)) taken_so.next.free
-    (omega (arith, taken_within _ _ _ taken_so, c.requires.known.suits.all)) source
+    (omega (arith, c.requires.ready.unit, units_aside t worn taken_so.in_turn)) taken_so.next.free
+    (omega (arith, taken_within _ _ _ taken_so, c.requires.ready.known.suits.all)) source
     (omega (arith, c.draw-generation.ensures.drawn))
     (omega (arith, c.draw-generation.ensures.drawn, c.draw-generation.ensures.next))
-    c.payloads-payloads.ensures.all c.requires.packed refl refl c.payloads-payloads.ensures.few in
+    refl c.requires.packed refl refl c.args.parts.now.scratch.packs.few in
+    let moved_home = subst (λ (w : Parts). MovesHome c.args.unit c.in_ok-place.place c.draw-generation.result w
+    c.move_unit.new.parts) c.in-Ok.ensures.kept c.move_unit.ensures in
     let moved : IsMoved (with_next (taken between p) next) after u p (length payloads) =
     taken_in t worn p next (λ (b : Tables). IsMoved b after u p (length payloads))
-    c.take_place.new.directory taken_so.places_is (c.move_unit.ensures.moved agrees.mirrors.overflow.apart) in
+    c.take_place.new.directory taken_so.places_is (moved_home.moved agrees.mirrors.overflow.apart) in
     merged_steps places m it t worn u p drawn serial (length payloads) h old
     (g.C.Chip.told c.write_unit.new.chip) (record { rests = rests; agrees = agrees }) taken_so.in_turn
     taken_so.next.free after what.low
@@ -154,14 +169,14 @@ returns-in-Ok-clause-steps g c = λ m it h steady rests agrees source.
       c.draw-generation.ensures.next,
       c.in-Ok.ensures.serials.draws.0,
     )) moved)
-    (tells_packs places (now h) it between _ after u p drawn serial from payloads c.masks_of-masks.result what
-    c.masks_of-masks.ensures c.move_unit.ensures.told taken_so.places_is refl)
-    (omega (arith, c.in-Ok.ensures.serials.drawn, c.move_unit.ensures.counter))
-    (unit_joined c.units-units.result c.erases-erases.result it t between c.take_place.new.directory u p
+    (tells_packs places (now h) it between _ after u p drawn serial from payloads (masks_of_payloads 15 c.args.parts.now.scratch.packs.closed.items) what
+    refl moved_home.told taken_so.places_is refl)
+    (omega (arith, c.in-Ok.ensures.serials.drawn, moved_home.counter))
+    (unit_joined (length c.take_place.new.directory.current) (slice_index c.take_place.new.directory.erases c.in_ok-place.place) it t between c.take_place.new.directory u p
     drawn serial from payloads
-    (has_counts between c.take_place.new.directory p c.units-units.result c.erases-erases.result
-    taken_so.places_is (c.units-units.ensures ∙ sym (units_aside t worn taken_so.in_turn))
-    c.erases-erases.ensures) m h old (g.C.Chip.told c.take_place.new.chip)
+    (has_counts between c.take_place.new.directory p (length c.take_place.new.directory.current) (slice_index c.take_place.new.directory.erases c.in_ok-place.place)
+    taken_so.places_is (ap (λ (d : Places). length d.current) taken_so.places_is)
+    refl) m h old (g.C.Chip.told c.take_place.new.chip)
     (g.C.Chip.told c.write_unit.new.chip) (taken_was_free _ _ _ taken_so) steady
     (record { rests = rests; agrees = agrees }) c.in_ok-place.ensures.takes
     c.in_ok-place.ensures.accounts.counts what (Ok tt) c.in-Ok.ensures.writes)
@@ -170,9 +185,8 @@ pub returns-in-Ok-clause-tells : goal.returns-in-Ok-clause-tells
 returns-in-Ok-clause-tells g c = λ x told.
     let (y, told_y, written) =
     written_told (g.C.Chip.told c.args.chip.now) (g.C.Chip.told c.take_place.new.chip)
-    (g.C.Chip.told c.write_unit.new.chip) c.units-units.result c.erases-erases.result c.in_ok-place.place
-    c.draw-generation.result c.draw-generation.new.self (from_home c.args.home.now c.args.parts.now.status.numbers
-    c.args.parts.now.scratch.log) c.payloads-payloads.result.now (Ok tt)
+    (g.C.Chip.told c.write_unit.new.chip) (length c.take_place.new.directory.current) (slice_index c.take_place.new.directory.erases c.in_ok-place.place) c.in_ok-place.place
+    c.draw-generation.result c.draw-generation.new.self (source_read c.args.parts.now) c.args.parts.now.scratch.packs.closed.items (Ok tt)
     c.in_ok-place.ensures.accounts.counts c.in_ok-place.ensures.tells c.in-Ok.ensures.tells x told in (
       y,
       told_y,
@@ -188,21 +202,22 @@ returns-in-Ok-clause-tells g c = λ x told.
           let between = set_aside t worn in
           let drawn = c.draw-generation.result in
           let serial = c.draw-generation.new.self in
-          let next = c.write_unit.new.counter in
-          let payloads = c.payloads-payloads.result.now in
-          let from = from_home c.args.home.now c.args.parts.now.status.numbers
-          c.args.parts.now.scratch.log in
+          let next = c.write_unit.new.parts.counter in
+          let payloads = c.args.parts.now.scratch.packs.closed.items in
+          let from = source_read c.args.parts.now in
           let what = to_merge places (chart_of x) it between u p drawn serial from payloads
           c.args.parts.now.scratch.packs.closed.items c.args.parts.now.active
           c.args.parts.now.scratch.log (aside_mirrors places (chart_of x) it t worn mirrors taken_so.in_turn)
-          (omega (arith, c.requires.unit, units_aside t worn taken_so.in_turn)) taken_so.next.free
-          (omega (arith, taken_within _ _ _ taken_so, c.requires.known.suits.all)) source
+          (omega (arith, c.requires.ready.unit, units_aside t worn taken_so.in_turn)) taken_so.next.free
+          (omega (arith, taken_within _ _ _ taken_so, c.requires.ready.known.suits.all)) source
           (omega (arith, c.draw-generation.ensures.drawn))
           (omega (arith, c.draw-generation.ensures.drawn, c.draw-generation.ensures.next))
-          c.payloads-payloads.ensures.all c.requires.packed refl refl c.payloads-payloads.ensures.few in
+          refl c.requires.packed refl refl c.args.parts.now.scratch.packs.few in
+          let moved_home = subst (λ (w : Parts). MovesHome c.args.unit c.in_ok-place.place c.draw-generation.result w
+          c.move_unit.new.parts) c.in-Ok.ensures.kept c.move_unit.ensures in
           let moved : IsMoved (with_next (taken between p) next) after u p (length payloads) =
           taken_in t worn p next (λ (b : Tables). IsMoved b after u p (length payloads))
-          c.take_place.new.directory taken_so.places_is (c.move_unit.ensures.moved mirrors.overflow.apart) in
+          c.take_place.new.directory taken_so.places_is (moved_home.moved mirrors.overflow.apart) in
           merged_before places it t worn u after (chart_of x) (chart_of y) taken_so.in_turn
           (merged_there places it between u p drawn serial (length payloads) after (chart_of x) (chart_of y)
           (many_packs places (chart_of x) it between u p drawn serial from payloads what)
@@ -213,13 +228,13 @@ returns-in-Ok-clause-tells g c = λ x told.
             c.draw-generation.ensures.next,
             c.in-Ok.ensures.serials.draws.0,
           )) moved)
-          (tells_packs places (chart_of x) it between _ after u p drawn serial from payloads c.masks_of-masks.result what
-          c.masks_of-masks.ensures c.move_unit.ensures.told taken_so.places_is refl)
-          (omega (arith, c.in-Ok.ensures.serials.drawn, c.move_unit.ensures.counter))
+          (tells_packs places (chart_of x) it between _ after u p drawn serial from payloads (masks_of_payloads 15 c.args.parts.now.scratch.packs.closed.items) what
+          refl moved_home.told taken_so.places_is refl)
+          (omega (arith, c.in-Ok.ensures.serials.drawn, moved_home.counter))
           (written it between u
-          (has_counts between c.take_place.new.directory p c.units-units.result c.erases-erases.result
-          taken_so.places_is (c.units-units.ensures ∙ sym (units_aside t worn taken_so.in_turn))
-          c.erases-erases.ensures) what)),
+          (has_counts between c.take_place.new.directory p (length c.take_place.new.directory.current) (slice_index c.take_place.new.directory.erases c.in_ok-place.place)
+          taken_so.places_is (ap (λ (d : Places). length d.current) taken_so.places_is)
+          refl) what)),
     )
 
 pub returns-in-Err-clause-steps : goal.returns-in-Err-clause-steps
@@ -232,23 +247,24 @@ returns-in-Err-clause-steps g c = λ m it h steady rests agrees source.
     let taken_so = c.in_ok-place.ensures.taken in
     let worn = taken_so.worn in
     let between = set_aside t worn in
-    let next = c.write_unit.new.counter in
+    let next = c.write_unit.new.parts.counter in
     let back : c.give_back.new.self ≡ with_erased between.places p =
-    back_is t p c.take_place.new.directory taken_so c.give_back.new.self c.give_back.ensures in
-    let is = ap (λ (d : Places). with_next (with_places t d) next) back in
+    back_is t p c.take_place.new.directory taken_so c.give_back.new.self
+    (c.give_back.ensures ∙ ap (λ (w : Parts). with_use w.directory p false) c.in-Err.ensures.kept) in
+    let is = ap (λ (w : Parts). tables_of (record w { directory = c.give_back.new.self })) c.in-Err.ensures.kept
+    ∙ ap (λ (d : Places). with_next (with_places t d) next) back in
     let drawn = c.draw-generation.result in
     let serial = c.draw-generation.new.self in
-    let payloads = c.payloads-payloads.result.now in
-    let from = from_home c.args.home.now c.args.parts.now.status.numbers
-    c.args.parts.now.scratch.log in
+    let payloads = c.args.parts.now.scratch.packs.closed.items in
+    let from = source_read c.args.parts.now in
     let what = to_merge places (now h) it between u p drawn serial from payloads
     c.args.parts.now.scratch.packs.closed.items c.args.parts.now.active
     c.args.parts.now.scratch.log (aside_mirrors places (now h) it t worn agrees.mirrors taken_so.in_turn)
-    (omega (arith, c.requires.unit, units_aside t worn taken_so.in_turn)) taken_so.next.free
-    (omega (arith, taken_within _ _ _ taken_so, c.requires.known.suits.all)) source
+    (omega (arith, c.requires.ready.unit, units_aside t worn taken_so.in_turn)) taken_so.next.free
+    (omega (arith, taken_within _ _ _ taken_so, c.requires.ready.known.suits.all)) source
     (omega (arith, c.draw-generation.ensures.drawn))
     (omega (arith, c.draw-generation.ensures.drawn, c.draw-generation.ensures.next))
-    c.payloads-payloads.ensures.all c.requires.packed refl refl c.payloads-payloads.ensures.few in
+    refl c.requires.packed refl refl c.args.parts.now.scratch.packs.few in
     merge_failed places m it t worn u p drawn serial (length payloads) h old
     (g.C.Chip.told c.write_unit.new.chip) (record { rests = rests; agrees = agrees }) taken_so.in_turn
     taken_so.next.free _ (erases_then between p) next c.in-Err.fault c.in-Err.fault is
@@ -259,11 +275,11 @@ returns-in-Err-clause-steps g c = λ m it h steady rests agrees source.
       c.draw-generation.ensures.next,
       c.in-Err.ensures.serials.draws.0,
     ))
-    (unit_joined c.units-units.result c.erases-erases.result it t between c.take_place.new.directory u p
+    (unit_joined (length c.take_place.new.directory.current) (slice_index c.take_place.new.directory.erases c.in_ok-place.place) it t between c.take_place.new.directory u p
     drawn serial from payloads
-    (has_counts between c.take_place.new.directory p c.units-units.result c.erases-erases.result
-    taken_so.places_is (c.units-units.ensures ∙ sym (units_aside t worn taken_so.in_turn))
-    c.erases-erases.ensures) m h old (g.C.Chip.told c.take_place.new.chip)
+    (has_counts between c.take_place.new.directory p (length c.take_place.new.directory.current) (slice_index c.take_place.new.directory.erases c.in_ok-place.place)
+    taken_so.places_is (ap (λ (d : Places). length d.current) taken_so.places_is)
+    refl) m h old (g.C.Chip.told c.take_place.new.chip)
     (g.C.Chip.told c.write_unit.new.chip) (taken_was_free _ _ _ taken_so) steady
     (record { rests = rests; agrees = agrees }) c.in_ok-place.ensures.takes
     c.in_ok-place.ensures.accounts.counts what (Err c.in-Err.fault) c.in-Err.ensures.writes)
@@ -272,9 +288,8 @@ pub returns-in-Err-clause-tells : goal.returns-in-Err-clause-tells
 returns-in-Err-clause-tells g c = λ soft x told.
     let (y, told_y, left) =
     written_told (g.C.Chip.told c.args.chip.now) (g.C.Chip.told c.take_place.new.chip)
-    (g.C.Chip.told c.write_unit.new.chip) c.units-units.result c.erases-erases.result c.in_ok-place.place
-    c.draw-generation.result c.draw-generation.new.self (from_home c.args.home.now c.args.parts.now.status.numbers
-    c.args.parts.now.scratch.log) c.payloads-payloads.result.now (Err c.in-Err.fault)
+    (g.C.Chip.told c.write_unit.new.chip) (length c.take_place.new.directory.current) (slice_index c.take_place.new.directory.erases c.in_ok-place.place) c.in_ok-place.place
+    c.draw-generation.result c.draw-generation.new.self (source_read c.args.parts.now) c.args.parts.now.scratch.packs.closed.items (Err c.in-Err.fault)
     c.in_ok-place.ensures.accounts.counts c.in_ok-place.ensures.tells c.in-Err.ensures.tells soft x
     told in
     let t = tables_of c.args.parts.now in
@@ -285,10 +300,12 @@ returns-in-Err-clause-tells g c = λ soft x told.
     let taken_so = c.in_ok-place.ensures.taken in
     let worn = taken_so.worn in
     let between = set_aside t worn in
-    let next = c.write_unit.new.counter in
+    let next = c.write_unit.new.parts.counter in
     let back : c.give_back.new.self ≡ with_erased between.places p =
-    back_is t p c.take_place.new.directory taken_so c.give_back.new.self c.give_back.ensures in
-    let is = ap (λ (d : Places). with_next (with_places t d) next) back in (
+    back_is t p c.take_place.new.directory taken_so c.give_back.new.self
+    (c.give_back.ensures ∙ ap (λ (w : Parts). with_use w.directory p false) c.in-Err.ensures.kept) in
+    let is = ap (λ (w : Parts). tables_of (record w { directory = c.give_back.new.self })) c.in-Err.ensures.kept
+    ∙ ap (λ (d : Places). with_next (with_places t d) next) back in (
       y,
       told_y,
       λ it mirrors. stays_mirrored _ (chart_of x) (chart_of y) it between _ (erases_then between p) p next
@@ -305,34 +322,32 @@ returns-in-Err-clause-tells g c = λ soft x told.
 pub returns-in-Ok-clause-few : goal.returns-in-Ok-clause-few
 returns-in-Ok-clause-few g c =
     packs_few c.args.parts.now.active c.args.parts.now.scratch.log
-    c.args.parts.now.scratch.packs.closed.items _ c.payloads-payloads.ensures.all c.requires.packed
-    c.payloads-payloads.ensures.few
+    c.args.parts.now.scratch.packs.closed.items _ refl c.requires.packed
+    c.args.parts.now.scratch.packs.few
 
 pub returns-in-Err-clause-few : goal.returns-in-Err-clause-few
 returns-in-Err-clause-few g c =
     packs_few c.args.parts.now.active c.args.parts.now.scratch.log
-    c.args.parts.now.scratch.packs.closed.items _ c.payloads-payloads.ensures.all c.requires.packed
-    c.payloads-payloads.ensures.few
+    c.args.parts.now.scratch.packs.closed.items _ refl c.requires.packed
+    c.args.parts.now.scratch.packs.few
 
 pub returns-in-Ok-clause-fault : goal.returns-in-Ok-clause-fault
 returns-in-Ok-clause-fault g c = λ x told.
-    let from = from_home c.args.home.now c.args.parts.now.status.numbers
-    c.args.parts.now.scratch.log in
+    let from = source_read c.args.parts.now in
     let (y, told_y, same) = c.in_ok-place.ensures.spares x told in
-    let used = home_at_use _ (tables_of c.args.parts.now) c.args.unit c.args.home.now.place
-    c.requires.known c.requires.unit c.requires.stands.place in
-    sym (all_alike x y from (λ s. same c.args.home.now.place s used))
+    let used = home_at_use _ (tables_of c.args.parts.now) c.args.unit c.args.parts.now.scratch.home.place
+    c.requires.ready.known c.requires.ready.unit c.requires.stands.place in
+    sym (all_alike x y from (λ s. same c.args.parts.now.scratch.home.place s used))
     ∙ c.in-Ok.ensures.fault y told_y
 
 pub returns-in-Err-clause-fault : goal.returns-in-Err-clause-fault
 returns-in-Err-clause-fault g c = λ x told.
-    let from = from_home c.args.home.now c.args.parts.now.status.numbers
-    c.args.parts.now.scratch.log in
+    let from = source_read c.args.parts.now in
     let (y, told_y, same) = c.in_ok-place.ensures.spares x told in
-    let used = home_at_use _ (tables_of c.args.parts.now) c.args.unit c.args.home.now.place
-    c.requires.known c.requires.unit c.requires.stands.place in
+    let used = home_at_use _ (tables_of c.args.parts.now) c.args.unit c.args.parts.now.scratch.home.place
+    c.requires.ready.known c.requires.ready.unit c.requires.stands.place in
     subst (λ (o : Option ChipFault). IsTheFault o c.in-Err.fault)
-    (all_alike x y from (λ s. same c.args.home.now.place s used))
+    (all_alike x y from (λ s. same c.args.parts.now.scratch.home.place s used))
     (c.in-Err.ensures.fault y told_y)
 
 pub returns-in-Ok-clause-moves : goal.returns-in-Ok-clause-moves
@@ -350,19 +365,21 @@ returns-in-Ok-clause-moves g c =
     let taken_so = took.taken in
     let worn = taken_so.worn in
     let between = set_aside t worn in
-    let known = known_aside places t worn c.requires.known taken_so.in_turn in
+    let known = known_aside places t worn c.requires.ready.known taken_so.in_turn in
     let within : u < length between.places.current =
-    omega (arith, c.requires.unit, units_aside t worn taken_so.in_turn) in
-    let next = c.write_unit.new.counter in
-    let used = length c.payloads-payloads.result.now in
+    omega (arith, c.requires.ready.unit, units_aside t worn taken_so.in_turn) in
+    let next = c.write_unit.new.parts.counter in
+    let used = length c.args.parts.now.scratch.packs.closed.items in
+    let moved_home = subst (λ (w : Parts). MovesHome c.args.unit c.in_ok-place.place c.draw-generation.result w
+    c.move_unit.new.parts) c.in-Ok.ensures.kept c.move_unit.ensures in
     let moved : IsMoved (with_next (taken between p) next) after u p used =
     taken_in t worn p next (λ (b : Tables). IsMoved b after u p used) c.take_place.new.directory
-    taken_so.places_is (c.move_unit.ensures.moved c.requires.known.overflows_apart) in
+    taken_so.places_is (moved_home.moved c.requires.ready.known.overflows_apart) in
     let more = more_free places between after.places u p known within taken_so.next.free
     c.directory_laws.ensures.takes
     (subst (λ (d : Places). ¬ IsFree d (slice_index d.current u)
     → free_count d.in_use + 1 ≤ free_count c.move_unit.new.parts.directory.in_use)
-    taken_so.places_is c.move_unit.ensures.free) in record {
+    taken_so.places_is moved_home.free) in record {
       leaves = record {
         holds = held_aside places t after worn taken_so.in_turn
             (held_moved c.known_laws.ensures.moves places between after u p used next known within
@@ -370,22 +387,22 @@ returns-in-Ok-clause-moves g c =
             (subst (λ (n : ℕ). NoneIsLostBut p n (with_next (with_places t c.take_place.new.directory) next)
             → NoneIsLost n after)
             (ap (λ (d : Places). length d.in_use) taken_so.places_is
-            ∙ length-set between.places.in_use p true ∙ known.suits.all) c.move_unit.ensures.lost
+            ∙ length-set between.places.in_use p true ∙ known.suits.all) moved_home.lost
             (subst (λ (d : Places). NoneIsLostBut p places (with_next (with_places t d) next))
             (sym taken_so.places_is) (taken_but between p next places known))));
         draws = (
-          omega (arith, c.draw-generation.ensures.next, wrote.serials.draws.0, c.move_unit.ensures.counter),
+          omega (arith, c.draw-generation.ensures.next, wrote.serials.draws.0, moved_home.counter),
           omega (
             arith,
             c.draw-generation.ensures.next,
             wrote.serials.draws.1,
-            c.move_unit.ensures.counter,
-            c.payloads-payloads.ensures.few,
+            moved_home.counter,
+            c.args.parts.now.scratch.packs.few,
           ),
         );
         spares = used_then t.places p old mid new (taken_was_free _ _ _ taken_so) took.spares wrote.spends.spares;
-        tidy = moves_tidily places t c.requires.known worn taken_so.in_turn p (Unit {0}) after u used next
-            (Ok tt) old new c.requires.unit c.facts.ensures.logs moved
+        tidy = moves_tidily places t c.requires.ready.known worn taken_so.in_turn p (Unit {0}) after u used next
+            (Ok tt) old new c.requires.ready.unit c.facts.ensures.logs moved
             (tidy_taken t.places p (241 + used) (IsUnitSpot used) true true old mid new
             (taken_was_free _ _ _ taken_so) (λ s above spot. omega (arith, above, spot)) took.tidy wrote.spends.tidy);
         accounts = record {
@@ -393,24 +410,24 @@ returns-in-Ok-clause-moves g c =
           cause = tt;
         };
       };
-      room = omega (arith, c.move_unit.ensures.room, c.payloads-payloads.ensures.few);
+      room = omega (arith, moved_home.room, c.args.parts.now.scratch.packs.few);
       free = omega (
         arith,
         more,
-        as_many_aside places t worn c.requires.known taken_so.in_turn,
-        ap (λ (l : List ℕ). length l) c.move_unit.ensures.retired,
+        as_many_aside places t worn c.requires.ready.known taken_so.in_turn,
+        ap (λ (l : List ℕ). length l) moved_home.retired,
         ap (λ (d : Places). length d.retired) taken_so.places_is,
       );
       drawn = omega (
         arith,
         wrote.serials.drawn,
         c.draw-generation.ensures.next,
-        c.move_unit.ensures.counter,
-        c.move_unit.ensures.room,
+        moved_home.counter,
+        moved_home.room,
       );
-      costs = for_unit t.places after.places p _ false old new c.move_unit.ensures.stands
+      costs = for_unit t.places after.places p _ false old new moved_home.stands
           (costs_of_filled t.places c.take_place.new.directory after.places p 2 true false old mid new
-          c.move_unit.ensures.retired refl took.costs wrote.spends.costs);
+          moved_home.retired refl took.costs wrote.spends.costs);
     }
 
 pub returns-in-Err-clause-moves : goal.returns-in-Err-clause-moves
@@ -427,22 +444,24 @@ returns-in-Err-clause-moves g c =
     let taken_so = took.taken in
     let worn = taken_so.worn in
     let between = set_aside t worn in
-    let next = c.write_unit.new.counter in
+    let next = c.write_unit.new.parts.counter in
     let then = c.give_back.new.self in
     let back : then ≡ with_erased between.places p =
-    back_is t p c.take_place.new.directory taken_so then c.give_back.ensures in
-    let is = ap (λ (d : Places). with_next (with_places t d) next) back in
-    let used = length c.payloads-payloads.result.now in
+    back_is t p c.take_place.new.directory taken_so then
+    (c.give_back.ensures ∙ ap (λ (w : Parts). with_use w.directory p false) c.in-Err.ensures.kept) in
+    let is = ap (λ (w : Parts). tables_of (record w { directory = c.give_back.new.self })) c.in-Err.ensures.kept
+    ∙ ap (λ (d : Places). with_next (with_places t d) next) back in
+    let used = length c.args.parts.now.scratch.packs.closed.items in
     let worn_out = tells_worn c.in-Err.fault in record {
       leaves = record {
         holds = held_aside places t _ worn taken_so.in_turn (held_back places between _ (erases_then between p) next is
-            (known_aside places t worn c.requires.known taken_so.in_turn));
+            (known_aside places t worn c.requires.ready.known taken_so.in_turn));
         draws = (
           omega (arith, c.draw-generation.ensures.next, wrote.serials.draws.0),
-          omega (arith, c.draw-generation.ensures.next, wrote.serials.draws.1, c.payloads-payloads.ensures.few),
+          omega (arith, c.draw-generation.ensures.next, wrote.serials.draws.1, c.args.parts.now.scratch.packs.few),
         );
         spares = tt;
-        tidy = gives_back_tidily places t c.requires.known worn taken_so.in_turn p (Unit {0}) _
+        tidy = gives_back_tidily places t c.requires.ready.known worn taken_so.in_turn p (Unit {0}) _
             (erases_then between p) (241 + used) next (Err c.in-Err.fault) old new is
             (tidy_taken t.places p (241 + used) (IsUnitSpot used) false false old mid new
             (taken_was_free _ _ _ taken_so) (λ s above spot. omega (arith, above, spot)) took.tidy wrote.spends.tidy);
@@ -459,13 +478,14 @@ returns-in-Err-clause-moves g c =
         arith,
         ap (λ (d : Places). free_count d.in_use) back,
         ap (λ (d : Places). length d.retired) back,
-        as_many_aside places t worn c.requires.known taken_so.in_turn,
+        as_many_aside places t worn c.requires.ready.known taken_so.in_turn,
       );
       drawn = tt;
       costs = for_nobody t.places then p _ worn_out old new
           (costs_of_filled t.places c.take_place.new.directory then p 2 false worn_out old mid new
-          (ap (λ (e : Places). e.retired) c.give_back.ensures)
-          (move_not_worn c.args.home.now.place c.in-Err.fault mid new wrote.spends.accounts.cause)
+          (ap (λ (e : Places). e.retired) c.give_back.ensures
+          ∙ ap (λ (w : Parts). w.directory.retired) c.in-Err.ensures.kept)
+          (move_not_worn c.args.parts.now.scratch.home.place c.in-Err.fault mid new wrote.spends.accounts.cause)
           took.costs wrote.spends.costs);
     }
 
@@ -506,8 +526,8 @@ returns-in_err-place-clause-fault g c = λ x told.
 pub returns-in_err-place-clause-few : goal.returns-in_err-place-clause-few
 returns-in_err-place-clause-few g c =
     packs_few c.args.parts.now.active c.args.parts.now.scratch.log
-    c.args.parts.now.scratch.packs.closed.items _ c.payloads-payloads.ensures.all c.requires.packed
-    c.payloads-payloads.ensures.few
+    c.args.parts.now.scratch.packs.closed.items _ refl c.requires.packed
+    c.args.parts.now.scratch.packs.few
 
 pub returns-in_err-place-clause-moves : goal.returns-in_err-place-clause-moves
 returns-in_err-place-clause-moves g c =
@@ -526,13 +546,13 @@ returns-in_err-place-clause-moves g c =
         holds = held_aside _ t _ aside.worn aside.in_turn (held_back _ (set_aside t aside.worn) _
             (set_aside t aside.worn).places.erases next
             (ap (λ (d : Places). with_next (with_places t d) next) aside.places_is)
-            (known_aside _ t aside.worn c.requires.known aside.in_turn));
+            (known_aside _ t aside.worn c.requires.ready.known aside.in_turn));
         draws = (
           omega (arith, c.draw-generation.ensures.next),
           omega (arith, c.draw-generation.ensures.next),
         );
         spares = tt;
-        tidy = untaken_tidily old.places t c.requires.known d aside (Unit {0}) _ next fault (Err fault) old new refl
+        tidy = untaken_tidily old.places t c.requires.ready.known d aside (Unit {0}) _ next fault (Err fault) old new refl
             took.tidy;
         accounts = record {
           counts = took.accounts.counts;
@@ -545,7 +565,7 @@ returns-in_err-place-clause-moves g c =
         arith,
         ap (λ (d : Places). free_count d.in_use) aside.places_is,
         ap (λ (d : Places). length d.retired) aside.places_is,
-        as_many_aside _ t aside.worn c.requires.known aside.in_turn,
+        as_many_aside _ t aside.worn c.requires.ready.known aside.in_turn,
       );
       drawn = tt;
       costs = for_untaken t.places d _ fault fault old new refl took.costs;

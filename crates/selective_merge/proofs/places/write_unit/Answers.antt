@@ -1,14 +1,16 @@
-use Rattle.std.proofs.Common.{ℕ, length, Ok, Err, OnOk, ◌∙◌, ap, arith, subst}
+use Rattle.std.proofs.Common.{ℕ, length, slice_index, Ok, Err, OnOk, ◌∙◌, ap, arith, subst, sym}
 use Rattle.std.proofs.lemmas.Result.{err_from_is_err_and}
 use Rattle.std.specs.Prelude.{is_ok}
 use Rattle.chip_trait.proofs.CountsLemmas.{counts_then}
 use Rattle.place_taking.proofs.JoinLemmas.{fills_at_most, fills_programs, fills_then}
-use Rattle.selective_merge.specs.Homes.{from_home}
+use Rattle.selective_merge.specs.Moving.{source_read}
 use Rattle.sector_format.specs.declared.sector.Head.{Head}
 use Rattle.unit_io.specs.Charts.{Charts}
-use Rattle.selective_merge.specs.Writing.{FillsPlace, GainsUnit, IsSealed, SealsUnit}
+use Rattle.selective_merge.specs.Throughout.{ChartsThroughout}
+use Rattle.selective_merge.specs.Writing.{FillsPlace, GainsUnit, IsSealed, SealsUnit, TellsWritten}
 use Rattle.selective_merge.proofs.SealLemmas.{unit_written, written_told, fill_failed}
 use Rattle.merge_laws.specs.Faults.{pages_fault}
+use Rattle.merge_laws.specs.Moved.{IsAside}
 use Rattle.merge_laws.proofs.FaultLemmas.{fault_as, tells_written}
 use Rattle.unit_io.proofs.SparesLemmas.{spares_behind}
 use Rattle.selective_merge.proofs.PlaceLemmas.{stopped_unmoved, where_done}
@@ -18,10 +20,10 @@ use Rattle.selective_merge.proofs.places.write_unit.Goals as goal
 pub returns-in_err-pieces-clause-writes : goal.returns-in_err-pieces-clause-writes
 returns-in_err-pieces-clause-writes g c = λ m it t u h steady rests clean all what.
     let old = g.C.Chip.told c.args.chip.now in
-    let from = from_home c.args.home.now c.args.status.now.numbers c.args.log.now in
+    let from = source_read c.args.parts.now in
     let e = err_from_is_err_and c.from_residual.result c.from_residual.ensures.1 in
-    rw e.1 (fill_failed old.places c.args.place c.args.generation c.args.counter.now from
-    c.args.payloads.now m it t u h old (g.C.Chip.told c.fill.new.chip) c.in_err-pieces.field-0.0
+    rw e.1 (fill_failed old.places c.args.place c.args.generation c.args.parts.now.counter from
+    c.args.parts.now.scratch.packs.closed.items m it t u h old (g.C.Chip.told c.fill.new.chip) c.in_err-pieces.field-0.0
     e.0 (c.in_err-pieces.ensures.fills m h steady rests clean))
 
 pub returns-clause-writes : goal.returns-clause-writes
@@ -29,21 +31,23 @@ returns-clause-writes g c = λ m it t u h steady rests clean all what.
     let old = g.C.Chip.told c.args.chip.now in
     let mid = g.C.Chip.told c.fill.new.chip in
     let new = g.C.Chip.told c.seal_unit.new.chip in
-    let from = from_home c.args.home.now c.args.status.now.numbers c.args.log.now in
+    let from = source_read c.args.parts.now in
     let pieces = c.in_ok-pieces.pieces in
     let filled = c.in_ok-pieces.ensures in
     let fills = subst (λ (w : Head). FillsPlace old.places from c.args.place w.generation
-    c.args.counter.now c.args.payloads.now old (Ok pieces) mid) c.written-head.ensures
+    c.args.parts.now.counter c.args.parts.now.scratch.packs.closed.items old (Ok pieces) mid) c.written-head.ensures
     filled.fills in
-    let seals = subst (λ (w : Head). SealsUnit mid.places c.args.place c.args.units c.args.erases w.unit
-    w.generation pieces c.count_of-carried.result mid c.seal_unit.result new)
+    let seals = subst (λ (w : Head). SealsUnit mid.places c.args.place c.units.result c.erases.result w.unit
+    w.generation pieces c.count.result mid c.seal_unit.result new)
     c.written-head.ensures c.seal_unit.ensures.seals in
-    unit_written old.places c.args.units c.args.erases c.args.place c.args.generation c.args.counter.now
-    c.count_of-carried.result from c.args.payloads.now pieces filled.few
-    c.count_of-carried.ensures m it t u h old mid new c.seal_unit.result all what rests clean
+    unit_written old.places c.units.result c.erases.result c.args.place c.args.generation c.args.parts.now.counter
+    c.count.result from c.args.parts.now.scratch.packs.closed.items pieces filled.few
+    c.count.ensures m it t u h old mid new c.seal_unit.result
+    (record { units_are = all.units_are ∙ sym c.units.ensures; erases_are = all.erases_are ∙ sym c.erases.ensures })
+    what rests clean
     filled.spends.accounts.counts (fills m h steady rests clean)
-    (subst (λ (q : ℕ). SealsUnit q c.args.place c.args.units c.args.erases from.unit c.args.generation pieces
-    c.count_of-carried.result mid c.seal_unit.result new) filled.spends.accounts.counts.places seals)
+    (subst (λ (q : ℕ). SealsUnit q c.args.place c.units.result c.erases.result from.unit c.args.generation pieces
+    c.count.result mid c.seal_unit.result new) filled.spends.accounts.counts.places seals)
     c.seal_unit.ensures.spends.accounts.cause
 
 pub returns-clause-tells : goal.returns-clause-tells
@@ -51,18 +55,23 @@ returns-clause-tells g c =
     let old = g.C.Chip.told c.args.chip.now in
     let mid = g.C.Chip.told c.fill.new.chip in
     let new = g.C.Chip.told c.seal_unit.new.chip in
-    let from = from_home c.args.home.now c.args.status.now.numbers c.args.log.now in
+    let from = source_read c.args.parts.now in
     let pieces = c.in_ok-pieces.pieces in
     let filled = c.in_ok-pieces.ensures in
-    written_told old.places c.args.units c.args.erases c.args.place c.args.generation c.args.counter.now
-    c.count_of-carried.result from c.args.payloads.now pieces filled.few
-    c.count_of-carried.ensures old mid new c.seal_unit.result
-    (subst (λ (w : Head). Charts (GainsUnit from c.args.place w.generation c.args.counter.now pieces
-    c.args.payloads.now) old mid) c.written-head.ensures filled.tells)
-    (subst (λ (w : Head). OnOk c.seal_unit.result (Charts (IsSealed c.args.place c.args.units c.args.erases w.unit
-    w.generation pieces c.count_of-carried.result) mid new)) c.written-head.ensures
+    let written = λ (n k : ℕ). ChartsThroughout (λ done. TellsWritten old.places n k from c.args.place
+    c.args.generation c.args.parts.now.counter c.args.parts.now.scratch.packs.closed.items) (IsAside c.args.place)
+    c.seal_unit.result old new in
+    subst (λ (n : ℕ). written n (slice_index c.args.parts.now.directory.erases c.args.place)) c.units.ensures
+    (subst (written c.units.result) c.erases.ensures
+    (written_told old.places c.units.result c.erases.result c.args.place c.args.generation c.args.parts.now.counter
+    c.count.result from c.args.parts.now.scratch.packs.closed.items pieces filled.few
+    c.count.ensures old mid new c.seal_unit.result
+    (subst (λ (w : Head). Charts (GainsUnit from c.args.place w.generation c.args.parts.now.counter pieces
+    c.args.parts.now.scratch.packs.closed.items) old mid) c.written-head.ensures filled.tells)
+    (subst (λ (w : Head). OnOk c.seal_unit.result (Charts (IsSealed c.args.place c.units.result c.erases.result w.unit
+    w.generation pieces c.count.result) mid new)) c.written-head.ensures
     c.seal_unit.ensures.tells)
-    c.seal_unit.ensures.spends.accounts.cause
+    c.seal_unit.ensures.spends.accounts.cause))
 
 pub returns-in_err-pieces-clause-fault : goal.returns-in_err-pieces-clause-fault
 returns-in_err-pieces-clause-fault g c = λ x told.
@@ -71,7 +80,7 @@ returns-in_err-pieces-clause-fault g c = λ x told.
 
 pub returns-clause-fault : goal.returns-clause-fault
 returns-clause-fault g c = λ x told.
-    let from = from_home c.args.home.now c.args.status.now.numbers c.args.log.now in
+    let from = source_read c.args.parts.now in
     tells_written (pages_fault x from) (g.C.Chip.told c.fill.new.chip)
     (g.C.Chip.told c.seal_unit.new.chip) c.seal_unit.result (c.in_ok-pieces.ensures.fault x told)
     c.seal_unit.ensures.spends.accounts.cause
@@ -86,7 +95,7 @@ returns-in_err-pieces-clause-spends g c =
     rw (e.1 ∙ ap Err e.2) (record {
       spares = tt;
       costs = fills_at_most p 0 2 old new (omega arith) says.costs;
-      tidy = tidy_unsealed p (length c.args.payloads.now) old new says.tidy;
+      tidy = tidy_unsealed p (length c.args.parts.now.scratch.packs.closed.items) old new says.tidy;
       accounts = record { counts = says.accounts.counts; cause = says.accounts.cause };
     })
 
@@ -101,10 +110,10 @@ returns-clause-spends g c =
     let sealed = c.seal_unit.ensures.spends in record {
       spares = spares_behind p old mid new result filled.spares sealed.spares;
       costs = fills_then p 0 2 old mid new filled.costs (fills_programs p 1 2 1 mid new sealed.costs);
-      tidy = tidy_sealed p (length c.args.payloads.now) (is_ok result) old mid new filled.tidy sealed.tidy;
+      tidy = tidy_sealed p (length c.args.parts.now.scratch.packs.closed.items) (is_ok result) old mid new filled.tidy sealed.tidy;
       accounts = record {
         counts = counts_then old mid new filled.accounts.counts sealed.accounts.counts;
-        cause = stopped_unmoved c.args.home.now.place result old mid new filled.accounts.counts
+        cause = stopped_unmoved c.args.parts.now.scratch.home.place result old mid new filled.accounts.counts
             sealed.accounts.cause;
       };
     }

@@ -1,102 +1,58 @@
 use Rattle.std.proofs.Common.{inr}
+use Rattle.ipl_meaning.specs.Chart.{Chart}
+use Rattle.ipl_meaning.specs.Layout.{Layout}
+use Rattle.ipl_meaning.specs.Mirrors.{Mirrors}
+use Rattle.unit_io.specs.ReadsAt.{Anywhere}
+use Rattle.unit_io.proofs.ReadsAtLemmas.{at_none}
 use Rattle.selective_merge.specs.Moving.{tables_of}
-use Rattle.selective_merge.specs.Placing.{IsElsewhere}
+use Rattle.selective_merge.specs.Placing.{IsElsewhere, IsMergedSpot}
 use Rattle.selective_merge.proofs.PlacingLemmas.{new_spot, elsewhere_clean, elsewhere_opened, elsewhere_merged}
 use Rattle.selective_merge.proofs.LeavingLemmas.{finds_opened, finds_there}
-use Rattle.selective_merge.proofs.RoomLemmas.{if_ok, makes_none, told_none, makes_by_merge, told_by_merge, makes_by_opening, told_by_opening}
+use Rattle.selective_merge.proofs.RoomLemmas.{all_ok, if_ok, makes_none, told_none, makes_by_opening, places_behind, told_by_opening}
 use Rattle.selective_merge.proofs.TakenLemmas.{opened_alone}
 use Rattle.selective_merge.proofs.placing.elsewhere.Goals as goal
 
-pub returns-in-Clean-clause-steps : goal.returns-in-Clean-clause-steps
-returns-in-Clean-clause-steps g c =
+pub returns-in-Clean : goal.returns-in-Clean
+returns-in-Clean g c =
     let told = g.C.Chip.told c.args.chip.now in
     let t = tables_of c.args.parts.now in
     let spot = c.in-Clean.spot in
-    makes_none IsElsewhere told.places c.args.unit t spot told
-    (λ x it mirrors. elsewhere_clean told.places x it t c.args.unit spot.place spot.sector
-    c.in-Clean.ensures mirrors)
+    let clean = λ (x : Chart) (it : Layout) (mirrors : Mirrors told.places x it t). elsewhere_clean told.places x it t c.args.unit spot.place spot.sector
+    c.in-Clean.ensures mirrors in record {
+      tells = told_none IsElsewhere told.places c.args.unit t spot told clean;
+      steps = makes_none IsElsewhere told.places c.args.unit t spot told clean;
+      fault = λ x told it mirrors. tt;
+      spot = inr c.in-Clean.ensures.0;
+      finds = finds_there c.args.unit t spot told c.requires.ready.known;
+    }
 
-pub returns-in-Clean-clause-tells : goal.returns-in-Clean-clause-tells
-returns-in-Clean-clause-tells g c =
-    let told = g.C.Chip.told c.args.chip.now in
-    let t = tables_of c.args.parts.now in
-    let spot = c.in-Clean.spot in
-    told_none IsElsewhere told.places c.args.unit t spot told
-    (λ x it mirrors. elsewhere_clean told.places x it t c.args.unit spot.place spot.sector
-    c.in-Clean.ensures mirrors)
-
-pub returns-in-NewPlace-clause-steps : goal.returns-in-NewPlace-clause-steps
-returns-in-NewPlace-clause-steps g c =
+pub returns-in-NewPlace : goal.returns-in-NewPlace
+returns-in-NewPlace g c =
     let old = g.C.Chip.told c.args.chip.now in
+    let new = g.C.Chip.told c.open_overflow.new.chip in
     let t = tables_of c.args.parts.now in
     let after = tables_of c.open_overflow.new.parts in
-    makes_by_opening IsElsewhere old.places c.args.unit t after old
-    (g.C.Chip.told c.open_overflow.new.chip) c.open_overflow.result c.open_overflow.ensures.steps
-    (if_ok _ _ c.open_overflow.result
-    (λ spot opened x y it mirrors keeps says. elsewhere_opened old.places x y it t after c.args.unit
-    spot.place spot.sector _ c.in-NewPlace.ensures opened mirrors keeps says)
-    c.open_overflow.ensures.opened)
+    let u = c.args.unit in
+    let opens = c.open_overflow.ensures in
+    let result = c.open_overflow.result in
+    let there = if_ok _ _ result
+    (λ spot opened x y it mirrors keeps says. elsewhere_opened old.places x y it t after u spot.place spot.sector _
+    c.in-NewPlace.ensures opened mirrors keeps says) opens.opened in record {
+      tells = told_by_opening IsElsewhere old.places u t after old new result opens.tells there;
+      steps = makes_by_opening IsElsewhere old.places u t after old new result opens.steps there;
+      fault = λ x told it mirrors. opened_alone _ c.open_overflow.new.parts.directory old new result
+          opens.leaves.accounts.cause;
+      spot = if_ok _ _ result (λ spot opened. inr (new_spot t after u spot.place spot.sector _
+          c.in-NewPlace.ensures.0 opened.0 opened.1)) opens.opened;
+      finds = finds_opened u t after result old new opens.leaves opens.costs;
+    }
 
-pub returns-in-NewPlace-clause-tells : goal.returns-in-NewPlace-clause-tells
-returns-in-NewPlace-clause-tells g c =
-    let old = g.C.Chip.told c.args.chip.now in
-    let t = tables_of c.args.parts.now in
-    let after = tables_of c.open_overflow.new.parts in
-    told_by_opening IsElsewhere old.places c.args.unit t after old
-    (g.C.Chip.told c.open_overflow.new.chip) c.open_overflow.result c.open_overflow.ensures.tells
-    (if_ok _ _ c.open_overflow.result
-    (λ spot opened x y it mirrors keeps says. elsewhere_opened old.places x y it t after c.args.unit
-    spot.place spot.sector _ c.in-NewPlace.ensures opened mirrors keeps says)
-    c.open_overflow.ensures.opened)
-
-pub returns-in-NewPlace-clause-spot : goal.returns-in-NewPlace-clause-spot
-returns-in-NewPlace-clause-spot g c =
-    let t = tables_of c.args.parts.now in
-    let after = tables_of c.open_overflow.new.parts in
-    if_ok _ _ c.open_overflow.result
-    (λ spot opened. inr (new_spot t after c.args.unit spot.place spot.sector _
-    c.in-NewPlace.ensures.0 opened.0 opened.1)) c.open_overflow.ensures.opened
-
-pub returns-in-Nothing-clause-steps : goal.returns-in-Nothing-clause-steps
-returns-in-Nothing-clause-steps g c =
+pub returns-in-Nothing : goal.returns-in-Nothing
+returns-in-Nothing g c =
     let old = g.C.Chip.told c.args.chip.now in
     let t = tables_of c.args.parts.now in
     let after = tables_of c.merged_spot.new.parts in
-    makes_by_merge IsElsewhere old.places c.args.unit t after old
-    (g.C.Chip.told c.merged_spot.new.chip) c.merged_spot.result c.merged_spot.ensures.steps
-    (if_ok _ _ c.merged_spot.result
-    (λ spot home x y it merged. elsewhere_merged old.places x y it t after c.args.unit
-    spot.place spot.sector c.in-Nothing.ensures home merged) c.merged_spot.ensures.spot)
-
-pub returns-in-Nothing-clause-tells : goal.returns-in-Nothing-clause-tells
-returns-in-Nothing-clause-tells g c =
-    let old = g.C.Chip.told c.args.chip.now in
-    let t = tables_of c.args.parts.now in
-    let after = tables_of c.merged_spot.new.parts in
-    told_by_merge IsElsewhere old.places c.args.unit t after old
-    (g.C.Chip.told c.merged_spot.new.chip) c.merged_spot.result c.merged_spot.ensures.tells
-    (if_ok _ _ c.merged_spot.result
-    (λ spot home x y it merged. elsewhere_merged old.places x y it t after c.args.unit
-    spot.place spot.sector c.in-Nothing.ensures home merged) c.merged_spot.ensures.spot)
-
-pub returns-in-NewPlace-clause-fault : goal.returns-in-NewPlace-clause-fault
-returns-in-NewPlace-clause-fault g c = λ x told it mirrors.
-    opened_alone _ c.open_overflow.new.parts.directory (g.C.Chip.told c.args.chip.now)
-    (g.C.Chip.told c.open_overflow.new.chip) c.open_overflow.result c.open_overflow.ensures.leaves.accounts.cause
-
-pub returns-in-Nothing-clause-fault : goal.returns-in-Nothing-clause-fault
-returns-in-Nothing-clause-fault g c = c.merged_spot.ensures.fault
-
-pub returns-in-Clean-clause-finds : goal.returns-in-Clean-clause-finds
-returns-in-Clean-clause-finds g c =
-    finds_there c.args.unit (tables_of c.args.parts.now) c.in-Clean.spot (g.C.Chip.told c.args.chip.now)
-    c.requires.known
-
-pub returns-in-NewPlace-clause-finds : goal.returns-in-NewPlace-clause-finds
-returns-in-NewPlace-clause-finds g c =
-    finds_opened c.args.unit (tables_of c.args.parts.now) (tables_of c.open_overflow.new.parts)
-    c.open_overflow.result (g.C.Chip.told c.args.chip.now) (g.C.Chip.told c.open_overflow.new.chip)
-    c.open_overflow.ensures.leaves c.open_overflow.ensures.costs
-
-pub returns-in-Nothing-clause-finds : goal.returns-in-Nothing-clause-finds
-returns-in-Nothing-clause-finds g c = c.merged_spot.ensures.finds
+    places_behind IsMergedSpot IsElsewhere Anywhere c.args.unit t after old old
+    (g.C.Chip.told c.merged_spot.new.chip) (at_none Anywhere old) c.merged_spot.result
+    (all_ok _ c.merged_spot.result (λ spot x y it told mirrors is. elsewhere_merged old.places _ y it t after
+    c.args.unit spot.place spot.sector c.in-Nothing.ensures is.spot is.merged)) c.merged_spot.ensures
