@@ -23,23 +23,23 @@ use Rattle.page_frames.proofs.records.write_records.Goals as goal
 
 pub write_log-requires-clause-may : goal.write_log-requires-clause-may
 write_log-requires-clause-may g c =
-    let leaves = c.in_ok-at.ensures.finds.leaves in
+    let leaves = c.in_ok-at.ensures.room.finds.leaves in
     record {
       known = subst (λ (n : ℕ). KnowsPlaces n (tables_of c.log_place.new.parts))
           (sym leaves.accounts.counts.places) leaves.holds.known;
       unit = omega (arith, c.requires.unit, leaves.holds.units);
-      spot = c.in_ok-at.ensures.spot;
+      spot = c.in_ok-at.ensures.room.spot;
     }
 
 pub write_log-requires-clause-left : goal.write_log-requires-clause-left
-write_log-requires-clause-left g c = omega (arith, c.requires.left, c.in_ok-at.ensures.finds.leaves.draws.1)
+write_log-requires-clause-left g c = omega (arith, c.requires.left, c.in_ok-at.ensures.room.finds.leaves.draws.1)
 
 -- ---- no room was found
 
 pub returns-in_err-at-clause-tells : goal.returns-in_err-at-clause-tells
 returns-in_err-at-clause-tells g c =
     let e = err_from_is_err_and c.from_residual.result c.from_residual.ensures.1 in
-    let says = c.in_err-at.ensures in
+    let says = c.in_err-at.ensures.room in
     let leaves = says.finds.leaves in
     let old = g.C.Chip.told c.args.chip.now in
     rw e.1 (λ soft. unplaced_told old.places c.args.unit (tables_of c.args.parts.now)
@@ -49,7 +49,7 @@ returns-in_err-at-clause-tells g c =
 pub returns-in_err-at-clause-steps : goal.returns-in_err-at-clause-steps
 returns-in_err-at-clause-steps g c =
     let e = err_from_is_err_and c.from_residual.result c.from_residual.ensures.1 in
-    let says = c.in_err-at.ensures in
+    let says = c.in_err-at.ensures.room in
     let leaves = says.finds.leaves in
     let old = g.C.Chip.told c.args.chip.now in
     rw (e.1, e.2) (λ m it records h steady rests agrees payload_of.
@@ -62,7 +62,7 @@ pub returns-in_err-at-clause-fails : goal.returns-in_err-at-clause-fails
 returns-in_err-at-clause-fails g c =
     let e = err_from_is_err_and c.from_residual.result c.from_residual.ensures.1 in
     let fault = c.in_err-at.field-0.0 in
-    let says = c.in_err-at.ensures in
+    let says = c.in_err-at.ensures.room in
     let old = g.C.Chip.told c.args.chip.now in
     let t = tables_of c.args.parts.now in
     let after = tables_of c.log_place.new.parts in
@@ -74,7 +74,7 @@ pub returns-in_err-at-clause-leaves : goal.returns-in_err-at-clause-leaves
 returns-in_err-at-clause-leaves g c =
     let e = err_from_is_err_and c.from_residual.result c.from_residual.ensures.1 in
     let old = g.C.Chip.told c.args.chip.now in
-    let finds = c.in_err-at.ensures.finds in
+    let finds = c.in_err-at.ensures.room.finds in
     let leaves = finds.leaves in
     let draws = leaves.draws in
     rw (e.1, e.2) (record {
@@ -95,7 +95,7 @@ returns-in_err-at-clause-costs g c =
     c.args.unit (g.C.Chip.told c.args.chip.now) (g.C.Chip.told c.log_place.new.chip)
     (room_costs _ (tells_worn c.in_err-at.field-0.0) (tables_of c.args.parts.now) (tables_of c.log_place.new.parts) c.args.unit
     (g.C.Chip.told c.args.chip.now) (g.C.Chip.told c.log_place.new.chip)
-    c.in_err-at.ensures.home c.in_err-at.ensures.finds.costs))
+    c.in_err-at.ensures.home c.in_err-at.ensures.room.finds.costs))
 
 -- ---- the sector wasn't written
 
@@ -118,7 +118,7 @@ returns-in_err-write_log-clause-steps g c =
     let between = tables_of c.log_place.new.parts in
     let after = tables_of c.write_log.new.parts in
     let at = c.in_ok-at.at in
-    let found = c.in_ok-at.ensures in
+    let found = c.in_ok-at.ensures.room in
     let leaves = found.finds.leaves in
     rw (e.1, e.2) (out_steps old.places c.args.unit at c.args.payload.now
     (tables_of c.args.parts.now) between after old mid new (Err c.in_err-write_log.field-0.0)
@@ -149,7 +149,7 @@ returns-in_err-write_log-clause-leaves g c =
     let after = tables_of c.write_log.new.parts in
     let fault = c.in_err-write_log.field-0.0 in
     let failed : Result (Unit {0}) ChipFault = Err fault in
-    let finds = c.in_ok-at.ensures.finds in
+    let finds = c.in_ok-at.ensures.room.finds in
     let found = finds.leaves in
     let counts = found.accounts.counts in
     let then = c.in_err-write_log.ensures.leaves in
@@ -181,7 +181,7 @@ returns-in_err-write_log-clause-costs g c =
     (g.C.Chip.told c.write_log.new.chip) (ap tells_worn (e.2 ∙ says.leaves.accounts.cause.0))
     (room_costs _ false (tables_of c.args.parts.now) (tables_of c.log_place.new.parts) c.args.unit
     (g.C.Chip.told c.args.chip.now) (g.C.Chip.told c.log_place.new.chip)
-    c.in_ok-at.ensures.home c.in_ok-at.ensures.finds.costs) says.uses.costs says.uses.uses)
+    c.in_ok-at.ensures.home c.in_ok-at.ensures.room.finds.costs) says.uses.costs says.uses.uses)
 
 -- ---- done
 
@@ -193,7 +193,7 @@ returns-clause-tells g c =
     let between = tables_of c.log_place.new.parts in
     let after = tables_of c.write_log.new.parts in
     let at = c.in_ok-at.at in
-    let found = c.in_ok-at.ensures in
+    let found = c.in_ok-at.ensures.room in
     let leaves = found.finds.leaves in
     out_told old.places c.args.unit at c.args.payload.now (tables_of c.args.parts.now) between after
     old mid new
@@ -210,7 +210,7 @@ returns-clause-steps g c =
     let between = tables_of c.log_place.new.parts in
     let after = tables_of c.write_log.new.parts in
     let at = c.in_ok-at.at in
-    let found = c.in_ok-at.ensures in
+    let found = c.in_ok-at.ensures.room in
     let leaves = found.finds.leaves in
     out_steps old.places c.args.unit at c.args.payload.now (tables_of c.args.parts.now) between
     after old mid new (Ok tt) leaves.accounts.counts
@@ -235,7 +235,7 @@ returns-clause-leaves g c =
     let between = tables_of c.log_place.new.parts in
     let after = tables_of c.write_log.new.parts in
     let done : Result (Unit {0}) ChipFault = Ok tt in
-    let finds = c.in_ok-at.ensures.finds in
+    let finds = c.in_ok-at.ensures.room.finds in
     let found = finds.leaves in
     let counts = found.accounts.counts in
     let then = c.in_ok-write_log.ensures.leaves in
@@ -261,4 +261,4 @@ returns-clause-costs g c =
     (g.C.Chip.told c.write_log.new.chip) refl
     (room_costs _ false (tables_of c.args.parts.now) (tables_of c.log_place.new.parts) c.args.unit
     (g.C.Chip.told c.args.chip.now) (g.C.Chip.told c.log_place.new.chip)
-    c.in_ok-at.ensures.home c.in_ok-at.ensures.finds.costs) says.uses.costs says.uses.uses
+    c.in_ok-at.ensures.home c.in_ok-at.ensures.room.finds.costs) says.uses.costs says.uses.uses
