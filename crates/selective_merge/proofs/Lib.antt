@@ -25,5 +25,5 @@ mod FewLemmas
 mod UnitMergeLemmas
 pub mod TidyLemmas
 pub mod CompleteLemmas
-pub mod MaskedLemmas
+pub mod PackedMaskLemmas
 pub mod LearntLemmas

@@ -38,7 +38,7 @@ use Rattle.merge_laws.proofs.MergeLemmas.{tables_follow_filling}
 use Rattle.merge_laws.proofs.MaskedLemmas.{packs_are_told}
 use Rattle.merge_laws.proofs.PacksLemmas.{packs_all, all_records}
 use Rattle.selective_merge.specs.Packing.{masks_of_payloads}
-use Rattle.selective_merge.proofs.MaskedLemmas.{packs_masks}
+use Rattle.selective_merge.proofs.PackedMaskLemmas.{packs_masks}
 use Rattle.selective_merge.specs.Merging.{StepsMerging}
 use Rattle.selective_merge.specs.Moving.{TellsUnit, set_aside}
 use Rattle.selective_merge.specs.Throughout.{KeepsThroughout}

@@ -19,7 +19,7 @@ use chip_trait::Chip;
 use ipl_base::ChipFault;
 use merge_laws::known_laws;
 use place_taking::take_place;
-use unit_directory::{aside_laws, directory_laws};
+use unit_directory::directory_laws;
 
 /// Merges a unit that was read, and of which what is carried was packed.
 fn merge_packed<C: Chip>(chip: &mut C, parts: &mut Parts, unit: u32) -> Result<(), ChipFault>
@@ -42,7 +42,6 @@ fn merge_packed<C: Chip>(chip: &mut C, parts: &mut Parts, unit: u32) -> Result<(
 {
     known_laws();
     directory_laws();
-    aside_laws();
     parts.directory.facts();
     let generation = parts.counter.draw();
     let place = take_place(chip, &mut parts.directory)?;

@@ -5,7 +5,7 @@ use Rattle.overflow.specs.Lists.{spots_in}
 use Rattle.unit_log.specs.Looks.{IsLogRead}
 use Rattle.selective_merge.specs.Merging.{MergesUnit}
 use Rattle.selective_merge.specs.Moving.{tables_of}
-use Rattle.selective_merge.proofs.LearntLemmas.{learnt_behind, ready_behind}
+use Rattle.selective_merge.proofs.LearntLemmas.{learnt_behind}
 use Rattle.selective_merge.proofs.UnitMergeLemmas.{merged_unlearnt, merges_behind}
 use Rattle.selective_merge.proofs.merging.merge.Goals as goal
 
@@ -34,12 +34,6 @@ returns g c =
     c.args.unit t after c.merge_learnt.result old mid new read.looks.reads
     (subst (λ (s : Tables). MergesUnit c.args.unit s after c.merge_learnt.result mid new) read.same
     c.merge_learnt.ensures)
-
-pub merge_learnt-requires-clause-ready : goal.merge_learnt-requires-clause-ready
-merge_learnt-requires-clause-ready g c =
-    let read = c.in_ok-learn.ensures in
-    ready_behind c.args.unit (tables_of c.args.parts.now) (tables_of c.learn.new.parts) _ _
-    read.looks.reads.counts.places read.same c.requires
 
 pub merge_learnt-requires-clause-learnt : goal.merge_learnt-requires-clause-learnt
 merge_learnt-requires-clause-learnt g c =

@@ -13,6 +13,3 @@ returns g c =
     merged_by c.args.unit (tables_of c.args.parts.now) c.args.parts.now.scratch.home c.args.parts.now.scratch.log
     (g.C.Chip.told c.args.chip.now) c.requires.learnt (tables_of c.merge_packed.new.parts) c.merge_packed.result
     (g.C.Chip.told c.merge_packed.new.chip) did.steps did.tells did.fault did.few did.moves
-
-pub merge_packed-requires-clause-stands : goal.merge_packed-requires-clause-stands
-merge_packed-requires-clause-stands g c = c.requires.learnt.stands

@@ -98,17 +98,6 @@ write_unit-requires-clause-may g c =
           c.requires.ready.unit stands.place (taken_was_free _ _ _ taken_so);
     }
 
-pub write_unit-requires-clause-taken : goal.write_unit-requires-clause-taken
-write_unit-requires-clause-taken g c =
-    let taken = c.in_ok-place.ensures.taken in
-    let between = set_aside (tables_of c.args.parts.now) taken.worn in
-    omega (
-      arith,
-      taken.next.within,
-      ap (λ (d : Places). length d.in_use) taken.places_is,
-      length-set between.places.in_use c.in_ok-place.place true,
-    )
-
 pub move_unit-requires : goal.move_unit-requires
 move_unit-requires g c =
     let t = tables_of c.args.parts.now in
@@ -119,7 +108,8 @@ move_unit-requires g c =
     let current = ap (λ (d : Places). length d.current) taken.places_is in
     let in_use = ap (λ (d : Places). length d.in_use) taken.places_is in
     let all = length-set between.places.in_use c.in_ok-place.place true in
-    subst (λ (w : Parts). MayTakeHome c.args.unit c.in_ok-place.place (tables_of w)) (sym c.in-Ok.ensures.kept) (record {
+    subst (λ (w : Parts). MayTakeHome c.args.unit c.in_ok-place.place (tables_of w))
+    (sym c.in-Ok.ensures.kept) (record {
       overflow = omega (arith, c.requires.ready.known.suits.overflow, units, current);
       sized = omega (arith, known.suits.sized, known.suits.all, in_use, all);
       unit = omega (arith, c.requires.ready.unit, units, current);
@@ -143,10 +133,13 @@ returns-in-Ok-clause-steps g c = λ m it h steady rests agrees source.
     let drawn = c.draw-generation.result in
     let serial = c.draw-generation.new.self in
     let next = c.write_unit.new.parts.counter in
+    let d = c.take_place.new.directory in
+    let units = length d.current in
+    let erases = slice_index d.erases p in
     let payloads = c.args.parts.now.scratch.packs.closed.items in
     let from = source_read c.args.parts.now in
     let what = to_merge places (now h) it between u p drawn serial from payloads
-    c.args.parts.now.scratch.packs.closed.items c.args.parts.now.active
+    payloads c.args.parts.now.active
     c.args.parts.now.scratch.log (aside_mirrors places (now h) it t worn agrees.mirrors taken_so.in_turn)
     (omega (arith, c.requires.ready.unit, units_aside t worn taken_so.in_turn)) taken_so.next.free
     (omega (arith, taken_within _ _ _ taken_so, c.requires.ready.known.suits.all)) source
@@ -169,24 +162,26 @@ returns-in-Ok-clause-steps g c = λ m it h steady rests agrees source.
       c.draw-generation.ensures.next,
       c.in-Ok.ensures.serials.draws.0,
     )) moved)
-    (tells_packs places (now h) it between _ after u p drawn serial from payloads (masks_of_payloads 15 c.args.parts.now.scratch.packs.closed.items) what
-    refl moved_home.told taken_so.places_is refl)
+    (tells_packs places (now h) it between _ after u p drawn serial from payloads
+    (masks_of_payloads 15 payloads) what refl moved_home.told taken_so.places_is refl)
     (omega (arith, c.in-Ok.ensures.serials.drawn, moved_home.counter))
-    (unit_joined (length c.take_place.new.directory.current) (slice_index c.take_place.new.directory.erases c.in_ok-place.place) it t between c.take_place.new.directory u p
-    drawn serial from payloads
-    (has_counts between c.take_place.new.directory p (length c.take_place.new.directory.current) (slice_index c.take_place.new.directory.erases c.in_ok-place.place)
-    taken_so.places_is (ap (λ (d : Places). length d.current) taken_so.places_is)
-    refl) m h old (g.C.Chip.told c.take_place.new.chip)
+    (unit_joined units erases it t between d u p drawn serial from payloads
+    (has_counts between d p units erases taken_so.places_is
+    (ap (λ (d : Places). length d.current) taken_so.places_is) refl) m h old (g.C.Chip.told c.take_place.new.chip)
     (g.C.Chip.told c.write_unit.new.chip) (taken_was_free _ _ _ taken_so) steady
     (record { rests = rests; agrees = agrees }) c.in_ok-place.ensures.takes
     c.in_ok-place.ensures.accounts.counts what (Ok tt) c.in-Ok.ensures.writes)
 
 pub returns-in-Ok-clause-tells : goal.returns-in-Ok-clause-tells
 returns-in-Ok-clause-tells g c = λ x told.
+    let d = c.take_place.new.directory in
+    let units = length d.current in
+    let erases = slice_index d.erases c.in_ok-place.place in
+    let payloads = c.args.parts.now.scratch.packs.closed.items in
     let (y, told_y, written) =
     written_told (g.C.Chip.told c.args.chip.now) (g.C.Chip.told c.take_place.new.chip)
-    (g.C.Chip.told c.write_unit.new.chip) (length c.take_place.new.directory.current) (slice_index c.take_place.new.directory.erases c.in_ok-place.place) c.in_ok-place.place
-    c.draw-generation.result c.draw-generation.new.self (source_read c.args.parts.now) c.args.parts.now.scratch.packs.closed.items (Ok tt)
+    (g.C.Chip.told c.write_unit.new.chip) units erases c.in_ok-place.place
+    c.draw-generation.result c.draw-generation.new.self (source_read c.args.parts.now) payloads (Ok tt)
     c.in_ok-place.ensures.accounts.counts c.in_ok-place.ensures.tells c.in-Ok.ensures.tells x told in (
       y,
       told_y,
@@ -203,10 +198,9 @@ returns-in-Ok-clause-tells g c = λ x told.
           let drawn = c.draw-generation.result in
           let serial = c.draw-generation.new.self in
           let next = c.write_unit.new.parts.counter in
-          let payloads = c.args.parts.now.scratch.packs.closed.items in
           let from = source_read c.args.parts.now in
           let what = to_merge places (chart_of x) it between u p drawn serial from payloads
-          c.args.parts.now.scratch.packs.closed.items c.args.parts.now.active
+          payloads c.args.parts.now.active
           c.args.parts.now.scratch.log (aside_mirrors places (chart_of x) it t worn mirrors taken_so.in_turn)
           (omega (arith, c.requires.ready.unit, units_aside t worn taken_so.in_turn)) taken_so.next.free
           (omega (arith, taken_within _ _ _ taken_so, c.requires.ready.known.suits.all)) source
@@ -228,13 +222,12 @@ returns-in-Ok-clause-tells g c = λ x told.
             c.draw-generation.ensures.next,
             c.in-Ok.ensures.serials.draws.0,
           )) moved)
-          (tells_packs places (chart_of x) it between _ after u p drawn serial from payloads (masks_of_payloads 15 c.args.parts.now.scratch.packs.closed.items) what
-          refl moved_home.told taken_so.places_is refl)
+          (tells_packs places (chart_of x) it between _ after u p drawn serial from payloads
+          (masks_of_payloads 15 payloads) what refl moved_home.told taken_so.places_is refl)
           (omega (arith, c.in-Ok.ensures.serials.drawn, moved_home.counter))
           (written it between u
-          (has_counts between c.take_place.new.directory p (length c.take_place.new.directory.current) (slice_index c.take_place.new.directory.erases c.in_ok-place.place)
-          taken_so.places_is (ap (λ (d : Places). length d.current) taken_so.places_is)
-          refl) what)),
+          (has_counts between d p units erases taken_so.places_is
+          (ap (λ (d : Places). length d.current) taken_so.places_is) refl) what)),
     )
 
 pub returns-in-Err-clause-steps : goal.returns-in-Err-clause-steps
@@ -248,6 +241,9 @@ returns-in-Err-clause-steps g c = λ m it h steady rests agrees source.
     let worn = taken_so.worn in
     let between = set_aside t worn in
     let next = c.write_unit.new.parts.counter in
+    let d = c.take_place.new.directory in
+    let units = length d.current in
+    let erases = slice_index d.erases p in
     let back : c.give_back.new.self ≡ with_erased between.places p =
     back_is t p c.take_place.new.directory taken_so c.give_back.new.self
     (c.give_back.ensures ∙ ap (λ (w : Parts). with_use w.directory p false) c.in-Err.ensures.kept) in
@@ -258,7 +254,7 @@ returns-in-Err-clause-steps g c = λ m it h steady rests agrees source.
     let payloads = c.args.parts.now.scratch.packs.closed.items in
     let from = source_read c.args.parts.now in
     let what = to_merge places (now h) it between u p drawn serial from payloads
-    c.args.parts.now.scratch.packs.closed.items c.args.parts.now.active
+    payloads c.args.parts.now.active
     c.args.parts.now.scratch.log (aside_mirrors places (now h) it t worn agrees.mirrors taken_so.in_turn)
     (omega (arith, c.requires.ready.unit, units_aside t worn taken_so.in_turn)) taken_so.next.free
     (omega (arith, taken_within _ _ _ taken_so, c.requires.ready.known.suits.all)) source
@@ -275,21 +271,23 @@ returns-in-Err-clause-steps g c = λ m it h steady rests agrees source.
       c.draw-generation.ensures.next,
       c.in-Err.ensures.serials.draws.0,
     ))
-    (unit_joined (length c.take_place.new.directory.current) (slice_index c.take_place.new.directory.erases c.in_ok-place.place) it t between c.take_place.new.directory u p
-    drawn serial from payloads
-    (has_counts between c.take_place.new.directory p (length c.take_place.new.directory.current) (slice_index c.take_place.new.directory.erases c.in_ok-place.place)
-    taken_so.places_is (ap (λ (d : Places). length d.current) taken_so.places_is)
-    refl) m h old (g.C.Chip.told c.take_place.new.chip)
+    (unit_joined units erases it t between d u p drawn serial from payloads
+    (has_counts between d p units erases taken_so.places_is
+    (ap (λ (d : Places). length d.current) taken_so.places_is) refl) m h old (g.C.Chip.told c.take_place.new.chip)
     (g.C.Chip.told c.write_unit.new.chip) (taken_was_free _ _ _ taken_so) steady
     (record { rests = rests; agrees = agrees }) c.in_ok-place.ensures.takes
     c.in_ok-place.ensures.accounts.counts what (Err c.in-Err.fault) c.in-Err.ensures.writes)
 
 pub returns-in-Err-clause-tells : goal.returns-in-Err-clause-tells
 returns-in-Err-clause-tells g c = λ soft x told.
+    let d = c.take_place.new.directory in
+    let units = length d.current in
+    let erases = slice_index d.erases c.in_ok-place.place in
+    let payloads = c.args.parts.now.scratch.packs.closed.items in
     let (y, told_y, left) =
     written_told (g.C.Chip.told c.args.chip.now) (g.C.Chip.told c.take_place.new.chip)
-    (g.C.Chip.told c.write_unit.new.chip) (length c.take_place.new.directory.current) (slice_index c.take_place.new.directory.erases c.in_ok-place.place) c.in_ok-place.place
-    c.draw-generation.result c.draw-generation.new.self (source_read c.args.parts.now) c.args.parts.now.scratch.packs.closed.items (Err c.in-Err.fault)
+    (g.C.Chip.told c.write_unit.new.chip) units erases c.in_ok-place.place
+    c.draw-generation.result c.draw-generation.new.self (source_read c.args.parts.now) payloads (Err c.in-Err.fault)
     c.in_ok-place.ensures.accounts.counts c.in_ok-place.ensures.tells c.in-Err.ensures.tells soft x
     told in
     let t = tables_of c.args.parts.now in

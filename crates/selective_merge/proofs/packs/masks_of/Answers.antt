@@ -3,7 +3,7 @@ use Rattle.std.proofs.lemmas.List.{take_all}
 use Rattle.log_records.specs.View.{Versioned}
 use Rattle.ipl_meaning.specs.Masks.{mask_of}
 use Rattle.selective_merge.specs.Packing.{masks_of_payloads}
-use Rattle.selective_merge.proofs.MaskedLemmas.{read, one_more_mask}
+use Rattle.selective_merge.proofs.PackedMaskLemmas.{read, one_more_mask}
 use Rattle.selective_merge.proofs.packs.masks_of.Goals as goal
 
 pub loop-i-preserved : goal.loop-i-preserved

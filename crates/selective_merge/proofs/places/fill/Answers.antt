@@ -42,7 +42,8 @@ returns-in_err-write_logs-clause-fills g c = λ m h steady rests clean.
     rw e.1 (subst (λ (ps : List Versioned). KeepsThroughout {T = List ℕ} old.places m
     (Programs c.args.place (IsFilledSpot (length ps)))
     (λ pieces. GainsUnit from c.args.place head.generation c.args.counter.now pieces ps) (IsAside c.args.place) h
-    (Err e.0) old new) c.payloads.ensures.all (logs_failed old.places from c.args.place head.generation c.args.counter.now head.unit
+    (Err e.0) old new) c.payloads.ensures.all
+    (logs_failed old.places from c.args.place head.generation c.args.counter.now head.unit
     c.payloads.result.now c.requires.unit m h old steady rests clean late pages.spends.accounts.counts
     c.in_ok-pieces.pieces pages.moves fault e.0 new
     (subst (λ (q : ℕ). WritesLogs q c.args.place head.unit head.generation c.args.counter.now
@@ -60,7 +61,8 @@ returns-clause-fills g c = λ m h steady rests clean.
     subst (λ (ps : List Versioned). KeepsThroughout {E = ChipFault} old.places m
     (Programs c.args.place (IsFilledSpot (length ps)))
     (λ pieces. GainsUnit from c.args.place head.generation c.args.counter.now pieces ps) (IsAside c.args.place) h
-    (Ok c.in_ok-pieces.pieces) old new) c.payloads.ensures.all (logged old.places from c.args.place head.generation c.args.counter.now head.unit
+    (Ok c.in_ok-pieces.pieces) old new) c.payloads.ensures.all
+    (logged old.places from c.args.place head.generation c.args.counter.now head.unit
     c.payloads.result.now c.requires.unit m h old steady rests clean late pages.spends.accounts.counts
     c.in_ok-pieces.pieces pages.moves new (Ok tt)
     (subst (λ (q : ℕ). WritesLogs q c.args.place head.unit head.generation c.args.counter.now
@@ -84,7 +86,8 @@ returns-clause-tells g c =
     let head = c.args.head.now in
     subst (λ (ps : List Versioned). Charts (GainsUnit from c.args.place head.generation c.args.counter.now
     c.in_ok-pieces.pieces ps) (g.C.Chip.told c.args.chip.now) (g.C.Chip.told c.write_logs.new.chip))
-    c.payloads.ensures.all (filled_told from c.args.place head.generation c.args.counter.now head.unit c.payloads.result.now
+    c.payloads.ensures.all (filled_told from c.args.place head.generation c.args.counter.now head.unit
+    c.payloads.result.now
     c.requires.unit c.in_ok-pieces.pieces (g.C.Chip.told c.args.chip.now)
     (g.C.Chip.told c.move_pages.new.chip) (g.C.Chip.told c.write_logs.new.chip)
     c.in_ok-pieces.ensures.tells c.in_ok-write_logs.ensures.tells)
@@ -137,8 +140,8 @@ returns-in_err-write_logs-clause-spends g c =
       tidy = tidy_logged p n false old late new pages.tidy logs.tidy;
       accounts = record {
         counts = counts_then old late new pages.accounts.counts logs.accounts.counts;
-        cause = stopped_unmoved {T = Unit {0}} c.args.scratch.now.home.place (Err c.in_err-write_logs.field-0.0) old late new
-            pages.accounts.counts logs.accounts.cause;
+        cause = stopped_unmoved {T = Unit {0}} c.args.scratch.now.home.place (Err c.in_err-write_logs.field-0.0) old
+            late new pages.accounts.counts logs.accounts.cause;
       };
     }))
 

@@ -110,7 +110,8 @@ returns-clause-spends g c =
     let sealed = c.seal_unit.ensures.spends in record {
       spares = spares_behind p old mid new result filled.spares sealed.spares;
       costs = fills_then p 0 2 old mid new filled.costs (fills_programs p 1 2 1 mid new sealed.costs);
-      tidy = tidy_sealed p (length c.args.parts.now.scratch.packs.closed.items) (is_ok result) old mid new filled.tidy sealed.tidy;
+      tidy = tidy_sealed p (length c.args.parts.now.scratch.packs.closed.items) (is_ok result) old mid new
+          filled.tidy sealed.tidy;
       accounts = record {
         counts = counts_then old mid new filled.accounts.counts sealed.accounts.counts;
         cause = stopped_unmoved c.args.parts.now.scratch.home.place result old mid new filled.accounts.counts

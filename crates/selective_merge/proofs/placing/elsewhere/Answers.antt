@@ -17,8 +17,8 @@ returns-in-Clean g c =
     let told = g.C.Chip.told c.args.chip.now in
     let t = tables_of c.args.parts.now in
     let spot = c.in-Clean.spot in
-    let clean = λ (x : Chart) (it : Layout) (mirrors : Mirrors told.places x it t). elsewhere_clean told.places x it t c.args.unit spot.place spot.sector
-    c.in-Clean.ensures mirrors in record {
+    let clean = λ (x : Chart) (it : Layout) (mirrors : Mirrors told.places x it t).
+    elsewhere_clean told.places x it t c.args.unit spot.place spot.sector c.in-Clean.ensures mirrors in record {
       tells = told_none IsElsewhere told.places c.args.unit t spot told clean;
       steps = makes_none IsElsewhere told.places c.args.unit t spot told clean;
       fault = λ x told it mirrors. tt;

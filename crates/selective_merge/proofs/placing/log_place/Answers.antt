@@ -11,7 +11,7 @@ use Rattle.selective_merge.specs.Moving.{tables_of}
 use Rattle.selective_merge.specs.Placing.{IsElsewhere, IsMergedSpot, IsPlaced, PlacesLog}
 use Rattle.selective_merge.specs.Spotting.{HasHomeSpot}
 use Rattle.selective_merge.proofs.CompleteLemmas.{fails_complete}
-use Rattle.selective_merge.proofs.LearntLemmas.{counted, counted_by, learnt_behind, learnt_still, ready_behind}
+use Rattle.selective_merge.proofs.LearntLemmas.{counted, counted_by, learnt_behind, learnt_still}
 use Rattle.selective_merge.proofs.LeavingLemmas.{finds_there, finds_unread}
 use Rattle.selective_merge.proofs.PlacingLemmas.{placed_home, placed_few, placed_elsewhere}
 use Rattle.selective_merge.proofs.RoomLemmas.{all_ok, makes_none, told_none, makes_unread, places_behind}
@@ -23,8 +23,9 @@ returns-in-Some-clause-room g c =
     let told = g.C.Chip.told c.args.chip.now in
     let t = tables_of c.args.parts.now in
     let spot = c.in-Some.spot in
-    let home = λ (x : Chart) (it : Layout) (mirrors : Mirrors told.places x it t). placed_home told.places x it t c.args.unit spot.place spot.sector
-    c.requires.unit c.in-Some.ensures.some mirrors in record {
+    let home = λ (x : Chart) (it : Layout) (mirrors : Mirrors told.places x it t).
+    placed_home told.places x it t c.args.unit spot.place spot.sector c.requires.unit c.in-Some.ensures.some
+    mirrors in record {
       tells = told_none IsPlaced told.places c.args.unit t spot told home;
       steps = makes_none IsPlaced told.places c.args.unit t spot told home;
       fault = λ x told it mirrors. tt;
@@ -66,10 +67,11 @@ returns-then-carried-le-MERGE_THRESHOLD-clause-room g c =
     let low : count.result ≤ 7 = omega (arith, c.if-carried-le-MERGE_THRESHOLD.true) in
     places_behind IsMergedSpot IsPlaced (IsLogRead (slice_index t.places.current u) (spots_in t.overflow u))
     u t after old mid new read.looks.reads c.merged_spot.result
-    (all_ok _ c.merged_spot.result (λ spot x y it told mirrors is. placed_few old.places _ y it t after u spot.place
-    spot.sector count.result full
+    (all_ok _ c.merged_spot.result (λ spot x y it told mirrors is. placed_few old.places _ y it t after u
+    spot.place spot.sector count.result full
     (counted c.learn.new.parts.scratch.home (it.units u) u t.active c.learn.new.parts.scratch.log count.result
-    (counted_by t (tables_of c.learn.new.parts) c.learn.new.parts.scratch.log count.result read.same count.ensures.count)
+    (counted_by t (tables_of c.learn.new.parts) c.learn.new.parts.scratch.log count.result read.same
+    count.ensures.count)
     (read.learns x told it t (record { mirrors = mirrors; directory_is = refl; overflow_is = refl })))
     low is.spot is.merged))
     (subst (λ (s : Tables). PlacesLog IsMergedSpot u s after c.merged_spot.result mid new) read.same
@@ -89,10 +91,11 @@ returns-clause-room g c =
     let high : 7 < count.result = omega (arith, c.if-carried-le-MERGE_THRESHOLD.false) in
     places_behind IsElsewhere IsPlaced (IsLogRead (slice_index t.places.current u) (spots_in t.overflow u))
     u t after old mid new read.looks.reads c.elsewhere.result
-    (all_ok _ c.elsewhere.result (λ spot x y it told mirrors is. placed_elsewhere old.places _ y it t after u spot.place
-    spot.sector count.result full
+    (all_ok _ c.elsewhere.result (λ spot x y it told mirrors is. placed_elsewhere old.places _ y it t after u
+    spot.place spot.sector count.result full
     (counted c.learn.new.parts.scratch.home (it.units u) u t.active c.learn.new.parts.scratch.log count.result
-    (counted_by t (tables_of c.learn.new.parts) c.learn.new.parts.scratch.log count.result read.same count.ensures.count)
+    (counted_by t (tables_of c.learn.new.parts) c.learn.new.parts.scratch.log count.result read.same
+    count.ensures.count)
     (read.learns x told it t (record { mirrors = mirrors; directory_is = refl; overflow_is = refl })))
     high is))
     (subst (λ (s : Tables). PlacesLog IsElsewhere u s after c.elsewhere.result mid new) read.same
@@ -116,12 +119,6 @@ returns-clause-complete g c =
     fails_complete old.places (tables_of c.args.parts.now) c.args.unit c.elsewhere.result old
     (returns-clause-room g c).fault
 
-pub merged_spot-requires-clause-ready : goal.merged_spot-requires-clause-ready
-merged_spot-requires-clause-ready g c =
-    let read = c.in_ok-learn.ensures in
-    ready_behind c.args.unit (tables_of c.args.parts.now) (tables_of c.learn.new.parts) _ _
-    read.looks.reads.counts.places read.same c.requires
-
 pub merged_spot-requires-clause-learnt : goal.merged_spot-requires-clause-learnt
 merged_spot-requires-clause-learnt g c =
     let read = c.in_ok-learn.ensures in
@@ -132,12 +129,6 @@ merged_spot-requires-clause-learnt g c =
     (learnt_behind _ c.args.unit (tables_of c.args.parts.now) (tables_of c.learn.new.parts)
     (g.C.Chip.told c.args.chip.now) (g.C.Chip.told c.learn.new.chip) scratch.home scratch.log read.looks.reads
     read.same read.learns read.stands)
-
-pub elsewhere-requires-clause-ready : goal.elsewhere-requires-clause-ready
-elsewhere-requires-clause-ready g c =
-    let read = c.in_ok-learn.ensures in
-    ready_behind c.args.unit (tables_of c.args.parts.now) (tables_of c.learn.new.parts) _ _
-    read.looks.reads.counts.places read.same c.requires
 
 pub elsewhere-requires-clause-learnt : goal.elsewhere-requires-clause-learnt
 elsewhere-requires-clause-learnt g c =
