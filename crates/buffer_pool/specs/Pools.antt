@@ -33,6 +33,13 @@ pub record CountsUse (old new : PoolView) : Type 0 where
   pub limit : new.limit ≡ old.limit
   pub clock : new.clock ≡ min (old.clock + 1) 18446744073709551615
 
+-- no page comes in or leaves, and no use is counted
+pub record CountsNothing (old new : PoolView) : Type 0 where
+  pub len : slab_len new.buffers ≡ slab_len old.buffers
+  pub limit : new.limit ≡ old.limit
+  pub clock : new.clock ≡ old.clock
+  pub order : new.order ≡ old.order
+
 -- a use came before this time, or the clock was at its last number, at which it stays
 pub record IsUsedBefore (used now : ℕ) : Type 0 where
   pub past : used ≤ now

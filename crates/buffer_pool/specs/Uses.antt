@@ -38,6 +38,13 @@ pub record UsesPage (old new : PoolView) (unit page : ℕ) : Type 0 where
   pub counts : CountsUse old new
   pub order : new.order ≡ old.order
 
+-- no page comes in or leaves, and a use is counted, which is of this page
+pub record CountsUseOf (old new : PoolView) (unit page : ℕ) : Type 0 where
+  pub len : slab_len new.buffers ≡ slab_len old.buffers
+  pub counts : CountsUse old new
+  pub last : IsUsedLast new unit page
+  pub order : new.order ≡ old.order
+
 -- no use is counted: each page in a buffer then was in one, and was used when it was
 abbrev pub CountsNoUse : PoolView → PoolView → Type 0
 CountsNoUse old new = (v q used : ℕ) → used_of new v q ≡ Some used → used_of old v q ≡ Some used

@@ -1,8 +1,7 @@
 //! Pages that stay in their frames between calls.
 ghost use Rattle.std.specs.Prelude.{◌≡◌, ◌<◌, ◌+◌, ◌↔◌, Some, IsTrue, cond};
-ghost use Rattle.slab.specs.Slab.{slab_len};
-ghost use Rattle.buffer_pool.specs.Pools.{IsThere, CountsUse};
-ghost use Rattle.buffer_pool.specs.Uses.{IsUsedLast};
+ghost use Rattle.buffer_pool.specs.Pools.{IsThere, CountsNothing};
+ghost use Rattle.buffer_pool.specs.Uses.{CountsUseOf};
 ghost use Rattle.buffer_pool.specs.Holding.{pinned_count, is_pinned, IsHeld, IsAtRest, PinsPage, ReleasesPage};
 
 use crate::pool::{Buffer, Pin, Pool, drop_pin};
@@ -37,10 +36,7 @@ impl Pool {
         requires there { IsThere self.old.buffers unit page }
         requires free { ¬ IsHeld self.old.buffers unit page }
         ensures holds { PinsPage self.old self.new unit page }
-        ensures len { slab_len self.new.buffers ≡ slab_len self.old.buffers }
-        ensures counts { CountsUse self.old self.new }
-        ensures last { IsUsedLast self.new unit page }
-        ensures order { self.new.order ≡ self.old.order }
+        ensures uses { CountsUseOf self.old self.new unit page }
         ensures rest { IsAtRest self.old → pinned_count self.old.buffers + 1 < self.old.limit
             → IsAtRest self.new }
     {
@@ -58,10 +54,7 @@ impl Pool {
         requires held { IsHeld self.old.buffers unit page }
         requires rest { IsAtRest self.old }
         ensures releases { ReleasesPage self.old self.new unit page }
-        ensures len { slab_len self.new.buffers ≡ slab_len self.old.buffers }
-        ensures limit { self.new.limit ≡ self.old.limit }
-        ensures clock { self.new.clock ≡ self.old.clock }
-        ensures order { self.new.order ≡ self.old.order }
+        ensures keeps { CountsNothing self.old self.new }
         ensures rest { IsAtRest self.new }
     {
         match self.find(unit, page) {

@@ -3,10 +3,10 @@ ghost use Rattle.std.specs.Prelude.{◌≡◌, ◌≢◌, ◌<◌, ◌≤◌, �
 ghost use Rattle.std.specs.Borrow.{sem};
 ghost use Rattle.slab.specs.Slab.{get, slab_len, Updates};
 ghost use Rattle.buffer_pool.specs.declared.pool.Buffer.{Buffer as BufferFields};
-ghost use Rattle.buffer_pool.specs.Pools.{HasPage, IsThere, IsAbsent, MayLeave, MayPin, Changes, CountsUse, IsPinned, IsSoundPool, new_buffer, with_pin, with_use, without_pin};
+ghost use Rattle.buffer_pool.specs.Pools.{HasPage, IsThere, IsAbsent, MayLeave, MayPin, Changes, CountsUse, CountsNothing, IsPinned, IsSoundPool, new_buffer, with_pin, with_use, without_pin};
 ghost use Rattle.buffer_pool.specs.Rooms.{IsRoom, IsOldest, AreAllPinned};
 ghost use Rattle.buffer_pool.specs.Lending.{LendsFrame, LendsLog};
-ghost use Rattle.buffer_pool.specs.Uses.{IsUsedLast, UsesPage};
+ghost use Rattle.buffer_pool.specs.Uses.{CountsUseOf, IsUsedLast, UsesPage};
 ghost use Rattle.buffer_pool.specs.Passes.{Passes};
 
 use crate::index::{PageIndex, page_number};
@@ -179,12 +179,11 @@ impl Pool {
     {
         match self.find(unit, page) {
             Some(key) => {
-                let used = self.clock;
-                self.clock = used.saturating_add(1);
                 self.index.remove(page_number(unit, page));
                 self.index.facts();
                 self.index.add(page_number(to_unit, to_page), key);
-                give_buffer(&mut self.buffers, key, to_unit, to_page, used);
+                give_buffer(&mut self.buffers, key, to_unit, to_page, self.clock);
+                self.clock = self.clock.saturating_add(1);
                 Pin {
                     key,
                     unit: to_unit,
@@ -204,16 +203,12 @@ impl Pool {
         ensures has { HasPage self.old.buffers unit page result.key }
         ensures buffers { Changes self.old.buffers self.new.buffers result.key
             (with_pin self.old.clock) }
-        ensures len { slab_len self.new.buffers ≡ slab_len self.old.buffers }
-        ensures counts { CountsUse self.old self.new }
-        ensures last { IsUsedLast self.new unit page }
-        ensures order { self.new.order ≡ self.old.order }
+        ensures uses { CountsUseOf self.old self.new unit page }
     {
         match self.find(unit, page) {
             Some(key) => {
-                let used = self.clock;
-                self.clock = used.saturating_add(1);
-                add_pin(&mut self.buffers, key, used);
+                add_pin(&mut self.buffers, key, self.clock);
+                self.clock = self.clock.saturating_add(1);
                 Pin { key, unit, page }
             }
             None => unreachable!("the page is in a frame"),
@@ -229,9 +224,8 @@ impl Pool {
     {
         match self.find(unit, page) {
             Some(key) => {
-                let used = self.clock;
-                self.clock = used.saturating_add(1);
-                use_buffer(&mut self.buffers, key, used);
+                use_buffer(&mut self.buffers, key, self.clock);
+                self.clock = self.clock.saturating_add(1);
             }
             None => unreachable!("the page is in a frame"),
         }
@@ -241,10 +235,7 @@ impl Pool {
     pub fn unpin(&mut self, pin: Pin)
         requires { IsPinned self.old.buffers pin }
         ensures buffers { Changes self.old.buffers self.new.buffers pin.key without_pin }
-        ensures len { slab_len self.new.buffers ≡ slab_len self.old.buffers }
-        ensures limit { self.new.limit ≡ self.old.limit }
-        ensures clock { self.new.clock ≡ self.old.clock }
-        ensures order { self.new.order ≡ self.old.order }
+        ensures keeps { CountsNothing self.old self.new }
     {
         let Pin {
             key,

@@ -1,5 +1,5 @@
 -- What each call of a store of keys leaves.
-use Rattle.std.specs.Prelude.{ℕ, ◌≡◌, ◌⊎◌, ◌<◌, ◌&&◌, nat_le, nat_lt, Bool, true, false, List, [], ◌∷◌, length, take, Option, Some, None, Result, Ok, Err, IfErr, if◌then◌else◌}
+use Rattle.std.specs.Prelude.{ℕ, ◌≡◌, ◌⊎◌, ◌<◌, ◌≤◌, ◌&&◌, nat_le, nat_lt, Bool, true, false, List, [], ◌∷◌, length, take, Option, Some, None, Result, Ok, Err, IfOk, IfErr, if◌then◌else◌}
 use Rattle.std.specs.Borrow.{Bor}
 use Rattle.std.specs.Option.{option_map}
 use Rattle.chip_trait.specs.Told.{History, Told, Counts}
@@ -23,6 +23,7 @@ use Rattle.key_buckets.specs.declared.limits.TheConstants.{KEY_LEN, KEY_VALUE_LE
 use Rattle.key_buckets.specs.Pairs.{Pairs, value_at, set_pair, remove_pair}
 use Rattle.key_buckets.specs.Bucket.{IsBucket, IsBucketText, SpellsBucket, bucket_bytes}
 use Rattle.key_buckets.specs.Home.{bucket_of}
+use Rattle.ipl_keys.specs.declared.keys.Keys.{Keys}
 use Rattle.ipl_keys.specs.declared.fault.KeyFault.{KeyFault}
 use Rattle.ipl_keys.specs.declared.fault.KeyFault.TheVariants as key
 use Rattle.ipl_keys.specs.KeyState.{KeyState, see_key}
@@ -183,6 +184,15 @@ pub record CallsKey {T : Type 0} (early : Option KeyFault) (Ends : Type 0) (old 
   pub sound : IsSound before.places new
   pub units : new.units ≡ old.units
   pub counts : Counts before after
+
+-- A call on the bucket of a name, whose text is at the front of the keys' own bytes then.
+pub record CopiesBucket (early : Option KeyFault) (s n : ℕ) (old : Keys) (before : Told)
+    (result : Result ℕ KeyFault) (new : Keys) (after : Told) : Type 0 where
+  pub calls : CallsKey early
+      (ReadsBucket s n old.store before (bytes_in new.bucket result) new.store after)
+      old.store before result new.store after
+  pub bucket : IfOk result (λ len. IsBucketText (take len new.bucket))
+  pub most : IfOk result (λ len. len ≤ VALUE_LEN)
 
 -- of the store's refusals those that a call on a key may meet; that there is no such name, and that a
 -- value is too long, never come

@@ -3,21 +3,16 @@ ghost use Rattle.std.specs.Prelude.{◌≡◌, ◌<◌, ◌≤◌, ◌*◌, ℕ,
 ghost use Rattle.std.specs.Borrow.{sem};
 ghost use Rattle.std.specs.Io.BufRead.{Rests};
 ghost use Rattle.ipl_base.specs.declared.limits.TheConstants.{UNIT_NAMES, VALUE_LEN};
-ghost use Rattle.ipl_rules.specs.Refusals.{refuses_get};
-ghost use Rattle.record_locks.specs.Standing.{state_of};
-ghost use Rattle.store_laws.specs.Keeps.{limits_of};
-ghost use Rattle.ipl_store.specs.Calls.{Calls, IsSound, early_fault, entry_fault};
+ghost use Rattle.ipl_store.specs.Calls.{Calls, IsSound, entry_fault, get_fault};
 ghost use Rattle.key_buckets.specs.Pairs.{Pairs, value_at};
 ghost use Rattle.key_buckets.specs.Bucket.{IsBucketText, SpellsBucket};
 ghost use Rattle.key_buckets.specs.Home.{bucket_of};
 ghost use Rattle.ipl_keys.specs.contracts.keys.Keys.{the_row};
 ghost use Rattle.ipl_keys.specs.Records.{bytes_of};
 ghost use Rattle.ipl_keys.specs.Calls.{
-  CallsKey,
+  CopiesBucket,
   GetsKey,
-  ReadsBucket,
   Sees,
-  bytes_in,
   early_key_fault,
   lent_of,
 };
@@ -46,9 +41,7 @@ impl Keys {
     /// Copies what a session sees of a name, and answers how many bytes that has.
     fn see<C: Chip>(&mut self, chip: &mut C, s: u32, n: u32) -> Result<usize, StoreFault>
         requires sound { IsSound (C.told chip.old).places self.old.store }
-        ensures calls { Calls (early_fault (entry_fault self.old.store)
-            (refuses_get (limits_of self.old.store.units)
-            (state_of self.old.store.transactions.sessions) s n)) (λ state. state) 14
+        ensures calls { Calls (get_fault self.old.store s n) (λ state. state) 14
             self.old.store (C.told chip.old) result self.new.store (C.told chip.new) }
         ensures seen { IfOk result (λ len. Sees s n self.old.store (C.told chip.old)
             (λ seen. seen ≡ take len self.new.bucket)) }
@@ -66,12 +59,8 @@ impl Keys {
         requires sound { IsSound (C.told chip.old).places self.old.store }
         requires entry { entry_fault self.old.store ≡ None }
         requires name { n < UNIT_NAMES * self.old.store.units }
-        ensures calls { CallsKey (early_key_fault self.old.store None s)
-            (ReadsBucket s n self.old.store (C.told chip.old) (bytes_in self.new.bucket result)
-            self.new.store (C.told chip.new))
-            self.old.store (C.told chip.old) result self.new.store (C.told chip.new) }
-        ensures bucket { IfOk result (λ len. IsBucketText (take len self.new.bucket)) }
-        ensures most { IfOk result (λ len. len ≤ VALUE_LEN) }
+        ensures { CopiesBucket (early_key_fault self.old.store None s) s n
+            self.old (C.told chip.old) result self.new (C.told chip.new) }
     {
         let len = match self.see(chip, s, n) {
             Ok(len) => len,
@@ -102,12 +91,8 @@ impl Keys {
     ) -> Result<usize, KeyFault>
         requires sound { IsSound (C.told chip.old).places self.old.store }
         requires name { n < UNIT_NAMES * self.old.store.units }
-        ensures calls { CallsKey (early_key_fault self.old.store bad s)
-            (ReadsBucket s n self.old.store (C.told chip.old) (bytes_in self.new.bucket result)
-            self.new.store (C.told chip.new))
-            self.old.store (C.told chip.old) result self.new.store (C.told chip.new) }
-        ensures bucket { IfOk result (λ len. IsBucketText (take len self.new.bucket)) }
-        ensures most { IfOk result (λ len. len ≤ VALUE_LEN) }
+        ensures copies { CopiesBucket (early_key_fault self.old.store bad s) s n
+            self.old (C.told chip.old) result self.new (C.told chip.new) }
         ensures good { OnOk result (bad ≡ None) }
     {
         if let Err(fault) = self.admit(chip, bad) {

@@ -11,7 +11,7 @@ use Rattle.ipl_base.specs.declared.fault.Refusal.TheVariants.{BadUnit, HoldsFull
 use Rattle.ipl_base.specs.declared.fault.StoreFault.{StoreFault}
 use Rattle.ipl_base.specs.declared.fault.StoreFault.TheVariants.{Down, Spent, Refused, Chip}
 use Rattle.ipl_rules.specs.State.{State, Limits}
-use Rattle.ipl_rules.specs.Refusals.{Test, first_of, bad_session, bad_name}
+use Rattle.ipl_rules.specs.Refusals.{Test, first_of, bad_session, bad_name, refuses_get, refuses_share}
 use Rattle.ipl_meaning.specs.Chart.{chart_of}
 use Rattle.ipl_meaning.specs.Layout.{Layout}
 use Rattle.unit_io.specs.Reads.{OfContents}
@@ -20,7 +20,8 @@ use Rattle.buffer_pool.specs.Laws.{buffer_of}
 use Rattle.buffer_pool.specs.Holding.{is_pinned, pinned_count, KeepsPins}
 use Rattle.store_trait.specs.Keeping.{LAST_NUMBER}
 use Rattle.store_laws.specs.Advances.{Memory, MemoryFits, LeadsTo}
-use Rattle.store_laws.specs.Keeps.{View, ShowsState}
+use Rattle.record_locks.specs.Standing.{state_of}
+use Rattle.store_laws.specs.Keeps.{View, ShowsState, limits_of}
 use Rattle.place_taking.specs.Spending.{tells_worn}
 use Rattle.place_taking.specs.Wear.{TellsOfWear}
 use Rattle.step_laws.specs.Steps.{Tidies}
@@ -113,6 +114,20 @@ refuses_hold units pool u page = first_of (bad_page units u page ∷ holds_full 
 
 abbrev pub refuses_release : ℕ → PoolView → ℕ → ℕ → Option Refusal
 refuses_release units pool u page = first_of (bad_page units u page ∷ not_held pool u page ∷ [])
+
+-- what ends a call early that looks up a name for a session
+abbrev pub get_fault : Store → ℕ → ℕ → Option StoreFault
+get_fault store s n = early_fault (entry_fault store)
+    (refuses_get (limits_of store.units) (state_of store.transactions.sessions) s n)
+
+-- one by which the session shares it
+abbrev pub share_fault : Store → ℕ → ℕ → Option StoreFault
+share_fault store s n = early_fault (entry_fault store)
+    (refuses_share (limits_of store.units) (state_of store.transactions.sessions) s n)
+
+-- and one for no session
+abbrev pub name_fault : Store → ℕ → Option StoreFault
+name_fault store n = early_fault (entry_fault store) (refuses_name (limits_of store.units) n)
 
 -- ---- calls that do something
 

@@ -1,10 +1,12 @@
 -- What a store's frames tell of a name, and which pages are held.
-use Rattle.std.specs.Prelude.{ℕ, ◌≡◌, ◌<◌, ◌⊎◌, ◌↔◌, Bool, Option, Some, List, [], Result, Ok, Err, OnOk}
+use Rattle.std.specs.Prelude.{ℕ, ◌≡◌, ◌<◌, ◌⊎◌, ◌↔◌, ◌≤◌, Bool, Option, Some, IfSome, List, [], length, option_map, Result, Ok, Err, OnOk}
+use Rattle.std.specs.Borrow.{Bor}
 use Rattle.std.specs.FinMap.{get}
 use Rattle.chip_trait.specs.Story.{Contents}
 use Rattle.chip_trait.specs.Told.{Told}
 use Rattle.ipl_base.specs.declared.fault.StoreFault.{StoreFault}
 use Rattle.ipl_base.specs.Places.{home_of}
+use Rattle.ipl_base.specs.declared.limits.TheConstants.{VALUE_LEN}
 use Rattle.ipl_rules.specs.State.{State, see}
 use Rattle.ipl_meaning.specs.Chart.{chart_of}
 use Rattle.ipl_meaning.specs.Layout.{Layout}
@@ -16,9 +18,11 @@ use Rattle.buffer_pool.specs.Pools.{PoolView}
 use Rattle.buffer_pool.specs.Holding.{IsHeld, IsSamePage, IsAtRest}
 use Rattle.buffer_pool.specs.Uses.{IsUsedLast, UsesPage}
 use Rattle.store_laws.specs.Advances.{MemoryFits}
+use Rattle.record_locks.specs.Held.{number_of}
 use Rattle.store_laws.specs.Keeps.{View, TellsName}
+use Rattle.store_laws.specs.Refusals.{IsOpenSession}
 use Rattle.page_frames.specs.Spending.{ErasesAndLogs}
-use Rattle.page_frames.specs.Pages.{frames_in, IsFramed, KeepsFramedFor, HasFreeFrame}
+use Rattle.page_frames.specs.Pages.{frames_in, IsFramed, KeepsFramed, KeepsFramedFor, HasFreeFrame}
 use Rattle.ipl_store.specs.declared.store.Store.{Store}
 use Rattle.ipl_store.specs.Calls.{view_of, KeepsHolds, Calls, ends_worn_out}
 
@@ -52,13 +56,30 @@ IsSeen s n store told found = (state : State)
     → OfContents told (λ x. ShowsName told.places (view_of store) state n x
     → found ≡ see state s n)
 
+-- which is at most 464 bytes
+pub record ShowsSeen (s n : ℕ) (store : Store) (told : Told) (found : Option (Bor (List ℕ)))
+    : Type 0 where
+  pub seen : IsSeen s n store told (option_map (λ b. b.now) found)
+  pub short : IfSome found (λ b. length b.now ≤ VALUE_LEN)
+
 -- the record of a name, likewise
 abbrev pub HasCommitted : ℕ → Store → Told → Option (List ℕ) → Type 0
 HasCommitted n store told found = (state : State)
     → OfContents told (λ x. ShowsName told.places (view_of store) state n x
     → found ≡ get state.map n)
 
+-- the session is open, and has its number still
+pub record KeepsNumber (s : ℕ) (old new : Store) : Type 0 where
+  pub session : IsOpenSession old.transactions.sessions s
+  pub number : number_of new.transactions.sessions s ≡ number_of old.transactions.sessions s
+
 -- ---- pages
+
+-- Memory alone is worked on: the pages that are held or in frames stay so, and the chip isn't asked.
+pub record WorksInMemory (old : Store) (before : Told) (new : Store) (after : Told) : Type 0 where
+  pub holds : KeepsHolds old new
+  pub framed : KeepsFramed old.transactions.pages new.transactions.pages
+  pub idle : after ≡ before
 
 -- the pages that were held are, and this one
 abbrev pub HoldsAlso : Store → ℕ → ℕ → Store → Type 0

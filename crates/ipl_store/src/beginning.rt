@@ -5,16 +5,15 @@ ghost use Rattle.ipl_rules.specs.Refusals.{refuses_begin, refuses_end};
 ghost use Rattle.record_locks.specs.Held.{after_end};
 ghost use Rattle.record_locks.specs.Standing.{state_of};
 ghost use Rattle.store_laws.specs.Keeps.{limits_of};
-ghost use Rattle.page_frames.specs.Pages.{KeepsFramed};
 ghost use Rattle.ipl_store.specs.Calls.{
   IsSound,
-  KeepsHolds,
   Calls,
   early_fault,
   entry_fault,
   down_fault,
   counter_of,
 };
+ghost use Rattle.ipl_store.specs.Shown.{WorksInMemory};
 
 use crate::Store;
 use chip_trait::Chip;
@@ -29,9 +28,7 @@ impl Store {
             (refuses_begin (limits_of self.old.units) (state_of self.old.transactions.sessions) s))
             (λ state. after_begin state s) 1
             self.old (C.told _chip.old) result self.new (C.told _chip.new) }
-        ensures holds { KeepsHolds self.old self.new }
-        ensures framed { KeepsFramed self.old.transactions.pages self.new.transactions.pages }
-        ensures idle { C.told _chip.new ≡ C.told _chip.old }
+        ensures memory { WorksInMemory self.old (C.told _chip.old) self.new (C.told _chip.new) }
         // Done, one number is drawn.
         ensures drawn { OnOk result (counter_of self.new ≡ counter_of self.old + 1) }
     {
@@ -48,9 +45,7 @@ impl Store {
             (refuses_end (limits_of self.old.units) (state_of self.old.transactions.sessions) s))
             (λ state. after_abort state s) 0
             self.old (C.told _chip.old) result self.new (C.told _chip.new) }
-        ensures holds { KeepsHolds self.old self.new }
-        ensures framed { KeepsFramed self.old.transactions.pages self.new.transactions.pages }
-        ensures idle { C.told _chip.new ≡ C.told _chip.old }
+        ensures memory { WorksInMemory self.old (C.told _chip.old) self.new (C.told _chip.new) }
         // It fails only early; done, the session is closed, and no other is touched.
         ensures early { IfErr result (λ fault. early_fault (down_fault self.old)
             (refuses_end (limits_of self.old.units) (state_of self.old.transactions.sessions) s)

@@ -150,7 +150,6 @@ impl Store {
         ensures pool { IsRepooled self.old self.new }
     {
         self.transactions.pages.pool.facts();
-        pool_laws();
         buffer_laws();
         self.transactions.pages.pool.release(unit, page);
     }

@@ -5,12 +5,8 @@ ghost use Rattle.std.specs.Io.BufRead.{Rests};
 ghost use Rattle.ipl_base.specs.declared.limits.TheConstants.{VALUE_LEN, SESSIONS};
 ghost use Rattle.ipl_base.specs.Places.{home_of};
 ghost use Rattle.ipl_rules.specs.Operations.{after_share};
-ghost use Rattle.ipl_rules.specs.Refusals.{refuses_get, refuses_share};
 ghost use Rattle.record_locks.specs.Held.{number_of};
-ghost use Rattle.record_locks.specs.Standing.{state_of};
 ghost use Rattle.store_trait.specs.Keeping.{LAST_NUMBER};
-ghost use Rattle.store_laws.specs.Keeps.{limits_of};
-ghost use Rattle.store_laws.specs.Refusals.{IsOpenSession};
 ghost use Rattle.page_ops.specs.Pending.{seen_by};
 ghost use Rattle.store_laws.specs.Frames.{PageFrame};
 ghost use Rattle.page_frames.specs.Pages.{frames_in};
@@ -18,12 +14,12 @@ ghost use Rattle.ipl_store.specs.contracts.store.Store.{the_row};
 ghost use Rattle.ipl_store.specs.Calls.{
   counter_of,
   IsSound,
-  early_fault,
-  entry_fault,
-  refuses_name,
+  get_fault,
+  share_fault,
+  name_fault,
 };
 ghost use Rattle.ipl_store.specs.Puts.{HasBrought};
-ghost use Rattle.ipl_store.specs.Shown.{answered, AsksFor, Fetches, IsSeen, HasCommitted, LooksAtStore};
+ghost use Rattle.ipl_store.specs.Shown.{answered, AsksFor, Fetches, HasCommitted, KeepsNumber, LooksAtStore, ShowsSeen};
 
 use crate::Store;
 use chip_trait::Chip;
@@ -62,31 +58,19 @@ impl Store {
         ensures short { IfSome result (λ b. length b.now ≤ VALUE_LEN) }
     {
         let tid = self.transactions.sessions.number(s)?;
-        let home = home(Name(n));
-        seen_value(
-            &self.transactions.pages.pool,
-            home.unit,
-            home.page,
-            home.slot,
-            tid,
-        )
+        seen_value(&self.transactions.pages.pool, home(Name(n)), tid)
     }
 
     /// The page of a name that a session looks up, in a frame.
     fn fetch<C: Chip>(&mut self, chip: &mut C, s: u32, n: u32) -> Result<(), StoreFault>
         requires sound { IsSound (C.told chip.old).places self.old }
-        ensures fetches { Fetches (early_fault (entry_fault self.old)
-            (refuses_get (limits_of self.old.units) (state_of self.old.transactions.sessions) s n))
-            (λ state. state) n
+        ensures fetches { Fetches (get_fault self.old s n) (λ state. state) n
             self.old (C.told chip.old) result self.new (C.told chip.new) }
-        ensures looks { (found : Option (Bor (List ℕ))) → LooksAtStore (early_fault (entry_fault self.old)
-            (refuses_get (limits_of self.old.units) (state_of self.old.transactions.sessions) s n))
-            (λ state. state) n
+        ensures looks { (found : Option (Bor (List ℕ))) → LooksAtStore
+            (get_fault self.old s n) (λ state. state) n
             self.old (C.told chip.old) (answered result found) self.new (C.told chip.new) }
         ensures asks { AsksFor n self.old (C.told chip.old) (C.told chip.new) }
-        ensures session { OnOk result (IsOpenSession self.old.transactions.sessions s) }
-        ensures numbers { OnOk result (number_of self.new.transactions.sessions s
-            ≡ number_of self.old.transactions.sessions s) }
+        ensures session { OnOk result (KeepsNumber s self.old self.new) }
     {
         self.admit(self.refuses_get(s, n))?;
         passing_laws();
@@ -103,12 +87,9 @@ impl Store {
     ) -> Result<Option<&[u8]>, StoreFault>
         requires sound { IsSound (C.told chip.old).places self.old }
         ensures* looks { sem 𝓛 (Rests the_row self.entry (λ new.
-            LooksAtStore (early_fault (entry_fault self.old) (refuses_get (limits_of self.old.units)
-            (state_of self.old.transactions.sessions) s n)) (λ state. state) n
+            LooksAtStore (get_fault self.old s n) (λ state. state) n
             self.old (C.told chip.old) result new (C.told chip.new))) }
-        ensures seen { IfOk result (λ found. IsSeen s n self.old (C.told chip.old)
-            (option_map (λ b. b.now) found)) }
-        ensures short { IfOk result (λ found. IfSome found (λ b. length b.now ≤ VALUE_LEN)) }
+        ensures seen { IfOk result (ShowsSeen s n self.old (C.told chip.old)) }
         ensures asks { AsksFor n self.old (C.told chip.old) (C.told chip.new) }
     {
         self.fetch(chip, s, n)?;
@@ -120,18 +101,13 @@ impl Store {
     /// The page of a name that a session shares, in a frame; the session shares it then.
     fn fetch_shared<C: Chip>(&mut self, chip: &mut C, s: u32, n: u32) -> Result<(), StoreFault>
         requires sound { IsSound (C.told chip.old).places self.old }
-        ensures fetches { Fetches (early_fault (entry_fault self.old)
-            (refuses_share (limits_of self.old.units) (state_of self.old.transactions.sessions)
-            s n)) (λ state. after_share state s n) n
+        ensures fetches { Fetches (share_fault self.old s n) (λ state. after_share state s n) n
             self.old (C.told chip.old) result self.new (C.told chip.new) }
-        ensures looks { (found : Option (Bor (List ℕ))) → LooksAtStore (early_fault (entry_fault self.old)
-            (refuses_share (limits_of self.old.units) (state_of self.old.transactions.sessions)
-            s n)) (λ state. after_share state s n) n
+        ensures looks { (found : Option (Bor (List ℕ))) → LooksAtStore
+            (share_fault self.old s n) (λ state. after_share state s n) n
             self.old (C.told chip.old) (answered result found) self.new (C.told chip.new) }
         ensures asks { AsksFor n self.old (C.told chip.old) (C.told chip.new) }
-        ensures session { OnOk result (IsOpenSession self.old.transactions.sessions s) }
-        ensures numbers { OnOk result (number_of self.new.transactions.sessions s
-            ≡ number_of self.old.transactions.sessions s) }
+        ensures session { OnOk result (KeepsNumber s self.old self.new) }
     {
         self.admit(self.refuses_share(s, n))?;
         passing_laws();
@@ -150,12 +126,9 @@ impl Store {
     ) -> Result<Option<&[u8]>, StoreFault>
         requires sound { IsSound (C.told chip.old).places self.old }
         ensures* looks { sem 𝓛 (Rests the_row self.entry (λ new.
-            LooksAtStore (early_fault (entry_fault self.old) (refuses_share (limits_of self.old.units)
-            (state_of self.old.transactions.sessions) s n)) (λ state. after_share state s n) n
+            LooksAtStore (share_fault self.old s n) (λ state. after_share state s n) n
             self.old (C.told chip.old) result new (C.told chip.new))) }
-        ensures seen { IfOk result (λ found. IsSeen s n self.old (C.told chip.old)
-            (option_map (λ b. b.now) found)) }
-        ensures short { IfOk result (λ found. IfSome found (λ b. length b.now ≤ VALUE_LEN)) }
+        ensures seen { IfOk result (ShowsSeen s n self.old (C.told chip.old)) }
         ensures asks { AsksFor n self.old (C.told chip.old) (C.told chip.new) }
     {
         self.fetch_shared(chip, s, n)?;
@@ -165,11 +138,10 @@ impl Store {
     /// The page of a name, in a frame.
     fn fetch_name<C: Chip>(&mut self, chip: &mut C, n: u32) -> Result<(), StoreFault>
         requires sound { IsSound (C.told chip.old).places self.old }
-        ensures fetches { Fetches (early_fault (entry_fault self.old)
-            (refuses_name (limits_of self.old.units) n)) (λ state. state) n
+        ensures fetches { Fetches (name_fault self.old n) (λ state. state) n
             self.old (C.told chip.old) result self.new (C.told chip.new) }
-        ensures looks { (found : Option (Bor (List ℕ))) → LooksAtStore (early_fault (entry_fault self.old)
-            (refuses_name (limits_of self.old.units) n)) (λ state. state) n
+        ensures looks { (found : Option (Bor (List ℕ))) → LooksAtStore
+            (name_fault self.old n) (λ state. state) n
             self.old (C.told chip.old) (answered result found) self.new (C.told chip.new) }
         ensures asks { AsksFor n self.old (C.told chip.old) (C.told chip.new) }
     {
@@ -184,13 +156,7 @@ impl Store {
             → option_map (λ b. b.now) result ≡ f.values (home_of n).slot }
         ensures short { IfSome result (λ b. length b.now ≤ VALUE_LEN) }
     {
-        let home = home(Name(n));
-        committed_value(
-            &self.transactions.pages.pool,
-            home.unit,
-            home.page,
-            home.slot,
-        )
+        committed_value(&self.transactions.pages.pool, home(Name(n)))
     }
 
     /// The committed record of a name, where it has one. The slice, of at most 464 bytes, is
@@ -198,8 +164,7 @@ impl Store {
     pub fn committed<C: Chip>(&mut self, chip: &mut C, n: u32) -> Result<Option<&[u8]>, StoreFault>
         requires sound { IsSound (C.told chip.old).places self.old }
         ensures* looks { sem 𝓛 (Rests the_row self.entry (λ new.
-            LooksAtStore (early_fault (entry_fault self.old) (refuses_name (limits_of self.old.units) n))
-            (λ state. state) n
+            LooksAtStore (name_fault self.old n) (λ state. state) n
             self.old (C.told chip.old) result new (C.told chip.new))) }
         ensures committed { IfOk result (λ found. HasCommitted n self.old (C.told chip.old)
             (option_map (λ b. b.now) found)) }

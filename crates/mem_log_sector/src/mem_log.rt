@@ -66,7 +66,7 @@ impl MemLog {
     }
 
     /// Adds a record, of page 0 to 14 and slot 0 to 63, behind the others. False exactly where it
-    /// doesn't fit in a log sector with them; they are then as they were.
+    /// doesn't fit in a log sector with them; they are then as they were. It has a spelling either way.
     pub fn push(&mut self, rec: &Record) -> bool
         requires page { rec.now.page < 15 }
         requires slot { rec.now.slot < 64 }
@@ -74,6 +74,7 @@ impl MemLog {
             ↔ (size_of_all self.old + size_of (record_of rec.now) ≤ PAYLOAD_LEN) }
         ensures pushed { OnTrue result (self.new ≡ self.old ++ record_of rec.now ∷ []) }
         ensures full { OnFalse result (self.new ≡ self.old) }
+        ensures spelled { IsRecord VERSION (record_of rec.now) }
     {
         valid(rec);
         let _ = self.payload.bytes();

@@ -10,6 +10,7 @@ use Rattle.buffer_pool.specs.Uses.{used_of}
 use Rattle.page_ops.specs.Pending.{Pendings, fill_by, with_pending}
 use Rattle.store_laws.specs.Frames.{PageFrame, Frames, with_frame_at, with_frame_log}
 use Rattle.store_laws.specs.NamedFrames.{ChangesPageOf}
+use Rattle.page_frames.specs.Views.{frames_of}
 
 -- the page of the record is in a frame of this unit, and its records have room for one more
 pub record MayPut (frames : Frames) (unit : ℕ) (r : Record) : Type 0 where
@@ -54,3 +55,8 @@ IsHome n u page = (u ≡ (home_of n).unit) × (page ≡ (home_of n).page)
 pub record OnlyPageChanges (R : PageFrame → PageFrame → Type 0) (old new : Frames) (n : ℕ) : Type 0 where
   pub here : ChangesPageOf R old new n
   pub others : (u page : ℕ) → (IsHome n u page → ⊥) → new u page ≡ old u page
+
+-- and the pool is kept beside that
+pub record ChangesHome (R : PageFrame → PageFrame → Type 0) (old new : PoolView) (n : ℕ) : Type 0 where
+  pub changes : OnlyPageChanges R (frames_of old) (frames_of new) n
+  pub pool : KeepsPool old new

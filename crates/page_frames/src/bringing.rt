@@ -2,18 +2,16 @@
 ghost use Rattle.std.specs.Prelude.{◌≡◌, ◌<◌, ◌≤◌, ◌+◌, ◌^◌, ◌⊎◌, [], ℕ, false, None, OnOk};
 ghost use Rattle.unit_io.specs.Costs.{Costs, Spends};
 ghost use Rattle.place_taking.specs.Spending.{is_worn_out};
-ghost use Rattle.merge_laws.specs.Known.{Suits};
 ghost use Rattle.buffer_pool.specs.Pools.{PoolView};
 ghost use Rattle.buffer_pool.specs.Holding.{IsAtRest};
 ghost use Rattle.buffer_pool.specs.Uses.{used_of};
-ghost use Rattle.store_laws.specs.Frames.{logs_of};
 ghost use Rattle.log_records.specs.View.{record_of};
 ghost use Rattle.page_frames.specs.Views.{frames_of};
 ghost use Rattle.page_frames.specs.Asks.{AsksToBring, AsksToEmpty, AsksToFetch, AsksToLoad, AsksToPrepare};
-ghost use Rattle.page_frames.specs.Frames.{IsVictimFor, IsUnheld, KeepsUnheld, MayGive, TakesFrame};
+ghost use Rattle.page_frames.specs.Frames.{IsVictimFor, KeepsUnheld, MayGive, TakesFrame};
 ghost use Rattle.page_frames.specs.Complete.{CompletesLoad};
 ghost use Rattle.page_frames.specs.Faulty.{FailsAsPage};
-ghost use Rattle.page_frames.specs.Filling.{Fills, with_pool};
+ghost use Rattle.page_frames.specs.Filling.{Fills, MayLoad, with_pool};
 ghost use Rattle.page_frames.specs.Pages.{
   tables_in,
   frames_in,
@@ -79,10 +77,7 @@ impl Pages {
 
     /// Loads a page into its frame, where it has no records in memory.
     fn load_frame<C: Chip>(&mut self, chip: &mut C, unit: u32, page: u32) -> Result<(), ChipFault>
-        requires suits { Suits (C.told chip.old).places (tables_in self.old) }
-        requires page { IsPageOf self.old unit page }
-        requires unheld { IsUnheld self.old.pool unit page }
-        requires empty { logs_of (frames_in self.old) unit page ≡ [] }
+        requires { MayLoad (C.told chip.old).places self.old unit page }
         ensures loads { LoadsFrame result (C.told chip.old) (tables_in self.old) unit page
             (frames_in self.old) (frames_in self.new) }
         ensures complete { CompletesLoad (tables_in self.old) unit page result
@@ -112,10 +107,7 @@ impl Pages {
 
     /// Loads a page into the frame that it was given. Where it fails, that is free again.
     fn fill<C: Chip>(&mut self, chip: &mut C, unit: u32, page: u32) -> Result<(), ChipFault>
-        requires suits { Suits (C.told chip.old).places (tables_in self.old) }
-        requires page { IsPageOf self.old unit page }
-        requires unheld { IsUnheld self.old.pool unit page }
-        requires empty { logs_of (frames_in self.old) unit page ≡ [] }
+        requires { MayLoad (C.told chip.old).places self.old unit page }
         ensures fills { (pool : PoolView) → ArePagesReady (C.told chip.old).places (with_pool self.old pool)
             → frames_of pool unit page ≡ None → TakesFrame pool self.old.pool unit page
             → Fills unit page (with_pool self.old pool) (C.told chip.old) result self.new

@@ -3,7 +3,7 @@ ghost use Rattle.std.specs.Prelude.{◌≡◌, ◌<◌, map};
 ghost use Rattle.store_laws.specs.Frames.{IsCommittedFrame, IsAbortedFrame};
 ghost use Rattle.page_frames.specs.Views.{frames_of};
 ghost use Rattle.store_laws.specs.NamedFrames.{NamedFramesChange};
-ghost use Rattle.page_frames.specs.Changes.{KeepsPool, OnlyPageChanges};
+ghost use Rattle.page_frames.specs.Changes.{ChangesHome, KeepsPool};
 
 use buffer_pool::Pool;
 use ipl_base::{Name, home};
@@ -34,9 +34,7 @@ pub fn drop_names(pool: &mut Pool, names: &[Name], tid: u64)
 
 // Makes what is pending under this number a value, in the frame of a name's page.
 fn apply_home(pool: &mut Pool, name: Name, tid: u64)
-    ensures changes { OnlyPageChanges (IsCommittedFrame tid) (frames_of pool.old)
-        (frames_of pool.new) name.0 }
-    ensures pool { KeepsPool pool.old pool.new }
+    ensures { ChangesHome (IsCommittedFrame tid) pool.old pool.new name.0 }
 {
     pool.facts();
     let at = home(name);
@@ -47,9 +45,7 @@ fn apply_home(pool: &mut Pool, name: Name, tid: u64)
 
 // Drops what is pending under this number and its records, in the frame of a name's page.
 fn drop_home(pool: &mut Pool, name: Name, tid: u64)
-    ensures changes { OnlyPageChanges (IsAbortedFrame tid) (frames_of pool.old)
-        (frames_of pool.new) name.0 }
-    ensures pool { KeepsPool pool.old pool.new }
+    ensures { ChangesHome (IsAbortedFrame tid) pool.old pool.new name.0 }
 {
     pool.facts();
     let at = home(name);

@@ -2,6 +2,7 @@
 ghost use Rattle.std.specs.Prelude.{◌≡◌, ◌≤◌, ◌<◌, ◌↔◌, ℕ, true, Some, None, IsSome, IsTrue};
 ghost use Rattle.std.specs.Bool.{OnTrue, OnFalse};
 ghost use Rattle.ipl_base.specs.declared.limits.TheConstants.{PAGE_LEN, VERSION};
+ghost use Rattle.ipl_format.specs.Record.{IsRecord};
 ghost use Rattle.log_records.specs.View.{record_of, Spells};
 ghost use Rattle.page_ops.specs.Frames.{values_in, pending_in};
 ghost use Rattle.page_ops.specs.Pending.{fill_by};
@@ -37,6 +38,7 @@ pub fn put_record(pool: &mut Pool, unit: u32, rec: &Record) -> bool
     ensures deletes { (record_of rec.now).change ≡ None → result ≡ true }
     ensures put { OnTrue result (FrameChanges (IsWrittenFrame (record_of rec.now)) (frames_of pool.old)
         (frames_of pool.new) unit rec.now.page) }
+    ensures spelled { OnTrue result (IsRecord VERSION (record_of rec.now)) }
     ensures kept { OnFalse result (frames_of pool.new ≡ frames_of pool.old) }
     ensures pool { KeepsPool pool.old pool.new }
 {

@@ -2,10 +2,7 @@
 ghost use Rattle.std.specs.Prelude.{IfOk};
 ghost use Rattle.ipl_model.specs.declared.command.Command.TheVariants as command;
 ghost use Rattle.ipl_rules.specs.Operations.{after_share};
-ghost use Rattle.ipl_rules.specs.Refusals.{refuses_get, refuses_share};
-ghost use Rattle.record_locks.specs.Standing.{state_of};
-ghost use Rattle.store_laws.specs.Keeps.{limits_of};
-ghost use Rattle.ipl_store.specs.Calls.{Calls, early_fault, entry_fault, refuses_name};
+ghost use Rattle.ipl_store.specs.Calls.{Calls, get_fault, share_fault, name_fault};
 ghost use Rattle.ipl_store.specs.Shown.{IsSeen, HasCommitted};
 ghost use Rattle.script_store.specs.Keeps.{IsRunning, DoesCommand, Finds};
 ghost use Rattle.script_store.specs.Done.{SaysSeen, HasFound};
@@ -21,9 +18,7 @@ impl ScriptStore {
     /// What a session sees of a name, as a value of its own.
     fn see<C: Chip>(&mut self, chip: &mut C, s: u32, n: u32) -> Result<Option<Value>, StoreFault>
         requires runs { IsRunning (C.told chip.old).places self.old }
-        ensures calls { Calls (early_fault (entry_fault self.old.store)
-            (refuses_get (limits_of self.old.store.units)
-            (state_of self.old.store.transactions.sessions) s n)) (λ state. state) 14
+        ensures calls { Calls (get_fault self.old.store s n) (λ state. state) 14
             self.old.store (C.told chip.old) result self.new.store (C.told chip.new) }
         ensures seen { IfOk result (λ found. IsSeen s n self.old.store (C.told chip.old) found) }
     {
@@ -41,10 +36,7 @@ impl ScriptStore {
         n: u32,
     ) -> Result<Option<Value>, StoreFault>
         requires runs { IsRunning (C.told chip.old).places self.old }
-        ensures calls { Calls (early_fault (entry_fault self.old.store)
-            (refuses_share (limits_of self.old.store.units)
-            (state_of self.old.store.transactions.sessions) s n))
-            (λ state. after_share state s n) 14
+        ensures calls { Calls (share_fault self.old.store s n) (λ state. after_share state s n) 14
             self.old.store (C.told chip.old) result self.new.store (C.told chip.new) }
         ensures seen { IfOk result (λ found. IsSeen s n self.old.store (C.told chip.old) found) }
     {
@@ -57,8 +49,7 @@ impl ScriptStore {
     /// The committed record of a name, as a value of its own.
     fn find<C: Chip>(&mut self, chip: &mut C, n: u32) -> Result<Option<Value>, StoreFault>
         requires runs { IsRunning (C.told chip.old).places self.old }
-        ensures calls { Calls (early_fault (entry_fault self.old.store)
-            (refuses_name (limits_of self.old.store.units) n)) (λ state. state) 14
+        ensures calls { Calls (name_fault self.old.store n) (λ state. state) 14
             self.old.store (C.told chip.old) result self.new.store (C.told chip.new) }
         ensures committed { IfOk result (λ found. HasCommitted n self.old.store (C.told chip.old)
             found) }

@@ -1,11 +1,9 @@
 //! A name is changed.
-ghost use Rattle.std.specs.Prelude.{◌≡◌, ◌<◌, ◌+◌, ◌^◌, ◌≤◌, length, slice_index, false, OnErr};
+ghost use Rattle.std.specs.Prelude.{◌≡◌, ◌<◌, ◌+◌, ◌^◌, length, slice_index, false, OnErr};
 ghost use Rattle.ipl_base.specs.declared.fault.ChipFault.TheVariants.{Malformed};
-ghost use Rattle.ipl_base.specs.declared.limits.TheConstants.{VALUE_LEN, VERSION};
 ghost use Rattle.ipl_base.specs.Places.{home_of};
 ghost use Rattle.ipl_base.specs.Sizes.{size_in_page};
-ghost use Rattle.ipl_format.specs.Record.{IsRecord, value_of};
-ghost use Rattle.log_records.specs.View.{change_of, record_of};
+ghost use Rattle.log_records.specs.View.{change_of};
 ghost use Rattle.ipl_rules.specs.Operations.{after_write};
 ghost use Rattle.place_taking.specs.Spending.{is_worn_out};
 ghost use Rattle.page_frames.specs.Pages.{FramesPage};
@@ -62,7 +60,6 @@ impl Transactions {
             tid,
             change,
         };
-        has_spelling(&record);
         self.pages.prepare(chip, home.unit, &record)?;
         if !put_record(&mut self.pages.pool, home.unit, &record) {
             return Err(self.no_room(home.unit));
@@ -82,33 +79,12 @@ impl Transactions {
     }
 }
 
-// A record of page 0 to 14 and slot 0 to 63 has a spelling.
-fn has_spelling(rec: &Record)
-    requires page { rec.now.page < 15 }
-    requires slot { rec.now.slot < 64 }
-    ensures { IsRecord VERSION (record_of rec.now) }
-{
-    let _ = rec.tid.to_be_bytes();
-    let _ = value_len(&rec.change);
-}
-
 // What the value of a change takes in the text of its page, at most 467 bytes.
 fn size_in_page(change: &Change) -> u32
     ensures { result ≡ size_in_page (change_of change.now) }
 {
     match change {
         Change::Put(value) => 3 + value.bytes().len() as u32,
-        Change::Delete => 0,
-    }
-}
-
-// How many bytes the value of a change has, at most 464.
-fn value_len(change: &Change) -> usize
-    ensures len { result ≡ length (value_of (change_of change.now)) }
-    ensures short { result ≤ VALUE_LEN }
-{
-    match change {
-        Change::Put(value) => value.bytes().len(),
         Change::Delete => 0,
     }
 }

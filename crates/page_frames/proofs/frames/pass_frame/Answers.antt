@@ -33,6 +33,6 @@ returns c =
       takes = comes_takes it.between c.pass-pin.new.self c.unpin.new.self c.args.to_unit
           c.args.to_page c.pass-pin.result it.sound.once c.facts-2.ensures.once
           (none_between c.args.pool.now it.between c.args.unit c.args.page c.args.to_unit
-          c.args.to_page frees c.requires.absent) it.comes c.unpin.ensures.limit
+          c.args.to_page frees c.requires.absent) it.comes c.unpin.ensures.keeps.limit
           c.unpin.ensures.buffers;
     }

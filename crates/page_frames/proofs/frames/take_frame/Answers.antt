@@ -24,4 +24,4 @@ returns c =
       len = is.len;
       counts = is.counts;
       last = is.last;
-    }) c.unpin.ensures.limit c.unpin.ensures.buffers
+    }) c.unpin.ensures.keeps.limit c.unpin.ensures.buffers

@@ -11,4 +11,4 @@ pub returns-clause-rest : goal.returns-clause-rest
 returns-clause-rest c =
     let pin = c.pin.ensures in
     hold_rests c.args.self.now c.pin.new.self c.args.unit c.args.page c.pin.result.key pin.has
-    c.requires.free pin.buffers pin.counts.limit
+    c.requires.free pin.buffers pin.uses.counts.limit

@@ -24,7 +24,7 @@ returns-in_err-len-clause-calls g c =
     c.bad_key.result _ n _ c.bad_key.ensures c.name_of-n.ensures.name
     (changes_failed (early_key_fault a c.bad_key.result s) s n
     (λ pairs mid told. IsBucketWritten s n (remove_pair bytes pairs) mid told (Err fault) b after) a b before
-    after fault c.in_err-len.ensures.calls))
+    after fault c.in_err-len.ensures.copies.calls))
 
 pub returns-in_err-len-clause-serves : goal.returns-in_err-len-clause-serves
 returns-in_err-len-clause-serves g c =
@@ -52,12 +52,12 @@ returns-clause-calls g c =
     let s = c.args.s in
     let n = c.name_of-n.result in
     let result = c.write.result in
-    let (pairs, spells) = c.in_ok-len.ensures.bucket in
+    let (pairs, spells) = c.in_ok-len.ensures.copies.bucket in
     named s a b before after result (λ m. Dels s m bytes a before result b after)
     c.bad_key.result _ n _ c.bad_key.ensures c.name_of-n.ensures.name
     (changes_read (early_key_fault a c.bad_key.result s) s n
     (λ ps store t. IsBucketWritten s n (remove_pair bytes ps) store t result b after) a mid before told b after
-    result c.in_ok-len.len (take c.in_ok-len.len c.look.new.self.bucket) pairs c.in_ok-len.ensures.calls
+    result c.in_ok-len.len (take c.in_ok-len.len c.look.new.self.bucket) pairs c.in_ok-len.ensures.copies.calls
     spells (pairs_written s n (take c.without-end.result c.without-end.new.into) (remove_pair bytes pairs)
     mid b told after result (c.without-end.ensures.removed pairs spells) c.write.ensures.writes)
     c.write.ensures.sound c.write.ensures.units c.write.ensures.counts)

@@ -21,7 +21,7 @@ returns-in_err-len g c =
             (named c.args.s a b before after (Err fault) (λ n. Gets c.args.s n bytes a before (Err fault) b after)
             c.bad_key.result _ c.name_of-n.result _ c.bad_key.ensures c.name_of-n.ensures.name
             (gets_failed (early_key_fault a c.bad_key.result c.args.s) c.args.s c.name_of-n.result bytes fault a b
-            before after c.in_err-len.ensures.calls)),
+            before after c.in_err-len.ensures.copies.calls)),
       ),
       record { gets = tt },
     )
@@ -41,7 +41,7 @@ returns g c =
             (named c.args.s a b before after (Ok found) (λ n. Gets c.args.s n bytes a before (Ok found) b after)
             c.bad_key.result _ c.name_of-n.result _ c.bad_key.ensures c.name_of-n.ensures.name
             (gets_found (early_key_fault a c.bad_key.result c.args.s) c.args.s c.name_of-n.result c.in_ok-len.len
-            bytes (take c.in_ok-len.len c.look.new.self.bucket) found a b before after c.in_ok-len.ensures.calls
+            bytes (take c.in_ok-len.len c.look.new.self.bucket) found a b before after c.in_ok-len.ensures.copies.calls
             c.found.ensures)),
       ),
       record { gets = tt },

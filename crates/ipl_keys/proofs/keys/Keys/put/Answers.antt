@@ -28,7 +28,7 @@ returns-in_err-len-clause-calls g c =
     (changes_failed (early_key_fault a c.bad_pair.result s) s n
     (λ pairs mid told. IsFull n (set_pair bytes value pairs) mid told (Err fault) b after
     ⊎ IsBucketWritten s n (set_pair bytes value pairs) mid told (Err fault) b after) a b before
-    after fault c.in_err-len.ensures.calls))
+    after fault c.in_err-len.ensures.copies.calls))
 
 pub returns-in_err-len-clause-serves : goal.returns-in_err-len-clause-serves
 returns-in_err-len-clause-serves g c =
@@ -59,13 +59,13 @@ returns-clause-calls g c =
     let s = c.args.s in
     let n = c.name_of-n.result in
     let result = c.write.result in
-    let (pairs, spells) = c.in_ok-len.ensures.bucket in
+    let (pairs, spells) = c.in_ok-len.ensures.copies.bucket in
     named s a b before after result (λ m. Puts s m bytes value a before result b after)
     c.bad_pair.result _ n _ c.bad_pair.ensures c.name_of-n.ensures.name
     (changes_read (early_key_fault a c.bad_pair.result s) s n
     (λ ps store t. IsFull n (set_pair bytes value ps) store t result b after
     ⊎ IsBucketWritten s n (set_pair bytes value ps) store t result b after) a mid before told b after
-    result c.in_ok-len.len (take c.in_ok-len.len c.look.new.self.bucket) pairs c.in_ok-len.ensures.calls
+    result c.in_ok-len.len (take c.in_ok-len.len c.look.new.self.bucket) pairs c.in_ok-len.ensures.copies.calls
     spells (inr (pairs_written s n (take c.in-Some.end c.with_pair.new.into) (set_pair bytes value pairs)
     mid b told after result (c.in-Some.ensures.set pairs spells) c.write.ensures.writes))
     c.write.ensures.sound c.write.ensures.units c.write.ensures.counts)
@@ -95,7 +95,7 @@ returns-in_default-clause-calls g c =
     let value = c.args.value.now in
     let s = c.args.s in
     let n = c.name_of-n.result in
-    let (pairs, spells) = c.in_ok-len.ensures.bucket in
+    let (pairs, spells) = c.in_ok-len.ensures.copies.bucket in
     let changed = set_pair bytes value pairs in
     let full : IsFull n changed b after (full_at n) b after =
     record { long = c.in_default.ensures.full pairs spells; answer = refl; same = refl; idle = refl } in
@@ -105,9 +105,9 @@ returns-in_default-clause-calls g c =
     (λ ps store t. IsFull n (set_pair bytes value ps) store t (full_at n) b after
     ⊎ IsBucketWritten s n (set_pair bytes value ps) store t (full_at n) b after) a b before after b after
     (full_at n) c.in_ok-len.len (take c.in_ok-len.len c.look.new.self.bucket) pairs
-    c.in_ok-len.ensures.calls spells (inl full)
-    (subst (λ (p : ℕ). IsSound p b) (sym c.in_ok-len.ensures.calls.counts.places)
-    c.in_ok-len.ensures.calls.sound) refl (counts_none after))
+    c.in_ok-len.ensures.copies.calls spells (inl full)
+    (subst (λ (p : ℕ). IsSound p b) (sym c.in_ok-len.ensures.copies.calls.counts.places)
+    c.in_ok-len.ensures.copies.calls.sound) refl (counts_none after))
 
 pub returns-in_default-clause-serves : goal.returns-in_default-clause-serves
 returns-in_default-clause-serves g c =

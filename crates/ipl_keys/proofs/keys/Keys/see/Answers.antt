@@ -1,15 +1,11 @@
-use Rattle.ipl_rules.specs.Refusals.{refuses_get}
-use Rattle.record_locks.specs.Standing.{state_of}
-use Rattle.store_laws.specs.Keeps.{limits_of}
-use Rattle.ipl_store.specs.Calls.{early_fault, entry_fault}
+use Rattle.ipl_store.specs.Calls.{get_fault}
 use Rattle.ipl_keys.proofs.ReadLemmas.{found_as, failed_as}
 use Rattle.ipl_keys.proofs.keys.Keys.see.Goals as goal
 
 pub returns-in-Ok-clause-calls : goal.returns-in-Ok-clause-calls
 returns-in-Ok-clause-calls g c =
     let store = c.args.self.now.store in
-    found_as (early_fault (entry_fault store) (refuses_get (limits_of store.units)
-    (state_of store.transactions.sessions) c.args.s c.args.n)) (λ state. state) 14 store
+    found_as (get_fault store c.args.s c.args.n) (λ state. state) 14 store
     (g.C.Chip.told c.args.chip.now) c.get.result c.in-Ok.found c.copy.result
     c.get.follows.lender-at-none (g.C.Chip.told c.get.new.chip) c.in-Ok.is
     c.get.follows.holds-at-none.calls
@@ -17,7 +13,6 @@ returns-in-Ok-clause-calls g c =
 pub returns-in-Err-clause-calls : goal.returns-in-Err-clause-calls
 returns-in-Err-clause-calls g c =
     let store = c.args.self.now.store in
-    failed_as (early_fault (entry_fault store) (refuses_get (limits_of store.units)
-    (state_of store.transactions.sessions) c.args.s c.args.n)) (λ state. state) 14 store
+    failed_as (get_fault store c.args.s c.args.n) (λ state. state) 14 store
     (g.C.Chip.told c.args.chip.now) c.get.result c.in-Err.fault c.get.follows.lender-at-none
     (g.C.Chip.told c.get.new.chip) c.in-Err.is c.get.follows.holds-at-none.calls

@@ -22,11 +22,13 @@ returns-clause-calls g c =
     c.abort.ensures.turns (omega (arith, c.abort.ensures.drawn))
     (omega (arith, c.abort.ensures.drawn)) none
 
-pub returns-in_err-admit_end-clause-framed : goal.returns-in_err-admit_end-clause-framed
-returns-in_err-admit_end-clause-framed g c = λ u page is. is
+pub returns-in_err-admit_end-clause-memory : goal.returns-in_err-admit_end-clause-memory
+returns-in_err-admit_end-clause-memory g c =
+    record { holds = search; framed = λ u page is. is; idle = refl }
 
-pub returns-clause-framed : goal.returns-clause-framed
-returns-clause-framed g c = c.abort.ensures.framed
+pub returns-clause-memory : goal.returns-clause-memory
+returns-clause-memory g c =
+    record { holds = search; framed = c.abort.ensures.framed; idle = refl }
 
 pub returns-in_err-admit_end-clause-calls : goal.returns-in_err-admit_end-clause-calls
 returns-in_err-admit_end-clause-calls g c =

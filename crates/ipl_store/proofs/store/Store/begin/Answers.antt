@@ -22,11 +22,13 @@ returns-clause-calls g c =
     c.begin.ensures.turns (omega (arith, c.begin.ensures.drawn))
     (omega (arith, c.begin.ensures.drawn)) none
 
-pub returns-in_err-admit-clause-framed : goal.returns-in_err-admit-clause-framed
-returns-in_err-admit-clause-framed g c = λ u page is. is
+pub returns-in_err-admit-clause-memory : goal.returns-in_err-admit-clause-memory
+returns-in_err-admit-clause-memory g c =
+    record { holds = search; framed = λ u page is. is; idle = refl }
 
-pub returns-clause-framed : goal.returns-clause-framed
-returns-clause-framed g c = c.begin.ensures.framed
+pub returns-clause-memory : goal.returns-clause-memory
+returns-clause-memory g c =
+    record { holds = search; framed = c.begin.ensures.framed; idle = refl }
 
 pub returns-clause-drawn : goal.returns-clause-drawn
 returns-clause-drawn g c = c.begin.ensures.drawn

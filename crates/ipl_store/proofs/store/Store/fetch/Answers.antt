@@ -81,9 +81,8 @@ returns-clause-session g c =
     let early = early_fault (entry_fault store) refusal in
     let none : early ≡ None =
     ap (early_fault (entry_fault store)) (sym c.refuses_get.ensures) ∙ sym c.in_ok-admit.ensures in
-    on_ok c.bring.result (passed_gets store.units store.transactions.sessions c.args.s c.args.n
-    (let_in store refusal none).2).session
-
-pub returns-clause-numbers : goal.returns-clause-numbers
-returns-clause-numbers g c = on_ok c.bring.result
-    (ap (λ (slots : SessionSlots). number_of slots c.args.s) c.bring.ensures.sessions)
+    on_ok c.bring.result (record {
+      session = (passed_gets store.units store.transactions.sessions c.args.s c.args.n
+          (let_in store refusal none).2).session;
+      number = ap (λ (slots : SessionSlots). number_of slots c.args.s) c.bring.ensures.sessions;
+    })

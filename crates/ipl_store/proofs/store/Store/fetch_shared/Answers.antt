@@ -143,9 +143,9 @@ returns-clause-session g c =
     let none : early ≡ None =
     ap (early_fault (entry_fault store)) (sym c.refuses_share.ensures)
     ∙ sym c.in_ok-admit.ensures in
-    (passed_shares store.units store.transactions.sessions c.args.s c.args.n
-    (let_in store refusal none).2).0.session
-
-pub returns-clause-numbers : goal.returns-clause-numbers
-returns-clause-numbers g c = c.share.ensures.same
-    ∙ ap (λ (slots : SessionSlots). number_of slots c.args.s) c.bring.ensures.sessions
+    record {
+      session = (passed_shares store.units store.transactions.sessions c.args.s c.args.n
+          (let_in store refusal none).2).0.session;
+      number = c.share.ensures.same
+          ∙ ap (λ (slots : SessionSlots). number_of slots c.args.s) c.bring.ensures.sessions;
+    }

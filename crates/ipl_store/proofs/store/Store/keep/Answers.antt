@@ -17,7 +17,7 @@ returns-clause-pool c =
       frames = c.buffer_laws.ensures.pins pool c.hold.new.self c.args.unit c.args.page holds.key
           (with_pin pool.clock) c.facts.ensures.once holds.has
           (λ b. record { page = (refl, refl); frame = refl }) holds.changes;
-      limit = c.hold.ensures.counts.limit;
+      limit = c.hold.ensures.uses.counts.limit;
       at_rest = c.hold.ensures.rest c.requires.rest c.requires.few;
     }
 

@@ -10,6 +10,6 @@ returns-clause-pool c =
       frames = c.buffer_laws.ensures.pins pool c.release.new.self c.args.unit c.args.page
           releases.key without_pin c.facts.ensures.once releases.has
           (λ b. record { page = (refl, refl); frame = refl }) releases.changes;
-      limit = c.release.ensures.limit;
+      limit = c.release.ensures.keeps.limit;
       at_rest = c.release.ensures.rest;
     }

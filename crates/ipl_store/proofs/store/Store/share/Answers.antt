@@ -8,22 +8,25 @@ returns-in_err-fetch_shared g c =
     let e = err_from_is_err_and c.from_residual.result c.from_residual.ensures.1 in
     rw (e.1 ∙ ap Err e.2) (
       (refl, λ _. tt, c.in_err-fetch_shared.ensures.looks None),
-      record { looks = tt; seen = tt; short = tt; asks = c.in_err-fetch_shared.ensures.asks },
+      record { looks = tt; seen = tt; asks = c.in_err-fetch_shared.ensures.asks },
     )
 
 pub returns : goal.returns
 returns g c =
-    let session = c.in_ok-fetch_shared.ensures.session in
+    let keeps = c.in_ok-fetch_shared.ensures.session in
+    let session = keeps.session in
     let names = c.in_ok-fetch_shared.ensures.fetches.names in (
       (refl, λ _. tt, c.in_ok-fetch_shared.ensures.looks c.seen.result),
       record {
         looks = tt;
-        seen = seen_told c.args.s c.args.n session.number c.args.self.now
-            (g.C.Chip.told c.args.chip.now) c.fetch_shared.new.self
-            (option_map (λ b. b.now) c.seen.result) names session.number_is
-            (c.seen.ensures.seen names.frame session.number
-            (c.in_ok-fetch_shared.ensures.numbers ∙ session.number_is) names.there);
-        short = c.seen.ensures.short;
+        seen = record {
+          seen = seen_told c.args.s c.args.n session.number c.args.self.now
+              (g.C.Chip.told c.args.chip.now) c.fetch_shared.new.self
+              (option_map (λ b. b.now) c.seen.result) names session.number_is
+              (c.seen.ensures.seen names.frame session.number
+              (keeps.number ∙ session.number_is) names.there);
+          short = c.seen.ensures.short;
+        };
         asks = c.in_ok-fetch_shared.ensures.asks;
       },
     )

@@ -5,6 +5,7 @@ use Rattle.chip_trait.specs.Told.{Told}
 use Rattle.ipl_meaning.specs.Tables.{Tables}
 use Rattle.unit_io.specs.Costs.{Costs, Spends}
 use Rattle.place_taking.specs.Spending.{is_worn_out}
+use Rattle.merge_laws.specs.Known.{Suits}
 use Rattle.page_ops.specs.Frames.{empty_frame}
 use Rattle.buffer_pool.specs.Pools.{PoolView}
 use Rattle.store_laws.specs.Frames.{Frames, logs_of}
@@ -22,11 +23,20 @@ use Rattle.page_frames.proofs.HeldLemmas.{taken_log}
 use Rattle.page_frames.proofs.SpendLemmas.{logs_then_reads}
 use Rattle.page_frames.proofs.pages.Pages.fetch.Goals as goal
 
-pub fill-requires-clause-empty : goal.fill-requires-clause-empty
-fill-requires-clause-empty g c =
+pub fill-requires : goal.fill-requires
+fill-requires g c =
     let it = c.give_frame.ensures in
-    ap (λ (F : Frames). logs_of F c.args.unit c.args.page) it.takes.frames
-    ∙ taken_log (frames_of it.between) c.args.unit c.args.page (frame_of empty_frame []) refl
+    let upholds = c.in_ok-empty_victim.ensures.works.upholds in record {
+      suits = subst (λ (n : ℕ). Suits n (tables_in c.empty_victim.new.self))
+          (sym upholds.accounts.counts.places) upholds.ready.known.suits;
+      page_of = record {
+        unit = rw upholds.units c.requires.page.unit;
+        few = c.requires.page.few;
+      };
+      unheld = search;
+      empty = ap (λ (F : Frames). logs_of F c.args.unit c.args.page) it.takes.frames
+          ∙ taken_log (frames_of it.between) c.args.unit c.args.page (frame_of empty_frame []) refl;
+    }
 
 pub returns-clause-works : goal.returns-clause-works
 returns-clause-works g c =

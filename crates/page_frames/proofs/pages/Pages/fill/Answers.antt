@@ -34,7 +34,7 @@ returns-in-Ok-clause-fills g c = λ pool ready absent takes.
     (frame_of empty_frame []) (frame_of is.loads.view []) takes.frames is.loads.frames in record {
       works = works_done 0 old new told (g.C.Chip.told c.load_frame.new.chip)
           (load_upholds u q is.loads.view old new told
-          (g.C.Chip.told c.load_frame.new.chip) ready c.requires.page.unit c.requires.page.few absent
+          (g.C.Chip.told c.load_frame.new.chip) ready c.requires.page_of.unit c.requires.page_of.few absent
           is.tables frames is.asks.reads is.loads.loaded
           (both_keep pool c.args.self.now.pool new.pool takes.pins is.pool.pins));
       exact = is.exact;
@@ -64,10 +64,10 @@ returns-in-Err-clause-fills g c = λ pool ready absent takes.
             (both_keep pool c.args.self.now.pool c.free_frame.new.pool takes.pins
             (both_keep c.args.self.now.pool mid.pool c.free_frame.new.pool is.pool.pins
             c.free_frame.ensures.pins)) is.asks.accounts.cause;
-        complete = loaded_completes {T = Unit {0}} u q old (Err c.in-Err.fault) told c.requires.page.unit
-            c.requires.page.few is.complete;
-        faults = loaded_tells {T = Unit {0}} u q old new (Err c.in-Err.fault) told c.requires.page.unit
-            c.requires.page.few is.tables is.exact;
+        complete = loaded_completes {T = Unit {0}} u q old (Err c.in-Err.fault) told c.requires.page_of.unit
+            c.requires.page_of.few is.complete;
+        faults = loaded_tells {T = Unit {0}} u q old new (Err c.in-Err.fault) told c.requires.page_of.unit
+            c.requires.page_of.few is.tables is.exact;
       };
       exact = is.exact;
       brings = freed;

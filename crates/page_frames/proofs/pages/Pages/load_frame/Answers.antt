@@ -93,5 +93,5 @@ returns-clause-pool g c =
 pub returns-clause-asks : goal.returns-clause-asks
 returns-clause-asks g c =
     load_asks c.args.self.now.parts.directory _ _ c.args.page c.load.result
-    (g.C.Chip.told c.args.chip.now) (g.C.Chip.told c.load.new.chip) c.requires.page.few
+    (g.C.Chip.told c.args.chip.now) (g.C.Chip.told c.load.new.chip) c.requires.page_of.few
     c.load.ensures.looks.reads c.load.ensures.looks.cause

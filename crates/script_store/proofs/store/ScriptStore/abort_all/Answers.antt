@@ -26,9 +26,9 @@ loop-s-preserved g c =
     let told = g.C.Chip.told c.args.chip.now in
     let b : ScriptStore = record { store = c.abort.new.self } in
     let calls = calls_idle l.self b told (g.C.Chip.told l.chip) (g.C.Chip.told c.abort.new._chip) l.s c.abort.result
-    l.invariant.idle c.abort.ensures.idle c.abort.ensures.calls in
+    l.invariant.idle c.abort.ensures.memory.idle c.abort.ensures.calls in
     record {
-      idle = c.abort.ensures.idle ∙ l.invariant.idle;
+      idle = c.abort.ensures.memory.idle ∙ l.invariant.idle;
       aborts = aborts_more a l.self b told l.s c.abort.result l.invariant.aborts calls c.abort.ensures.early;
       closed = closed_more a l.self b told l.s c.abort.result l.invariant.aborts (omega (arith, c.loop-s-test.true))
           calls c.abort.ensures.early c.abort.ensures.ended l.invariant.closed;

@@ -1,6 +1,5 @@
 use Rattle.std.proofs.Common.{Bor, List, ℕ, option_map, sym, subst}
-use Rattle.store_laws.specs.Keeps.{limits_of}
-use Rattle.ipl_store.specs.Calls.{early_fault, entry_fault, refuses_name}
+use Rattle.ipl_store.specs.Calls.{name_fault}
 use Rattle.ipl_store.specs.Shown.{HasCommitted}
 use Rattle.script_store.proofs.SeeLemmas.{found_calls, failed_calls}
 use Rattle.script_store.proofs.store.ScriptStore.find.Goals as goal
@@ -8,8 +7,7 @@ use Rattle.script_store.proofs.store.ScriptStore.find.Goals as goal
 pub returns-in-Ok-clause-calls : goal.returns-in-Ok-clause-calls
 returns-in-Ok-clause-calls g c =
     let store = c.args.self.now.store in
-    found_calls (option_map (λ (b : Bor (List ℕ)). b.now)) (early_fault (entry_fault store)
-    (refuses_name (limits_of store.units) c.args.n)) (λ state. state) 14 store
+    found_calls (option_map (λ (b : Bor (List ℕ)). b.now)) (name_fault store c.args.n) (λ state. state) 14 store
     (g.C.Chip.told c.args.chip.now) c.committed.result
     c.in-Ok.found c.copied.result c.committed.follows.lender-at-none
     (g.C.Chip.told c.committed.new.chip) c.in-Ok.is c.copied.ensures
@@ -23,8 +21,7 @@ returns-in-Ok-clause-committed g c =
 pub returns-in-Err-clause-calls : goal.returns-in-Err-clause-calls
 returns-in-Err-clause-calls g c =
     let store = c.args.self.now.store in
-    failed_calls (option_map (λ (b : Bor (List ℕ)). b.now)) (early_fault (entry_fault store)
-    (refuses_name (limits_of store.units) c.args.n)) (λ state. state) 14 store
+    failed_calls (option_map (λ (b : Bor (List ℕ)). b.now)) (name_fault store c.args.n) (λ state. state) 14 store
     (g.C.Chip.told c.args.chip.now) c.committed.result
     c.in-Err.fault c.committed.follows.lender-at-none (g.C.Chip.told c.committed.new.chip)
     c.in-Err.is c.committed.follows.holds-at-none.calls

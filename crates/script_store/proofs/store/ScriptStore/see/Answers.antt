@@ -1,8 +1,5 @@
 use Rattle.std.proofs.Common.{Bor, List, ℕ, option_map, sym, subst}
-use Rattle.ipl_rules.specs.Refusals.{refuses_get}
-use Rattle.record_locks.specs.Standing.{state_of}
-use Rattle.store_laws.specs.Keeps.{limits_of}
-use Rattle.ipl_store.specs.Calls.{early_fault, entry_fault}
+use Rattle.ipl_store.specs.Calls.{get_fault}
 use Rattle.ipl_store.specs.Shown.{IsSeen}
 use Rattle.script_store.proofs.SeeLemmas.{found_calls, failed_calls}
 use Rattle.script_store.proofs.store.ScriptStore.see.Goals as goal
@@ -10,8 +7,7 @@ use Rattle.script_store.proofs.store.ScriptStore.see.Goals as goal
 pub returns-in-Ok-clause-calls : goal.returns-in-Ok-clause-calls
 returns-in-Ok-clause-calls g c =
     let store = c.args.self.now.store in
-    found_calls (option_map (λ (b : Bor (List ℕ)). b.now)) (early_fault (entry_fault store)
-    (refuses_get (limits_of store.units) (state_of store.transactions.sessions) c.args.s c.args.n))
+    found_calls (option_map (λ (b : Bor (List ℕ)). b.now)) (get_fault store c.args.s c.args.n)
     (λ state. state) 14 store (g.C.Chip.told c.args.chip.now) c.get.result
     c.in-Ok.found c.copied.result c.get.follows.lender-at-none
     (g.C.Chip.told c.get.new.chip) c.in-Ok.is c.copied.ensures
@@ -20,13 +16,12 @@ returns-in-Ok-clause-calls g c =
 pub returns-in-Ok-clause-seen : goal.returns-in-Ok-clause-seen
 returns-in-Ok-clause-seen g c =
     subst (IsSeen c.args.s c.args.n c.args.self.now.store (g.C.Chip.told c.args.chip.now))
-    (sym c.copied.ensures) c.in-Ok.ensures.seen
+    (sym c.copied.ensures) c.in-Ok.ensures.seen.seen
 
 pub returns-in-Err-clause-calls : goal.returns-in-Err-clause-calls
 returns-in-Err-clause-calls g c =
     let store = c.args.self.now.store in
-    failed_calls (option_map (λ (b : Bor (List ℕ)). b.now)) (early_fault (entry_fault store)
-    (refuses_get (limits_of store.units) (state_of store.transactions.sessions) c.args.s c.args.n))
+    failed_calls (option_map (λ (b : Bor (List ℕ)). b.now)) (get_fault store c.args.s c.args.n)
     (λ state. state) 14 store (g.C.Chip.told c.args.chip.now) c.get.result
     c.in-Err.fault c.get.follows.lender-at-none (g.C.Chip.told c.get.new.chip)
     c.in-Err.is c.get.follows.holds-at-none.calls

@@ -1,9 +1,6 @@
 use Rattle.std.proofs.Common.{Bor, List, ℕ, option_map, sym, subst}
 use Rattle.ipl_rules.specs.Operations.{after_share}
-use Rattle.ipl_rules.specs.Refusals.{refuses_share}
-use Rattle.record_locks.specs.Standing.{state_of}
-use Rattle.store_laws.specs.Keeps.{limits_of}
-use Rattle.ipl_store.specs.Calls.{early_fault, entry_fault}
+use Rattle.ipl_store.specs.Calls.{share_fault}
 use Rattle.ipl_store.specs.Shown.{IsSeen}
 use Rattle.script_store.proofs.SeeLemmas.{found_calls, failed_calls}
 use Rattle.script_store.proofs.store.ScriptStore.see_shared.Goals as goal
@@ -11,9 +8,7 @@ use Rattle.script_store.proofs.store.ScriptStore.see_shared.Goals as goal
 pub returns-in-Ok-clause-calls : goal.returns-in-Ok-clause-calls
 returns-in-Ok-clause-calls g c =
     let store = c.args.self.now.store in
-    found_calls (option_map (λ (b : Bor (List ℕ)). b.now)) (early_fault (entry_fault store)
-    (refuses_share (limits_of store.units) (state_of store.transactions.sessions) c.args.s
-    c.args.n)) (λ state. after_share state c.args.s c.args.n) 14 store
+    found_calls (option_map (λ (b : Bor (List ℕ)). b.now)) (share_fault store c.args.s c.args.n) (λ state. after_share state c.args.s c.args.n) 14 store
     (g.C.Chip.told c.args.chip.now) c.share.result
     c.in-Ok.found c.copied.result c.share.follows.lender-at-none
     (g.C.Chip.told c.share.new.chip) c.in-Ok.is c.copied.ensures
@@ -22,14 +17,12 @@ returns-in-Ok-clause-calls g c =
 pub returns-in-Ok-clause-seen : goal.returns-in-Ok-clause-seen
 returns-in-Ok-clause-seen g c =
     subst (IsSeen c.args.s c.args.n c.args.self.now.store (g.C.Chip.told c.args.chip.now))
-    (sym c.copied.ensures) c.in-Ok.ensures.seen
+    (sym c.copied.ensures) c.in-Ok.ensures.seen.seen
 
 pub returns-in-Err-clause-calls : goal.returns-in-Err-clause-calls
 returns-in-Err-clause-calls g c =
     let store = c.args.self.now.store in
-    failed_calls (option_map (λ (b : Bor (List ℕ)). b.now)) (early_fault (entry_fault store)
-    (refuses_share (limits_of store.units) (state_of store.transactions.sessions) c.args.s
-    c.args.n)) (λ state. after_share state c.args.s c.args.n) 14 store
+    failed_calls (option_map (λ (b : Bor (List ℕ)). b.now)) (share_fault store c.args.s c.args.n) (λ state. after_share state c.args.s c.args.n) 14 store
     (g.C.Chip.told c.args.chip.now) c.share.result
     c.in-Err.fault c.share.follows.lender-at-none (g.C.Chip.told c.share.new.chip)
     c.in-Err.is c.share.follows.holds-at-none.calls

@@ -72,7 +72,7 @@ returns-clause-turns g c =
       sessions = c.write.new.self;
     }) c.prepare.new.self (g.C.Chip.told c.args.chip.now) (g.C.Chip.told c.prepare.new.chip)
     c.requires.order c.requires.may.session (sym c.number.ensures ∙ c.in-Some.is) c.requires.may.name
-    c.home-home.ensures.exact c.has_spelling.ensures c.in_ok-prepare.ensures.works.upholds
+    c.home-home.ensures.exact (OnTrue_at c.if-not-put_record.false c.put_record.ensures.spelled) c.in_ok-prepare.ensures.works.upholds
     (did ∙ ap (after_slots old.sessions s name) c.size_in_page.ensures)
     (locks_of c.write.new.self c.facts.ensures.all c.facts.ensures.one_writer c.facts.ensures.sized
     c.facts.ensures.few) refl put
