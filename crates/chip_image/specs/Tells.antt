@@ -1,21 +1,11 @@
 -- What chips tell that tell nothing of what they hold.
-use Rattle.std.specs.Prelude.{◌≡◌, ◌≤◌, ◌+◌, ◌-◌, ◌^◌, min, ℕ, true, false, None, Result, MatchResult}
-use Rattle.chip_trait.specs.Told.{Told, Beside, IsConsistent}
-use Rattle.chip_image.specs.declared.faults.Faults.{Faults}
+use Rattle.std.specs.Prelude.{◌≡◌, ◌≤◌, ℕ, false, None, Result, MatchResult}
+use Rattle.chip_trait.specs.Told.{Told, IsConsistent}
+use Rattle.chip_mem.specs.declared.faults.Faults.{Faults}
+use Rattle.chip_mem.specs.Plan.{counted}
+use Rattle.chip_mem.specs.Tells.{apart}
 use Rattle.chip_image.specs.declared.file_chip.FileChip.{FileChip}
 use Rattle.chip_image.specs.declared.no_chip.NoChip.{NoChip}
-
--- nothing has failed yet
-abbrev pub none_yet : Faults
-none_yet = record { settled = true; reads = 0; writes = 0 }
-
--- a count, one higher unless it stands at its last value
-abbrev pub counted : ℕ → ℕ
-counted n = min (n + 1) (2 ^ 64 - 1)
-
--- nothing stands beside the chip
-abbrev pub apart : Beside
-apart = record { left = None; script_bytes = 0; script_faults = 0; say_faults = 0; noted = None }
 
 -- the number of places, and what has failed
 abbrev pub telling_faults : ℕ → Faults → Told

@@ -2,8 +2,8 @@
 ghost use Rattle.std.specs.Prelude.{◌≡◌, IfOk};
 
 use crate::chip_file::open_or_make;
-use crate::faults::Faults;
 use crate::file_place::{PLACE, blank_bytes, read_sector, write_sectors};
+use chip_mem::Faults;
 use chip_trait::{Chip, Failed, Wear};
 use std::alloc::{AllocError, Global};
 use std::fs::File;
@@ -51,7 +51,8 @@ pub struct FileChip {
 }
 
 impl FileChip {
-    ghost use Rattle.chip_image.specs.Tells.{file_told_of, telling_faults, none_yet};
+    ghost use Rattle.chip_mem.specs.Tells.{none_yet};
+    ghost use Rattle.chip_image.specs.Tells.{file_told_of, telling_faults};
     ghost use Rattle.chip_image.specs.Descriptors.{HasFileApart};
 
     /// The chip of so many places in the file at this path, which has 131,072 bytes for each of

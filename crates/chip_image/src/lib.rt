@@ -8,7 +8,6 @@
 #![tactic(auto)]
 
 mod chip_file;
-mod faults;
 mod file_chip;
 mod file_place;
 mod no_chip;

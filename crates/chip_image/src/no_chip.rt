@@ -1,7 +1,7 @@
 //! A chip that isn't there.
 ghost use Rattle.std.specs.Prelude.{◌≡◌};
 
-use crate::faults::Faults;
+use chip_mem::Faults;
 use chip_trait::{Chip, Failed, Wear};
 
 /// A chip of which no call succeeds: each one is counted as failed.
@@ -12,7 +12,8 @@ pub struct NoChip {
 }
 
 impl NoChip {
-    ghost use Rattle.chip_image.specs.Tells.{absent_told_of, telling_faults, none_yet};
+    ghost use Rattle.chip_mem.specs.Tells.{none_yet};
+    ghost use Rattle.chip_image.specs.Tells.{absent_told_of, telling_faults};
 
     /// A chip of so many places that was asked nothing yet.
     pub fn of(places: u32) -> NoChip
@@ -22,6 +23,20 @@ impl NoChip {
             places,
             faults: Faults::new(),
         }
+    }
+}
+
+impl NoChip {
+    ghost use Rattle.std.specs.Prelude.{IsErr};
+    ghost use Rattle.chip_image.specs.Tells.{absent_told_of, CountsWrite};
+
+    // Counts a program, an erase or a barrier, and fails.
+    fn refuse<T>(&mut self) -> Result<T, Failed>
+        ensures counts { CountsWrite (absent_told_of self.old) (absent_told_of self.new) }
+        ensures never { IsErr result }
+    {
+        self.faults.count_write();
+        Err(Failed)
     }
 }
 
@@ -55,8 +70,7 @@ impl Chip for NoChip {
         ensures changes { AfterWrite result (absent_told_of self.old) (absent_told_of self.new) }
         ensures never { IsErr result }
     {
-        self.faults.count_write();
-        Err(Failed)
+        self.refuse()
     }
 
     /// It always fails.
@@ -65,8 +79,7 @@ impl Chip for NoChip {
         ensures changes { AfterWrite result (absent_told_of self.old) (absent_told_of self.new) }
         ensures never { IsErr result }
     {
-        self.faults.count_write();
-        Err(Failed)
+        self.refuse()
     }
 
     /// It always fails.
@@ -74,7 +87,6 @@ impl Chip for NoChip {
         ensures changes { AfterWrite result (absent_told_of self.old) (absent_told_of self.new) }
         ensures never { IsErr result }
     {
-        self.faults.count_write();
-        Err(Failed)
+        self.refuse()
     }
 }

@@ -1,9 +1,10 @@
 -- A new chip.
-use Rattle.std.proofs.Common.{◌≡◌, ℕ, Bool, true, false, List, [], replicate, reverse, Result, Ok, Err, OnOk, ◌∙◌, ap}
+use Rattle.std.proofs.Common.{◌≡◌, ℕ, Bool, false, List, [], replicate, reverse, Result, Ok, Err, OnOk, ◌∙◌, ap}
 use Rattle.chip_trait.specs.declared.event.Event.{Event}
 use Rattle.chip_trait.specs.Story.{Contents}
 use Rattle.chip_mem.specs.Sectors.{contents_of, written_contents, erased}
-use Rattle.chip_mem.specs.Tells.{telling_all, telling_contents, starting}
+use Rattle.chip_mem.specs.Tells.{none_yet, telling_all, telling_contents, starting}
+use Rattle.chip_mem.specs.declared.faults.Faults.{Faults}
 use Rattle.chip_mem.specs.declared.sectors.TheConstants.{BLANK}
 use Rattle.chip_mem.proofs.SectorLemmas.{contents_of-replicate, written_none}
 
@@ -11,12 +12,13 @@ pub erased_contents : (xs : List (List ℕ)) (n : ℕ) → xs ≡ replicate n BL
 erased_contents xs n is = ap contents_of is ∙ contents_of-replicate n
 
 -- a chip with no events tells its start
-pub starts : (places : ℕ) (start sectors : List (List ℕ)) (events : List Event) (x : Contents) → contents_of start ≡ x → contents_of sectors ≡ x → events ≡ []
-    → telling_all places true (record { start = contents_of start; story = reverse events }) (contents_of sectors) 0 0 0 ≡ starting places x
-starts places start sectors events x begins holds none =
-    ap (λ (y : Contents). telling_all places true (record { start = y; story = reverse events }) (contents_of sectors) 0 0 0) begins
-    ∙ ap (λ (y : Contents). telling_all places true (record { start = x; story = reverse events }) y 0 0 0) holds
-    ∙ ap (λ (es : List Event). telling_all places true (record { start = x; story = reverse es }) x 0 0 0) none
+pub starts : (places : ℕ) (faults : Faults) (start sectors : List (List ℕ)) (events : List Event) (x : Contents) → contents_of start ≡ x → contents_of sectors ≡ x → events ≡ [] → faults ≡ none_yet
+    → telling_all places faults 0 (record { start = contents_of start; story = reverse events }) (contents_of sectors) ≡ starting places x
+starts places faults start sectors events x begins holds none unfailed =
+    ap (λ (f : Faults). telling_all places f 0 (record { start = contents_of start; story = reverse events }) (contents_of sectors)) unfailed
+    ∙ ap (λ (y : Contents). telling_all places none_yet 0 (record { start = y; story = reverse events }) (contents_of sectors)) begins
+    ∙ ap (λ (y : Contents). telling_all places none_yet 0 (record { start = x; story = reverse events }) y) holds
+    ∙ ap (λ (es : List Event). telling_all places none_yet 0 (record { start = x; story = reverse es }) x) none
 
 pub plain_starts_erased : (places n : ℕ) (written : List Bool) (sectors : List (List ℕ)) → written ≡ replicate n false
     → telling_contents places (written_contents written sectors) ≡ telling_contents places erased

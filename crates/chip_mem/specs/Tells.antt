@@ -8,21 +8,26 @@ use Rattle.chip_trait.specs.declared.event.Event.{Event}
 use Rattle.chip_trait.specs.declared.event.Event.TheVariants.{Erase, Worn}
 use Rattle.chip_trait.specs.Story.{Contents, after, held}
 use Rattle.chip_trait.specs.Told.{History, Told, Beside, IsConsistent, adds}
+use Rattle.chip_mem.specs.declared.faults.Faults.{Faults}
 use Rattle.chip_mem.specs.Plan.{Plan, counted, is_worn_out, fails_read, fails_write}
 
 -- nothing stands beside the chip
 abbrev pub apart : Beside
 apart = record { left = None; script_bytes = 0; script_faults = 0; say_faults = 0; noted = None }
 
+-- nothing has failed yet
+abbrev pub none_yet : Faults
+none_yet = record { settled = true; reads = 0; writes = 0 }
+
 -- what a chip tells that keeps its story and holds these contents
-abbrev pub telling_all : ℕ → Bool → History → Contents → ℕ → ℕ → ℕ → Told
-telling_all places settled history x read_faults write_faults worn_erases = record {
+abbrev pub telling_all : ℕ → Faults → ℕ → History → Contents → Told
+telling_all places faults worn_erases history x = record {
   places = places;
-  settled = settled;
+  settled = faults.settled;
   history = Some history;
-  contents = if settled then Some x else None;
-  read_faults = read_faults;
-  write_faults = write_faults;
+  contents = if faults.settled then Some x else None;
+  read_faults = faults.reads;
+  write_faults = faults.writes;
   worn_erases = worn_erases;
   beside = apart;
 }
@@ -46,7 +51,7 @@ beginning x = record { start = x; story = [] }
 
 -- what a chip tells that was asked nothing yet
 abbrev pub starting : ℕ → Contents → Told
-starting places x = telling_all places true (beginning x) x 0 0 0
+starting places x = telling_all places none_yet 0 (beginning x) x
 
 -- the event is appended, and done
 abbrev pub appended : Event → Told → Told
@@ -89,11 +94,11 @@ told_there : (settled : Bool) (x y : Contents) → x ≡ y → settled ≡ true 
 told_there true x y same e = ap Some same
 told_there false x y same e = cc
 
-pub all_consistently : (places : ℕ) (settled : Bool) (history : History) (x : Contents) (read_faults write_faults worn_erases : ℕ)
-    → ((p s : ℕ) → x p s ≡ held history.start history.story p s) → IsConsistent (telling_all places settled history x read_faults write_faults worn_erases)
-all_consistently places settled history x read_faults write_faults worn_erases replayed = record {
-  settled = λ y e. settled_only settled x y e;
-  replayed = λ h e now. told_there settled x (held h.start h.story)
+pub all_consistently : (places : ℕ) (faults : Faults) (worn_erases : ℕ) (history : History) (x : Contents)
+    → ((p s : ℕ) → x p s ≡ held history.start history.story p s) → IsConsistent (telling_all places faults worn_erases history x)
+all_consistently places faults worn_erases history x replayed = record {
+  settled = λ y e. settled_only faults.settled x y e;
+  replayed = λ h e now. told_there faults.settled x (held h.start h.story)
       (subst (λ (k : History). x ≡ held k.start k.story) (same_Some _ h e) (fun_ext (λ p. fun_ext (λ s. replayed p s)))) now;
 }
 

@@ -25,7 +25,7 @@ plan_of chip = record {
 
 -- all that a chip with a story tells
 abbrev pub told_of : MemChip → Told
-told_of chip = telling_all chip.places chip.settled (history_of chip) (contents_of chip.sectors.items) chip.read_faults chip.write_faults chip.worn_erases
+told_of chip = telling_all chip.places chip.faults chip.worn_erases (history_of chip) (contents_of chip.sectors.items)
 
 -- all that a chip without one tells
 abbrev pub plain_told_of : PlainChip → Told

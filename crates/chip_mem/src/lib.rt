@@ -8,6 +8,7 @@
 //! worn among them, and nothing in them checks by chance.
 #![tactic(auto)]
 
+mod faults;
 mod image;
 mod mem_chip;
 mod pick;
@@ -16,6 +17,7 @@ mod replay;
 mod schedule;
 mod sectors;
 
+pub use faults::Faults;
 pub use mem_chip::MemChip;
 pub use pick::{Choice, Pick};
 pub use plain_chip::PlainChip;

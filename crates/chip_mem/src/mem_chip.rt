@@ -6,6 +6,7 @@ ghost use Rattle.std.specs.Vec.{vec_capacity};
 ghost use Rattle.std.proofs.Props.{props};
 ghost use Rattle.chip_mem.specs.Story.{IsReplayed, is_inside};
 
+use crate::faults::Faults;
 use crate::image::image_sectors;
 use crate::pick::Pick;
 use crate::schedule::Schedule;
@@ -23,9 +24,7 @@ pub struct MemChip {
     events: Vec<Event>,
     room: u64,
     schedule: Schedule,
-    settled: bool,
-    read_faults: u64,
-    write_faults: u64,
+    faults: Faults,
     worn_erases: u64,
     ghost start_sized: { length start.items ≡ places * 256 },
     ghost sized: { length sectors.items ≡ places * 256 },
@@ -89,7 +88,7 @@ impl MemChip {
         self.events.clear();
         program_sector(&mut self.sectors, p as usize, s as usize, bytes);
         self.start.copy_from_slice(&self.sectors);
-        self.settled = true;
+        self.faults.settle();
     }
 
     /// From now on the calls with these numbers fail, in place of those that were named before. All reads, programs, erases and
@@ -171,9 +170,7 @@ impl MemChip {
             events: Vec::with_capacity(alloc, room as usize)?,
             room,
             schedule: Schedule::none(alloc),
-            settled: true,
-            read_faults: 0,
-            write_faults: 0,
+            faults: Faults::new(),
             worn_erases: 0,
         })
     }
@@ -196,7 +193,7 @@ impl MemChip {
         let fails = self.schedule.lists_call() || self.is_full();
         self.schedule.count_read();
         if fails {
-            self.read_faults = self.read_faults.saturating_add(1);
+            self.faults.count_read();
         }
         fails
     }
@@ -212,8 +209,7 @@ impl MemChip {
         let fails = self.schedule.lists_call() || self.schedule.is_past_stop() || self.is_full();
         self.schedule.count_write();
         if fails {
-            self.settled = false;
-            self.write_faults = self.write_faults.saturating_add(1);
+            self.faults.count_write();
         }
         fails
     }
@@ -231,8 +227,8 @@ impl Chip for MemChip {
 
     ghost told = { told_of };
 
-    ghost consistent = { λ chip. all_consistently chip.places chip.settled (history_of chip) (contents_of chip.sectors.items)
-        chip.read_faults chip.write_faults chip.worn_erases chip.replayed };
+    ghost consistent = { λ chip. all_consistently chip.places chip.faults chip.worn_erases (history_of chip)
+        (contents_of chip.sectors.items) chip.replayed };
 
     fn units(&self) -> u32 {
         self.places

@@ -33,7 +33,7 @@ fails_part piece count old new true said unsaid = record {
 }
 fails_part piece count old new false said unsaid = record {
   places = ap (λ (chip : MemChip). chip.places) unsaid;
-  settled = ap (λ (chip : MemChip). chip.settled) unsaid;
+  settled = ap (λ (chip : MemChip). chip.faults.settled) unsaid;
   history = inr (ap (λ (chip : MemChip). (told_of chip).history) unsaid);
   contents = ap (λ (chip : MemChip). (told_of chip).contents) unsaid;
 }

@@ -1,8 +1,8 @@
 -- What a desk in memory tells, and which of its calls fail.
-use Rattle.std.specs.Prelude.{ℕ, ◌==◌, ◌+◌, min, nat_lt, nat_le, Bool, not, ◌&&◌, List, [], ◌++◌, length, take, drop, get_or, Option, Some, None, if◌then◌else◌}
+use Rattle.std.specs.Prelude.{ℕ, ◌==◌, ◌+◌, min, nat_lt, nat_le, Bool, not, ◌&&◌, List, [], ◌++◌, length, take, drop, get_or, Option, Some, None, Result, OnOk, OnErr, if◌then◌else◌}
 use Rattle.std.specs.List.{list_any}
 use Rattle.chip_trait.specs.declared.event.Event.TheVariants.{Said}
-use Rattle.chip_trait.specs.Told.{Told, Beside, IsConsistent}
+use Rattle.chip_trait.specs.Told.{Told, Beside, IsConsistent, Appends, FailsToSay, SayCounts, Rose}
 use Rattle.chip_mem.specs.Views.{history_of, told_of}
 use Rattle.chip_mem.specs.Sectors.{contents_of}
 use Rattle.chip_mem.specs.Tells.{all_consistently, appended}
@@ -27,10 +27,17 @@ desk_told d = record (told_of d.chip) { beside = beside_of d }
 -- which is consistent, since its chip is
 pub desk_consistently : (d : MemDesk) → IsConsistent (desk_told d)
 desk_consistently d =
-    let chip = all_consistently d.chip.places d.chip.settled (history_of d.chip)
-    (contents_of d.chip.sectors.items) d.chip.read_faults d.chip.write_faults
-    d.chip.worn_erases d.chip.replayed in
+    let chip = all_consistently d.chip.places d.chip.faults d.chip.worn_erases (history_of d.chip)
+    (contents_of d.chip.sectors.items) d.chip.replayed in
     record { settled = chip.settled; replayed = chip.replayed }
+
+-- the piece is said, or fails to be for its cause
+pub record SaysOrFails {T E : Type 0} (piece : List ℕ) (result : Result T E) (old new : Told)
+    : Type 0 where
+  pub ok : OnOk result (Appends (Said piece) old new)
+  pub err : OnErr result (FailsToSay piece old new)
+  pub counts : SayCounts old new
+  pub cause : OnErr result (Rose old.beside.say_faults new.beside.say_faults)
 
 -- beside a new desk's chip stands the script, and nothing was read, said or noted
 abbrev pub new_beside : List ℕ → Beside

@@ -108,17 +108,13 @@ impl MemDesk {
     ghost use Rattle.chip_trait.specs.Told.{Appends, FailsToSay, SayCounts, Rose};
     ghost use Rattle.chip_mem.specs.Plan.{is_full};
     ghost use Rattle.chip_mem.specs.Views.{plan_of, told_of};
-    ghost use Rattle.ipl_cli.specs.MemDesk.{desk_told, desk_plan, told_in_part};
+    ghost use Rattle.ipl_cli.specs.MemDesk.{SaysOrFails, desk_told, desk_plan, told_in_part};
 
     /// Says a piece that isn't to fail. It fails exactly where the chip has no room for it, and then nothing of it is said.
     fn say_whole(&mut self, piece: &[u8]) -> Result<(), Failed>
         requires some { 0 < length piece.now }
         requires short { length piece.now ≤ 1024 }
-        ensures ok { OnOk result (Appends (Said piece.now) (desk_told self.old) (desk_told self.new)) }
-        ensures err { OnErr result (FailsToSay piece.now (desk_told self.old) (desk_told self.new)) }
-        ensures counts { SayCounts (desk_told self.old) (desk_told self.new) }
-        ensures cause { OnErr result
-            (Rose (desk_told self.old).beside.say_faults (desk_told self.new).beside.say_faults) }
+        ensures says { SaysOrFails piece.now result (desk_told self.old) (desk_told self.new) }
         ensures fails { is_err result ≡ is_full (plan_of self.old.chip) }
         ensures plan { desk_plan self.new ≡ desk_plan self.old }
     {
@@ -186,7 +182,7 @@ impl Desk for MemDesk {
     ghost use Rattle.chip_mem.specs.Plan.{counted, is_full};
     ghost use Rattle.chip_mem.specs.Views.{plan_of, told_of};
     ghost use Rattle.ipl_cli.specs.Failing.{kept_at};
-    ghost use Rattle.ipl_cli.specs.MemDesk.{beside_of, desk_told, desk_plan, noted_with, read_fails, read_count, told_in_part};
+    ghost use Rattle.ipl_cli.specs.MemDesk.{SaysOrFails, beside_of, desk_told, desk_plan, noted_with, read_fails, read_count, told_in_part};
 
     /// It fails exactly where it is told to.
     fn read_script(&mut self, buf: &mut [u8]) -> Result<usize, Failed>
@@ -220,11 +216,7 @@ impl Desk for MemDesk {
     fn say(&mut self, piece: &[u8]) -> Result<(), Failed>
         requires some { 0 < length piece.now }
         requires short { length piece.now ≤ 1024 }
-        ensures ok { OnOk result (Appends (Said piece.now) (desk_told self.old) (desk_told self.new)) }
-        ensures err { OnErr result (FailsToSay piece.now (desk_told self.old) (desk_told self.new)) }
-        ensures counts { SayCounts (desk_told self.old) (desk_told self.new) }
-        ensures cause { OnErr result
-            (Rose (desk_told self.old).beside.say_faults (desk_told self.new).beside.say_faults) }
+        ensures says { SaysOrFails piece.now result (desk_told self.old) (desk_told self.new) }
 
         // exactly
         ensures fails { is_err result

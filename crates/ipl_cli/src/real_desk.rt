@@ -2,7 +2,7 @@
 ghost use Rattle.std.specs.Prelude.{◌≡◌, ◌≢◌, IfErr};
 ghost use Rattle.std.specs.Io.{ReadsAtMost};
 ghost use Rattle.std.specs.IoError.{error_kind};
-ghost use Rattle.ipl_cli.specs.RealDesk.{real_told, real_consistently};
+ghost use Rattle.ipl_cli.specs.RealDesk.{real_told, real_told_of, real_consistently};
 
 use chip_trait::{Chip, Desk, Failed, Wear};
 use std::io;
@@ -24,7 +24,7 @@ pub struct RealDesk<C: Chip + Drop> {
 impl<C: Chip + Drop> RealDesk<C> {
     /// A desk that has counted nothing yet.
     pub fn new(chip: C, input: Stdin, output: Stdout, error: Stderr) -> RealDesk<C>
-        ensures { real_told (C.told result.chip) result.script_bytes result.script_faults result.say_faults ≡ real_told (C.told chip) 0 0 0 }
+        ensures { real_told_of C.told result ≡ real_told (C.told chip) 0 0 0 }
     {
         RealDesk {
             chip,
@@ -44,7 +44,7 @@ impl<C: Chip + Drop> Chip for RealDesk<C> {
     ghost use Rattle.chip_trait.specs.Told.{Appends, Misses, Breaks, Halts, Counts, Rose};
     ghost use Rattle.chip_trait.specs.Wears.{Wears};
 
-    ghost told = { λ d. real_told (C.told d.chip) d.script_bytes d.script_faults d.say_faults };
+    ghost told = { real_told_of C.told };
 
     ghost consistent = { λ d. real_consistently (C.told d.chip) d.script_bytes d.script_faults d.say_faults };
 
@@ -60,9 +60,7 @@ impl<C: Chip + Drop> Chip for RealDesk<C> {
             (λ _. Appends (Read p s) (C.told self.old.chip) (C.told self.new.chip))
             (λ _. Misses (Read p s) (C.told self.old.chip) (C.told self.new.chip)) }
         ensures held { OnOk result (IfSome (C.told self.old.chip).contents (λ x. into.new ≡ x p s)) }
-        ensures counts { Counts
-            (real_told (C.told self.old.chip) self.old.script_bytes self.old.script_faults self.old.say_faults)
-            (real_told (C.told self.new.chip) self.new.script_bytes self.new.script_faults self.new.say_faults) }
+        ensures counts { Counts (real_told_of C.told self.old) (real_told_of C.told self.new) }
         ensures cause { OnErr result (Rose (C.told self.old.chip).read_faults (C.told self.new.chip).read_faults) }
     {
         self.chip.read(p, s, into)
@@ -75,9 +73,7 @@ impl<C: Chip + Drop> Chip for RealDesk<C> {
         ensures within { MatchResult result
             (λ _. Appends (Program p s from.now) (C.told self.old.chip) (C.told self.new.chip))
             (λ _. Breaks (Program p s from.now) (C.told self.old.chip) (C.told self.new.chip)) }
-        ensures counts { Counts
-            (real_told (C.told self.old.chip) self.old.script_bytes self.old.script_faults self.old.say_faults)
-            (real_told (C.told self.new.chip) self.new.script_bytes self.new.script_faults self.new.say_faults) }
+        ensures counts { Counts (real_told_of C.told self.old) (real_told_of C.told self.new) }
         ensures cause { OnErr result (Rose (C.told self.old.chip).write_faults (C.told self.new.chip).write_faults) }
     {
         self.chip.program(p, s, from)
@@ -89,9 +85,7 @@ impl<C: Chip + Drop> Chip for RealDesk<C> {
         ensures within { MatchResult result
             (λ wear. Wears wear p (C.told self.old.chip) (C.told self.new.chip))
             (λ _. Breaks (Erase p) (C.told self.old.chip) (C.told self.new.chip)) }
-        ensures counts { Counts
-            (real_told (C.told self.old.chip) self.old.script_bytes self.old.script_faults self.old.say_faults)
-            (real_told (C.told self.new.chip) self.new.script_bytes self.new.script_faults self.new.say_faults) }
+        ensures counts { Counts (real_told_of C.told self.old) (real_told_of C.told self.new) }
         ensures cause { OnErr result (Rose (C.told self.old.chip).write_faults (C.told self.new.chip).write_faults) }
     {
         self.chip.erase(p)
@@ -102,9 +96,7 @@ impl<C: Chip + Drop> Chip for RealDesk<C> {
         ensures within { MatchResult result
             (λ _. Appends Barrier (C.told self.old.chip) (C.told self.new.chip))
             (λ _. Halts (C.told self.old.chip) (C.told self.new.chip)) }
-        ensures counts { Counts
-            (real_told (C.told self.old.chip) self.old.script_bytes self.old.script_faults self.old.say_faults)
-            (real_told (C.told self.new.chip) self.new.script_bytes self.new.script_faults self.new.say_faults) }
+        ensures counts { Counts (real_told_of C.told self.old) (real_told_of C.told self.new) }
         ensures cause { OnErr result (Rose (C.told self.old.chip).write_faults (C.told self.new.chip).write_faults) }
     {
         self.chip.barrier()

@@ -1,4 +1,5 @@
 //! Images of a small story, calls that are to fail, chips that are altered, and one over a part.
+use crate::chip_calls::{ends, erases, programs};
 use chip_mem::{Choice, MemChip, Pick, PlainChip};
 use chip_trait::{Chip, Wear};
 use ipl_base::OutOfMemory;
@@ -6,27 +7,6 @@ use nand_2k::{MemPart, Nand2k};
 use std::alloc::Global;
 use std::process::Abort;
 use std::test::Fail;
-
-/// Programs a sector with 512 times this byte; whether that went well.
-fn programs<C: Chip>(rt: &impl Abort, chip: &mut C, place: u32, sector: u32, byte: u8) -> bool {
-    assert!(rt; place < chip.units() && sector < 256);
-    chip.program(place, sector, &[byte; 512]).is_ok()
-}
-
-fn erases<C: Chip>(rt: &impl Abort, chip: &mut C, place: u32) -> bool {
-    assert!(rt; place < chip.units());
-    matches!(chip.erase(place), Ok(Wear::Done))
-}
-
-/// The first and the last byte of a sector, where it can be read.
-fn ends<C: Chip>(rt: &impl Abort, chip: &mut C, place: u32, sector: u32) -> Option<(u8, u8)> {
-    assert!(rt; place < chip.units() && sector < 256);
-    let mut bytes = [0; 512];
-    if chip.read(place, sector, &mut bytes).is_err() {
-        return None;
-    }
-    Some((bytes[0], bytes[511]))
-}
 
 /// A chip after the events 0 to 7, of which 2 is the barrier.
 fn with_story(rt: &impl Abort, alloc: Global) -> Result<MemChip, OutOfMemory> {

@@ -1,35 +1,13 @@
 //! A chip in a real file, what is refused as one, and a chip that isn't there.
+use crate::chip_calls::{ends, erases, programs};
 use chip_image::{AttachFault, FileChip, NoChip};
-use chip_trait::{Chip, Wear};
+use chip_trait::Chip;
 use std::alloc::Global;
 use std::fs::File;
 use std::io::{Read, Seek, SeekFrom};
 use std::os::unix;
-use std::process::Abort;
 use std::test::Fail;
 use std::{env, fs, process};
-
-/// The first and the last byte of a sector, where it can be read.
-fn ends<C: Chip>(rt: &impl Abort, chip: &mut C, place: u32, sector: u32) -> Option<(u8, u8)> {
-    assert!(rt; place < chip.units() && sector < 256);
-    let mut bytes = [0; 512];
-    if chip.read(place, sector, &mut bytes).is_err() {
-        return None;
-    }
-    Some((bytes[0], bytes[511]))
-}
-
-/// Programs a sector with 512 times this byte; whether that went well.
-fn programs<C: Chip>(rt: &impl Abort, chip: &mut C, place: u32, sector: u32, byte: u8) -> bool {
-    assert!(rt; place < chip.units() && sector < 256);
-    chip.program(place, sector, &[byte; 512]).is_ok()
-}
-
-/// Erases a place; whether that went well.
-fn erases<C: Chip>(rt: &impl Abort, chip: &mut C, place: u32) -> bool {
-    assert!(rt; place < chip.units());
-    matches!(chip.erase(place), Ok(Wear::Done))
-}
 
 /// The path of a new folder of this process for a test.
 fn new_folder(rt: &HostRuntime, alloc: Global, test: &str) -> Result<String, Fail> {

@@ -5,6 +5,8 @@
 #![tactic(auto)]
 
 #[cfg(test)]
+mod chip_calls;
+#[cfg(test)]
 mod chips;
 #[cfg(test)]
 mod files;

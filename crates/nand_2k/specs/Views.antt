@@ -15,7 +15,7 @@ module _ {P : Type 0} {g : Ghosts P} where
 
   -- all that it tells
   abbrev pub nand_told_of : Nand2k P g → Told
-  nand_told_of chip = telling_part (part_of chip) chip.faults
+  nand_told_of chip = telling_part (part_of chip) chip.faults chip.worn
 
   -- the page is in memory
   abbrev pub HasInMemory : Nand2k P g → ℕ → ℕ → Type 0

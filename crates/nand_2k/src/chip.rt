@@ -3,9 +3,9 @@ ghost use Rattle.std.specs.Prelude.{◌≡◌};
 ghost use Rattle.std.proofs.Props.{props};
 ghost use Rattle.nand_2k.specs.Cached.{IsCached};
 
-use crate::faults::Faults;
 use crate::page_at::{PageAt, is_at, other_than, outside};
 use crate::part::{Part, Status};
+use chip_mem::Faults;
 use chip_trait::{Chip, Failed, Wear};
 
 /// A chip over a part: each of its blocks is a place, and each quarter of a page a sector. One page
@@ -16,23 +16,27 @@ pub struct Nand2k<P: Part + Drop> {
     cached: Option<PageAt>,
     quarters: [[u8; 512]; 4],
     faults: Faults,
+    // How many blocks were found worn, up to its last value.
+    worn: u64,
     ghost right: { IsCached (P.told part).contents cached quarters } by { Prim.hlevel props },
 }
 
 impl<P: Part + Drop> Nand2k<P> {
-    ghost use Rattle.nand_2k.specs.Tells.{telling_part, none_yet};
+    ghost use Rattle.chip_mem.specs.Tells.{none_yet};
+    ghost use Rattle.nand_2k.specs.Tells.{telling_part};
     ghost use Rattle.nand_2k.specs.Views.{part_of, nand_told_of};
 
     /// A chip over this part, of which nothing was asked yet.
     pub fn new(part: P) -> Nand2k<P>
         ensures part { part_of result ≡ P.told part }
-        ensures told { nand_told_of result ≡ telling_part (P.told part) none_yet }
+        ensures told { nand_told_of result ≡ telling_part (P.told part) none_yet 0 }
     {
         Nand2k {
             part,
             cached: None,
             quarters: [[0; 512]; 4],
             faults: Faults::new(),
+            worn: 0,
         }
     }
 }
@@ -83,7 +87,7 @@ impl<P: Part + Drop> Chip for Nand2k<P> {
 
     ghost told = { nand_told_of };
 
-    ghost consistent = { λ chip. part_consistently (P.told chip.part) chip.faults };
+    ghost consistent = { λ chip. part_consistently (P.told chip.part) chip.faults chip.worn };
 
     fn units(&self) -> u32 {
         self.part.blocks()
@@ -162,7 +166,7 @@ impl<P: Part + Drop> Chip for Nand2k<P> {
         match self.part.erase_block(p) {
             Status::Passed => Ok(Wear::Done),
             Status::Failed => {
-                self.faults.count_worn();
+                self.worn = self.worn.saturating_add(1);
                 Ok(Wear::Worn)
             }
             Status::Unknown => {

@@ -10,7 +10,6 @@
 #![tactic(auto)]
 
 mod chip;
-mod faults;
 mod mem_part;
 mod page_at;
 mod part;

@@ -12,4 +12,4 @@ invariant_of-result-clause-replayed c =
 pub returns-clause-told : goal.returns-clause-told
 returns-clause-told c =
     let copied = c.in_ok-copy_sectors.ensures.items ∙ c.deref.ensures.value in
-    starts c.args.places c.in_ok-copy_sectors.field-0.items c.args.sectors.items c.in_ok-with_capacity.field-0.items (contents_of c.args.sectors.items) (ap contents_of copied) refl c.in_ok-with_capacity.ensures.items
+    starts c.args.places c.new.result c.in_ok-copy_sectors.field-0.items c.args.sectors.items c.in_ok-with_capacity.field-0.items (contents_of c.args.sectors.items) (ap contents_of copied) refl c.in_ok-with_capacity.ensures.items c.new.ensures
