@@ -6,10 +6,11 @@ ghost use Rattle.std.specs.Prelude.{◌≡◌, length, IfOk};
 use crate::sectors::{Put, at, put_all};
 use chip_mem::MemChip;
 use chip_trait::Chip;
-use ipl_base::{Counter, Geometry, VERSION};
+use ipl_base::{Counter, Geometry, OutOfMemory, VERSION};
 use overflow::Overflow;
 use restart::{KeptNumbers, Scratch, format, read_tables};
 use sector_format::Head;
+use selective_merge::{Active, MergeScratch, Parts};
 use std::alloc::Global;
 use std::process::Abort;
 use std::test::Fail;
@@ -137,64 +138,65 @@ fn erases_of(rt: &impl Abort, directory: &Directory, geometry: Geometry) -> [u32
     erases
 }
 
-/// The tables of a chip that opens.
+/// The tables of a chip that opens, and the committed numbers that live records have.
 #[derive(Drop)]
 struct Tables {
     geometry: Geometry,
-    directory: Directory,
-    overflow: Overflow,
-    status: Status,
-    counter: Counter,
+    parts: Parts,
     kept: KeptNumbers,
+}
+
+/// Empty tables for a chip of this size.
+fn parts_for(alloc: Global, geometry: Geometry) -> Result<Parts, OutOfMemory>
+    ensures directory { IfOk result (λ parts. length parts.directory.in_use ≡ geometry.places) }
+    ensures overflow { IfOk result (λ parts. parts.overflow.places ≡ geometry.places) }
+{
+    Ok(Parts {
+        directory: Directory::new(alloc, geometry)?,
+        overflow: Overflow::new(alloc, geometry)?,
+        status: Status::new(alloc, geometry)?,
+        counter: Counter::at(0),
+        active: Active::none(),
+        scratch: MergeScratch::new(alloc)?,
+    })
 }
 
 /// Opens a chip.
 fn opened(rt: &impl Abort, alloc: Global, chip: &mut MemChip) -> Result<Tables, Fail>
-    ensures { IfOk result (λ t. length t.directory.in_use ≡ t.geometry.places) }
+    ensures { IfOk result (λ it. length it.parts.directory.in_use ≡ it.geometry.places) }
 {
     let Some(geometry) = Geometry::of(chip.units()) else {
         return Err(Fail::from("no geometry"));
     };
     let mut scratch = Scratch::new(alloc, geometry)?;
-    let mut directory = Directory::new(alloc, geometry)?;
-    let mut overflow = Overflow::new(alloc, geometry)?;
-    let mut status = Status::new(alloc, geometry)?;
-    let mut counter = Counter::at(0);
+    let mut parts = parts_for(alloc, geometry)?;
     let mut kept = KeptNumbers::new(alloc)?;
-    let fits = read_tables(
-        chip,
-        &mut scratch,
-        &mut directory,
-        &mut overflow,
-        &mut status,
-        &mut counter,
-        &mut kept,
-        true,
-    )?;
+    let fits = read_tables(chip, &mut scratch, &mut parts, &mut kept, true)?;
     assert!(rt; fits);
-    assert!(rt; directory.free_count() > 0);
+    assert!(rt; parts.directory.free_count() > 0);
     Ok(Tables {
         geometry,
-        directory,
-        overflow,
-        status,
-        counter,
+        parts,
         kept,
     })
 }
 
 /// What is found of a chip that opens.
 fn opens(rt: &impl Abort, alloc: Global, chip: &mut MemChip) -> Result<Found, Fail> {
-    let tables = opened(rt, alloc, chip)?;
-    tables.directory.facts();
-    tables.overflow.facts();
+    let Tables {
+        geometry,
+        parts,
+        kept,
+    } = opened(rt, alloc, chip)?;
+    parts.directory.facts();
+    parts.overflow.facts();
     Ok(Found {
-        place: tables.directory.current(0),
-        next: tables.counter.next(),
-        listed: tables.overflow.count(0),
-        has_twenty: tables.status.is_committed(20),
-        kept: tables.kept.as_slice().len(),
-        erases: erases_of(rt, &tables.directory, tables.geometry),
+        place: parts.directory.current(0),
+        next: parts.counter.next(),
+        listed: parts.overflow.count(0),
+        has_twenty: parts.status.is_committed(20),
+        kept: kept.as_slice().len(),
+        erases: erases_of(rt, &parts.directory, geometry),
     })
 }
 
@@ -326,9 +328,9 @@ fn listed_places_that_are_not_in_use_are_retired(rt: HostRuntime) -> Result<(), 
         let mut chip = MemChip::new(alloc, 6, 2000)?;
         assert_eq!(rt; format(&mut chip, 1), Ok(()));
         put_all(&rt, &mut chip, sectors);
-        let tables = opened(&rt, alloc, &mut chip)?;
-        assert_eq!(rt; tables.directory.retired(), *retired, "case {number}");
-        assert_eq!(rt; tables.directory.free_count(), *free, "case {number}");
+        let found = opened(&rt, alloc, &mut chip)?;
+        assert_eq!(rt; found.parts.directory.retired(), *retired, "case {number}");
+        assert_eq!(rt; found.parts.directory.free_count(), *free, "case {number}");
     }
     Ok(())
 }

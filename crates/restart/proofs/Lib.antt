@@ -17,6 +17,7 @@ pub mod CollectedLemmas
 pub mod LogLemmas
 pub mod MaskedLemmas
 pub mod FillLemmas
+mod FillsLemmas
 pub mod CountLemmas
 pub mod CountedLogLemmas
 pub mod HeaderLemmas

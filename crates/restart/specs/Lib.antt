@@ -12,10 +12,10 @@ pub mod Masked
 pub mod Collected
 pub mod Counted
 pub mod Scanned
+pub mod LogSpots
 pub mod Filled
 pub mod Shown
 pub mod Opened
 pub mod Memory
 pub mod Rest
 pub mod Finds
-pub mod LogSpots

@@ -1,60 +1,110 @@
 -- Log sectors are read where they may stand, in rising order of place and sector: what that takes and leaves.
-use Rattle.std.specs.Prelude.{ℕ, ◌≡◌, ◌<◌, ◌+◌, true, List, length, Option, Result, OnOk}
+use Rattle.std.specs.Prelude.{ℕ, ◌≡◌, ◌<◌, ◌+◌, ◌*◌, Bool, false, true, List, length, Option, Some, Result, OnOk, IfOk, IfErr}
 use Rattle.std.specs.Option.{option_map}
+use Rattle.chip_trait.specs.Story.{Contents}
 use Rattle.chip_trait.specs.Told.{Told}
 use Rattle.ipl_base.specs.declared.fault.ImageFault.{ImageFault}
+use Rattle.ipl_base.specs.First.{first_below}
 use Rattle.ipl_format.specs.Sector.{Sector}
-use Rattle.ipl_meaning.specs.Tables.{Places, OverflowLists}
+use Rattle.ipl_meaning.specs.Chart.{chart_of}
 use Rattle.unit_io.specs.Reads.{OfContents}
 use Rattle.opening_laws.specs.First.{at, with_one}
-use Rattle.opening_laws.specs.Chosen.{KeptHeader, Winner}
-use Rattle.opening_laws.specs.Live.{Mark, mark_of, is_log_spot}
+use Rattle.opening_laws.specs.Live.{Mark, kept, mark_of, is_live, is_log_spot}
 use Rattle.opening_laws.specs.Found.{mask_of_sector}
-use Rattle.opening_laws.specs.Faults.{TellsImageFault, log_test}
-use Rattle.restart.specs.Notes.{Notes, AreSized, IsNoted, FitsNotes}
-use Rattle.restart.specs.Masked.{IsMasked}
+use Rattle.opening_laws.specs.Faults.{TellsImageFault, is_image, is_told, log_fault, log_test}
+use Rattle.restart.specs.declared.collecting.Gathered.{Gathered}
+use Rattle.restart.specs.declared.findings.Findings.{Findings}
+use Rattle.restart.specs.declared.findings.Heads.{Heads}
+use Rattle.restart.specs.Collected.{records_at, AreKept}
+use Rattle.restart.specs.Joins.{joined}
+use Rattle.restart.specs.Notes.{AreSized, IsNoted, FitsNotes}
+use Rattle.restart.specs.Masked.{SamePlaces, IsMasked}
 use Rattle.restart.specs.Counted.{SameHomes, StaysUnknown, AreHomes, AreReadLogs}
+use Rattle.restart.specs.Scanned.{IsScanned}
 
 -- by these headers log sectors may stand there
-pub record MayScan (heads : List (Option KeptHeader)) (current : List (Option Winner)) (home number : ℕ)
-    : Type 0 where
-  pub place : home < length heads
+pub record MayScan (heads : Heads) (home number : ℕ) : Type 0 where
+  pub place : home < length heads.all.now
   pub sector : number < 256
-  pub spot : is_log_spot (at heads) (at current) home number ≡ true
+  pub spot : is_log_spot (at heads.all.now) (at heads.current.now) home number ≡ true
+
+-- of what was found in the place, the live log sector, if it is one by these headers
+abbrev pub live_found : Heads → ℕ → Option Sector → Option Sector
+live_found heads p found = kept (is_live (at heads.all.now) (at heads.current.now) p) found
 
 -- the notes and the tables are of these places and units, with room for the log sectors from the number k on
-pub record HaveRoom (heads : List (Option KeptHeader)) (current : List (Option Winner)) (k : ℕ) (notes : Notes)
-    (it : Places) (lists : OverflowLists) : Type 0 where
-  pub sized : AreSized (length current) (length heads) notes lists
-  pub units : length it.current ≡ length current
-  pub roomy : FitsNotes (at current) k notes lists
+pub record HaveRoom (heads : Heads) (k : ℕ) (it : Findings) : Type 0 where
+  pub sized : AreSized (length heads.current.now) (length heads.all.now) it.noted.now it.overflow.now
+  pub units : length it.directory.now.current ≡ length heads.current.now
+  pub roomy : FitsNotes (at heads.current.now) k it.noted.now it.overflow.now
 
 -- they are of these places and units still; and where it is done, with room from the number k on
-pub record KeepRoom {T E : Type 0} (result : Result T E) (heads : List (Option KeptHeader))
-    (current : List (Option Winner)) (k : ℕ) (notes : Notes) (lists : OverflowLists) : Type 0 where
-  pub roomy : OnOk result (FitsNotes (at current) k notes lists)
-  pub sized : AreSized (length current) (length heads) notes lists
+pub record KeepRoom {T E : Type 0} (result : Result T E) (heads : Heads) (k : ℕ) (it : Findings) : Type 0 where
+  pub roomy : OnOk result (FitsNotes (at heads.current.now) k it.noted.now it.overflow.now)
+  pub sized : AreSized (length heads.current.now) (length heads.all.now) it.noted.now it.overflow.now
+
+-- the same tables and notes are filled still
+pub record SameReferences (old new : Findings) : Type 0 where
+  pub noted : new.noted.ghost_name ≡ old.noted.ghost_name
+  pub directory : new.directory.ghost_name ≡ old.directory.ghost_name
+  pub overflow : new.overflow.ghost_name ≡ old.overflow.ghost_name
+  pub status : new.status.ghost_name ≡ old.status.ghost_name
+  pub numbers : new.numbers.ghost_name ≡ old.numbers.ghost_name
+
+-- and the status is as it was
+pub record StillFills (old new : Findings) : Type 0 where
+  pub references : SameReferences old new
+  pub status : new.status.now ≡ old.status.now
 
 -- what was found at the number k, a live log sector or none, is tested, and then noted and listed, with the pages that
 -- it names
-pub record TakesLog {T : Type 0} (result : Result T ImageFault) (heads : List (Option KeptHeader))
-    (current : List (Option Winner)) (k : ℕ) (found : Option Sector) (noted_old : Notes) (old : Places)
-    (lists_old : OverflowLists) (noted_new : Notes) (new : Places) (lists_new : OverflowLists) : Type 0 where
-  pub fault : (marks : List Mark) → IsNoted noted_old lists_old marks
-      → TellsImageFault (log_test (at heads) marks k found) result
-  pub noted : OnOk result ((marks : List Mark) → IsNoted noted_old lists_old marks
-      → IsNoted noted_new lists_new (with_one marks (option_map (mark_of (at heads) k) found)))
+pub record TakesLog {T : Type 0} (result : Result T ImageFault) (heads : Heads) (k : ℕ) (found : Option Sector)
+    (old new : Findings) : Type 0 where
+  pub fault : (marks : List Mark) → IsNoted old.noted.now old.overflow.now marks
+      → TellsImageFault (log_test (at heads.all.now) marks k found) result
+  pub image : IfErr result (λ e. is_told false e ≡ true)
+  pub noted : OnOk result ((marks : List Mark) → IsNoted old.noted.now old.overflow.now marks
+      → IsNoted new.noted.now new.overflow.now
+      (with_one marks (option_map (mark_of (at heads.all.now) k) found)))
   pub masked : OnOk result ((masks : ℕ → ℕ → ℕ) → ((u : ℕ) → masks u k ≡ mask_of_sector u found)
-      → IsMasked (at heads) (at current) masks k old lists_old
-      → IsMasked (at heads) (at current) masks (k + 1) new lists_new)
+      → IsMasked (at heads.all.now) (at heads.current.now) masks k old.directory.now old.overflow.now
+      → IsMasked (at heads.all.now) (at heads.current.now) masks (k + 1) new.directory.now new.overflow.now)
+  pub places : SamePlaces old.directory.now new.directory.now
+  pub room : KeepRoom result heads (k + 1) new
+  pub still : StillFills old new
+
+-- the committed numbers of what was found, a live log sector or none, join those that are kept, where all of them fitted
+-- so far and do still
+abbrev pub JoinsRecords : Option Sector → Bool → Findings → Bool → Findings → Type 0
+JoinsRecords found before old after new = (numbers : List ℕ) → AreKept numbers before old.numbers.now
+    → AreKept (joined old.status.now.numbers (records_at found) numbers) after new.numbers.now
 
 -- what was known of each unit's log sectors by those below the number k is known by those below the number n then; of a
--- unit of which nothing was known, nothing is; and each has the place that it had
-pub record ReadsLogs {T E : Type 0} (result : Result T E) (told : Told) (heads : List (Option KeptHeader))
-    (current : List (Option Winner)) (k n : ℕ) (old new : Places) : Type 0 where
+-- unit of which nothing was known, nothing is; each has the place that it had; and the same is filled still
+pub record ReadsLogs {T E : Type 0} (result : Result T E) (told : Told) (heads : Heads) (k n : ℕ) (old new : Findings)
+    : Type 0 where
   pub logs : OnOk result (OfContents told (λ x. (mark : Option Sector)
-      → AreHomes (at heads) (at current)
-      → AreReadLogs x mark (at current) (length current) k old
-      → AreReadLogs x mark (at current) (length current) n new))
-  pub unknown : StaysUnknown old new
-  pub places : SameHomes old new
+      → AreHomes (at heads.all.now) (at heads.current.now)
+      → AreReadLogs x mark (at heads.current.now) (length heads.current.now) k old.directory.now
+      → AreReadLogs x mark (at heads.current.now) (length heads.current.now) n new.directory.now))
+  pub unknown : StaysUnknown old.directory.now new.directory.now
+  pub places : SameHomes old.directory.now new.directory.now
+  pub still : StillFills old new
+
+-- those below the number k are found
+abbrev pub AreScanned : Contents → Heads → ℕ → ℕ → Gathered → Findings → Type 0
+AreScanned x heads least k gathered it = IsScanned x (at heads.all.now) (at heads.current.now) it.status.now.numbers least k
+    it.noted.now it.directory.now it.overflow.now it.numbers.now gathered.fits gathered.greatest
+
+-- Once those below the number k were found, those below the number n are; or it fails with the fault of the first that
+-- has one, unless a call of the chip failed.
+pub record ScansLogs (result : Result Gathered ImageFault) (told : Told) (heads : Heads) (k n : ℕ) (before : Gathered)
+    (old new : Findings) : Type 0 where
+  pub scanned : IfOk result (λ all. OfContents told (λ x. (least : ℕ)
+      → AreScanned x heads least k before old → AreScanned x heads least n all new))
+  pub fault : IfErr result (λ e. OfContents told (λ x. (least : ℕ) → AreScanned x heads least k before old
+      → is_image e ≡ true
+      → first_below (log_fault (at heads.all.now) (at heads.current.now) (chart_of x)) (length heads.all.now * 256)
+      ≡ Some e))
+  pub room : KeepRoom result heads n new
+  pub logs : ReadsLogs result told heads k n old new

@@ -2,9 +2,10 @@
 use Rattle.std.specs.Prelude.{ℕ, ◌≡◌, List, length, Option}
 use Rattle.chip_trait.specs.Told.{Told}
 use Rattle.ipl_base.specs.Places.{units_on}
-use Rattle.ipl_meaning.specs.Tables.{Places, OverflowLists}
 use Rattle.opening_laws.specs.Chosen.{KeptHeader, Winner}
-use Rattle.restart.specs.Notes.{Notes, NotesHaveRoom}
+use Rattle.restart.specs.declared.findings.Findings.{Findings}
+use Rattle.restart.specs.LogSpots.{SameReferences}
+use Rattle.restart.specs.Notes.{NotesHaveRoom}
 use Rattle.restart.specs.Counted.{SameHomes}
 
 -- of a chip of so many places the header of each place is kept, and that of each unit that counts
@@ -15,19 +16,21 @@ pub record HasScratch (places : ℕ) (told : Told) (headers : List (Option KeptH
   pub table : length winners ≡ units_on places
 
 -- what is noted, and the tables, are made for so many places
-pub record AreMadeFor (places : ℕ) (notes : Notes) (it : Places) (lists : OverflowLists) : Type 0 where
-  pub noted : NotesHaveRoom places notes
-  pub overflow : lists.places ≡ places
-  pub directory : length it.in_use ≡ places
+pub record AreMadeFor (places : ℕ) (it : Findings) : Type 0 where
+  pub noted : NotesHaveRoom places it.noted.now
+  pub overflow : it.overflow.now.places ≡ places
+  pub directory : length it.directory.now.in_use ≡ places
 
 -- the memory is as large as it was, and of so many places
-pub record KeepsMemory (places : ℕ) (old new : List (Option Winner)) (notes : Notes) (it : Places)
-    (lists : OverflowLists) : Type 0 where
-  pub size : length it.in_use ≡ places
-  pub table : length new ≡ length old
-  pub room : NotesHaveRoom places notes × (lists.places ≡ places)
+pub record KeepsMemory (places : ℕ) (table_old table_new : List (Option Winner)) (old new : Findings)
+    : Type 0 where
+  pub size : length new.directory.now.in_use ≡ places
+  pub table : length table_new ≡ length table_old
+  pub room : NotesHaveRoom places new.noted.now × (new.overflow.now.places ≡ places)
+  pub references : SameReferences old new
 
 -- each unit has the place that it had, and what is noted and listed is of so many places still
-pub record KeepsPlaces (places : ℕ) (old : Places) (notes : Notes) (new : Places) (lists : OverflowLists) : Type 0 where
-  pub homes : SameHomes old new
-  pub room : NotesHaveRoom places notes × (lists.places ≡ places)
+pub record KeepsPlaces (places : ℕ) (old new : Findings) : Type 0 where
+  pub homes : SameHomes old.directory.now new.directory.now
+  pub room : NotesHaveRoom places new.noted.now × (new.overflow.now.places ≡ places)
+  pub references : SameReferences old new

@@ -1,17 +1,20 @@
 -- What is read beyond the headers, by these: what that takes, and what is found.
-use Rattle.std.specs.Prelude.{ℕ, ◌≡◌, ◌<◌, ◌≤◌, ◌*◌, ◌^◌, Bool, true, false, List, [], length, Option, Some}
+use Rattle.std.specs.Prelude.{ℕ, ◌≡◌, ◌<◌, ◌≤◌, ◌*◌, ◌^◌, true, false, [], length, Some}
 use Rattle.chip_trait.specs.Told.{Told}
 use Rattle.ipl_base.specs.Places.{KeepsUnits}
 use Rattle.ipl_meaning.specs.Chart.{chart_of}
-use Rattle.ipl_meaning.specs.Tables.{Places, OverflowLists, StatusTable}
 use Rattle.unit_io.specs.Reads.{OfContents}
 use Rattle.txn_status.specs.ReadingIn.{status_in}
 use Rattle.opening_laws.specs.First.{at, count_below}
-use Rattle.opening_laws.specs.Chosen.{KeptHeader, Winner, units_told}
+use Rattle.opening_laws.specs.Chosen.{Winner, units_told}
 use Rattle.opening_laws.specs.Live.{marks as live_marks}
 use Rattle.opening_laws.specs.Marked.{last_close_mark}
+use Rattle.restart.specs.declared.collecting.Gathered.{Gathered}
+use Rattle.restart.specs.declared.findings.Aim.{Aim}
+use Rattle.restart.specs.declared.findings.Findings.{Findings}
+use Rattle.restart.specs.declared.findings.Heads.{Heads}
 use Rattle.restart.specs.Bytes.{IsRestWhole}
-use Rattle.restart.specs.Notes.{Notes, NotesHaveRoom, AreSized, IsNoted}
+use Rattle.restart.specs.Notes.{NotesHaveRoom, AreSized, IsNoted}
 use Rattle.restart.specs.Masked.{NoneNamed, mask_by, IsMasked}
 use Rattle.restart.specs.Collected.{numbers_below, AreKept}
 use Rattle.restart.specs.Counted.{NoneKnown, AreHomes, AreReadLogs}
@@ -19,49 +22,50 @@ use Rattle.restart.specs.Shown.{is_held, number_by}
 
 -- the headers are of a chip of so many places, and those that count are of as many units as the status header says, and
 -- as may be kept there
-pub record HaveHeaders (places : ℕ) (told : Told) (headers : List (Option KeptHeader)) (current : List (Option Winner))
-    (status : Winner) : Type 0 where
+pub record HaveHeaders (places : ℕ) (told : Told) (headers : Heads) (status : Winner) : Type 0 where
   pub size : places ≡ told.places
-  pub heads : length headers ≡ places
-  pub keeps : KeepsUnits places (length current)
+  pub heads : length headers.all.now ≡ places
+  pub keeps : KeepsUnits places (length headers.current.now)
   pub winner : status.place < places
-  pub units : length current ≡ units_told places (Some status)
+  pub units : length headers.current.now ≡ units_told places (Some status)
 
 -- before log sectors are read: there is room for what is noted and listed, the directory has so many units, and no log
 -- sector at home names a page
-pub record AreUnread (places count : ℕ) (notes : Notes) (it : Places) (lists : OverflowLists) : Type 0 where
-  pub noted : NotesHaveRoom places notes
-  pub overflow : lists.places ≡ places
-  pub units : length it.current ≡ count
-  pub blank : NoneNamed count it
+pub record AreUnread (places : ℕ) (heads : Heads) (it : Findings) : Type 0 where
+  pub noted : NotesHaveRoom places it.noted.now
+  pub overflow : it.overflow.now.places ≡ places
+  pub units : length it.directory.now.current ≡ length heads.current.now
+  pub blank : NoneNamed (length heads.current.now) it.directory.now
 
 -- Of what the chip holds: the greatest number, the committed numbers, the live log sectors with the pages that they
 -- name, what the close mark says of log sectors, and the status are found, and what was read is whole.
-pub record FindsRest (places : ℕ) (told : Told) (heads : List (Option KeptHeader)) (current : List (Option Winner))
-    (winner : Winner) (greatest : ℕ) (fits : Bool) (notes : Notes) (it : Places) (lists : OverflowLists) (now : StatusTable)
-    (numbers : List ℕ) : Type 0 where
-  pub number : OfContents told (λ x. greatest ≡ number_by (chart_of x) (at heads) (at current) (Some winner) places)
-  pub collected : OfContents told (λ x. AreKept
-      (numbers_below now.numbers (at heads) (at current) (chart_of x) (places * 256)) fits numbers)
-  pub noted : OfContents told (λ x. IsNoted notes lists
-      (live_marks (at heads) (at current) (chart_of x) (places * 256)))
-  pub masked : OfContents told (λ x. IsMasked (at heads) (at current)
-      (mask_by (at heads) (at current) (chart_of x)) (places * 256) it lists)
-  pub logs : OfContents told (λ x. AreHomes (at heads) (at current)
-      → AreReadLogs x (last_close_mark (chart_of x) (Some winner)) (at current) (length current) (places * 256) it)
-  pub status : OfContents told (λ x. now ≡ status_in (chart_of x) winner.place winner.head.generation)
-  pub whole : OfContents told (λ x. IsRestWhole x places heads current winner)
+pub record FindsRest (places : ℕ) (told : Told) (heads : Heads) (winner : Winner) (all : Gathered) (it : Findings)
+    : Type 0 where
+  pub number : OfContents told (λ x. all.greatest
+      ≡ number_by (chart_of x) (at heads.all.now) (at heads.current.now) (Some winner) places)
+  pub collected : OfContents told (λ x. AreKept (numbers_below it.status.now.numbers
+      (at heads.all.now) (at heads.current.now) (chart_of x) (places * 256)) all.fits it.numbers.now)
+  pub noted : OfContents told (λ x. IsNoted it.noted.now it.overflow.now
+      (live_marks (at heads.all.now) (at heads.current.now) (chart_of x) (places * 256)))
+  pub masked : OfContents told (λ x. IsMasked (at heads.all.now) (at heads.current.now)
+      (mask_by (at heads.all.now) (at heads.current.now) (chart_of x)) (places * 256)
+      it.directory.now it.overflow.now)
+  pub logs : OfContents told (λ x. AreHomes (at heads.all.now) (at heads.current.now)
+      → AreReadLogs x (last_close_mark (chart_of x) (Some winner)) (at heads.current.now)
+      (length heads.current.now) (places * 256) it.directory.now)
+  pub status : OfContents told (λ x. it.status.now
+      ≡ status_in (chart_of x) winner.place winner.head.generation)
+  pub whole : OfContents told (λ x. IsRestWhole x places heads.all.now heads.current.now winner)
 
 -- Whatever the chip tells: nothing is known of log sectors where marks don't count, no sector of the status place is
 -- known clean, numbers are left where some will be drawn, at most two overflow places hold live log sectors, none is
 -- in use yet, and all is of so many places.
-pub record FillsTables (places : ℕ) (heads : List (Option KeptHeader)) (current : List (Option Winner))
-    (winner : Winner) (marks draws : Bool) (greatest : ℕ) (notes : Notes) (it : Places) (lists : OverflowLists)
-    (now : StatusTable) : Type 0 where
-  pub unmarked : marks ≡ false → NoneKnown (length current) it
-  pub placed : now.place ≡ winner.place
-  pub unclean : now.first ≡ 256
-  pub left : draws ≡ true → greatest < 2 ^ 63
-  pub two : count_below (is_held heads notes) (length heads) ≤ 2
-  pub none : lists.in_use ≡ []
-  pub sized : AreSized (length current) places notes lists
+pub record FillsTables (places : ℕ) (heads : Heads) (winner : Winner) (aim : Aim) (greatest : ℕ) (it : Findings)
+    : Type 0 where
+  pub unmarked : aim.marks ≡ false → NoneKnown (length heads.current.now) it.directory.now
+  pub placed : it.status.now.place ≡ winner.place
+  pub unclean : it.status.now.first ≡ 256
+  pub left : aim.draws ≡ true → greatest < 2 ^ 63
+  pub two : count_below (is_held heads.all.now it.noted.now) (length heads.all.now) ≤ 2
+  pub none : it.overflow.now.in_use ≡ []
+  pub sized : AreSized (length heads.current.now) places it.noted.now it.overflow.now

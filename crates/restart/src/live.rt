@@ -9,6 +9,7 @@ ghost use Rattle.opening_laws.specs.Payloads.{is_log_payload, tid_of};
 ghost use Rattle.opening_laws.specs.Live.{is_at, is_generation, is_log_spot, is_overflow_place, is_place_of, is_live};
 ghost use Rattle.opening_laws.specs.Faults.{log_number};
 
+use crate::findings::Heads;
 use crate::kept::{Header, Winner};
 use ipl_base::FIRST_LOG_SECTOR;
 use log_records::{Payload, is_list, records};
@@ -55,21 +56,16 @@ fn is_generation(winner: Option<Winner>, generation: u64) -> bool
 }
 
 /// Whether log sectors may stand at this number of a place.
-pub(crate) fn may_hold_log(
-    heads: &[Option<Header>],
-    current: &[Option<Winner>],
-    place: u32,
-    sector: u32,
-) -> bool
-    requires { place < length heads.now }
-    ensures { result ≡ is_log_spot (at heads.now) (at current.now) place sector }
+pub(crate) fn may_hold_log(heads: &Heads<'_>, place: u32, sector: u32) -> bool
+    requires { place < length heads.now.all.now }
+    ensures { result ≡ is_log_spot (at heads.now.all.now) (at heads.now.current.now) place sector }
 {
-    match heads[place as usize] {
+    match heads.all[place as usize] {
         Some(header) => {
             (header.is_overflow() && 1 <= sector)
                 || (header.is_data()
                     && FIRST_LOG_SECTOR <= sector
-                    && is_at(current_of(current, header.unit()), place))
+                    && is_at(current_of(heads.current, header.unit()), place))
         }
         None => false,
     }
@@ -87,17 +83,13 @@ fn is_place_of(heads: &[Option<Header>], place: u32, unit: u32) -> bool
 }
 
 /// Whether a log sector with this head, in this place, is live.
-pub(crate) fn is_live(
-    heads: &[Option<Header>],
-    current: &[Option<Winner>],
-    place: u32,
-    head: &Head,
-) -> bool
-    requires { place < length heads.now }
-    ensures { (payload : List ℕ) → result ≡ is_live (at heads.now) (at current.now) place (sector_of head.now payload) }
+pub(crate) fn is_live(heads: &Heads<'_>, place: u32, head: &Head) -> bool
+    requires { place < length heads.now.all.now }
+    ensures { (payload : List ℕ) → result
+        ≡ is_live (at heads.now.all.now) (at heads.now.current.now) place (sector_of head.now payload) }
 {
-    is_place_of(heads, place, head.unit)
-        && is_generation(current_of(current, head.unit), head.generation)
+    is_place_of(heads.all, place, head.unit)
+        && is_generation(current_of(heads.current, head.unit), head.generation)
 }
 
 /// Whether the payload is a list of records, by the version of its sector.

@@ -8,32 +8,37 @@ ghost use Rattle.ipl_meaning.specs.Masks.{mask_of as pages_of};
 ghost use Rattle.unit_io.specs.Reads.{OfContents};
 ghost use Rattle.unit_io.specs.Kinds.{sector_named};
 ghost use Rattle.unit_io.specs.Found.{checked};
-ghost use Rattle.restart.specs.Joins.{joined};
 ghost use Rattle.ipl_base.specs.First.{first_below};
 ghost use Rattle.opening_laws.specs.First.{at};
-ghost use Rattle.opening_laws.specs.Live.{kept, Mark, is_log, is_overflow_place, is_live};
+ghost use Rattle.opening_laws.specs.Live.{kept, Mark, is_log, is_overflow_place};
 ghost use Rattle.opening_laws.specs.Payloads.{is_log_payload};
 ghost use Rattle.opening_laws.specs.Faults.{TellsImageFault, is_image, is_told, log_test, log_fault, log_number};
 ghost use Rattle.unit_io.specs.ReadsAt.{IsAt};
 ghost use Rattle.restart.specs.Looks.{LooksOnce, HasCauseFor, MayHoldLog};
 ghost use Rattle.restart.specs.Notes.{units_of, AreSized, overflow_count_of, listed, IsNoted};
-ghost use Rattle.restart.specs.Masked.{SamePlaces, masked};
-ghost use Rattle.restart.specs.Collected.{records_at, AreKept};
-ghost use Rattle.restart.specs.Scanned.{IsScanned};
-ghost use Rattle.restart.specs.LogSpots.{MayScan, HaveRoom, KeepRoom, TakesLog, ReadsLogs};
+ghost use Rattle.restart.specs.Masked.{masked};
+ghost use Rattle.restart.specs.LogSpots.{
+  live_found,
+  AreScanned,
+  HaveRoom,
+  JoinsRecords,
+  MayScan,
+  ReadsLogs,
+  ScansLogs,
+  TakesLog,
+};
 ghost use Rattle.restart.specs.Rest.{AreUnread};
 ghost use Rattle.restart.specs.Counted.{seen_log, does_check, is_erased};
 
 use crate::collecting::{Gathered, collect};
-use crate::kept::{Header, Winner};
+use crate::findings::{Findings, Heads};
+use crate::kept::Header;
 use crate::live::{is_live, is_log_payload, is_overflow_place, log_number, may_hold_log, pages_of};
 use crate::noted::Noted;
-use crate::numbers::KeptNumbers;
 use chip_trait::Chip;
 use ipl_base::{ChipFault, FIRST_LOG_SECTOR, Geometry, ImageFault, OVERFLOW_SECTORS, Spot};
 use overflow::Overflow;
 use sector_format::{Head, payload_in};
-use txn_status::Status;
 use unit_directory::Directory;
 use unit_io::{Found, read_found};
 
@@ -103,80 +108,74 @@ fn list_log(
 
 /// Notes a log sector, which pages it names, and the committed numbers that it has, if it is live.
 fn take_log(
-    heads: &[Option<Header>],
-    current: &[Option<Winner>],
-    noted: &mut Noted,
-    directory: &mut Directory,
-    overflow: &mut Overflow,
-    numbers: &mut KeptNumbers,
-    status: &Status,
+    heads: &Heads<'_>,
+    findings: &mut Findings<'_>,
     spot: Spot,
     head: &Head,
     payload: &[u8],
     fits: bool,
 ) -> Result<bool, ImageFault>
-    requires spot { MayScan heads.now current.now spot.place spot.sector }
-    requires room { HaveRoom heads.now current.now (spot.place * 256 + spot.sector)
-        noted.old directory.old overflow.old }
+    requires spot { MayScan heads.now spot.place spot.sector }
+    requires room { HaveRoom heads.now (spot.place * 256 + spot.sector) findings.old }
     requires fits { length payload.now ≤ PAYLOAD_LEN }
-    ensures takes { TakesLog result heads.now current.now (spot.place * 256 + spot.sector)
-        (kept (is_live (at heads.now) (at current.now) spot.place)
-        (Some (sector_of head.now payload.now)))
-        noted.old directory.old overflow.old noted.new directory.new overflow.new }
-    ensures collected { IfOk result (λ all. (found : List ℕ) → AreKept found fits numbers.old
-        → AreKept (joined status.now.numbers (records_at
-        (kept (is_live (at heads.now) (at current.now) spot.place)
-        (Some (sector_of head.now payload.now)))) found) all numbers.new) }
-    ensures room { KeepRoom result heads.now current.now (spot.place * 256 + spot.sector + 1)
-        noted.new overflow.new }
-    ensures places { SamePlaces directory.old directory.new }
-    ensures image { IfErr result (λ e. is_told false e ≡ true) }
+    ensures takes { TakesLog result heads.now (spot.place * 256 + spot.sector)
+        (live_found heads.now spot.place (Some (sector_of head.now payload.now))) findings.old findings.new }
+    ensures collected { IfOk result (λ all. JoinsRecords
+        (live_found heads.now spot.place (Some (sector_of head.now payload.now)))
+        fits findings.old all findings.new) }
 {
-    if is_live(heads, current, spot.place, head) {
-        directory.facts();
-        overflow.facts();
-        check_log(heads, noted, overflow, spot, head, payload)?;
-        noted.add(head.unit, head.serial, spot.place);
+    if is_live(heads, spot.place, head) {
+        findings.directory.facts();
+        findings.overflow.facts();
+        check_log(
+            heads.all,
+            findings.noted,
+            findings.overflow,
+            spot,
+            head,
+            payload,
+        )?;
+        findings.noted.add(head.unit, head.serial, spot.place);
         let mask = pages_of(payload, head.version);
-        list_log(heads, directory, overflow, head.unit, spot, mask);
-        return Ok(collect(numbers, status, payload, head.version, fits));
+        list_log(
+            heads.all,
+            findings.directory,
+            findings.overflow,
+            head.unit,
+            spot,
+            mask,
+        );
+        return Ok(collect(
+            findings.numbers,
+            findings.status,
+            payload,
+            head.version,
+            fits,
+        ));
     }
     Ok(fits)
 }
 
 /// Takes what was found where log sectors may stand, and answers what was found so far.
 fn take_found(
-    heads: &[Option<Header>],
-    current: &[Option<Winner>],
-    noted: &mut Noted,
-    directory: &mut Directory,
-    overflow: &mut Overflow,
-    numbers: &mut KeptNumbers,
-    status: &Status,
+    heads: &Heads<'_>,
+    findings: &mut Findings<'_>,
     spot: Spot,
     found: Option<(Head, usize)>,
     bytes: &[u8; 512],
     gathered: Gathered,
 ) -> Result<Gathered, ImageFault>
-    requires spot { MayScan heads.now current.now spot.place spot.sector }
-    requires room { HaveRoom heads.now current.now (spot.place * 256 + spot.sector)
-        noted.old directory.old overflow.old }
+    requires spot { MayScan heads.now spot.place spot.sector }
+    requires room { HaveRoom heads.now (spot.place * 256 + spot.sector) findings.old }
     requires fits { IfSome found (λ it. it.1 ≤ PAYLOAD_LEN) }
-    ensures takes { TakesLog result heads.now current.now (spot.place * 256 + spot.sector)
-        (kept (is_live (at heads.now) (at current.now) spot.place)
-        (kept is_log (sector_named bytes.now found)))
-        noted.old directory.old overflow.old noted.new directory.new overflow.new }
+    ensures takes { TakesLog result heads.now (spot.place * 256 + spot.sector)
+        (live_found heads.now spot.place (kept is_log (sector_named bytes.now found)))
+        findings.old findings.new }
     ensures number { IfOk result (λ all. all.greatest
         ≡ max gathered.greatest (log_number (kept is_log (sector_named bytes.now found)))) }
-    ensures collected { IfOk result (λ all. (before : List ℕ)
-        → AreKept before gathered.fits numbers.old
-        → AreKept (joined status.now.numbers (records_at
-        (kept (is_live (at heads.now) (at current.now) spot.place)
-        (kept is_log (sector_named bytes.now found)))) before) all.fits numbers.new) }
-    ensures room { KeepRoom result heads.now current.now (spot.place * 256 + spot.sector + 1)
-        noted.new overflow.new }
-    ensures places { SamePlaces directory.old directory.new }
-    ensures image { IfErr result (λ e. is_told false e ≡ true) }
+    ensures collected { IfOk result (λ all. JoinsRecords
+        (live_found heads.now spot.place (kept is_log (sector_named bytes.now found)))
+        gathered.fits findings.old all.fits findings.new) }
 {
     match found {
         Some((head, used)) => {
@@ -184,19 +183,7 @@ fn take_found(
                 return Ok(gathered);
             }
             let payload = payload_in(bytes, used);
-            let fits = take_log(
-                heads,
-                current,
-                noted,
-                directory,
-                overflow,
-                numbers,
-                status,
-                spot,
-                &head,
-                payload,
-                gathered.fits,
-            )?;
+            let fits = take_log(heads, findings, spot, &head, payload, gathered.fits)?;
             let greatest = gathered.greatest.max(log_number(&head, payload));
             Ok(Gathered { greatest, fits })
         }
@@ -235,19 +222,13 @@ fn is_erased(found: Found) -> bool
 }
 
 /// Notes what was found where log sectors may stand, if that is at a unit's place.
-fn note_seen(
-    heads: &[Option<Header>],
-    current: &[Option<Winner>],
-    directory: &mut Directory,
-    spot: Spot,
-    found: Found,
-)
-    requires units { length directory.old.current ≡ length current.now }
-    requires spot { MayScan heads.now current.now spot.place spot.sector }
-    ensures { directory.new ≡ seen_log (at heads.now spot.place) directory.old spot.sector
+fn note_seen(heads: &Heads<'_>, directory: &mut Directory, spot: Spot, found: Found)
+    requires units { length directory.old.current ≡ length heads.now.current.now }
+    requires spot { MayScan heads.now spot.place spot.sector }
+    ensures { directory.new ≡ seen_log (at heads.now.all.now spot.place) directory.old spot.sector
         (does_check found) (is_erased found) }
 {
-    let header = heads[spot.place as usize];
+    let header = heads.all[spot.place as usize];
     match header {
         Some(header) if header.is_data() => {
             let number = spot.sector - FIRST_LOG_SECTOR;
@@ -260,96 +241,53 @@ fn note_seen(
 /// Reads a sector, if log sectors may stand there.
 fn scan_sector<C: Chip>(
     chip: &mut C,
-    heads: &[Option<Header>],
-    current: &[Option<Winner>],
-    noted: &mut Noted,
-    directory: &mut Directory,
-    overflow: &mut Overflow,
-    numbers: &mut KeptNumbers,
-    status: &Status,
+    heads: &Heads<'_>,
+    findings: &mut Findings<'_>,
     spot: Spot,
     gathered: Gathered,
 ) -> Result<Gathered, ImageFault>
-    requires size { length heads.now ≡ (C.told chip.old).places }
-    requires place { spot.place < length heads.now }
+    requires size { length heads.now.all.now ≡ (C.told chip.old).places }
+    requires place { spot.place < length heads.now.all.now }
     requires sector { spot.sector < 256 }
-    requires room { HaveRoom heads.now current.now (spot.place * 256 + spot.sector)
-        noted.old directory.old overflow.old }
-    ensures scanned { IfOk result (λ all. OfContents (C.told chip.old) (λ x. (least : ℕ)
-        → IsScanned x (at heads.now) (at current.now) status.now.numbers least
-        (spot.place * 256 + spot.sector) noted.old directory.old overflow.old numbers.old
-        gathered.fits gathered.greatest
-        → IsScanned x (at heads.now) (at current.now) status.now.numbers least
-        (spot.place * 256 + spot.sector + 1) noted.new directory.new overflow.new numbers.new
-        all.fits all.greatest)) }
-    ensures fault { IfErr result (λ e. OfContents (C.told chip.old) (λ x. (least : ℕ)
-        → IsScanned x (at heads.now) (at current.now) status.now.numbers least
-        (spot.place * 256 + spot.sector) noted.old directory.old overflow.old numbers.old
-        gathered.fits gathered.greatest
-        → is_image e ≡ true
-        → first_below (log_fault (at heads.now) (at current.now) (chart_of x))
-        (length heads.now * 256) ≡ Some e)) }
-    ensures room { KeepRoom result heads.now current.now (spot.place * 256 + spot.sector + 1)
-        noted.new overflow.new }
-    ensures logs { ReadsLogs result (C.told chip.old) heads.now current.now
-        (spot.place * 256 + spot.sector) (spot.place * 256 + spot.sector + 1) directory.old directory.new }
+    requires room { HaveRoom heads.now (spot.place * 256 + spot.sector) findings.old }
+    ensures scans { ScansLogs result (C.told chip.old) heads.now (spot.place * 256 + spot.sector)
+        (spot.place * 256 + spot.sector + 1) gathered findings.old findings.new }
     ensures looks { LooksOnce (λ p s. IsAt spot.place spot.sector p s
-        × MayHoldLog (at heads.now) (at current.now) p s)
+        × MayHoldLog (at heads.now.all.now) (at heads.now.current.now) p s)
         (HasCauseFor false) result (C.told chip.old) (C.told chip.new) }
 {
-    if !may_hold_log(heads, current, spot.place, spot.sector) {
+    if !may_hold_log(heads, spot.place, spot.sector) {
         return Ok(gathered);
     }
     let mut bytes = [0; 512];
     let found = read_found(chip, spot, &mut bytes)?;
     let sector = checked(found);
-    let gathered = take_found(
-        heads, current, noted, directory, overflow, numbers, status, spot, sector, &bytes, gathered,
-    )?;
-    note_seen(heads, current, directory, spot, found);
+    let gathered = take_found(heads, findings, spot, sector, &bytes, gathered)?;
+    note_seen(heads, findings.directory, spot, found);
     Ok(gathered)
 }
 
 /// Reads the sectors of a place, where log sectors may stand.
 fn scan_place<C: Chip>(
     chip: &mut C,
-    heads: &[Option<Header>],
-    current: &[Option<Winner>],
-    noted: &mut Noted,
-    directory: &mut Directory,
-    overflow: &mut Overflow,
-    numbers: &mut KeptNumbers,
-    status: &Status,
+    heads: &Heads<'_>,
+    findings: &mut Findings<'_>,
     place: u32,
     before: Gathered,
 ) -> Result<Gathered, ImageFault>
-    requires size { length heads.now ≡ (C.told chip.old).places }
-    requires place { place < length heads.now }
-    requires room { HaveRoom heads.now current.now (place * 256)
-        noted.old directory.old overflow.old }
-    ensures scanned { IfOk result (λ all. OfContents (C.told chip.old) (λ x. (base : ℕ)
-        → IsScanned x (at heads.now) (at current.now) status.now.numbers base (place * 256)
-        noted.old directory.old overflow.old numbers.old before.fits before.greatest
-        → IsScanned x (at heads.now) (at current.now) status.now.numbers base ((place + 1) * 256)
-        noted.new directory.new overflow.new numbers.new all.fits all.greatest)) }
-    ensures fault { IfErr result (λ e. OfContents (C.told chip.old) (λ x. (base : ℕ)
-        → IsScanned x (at heads.now) (at current.now) status.now.numbers base (place * 256)
-        noted.old directory.old overflow.old numbers.old before.fits before.greatest
-        → is_image e ≡ true
-        → first_below (log_fault (at heads.now) (at current.now) (chart_of x))
-        (length heads.now * 256) ≡ Some e)) }
-    ensures room { KeepRoom result heads.now current.now ((place + 1) * 256) noted.new overflow.new }
-    ensures logs { ReadsLogs result (C.told chip.old) heads.now current.now
-        (place * 256) ((place + 1) * 256) directory.old directory.new }
-    ensures looks { LooksOnce (λ p s. (p ≡ place) × MayHoldLog (at heads.now) (at current.now) p s)
+    requires size { length heads.now.all.now ≡ (C.told chip.old).places }
+    requires place { place < length heads.now.all.now }
+    requires room { HaveRoom heads.now (place * 256) findings.old }
+    ensures scans { ScansLogs result (C.told chip.old) heads.now (place * 256) ((place + 1) * 256)
+        before findings.old findings.new }
+    ensures looks { LooksOnce
+        (λ p s. (p ≡ place) × MayHoldLog (at heads.now.all.now) (at heads.now.current.now) p s)
         (HasCauseFor false) result (C.told chip.old) (C.told chip.new) }
 {
     let mut gathered = before;
     for sector in 0..256 {
         let spot = Spot { place, sector };
-        gathered = scan_sector(
-            chip, heads, current, noted, directory, overflow, numbers, status, spot, gathered,
-        )?;
+        gathered = scan_sector(chip, heads, findings, spot, gathered)?;
     }
     Ok(gathered)
 }
@@ -361,43 +299,36 @@ fn scan_place<C: Chip>(
 pub(crate) fn scan<C: Chip>(
     chip: &mut C,
     geometry: Geometry,
-    heads: &[Option<Header>],
-    current: &[Option<Winner>],
-    noted: &mut Noted,
-    directory: &mut Directory,
-    overflow: &mut Overflow,
-    numbers: &mut KeptNumbers,
-    status: &Status,
+    heads: &Heads<'_>,
+    findings: &mut Findings<'_>,
     least: u64,
 ) -> Result<Gathered, ImageFault>
     requires size { geometry.places ≡ (C.told chip.old).places }
-    requires heads { length heads.now ≡ geometry.places }
-    requires keeps { KeepsUnits geometry.places (length current.now) }
-    requires tables { AreUnread geometry.places (length current.now) noted.old directory.old overflow.old }
+    requires heads { length heads.now.all.now ≡ geometry.places }
+    requires keeps { KeepsUnits geometry.places (length heads.now.current.now) }
+    requires tables { AreUnread geometry.places heads.now findings.old }
     ensures scanned { IfOk result (λ all. OfContents (C.told chip.old) (λ x.
-        IsScanned x (at heads.now) (at current.now) status.now.numbers least (geometry.places * 256)
-        noted.new directory.new overflow.new numbers.new all.fits all.greatest)) }
+        AreScanned x heads.now least (geometry.places * 256) all findings.new)) }
     ensures fault { IfErr result (λ e. OfContents (C.told chip.old) (λ x. is_image e ≡ true
-        → first_below (log_fault (at heads.now) (at current.now) (chart_of x)) (geometry.places * 256)
-        ≡ Some e)) }
-    ensures none { OnOk result (overflow.new.in_use ≡ []) }
-    ensures sized { AreSized (length current.now) geometry.places noted.new overflow.new }
-    ensures logs { ReadsLogs result (C.told chip.old) heads.now current.now 0 (geometry.places * 256)
-        directory.old directory.new }
-    ensures looks { LooksOnce (MayHoldLog (at heads.now) (at current.now))
+        → first_below (log_fault (at heads.now.all.now) (at heads.now.current.now) (chart_of x))
+        (geometry.places * 256) ≡ Some e)) }
+    ensures none { OnOk result (findings.new.overflow.now.in_use ≡ []) }
+    ensures sized { AreSized (length heads.now.current.now) geometry.places
+        findings.new.noted.now findings.new.overflow.now }
+    ensures logs { ReadsLogs result (C.told chip.old) heads.now 0 (geometry.places * 256)
+        findings.old findings.new }
+    ensures looks { LooksOnce (MayHoldLog (at heads.now.all.now) (at heads.now.current.now))
         (HasCauseFor false) result (C.told chip.old) (C.told chip.new) }
 {
-    noted.clear();
-    overflow.set_units(current.len() as u32);
-    numbers.clear();
+    findings.noted.clear();
+    findings.overflow.set_units(heads.current.len() as u32);
+    findings.numbers.clear();
     let mut gathered = Gathered {
         greatest: least,
         fits: true,
     };
     for place in 0..geometry.places() {
-        gathered = scan_place(
-            chip, heads, current, noted, directory, overflow, numbers, status, place, gathered,
-        )?;
+        gathered = scan_place(chip, heads, findings, place, gathered)?;
     }
     Ok(gathered)
 }

@@ -28,6 +28,7 @@ use crate::choosing::choose;
 use crate::collecting::Gathered;
 use crate::commits::read_commits;
 use crate::filling::{adopt_all, counted, fill_places, list_places, mark_units, retire_listed};
+use crate::findings::{Aim, Findings, Heads};
 use crate::head_sector::HeadSector;
 use crate::headers::{check_headers, check_status};
 use crate::kept::{Header, Winner};
@@ -39,6 +40,7 @@ use crate::verdict::{check_found, greatest_in};
 use chip_trait::Chip;
 use ipl_base::{Counter, Geometry, ImageFault, OutOfMemory, RESERVED_PLACES};
 use overflow::Overflow;
+use selective_merge::Parts;
 use std::alloc::Global;
 use std::marker::Model;
 use txn_status::{LastMark, Status};
@@ -81,43 +83,36 @@ fn read_headers<C: Chip>(
 fn read_rest<C: Chip>(
     chip: &mut C,
     geometry: Geometry,
-    heads: &[Option<Header>],
-    current: &[Option<Winner>],
+    heads: &Heads<'_>,
     winner: &Winner,
-    noted: &mut Noted,
-    directory: &mut Directory,
-    overflow: &mut Overflow,
-    status: &mut Status,
-    numbers: &mut KeptNumbers,
-    marks: bool,
-    draws: bool,
+    findings: &mut Findings<'_>,
+    aim: Aim,
 ) -> Result<Gathered, ImageFault>
-    requires headers { HaveHeaders geometry.places (C.told chip.old) heads.now current.now winner.now }
-    requires tables { AreUnread geometry.places (length current.now) noted.old directory.old overflow.old }
-    requires unknown { NoneKnown (length current.now) directory.old }
+    requires headers { HaveHeaders geometry.places (C.told chip.old) heads.now winner.now }
+    requires tables { AreUnread geometry.places heads.now findings.old }
+    requires unknown { NoneKnown (length heads.now.current.now) findings.old.directory.now }
     ensures fault { OfContents (C.told chip.old) (λ x. TellsImageFault
-        (fault_by draws (chart_of x) (at heads.now) (at current.now) (Some winner.now)
+        (fault_by aim.draws (chart_of x) (at heads.now.all.now) (at heads.now.current.now) (Some winner.now)
         geometry.places) result) }
-    ensures found { IfOk result (λ all. FindsRest geometry.places (C.told chip.old) heads.now current.now
-        winner.now all.greatest all.fits noted.new directory.new overflow.new status.new numbers.new) }
-    ensures filled { IfOk result (λ all. FillsTables geometry.places heads.now current.now winner.now
-        marks draws all.greatest noted.new directory.new overflow.new status.new) }
+    ensures found { IfOk result (λ all.
+        FindsRest geometry.places (C.told chip.old) heads.now winner.now all findings.new) }
+    ensures filled { IfOk result (λ all.
+        FillsTables geometry.places heads.now winner.now aim all.greatest findings.new) }
     ensures spent { IfErr result (λ e. e ≡ Spent → OfContents (C.told chip.old) (λ x.
-        IsRestWhole x geometry.places heads.now current.now winner.now)) }
-    ensures memory { KeepsPlaces geometry.places directory.old noted.new directory.new overflow.new }
-    ensures looks { OnlyLooksAt (HasCauseFor draws) result (C.told chip.old) (C.told chip.new) }
-    ensures once { ((s : ℕ) → ¬ MayHoldLog (at heads.now) (at current.now) winner.now.place s)
+        IsRestWhole x geometry.places heads.now.all.now heads.now.current.now winner.now)) }
+    ensures memory { KeepsPlaces geometry.places findings.old findings.new }
+    ensures looks { OnlyLooksAt (HasCauseFor aim.draws) result (C.told chip.old) (C.told chip.new) }
+    ensures once { ((s : ℕ)
+        → ¬ MayHoldLog (at heads.now.all.now) (at heads.now.current.now) winner.now.place s)
         → ReadsOnce IsBehindHeader (C.told chip.old) (C.told chip.new) }
 {
-    let least = greatest_in(heads);
+    let least = greatest_in(heads.all);
     let mut mark = LastMark::none();
-    let least = read_commits(chip, geometry, winner, status, &mut mark, least)?;
-    let mark = counted(mark, marks);
-    mark_units(directory, current, &mark);
-    let gathered = scan(
-        chip, geometry, heads, current, noted, directory, overflow, numbers, status, least,
-    )?;
-    check_found(heads, noted, gathered.greatest, draws)?;
+    let least = read_commits(chip, geometry, winner, findings.status, &mut mark, least)?;
+    let mark = counted(mark, aim.marks);
+    mark_units(findings.directory, heads.current, &mark);
+    let gathered = scan(chip, geometry, heads, findings, least)?;
+    check_found(heads.all, findings.noted, gathered.greatest, aim.draws)?;
     Ok(gathered)
 }
 
@@ -128,112 +123,37 @@ fn read_chip<C: Chip>(
     geometry: Geometry,
     heads: &mut [Option<Header>],
     table: &mut [Option<Winner>],
-    noted: &mut Noted,
-    directory: &mut Directory,
-    overflow: &mut Overflow,
-    status: &mut Status,
-    numbers: &mut KeptNumbers,
-    marks: bool,
-    draws: bool,
+    findings: &mut Findings<'_>,
+    aim: Aim,
 ) -> Result<Gathered, ImageFault>
     requires scratch { HasScratch geometry.places (C.told chip.old) heads.old table.old }
-    requires tables { AreMadeFor geometry.places noted.old directory.old overflow.old }
+    requires tables { AreMadeFor geometry.places findings.old }
     ensures fault { OfContents (C.told chip.old) (λ x.
-        TellsImageFault (fault_for draws (chart_of x) geometry.places) result) }
-    ensures found { IfOk result (λ all. FindsStore geometry.places (C.told chip.old) marks
-        (tables_of directory.new overflow.new status.new (all.greatest + 1)) all.fits numbers.new) }
-    ensures bytes { ReadsBytesFor draws geometry.places (C.told chip.old) result }
-    ensures left { IfOk result (λ all. draws ≡ true → all.greatest < 2 ^ 63) }
-    ensures memory { KeepsMemory geometry.places table.old table.new noted.new directory.new overflow.new }
-    ensures looks { LooksOnce Anywhere (HasCauseFor draws) result (C.told chip.old) (C.told chip.new) }
+        TellsImageFault (fault_for aim.draws (chart_of x) geometry.places) result) }
+    ensures found { IfOk result (λ all. FindsStore geometry.places (C.told chip.old) aim.marks
+        (tables_of findings.new.directory.now findings.new.overflow.now findings.new.status.now
+        (all.greatest + 1)) all.fits findings.new.numbers.now) }
+    ensures bytes { ReadsBytesFor aim.draws geometry.places (C.told chip.old) result }
+    ensures left { IfOk result (λ all. aim.draws ≡ true → all.greatest < 2 ^ 63) }
+    ensures memory { KeepsMemory geometry.places table.old table.new findings.old findings.new }
+    ensures looks { LooksOnce Anywhere (HasCauseFor aim.draws) result
+        (C.told chip.old) (C.told chip.new) }
 {
     let mut kept = HeadSector::none();
     let winner = read_headers(chip, geometry, heads, table, &mut kept)?;
     let current = &table[..winner.units(geometry) as usize];
-    adopt_all(directory, current);
-    let gathered = read_rest(
-        chip, geometry, heads, current, &winner, noted, directory, overflow, status, numbers,
-        marks, draws,
-    )?;
-    fill_places(directory, heads, &winner, noted);
-    retire_listed(directory, &kept);
-    list_places(overflow, heads, noted);
-    directory.facts();
-    overflow.facts();
+    adopt_all(findings.directory, current);
+    let read = Heads {
+        all: heads,
+        current,
+    };
+    let gathered = read_rest(chip, geometry, &read, &winner, findings, aim)?;
+    fill_places(findings.directory, heads, &winner, findings.noted);
+    retire_listed(findings.directory, &kept);
+    list_places(findings.overflow, heads, findings.noted);
+    findings.directory.facts();
+    findings.overflow.facts();
     Ok(gathered)
-}
-
-/// Opens a chip into these tables, and answers whether the committed numbers of live records fit.
-fn open<C: Chip>(
-    chip: &mut C,
-    geometry: Geometry,
-    heads: &mut [Option<Header>],
-    table: &mut [Option<Winner>],
-    noted: &mut Noted,
-    directory: &mut Directory,
-    overflow: &mut Overflow,
-    status: &mut Status,
-    counter: &mut Counter,
-    numbers: &mut KeptNumbers,
-    marks: bool,
-) -> Result<bool, ImageFault>
-    requires scratch { HasScratch geometry.places (C.told chip.old) heads.old table.old }
-    requires tables { AreMadeFor geometry.places noted.old directory.old overflow.old }
-    ensures fault { OfContents (C.told chip.old) (λ x.
-        TellsImageFault (first_fault (chart_of x) geometry.places) result) }
-    ensures found { IfOk result (λ fits. FindsStore geometry.places (C.told chip.old) marks
-        (tables_of directory.new overflow.new status.new counter.new) fits numbers.new) }
-    ensures bytes { ReadsBytes geometry.places (C.told chip.old) result }
-    ensures left { OnOk result (counter.new ≤ 2 ^ 63) }
-    ensures memory { KeepsMemory geometry.places table.old table.new noted.new directory.new overflow.new }
-    ensures looks { LooksOnce Anywhere HasCause result (C.told chip.old) (C.told chip.new) }
-{
-    match read_chip(
-        chip, geometry, heads, table, noted, directory, overflow, status, numbers, marks, true,
-    ) {
-        Ok(all) => {
-            *counter = Counter::at(all.greatest + 1);
-            Ok(all.fits)
-        }
-        Err(fault) => Err(fault),
-    }
-}
-
-/// Looks a chip over into these tables, where no number will be drawn.
-fn look_over<C: Chip>(
-    chip: &mut C,
-    geometry: Geometry,
-    heads: &mut [Option<Header>],
-    table: &mut [Option<Winner>],
-    noted: &mut Noted,
-    directory: &mut Directory,
-    overflow: &mut Overflow,
-    status: &mut Status,
-    numbers: &mut KeptNumbers,
-) -> Result<(), ImageFault>
-    requires scratch { HasScratch geometry.places (C.told chip.old) heads.old table.old }
-    requires tables { AreMadeFor geometry.places noted.old directory.old overflow.old }
-    ensures fault { OfContents (C.told chip.old) (λ x.
-        TellsImageFault (shape_fault (chart_of x) geometry.places) result) }
-    ensures laid { OnOk result (OfContents (C.told chip.old) (λ x.
-        Laid geometry.places (chart_of x) (layout_in (chart_of x) geometry.places))) }
-    ensures mirrors { OnOk result (OfContents (C.told chip.old) (λ x.
-        Mirrors geometry.places (chart_of x) (layout_in (chart_of x) geometry.places)
-        (tables_of directory.new overflow.new status.new
-        (greatest_found (chart_of x) geometry.places + 1)))) }
-    ensures bytes { OnOk result (OfContents (C.told chip.old) (λ x.
-        IsByteChart geometry.places (chart_of x))) }
-    ensures known { OnOk result ((counter : ℕ) × KnowsPlaces geometry.places
-        (tables_of directory.new overflow.new status.new counter)) }
-    ensures memory { KeepsMemory geometry.places table.old table.new noted.new directory.new overflow.new }
-    ensures looks { LooksOnce Anywhere (HasCauseFor false) result (C.told chip.old) (C.told chip.new) }
-{
-    match read_chip(
-        chip, geometry, heads, table, noted, directory, overflow, status, numbers, false, false,
-    ) {
-        Ok(_) => Ok(()),
-        Err(fault) => Err(fault),
-    }
 }
 
 /// The scratch memory of an opening: what is kept of each header, the header of each unit that counts, and what is noted of
@@ -296,16 +216,13 @@ impl Scratch {
 pub fn read_tables<C: Chip>(
     chip: &mut C,
     scratch: &mut Scratch,
-    directory: &mut Directory,
-    overflow: &mut Overflow,
-    status: &mut Status,
-    counter: &mut Counter,
+    parts: &mut Parts,
     numbers: &mut KeptNumbers,
     marks: bool,
 ) -> Result<bool, ImageFault>
     requires scratch { scratch.old ≡ (C.told chip.old).places }
-    requires directory { length directory.old.in_use ≡ (C.told chip.old).places }
-    requires overflow { overflow.old.places ≡ (C.told chip.old).places }
+    requires directory { length parts.old.directory.in_use ≡ (C.told chip.old).places }
+    requires overflow { parts.old.overflow.places ≡ (C.told chip.old).places }
 
     // It fails exactly with the first fault of the chip's contents, unless a read failed.
     ensures fault { OfContents (C.told chip.old) (λ x.
@@ -313,8 +230,9 @@ pub fn read_tables<C: Chip>(
 
     // Else it finds what the chip holds, and numbers are left.
     ensures found { IfOk result (λ fits. FindsStore (C.told chip.old).places (C.told chip.old) marks
-        (tables_of directory.new overflow.new status.new counter.new) fits numbers.new) }
-    ensures left { OnOk result (counter.new ≤ 2 ^ 63) }
+        (tables_of parts.new.directory parts.new.overflow parts.new.status parts.new.counter)
+        fits numbers.new) }
+    ensures left { OnOk result (parts.new.counter ≤ 2 ^ 63) }
 
     // What it read is bytes, also where it fails since the numbers are used up.
     ensures bytes { ReadsBytes (C.told chip.old).places (C.told chip.old) result }
@@ -323,22 +241,33 @@ pub fn read_tables<C: Chip>(
     // or a failed read.
     ensures looks { LooksOnce Anywhere HasCause result (C.told chip.old) (C.told chip.new) }
     ensures sized { (scratch.new ≡ scratch.old)
-        × (length directory.new.in_use ≡ length directory.old.in_use)
-        × (overflow.new.places ≡ overflow.old.places) }
+        × (length parts.new.directory.in_use ≡ length parts.old.directory.in_use)
+        × (parts.new.overflow.places ≡ parts.old.overflow.places) }
+
+    // The same sessions are open.
+    ensures active { parts.new.active ≡ parts.old.active }
 {
-    open(
+    let mut findings = Findings {
+        noted: &mut scratch.noted,
+        directory: &mut parts.directory,
+        overflow: &mut parts.overflow,
+        status: &mut parts.status,
+        numbers,
+    };
+    match read_chip(
         chip,
         scratch.geometry,
         &mut scratch.heads,
         &mut scratch.current,
-        &mut scratch.noted,
-        directory,
-        overflow,
-        status,
-        counter,
-        numbers,
-        marks,
-    )
+        &mut findings,
+        Aim { marks, draws: true },
+    ) {
+        Ok(all) => {
+            parts.counter = Counter::at(all.greatest + 1);
+            Ok(all.fits)
+        }
+        Err(fault) => Err(fault),
+    }
 }
 
 /// Looks a chip over, as `read_tables` does, and fails with the same faults but for one: it draws no
@@ -383,15 +312,26 @@ pub fn survey<C: Chip>(
         × (length directory.new.in_use ≡ length directory.old.in_use)
         × (overflow.new.places ≡ overflow.old.places) }
 {
-    look_over(
-        chip,
-        scratch.geometry,
-        &mut scratch.heads,
-        &mut scratch.current,
-        &mut scratch.noted,
+    let mut findings = Findings {
+        noted: &mut scratch.noted,
         directory,
         overflow,
         status,
         numbers,
-    )
+    };
+    let aim = Aim {
+        marks: false,
+        draws: false,
+    };
+    match read_chip(
+        chip,
+        scratch.geometry,
+        &mut scratch.heads,
+        &mut scratch.current,
+        &mut findings,
+        aim,
+    ) {
+        Ok(_) => Ok(()),
+        Err(fault) => Err(fault),
+    }
 }

@@ -14,7 +14,7 @@ use Rattle.step_laws.specs.Steps.{Tidies}
 use Rattle.unit_io.specs.Accounts.{Accounts}
 use Rattle.unit_io.specs.Costs.{Spends}
 use Rattle.status_renewal.specs.InPlace.{FailsInPlace, RenewalFailsInPlace}
-use Rattle.status_renewal.specs.Passes.{HasPassed, HoldsRenewed, SparesUnits, FailsAsPass, FailsAsRenewal, AreMergeable, CompletesRenewal, ErasesAtMost, HasErased, RenewCause}
+use Rattle.status_renewal.specs.Passes.{HasPassed, HoldsRenewed, SparesUnits, FailsAsPass, FailsAsRenewal, AreMergeable, CompletesRenewal, ErasesAtMost, HasErased, RenewCause, RenewsTold, KeepsInSteps}
 
 -- ---- the pass
 
@@ -73,3 +73,12 @@ pub record RenewalSpends (t after : Tables) (result : Result (Unit {0}) ChipFaul
   pub costs : Spends (ErasesAtMost t.places after.places (length t.places.current + 1) (is_worn_out result)) old new
   pub renewed : OnOk result (Spends (HasErased after.status.place) old new)
   pub wears : TellsOfWear t after (is_ok result) (is_worn_out result) old new
+
+-- What a renewal does, however it ends: what the chip holds then, what a power cut leaves, why it fails over what the
+-- chip held, what it leaves, and what it spends.
+pub record RenewsStatus (t after : Tables) (result : Result (Unit {0}) ChipFault) (old new : Told) : Type 0 where
+  pub tells : RenewsTold old.places t after old result new
+  pub steps : KeepsInSteps old.places t after old result new
+  pub fails : RenewalFails old.places t after result old
+  pub leaves : LeavesRenewed t after result old new
+  pub spends : RenewalSpends t after result old new

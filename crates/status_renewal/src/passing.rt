@@ -65,36 +65,7 @@ fn take_unit<C: Chip>(
 }
 
 /// Finds the committed numbers that live records have, at most 3,840: unit by unit in rising order,
-/// where one whose numbers don't fit is merged.
-fn pass<C: Chip>(chip: &mut C, parts: &mut Parts, kept: &mut KeptNumbers) -> Result<(), ChipFault>
-    requires known { KnowsPlaces (C.told chip.old).places (tables_of parts.old) }
-    requires left { parts.old.counter + 13 * MOST_UNITS < 2 ^ 64 }
-    ensures passes { (places : ℕ) (x : Contents) (it : Layout)
-        → (C.told chip.old).places ≡ places → (C.told chip.old).contents ≡ Some x
-        → Mirrors places (chart_of x) it (tables_of parts.old)
-        → PassEnds places (chart_of x) it (tables_of parts.old) result (C.told chip.new)
-        (tables_of parts.new)
-        (HasPassed places it.count (chart_of x) it (tables_of parts.old) kept.new
-        (C.told chip.new) (tables_of parts.new)) }
-    ensures goes_on { GoesOnTelling result (C.told chip.old) (C.told chip.new) }
-    ensures fails { RenewalFails (C.told chip.old).places (tables_of parts.old)
-        (tables_of parts.new) result (C.told chip.old) }
-    ensures steps { (places : ℕ) → (C.told chip.old).places ≡ places
-        → KeepsInSteps places (tables_of parts.old) (tables_of parts.new)
-        (C.told chip.old) result (C.told chip.new) }
-    ensures leaves { LeavesPassed (13 * MOST_UNITS) (length parts.old.directory.current)
-        (tables_of parts.old) (tables_of parts.new) result (C.told chip.old) (C.told chip.new) }
-{
-    parts.directory.facts();
-    kept.clear();
-    for unit in 0..parts.directory.units() {
-        take_unit(chip, parts, kept, unit)?;
-    }
-    Ok(())
-}
-
-/// Finds the committed numbers that live records have by a pass, unless they are found already:
-/// then it does nothing.
+/// where one whose numbers don't fit is merged. Where they are found already it does nothing.
 pub(crate) fn find_numbers<C: Chip>(
     chip: &mut C,
     parts: &mut Parts,
@@ -126,5 +97,10 @@ pub(crate) fn find_numbers<C: Chip>(
         kept.rises();
         return Ok(());
     }
-    pass(chip, parts, kept)
+    parts.directory.facts();
+    kept.clear();
+    for unit in 0..parts.directory.units() {
+        take_unit(chip, parts, kept, unit)?;
+    }
+    Ok(())
 }

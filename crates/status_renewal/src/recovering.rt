@@ -7,7 +7,7 @@ use crate::renewing::renew_with;
 use crate::securing::secure_marks;
 use chip_trait::Chip;
 use ipl_base::ImageFault;
-use restart::{KeptNumbers, Scratch};
+use restart::{KeptNumbers, Scratch, read_tables};
 use selective_merge::Parts;
 
 /// Opens a chip, for whose number of places the scratch memory and the tables were made: reads all
@@ -65,16 +65,7 @@ pub fn recover<C: Chip>(
     // status place is a new one, which was erased.
     ensures spends { OpeningSpends marks (tables_of parts.new) result (C.told chip.old) (C.told chip.new) }
 {
-    let found = restart::read_tables(
-        chip,
-        scratch,
-        &mut parts.directory,
-        &mut parts.overflow,
-        &mut parts.status,
-        &mut parts.counter,
-        kept,
-        marks,
-    )?;
+    let found = read_tables(chip, scratch, parts, kept, marks)?;
     secure_marks(chip, &parts.directory)?;
     renew_with(chip, parts, kept, found)?;
     // No mark stands in the new status place.

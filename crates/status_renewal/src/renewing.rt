@@ -5,7 +5,7 @@ ghost use Rattle.merge_laws.specs.Known.{KnowsPlaces};
 ghost use Rattle.selective_merge.specs.Moving.{tables_of};
 ghost use Rattle.unit_io.specs.Costs.{Spends};
 ghost use Rattle.unit_io.specs.Unread.{ReadsNothing};
-ghost use Rattle.status_renewal.specs.Leaving.{LeavesRenewed, RenewalFails, RenewalSpends};
+ghost use Rattle.status_renewal.specs.Leaving.{LeavesRenewed, RenewalFails, RenewalSpends, RenewsStatus};
 ghost use Rattle.status_renewal.specs.Passes.{KeepsAll, RenewsTold, KeepsInSteps};
 
 use crate::passing::find_numbers;
@@ -28,15 +28,7 @@ pub(crate) fn renew_with<C: Chip>(
     requires left { parts.old.counter + 2 ^ 14 < 2 ^ 64 }
     requires exact { found ≡ true → KeepsAll (C.told chip.old).places (tables_of parts.old) kept.old
         (C.told chip.old) }
-    ensures tells { RenewsTold (C.told chip.old).places (tables_of parts.old) (tables_of parts.new)
-        (C.told chip.old) result (C.told chip.new) }
-    ensures steps { KeepsInSteps (C.told chip.old).places (tables_of parts.old)
-        (tables_of parts.new) (C.told chip.old) result (C.told chip.new) }
-    ensures fails { RenewalFails (C.told chip.old).places (tables_of parts.old)
-        (tables_of parts.new) result (C.told chip.old) }
-    ensures leaves { LeavesRenewed (tables_of parts.old) (tables_of parts.new) result
-        (C.told chip.old) (C.told chip.new) }
-    ensures spends { RenewalSpends (tables_of parts.old) (tables_of parts.new) result
+    ensures renews { RenewsStatus (tables_of parts.old) (tables_of parts.new) result
         (C.told chip.old) (C.told chip.new) }
     ensures unread { OnTrue found (Spends ReadsNothing (C.told chip.old) (C.told chip.new)) }
 {

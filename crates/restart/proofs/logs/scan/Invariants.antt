@@ -5,7 +5,7 @@ use Rattle.restart.specs.Looks.{OnlyReads}
 use Rattle.restart.specs.Notes.{AreSized, FitsNotes}
 use Rattle.restart.specs.Counted.{SameHomes, StaysUnknown, AreHomes, AreReadLogs}
 use Rattle.ipl_format.specs.Sector.{Sector}
-use Rattle.restart.specs.Scanned.{IsScanned}
+use Rattle.restart.specs.LogSpots.{AreScanned, StillFills}
 use Rattle.unit_io.specs.ReadsAt.{ReadsOnce}
 use Rattle.restart.proofs.OnceLemmas.{InPlacesBelow}
 use Rattle.restart.proofs.logs.scan.Given as goal
@@ -14,13 +14,14 @@ abbrev pub invariant-loop-place : goal.invariant-loop-place
 invariant-loop-place g l =
     let told = g.C.Chip.told in record {
       reads : OnlyReads (told l.fn.chip) (told l.chip);
-      once : ReadsOnce (InPlacesBelow (at l.heads) (at l.current) l.place) (told l.fn.chip) (told l.chip);
-      scanned : OfContents (told l.fn.chip) (λ x. IsScanned x (at l.heads) (at l.current) l.status.numbers l.least (l.place * 256) l.noted l.directory l.overflow l.numbers l.gathered.fits l.gathered.greatest);
-      logs : OfContents (told l.fn.chip) (λ x. (mark : Option Sector) → AreHomes (at l.heads) (at l.current)
-          → AreReadLogs x mark (at l.current) (length l.current) 0 l.fn.directory
-          → AreReadLogs x mark (at l.current) (length l.current) (l.place * 256) l.directory);
-      roomy : FitsNotes (at l.current) (l.place * 256) l.noted l.overflow;
-      sized : AreSized (length l.current) l.fn.geometry.places l.noted l.overflow;
-      unknown : StaysUnknown l.fn.directory l.directory;
-      places : SameHomes l.fn.directory l.directory;
+      once : ReadsOnce (InPlacesBelow (at l.heads.all.now) (at l.heads.current.now) l.place) (told l.fn.chip) (told l.chip);
+      scanned : OfContents (told l.fn.chip) (λ x. AreScanned x l.heads l.least (l.place * 256) l.gathered l.findings);
+      logs : OfContents (told l.fn.chip) (λ x. (mark : Option Sector) → AreHomes (at l.heads.all.now) (at l.heads.current.now)
+          → AreReadLogs x mark (at l.heads.current.now) (length l.heads.current.now) 0 l.fn.findings.directory.now
+          → AreReadLogs x mark (at l.heads.current.now) (length l.heads.current.now) (l.place * 256) l.findings.directory.now);
+      roomy : FitsNotes (at l.heads.current.now) (l.place * 256) l.findings.noted.now l.findings.overflow.now;
+      sized : AreSized (length l.heads.current.now) l.fn.geometry.places l.findings.noted.now l.findings.overflow.now;
+      still : StillFills l.fn.findings l.findings;
+      unknown : StaysUnknown l.fn.findings.directory.now l.findings.directory.now;
+      places : SameHomes l.fn.findings.directory.now l.findings.directory.now;
     }

@@ -5,7 +5,7 @@ use Rattle.restart.specs.Looks.{OnlyReads}
 use Rattle.restart.specs.Notes.{AreSized, FitsNotes}
 use Rattle.restart.specs.Counted.{SameHomes, StaysUnknown, AreHomes, AreReadLogs}
 use Rattle.ipl_format.specs.Sector.{Sector}
-use Rattle.restart.specs.Scanned.{IsScanned}
+use Rattle.restart.specs.LogSpots.{AreScanned, StillFills}
 use Rattle.unit_io.specs.ReadsAt.{ReadsOnce}
 use Rattle.restart.proofs.OnceLemmas.{InPlaceBelow}
 use Rattle.restart.proofs.logs.scan_place.Given as goal
@@ -14,14 +14,16 @@ abbrev pub invariant-loop-sector : goal.invariant-loop-sector
 invariant-loop-sector g l =
     let told = g.C.Chip.told in record {
       reads : OnlyReads (told l.fn.chip) (told l.chip);
-      once : ReadsOnce (InPlaceBelow (at l.heads) (at l.current) l.place l.sector) (told l.fn.chip) (told l.chip);
-      scanned : OfContents (told l.fn.chip) (λ x. (base : ℕ) → IsScanned x (at l.heads) (at l.current) l.status.numbers base (l.place * 256) l.fn.noted l.fn.directory l.fn.overflow l.fn.numbers l.fn.before.fits l.fn.before.greatest
-          → IsScanned x (at l.heads) (at l.current) l.status.numbers base (l.place * 256 + l.sector) l.noted l.directory l.overflow l.numbers l.gathered.fits l.gathered.greatest);
-      logs : OfContents (told l.fn.chip) (λ x. (mark : Option Sector) → AreHomes (at l.heads) (at l.current)
-          → AreReadLogs x mark (at l.current) (length l.current) (l.place * 256) l.fn.directory
-          → AreReadLogs x mark (at l.current) (length l.current) (l.place * 256 + l.sector) l.directory);
-      roomy : FitsNotes (at l.current) (l.place * 256 + l.sector) l.noted l.overflow;
-      sized : AreSized (length l.current) (length l.heads) l.noted l.overflow;
-      unknown : StaysUnknown l.fn.directory l.directory;
-      places : SameHomes l.fn.directory l.directory;
+      once : ReadsOnce (InPlaceBelow (at l.heads.all.now) (at l.heads.current.now) l.place l.sector) (told l.fn.chip) (told l.chip);
+      scanned : OfContents (told l.fn.chip) (λ x. (least : ℕ)
+          → AreScanned x l.heads least (l.place * 256) l.fn.before l.fn.findings
+          → AreScanned x l.heads least (l.place * 256 + l.sector) l.gathered l.findings);
+      logs : OfContents (told l.fn.chip) (λ x. (mark : Option Sector) → AreHomes (at l.heads.all.now) (at l.heads.current.now)
+          → AreReadLogs x mark (at l.heads.current.now) (length l.heads.current.now) (l.place * 256) l.fn.findings.directory.now
+          → AreReadLogs x mark (at l.heads.current.now) (length l.heads.current.now) (l.place * 256 + l.sector) l.findings.directory.now);
+      roomy : FitsNotes (at l.heads.current.now) (l.place * 256 + l.sector) l.findings.noted.now l.findings.overflow.now;
+      sized : AreSized (length l.heads.current.now) (length l.heads.all.now) l.findings.noted.now l.findings.overflow.now;
+      still : StillFills l.fn.findings l.findings;
+      unknown : StaysUnknown l.fn.findings.directory.now l.findings.directory.now;
+      places : SameHomes l.fn.findings.directory.now l.findings.directory.now;
     }

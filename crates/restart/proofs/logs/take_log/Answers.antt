@@ -16,98 +16,107 @@ use Rattle.restart.proofs.logs.take_log.Goals as goal
 
 pub check_log-requires-clause-unit : goal.check_log-requires-clause-unit
 check_log-requires-clause-unit c =
-    (unit_low (at c.args.heads.now) c.args.current.now c.args.spot.place (length c.args.heads.now) (sector_of c.args.head.now c.args.payload.now) c.args.noted.now c.args.overflow.now
+    (unit_low (at c.args.heads.now.all.now) c.args.heads.now.current.now c.args.spot.place (length c.args.heads.now.all.now) (sector_of c.args.head.now c.args.payload.now) c.args.findings.now.noted.now c.args.findings.now.overflow.now
     (sym (c.is_live.ensures c.args.payload.now) ∙ c.if-is_live.true) c.requires.room.sized).0
 
 pub check_log-requires-clause-list : goal.check_log-requires-clause-list
 check_log-requires-clause-list c =
-    (unit_low (at c.args.heads.now) c.args.current.now c.args.spot.place (length c.args.heads.now) (sector_of c.args.head.now c.args.payload.now) c.args.noted.now c.args.overflow.now
+    (unit_low (at c.args.heads.now.all.now) c.args.heads.now.current.now c.args.spot.place (length c.args.heads.now.all.now) (sector_of c.args.head.now c.args.payload.now) c.args.findings.now.noted.now c.args.findings.now.overflow.now
     (sym (c.is_live.ensures c.args.payload.now) ∙ c.if-is_live.true) c.requires.room.sized).1
 
 pub add-requires-clause-unit : goal.add-requires-clause-unit
 add-requires-clause-unit c =
-    (unit_low (at c.args.heads.now) c.args.current.now c.args.spot.place (length c.args.heads.now) (sector_of c.args.head.now c.args.payload.now) c.args.noted.now c.args.overflow.now
+    (unit_low (at c.args.heads.now.all.now) c.args.heads.now.current.now c.args.spot.place (length c.args.heads.now.all.now) (sector_of c.args.head.now c.args.payload.now) c.args.findings.now.noted.now c.args.findings.now.overflow.now
     (sym (c.is_live.ensures c.args.payload.now) ∙ c.if-is_live.true) c.requires.room.sized).0
 
 pub list_log-requires-clause-unit : goal.list_log-requires-clause-unit
 list_log-requires-clause-unit c =
-    (unit_low (at c.args.heads.now) c.args.current.now c.args.spot.place (length c.args.heads.now) (sector_of c.args.head.now c.args.payload.now) c.args.noted.now c.args.overflow.now
+    (unit_low (at c.args.heads.now.all.now) c.args.heads.now.current.now c.args.spot.place (length c.args.heads.now.all.now) (sector_of c.args.head.now c.args.payload.now) c.args.findings.now.noted.now c.args.findings.now.overflow.now
     (sym (c.is_live.ensures c.args.payload.now) ∙ c.if-is_live.true) c.requires.room.sized).1
 
 pub add-requires-clause-few : goal.add-requires-clause-few
 add-requires-clause-few c =
-    serial_fits (at c.args.heads.now) (at c.args.current.now) c.args.spot.place c.args.spot.sector c.requires.spot.sector (sector_of c.args.head.now c.args.payload.now) c.requires.spot.spot
-    (sym (c.is_live.ensures c.args.payload.now) ∙ c.if-is_live.true) c.args.noted.now c.args.overflow.now c.requires.room.roomy c.in_ok-check_log.ensures.room
+    serial_fits (at c.args.heads.now.all.now) (at c.args.heads.now.current.now) c.args.spot.place c.args.spot.sector c.requires.spot.sector (sector_of c.args.head.now c.args.payload.now) c.requires.spot.spot
+    (sym (c.is_live.ensures c.args.payload.now) ∙ c.if-is_live.true) c.args.findings.now.noted.now c.args.findings.now.overflow.now c.requires.room.roomy c.in_ok-check_log.ensures.room
 
 pub list_log-requires-clause-home : goal.list_log-requires-clause-home
 list_log-requires-clause-home c = λ home.
-    spot_sector (at c.args.heads.now) (at c.args.current.now) c.args.spot.place c.args.spot.sector (sector_of c.args.head.now c.args.payload.now) c.requires.spot.spot
+    spot_sector (at c.args.heads.now.all.now) (at c.args.heads.now.current.now) c.args.spot.place c.args.spot.sector (sector_of c.args.head.now c.args.payload.now) c.requires.spot.spot
     (sym (c.is_live.ensures c.args.payload.now) ∙ c.if-is_live.true) home
 
 pub returns-then-is_live-clause-collected : goal.returns-then-is_live-clause-collected
 returns-then-is_live-clause-collected c = λ found are.
-    subst (λ (o : Option Sector). AreKept (joined c.args.status.now.numbers (records_at o) found) c.collect.result c.collect.new.numbers)
-    (sym (some_live (at c.args.heads.now) (at c.args.current.now) c.args.spot.place (sector_of c.args.head.now c.args.payload.now) (sym (c.is_live.ensures c.args.payload.now) ∙ c.if-is_live.true)))
+    subst (λ (o : Option Sector). AreKept (joined c.args.findings.now.status.now.numbers (records_at o) found) c.collect.result c.collect.new.numbers)
+    (sym (some_live (at c.args.heads.now.all.now) (at c.args.heads.now.current.now) c.args.spot.place (sector_of c.args.head.now c.args.payload.now) (sym (c.is_live.ensures c.args.payload.now) ∙ c.if-is_live.true)))
     (c.collect.ensures found are)
 
 pub returns-clause-collected : goal.returns-clause-collected
 returns-clause-collected c = λ found are.
-    subst (λ (o : Option Sector). AreKept (joined c.args.status.now.numbers (records_at o) found) c.args.fits c.args.numbers.now)
-    (sym (none_live (at c.args.heads.now) (at c.args.current.now) c.args.spot.place (sector_of c.args.head.now c.args.payload.now) (sym (c.is_live.ensures c.args.payload.now) ∙ c.if-is_live.false))) are
+    subst (λ (o : Option Sector). AreKept (joined c.args.findings.now.status.now.numbers (records_at o) found) c.args.fits c.args.findings.now.numbers.now)
+    (sym (none_live (at c.args.heads.now.all.now) (at c.args.heads.now.current.now) c.args.spot.place (sector_of c.args.head.now c.args.payload.now) (sym (c.is_live.ensures c.args.payload.now) ∙ c.if-is_live.false))) are
 
 pub returns-in_err-check_log-clause-takes : goal.returns-in_err-check_log-clause-takes
 returns-in_err-check_log-clause-takes c = record {
   fault = λ marks noted.
-      subst (λ (o : Option Sector). TellsImageFault (log_test (at c.args.heads.now) marks (c.args.spot.place * 256 + c.args.spot.sector) o) c.from_residual.result)
-      (sym (some_live (at c.args.heads.now) (at c.args.current.now) c.args.spot.place (sector_of c.args.head.now c.args.payload.now) (sym (c.is_live.ensures c.args.payload.now) ∙ c.if-is_live.true)))
+      subst (λ (o : Option Sector). TellsImageFault (log_test (at c.args.heads.now.all.now) marks (c.args.spot.place * 256 + c.args.spot.sector) o) c.from_residual.result)
+      (sym (some_live (at c.args.heads.now.all.now) (at c.args.heads.now.current.now) c.args.spot.place (sector_of c.args.head.now c.args.payload.now) (sym (c.is_live.ensures c.args.payload.now) ∙ c.if-is_live.true)))
       (tells_exit c.from_residual.result _ c.in_err-check_log.field-0.0 c.from_residual.ensures.1 (c.in_err-check_log.ensures.fault marks noted));
+  image = search rules;
   noted = search rules;
   masked = search rules;
+  places = search rules;
+  room = search rules;
+  still = search rules;
 }
 
 pub returns-then-is_live-clause-takes : goal.returns-then-is_live-clause-takes
 returns-then-is_live-clause-takes c = record {
+  room = record {
+    roomy = let sector = sector_of c.args.head.now c.args.payload.now in
+        let live = sym (c.is_live.ensures c.args.payload.now) ∙ c.if-is_live.true in
+        roomy_more (at c.args.heads.now.all.now) (at c.args.heads.now.current.now) c.args.spot.place c.args.spot.sector c.requires.spot.sector sector c.requires.spot.spot live
+        c.args.findings.now.noted.now c.args.findings.now.overflow.now c.requires.room.roomy c.in_ok-check_log.ensures.room c.add.new.self c.list_log.new.overflow c.args.head.now.serial c.args.spot.place c.pages_of-mask.result c.add.ensures
+        (unit_low (at c.args.heads.now.all.now) c.args.heads.now.current.now c.args.spot.place (length c.args.heads.now.all.now) sector c.args.findings.now.noted.now c.args.findings.now.overflow.now live c.requires.room.sized).1 c.list_log.ensures.listed;
+    sized = sized_more _ _ c.args.head.now.unit c.args.head.now.serial c.args.spot.place c.args.spot.place c.args.spot.sector c.pages_of-mask.result (is_overflow_place (at c.args.heads.now.all.now c.args.spot.place))
+        c.args.findings.now.noted.now c.add.new.self c.args.findings.now.overflow.now c.list_log.new.overflow c.add.ensures c.list_log.ensures.listed c.requires.room.sized;
+  };
+  image = search rules;
+  places = search rules;
+  still = search rules;
   fault = λ marks noted.
-      ap (log_test (at c.args.heads.now) marks (c.args.spot.place * 256 + c.args.spot.sector))
-      (some_live (at c.args.heads.now) (at c.args.current.now) c.args.spot.place (sector_of c.args.head.now c.args.payload.now) (sym (c.is_live.ensures c.args.payload.now) ∙ c.if-is_live.true))
+      ap (log_test (at c.args.heads.now.all.now) marks (c.args.spot.place * 256 + c.args.spot.sector))
+      (some_live (at c.args.heads.now.all.now) (at c.args.heads.now.current.now) c.args.spot.place (sector_of c.args.head.now c.args.payload.now) (sym (c.is_live.ensures c.args.payload.now) ∙ c.if-is_live.true))
       ∙ c.in_ok-check_log.ensures.fault marks noted;
   noted = λ marks noted.
       let sector = sector_of c.args.head.now c.args.payload.now in
       let live = sym (c.is_live.ensures c.args.payload.now) ∙ c.if-is_live.true in
-      noted_live (at c.args.heads.now) (at c.args.current.now) c.args.spot.place c.args.spot.sector c.pages_of-mask.result c.requires.spot.sector sector
-      c.args.noted.now c.add.new.self c.args.overflow.now c.list_log.new.overflow marks live
-      (unit_low (at c.args.heads.now) c.args.current.now c.args.spot.place (length c.args.heads.now) sector c.args.noted.now c.args.overflow.now live c.requires.room.sized).1
+      noted_live (at c.args.heads.now.all.now) (at c.args.heads.now.current.now) c.args.spot.place c.args.spot.sector c.pages_of-mask.result c.requires.spot.sector sector
+      c.args.findings.now.noted.now c.add.new.self c.args.findings.now.overflow.now c.list_log.new.overflow marks live
+      (unit_low (at c.args.heads.now.all.now) c.args.heads.now.current.now c.args.spot.place (length c.args.heads.now.all.now) sector c.args.findings.now.noted.now c.args.findings.now.overflow.now live c.requires.room.sized).1
       c.add.ensures c.list_log.ensures.listed noted;
   masked = λ found is so_far.
       let sector = sector_of c.args.head.now c.args.payload.now in
       let live = sym (c.is_live.ensures c.args.payload.now) ∙ c.if-is_live.true in
-      masked_live (at c.args.heads.now) (at c.args.current.now) found c.args.spot.place c.args.spot.sector c.requires.spot.sector sector c.requires.spot.spot live
-      c.args.directory.now c.args.overflow.now (length c.args.current.now) c.pages_of-mask.result c.facts.ensures c.facts-then-is_live.ensures c.requires.room.units
-      c.requires.room.sized.listed_units (live_low (at c.args.heads.now) c.args.current.now c.args.spot.place sector live) c.pages_of-mask.ensures is so_far
+      masked_live (at c.args.heads.now.all.now) (at c.args.heads.now.current.now) found c.args.spot.place c.args.spot.sector c.requires.spot.sector sector c.requires.spot.spot live
+      c.args.findings.now.directory.now c.args.findings.now.overflow.now (length c.args.heads.now.current.now) c.pages_of-mask.result c.facts.ensures c.facts-then-is_live.ensures c.requires.room.units
+      c.requires.room.sized.listed_units (live_low (at c.args.heads.now.all.now) c.args.heads.now.current.now c.args.spot.place sector live) c.pages_of-mask.ensures is so_far
       c.list_log.new.directory c.list_log.new.overflow c.list_log.ensures.masked c.list_log.ensures.listed;
 }
 
 pub returns-clause-takes : goal.returns-clause-takes
 returns-clause-takes c = record {
+  image = search rules;
+  places = search rules;
+  room = search rules;
+  still = search rules;
   fault = λ marks noted.
-      ap (log_test (at c.args.heads.now) marks (c.args.spot.place * 256 + c.args.spot.sector))
-      (none_live (at c.args.heads.now) (at c.args.current.now) c.args.spot.place (sector_of c.args.head.now c.args.payload.now) (sym (c.is_live.ensures c.args.payload.now) ∙ c.if-is_live.false));
+      ap (log_test (at c.args.heads.now.all.now) marks (c.args.spot.place * 256 + c.args.spot.sector))
+      (none_live (at c.args.heads.now.all.now) (at c.args.heads.now.current.now) c.args.spot.place (sector_of c.args.head.now c.args.payload.now) (sym (c.is_live.ensures c.args.payload.now) ∙ c.if-is_live.false));
   noted = λ marks noted.
-      subst (λ (o : Option Sector). IsNoted c.args.noted.now c.args.overflow.now (with_one marks (option_map (mark_of (at c.args.heads.now) (c.args.spot.place * 256 + c.args.spot.sector)) o)))
-      (sym (none_live (at c.args.heads.now) (at c.args.current.now) c.args.spot.place (sector_of c.args.head.now c.args.payload.now) (sym (c.is_live.ensures c.args.payload.now) ∙ c.if-is_live.false))) noted;
+      subst (λ (o : Option Sector). IsNoted c.args.findings.now.noted.now c.args.findings.now.overflow.now (with_one marks (option_map (mark_of (at c.args.heads.now.all.now) (c.args.spot.place * 256 + c.args.spot.sector)) o)))
+      (sym (none_live (at c.args.heads.now.all.now) (at c.args.heads.now.current.now) c.args.spot.place (sector_of c.args.head.now c.args.payload.now) (sym (c.is_live.ensures c.args.payload.now) ∙ c.if-is_live.false))) noted;
   masked = λ found is so_far.
-      let none = none_live (at c.args.heads.now) (at c.args.current.now) c.args.spot.place (sector_of c.args.head.now c.args.payload.now) (sym (c.is_live.ensures c.args.payload.now) ∙ c.if-is_live.false) in
-      masked_none (at c.args.heads.now) (at c.args.current.now) found (c.args.spot.place * 256 + c.args.spot.sector) c.args.directory.now c.args.overflow.now
+      let none = none_live (at c.args.heads.now.all.now) (at c.args.heads.now.current.now) c.args.spot.place (sector_of c.args.head.now c.args.payload.now) (sym (c.is_live.ensures c.args.payload.now) ∙ c.if-is_live.false) in
+      masked_none (at c.args.heads.now.all.now) (at c.args.heads.now.current.now) found (c.args.spot.place * 256 + c.args.spot.sector) c.args.findings.now.directory.now c.args.findings.now.overflow.now
       (λ u. is u ∙ ap (mask_of_sector u) none) so_far;
-}
-
-pub returns-then-is_live-clause-room : goal.returns-then-is_live-clause-room
-returns-then-is_live-clause-room c = record {
-  roomy = let sector = sector_of c.args.head.now c.args.payload.now in
-      let live = sym (c.is_live.ensures c.args.payload.now) ∙ c.if-is_live.true in
-      roomy_more (at c.args.heads.now) (at c.args.current.now) c.args.spot.place c.args.spot.sector c.requires.spot.sector sector c.requires.spot.spot live
-      c.args.noted.now c.args.overflow.now c.requires.room.roomy c.in_ok-check_log.ensures.room c.add.new.self c.list_log.new.overflow c.args.head.now.serial c.args.spot.place c.pages_of-mask.result c.add.ensures
-      (unit_low (at c.args.heads.now) c.args.current.now c.args.spot.place (length c.args.heads.now) sector c.args.noted.now c.args.overflow.now live c.requires.room.sized).1 c.list_log.ensures.listed;
-  sized = sized_more _ _ c.args.head.now.unit c.args.head.now.serial c.args.spot.place c.args.spot.place c.args.spot.sector c.pages_of-mask.result (is_overflow_place (at c.args.heads.now c.args.spot.place))
-      c.args.noted.now c.add.new.self c.args.overflow.now c.list_log.new.overflow c.add.ensures c.list_log.ensures.listed c.requires.room.sized;
 }

@@ -100,7 +100,7 @@ retire_listed-requires-clause-listed g c =
 
 pub returns-in_err-winner-clause-looks : goal.returns-in_err-winner-clause-looks
 returns-in_err-winner-clause-looks g c = record {
-  only = looks_for c.args.draws c.from_residual.result
+  only = looks_for c.args.aim.draws c.from_residual.result
       (looks_again c.read_headers.result c.from_residual.result c.read_headers.ensures.looks.only c.in_err-winner.was c.from_residual.ensures.1);
   once = headers_alone (g.C.Chip.told c.args.chip.now) (g.C.Chip.told c.read_headers.new.chip) c.read_headers.ensures.looks.once;
 }
@@ -135,7 +135,7 @@ returns-in_err-gathered-clause-fault g c = λ x told.
     let table = c.read_headers.new.table in
     let shows = shows_found (chart_of x) places c.units.result heads table c.in_ok-winner.winner c.units.ensures (c.in_ok-winner.ensures.shown x told) in
     tells_again c.from_residual-in_err-gathered.result c.read_rest.result _ _ c.in_err-gathered.was c.from_residual-in_err-gathered.ensures.1
-    (all_tells (chart_of x) places heads (take c.units.result table) c.in_ok-winner.winner shows c.args.draws c.read_rest.result
+    (all_tells (chart_of x) places heads (take c.units.result table) c.in_ok-winner.winner shows c.args.aim.draws c.read_rest.result
     (omega arith) (omega arith) (c.in_ok-winner.ensures.fault x told) (c.read_rest.ensures.fault x (c.read_headers.ensures.looks.only.reads.contents ∙ told)))
 
 pub returns-clause-fault : goal.returns-clause-fault
@@ -144,7 +144,7 @@ returns-clause-fault g c = λ x told.
     let heads = c.read_headers.new.heads in
     let table = c.read_headers.new.table in
     let shows = shows_found (chart_of x) places c.units.result heads table c.in_ok-winner.winner c.units.ensures (c.in_ok-winner.ensures.shown x told) in
-    all_tells (chart_of x) places heads (take c.units.result table) c.in_ok-winner.winner shows c.args.draws (Ok (tt {0}))
+    all_tells (chart_of x) places heads (take c.units.result table) c.in_ok-winner.winner shows c.args.aim.draws (Ok (tt {0}))
     (omega arith) (omega arith) (c.in_ok-winner.ensures.fault x told) (c.in_ok-gathered.ensures.fault x (c.read_headers.ensures.looks.only.reads.contents ∙ told))
 
 -- ---- what was found
@@ -162,7 +162,7 @@ listed g c = retired_of c.read_headers.new.kept
 
 -- the tables then
 abbrev made : (g : Over) (c : goal.After-facts-2 g) → Tables
-made g c = tables_of c.retire_listed.new.directory c.list_places.new.overflow c.read_rest.new.status
+made g c = tables_of c.retire_listed.new.directory c.list_places.new.overflow c.read_rest.new.findings.status.now
     (c.in_ok-gathered.gathered.greatest + 1)
 
 count : (g : Over) (c : goal.After-facts-2 g) → AreFound c.args.geometry.places (heads g c) (current g c)
@@ -179,8 +179,8 @@ within g c u winner is =
 
 used : (g : Over) (c : goal.After-facts-2 g) → AreUsed
     (is_used (at (current g c)) (length (current g c)) c.in_ok-winner.winner.place
-    (is_held (heads g c) c.read_rest.new.noted)) c.args.geometry.places
-    (length (current g c) + 1 + count_below (is_held (heads g c) c.read_rest.new.noted) (length (heads g c)))
+    (is_held (heads g c) c.read_rest.new.findings.noted.now)) c.args.geometry.places
+    (length (current g c) + 1 + count_below (is_held (heads g c) c.read_rest.new.findings.noted.now) (length (heads g c)))
     c.fill_places.new.directory.in_use
 used g c = used_of {n = c.args.geometry.places} (omega arith)
     (c.fill_places.ensures.used (at (current g c)) (length (current g c))
@@ -209,16 +209,16 @@ laid_out : (g : Over) (c : goal.After-facts-2 g) → OfContents (g.C.Chip.told c
     (λ x. Laid c.args.geometry.places (chart_of x) (layout_in (chart_of x) c.args.geometry.places))
 laid_out g c = λ x told.
     let told_then = c.read_headers.ensures.looks.only.reads.contents ∙ told in
-    laid c.args.draws x c.args.geometry.places (heads g c) (current g c) c.in_ok-winner.winner (shows g c x told)
+    laid c.args.aim.draws x c.args.geometry.places (heads g c) (current g c) c.in_ok-winner.winner (shows g c x told)
     (c.in_ok-winner.ensures.whole x told)
     (c.in_ok-gathered.ensures.found.whole x told_then)
     (all_tells (chart_of x) c.args.geometry.places (heads g c) (current g c) c.in_ok-winner.winner (shows g c x told)
-    c.args.draws (Ok (tt {0}))
+    c.args.aim.draws (Ok (tt {0}))
     (omega arith) (omega arith) (c.in_ok-winner.ensures.fault x told) (c.in_ok-gathered.ensures.fault x told_then))
 
 read_logs : (g : Over) (c : goal.After-facts-2 g) → OfContents (g.C.Chip.told c.args.chip.now)
     (λ x. AreReadLogs x (last_close_mark (chart_of x) (Some c.in_ok-winner.winner)) (at (current g c))
-    (length (current g c)) (c.args.geometry.places * 256) c.read_rest.new.directory)
+    (length (current g c)) (c.args.geometry.places * 256) c.read_rest.new.findings.directory.now)
 read_logs g c = λ x told.
     c.in_ok-gathered.ensures.found.logs x (c.read_headers.ensures.looks.only.reads.contents ∙ told)
     (are_homes (heads g c) (current g c) c.in_ok-winner.winner (count g c).chosen)
@@ -236,13 +236,13 @@ all_opened g c = λ x told.
     let sized = c.in_ok-gathered.ensures.filled.sized in
     let keeps = (aside g c).keeps in
     let overflow = opened_overflow (chart_of x) places (heads g c) (current g c) winner (shows g c x told)
-    c.read_rest.new.noted c.read_rest.new.overflow (rest.noted x told_then) lists
+    c.read_rest.new.findings.noted.now c.read_rest.new.findings.overflow.now (rest.noted x told_then) lists
     sized.listed_units (omega arith) (c.list_places.ensures.places ∙ sized.listed_places) c.list_places.ensures.spots
     c.list_places.ensures.in_use in record {
       directory = opened (chart_of x) places (heads g c) (current g c) winner (shows g c x told)
-          c.read_rest.new.noted c.read_rest.new.overflow (rest.noted x told_then) filled now (listed g c)
+          c.read_rest.new.findings.noted.now c.read_rest.new.findings.overflow.now (rest.noted x told_then) filled now (listed g c)
           c.read_headers.new.kept
-          (length (current g c) + 1 + count_below (is_held (heads g c) c.read_rest.new.noted) (length (heads g c)))
+          (length (current g c) + 1 + count_below (is_held (heads g c) c.read_rest.new.findings.noted.now) (length (heads g c)))
           (c.in_ok-gathered.gathered.greatest + 1) c.in_ok-gathered.gathered.greatest
           (used g c) (adopted g c) (counted_of (omega arith) c.fill_places.ensures.counted) (none g c)
           (header_kinds x) c.retire_listed.ensures refl (c.in_ok-winner.ensures.sector x told)
@@ -255,13 +255,13 @@ all_opened g c = λ x told.
       overflow = overflow;
       masks = opened_masks (chart_of x) places (heads g c) (current g c) winner (shows g c x told) (count g c).chosen
           (count g c).there (omega arith)
-          c.read_rest.new.directory now c.read_rest.new.overflow lists c.facts.ensures c.facts-2.ensures
+          c.read_rest.new.findings.directory.now now c.read_rest.new.findings.overflow.now lists c.facts.ensures c.facts-2.ensures
           (ap length keeps.current ∙ (adopted g c).units_are)
           (ap length c.list_places.ensures.spots ∙ sized.listed_units)
           (keeps.masks ∙ c.fill_places.ensures.same.masks) c.list_places.ensures.masks c.list_places.ensures.spots
           overflow.spots_are
           (rest.masked x told_then);
-      status = opened_status (chart_of x) places winner c.read_rest.new.status (shows g c x told).status_is
+      status = opened_status (chart_of x) places winner c.read_rest.new.findings.status.now (shows g c x told).status_is
           (laid_out g c x told) (rest.status x told_then);
       active = refl;
     }
@@ -272,11 +272,11 @@ mirrors g c = λ x told. opened_tables_mirror c.args.geometry.places (chart_of x
     (laid_out g c x told)
 
 collected : (g : Over) (c : goal.After-facts-2 g) → OfContents (g.C.Chip.told c.args.chip.now)
-    (λ x. AreCollected c.args.geometry.places (chart_of x) c.in_ok-gathered.gathered.fits c.read_rest.new.numbers)
+    (λ x. AreCollected c.args.geometry.places (chart_of x) c.in_ok-gathered.gathered.fits c.read_rest.new.findings.numbers.now)
 collected g c = λ x told.
     all_collected (chart_of x) c.args.geometry.places (heads g c) (current g c) c.in_ok-winner.winner (shows g c x told)
-    c.read_rest.new.status.numbers (mirrors g c x told).status.numbers c.in_ok-gathered.gathered.fits
-    c.read_rest.new.numbers
+    c.read_rest.new.findings.status.now.numbers (mirrors g c x told).status.numbers c.in_ok-gathered.gathered.fits
+    c.read_rest.new.findings.numbers.now
     (c.in_ok-gathered.ensures.found.collected x (c.read_headers.ensures.looks.only.reads.contents ∙ told))
 
 -- whether told or not
@@ -284,8 +284,8 @@ known : (g : Over) (c : goal.After-facts-2 g) → KnowsPlaces c.args.geometry.pl
 known g c =
     let fills = c.in_ok-gathered.ensures.filled in
     knows_places (heads g c) (current g c) c.in_ok-winner.winner (count g c).chosen (count g c).there
-    c.args.geometry.places (omega arith) c.read_rest.new.noted
-    c.fill_places.new.directory c.list_places.new.overflow c.read_rest.new.status _ _ (count g c).keeps (used g c)
+    c.args.geometry.places (omega arith) c.read_rest.new.findings.noted.now
+    c.fill_places.new.directory c.list_places.new.overflow c.read_rest.new.findings.status.now _ _ (count g c).keeps (used g c)
     (adopted g c)
     (ap length c.list_places.ensures.spots ∙ fills.sized.listed_units) c.list_places.ensures.in_use fills.two
     fills.placed
@@ -294,9 +294,9 @@ known g c =
 
 free : (g : Over) (c : goal.After-facts-2 g) → HasFree c.retire_listed.new.directory
 free g c =
-    has_free (heads g c) (current g c) c.in_ok-winner.winner c.read_rest.new.noted c.fill_places.new.directory
+    has_free (heads g c) (current g c) c.in_ok-winner.winner c.read_rest.new.findings.noted.now c.fill_places.new.directory
     c.retire_listed.new.directory (listed g c) c.args.geometry.places
-    (count_below (is_held (heads g c) c.read_rest.new.noted) (length (heads g c))) (count g c).keeps
+    (count_below (is_held (heads g c) c.read_rest.new.findings.noted.now) (length (heads g c))) (count g c).keeps
     c.in_ok-gathered.ensures.filled.two (within g c)
     ((count g c).there 0 (omega (arith, (count g c).keeps.0))) (used g c) (adopted g c) (none g c)
     c.retire_listed.ensures
@@ -307,23 +307,23 @@ marked g c = λ x told.
     let winner = c.in_ok-winner.winner in
     let keeps = (aside g c).keeps in
     counts_marked x c.args.geometry.places (heads g c) (current g c) winner c.retire_listed.new.directory
-    c.list_places.new.overflow c.read_rest.new.status
+    c.list_places.new.overflow c.read_rest.new.findings.status.now
     (c.in_ok-gathered.gathered.greatest + 1) (shows g c x told) (laid_out g c x told)
     (λ u low. subst (λ (ws : List ℕ). IsReadLog x (last_close_mark (chart_of x) (Some winner)) u (at (current g c) u)
     (c.args.geometry.places * 256) (get_or ws u 0))
     (sym (keeps.written ∙ c.fill_places.ensures.same.written)) (read_logs g c x told u low))
     (λ u low. ap (λ (xs : List ℕ). get_or xs u 0) keeps.current ∙ (adopted g c).current_is u low)
     (ap length keeps.current ∙ (adopted g c).units_are) (within g c)
-    (is_held (heads g c) c.read_rest.new.noted) (length (heads g c)) c.list_places.ensures.in_use
+    (is_held (heads g c) c.read_rest.new.findings.noted.now) (length (heads g c)) c.list_places.ensures.in_use
     c.in_ok-gathered.ensures.filled.unclean
 
-none_marked : (g : Over) (c : goal.After-facts-2 g) → c.args.marks ≡ false → IsUnmarked (made g c)
+none_marked : (g : Over) (c : goal.After-facts-2 g) → c.args.aim.marks ≡ false → IsUnmarked (made g c)
 none_marked g c = λ off.
     let keeps = (aside g c).keeps in
     let fills = c.in_ok-gathered.ensures.filled in
-    unmarked c.retire_listed.new.directory c.list_places.new.overflow c.read_rest.new.status
+    unmarked c.retire_listed.new.directory c.list_places.new.overflow c.read_rest.new.findings.status.now
     (c.in_ok-gathered.gathered.greatest + 1)
-    (is_held (heads g c) c.read_rest.new.noted) (length (heads g c))
+    (is_held (heads g c) c.read_rest.new.findings.noted.now) (length (heads g c))
     (λ u low. ap (λ (ws : List ℕ). get_or ws u 0) (keeps.written ∙ c.fill_places.ensures.same.written)
     ∙ fills.unmarked off u (omega (arith, low, ap length keeps.current, (adopted g c).units_are)))
     c.list_places.ensures.in_use fills.unclean
@@ -350,6 +350,13 @@ returns-in_err-winner-clause-memory g c = record {
   size = c.requires.tables.directory;
   table = c.read_headers.ensures.size;
   room = (c.requires.tables.noted, c.requires.tables.overflow);
+  references = record {
+    noted = refl;
+    directory = refl;
+    overflow = refl;
+    status = refl;
+    numbers = refl;
+  };
 }
 
 pub returns-in_err-gathered-clause-memory : goal.returns-in_err-gathered-clause-memory
@@ -358,6 +365,13 @@ returns-in_err-gathered-clause-memory g c = record {
       (c.adopt_all.ensures.used.all ∙ c.requires.tables.directory);
   table = c.read_headers.ensures.size;
   room = c.read_rest.ensures.memory.room;
+  references = record {
+    noted = c.read_rest.ensures.memory.references.noted;
+    directory = c.read_rest.ensures.memory.references.directory;
+    overflow = c.read_rest.ensures.memory.references.overflow;
+    status = c.read_rest.ensures.memory.references.status;
+    numbers = c.read_rest.ensures.memory.references.numbers;
+  };
 }
 
 pub returns-clause-memory : goal.returns-clause-memory
@@ -372,6 +386,13 @@ returns-clause-memory g c =
       size = omega (arith, keeps.all, used.all);
       table = c.read_headers.ensures.size;
       room = (c.read_rest.ensures.memory.room.0, c.list_places.ensures.places ∙ c.read_rest.ensures.memory.room.1);
+      references = record {
+        noted = c.read_rest.ensures.memory.references.noted;
+        directory = c.read_rest.ensures.memory.references.directory;
+        overflow = c.read_rest.ensures.memory.references.overflow;
+        status = c.read_rest.ensures.memory.references.status;
+        numbers = c.read_rest.ensures.memory.references.numbers;
+      };
     }
 
 -- ---- what was read
@@ -380,8 +401,8 @@ pub returns-in_err-winner-clause-bytes : goal.returns-in_err-winner-clause-bytes
 returns-in_err-winner-clause-bytes g c =
     let old = g.C.Chip.told c.args.chip.now in
     let exit = c.from_residual.ensures.1 in
-    failed_bytes c.args.draws c.args.geometry.places c.from_residual.result _ old old (g.C.Chip.told c.read_headers.new.chip) exit (told_for c.args.draws _ _ _ c.in_err-winner.ensures.looks.only.cause)
-    (λ x told. headers_tell_first c.args.draws (chart_of x) c.args.geometry.places c.from_residual.result _ (omega arith) (omega arith) exit (c.in_err-winner.ensures.fault x told))
+    failed_bytes c.args.aim.draws c.args.geometry.places c.from_residual.result _ old old (g.C.Chip.told c.read_headers.new.chip) exit (told_for c.args.aim.draws _ _ _ c.in_err-winner.ensures.looks.only.cause)
+    (λ x told. headers_tell_first c.args.aim.draws (chart_of x) c.args.geometry.places c.from_residual.result _ (omega arith) (omega arith) exit (c.in_err-winner.ensures.fault x told))
     (λ is x told. absurd (tells_unspent _ _ (header_unspent (chart_of x) c.args.geometry.places) (c.in_err-winner.ensures.fault x told) is))
 
 pub returns-in_err-gathered-clause-bytes : goal.returns-in_err-gathered-clause-bytes
@@ -391,7 +412,7 @@ returns-in_err-gathered-clause-bytes g c =
     let places = c.args.geometry.places in
     let heads = c.read_headers.new.heads in
     let table = c.read_headers.new.table in
-    failed_bytes c.args.draws places c.from_residual-in_err-gathered.result _ old mid (g.C.Chip.told c.read_rest.new.chip) c.from_residual-in_err-gathered.ensures.1
+    failed_bytes c.args.aim.draws places c.from_residual-in_err-gathered.result _ old mid (g.C.Chip.told c.read_rest.new.chip) c.from_residual-in_err-gathered.ensures.1
     c.in_err-gathered.ensures.looks.cause (returns-in_err-gathered-clause-fault g c)
     (λ is x told. read_bytes x places heads (take c.units.result table) c.in_ok-winner.winner
     (shows_found (chart_of x) places c.units.result heads table c.in_ok-winner.winner c.units.ensures (c.in_ok-winner.ensures.shown x told))

@@ -1,21 +1,42 @@
-use Rattle.std.proofs.Common.{◌∙◌, ℕ, IfOk, subst}
+use Rattle.std.proofs.Common.{◌∙◌, ◌+◌, ◌≡◌, ℕ, Bool, None, Err, rules, sym, subst}
 use Rattle.ipl_meaning.specs.Chart.{chart_of}
 use Rattle.opening_laws.specs.Faults.{TellsImageFault, first_fault}
+use Rattle.opening_laws.specs.Laws.{IsByteChart}
 use Rattle.opening_laws.specs.Opened.{tables_of}
 use Rattle.restart.specs.Bytes.{ReadsBytes}
 use Rattle.restart.specs.Finds.{FindsStore}
+use Rattle.restart.proofs.recovery.read_tables.Goals.{in-Ok, in-Err}
 use Rattle.restart.proofs.recovery.read_tables.Goals as goal
-
-pub returns-clause-fault : goal.returns-clause-fault
-returns-clause-fault g c = λ x told.
-    subst (λ (n : ℕ). TellsImageFault (first_fault (chart_of x) n) c.open.result) (c.scratch.view_is ∙ c.requires.scratch) (c.open.ensures.fault x told)
 
 pub returns-clause-found : goal.returns-clause-found
 returns-clause-found g c =
-    let made = tables_of c.open.new.directory c.open.new.overflow c.open.new.status c.open.new.counter in
-    subst (λ (n : ℕ). IfOk c.open.result (λ fits. FindsStore n (g.C.Chip.told c.args.chip.now) c.args.marks made fits c.open.new.numbers))
-    (c.scratch.view_is ∙ c.requires.scratch) c.open.ensures.found
+    elim c.match-read_chip.branch [
+      | in-Ok w ↦
+          let now = c.read_chip.new.findings in
+          let told = g.C.Chip.told c.args.chip.now in
+          let size = c.scratch.view_is ∙ c.requires.scratch in
+          let found = subst (λ (n : ℕ). FindsStore n told c.args.marks
+          (tables_of now.directory.now now.overflow.now now.status.now (w.in-Ok.all.greatest + 1)) w.in-Ok.all.fits now.numbers.now) size w.in-Ok.ensures.found in
+          -- the counter is the number after the greatest
+          let ended = subst (λ (k : ℕ). FindsStore told.places told c.args.marks
+          (tables_of now.directory.now now.overflow.now now.status.now k) w.in-Ok.all.fits now.numbers.now) (sym w.at-parts.ensures) found in
+          rw (w.result-is, w.parts-is) (search rules)
+      | in-Err w ↦ rw w.result-is (search rules)
+    ]
+
+pub returns-clause-fault : goal.returns-clause-fault
+returns-clause-fault g c = λ x told.
+    let size = c.scratch.view_is ∙ c.requires.scratch in
+    elim c.match-read_chip.branch [
+      | in-Ok w ↦ rw w.result-is (subst (λ (n : ℕ). first_fault (chart_of x) n ≡ None) size (w.in-Ok.ensures.fault x told))
+      | in-Err w ↦ rw w.result-is (subst (λ (n : ℕ). TellsImageFault {T = Bool} (first_fault (chart_of x) n) (Err w.in-Err.fault)) size (w.in-Err.ensures.fault x told))
+    ]
 
 pub returns-clause-bytes : goal.returns-clause-bytes
 returns-clause-bytes g c =
-    subst (λ (n : ℕ). ReadsBytes n (g.C.Chip.told c.args.chip.now) c.open.result) (c.scratch.view_is ∙ c.requires.scratch) c.open.ensures.bytes
+    let size = c.scratch.view_is ∙ c.requires.scratch in
+    let old = g.C.Chip.told c.args.chip.now in
+    elim c.match-read_chip.branch [
+      | in-Ok w ↦ rw w.result-is (λ x told. subst (λ (n : ℕ). IsByteChart n (chart_of x)) size (w.in-Ok.ensures.bytes x told))
+      | in-Err w ↦ rw w.result-is (subst (λ (n : ℕ). ReadsBytes {T = Bool} n old (Err w.in-Err.fault)) size w.in-Err.ensures.bytes)
+    ]

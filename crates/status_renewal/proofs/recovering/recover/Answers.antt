@@ -42,8 +42,8 @@ returns-in_err-found-clause-steps g c =
     let old = g.C.Chip.told c.args.chip.now in
     let e = err_from_is_err_and c.from_residual.result c.from_residual.ensures.1 in
     rw (e.1 ∙ ap Err e.2) (reads_recover c.args.marks old.places old (g.C.Chip.told c.read_tables.new.chip)
-    (of_parts c.read_tables.new.directory c.read_tables.new.overflow c.read_tables.new.status
-    c.read_tables.new.counter c.args.parts.now.active) c.in_err-found.field-0.0
+    (of_parts c.read_tables.new.parts.directory c.read_tables.new.parts.overflow c.read_tables.new.parts.status
+    c.read_tables.new.parts.counter c.read_tables.new.parts.active) c.in_err-found.field-0.0
     c.read_tables.ensures.looks.only.reads)
 
 pub returns-in_err-found-clause-fails : goal.returns-in_err-found-clause-fails
@@ -69,8 +69,8 @@ returns-in_err-found-clause-leaves g c =
     let mid = g.C.Chip.told c.read_tables.new.chip in
     let fault = c.in_err-found.field-0.0 in
     let looks = c.in_err-found.ensures.looks in
-    let after = of_parts c.read_tables.new.directory c.read_tables.new.overflow c.read_tables.new.status
-    c.read_tables.new.counter c.args.parts.now.active in
+    let after = of_parts c.read_tables.new.parts.directory c.read_tables.new.parts.overflow c.read_tables.new.parts.status
+    c.read_tables.new.parts.counter c.read_tables.new.parts.active in
     let e = err_from_is_err_and c.from_residual.result c.from_residual.ensures.1 in
     rw (e.1 ∙ ap Err e.2) (record {
       holds = tt;
@@ -87,7 +87,7 @@ pub returns-in_err-found-clause-spends : goal.returns-in_err-found-clause-spends
 returns-in_err-found-clause-spends g c =
     let old = g.C.Chip.told c.args.chip.now in
     let mid = g.C.Chip.told c.read_tables.new.chip in
-    let after = c.read_tables.new.directory in
+    let after = c.read_tables.new.parts.directory in
     let found = forgotten after in
     let fault = c.in_err-found.field-0.0 in
     let still : tells_wear fault ≡ false =
@@ -121,11 +121,11 @@ returns-in_err-secure_marks-clause-tells g c = λ x told.
 pub returns-in_err-secure_marks-clause-steps : goal.returns-in_err-secure_marks-clause-steps
 returns-in_err-secure_marks-clause-steps g c =
     let old = g.C.Chip.told c.args.chip.now in
-    let active = c.args.parts.now.active in
-    let directory = c.read_tables.new.directory in
-    let overflow = c.read_tables.new.overflow in
-    let status = c.read_tables.new.status in
-    let counter = c.read_tables.new.counter in
+    let active = c.read_tables.new.parts.active in
+    let directory = c.read_tables.new.parts.directory in
+    let overflow = c.read_tables.new.parts.overflow in
+    let status = c.read_tables.new.parts.status in
+    let counter = c.read_tables.new.parts.counter in
     let t = of_parts directory overflow status counter active in
     let e = err_from_is_err_and c.from_residual-in_err-secure_marks.result
     c.from_residual-in_err-secure_marks.ensures.1 in
@@ -137,7 +137,7 @@ returns-in_err-secure_marks-clause-steps g c =
       marked = c.in_ok-found.ensures.found.marked;
     })
     (λ x told. opened_parts old.places (chart_of x) directory overflow status counter active
-    c.requires.active (c.in_ok-found.ensures.found.opened x told) (c.in_ok-found.ensures.found.mirrors x told))
+    (c.read_tables.ensures.active ∙ c.requires.active) (c.in_ok-found.ensures.found.opened x told) (c.in_ok-found.ensures.found.mirrors x told))
     t c.in_err-secure_marks.field-0.0 c.in_err-secure_marks.ensures.waits
     c.in_err-secure_marks.ensures.accounts.cause)
 
@@ -161,8 +161,8 @@ returns-in_err-secure_marks-clause-leaves g c =
     let old = g.C.Chip.told c.args.chip.now in
     let mid = g.C.Chip.told c.read_tables.new.chip in
     let settled = g.C.Chip.told c.secure_marks.new.chip in
-    let t = of_parts c.read_tables.new.directory c.read_tables.new.overflow c.read_tables.new.status
-    c.read_tables.new.counter c.args.parts.now.active in
+    let t = of_parts c.read_tables.new.parts.directory c.read_tables.new.parts.overflow c.read_tables.new.parts.status
+    c.read_tables.new.parts.counter c.read_tables.new.parts.active in
     let fault = c.in_err-secure_marks.field-0.0 in
     let reads = c.read_tables.ensures.looks.only.reads in
     let stopped = c.in_err-secure_marks.ensures.accounts in
@@ -191,7 +191,7 @@ returns-in_err-secure_marks-clause-spends g c =
     let old = g.C.Chip.told c.args.chip.now in
     let mid = g.C.Chip.told c.read_tables.new.chip in
     let settled = g.C.Chip.told c.secure_marks.new.chip in
-    let found = c.read_tables.new.directory in
+    let found = c.read_tables.new.parts.directory in
     let fault = c.in_err-secure_marks.field-0.0 in
     let still : tells_worn fault ≡ false =
     ap tells_worn c.in_err-secure_marks.ensures.accounts.cause.0 in
@@ -221,18 +221,18 @@ renew_with-requires-clause-exact g c =
     let mid = g.C.Chip.told c.read_tables.new.chip in
     let settled = g.C.Chip.told c.secure_marks.new.chip in
     let reads = c.read_tables.ensures.looks.only.reads in
-    let active = c.args.parts.now.active in
-    let t = of_parts c.read_tables.new.directory c.read_tables.new.overflow c.read_tables.new.status
-    c.read_tables.new.counter active in
+    let active = c.read_tables.new.parts.active in
+    let t = of_parts c.read_tables.new.parts.directory c.read_tables.new.parts.overflow c.read_tables.new.parts.status
+    c.read_tables.new.parts.counter active in
     let kept = c.read_tables.new.numbers in
     subst (λ n. c.in_ok-found.found ≡ true → KeepsAll n t kept settled)
     (sym (c.secure_marks.ensures.accounts.counts.places ∙ reads.counts.places))
     (all_kept old.places t c.in_ok-found.found kept old settled
-    (wait_contents (knows_logs c.read_tables.new.directory) mid settled
+    (wait_contents (knows_logs c.read_tables.new.parts.directory) mid settled
     c.in_ok-secure_marks.ensures.waits ∙ reads.contents)
     c.in_ok-found.ensures.found.collected
-    (λ x told. (opened_parts old.places (chart_of x) c.read_tables.new.directory c.read_tables.new.overflow
-    c.read_tables.new.status c.read_tables.new.counter active c.requires.active
+    (λ x told. (opened_parts old.places (chart_of x) c.read_tables.new.parts.directory c.read_tables.new.parts.overflow
+    c.read_tables.new.parts.status c.read_tables.new.parts.counter active (c.read_tables.ensures.active ∙ c.requires.active)
     (c.in_ok-found.ensures.found.opened x told) (c.in_ok-found.ensures.found.mirrors x told)).1.laid))
 
 pub returns-in_err-renew_with-clause-steps : goal.returns-in_err-renew_with-clause-steps
@@ -241,11 +241,11 @@ returns-in_err-renew_with-clause-steps g c =
     let mid = g.C.Chip.told c.read_tables.new.chip in
     let settled = g.C.Chip.told c.secure_marks.new.chip in
     let new = g.C.Chip.told c.renew_with.new.chip in
-    let active = c.args.parts.now.active in
-    let directory = c.read_tables.new.directory in
-    let overflow = c.read_tables.new.overflow in
-    let status = c.read_tables.new.status in
-    let counter = c.read_tables.new.counter in
+    let active = c.read_tables.new.parts.active in
+    let directory = c.read_tables.new.parts.directory in
+    let overflow = c.read_tables.new.parts.overflow in
+    let status = c.read_tables.new.parts.status in
+    let counter = c.read_tables.new.parts.counter in
     let t = of_parts directory overflow status counter active in
     let after = tables_of c.renew_with.new.parts in
     let fault = c.in_err-renew_with.field-0.0 in
@@ -259,34 +259,34 @@ returns-in_err-renew_with-clause-steps g c =
       marked = c.in_ok-found.ensures.found.marked;
     })
     (λ x told. opened_parts old.places (chart_of x) directory overflow status counter active
-    c.requires.active (c.in_ok-found.ensures.found.opened x told) (c.in_ok-found.ensures.found.mirrors x told))
+    (c.read_tables.ensures.active ∙ c.requires.active) (c.in_ok-found.ensures.found.opened x told) (c.in_ok-found.ensures.found.mirrors x told))
     c.in_ok-secure_marks.ensures.waits after new fault counts
     (subst (λ n. KeepsInSteps n t after settled (Err fault) new)
     (counts.places ∙ c.read_tables.ensures.looks.only.reads.counts.places)
-    c.in_err-renew_with.ensures.steps))
+    c.in_err-renew_with.ensures.renews.steps))
 
 pub returns-in_err-renew_with-clause-tells : goal.returns-in_err-renew_with-clause-tells
 returns-in_err-renew_with-clause-tells g c = λ x told.
     let old = g.C.Chip.told c.args.chip.now in
     let mid = g.C.Chip.told c.read_tables.new.chip in
     let settled = g.C.Chip.told c.secure_marks.new.chip in
-    let active = c.args.parts.now.active in
-    let t = of_parts c.read_tables.new.directory c.read_tables.new.overflow c.read_tables.new.status
-    c.read_tables.new.counter active in
+    let active = c.read_tables.new.parts.active in
+    let t = of_parts c.read_tables.new.parts.directory c.read_tables.new.parts.overflow c.read_tables.new.parts.status
+    c.read_tables.new.parts.counter active in
     let fault = c.in_err-renew_with.field-0.0 in
     let reads = c.read_tables.ensures.looks.only.reads in
     let e = err_from_is_err_and c.from_residual-in_err-renew_with.result
     c.from_residual-in_err-renew_with.ensures.1 in
     let it = layout_in (chart_of x) old.places in
-    let parts = opened_parts old.places (chart_of x) c.read_tables.new.directory
-    c.read_tables.new.overflow c.read_tables.new.status c.read_tables.new.counter active c.requires.active
+    let parts = opened_parts old.places (chart_of x) c.read_tables.new.parts.directory
+    c.read_tables.new.parts.overflow c.read_tables.new.parts.status c.read_tables.new.parts.counter active (c.read_tables.ensures.active ∙ c.requires.active)
     (c.in_ok-found.ensures.found.opened x told) (c.in_ok-found.ensures.found.mirrors x told) in
-    rw (e.1 ∙ ap Err e.2) (λ unfailed. opening_fault old.places x t fault c.requires.active
+    rw (e.1 ∙ ap Err e.2) (λ unfailed. opening_fault old.places x t fault (c.read_tables.ensures.active ∙ c.requires.active)
     parts.1.status (c.in_ok-found.ensures.fault x told)
     (subst (λ n. FailsAsRenewal n t (Err fault) settled)
     (c.secure_marks.ensures.accounts.counts.places ∙ reads.counts.places)
-    c.in_err-renew_with.ensures.fails.fault x
-    (wait_contents (knows_logs c.read_tables.new.directory) mid settled
+    c.in_err-renew_with.ensures.renews.fails.fault x
+    (wait_contents (knows_logs c.read_tables.new.parts.directory) mid settled
     c.in_ok-secure_marks.ensures.waits ∙ reads.contents ∙ told) it parts.1
     (λ failed. unfailed (call_failed fault failed))))
 
@@ -296,9 +296,9 @@ returns-in_err-renew_with-clause-fails g c =
     let mid = g.C.Chip.told c.read_tables.new.chip in
     let settled = g.C.Chip.told c.secure_marks.new.chip in
     let new = g.C.Chip.told c.renew_with.new.chip in
-    let active = c.args.parts.now.active in
-    let t = of_parts c.read_tables.new.directory c.read_tables.new.overflow c.read_tables.new.status
-    c.read_tables.new.counter active in
+    let active = c.read_tables.new.parts.active in
+    let t = of_parts c.read_tables.new.parts.directory c.read_tables.new.parts.overflow c.read_tables.new.parts.status
+    c.read_tables.new.parts.counter active in
     let fault = c.in_err-renew_with.field-0.0 in
     let reads = c.read_tables.ensures.looks.only.reads in
     let found = c.in_ok-found.ensures.found in
@@ -308,16 +308,16 @@ returns-in_err-renew_with-clause-fails g c =
       looks = sound_looks old.places old (Err (Chip fault)) new c.in_ok-found.ensures.fault;
       complete = λ x told m none says.
           let it = layout_in (chart_of x) old.places in
-          let parts = opened_parts old.places (chart_of x) c.read_tables.new.directory
-          c.read_tables.new.overflow c.read_tables.new.status c.read_tables.new.counter active c.requires.active
+          let parts = opened_parts old.places (chart_of x) c.read_tables.new.parts.directory
+          c.read_tables.new.parts.overflow c.read_tables.new.parts.status c.read_tables.new.parts.counter active (c.read_tables.ensures.active ∙ c.requires.active)
           (found.opened x told) (found.mirrors x told) in
           call_failed fault
           (subst (λ n. CompletesRenewal n t (Err fault) settled)
           (c.secure_marks.ensures.accounts.counts.places ∙ reads.counts.places)
-          c.in_err-renew_with.ensures.fails.complete x
-          (wait_contents (knows_logs c.read_tables.new.directory) mid settled
+          c.in_err-renew_with.ensures.renews.fails.complete x
+          (wait_contents (knows_logs c.read_tables.new.parts.directory) mid settled
           c.in_ok-secure_marks.ensures.waits ∙ reads.contents ∙ told) it parts.1
-          (all_mergeable old.places (chart_of x) it m t says c.requires.active));
+          (all_mergeable old.places (chart_of x) it m t says (c.read_tables.ensures.active ∙ c.requires.active)));
       bytes = λ x told no_read no_stop why. c.in_ok-found.ensures.bytes x told;
     })
 
@@ -327,13 +327,13 @@ returns-in_err-renew_with-clause-leaves g c =
     let mid = g.C.Chip.told c.read_tables.new.chip in
     let settled = g.C.Chip.told c.secure_marks.new.chip in
     let new = g.C.Chip.told c.renew_with.new.chip in
-    let t = of_parts c.read_tables.new.directory c.read_tables.new.overflow c.read_tables.new.status
-    c.read_tables.new.counter c.args.parts.now.active in
+    let t = of_parts c.read_tables.new.parts.directory c.read_tables.new.parts.overflow c.read_tables.new.parts.status
+    c.read_tables.new.parts.counter c.read_tables.new.parts.active in
     let after = tables_of c.renew_with.new.parts in
     let fault = c.in_err-renew_with.field-0.0 in
     let reads = c.read_tables.ensures.looks.only.reads in
     let waited = c.secure_marks.ensures.accounts.counts in
-    let leaves = c.in_err-renew_with.ensures.leaves in
+    let leaves = c.in_err-renew_with.ensures.renews.leaves in
     let counts = counts_then old mid settled reads.counts waited in
     let e = err_from_is_err_and c.from_residual-in_err-renew_with.result
     c.from_residual-in_err-renew_with.ensures.1 in
@@ -360,10 +360,10 @@ returns-in_err-renew_with-clause-spends g c =
     let mid = g.C.Chip.told c.read_tables.new.chip in
     let settled = g.C.Chip.told c.secure_marks.new.chip in
     let new = g.C.Chip.told c.renew_with.new.chip in
-    let found = c.read_tables.new.directory in
+    let found = c.read_tables.new.parts.directory in
     let after = c.renew_with.new.parts.directory in
     let fault = c.in_err-renew_with.field-0.0 in
-    let units = c.in_err-renew_with.ensures.leaves.holds.units in
+    let units = c.in_err-renew_with.ensures.renews.leaves.holds.units in
     let e = err_from_is_err_and c.from_residual-in_err-renew_with.result
     c.from_residual-in_err-renew_with.ensures.1 in
     rw (e.1 ∙ ap Err e.2) (record {
@@ -375,7 +375,7 @@ returns-in_err-renew_with-clause-spends g c =
             (wait_costs found (Ok tt) mid settled c.in_ok-secure_marks.ensures.waits))
             (erases_more found after (length found.current + 1) (length after.current + 1)
             (tells_worn fault) settled new (omega (arith, units))
-            c.in_err-renew_with.ensures.spends.costs);
+            c.in_err-renew_with.ensures.renews.spends.costs);
         unmarked = λ off. unknown_logs found (c.in_ok-found.ensures.found.unmarked off).unknown;
         finds = λ is x told. (c.in_ok-found.ensures.found.opened x told).directory.retired;
         units = λ is x told. units ∙ (c.in_ok-found.ensures.found.mirrors x told).directory.units;
@@ -394,19 +394,19 @@ returns-clause-tells g c = λ x told.
     let mid = g.C.Chip.told c.read_tables.new.chip in
     let settled = g.C.Chip.told c.secure_marks.new.chip in
     let new = g.C.Chip.told c.renew_with.new.chip in
-    let active = c.args.parts.now.active in
-    let directory = c.read_tables.new.directory in
-    let t = of_parts directory c.read_tables.new.overflow c.read_tables.new.status c.read_tables.new.counter
+    let active = c.read_tables.new.parts.active in
+    let directory = c.read_tables.new.parts.directory in
+    let t = of_parts directory c.read_tables.new.parts.overflow c.read_tables.new.parts.status c.read_tables.new.parts.counter
     active in
     let after = tables_of c.renew_with.new.parts in
     let reads = c.read_tables.ensures.looks.only.reads in
     let parts = opened_parts old.places (chart_of x) directory
-    c.read_tables.new.overflow c.read_tables.new.status c.read_tables.new.counter active c.requires.active
+    c.read_tables.new.parts.overflow c.read_tables.new.parts.status c.read_tables.new.parts.counter active (c.read_tables.ensures.active ∙ c.requires.active)
     (c.in_ok-found.ensures.found.opened x told) (c.in_ok-found.ensures.found.mirrors x told) in
     let renews : RenewsTold old.places t after settled (Ok tt) new =
     subst (λ n. RenewsTold n t after settled (Ok tt) new)
     (c.secure_marks.ensures.accounts.counts.places ∙ reads.counts.places)
-    c.in_ok-renew_with.ensures.tells in
+    c.in_ok-renew_with.ensures.renews.tells in
     let (y, there, any) = renews x
     (wait_contents (knows_logs directory) mid settled c.in_ok-secure_marks.ensures.waits
     ∙ reads.contents ∙ told) in
@@ -422,11 +422,11 @@ returns-clause-steps g c =
     let mid = g.C.Chip.told c.read_tables.new.chip in
     let settled = g.C.Chip.told c.secure_marks.new.chip in
     let new = g.C.Chip.told c.renew_with.new.chip in
-    let active = c.args.parts.now.active in
-    let directory = c.read_tables.new.directory in
-    let overflow = c.read_tables.new.overflow in
-    let status = c.read_tables.new.status in
-    let counter = c.read_tables.new.counter in
+    let active = c.read_tables.new.parts.active in
+    let directory = c.read_tables.new.parts.directory in
+    let overflow = c.read_tables.new.parts.overflow in
+    let status = c.read_tables.new.parts.status in
+    let counter = c.read_tables.new.parts.counter in
     let t = of_parts directory overflow status counter active in
     let after = tables_of c.renew_with.new.parts in
     subst (λ d. RecoversInSteps c.args.marks old.places old (Ok tt)
@@ -437,11 +437,11 @@ returns-clause-steps g c =
       marked = c.in_ok-found.ensures.found.marked;
     })
     (λ x told. opened_parts old.places (chart_of x) directory overflow status counter active
-    c.requires.active (c.in_ok-found.ensures.found.opened x told) (c.in_ok-found.ensures.found.mirrors x told))
+    (c.read_tables.ensures.active ∙ c.requires.active) (c.in_ok-found.ensures.found.opened x told) (c.in_ok-found.ensures.found.mirrors x told))
     c.in_ok-secure_marks.ensures.waits after new
     (subst (λ n. KeepsInSteps n t after settled (Ok tt) new)
     (c.secure_marks.ensures.accounts.counts.places ∙ c.read_tables.ensures.looks.only.reads.counts.places)
-    c.in_ok-renew_with.ensures.steps))
+    c.in_ok-renew_with.ensures.renews.steps))
 
 pub returns-clause-fails : goal.returns-clause-fails
 returns-clause-fails g c =
@@ -458,19 +458,19 @@ returns-clause-leaves g c =
     let mid = g.C.Chip.told c.read_tables.new.chip in
     let settled = g.C.Chip.told c.secure_marks.new.chip in
     let new = g.C.Chip.told c.renew_with.new.chip in
-    let t = of_parts c.read_tables.new.directory c.read_tables.new.overflow c.read_tables.new.status
-    c.read_tables.new.counter c.args.parts.now.active in
+    let t = of_parts c.read_tables.new.parts.directory c.read_tables.new.parts.overflow c.read_tables.new.parts.status
+    c.read_tables.new.parts.counter c.read_tables.new.parts.active in
     let after = tables_of c.renew_with.new.parts in
     let reads = c.read_tables.ensures.looks.only.reads in
     let waited = c.secure_marks.ensures.accounts.counts in
     let found = c.in_ok-found.ensures in
-    let leaves = c.in_ok-renew_with.ensures.leaves in
+    let leaves = c.in_ok-renew_with.ensures.renews.leaves in
     subst (λ d. LeavesOpened c.args.marks
     (of_parts d after.overflow after.status after.next after.active) (Ok tt) old new)
     (sym c.end_marks.ensures)
     (record {
       holds = record {
-        active = leaves.holds.active ∙ c.requires.active;
+        active = leaves.holds.active ∙ (c.read_tables.ensures.active ∙ c.requires.active);
         known = known_ended old.places after
             (subst (λ n. KnowsPlaces n after) (waited.places ∙ reads.counts.places) leaves.holds.known);
         room = leaves.holds.ends;
@@ -498,9 +498,9 @@ returns-clause-spends g c =
     let mid = g.C.Chip.told c.read_tables.new.chip in
     let settled = g.C.Chip.told c.secure_marks.new.chip in
     let new = g.C.Chip.told c.renew_with.new.chip in
-    let found = c.read_tables.new.directory in
+    let found = c.read_tables.new.parts.directory in
     let after = c.renew_with.new.parts.directory in
-    let units = c.in_ok-renew_with.ensures.leaves.holds.units in
+    let units = c.in_ok-renew_with.ensures.renews.leaves.holds.units in
     let waits = reads_then_wait Anywhere (waits_for found) old mid settled
     c.read_tables.ensures.looks.only.reads
     (wait_costs found (Ok tt) mid settled c.in_ok-secure_marks.ensures.waits) in record {
@@ -512,7 +512,7 @@ returns-clause-spends g c =
                 (waiting_then found after (length after.current + 1) (waits_for found) false old settled
                 new waits
                 (erases_more found after (length found.current + 1) (length after.current + 1) false
-                settled new (omega (arith, units)) c.in_ok-renew_with.ensures.spends.costs));
+                settled new (omega (arith, units)) c.in_ok-renew_with.ensures.renews.spends.costs));
             unmarked = λ off. unknown_logs found (c.in_ok-found.ensures.found.unmarked off).unknown;
             finds = λ is x told. (c.in_ok-found.ensures.found.opened x told).directory.retired;
             units = λ is x told. units ∙ (c.in_ok-found.ensures.found.mirrors x told).directory.units;
@@ -523,5 +523,5 @@ returns-clause-spends g c =
           (wait_unread (knows_logs found) (Ok tt) mid settled c.in_ok-secure_marks.ensures.waits)
           c.renew_with.ensures.unread) c.in_ok-found.ensures.found.collected;
       renewed = waiting_then_renewed (waits_for found) c.renew_with.new.parts.status.place old settled
-          new waits c.in_ok-renew_with.ensures.spends.renewed;
+          new waits c.in_ok-renew_with.ensures.renews.spends.renewed;
     }

@@ -9,7 +9,7 @@ use Rattle.ipl_base.specs.declared.fault.ChipFault.{ChipFault}
 use Rattle.step_laws.specs.Steps.{Tidies}
 use Rattle.unit_io.specs.Costs.{Spends}
 use Rattle.status_renewal.specs.Passes.{HasPassed, GoesOnTelling, SparesUnits, KeepsInSteps, ErasesAtMost}
-use Rattle.status_renewal.proofs.passing.pass.Given as goal
+use Rattle.status_renewal.proofs.passing.find_numbers.Given as goal
 
 abbrev pub invariant-loop-unit : goal.invariant-loop-unit
 invariant-loop-unit g l = record {

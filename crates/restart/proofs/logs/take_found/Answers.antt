@@ -1,0 +1,22 @@
+use Rattle.std.proofs.Common.{rules, ◌≡◌, ◌∙◌, Option, Some, ap}
+use Rattle.ipl_format.specs.Sector.{Sector}
+use Rattle.sector_format.specs.Decode.{sector_of}
+use Rattle.opening_laws.specs.Found.{mask_of_sector}
+use Rattle.opening_laws.specs.Live.{kept, is_log}
+use Rattle.unit_io.specs.Kinds.{sector_named}
+use Rattle.restart.specs.LogSpots.{live_found}
+use Rattle.restart.proofs.logs.take_found.Goals as goal
+
+pub returns-in_ok-fits-in-Some-clause-takes : goal.returns-in_ok-fits-in-Some-clause-takes
+returns-in_ok-fits-in-Some-clause-takes c =
+    let log : kept is_log (sector_named c.args.bytes.now c.args.found) ≡ Some (sector_of c.in-Some.head c.payload_in-payload.result.now) = search rules in record {
+      fault = search rules;
+      image = search rules;
+      noted = search rules;
+      masked = λ masks are.
+          c.in_ok-fits-in-Some.ensures.takes.masked masks
+          (λ u. are u ∙ ap (λ (found : Option Sector). mask_of_sector u (live_found c.args.heads.now c.args.spot.place found)) log);
+      places = search rules;
+      room = record { roomy = search rules; sized = c.take_log.ensures.takes.room.sized };
+      still = search rules;
+    }
