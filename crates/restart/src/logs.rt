@@ -127,31 +127,16 @@ fn take_log(
     if is_live(heads, spot.place, head) {
         findings.directory.facts();
         findings.overflow.facts();
-        check_log(
-            heads.all,
-            findings.noted,
-            findings.overflow,
-            spot,
-            head,
-            payload,
-        )?;
+        let all = heads.all;
+        check_log(all, findings.noted, findings.overflow, spot, head, payload)?;
         findings.noted.add(head.unit, head.serial, spot.place);
         let mask = pages_of(payload, head.version);
-        list_log(
-            heads.all,
-            findings.directory,
-            findings.overflow,
-            head.unit,
-            spot,
-            mask,
-        );
-        return Ok(collect(
-            findings.numbers,
-            findings.status,
-            payload,
-            head.version,
-            fits,
-        ));
+        let directory = &mut *findings.directory;
+        let overflow = &mut *findings.overflow;
+        list_log(all, directory, overflow, head.unit, spot, mask);
+        let version = head.version;
+        let fits = collect(findings.numbers, findings.status, payload, version, fits);
+        return Ok(fits);
     }
     Ok(fits)
 }

@@ -254,14 +254,10 @@ pub fn read_tables<C: Chip>(
         status: &mut parts.status,
         numbers,
     };
-    match read_chip(
-        chip,
-        scratch.geometry,
-        &mut scratch.heads,
-        &mut scratch.current,
-        &mut findings,
-        Aim { marks, draws: true },
-    ) {
+    let heads = &mut scratch.heads;
+    let table = &mut scratch.current;
+    let aim = Aim { marks, draws: true };
+    match read_chip(chip, scratch.geometry, heads, table, &mut findings, aim) {
         Ok(all) => {
             parts.counter = Counter::at(all.greatest + 1);
             Ok(all.fits)
@@ -323,14 +319,9 @@ pub fn survey<C: Chip>(
         marks: false,
         draws: false,
     };
-    match read_chip(
-        chip,
-        scratch.geometry,
-        &mut scratch.heads,
-        &mut scratch.current,
-        &mut findings,
-        aim,
-    ) {
+    let heads = &mut scratch.heads;
+    let table = &mut scratch.current;
+    match read_chip(chip, scratch.geometry, heads, table, &mut findings, aim) {
         Ok(_) => Ok(()),
         Err(fault) => Err(fault),
     }

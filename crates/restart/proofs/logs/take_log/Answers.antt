@@ -46,9 +46,9 @@ list_log-requires-clause-home c = λ home.
 
 pub returns-then-is_live-clause-collected : goal.returns-then-is_live-clause-collected
 returns-then-is_live-clause-collected c = λ found are.
-    subst (λ (o : Option Sector). AreKept (joined c.args.findings.now.status.now.numbers (records_at o) found) c.collect.result c.collect.new.numbers)
+    subst (λ (o : Option Sector). AreKept (joined c.args.findings.now.status.now.numbers (records_at o) found) c.collect-fits.result c.collect-fits.new.numbers)
     (sym (some_live (at c.args.heads.now.all.now) (at c.args.heads.now.current.now) c.args.spot.place (sector_of c.args.head.now c.args.payload.now) (sym (c.is_live.ensures c.args.payload.now) ∙ c.if-is_live.true)))
-    (c.collect.ensures found are)
+    (c.collect-fits.ensures found are)
 
 pub returns-clause-collected : goal.returns-clause-collected
 returns-clause-collected c = λ found are.
