@@ -1,15 +1,17 @@
 -- What the slots of a page may come to take.
-use Rattle.std.proofs.Common.{◌≡◌, ◌≤◌, ◌<◌, ◌+◌, ◌-◌, ◌*◌, max, ℕ, zero, suc, true, false, refl, sym, ◌∙◌, ap, arith}
-use Rattle.std.specs.Prelude.{◌↔◌, IsTrue}
+use Rattle.std.proofs.Common.{◌≡◌, ◌≤◌, ◌<◌, ◌+◌, ◌-◌, ◌*◌, max, ℕ, zero, suc, Bool, true, false, List, length, refl, sym, ◌∙◌, ap, arith}
+use Rattle.std.specs.Prelude.{◌↔◌, ◌==◌, IsTrue, if◌then◌else◌}
 use Rattle.std.specs.List.{sum_by, range_with_len}
 use Rattle.std.proofs.Math.Nat.{max-le}
-use Rattle.std.proofs.lemmas.Bool.{false≢true}
+use Rattle.std.proofs.lemmas.Bool.{false≢true, eq-eqb, ne_eqb}
 use Rattle.std.proofs.lemmas.List.Sums.{sum_by-cons}
-use Rattle.ipl_base.specs.declared.limits.TheConstants.{PAGE_LEN, SLOTS}
+use Rattle.ipl_base.specs.declared.limits.TheConstants.{PAGE_LEN, SLOTS, VERSION}
 use Rattle.ipl_base.specs.Sizes.{size_in_page, size_of_values}
 use Rattle.ipl_rules.specs.Marks.{Marks, fill_of}
-use Rattle.ipl_rules.proofs.SumLemmas.{sums_less, sums_same}
+use Rattle.ipl_rules.proofs.SumLemmas.{sums_less, sums_same, sums_joined, sums_at}
+use Rattle.ipl_format.specs.Page.{Slots, SpellsPage, value_in}
 use Rattle.ipl_meaning.specs.Values.{Values}
+use Rattle.ipl_meaning.proofs.SizeLemmas.{texts_have_sizes}
 
 -- ---- sums
 
@@ -120,12 +122,64 @@ unmarked_fill ms v none =
     zero_less : {m size : ℕ} → m ≡ 0 → m - 1 ≤ size
     zero_less is = omega (arith, is)
 
--- the test's answer
-pub no_room_answered : {size told fill : ℕ} → size ≡ told → told ≡ fill → PAGE_LEN < size
-    → IsTrue false ↔ (fill ≤ PAGE_LEN)
-no_room_answered size_is told_is over =
-    (λ wrong. absurd (false≢true wrong), λ most. absurd (omega (arith, size_is, told_is, over, most)))
+-- one slot takes so much, and the others what their values do
+abbrev pub size_but : Values → ℕ → ℕ → ℕ → ℕ
+size_but values slot size k = if k == slot then size else size_in_page (values k)
 
-pub room_answered : {size told fill : ℕ} → size ≡ told → told ≡ fill → size ≤ PAGE_LEN
-    → IsTrue true ↔ (fill ≤ PAGE_LEN)
-room_answered size_is told_is fits = (λ yes. omega (arith, size_is, told_is, fits), λ most. refl)
+-- a page takes at most what its values do, what those do that it may come to have, and that slot
+pub fill_at_most : (v w : Values) (slot size : ℕ) → slot < SLOTS
+    → fill_of v (λ k. 1 + size_but w slot size k) ≤ size_of_values v + size_of_values w + size
+unfolding fill_of size_of_values
+fill_at_most v w slot size low =
+    omega (arith, most, both, changed, here)
+  where
+    before : ℕ → ℕ
+    before k = size_in_page (v k)
+
+    coming : ℕ → ℕ
+    coming k = size_in_page (w k)
+
+    most : sum_by (room_of v (λ k. 1 + size_but w slot size k)) (range_with_len 0 SLOTS)
+        ≤ sum_by (λ k. before k + size_but w slot size k) (range_with_len 0 SLOTS)
+    most = sums_less (room_of v (λ k. 1 + size_but w slot size k))
+        (λ k. before k + size_but w slot size k) 0 SLOTS
+        (λ k few. max-le (omega arith) (omega arith))
+
+    both : sum_by (λ k. before k + size_but w slot size k) (range_with_len 0 SLOTS)
+        ≡ sum_by before (range_with_len 0 SLOTS) + sum_by (size_but w slot size) (range_with_len 0 SLOTS)
+    both = sums_joined before (size_but w slot size) (λ k. before k + size_but w slot size k) 0 SLOTS
+        (λ k. refl)
+
+    changed : sum_by (size_but w slot size) (range_with_len 0 SLOTS) + coming slot
+        ≡ sum_by coming (range_with_len 0 SLOTS) + size_but w slot size slot
+    changed = sums_at (size_but w slot size) coming 0 SLOTS slot (omega arith) (omega (arith, low))
+        (λ k other. ap (λ (b : Bool). if b then size else coming k) (ne_eqb k slot other))
+
+    here : size_but w slot size slot ≡ size
+    here = ap (λ (b : Bool). if b then size else coming slot) (eq-eqb slot slot refl)
+
+-- so it has room where the texts of both are short
+pub surely_room : (page values : Slots) (text coming : List ℕ) (size : ℕ)
+    → SpellsPage VERSION text page → SpellsPage VERSION coming values
+    → length text + length coming + size ≤ PAGE_LEN
+    → (slot : ℕ) → slot < SLOTS
+    → fill_of (value_in page) (λ k. 1 + size_but (value_in values) slot size k) ≤ PAGE_LEN
+surely_room page values text coming size is becomes few slot low =
+    omega (
+      arith,
+      few,
+      fill_at_most (value_in page) (value_in values) slot size low,
+      ap length is.text ∙ texts_have_sizes page is.slots.slots,
+      ap length becomes.text ∙ texts_have_sizes values becomes.slots.slots,
+    )
+
+-- the test's answer
+pub no_room_answered : {fits : Bool} {told fill : ℕ} → (told ≤ PAGE_LEN → IsTrue fits)
+    → fits ≡ false → told ≡ fill → IsTrue false ↔ (fill ≤ PAGE_LEN)
+no_room_answered needs without told_is = (
+  λ wrong. absurd (false≢true wrong),
+  λ most. absurd (false≢true (sym without ∙ needs (omega (arith, told_is, most)))),
+)
+
+pub room_answered : {told fill : ℕ} → told ≤ PAGE_LEN → told ≡ fill → IsTrue true ↔ (fill ≤ PAGE_LEN)
+room_answered fits told_is = (λ yes. omega (arith, told_is, fits), λ most. refl)

@@ -1,13 +1,14 @@
 //! What the slots of a page take in its text, and may come to take.
-ghost use Rattle.std.specs.Prelude.{◌≡◌, ◌≤◌, ◌<◌, ◌+◌, ◌==◌, length, if◌then◌else◌};
-ghost use Rattle.ipl_base.specs.declared.limits.TheConstants.{VALUE_LEN};
+ghost use Rattle.std.specs.Prelude.{◌≡◌, ◌≤◌, ◌<◌, ◌+◌, ◌==◌, ◌↔◌, ℕ, IsTrue, length, if◌then◌else◌};
+ghost use Rattle.std.specs.Bool.{OnTrue};
+ghost use Rattle.ipl_base.specs.declared.limits.TheConstants.{PAGE_LEN, SLOTS, VALUE_LEN};
 ghost use Rattle.ipl_base.specs.Sizes.{size_in_page};
 ghost use Rattle.ipl_rules.specs.Marks.{fill_of};
 ghost use Rattle.ipl_format.specs.Page.{value_in};
 ghost use Rattle.log_records.specs.View.{change_of};
 ghost use Rattle.page_ops.specs.declared.filling.TheConstants.{HEAD};
 
-use ipl_base::SLOTS;
+use ipl_base::{PAGE_LEN, SLOTS};
 use log_records::Change;
 use page_text::PageMap;
 
@@ -54,7 +55,7 @@ fn coming_size(values: &PageMap, k: u32, slot: u32, size: usize) -> usize
 
 /// How many bytes a page may come to take, where each slot becomes what it is in the page of `values` or
 /// stays; but one slot (0 to 63) may come to take so many.
-pub(crate) fn fill_after(page: &PageMap, values: &PageMap, slot: u32, size: usize) -> usize
+fn fill_after(page: &PageMap, values: &PageMap, slot: u32, size: usize) -> usize
     requires { size ≤ HEAD + VALUE_LEN }
     ensures { result ≡ fill_of (value_in page.now)
         (λ k. 1 + (if k == slot then size else size_in_page (value_in values.now k))) }
@@ -64,4 +65,26 @@ pub(crate) fn fill_after(page: &PageMap, values: &PageMap, slot: u32, size: usiz
         fill += slot_size(page, k).max(coming_size(values, k, slot, size));
     }
     fill
+}
+
+/// Whether a page has room even where each slot takes both what it is in the page and what it is in that
+/// of `values`, and one of them so many bytes too. Most pages do, and no slot is looked at to see it;
+/// where it's false there may be room still.
+fn surely_fits(page: &PageMap, values: &PageMap, size: usize) -> bool
+    requires { size ≤ HEAD + VALUE_LEN }
+    ensures { OnTrue result ((slot : ℕ) → slot < SLOTS → fill_of (value_in page.now)
+        (λ k. 1 + (if k == slot then size else size_in_page (value_in values.now k))) ≤ PAGE_LEN) }
+{
+    page.text().len() + values.text().len() + size <= PAGE_LEN
+}
+
+/// Whether a page has room for all that it may come to take, where each slot becomes what it is in the
+/// page of `values` or stays; but one slot (0 to 63) may come to take so many bytes.
+pub(crate) fn fits_after(page: &PageMap, values: &PageMap, slot: u32, size: usize) -> bool
+    requires slot { slot < 64 }
+    requires few { size ≤ HEAD + VALUE_LEN }
+    ensures { IsTrue result ↔ (fill_of (value_in page.now)
+        (λ k. 1 + (if k == slot then size else size_in_page (value_in values.now k))) ≤ PAGE_LEN) }
+{
+    surely_fits(page, values, size) || fill_after(page, values, slot, size) <= PAGE_LEN
 }

@@ -12,10 +12,10 @@ ghost use Rattle.page_ops.specs.Frames.{empty_frame, frame_fill, values_in, pend
 ghost use Rattle.page_ops.specs.Lending.{LendsPage};
 
 use crate::applying::change_slot;
-use crate::filling::{change_size, fill_after};
+use crate::filling::{change_size, fits_after};
 use crate::numbers::Numbers;
 use crate::pending::Pending;
-use ipl_base::{PAGE_LEN, SLOTS};
+use ipl_base::SLOTS;
 use log_records::Change;
 use page_text::PageMap;
 use std::marker::Model;
@@ -108,7 +108,7 @@ impl Frame {
             ≡ with_pending (pending_in self.old) slot (tid, change_of change.now) k) }
         ensures kept { OnFalse result (self.new ≡ self.old) }
     {
-        if fill_after(&self.page, &self.values, slot, change_size(change)) > PAGE_LEN {
+        if !fits_after(&self.page, &self.values, slot, change_size(change)) {
             return false;
         }
         change_slot(&mut self.values, slot, change);

@@ -6,22 +6,20 @@ use Rattle.page_ops.proofs.FrameLemmas.{fill_told, noted_frame, values_fit}
 use Rattle.page_ops.proofs.SlotLemmas.{noted}
 use Rattle.page_ops.proofs.frame.Frame.set_pending.Goals as goal
 
-pub returns-then-fill_after-gt-PAGE_LEN-clause-exact :
-    goal.returns-then-fill_after-gt-PAGE_LEN-clause-exact
-returns-then-fill_after-gt-PAGE_LEN-clause-exact c =
+pub returns-then-not-fits_after-clause-exact :
+    goal.returns-then-not-fits_after-clause-exact
+returns-then-not-fits_after-clause-exact c =
     let p = c.self.inside in
-    no_room_answered c.fill_after.ensures
+    no_room_answered c.fits_after.ensures.1 c.if-not-fits_after.true
     (fill_told p.page p.numbers p.values c.self.invariant.own c.args.self.now c.self.view_is
     c.args.slot c.change_size.result c.args.tid (change_of c.args.change.now) c.change_size.ensures.size)
-    c.if-fill_after-gt-PAGE_LEN.true
 
 pub change_slot-requires-clause-room : goal.change_slot-requires-clause-room
 change_slot-requires-clause-room c =
     let p = c.self.inside in
     omega (
       arith,
-      c.if-fill_after-gt-PAGE_LEN.false,
-      c.fill_after.ensures,
+      c.fits_after.ensures.0 c.if-not-fits_after.false,
       values_fit p.page p.values c.args.slot c.change_size.result (change_of c.args.change.now)
           c.change_size.ensures.size,
     )
@@ -36,8 +34,7 @@ invariant_of-self c =
     c.give.ensures c.change_slot.ensures.changed
     (omega (
       arith,
-      c.if-fill_after-gt-PAGE_LEN.false,
-      c.fill_after.ensures,
+      c.fits_after.ensures.0 c.if-not-fits_after.false,
       fill_told p.page p.numbers p.values c.self.invariant.own
           (record { page = p.page; pending = pendings_of p.numbers p.values }) refl c.args.slot
           c.change_size.result c.args.tid (change_of c.args.change.now) c.change_size.ensures.size,
@@ -46,10 +43,9 @@ invariant_of-self c =
 pub returns-clause-exact : goal.returns-clause-exact
 returns-clause-exact c =
     let p = c.self.inside in
-    room_answered c.fill_after.ensures
+    room_answered (c.fits_after.ensures.0 c.if-not-fits_after.false)
     (fill_told p.page p.numbers p.values c.self.invariant.own c.args.self.now c.self.view_is
     c.args.slot c.change_size.result c.args.tid (change_of c.args.change.now) c.change_size.ensures.size)
-    c.if-fill_after-gt-PAGE_LEN.false
 
 pub returns-clause-pending : goal.returns-clause-pending
 returns-clause-pending c =
