@@ -1,12 +1,13 @@
 -- What the page of a name may come to take, slot by slot.
-use Rattle.std.proofs.Common.{◌≡◌, ◌≤◌, ◌<◌, ◌+◌, ◌-◌, ◌*◌, ◌%◌, max, ℕ, refl, sym, ◌∙◌, ap, arith}
+use Rattle.std.proofs.Common.{◌≡◌, ◌≤◌, ◌<◌, ◌+◌, ◌-◌, ◌*◌, ◌%◌, max, ℕ, List, length, refl, sym, ◌∙◌, ap, arith}
 use Rattle.std.specs.List.{sum_by, range_with_len}
-use Rattle.std.proofs.Math.Nat.{max-le}
 use Rattle.ipl_base.specs.Places.{home_of}
-use Rattle.ipl_base.specs.Sizes.{size_in_page}
-use Rattle.ipl_base.specs.declared.limits.TheConstants.{SLOTS}
+use Rattle.ipl_base.specs.Sizes.{size_in_page, size_of_values}
+use Rattle.ipl_base.specs.declared.limits.TheConstants.{PAGE_LEN, SLOTS, VERSION}
 use Rattle.ipl_rules.specs.Marks.{Marks, fill_of}
+use Rattle.ipl_format.specs.Page.{Slots, SpellsPage, value_in}
 use Rattle.ipl_meaning.specs.Values.{Values}
+use Rattle.ipl_meaning.proofs.SizeLemmas.{texts_have_sizes}
 use Rattle.page_ops.proofs.FillLemmas.{room_of, one_more}
 use Rattle.store_laws.specs.Pending.{name_at}
 
@@ -14,43 +15,72 @@ use Rattle.store_laws.specs.Pending.{name_at}
 abbrev pub marks_here : Marks → ℕ → Marks
 marks_here marks n slot = marks (name_at (home_of n).unit (home_of n).page slot)
 
--- so far the sum of the first k slots
-pub record IsSumSoFar (values : Values) (marks : Marks) (k fill : ℕ) : Type 0 where
-  pub sum : fill ≡ sum_by (room_of values marks) (range_with_len 0 k)
-  pub few : fill ≤ 4294967296 * k
+-- what a slot's value takes
+abbrev pub size_held : Values → ℕ → ℕ
+size_held values slot = size_in_page (values slot)
 
-pub sum_first : (values : Values) (marks : Marks) → IsSumSoFar values marks 0 0
-sum_first values marks = record { sum = refl; few = omega arith }
+-- So far what all values take, and of the first k slots what each may come to take more than it does.
+pub record IsGrownSoFar (values : Values) (marks : Marks) (k fill : ℕ) : Type 0 where
+  pub sum : fill + sum_by (size_held values) (range_with_len 0 k)
+      ≡ size_of_values values + sum_by (room_of values marks) (range_with_len 0 k)
+  pub few : fill ≤ PAGE_LEN + 4294967296 * k
 
-pub sum_more : (values : Values) (marks : Marks) (k fill size written greater : ℕ)
-    → IsSumSoFar values marks k fill → size ≡ size_in_page (values k) → size ≤ 467
-    → written ≡ marks k - 1 → written < 4294967296 → greater ≡ max size written
-    → IsSumSoFar values marks (k + 1) (fill + greater)
-sum_more values marks k fill size written greater so here small mark few is_max = record {
-  sum = sums;
-  few = let most : max size written ≤ 4294967296 = max-le (omega (arith, small)) (omega (arith, few)) in
-      omega (arith, so.few, most, is_max);
-}
-  where
-    same : room_of values marks k ≡ max size written
-    same = ap (λ (n : ℕ). max n (marks k - 1)) (sym here) ∙ ap (λ (n : ℕ). max size n) (sym mark)
+-- at first the length of the page's text
+pub grown_first : (marks : Marks) (page : Slots) (text : List ℕ) → SpellsPage VERSION text page
+    → length text ≤ PAGE_LEN → IsGrownSoFar (value_in page) marks 0 (length text)
+grown_first marks page text is few =
+    let size : length text ≡ size_of_values (value_in page) =
+    ap length is.text ∙ texts_have_sizes page is.slots.slots in
+    record { sum = omega (arith, size); few = omega (arith, few) }
 
-    sums : fill + greater ≡ sum_by (room_of values marks) (range_with_len 0 (k + 1))
-    sums = omega (arith, so.sum, one_more (room_of values marks) k, same, is_max)
+-- the greater of two is the first and what the other has more
+greater : (a b : ℕ) → max a b ≡ a + (b - a)
+greater a b = omega arith
 
-pub sum_done : (values : Values) (marks : Marks) (k fill : ℕ) → k ≡ SLOTS
-    → IsSumSoFar values marks k fill → fill ≡ fill_of values marks
-unfolding fill_of
-sum_done values marks k fill all so =
-    so.sum ∙ ap (λ (n : ℕ). sum_by (room_of values marks) (range_with_len 0 n)) all
+module _ {values : Values} {marks : Marks} {k fill : ℕ}
+    (so : IsGrownSoFar values marks k fill) (size written : ℕ)
+    (here : size ≡ size_held values k) (mark : written ≡ marks k - 1) where
+  -- what the slot may come to take
+  room_here : room_of values marks k ≡ size + (written - size)
+  room_here =
+      ap (λ (n : ℕ). max n (marks k - 1)) (sym here) ∙ ap (λ (n : ℕ). max size n) (sym mark)
+      ∙ greater size written
 
--- the sum is small
-pub sum_few : (values : Values) (marks : Marks) (k fill size written : ℕ)
-    → IsSumSoFar values marks k fill → k < SLOTS → size ≤ 467 → written < 4294967296
-    → fill + max size written ≤ 4294967296 * SLOTS
-sum_few values marks k fill size written so low small few =
-    let most : max size written ≤ 4294967296 = max-le (omega (arith, small)) (omega (arith, few)) in
-    omega (arith, so.few, most, low)
+  -- one slot more
+  pub grown_more : {next growth : ℕ} → written < 4294967296 → growth ≡ written - size
+      → next ≡ fill + growth → IsGrownSoFar values marks (k + 1) next
+  grown_more small growth_is is = record {
+    sum = omega (
+      arith,
+      so.sum,
+      one_more (room_of values marks) k,
+      one_more (size_held values) k,
+      room_here,
+      here,
+      growth_is,
+      is,
+    );
+    few = omega (arith, so.few, small, growth_is, is);
+  }
+
+-- one slot more, which no session wrote
+pub grown_same : {values : Values} {marks : Marks} {k fill written next : ℕ}
+    → IsGrownSoFar values marks k fill → written ≡ marks k - 1 → written ≤ 0 → next ≡ fill
+    → IsGrownSoFar values marks (k + 1) next
+grown_same {values} {marks} {k} {fill} {written} so mark none same =
+    grown_more so (size_held values k) written refl mark {growth = 0} (omega (arith, none))
+    (omega (arith, none)) (omega (arith, same))
+
+pub grown_all : {values : Values} {marks : Marks} {k fill : ℕ} → k ≡ SLOTS → IsGrownSoFar values marks k fill
+    → fill ≡ fill_of values marks
+unfolding fill_of size_of_values
+grown_all {values} {marks} all so =
+    omega (
+      arith,
+      so.sum,
+      ap (λ (n : ℕ). sum_by (room_of values marks) (range_with_len 0 n)) all,
+      ap (λ (n : ℕ). sum_by (size_held values) (range_with_len 0 n)) all,
+    )
 
 -- ---- names of the page
 

@@ -40,7 +40,8 @@ pub fn overfills(pool: &Pool, sessions: &Sessions, name: Name, value: &[u8]) -> 
 }
 
 /// How many bytes the page of a name may come to take, by its frame's values and what open sessions
-/// wrote there, with a write that takes so many.
+/// wrote there, with a write that takes so many. It's what the page's text has, and of each slot that is
+/// written what it may come to take more: the values of the others aren't looked at.
 fn fill_with(frame: &Frame, sessions: &Sessions, name: Name, size: usize) -> usize
     requires { size ≤ HEAD + VALUE_LEN }
     ensures { result ≡ fill_at (with_mark (marks_in sessions.now) name.0 (1 + size))
@@ -49,11 +50,13 @@ fn fill_with(frame: &Frame, sessions: &Sessions, name: Name, size: usize) -> usi
     let first = name.0 - name.0 % SLOTS;
     let page = frame.committed();
     let writers = written_slots(sessions, first);
-    let mut fill = 0;
+    let mut fill = page.text().len();
     for slot in 0..SLOTS {
         let here = Name(first + slot);
         let written = written_size(sessions, here, writers[slot as usize], name, size);
-        fill += slot_size(page, slot).max(written);
+        if written > 0 {
+            fill += written.saturating_sub(slot_size(page, slot));
+        }
     }
     fill
 }
