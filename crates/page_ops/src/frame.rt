@@ -161,8 +161,8 @@ impl Frame {
             → values_in self.new k ≡ values_in self.old k }
         ensures others { (k : ℕ) → k ≢ slot → pending_in self.new k ≡ pending_in self.old k }
     {
-        let _ = self.page.text();
         if is_of(self.numbers.get(slot), tid) {
+            let _ = self.page.text();
             copy_slot(&self.values, slot, &mut self.page);
             self.values.clear(slot);
             self.numbers.take(slot);
