@@ -1,6 +1,6 @@
 -- Slot by slot over a frame.
 use Rattle.std.proofs.Common.{◌≡◌, ◌≢◌, ℕ, zero, suc, ◌<◌, ◌≤◌, ◌+◌, Bool, true, false, List, [], ◌∷◌, length, get_or, set, replicate, Option, Some, None, refl, sym, ◌∙◌, ap, ap₂, inl, inr, arith}
-use Rattle.std.specs.Prelude.{◌==◌, if◌then◌else◌}
+use Rattle.std.specs.Prelude.{◌==◌, is_some, if◌then◌else◌}
 use Rattle.std.specs.Option.{option_map_or}
 use Rattle.std.proofs.lemmas.Bool.{cases_eq, false≢true, eq-eqb, ne_eqb}
 use Rattle.std.proofs.lemmas.List.{length-replicate, get_or-set_same, get_or-set_other, length-set}
@@ -19,6 +19,16 @@ pending_slot (n ∷ numbers) [] zero = refl
 pending_slot (n ∷ numbers) [] (suc i) = pending_slot numbers [] i
 pending_slot (n ∷ numbers) (v ∷ values) zero = refl
 pending_slot (n ∷ numbers) (v ∷ values) (suc i) = pending_slot numbers values i
+
+-- there is one where the slot has a number
+pub pending_some : (numbers : List (Option ℕ)) (values : Slots) (i : ℕ)
+    → is_some (get_or (pendings_of numbers values) i None) ≡ is_some (get_or numbers i None)
+pending_some numbers values i =
+    ap is_some (pending_slot numbers values i) ∙ by_number (get_or numbers i None)
+  where
+    by_number : (n : Option ℕ) → is_some (pending_of n (get_or values i None)) ≡ is_some n
+    by_number None = refl
+    by_number (Some tid) = refl
 
 none_in : (n : ℕ) (values : Slots) → pendings_of (replicate n None) values ≡ replicate n None
 unfolding pendings_of
@@ -215,6 +225,10 @@ pub record AreApplied (tid i : ℕ) (old new : FrameView) : Type 0 where
   pub values_ahead : (slot : ℕ) → i ≤ slot → values_in new slot ≡ values_in old slot
   pub pending_ahead : (slot : ℕ) → i ≤ slot → pending_in new slot ≡ pending_in old slot
 
+nothing_of : (change : Option Pending) → is_some change ≡ false → change ≡ None
+nothing_of None none = refl
+nothing_of (Some p) none = absurd (false≢true (sym none))
+
 -- one slot more
 pub applied_more : (tid i : ℕ) (old now next : FrameView) → AreApplied tid i old now
     → values_in next i ≡ seen_by tid (values_in now i) (pending_in now i)
@@ -241,3 +255,11 @@ applied_more tid i old now next so value here other_values others = record {
   pending_ahead = λ slot high. others slot (λ same. absurd (omega (arith, high, same)))
       ∙ so.pending_ahead slot (omega (arith, high));
 }
+
+-- one slot more, where nothing is pending
+pub applied_past : (tid i : ℕ) (old now : FrameView) → AreApplied tid i old now
+    → is_some (pending_in now i) ≡ false → AreApplied tid (i + 1) old now
+applied_past tid i old now so none =
+    let nothing = nothing_of (pending_in now i) none in
+    applied_more tid i old now now so (sym (ap (seen_by tid (values_in now i)) nothing))
+    (nothing ∙ sym (ap (without_pending tid) nothing)) (λ k other. refl) (λ k other. refl)

@@ -1,5 +1,5 @@
 //! A page in memory.
-ghost use Rattle.std.specs.Prelude.{◌≡◌, ◌≢◌, ◌≤◌, ◌<◌, ◌==◌, ◌↔◌, ℕ, false, IfSome, IsTrue, length, option_map, slice_set};
+ghost use Rattle.std.specs.Prelude.{◌≡◌, ◌≢◌, ◌≤◌, ◌<◌, ◌==◌, ◌↔◌, ℕ, false, IfSome, IsTrue, is_some, length, option_map, slice_set};
 ghost use Rattle.std.specs.Bool.{OnTrue, OnFalse};
 ghost use Rattle.std.specs.Borrow.{sem};
 ghost use Rattle.std.specs.Option.{option_map_or};
@@ -121,7 +121,9 @@ impl Frame {
         ensures { IsDropped tid self.old self.new }
     {
         for slot in 0..SLOTS {
-            self.drop_at(slot, tid);
+            if self.has_pending(slot) {
+                self.drop_at(slot, tid);
+            }
         }
     }
 
@@ -130,12 +132,23 @@ impl Frame {
         ensures { AppliesTid tid self.old self.new }
     {
         for slot in 0..SLOTS {
-            self.apply_at(slot, tid);
+            if self.has_pending(slot) {
+                self.apply_at(slot, tid);
+            }
         }
     }
 }
 
 impl Frame {
+    /// Whether a slot (0 to 63) has a pending change. Few slots of a page do, so a loop over all slots asks
+    /// this before it goes to work on one.
+    fn has_pending(&self, slot: u32) -> bool
+        requires { slot < 64 }
+        ensures { result ≡ is_some (pending_in self.now slot) }
+    {
+        self.numbers.get(slot).is_some()
+    }
+
     /// Drops the pending change of a slot, where it is of this number.
     fn drop_at(&mut self, slot: u32, tid: u64)
         requires { slot < 64 }
