@@ -131,9 +131,10 @@ fn apply_coming(
 /// Makes a page (0 to 14) anew with the records whose numbers are committed, of which so many are to
 /// come, and answers its tails, by those that it had: of each piece of its text that stays the same.
 /// Where no record is to come, the page stays as it is, with all of its tails. None where the page has
-/// no room for all of them.
+/// no room for all of them. Its text of before is kept in these bytes meanwhile.
 fn make_anew(
     slots: &mut PageMap,
+    before: &mut [u8; PAGE_LEN],
     coming: Coming,
     page: u32,
     log: &Log,
@@ -149,8 +150,7 @@ fn make_anew(
     if coming.is_none() {
         return Some(*tails);
     }
-    let mut before = [0; PAGE_LEN];
-    let end = page_text::write(slots, &mut before, VERSION);
+    let end = page_text::write(slots, before, VERSION);
     if !apply_coming(slots, coming, page, log, status) {
         return None;
     }
@@ -159,6 +159,7 @@ fn make_anew(
 
 /// Reads a page (0 to 14) where the unit stands into a page in memory, and programs it as the
 /// committed records leave it, at another place; answers how many sectors it took there, 0 to 16.
+/// Its text as it was read is kept in bytes of the caller's, which needn't be cleared for each page.
 /// Malformed at sector 0 where the unit stands, where the page has no room for them.
 fn move_page<C: Chip>(
     chip: &mut C,
@@ -169,6 +170,7 @@ fn move_page<C: Chip>(
     head: &Head,
     page: u32,
     slots: &mut PageMap,
+    before: &mut [u8; PAGE_LEN],
 ) -> Result<u32, ChipFault>
     requires home { home.now.place < (C.told chip.old).places }
     requires few { IsFew home.now.pieces }
@@ -193,7 +195,7 @@ fn move_page<C: Chip>(
     read_page(chip, home.place, &home.head, page, count, slots, &mut tails)?;
     let known = known_tails(&tails, home.head.version);
     let coming = count_coming(page, log, status);
-    let Some(kept) = make_anew(slots, coming, page, log, status, &known) else {
+    let Some(kept) = make_anew(slots, before, coming, page, log, status, &known) else {
         return Err(ChipFault::Malformed {
             place: home.place,
             sector: 0,
@@ -230,8 +232,19 @@ pub(crate) fn move_pages<C: Chip>(
 {
     let mut pieces = [0; PAGES as usize];
     let mut slots = PageMap::empty();
+    let mut before = [0; PAGE_LEN];
     for page in 0..PAGES {
-        let count = move_page(chip, home, log, status, place, head, page, &mut slots)?;
+        let count = move_page(
+            chip,
+            home,
+            log,
+            status,
+            place,
+            head,
+            page,
+            &mut slots,
+            &mut before,
+        )?;
         pieces[page as usize] = count as u8;
     }
     Ok(pieces)

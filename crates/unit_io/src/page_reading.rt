@@ -107,8 +107,8 @@ fn put_piece(bytes: &[u8; 512], used: usize, text: &mut PageBytes, start: usize)
     text.put(start, payload_in(bytes, used));
 }
 
-/// Reads a piece (0 to 15) of a page (0 to 14) into its part of a text, and answers where that ends.
-/// What the piece brings into a sum stands among the tails.
+/// Reads a piece (0 to 15) of a page (0 to 14) into its part of a text, by these bytes of a sector, and
+/// answers where that ends. What the piece brings into a sum stands among the tails.
 fn read_piece<C: Chip>(
     chip: &mut C,
     place: u32,
@@ -116,6 +116,7 @@ fn read_piece<C: Chip>(
     page: u32,
     piece: u32,
     is_last: bool,
+    bytes: &mut [u8; 512],
     text: &mut PageBytes,
     tails: &mut [u32; 16],
 ) -> Result<usize, ChipFault>
@@ -132,14 +133,13 @@ fn read_piece<C: Chip>(
     ensures asks { Asked (Read place (base_sector_of page piece)) result (C.told chip.old) (C.told chip.new) }
     ensures accounts { Accounts (IsPageCause place page) result (C.told chip.old) (C.told chip.new) }
 {
-    let mut bytes = [0; 512];
     let sector = base_sector(page, piece);
-    read(chip, Spot { place, sector }, &mut bytes)?;
-    let tail = tail_of(&bytes);
-    let answer = decode_by(&bytes, tail);
+    read(chip, Spot { place, sector }, bytes)?;
+    let tail = tail_of(bytes);
+    let answer = decode_by(bytes, tail);
     let used = check_piece(answer, place, head, page, piece, is_last)?;
     let start = piece as usize * PAYLOAD_LEN;
-    put_piece(&bytes, used, text, start);
+    put_piece(bytes, used, text, start);
     tails[piece as usize] = tail;
     Ok(start + used)
 }
@@ -164,10 +164,13 @@ fn read_pieces<C: Chip>(
     ensures asks { PageAsked place page pieces result (C.told chip.old) (C.told chip.new) }
     ensures accounts { Accounts (IsPageCause place page) result (C.told chip.old) (C.told chip.new) }
 {
+    let mut bytes = [0; 512];
     let mut end = 0;
     for piece in 0..pieces {
         let is_last = piece + 1 == pieces;
-        end = read_piece(chip, place, head, page, piece, is_last, text, tails)?;
+        end = read_piece(
+            chip, place, head, page, piece, is_last, &mut bytes, text, tails,
+        )?;
     }
     Ok(end)
 }

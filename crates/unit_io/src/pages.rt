@@ -53,7 +53,7 @@ fn encode_piece(base: &Head, payload: &[u8], tail: Option<u32>, out: &mut [u8; 5
     }
 }
 
-/// Programs the base sector of a piece (0 to 15) of a page's text.
+/// Programs the base sector of a piece (0 to 15) of a page's text, by these bytes of a sector.
 fn program_piece<C: Chip>(
     chip: &mut C,
     place: u32,
@@ -62,6 +62,7 @@ fn program_piece<C: Chip>(
     piece: u32,
     text: &[u8],
     tail: Option<u32>,
+    bytes: &mut [u8; 512],
 ) -> Result<(), ChipFault>
     requires page { IsPageOnChip (C.told chip.old) place page }
     requires few { piece < PAGE_SECTORS }
@@ -80,10 +81,9 @@ fn program_piece<C: Chip>(
 {
     let serial = u64::from(page * PAGE_SECTORS + piece);
     let base = Head::written(Head::BASE, head.unit, head.generation, serial);
-    let mut bytes = [0; 512];
-    encode_piece(&base, piece_of(text, piece), tail, &mut bytes);
+    encode_piece(&base, piece_of(text, piece), tail, bytes);
     let sector = base_sector(page, piece);
-    program_aside(chip, Spot { place, sector }, &bytes)
+    program_aside(chip, Spot { place, sector }, bytes)
 }
 
 /// How many pieces a text of at most 7,680 bytes is cut into.
@@ -118,9 +118,10 @@ fn program_pieces<C: Chip>(
         (C.told chip.old) (C.told chip.new) }
 {
     let count = piece_count(text);
+    let mut bytes = [0; 512];
     for piece in 0..count {
         let tail = tails[piece as usize];
-        program_piece(chip, place, head, page, piece, text, tail)?;
+        program_piece(chip, place, head, page, piece, text, tail, &mut bytes)?;
     }
     Ok(count)
 }
