@@ -4,7 +4,7 @@ ghost use Rattle.std.specs.List.{before_first, after_first};
 ghost use Rattle.std.specs.Option.{option_map};
 ghost use Rattle.command_line.specs.Chip.{is_colon, chip_of, word_view};
 
-use plain_text::number;
+use script_text::number;
 
 /// A chip of so many places, in memory or in the file at a path, which isn't empty.
 #[derive(Clone, Copy)]

@@ -5,7 +5,7 @@ ghost use Rattle.command_line.specs.Ends.{chip_text, end_text, fault_text, note_
 
 use crate::end::End;
 use ipl_base::{ChipFault, ImageFault};
-use plain_text::TextLine;
+use script_text::TextLine;
 use std::marker::Model;
 
 /// The line that is noted, with its line feed, at most 128 bytes. A contract sees it as a list.

@@ -8,7 +8,7 @@ use Rattle.ipl_base.specs.declared.fault.ImageFault.TheVariants.{Chip}
 use Rattle.ipl_base.specs.Sizes.{size_of_values}
 use Rattle.ipl_base.proofs.FirstLemmas.{or_none, first_none, none_before}
 use Rattle.chip_trait.specs.Story.{Contents}
-use Rattle.ipl_rules.specs.State.{Map}
+use Rattle.ipl_model.specs.State.{Map}
 use Rattle.ipl_format.specs.Page.{value_in}
 use Rattle.ipl_meaning.specs.Chart.{Chart, chart_of}
 use Rattle.ipl_meaning.specs.Values.{Values, after_records}
@@ -19,13 +19,13 @@ use Rattle.ipl_meaning.proofs.OnceLemmas.{laid_once}
 use Rattle.ipl_meaning.proofs.RoomLemmas.{same_sizes}
 use Rattle.ipl_meaning.proofs.SwitchLemmas.{same_applied}
 use Rattle.number_set.specs.Numbers.{among}
-use Rattle.opening_laws.specs.Faults.{shape_fault}
-use Rattle.opening_laws.specs.First.{count_below}
-use Rattle.opening_laws.specs.Chosen.{units_at}
-use Rattle.opening_laws.specs.Laws.{IsByteChart}
-use Rattle.opening_laws.specs.LaidOut.{layout_in}
-use Rattle.opening_laws.proofs.NoFaultLemmas.{no_shape_fault_is_laid}
-use Rattle.opening_laws.proofs.LaidLemmas.{laid_has_no_shape_fault, laid_says_its_units}
+use Rattle.ipl_meaning.specs.Faults.{shape_fault}
+use Rattle.ipl_meaning.specs.First.{count_below}
+use Rattle.ipl_meaning.specs.Chosen.{units_at}
+use Rattle.ipl_meaning.specs.OpeningLaws.{IsByteChart}
+use Rattle.ipl_meaning.specs.LaidOut.{layout_in}
+use Rattle.ipl_meaning.proofs.NoFaultLemmas.{no_shape_fault_is_laid}
+use Rattle.ipl_meaning.proofs.LaidLemmas.{laid_has_no_shape_fault, laid_says_its_units}
 use Rattle.page_ops.specs.Pending.{fill_by}
 use Rattle.page_rebuild.specs.Loaded.{loaded_values, loaded_pending}
 use Rattle.page_rebuild.proofs.LoadedLemmas.{loaded_slot, sound_pages_show_values}

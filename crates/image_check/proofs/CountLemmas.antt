@@ -13,7 +13,7 @@ use Rattle.ipl_meaning.specs.Chart.{Chart, chart_of}
 use Rattle.ipl_meaning.specs.Layout.{Layout}
 use Rattle.ipl_meaning.specs.Tables.{Places, OverflowLists, StatusTable, Tables}
 use Rattle.number_set.specs.Numbers.{among}
-use Rattle.opening_laws.specs.First.{count_below}
+use Rattle.ipl_meaning.specs.First.{count_below}
 use Rattle.unit_io.specs.Faults.{IsPageCause}
 use Rattle.unit_io.specs.ReadsAt.{Anywhere, ReadsAt, IsCauseAt}
 use Rattle.unit_io.proofs.ReadsAtLemmas.{at_wider}

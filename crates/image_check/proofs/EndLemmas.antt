@@ -11,20 +11,20 @@ use Rattle.ipl_base.specs.declared.fault.ChipFault.TheVariants.{ReadFault, Stopp
 use Rattle.ipl_base.specs.declared.fault.ImageFault.{ImageFault}
 use Rattle.ipl_base.specs.declared.fault.ImageFault.TheVariants.{Geometry, NotFormatted, Missing, Chip, Spent, NoSpare}
 use Rattle.ipl_base.specs.Places.{IsGeometry}
-use Rattle.ipl_rules.specs.State.{Map}
+use Rattle.ipl_model.specs.State.{Map}
 use Rattle.ipl_meaning.specs.Chart.{Chart, chart_of}
 use Rattle.ipl_meaning.specs.Layout.{Layout}
 use Rattle.ipl_meaning.specs.Mirrors.{Mirrors}
 use Rattle.ipl_meaning.specs.Stands.{Stands}
 use Rattle.ipl_meaning.specs.Tables.{Places, OverflowLists, StatusTable, Tables}
-use Rattle.merge_laws.specs.Known.{KnowsPlaces}
-use Rattle.opening_laws.specs.Opened.{tables_of}
-use Rattle.opening_laws.specs.Chosen.{units_at}
-use Rattle.opening_laws.specs.Faults.{is_image, is_told, shape_fault}
-use Rattle.opening_laws.specs.Laws.{IsByteChart}
-use Rattle.opening_laws.specs.LaidOut.{layout_in}
-use Rattle.opening_laws.proofs.LaidLemmas.{laid_has_no_shape_fault, laid_says_its_units}
-use Rattle.opening_laws.proofs.NoFaultLemmas.{no_shape_fault_is_laid}
+use Rattle.selective_merge.specs.Known.{KnowsPlaces}
+use Rattle.ipl_meaning.specs.Opened.{tables_of}
+use Rattle.ipl_meaning.specs.Chosen.{units_at}
+use Rattle.ipl_meaning.specs.Faults.{is_image, is_told, shape_fault}
+use Rattle.ipl_meaning.specs.OpeningLaws.{IsByteChart}
+use Rattle.ipl_meaning.specs.LaidOut.{layout_in}
+use Rattle.ipl_meaning.proofs.LaidLemmas.{laid_has_no_shape_fault, laid_says_its_units}
+use Rattle.ipl_meaning.proofs.NoFaultLemmas.{no_shape_fault_is_laid}
 use Rattle.page_rebuild.specs.Loaded.{AreTables}
 use Rattle.restart.specs.Looks.{HasCauseFor}
 use Rattle.image_check.specs.Checked.{IsReadingCause, IsCheckCause, IsUnwell, ChecksImage, check_fault, pages_fault, records_below, records_in}

@@ -1,7 +1,7 @@
 -- Counts of many, block by block.
 use Rattle.std.proofs.Common.{◌≡◌, ℕ, zero, suc, ◌<◌, ◌+◌, ◌*◌, Bool, cond, refl, sym, ◌∙◌, ap, ap₂, arith, add-one}
-use Rattle.opening_laws.specs.First.{count_below}
-use Rattle.opening_laws.proofs.FirstLemmas.{count_step}
+use Rattle.ipl_meaning.specs.First.{count_below}
+use Rattle.ipl_meaning.proofs.FirstLemmas.{count_step}
 use Rattle.image_check.specs.Checked.{total_below}
 
 pub total_none : (f : ℕ → ℕ) → total_below f 0 ≡ 0

@@ -10,16 +10,16 @@ use Rattle.ipl_base.specs.declared.fault.ImageFault.{ImageFault}
 use Rattle.ipl_base.specs.declared.fault.ImageFault.TheVariants.{Geometry, NotFormatted, Missing, Chip, Spent, NoSpare}
 use Rattle.chip_trait.specs.Story.{Contents}
 use Rattle.chip_trait.specs.Told.{Told, Rose}
-use Rattle.ipl_rules.specs.State.{Map}
+use Rattle.ipl_model.specs.State.{Map}
 use Rattle.ipl_meaning.specs.Chart.{chart_of}
 use Rattle.ipl_meaning.specs.Layout.{Layout}
 use Rattle.ipl_meaning.specs.Stands.{Stands}
 use Rattle.number_set.specs.Numbers.{among}
 use Rattle.unit_io.specs.Reads.{OfContents}
-use Rattle.opening_laws.specs.First.{count_below}
-use Rattle.opening_laws.specs.Faults.{shape_fault}
-use Rattle.opening_laws.specs.Chosen.{units_at}
-use Rattle.opening_laws.specs.LaidOut.{layout_in}
+use Rattle.ipl_meaning.specs.First.{count_below}
+use Rattle.ipl_meaning.specs.Faults.{shape_fault}
+use Rattle.ipl_meaning.specs.Chosen.{units_at}
+use Rattle.ipl_meaning.specs.LaidOut.{layout_in}
 use Rattle.page_rebuild.specs.Loaded.{load_fault, loaded_values}
 use Rattle.image_check.specs.declared.fault.CheckFault.{CheckFault}
 use Rattle.image_check.specs.declared.fault.CheckFault.TheVariants.{Image, OutOfMemory}

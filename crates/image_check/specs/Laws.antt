@@ -1,12 +1,12 @@
 -- The laws of a checker: it finds no fault exactly where a chip stands for records, and counts these.
 use Rattle.std.specs.Prelude.{ℕ, ◌≡◌, None}
 use Rattle.chip_trait.specs.Story.{Contents}
-use Rattle.ipl_rules.specs.State.{Map}
+use Rattle.ipl_model.specs.State.{Map}
 use Rattle.ipl_meaning.specs.Chart.{chart_of}
 use Rattle.ipl_meaning.specs.Stands.{Stands}
-use Rattle.opening_laws.specs.Chosen.{units_at}
-use Rattle.opening_laws.specs.Laws.{IsByteChart}
-use Rattle.opening_laws.specs.LaidOut.{layout_in}
+use Rattle.ipl_meaning.specs.Chosen.{units_at}
+use Rattle.ipl_meaning.specs.OpeningLaws.{IsByteChart}
+use Rattle.ipl_meaning.specs.LaidOut.{layout_in}
 use Rattle.image_check.specs.Checked.{check_fault, records_below, records_in}
 
 -- a chip without a fault stands for records

@@ -3,7 +3,7 @@ ghost use Rattle.std.specs.Prelude.{◌≡◌, ◌≤◌, ◌<◌, ◌*◌, ℕ,
 ghost use Rattle.ipl_base.specs.declared.limits.TheConstants.{PAGE_SECTORS, SLOTS, UNIT_NAMES, MOST_UNITS};
 ghost use Rattle.ipl_format.specs.Page.{value_in};
 ghost use Rattle.ipl_meaning.specs.Chart.{chart_of};
-ghost use Rattle.opening_laws.specs.First.{count_below};
+ghost use Rattle.ipl_meaning.specs.First.{count_below};
 ghost use Rattle.unit_io.specs.ReadsAt.{Anywhere, ReadsAt};
 ghost use Rattle.page_rebuild.specs.Loaded.{OfKnown, OfTables};
 ghost use Rattle.image_check.specs.Checked.{

@@ -7,9 +7,9 @@ use Rattle.ipl_base.specs.declared.fault.ChipFault.TheVariants.{ReadFault, Stopp
 use Rattle.ipl_base.specs.declared.fault.ImageFault.{ImageFault}
 use Rattle.ipl_base.specs.declared.fault.ImageFault.TheVariants as image
 use Rattle.ipl_meaning.specs.Chart.{chart_of}
-use Rattle.opening_laws.specs.Faults.{greatest_found}
-use Rattle.status_renewal.specs.Chains.{starts_at}
-use Rattle.status_renewal.proofs.ChainLemmas.{images_rest}
+use Rattle.ipl_meaning.specs.Faults.{greatest_found}
+use Rattle.restart.specs.RenewalChains.{starts_at}
+use Rattle.restart.proofs.ChainLemmas.{images_rest}
 use Rattle.command_line.specs.declared.asked.Request.{Request}
 use Rattle.command_line.specs.declared.asked.Request.TheVariants.{Format, Run, Serial, Check, Trial}
 use Rattle.command_line.specs.Ends.{fault_status}

@@ -16,7 +16,7 @@ use Rattle.chip_trait.proofs.SaidLemmas.{pieces-append, said-append, silent-part
 use Rattle.ipl_base.specs.Places.{units_on}
 use Rattle.ipl_base.specs.declared.fault.FormatFault.{FormatFault}
 use Rattle.ipl_base.specs.declared.fault.ImageFault.{ImageFault}
-use Rattle.ipl_rules.specs.State.{State, Limits, Map, at_rest}
+use Rattle.ipl_model.specs.State.{State, Limits, Map, at_rest}
 use Rattle.ipl_model.specs.declared.command.Command.{Command}
 use Rattle.ipl_model.specs.Grammar.{commands_of}
 use Rattle.ipl_model.specs.Run.{IsNear, joined as joined_text}
@@ -32,15 +32,15 @@ use Rattle.ipl_meaning.proofs.CarriedLemmas.{unused_carried}
 use Rattle.store_trait.proofs.UnusedLemmas.{twice}
 use Rattle.page_frames.specs.Pages.{tables_in}
 use Rattle.chip_trait.proofs.ImageLemmas.{held_is_image}
-use Rattle.opening_laws.specs.Chosen.{units_at}
-use Rattle.opening_laws.proofs.LaidLemmas.{laid_says_its_units}
-use Rattle.opening_laws.proofs.MomentLemmas.{moments_as_said}
+use Rattle.ipl_meaning.specs.Chosen.{units_at}
+use Rattle.ipl_meaning.proofs.LaidLemmas.{laid_says_its_units}
+use Rattle.ipl_meaning.proofs.MomentLemmas.{moments_as_said}
 use Rattle.ipl_meaning.proofs.StoryLemmas.{held_stands, says_keep}
 use Rattle.unit_io.specs.Leads.{IsSteady}
 use Rattle.unit_io.proofs.LeadsLemmas.{steady_then}
 use Rattle.restart.specs.Events.{format_events}
 use Rattle.restart.specs.Fresh.{Formats}
-use Rattle.status_renewal.specs.Recovers.{TakesMarks}
+use Rattle.restart.specs.Recovers.{TakesMarks}
 use Rattle.store_trait.specs.Keeping.{Stays}
 use Rattle.store_trait.specs.declared.fault.Fault.TheVariants as fault
 use Rattle.store_trait.proofs.OnwardLemmas.{unrisen_later}

@@ -1,3 +1,4 @@
+pub mod ChainLemmas
 mod CloseLemmas
 mod CountLemmas
 mod UnusedLemmas

@@ -4,12 +4,12 @@ use Rattle.std.specs.FinMap.{empty}
 use Rattle.chip_trait.specs.Story.{Contents, held}
 use Rattle.chip_trait.specs.Told.{History, Told, IsConsistent, Unrisen, adds_all}
 use Rattle.ipl_base.specs.Places.{units_on}
-use Rattle.ipl_rules.specs.State.{Map}
+use Rattle.ipl_model.specs.State.{Map}
 use Rattle.ipl_meaning.proofs.StoryLemmas.{held_stands}
 use Rattle.unit_io.specs.Leads.{IsSteady}
 use Rattle.restart.specs.Events.{format_events}
-use Rattle.status_renewal.specs.Chains.{starts_at}
-use Rattle.status_renewal.proofs.ChainLemmas.{images_rest}
+use Rattle.restart.specs.RenewalChains.{starts_at}
+use Rattle.restart.proofs.ChainLemmas.{images_rest}
 use Rattle.ipl_cli.specs.Ending.{Ending, AtStatus}
 use Rattle.ipl_cli.specs.Top.{Runs, RunsOpened, RunsFormatted, HoldsRecords, EndsWithRecords, FromItsRecords, FromNoRecords, records_after}
 use Rattle.ipl_cli.proofs.StatusLemmas.{done_at_zero}

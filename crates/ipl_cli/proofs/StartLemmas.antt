@@ -15,7 +15,7 @@ use Rattle.ipl_base.specs.declared.fault.FormatFault.{FormatFault}
 use Rattle.ipl_base.specs.declared.fault.FormatFault.TheVariants as format
 use Rattle.ipl_base.specs.declared.fault.ImageFault.{ImageFault}
 use Rattle.ipl_base.specs.declared.fault.ImageFault.TheVariants as image
-use Rattle.ipl_rules.specs.State.{Map, at_rest}
+use Rattle.ipl_model.specs.State.{Map, at_rest}
 use Rattle.ipl_meaning.specs.Chart.{Chart, chart_of}
 use Rattle.ipl_meaning.specs.Stands.{Says, Stands}
 use Rattle.ipl_meaning.specs.Rests.{now, StoryRests}
@@ -24,15 +24,15 @@ use Rattle.ipl_meaning.specs.FirstTables.{first_layout}
 use Rattle.ipl_meaning.proofs.FormattedLemmas.{no_sector}
 use Rattle.ipl_meaning.proofs.StoryLemmas.{held_stands}
 use Rattle.unit_io.specs.Leads.{IsSteady}
-use Rattle.opening_laws.specs.Chosen.{units_at}
-use Rattle.opening_laws.specs.Faults.{first_fault, greatest_found}
-use Rattle.opening_laws.specs.LaidOut.{layout_in}
-use Rattle.opening_laws.specs.Laws.{IsByteChart}
-use Rattle.opening_laws.proofs.CauseLemmas.{faults_are_caused}
-use Rattle.opening_laws.proofs.FormattedLemmas.{formatted_bytes}
-use Rattle.opening_laws.proofs.LaidLemmas.{laid_is_fine_or_spent}
-use Rattle.opening_laws.proofs.NoFaultLemmas.{no_fault_is_laid}
-use Rattle.opening_laws.proofs.NumberLemmas.{greatest_is_found}
+use Rattle.ipl_meaning.specs.Chosen.{units_at}
+use Rattle.ipl_meaning.specs.Faults.{first_fault, greatest_found}
+use Rattle.ipl_meaning.specs.LaidOut.{layout_in}
+use Rattle.ipl_meaning.specs.OpeningLaws.{IsByteChart}
+use Rattle.ipl_meaning.proofs.CauseLemmas.{faults_are_caused}
+use Rattle.ipl_meaning.proofs.FormatFaultLemmas.{formatted_bytes}
+use Rattle.ipl_meaning.proofs.LaidLemmas.{laid_is_fine_or_spent}
+use Rattle.ipl_meaning.proofs.NoFaultLemmas.{no_fault_is_laid}
+use Rattle.ipl_meaning.proofs.NumberLemmas.{greatest_is_found}
 use Rattle.restart.specs.Events.{format_events}
 use Rattle.restart.specs.Fresh.{IsFresh, Formats, TellsFresh}
 use Rattle.restart.proofs.LookLemmas.{reads_none}
@@ -41,8 +41,8 @@ use Rattle.store_trait.specs.declared.fault.Fault.{Fault}
 use Rattle.store_trait.specs.declared.fault.Fault.TheVariants as fault
 use Rattle.place_taking.proofs.SpendingLemmas.{or_right}
 use Rattle.selective_merge.specs.Homes.{WearCause}
-use Rattle.status_renewal.specs.Recovers.{FailsByCallAlone, OpeningCause, tells_wear}
-use Rattle.status_renewal.proofs.ReadyLemmas.{layouts_say}
+use Rattle.restart.specs.Recovers.{FailsByCallAlone, OpeningCause, tells_wear}
+use Rattle.restart.proofs.ReadyLemmas.{layouts_say}
 use Rattle.store_laws.specs.Keeps.{IsWornCount, FaultTells, StoreCause, limits_of}
 use Rattle.script_run.specs.declared.fault.Stop.{Stop}
 use Rattle.script_run.specs.declared.fault.Stop.TheVariants as stop

@@ -14,7 +14,7 @@ use Rattle.ipl_base.specs.Places.{IsGeometry, units_on}
 use Rattle.ipl_base.proofs.UnitLemmas.{units_are_kept}
 use Rattle.ipl_base.specs.declared.fault.FormatFault.{FormatFault}
 use Rattle.ipl_base.specs.declared.fault.FormatFault.TheVariants as format
-use Rattle.ipl_rules.specs.State.{State, at_rest}
+use Rattle.ipl_model.specs.State.{State, at_rest}
 use Rattle.ipl_model.specs.Grammar.{commands_of}
 use Rattle.ipl_format.specs.Sector.{sector_in}
 use Rattle.ipl_meaning.specs.Chart.{chart_of}
@@ -25,8 +25,8 @@ use Rattle.restart.specs.Events.{each_below, heading_events, clearing_events, wo
 use Rattle.restart.specs.Fresh.{Formats}
 use Rattle.restart.proofs.FreshLemmas.{format_rests, fresh_contents}
 use Rattle.unit_io.specs.Leads.{IsSteady}
-use Rattle.status_renewal.specs.Chains.{starts_at}
-use Rattle.status_renewal.proofs.ChainLemmas.{images_rest}
+use Rattle.restart.specs.RenewalChains.{starts_at}
+use Rattle.restart.proofs.ChainLemmas.{images_rest}
 use Rattle.store_laws.specs.Keeps.{limits_of}
 use Rattle.command_line.specs.declared.end.End.TheVariants.{Words, Chip, OutOfMemory, Script, Output, TooLong}
 use Rattle.ipl_cli.specs.Ending.{AskedFor, Ending, AsksFormatted, AtStatus, StopsEarly, StopRose, IsLeftAlone, but_noted}

@@ -8,7 +8,7 @@ use Rattle.ipl_base.specs.declared.fault.ImageFault.TheVariants as image
 use Rattle.ipl_base.specs.declared.fault.FormatFault.{FormatFault}
 use Rattle.ipl_base.specs.declared.fault.FormatFault.TheVariants as format
 use Rattle.ipl_meaning.specs.Chart.{chart_of}
-use Rattle.opening_laws.proofs.CauseLemmas.{faults_are_caused}
+use Rattle.ipl_meaning.proofs.CauseLemmas.{faults_are_caused}
 use Rattle.restart.specs.Fresh.{Formats}
 use Rattle.restart.proofs.LookLemmas.{reads_none}
 use Rattle.script_run.specs.Goes.{ReadsAll}

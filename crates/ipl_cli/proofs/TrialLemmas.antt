@@ -14,13 +14,13 @@ use Rattle.chip_trait.proofs.MomentLemmas.{at_both, at_weaker}
 use Rattle.chip_trait.proofs.SaidLemmas.{silent-part}
 use Rattle.ipl_base.specs.Places.{units_on}
 use Rattle.ipl_base.specs.declared.fault.ImageFault.{ImageFault}
-use Rattle.ipl_rules.specs.State.{State, Limits, at_rest}
+use Rattle.ipl_model.specs.State.{State, Limits, at_rest}
 use Rattle.ipl_model.specs.declared.command.Command.{Command}
 use Rattle.ipl_model.specs.Run.{joined as joined_text}
 use Rattle.ipl_format.specs.Sector.{sector_in}
 use Rattle.ipl_meaning.specs.Rests.{now, EachStandsIn, StoryRests}
-use Rattle.opening_laws.specs.Chosen.{units_at}
-use Rattle.opening_laws.proofs.MomentLemmas.{moments_as_said}
+use Rattle.ipl_meaning.specs.Chosen.{units_at}
+use Rattle.ipl_meaning.proofs.MomentLemmas.{moments_as_said}
 use Rattle.unit_io.specs.Leads.{IsSteady}
 use Rattle.restart.specs.Events.{format_events}
 use Rattle.store_trait.specs.Keeping.{Stays, SCRIPT_DRAWS}
@@ -37,8 +37,8 @@ use Rattle.script_run.proofs.RunLemmas.{says_none, says_prefix}
 use Rattle.script_store.specs.declared.store.ScriptStore.{ScriptStore}
 use Rattle.script_store.specs.Keeps.{KeepsScript, script_keeping, next_number}
 use Rattle.store_trait.specs.Keeping.{FOUND_NUMBER}
-use Rattle.trial_run.specs.Words.{trial_commands}
-use Rattle.trial_run.specs.Trial.{StandsBehind, TrialRuns, TrialEnds, EndsInWork, RunsTrial, IsTrialStop}
+use Rattle.script_run.specs.TrialWords.{trial_commands}
+use Rattle.script_run.specs.Trial.{StandsBehind, TrialRuns, TrialEnds, EndsInWork, RunsTrial, IsTrialStop}
 use Rattle.command_line.specs.declared.asked.Request.TheVariants.{Run, Trial}
 use Rattle.command_line.specs.declared.end.End.{End}
 use Rattle.command_line.specs.declared.end.End.TheVariants.{Words, Chip, OutOfMemory, Script, Output, TooLong}

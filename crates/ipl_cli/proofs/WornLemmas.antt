@@ -11,8 +11,8 @@ use Rattle.ipl_base.specs.declared.fault.FormatFault.TheVariants as format
 use Rattle.unit_layout.proofs.StatusLemmas.{status_retired}
 use Rattle.ipl_meaning.specs.Chart.{Chart, chart_of}
 use Rattle.ipl_meaning.specs.FirstTables.{first_layout}
-use Rattle.opening_laws.specs.Chosen.{units_at}
-use Rattle.opening_laws.specs.LaidOut.{retired_at}
+use Rattle.ipl_meaning.specs.Chosen.{units_at}
+use Rattle.ipl_meaning.specs.LaidOut.{retired_at}
 use Rattle.place_taking.specs.Spending.{is_found_worn}
 use Rattle.place_taking.proofs.SpendingLemmas.{found_later, or_left}
 use Rattle.restart.specs.Events.{worn_events}

@@ -7,11 +7,11 @@ use Rattle.ipl_base.specs.Places.{IsGeometry}
 use Rattle.ipl_base.specs.declared.fault.ChipFault.TheVariants.{ReadFault}
 use Rattle.ipl_base.specs.declared.fault.ImageFault.{ImageFault}
 use Rattle.ipl_base.specs.declared.fault.ImageFault.TheVariants as image
-use Rattle.ipl_rules.specs.State.{Map}
+use Rattle.ipl_model.specs.State.{Map}
 use Rattle.ipl_meaning.specs.Chart.{chart_of}
 use Rattle.ipl_meaning.specs.Stands.{Stands}
 use Rattle.unit_io.specs.Reads.{OfContents}
-use Rattle.opening_laws.specs.Chosen.{units_at}
+use Rattle.ipl_meaning.specs.Chosen.{units_at}
 use Rattle.restart.specs.Looks.{OnlyReads}
 use Rattle.image_check.specs.Checked.{IsCheckCause, IsUnwell, records_in}
 use Rattle.command_line.specs.declared.end.End.TheVariants.{Words, Chip, OutOfMemory, Script, Output, TooLong}

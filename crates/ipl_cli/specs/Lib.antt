@@ -1,3 +1,4 @@
+pub mod Chains
 pub mod Adds
 pub mod Ending
 pub mod Views

@@ -10,8 +10,8 @@ use Rattle.ipl_base.specs.declared.fault.ImageFault.TheVariants as image
 use Rattle.ipl_meaning.specs.Tables.{Tables}
 use Rattle.ipl_meaning.specs.Rests.{now, StoryRests}
 use Rattle.ipl_model.specs.Grammar.{commands_of}
-use Rattle.ipl_rules.specs.State.{Map}
-use Rattle.opening_laws.specs.Chosen.{units_at}
+use Rattle.ipl_model.specs.State.{Map}
+use Rattle.ipl_meaning.specs.Chosen.{units_at}
 use Rattle.restart.specs.Fresh.{Formats, TellsFresh}
 use Rattle.store_trait.specs.Onward.{Onward, Further}
 use Rattle.store_trait.specs.Keeping.{SCRIPT_DRAWS, WORK_DRAWS, LeavesTidy, restarts}
@@ -28,10 +28,10 @@ use Rattle.ipl_store.specs.Openings.{OpensStore, Tries}
 use Rattle.script_store.specs.declared.store.ScriptStore.{ScriptStore}
 use Rattle.script_store.specs.Keeps.{IsRunning, script_keeping}
 use Rattle.script_store.specs.Closes.{MarksRecalled, ClosesAtEnd}
-use Rattle.clean_close.specs.Closing.{EndsWithMark}
+use Rattle.restart.specs.Closing.{EndsWithMark}
 use Rattle.unit_io.specs.Costs.{Spends}
-use Rattle.trial_run.specs.Words.{trial_commands}
-use Rattle.trial_run.specs.Trial.{RunsTrial, IsTrialStop}
+use Rattle.script_run.specs.TrialWords.{trial_commands}
+use Rattle.script_run.specs.Trial.{RunsTrial, IsTrialStop}
 use Rattle.command_line.specs.declared.end.End.{End}
 use Rattle.command_line.specs.declared.end.End.TheVariants.{Words, Chip, OutOfMemory, Script, Output, TooLong}
 use Rattle.ipl_cli.specs.Ending.{Ending, IsFormatStopped, StopRose, format_end}

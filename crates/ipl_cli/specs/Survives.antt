@@ -7,13 +7,13 @@ use Rattle.chip_trait.specs.Chart.{says}
 use Rattle.chip_trait.specs.Story.{Story, Contents, held, said}
 use Rattle.chip_trait.specs.Image.{IsNoChanceImage}
 use Rattle.chip_trait.specs.Told.{Told, Unrisen, adds_all}
-use Rattle.ipl_rules.specs.State.{Map, at_rest}
+use Rattle.ipl_model.specs.State.{Map, at_rest}
 use Rattle.ipl_model.specs.Grammar.{commands_of}
 use Rattle.ipl_model.specs.Run.{answered, map_after}
 use Rattle.ipl_format.specs.Sector.{sector_in}
 use Rattle.ipl_meaning.specs.Chart.{chart_of}
 use Rattle.ipl_meaning.specs.Stands.{Stands, StandsIn}
-use Rattle.opening_laws.specs.Chosen.{units_at}
+use Rattle.ipl_meaning.specs.Chosen.{units_at}
 use Rattle.restart.specs.Events.{format_events}
 use Rattle.store_laws.specs.Keeps.{limits_of}
 

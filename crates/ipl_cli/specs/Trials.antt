@@ -9,7 +9,7 @@ use Rattle.chip_trait.specs.Story.{Story, Contents, pieces, said}
 use Rattle.chip_trait.specs.Told.{History, Told, IsPrefix, adds_all, Unrisen}
 use Rattle.ipl_base.specs.Places.{IsGeometry, units_on}
 use Rattle.ipl_base.specs.declared.fault.ImageFault.TheVariants as image
-use Rattle.ipl_rules.specs.State.{State, at_rest}
+use Rattle.ipl_model.specs.State.{State, at_rest}
 use Rattle.ipl_model.specs.declared.command.Command.{Command}
 use Rattle.ipl_model.specs.Run.{joined, after_all}
 use Rattle.ipl_format.specs.Sector.{sector_in}
@@ -20,8 +20,8 @@ use Rattle.unit_io.specs.Leads.{IsSteady}
 use Rattle.restart.specs.Events.{format_events}
 use Rattle.store_laws.specs.Keeps.{limits_of}
 use Rattle.script_run.specs.Run.{SaysLines, IsUnsaid}
-use Rattle.trial_run.specs.Words.{trial_commands}
-use Rattle.trial_run.specs.Summary.{trial_lines}
+use Rattle.script_run.specs.TrialWords.{trial_commands}
+use Rattle.script_run.specs.TrialSummary.{trial_lines}
 use Rattle.command_line.specs.declared.end.End.TheVariants.{Words, Chip, OutOfMemory, Script, Output, TooLong}
 use Rattle.ipl_cli.specs.Ending.{Ending, StopsEarly, IsLeftAlone}
 

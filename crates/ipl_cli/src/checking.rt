@@ -11,7 +11,7 @@ ghost use Rattle.ipl_cli.specs.Top.{EndCause};
 use chip_trait::Desk;
 use command_line::End;
 use image_check::{CheckFault, check};
-use plain_text::TextLine;
+use script_text::TextLine;
 use std::alloc::Global;
 
 /// Says how many records there are.

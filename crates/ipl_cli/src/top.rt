@@ -32,11 +32,10 @@ use command_line::{End, NoteLine, Request, request, status};
 use ipl_base::{ChipFault, FormatFault, Geometry, ImageFault, MOST_UNITS};
 use ipl_store::Store;
 use restart::format;
-use script_run::{Stop, ViewStop, run_script, say_serial_view};
+use script_run::{Stop, ViewStop, run_script, run_trial, say_serial_view};
 use script_store::ScriptStore;
 use std::alloc::Global;
 use store_trait::Fault;
-use trial_run::run_trial;
 
 /// What a format says.
 const OK_LINE: &[u8] = b"ok\n";

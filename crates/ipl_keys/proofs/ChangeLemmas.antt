@@ -5,12 +5,12 @@ use Rattle.chip_trait.proofs.CountsLemmas.{counts_then}
 use Rattle.ipl_base.specs.declared.fault.Refusal.{Refusal}
 use Rattle.ipl_base.specs.declared.fault.StoreFault.{StoreFault}
 use Rattle.ipl_base.specs.declared.fault.StoreFault.TheVariants as store
-use Rattle.ipl_rules.specs.State.{Map, State, is_open}
-use Rattle.ipl_rules.specs.Refusals.{refuses_end}
-use Rattle.ipl_rules.specs.Operations.{after_write}
+use Rattle.ipl_model.specs.State.{Map, State, is_open}
+use Rattle.ipl_model.specs.Refusals.{refuses_end}
+use Rattle.ipl_model.specs.Operations.{after_write}
 use Rattle.ipl_meaning.specs.Rests.{EachStandsEitherIn}
 use Rattle.record_locks.specs.Standing.{state_of}
-use Rattle.step_laws.specs.Steps.{Settled, EndsWith, Steps}
+use Rattle.unit_io.specs.Steps.{Settled, EndsWith, Steps}
 use Rattle.page_frames.specs.Pages.{tables_in}
 use Rattle.store_laws.specs.Keeps.{limits_of, KeepsStore}
 use Rattle.store_laws.specs.Refusals.{sessions_refuse_del}
@@ -20,11 +20,11 @@ use Rattle.ipl_store.specs.Calls.{view_of, IsSound, early_fault, entry_fault}
 use Rattle.ipl_store.specs.Puts.{is_page_full, found_room, put_fault, put_next}
 use Rattle.ipl_store.proofs.CallLemmas.{let_in}
 use Rattle.std.specs.Option.{option_map_or}
-use Rattle.key_buckets.specs.Pairs.{Pairs, set_pair, remove_pair}
-use Rattle.key_buckets.specs.Bucket.{SpellsBucket, bucket_bytes}
-use Rattle.key_buckets.specs.Home.{bucket_of, HaveHome}
-use Rattle.key_buckets.proofs.LawLemmas.{buckets_spell_once}
-use Rattle.key_buckets.proofs.HomeLemmas.{sets_keep_home, removals_keep_home}
+use Rattle.ipl_keys.specs.BucketPairs.{Pairs, set_pair, remove_pair}
+use Rattle.ipl_keys.specs.Bucket.{SpellsBucket, bucket_bytes}
+use Rattle.ipl_keys.specs.BucketHome.{bucket_of, HaveHome}
+use Rattle.ipl_keys.proofs.BucketLawLemmas.{buckets_spell_once}
+use Rattle.ipl_keys.proofs.BucketHomeLemmas.{sets_keep_home, removals_keep_home}
 use Rattle.ipl_keys.specs.declared.fault.KeyFault.{KeyFault}
 use Rattle.ipl_keys.specs.declared.fault.KeyFault.TheVariants as key
 use Rattle.ipl_keys.specs.KeyState.{KeyWrite, KeyState, after_key_write}

@@ -10,15 +10,15 @@ use Rattle.ipl_base.specs.declared.fault.ChipFault.{ChipFault}
 use Rattle.ipl_base.specs.declared.fault.Refusal.{Refusal}
 use Rattle.ipl_base.specs.declared.fault.StoreFault.{StoreFault}
 use Rattle.ipl_format.specs.Sector.{sector_in}
-use Rattle.ipl_rules.specs.State.{Map, State}
+use Rattle.ipl_model.specs.State.{Map, State}
 use Rattle.ipl_meaning.specs.Rests.{EachStandsIn, StoryRests}
 use Rattle.ipl_meaning.specs.Tables.{Tables, IsCountedClean}
 use Rattle.ipl_meaning.proofs.CarriedLemmas.{unused_is_carried}
 use Rattle.ipl_meaning.proofs.StoryLemmas.{moments_of_one, rests_in_units}
-use Rattle.step_laws.specs.Steps.{Settled, NoOtherEnd, EndsWith, OutcomeWhere, TidyWork}
-use Rattle.step_laws.proofs.StepLemmas.{outcome_then}
-use Rattle.step_laws.proofs.TidyLemmas.{tidy_then, tidy_weaker}
-use Rattle.clean_close.specs.Closing.{CountsUnused, RestsMarked, Closes, ClosesInSteps}
+use Rattle.unit_io.specs.Steps.{Settled, NoOtherEnd, EndsWith, OutcomeWhere, TidyWork}
+use Rattle.unit_io.proofs.StepLemmas.{outcome_then}
+use Rattle.unit_io.proofs.StepTidyLemmas.{tidy_then, tidy_weaker}
+use Rattle.restart.specs.Closing.{CountsUnused, RestsMarked, Closes, ClosesInSteps}
 use Rattle.page_frames.specs.Pages.{tables_in}
 use Rattle.store_laws.specs.Keeps.{limits_of, KeepsStore, IsUp}
 use Rattle.ipl_store.specs.declared.store.Store.{Store}

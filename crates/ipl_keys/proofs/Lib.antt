@@ -1,3 +1,10 @@
+pub mod BucketPairLemmas
+pub mod BucketReadLemmas
+pub mod BucketRestLemmas
+pub mod BucketSplitLemmas
+pub mod BucketLawLemmas
+pub mod BucketWriteLemmas
+pub mod BucketHomeLemmas
 pub mod WriteLemmas
 pub mod StateLemmas
 pub mod ServeLemmas

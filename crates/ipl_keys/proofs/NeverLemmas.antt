@@ -7,9 +7,9 @@ use Rattle.ipl_base.specs.declared.fault.Refusal.{Refusal}
 use Rattle.ipl_base.specs.declared.fault.Refusal.TheVariants.{BadSession, BadName, TooLong, AlreadyOpen, NotOpen, Conflict, WritesFull, SharesFull, PendingFull, BadUnit, HoldsFull, NotHeld, PageFull, Twice, SessionsOpen}
 use Rattle.ipl_base.specs.declared.fault.StoreFault.{StoreFault}
 use Rattle.ipl_base.specs.declared.fault.StoreFault.TheVariants.{Down, Spent, Refused, Chip}
-use Rattle.ipl_rules.specs.State.{State, Limits, is_open, holder_for_write}
-use Rattle.ipl_rules.specs.Operations.{after_write}
-use Rattle.ipl_rules.specs.Refusals.{refuses_end, conflict, writes_full}
+use Rattle.ipl_model.specs.State.{State, Limits, is_open, holder_for_write}
+use Rattle.ipl_model.specs.Operations.{after_write}
+use Rattle.ipl_model.specs.Refusals.{refuses_end, conflict, writes_full}
 use Rattle.record_locks.specs.Held.{SessionSlots}
 use Rattle.record_locks.specs.Locks.{pending_full}
 use Rattle.record_locks.specs.Standing.{state_of}
@@ -19,9 +19,9 @@ use Rattle.store_laws.specs.Refusals.{sessions_refuse_put, sessions_refuse_del}
 use Rattle.ipl_store.specs.declared.store.Store.{Store}
 use Rattle.ipl_store.specs.Calls.{counter_of, early_fault, entry_fault, Calls}
 use Rattle.ipl_store.specs.Puts.{is_page_full, found_room, put_fault, put_next}
-use Rattle.key_buckets.specs.Pairs.{Pairs}
-use Rattle.key_buckets.specs.Bucket.{IsBucket, bucket_bytes}
-use Rattle.key_buckets.specs.Home.{bucket_of}
+use Rattle.ipl_keys.specs.BucketPairs.{Pairs}
+use Rattle.ipl_keys.specs.Bucket.{IsBucket, bucket_bytes}
+use Rattle.ipl_keys.specs.BucketHome.{bucket_of}
 use Rattle.ipl_keys.specs.declared.fault.KeyFault.{KeyFault}
 use Rattle.ipl_keys.specs.declared.fault.KeyFault.TheVariants as key
 use Rattle.ipl_keys.specs.Sessions.{written}

@@ -8,12 +8,12 @@ use Rattle.chip_trait.proofs.MomentLemmas.{at_start}
 use Rattle.ipl_base.specs.declared.fault.ImageFault.{ImageFault}
 use Rattle.ipl_base.specs.declared.fault.OpenFault.{OpenFault}
 use Rattle.ipl_base.specs.declared.fault.OpenFault.TheVariants.{Image, OutOfMemory}
-use Rattle.ipl_rules.specs.State.{Map, at_rest}
+use Rattle.ipl_model.specs.State.{Map, at_rest}
 use Rattle.ipl_meaning.specs.Rests.{now, EachStands, EachStandsIn, StoryRests}
 use Rattle.ipl_meaning.specs.Tables.{Tables}
 use Rattle.ipl_meaning.proofs.StoryLemmas.{held_stands}
-use Rattle.opening_laws.specs.Chosen.{units_at}
-use Rattle.opening_laws.proofs.MomentLemmas.{moments_as_said}
+use Rattle.ipl_meaning.specs.Chosen.{units_at}
+use Rattle.ipl_meaning.proofs.MomentLemmas.{moments_as_said}
 use Rattle.unit_io.specs.Leads.{IsSteady}
 use Rattle.ipl_store.specs.Openings.{OpensAs, Tries}
 use Rattle.ipl_keys.specs.declared.keys.Keys.{Keys}

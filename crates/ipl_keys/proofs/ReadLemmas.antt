@@ -8,12 +8,12 @@ use Rattle.ipl_base.specs.declared.fault.Refusal.{Refusal}
 use Rattle.ipl_base.specs.declared.fault.Refusal.TheVariants.{BadSession, BadName, NotOpen}
 use Rattle.ipl_base.specs.declared.fault.StoreFault.{StoreFault}
 use Rattle.ipl_base.specs.declared.fault.StoreFault.TheVariants.{Refused}
-use Rattle.ipl_rules.specs.State.{State, Limits, is_open}
-use Rattle.ipl_rules.specs.Refusals.{refuses_get, refuses_end}
+use Rattle.ipl_model.specs.State.{State, Limits, is_open}
+use Rattle.ipl_model.specs.Refusals.{refuses_get, refuses_end}
 use Rattle.ipl_meaning.specs.Rests.{EachStandsEitherIn}
 use Rattle.record_locks.specs.Standing.{state_of}
 use Rattle.record_locks.proofs.SameLemmas.{alike}
-use Rattle.step_laws.specs.Steps.{Settled, EndsWith, Steps}
+use Rattle.unit_io.specs.Steps.{Settled, EndsWith, Steps}
 use Rattle.page_frames.specs.Pages.{tables_in}
 use Rattle.store_laws.proofs.StepLemmas.{steps_weaker}
 use Rattle.store_laws.specs.Keeps.{limits_of, KeepsStore}
@@ -22,9 +22,9 @@ use Rattle.ipl_store.specs.Calls.{view_of, IsSound, early_fault, entry_fault, Se
 use Rattle.ipl_store.specs.Shown.{IsSeen}
 use Rattle.ipl_store.proofs.CallLemmas.{calls_as, calls_fail_as, let_in}
 use Rattle.ipl_store.proofs.ShownLemmas.{name_shown}
-use Rattle.key_buckets.specs.Pairs.{Pairs, value_at}
-use Rattle.key_buckets.specs.Bucket.{SpellsBucket}
-use Rattle.key_buckets.specs.Home.{bucket_of}
+use Rattle.ipl_keys.specs.BucketPairs.{Pairs, value_at}
+use Rattle.ipl_keys.specs.Bucket.{SpellsBucket}
+use Rattle.ipl_keys.specs.BucketHome.{bucket_of}
 use Rattle.ipl_keys.specs.declared.fault.KeyFault.{KeyFault}
 use Rattle.ipl_keys.specs.declared.fault.KeyFault.TheVariants as key
 use Rattle.ipl_keys.specs.KeyState.{KeyState, see_key}

@@ -4,16 +4,16 @@ use Rattle.chip_trait.specs.Moment.{AtEachMoment}
 use Rattle.chip_trait.specs.Story.{Contents, held}
 use Rattle.chip_trait.specs.Told.{History, Told, adds_all}
 use Rattle.ipl_base.specs.declared.fault.StoreFault.{StoreFault}
-use Rattle.ipl_rules.specs.State.{Map, State, Limits}
+use Rattle.ipl_model.specs.State.{Map, State, Limits}
 use Rattle.ipl_meaning.proofs.CarriedLemmas.{tidy_is_carried}
 use Rattle.ipl_meaning.specs.Chart.{chart_of}
 use Rattle.ipl_meaning.specs.Layout.{Laid}
 use Rattle.ipl_meaning.specs.Rests.{now, EachStandsEitherIn, StoryRests}
 use Rattle.ipl_meaning.specs.Tables.{Tables, IsCountedClean}
 use Rattle.ipl_meaning.proofs.StoryLemmas.{moments_keep_units, rests_in_units}
-use Rattle.step_laws.specs.Steps.{Settled, EndsWith, TidyWork, Steps}
-use Rattle.step_laws.proofs.StepLemmas.{outcome_none, outcome_weaker}
-use Rattle.step_laws.proofs.TidyLemmas.{tidy_none, tidy_weaker}
+use Rattle.unit_io.specs.Steps.{Settled, EndsWith, TidyWork, Steps}
+use Rattle.unit_io.proofs.StepLemmas.{outcome_none, outcome_weaker}
+use Rattle.unit_io.proofs.StepTidyLemmas.{tidy_none, tidy_weaker}
 use Rattle.page_frames.specs.Pages.{tables_in}
 use Rattle.store_laws.specs.Advances.{state_then, TurnsMapOf, LeadsTo}
 use Rattle.store_laws.specs.Keeps.{limits_of, ShowsState, KeepsStore, keeps_each}

@@ -2,7 +2,7 @@
 use Rattle.std.proofs.Common.{◌≡◌, ℕ, false, Option, Some, None, Result, Ok, Err, refl, sym, subst}
 use Rattle.chip_trait.specs.Told.{History, Told}
 use Rattle.ipl_base.specs.declared.fault.StoreFault.{StoreFault}
-use Rattle.ipl_rules.specs.State.{State}
+use Rattle.ipl_model.specs.State.{State}
 use Rattle.store_laws.specs.Keeps.{limits_of, KeepsStore}
 use Rattle.ipl_store.specs.declared.store.Store.{Store}
 use Rattle.ipl_store.specs.Calls.{view_of, Calls}

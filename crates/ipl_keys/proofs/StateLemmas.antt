@@ -6,16 +6,16 @@ use Rattle.std.specs.Cmp.{nat_cmp_total}
 use Rattle.std.specs.FinMap.{FinMap, get, insert, remove, get-empty, get-insert, get-remove, same_map}
 use Rattle.std.proofs.lemmas.Bool.{both_ways, cases_eq, cond-true, cond-false, eq-eqb, ne_eqb}
 use Rattle.std.proofs.lemmas.Bool.Decides.{nat_tests}
-use Rattle.ipl_rules.specs.State.{Map, Session, State, Write, at_rest, is_open, writes_of, last_write, see}
-use Rattle.ipl_rules.specs.Operations.{new_session, after_begin, after_write, after_commit, after_abort}
-use Rattle.ipl_rules.proofs.SeenLemmas.{get-with_writes}
+use Rattle.ipl_model.specs.State.{Map, Session, State, Write, at_rest, is_open, writes_of, last_write, see}
+use Rattle.ipl_model.specs.Operations.{new_session, after_begin, after_write, after_commit, after_abort}
+use Rattle.ipl_model.proofs.SeenLemmas.{get-with_writes}
 use Rattle.store_laws.specs.Pending.{wrote}
 use Rattle.store_laws.specs.PendingLaws.{StateHasOneWriter}
 use Rattle.store_laws.proofs.StateLemmas.{writes_in, wrote_here, wrote_other, last_here, last_before}
-use Rattle.key_buckets.specs.Pairs.{Pairs, value_at}
-use Rattle.key_buckets.specs.Home.{bucket_of}
-use Rattle.key_buckets.proofs.ReadLemmas.{bytes_total, same_key}
-use Rattle.key_buckets.proofs.LawLemmas.{buckets_spell_once}
+use Rattle.ipl_keys.specs.BucketPairs.{Pairs, value_at}
+use Rattle.ipl_keys.specs.BucketHome.{bucket_of}
+use Rattle.ipl_keys.proofs.BucketReadLemmas.{bytes_total, same_key}
+use Rattle.ipl_keys.proofs.BucketLawLemmas.{buckets_spell_once}
 use Rattle.ipl_keys.specs.KeyState.{KeyWrite, KeyState, keys_at_rest, key_writes_of, see_key, after_key_begin, after_key_write, after_key_commit, after_key_abort}
 use Rattle.ipl_keys.specs.Records.{bytes_of, IsBucketOf, HoldsPairs, HasKeys}
 use Rattle.ipl_keys.specs.Sessions.{writes_on, pairs_after, pairs_with, pairs_seen, written, FollowsWrites, HasKeyState}

@@ -6,11 +6,11 @@ use Rattle.std.specs.declared.cmp.Ordering.{Ordering}
 use Rattle.std.specs.declared.cmp.Ordering.TheVariants.{Less, Equal, Greater}
 use Rattle.std.specs.FinMap.{get, insert, remove, get-insert, get-remove}
 use Rattle.std.proofs.lemmas.Bool.{both_ways, cond-true, cond-false, eq-eqb, false≢true}
-use Rattle.key_buckets.specs.Pairs.{Pairs, by_bytes, value_at, set_pair, remove_pair}
-use Rattle.key_buckets.specs.Bucket.{bucket_bytes}
-use Rattle.key_buckets.specs.Home.{bucket_of}
-use Rattle.key_buckets.proofs.ReadLemmas.{bytes_total, same_key}
-use Rattle.key_buckets.proofs.LawLemmas.{set_is_found, removed_is_gone}
+use Rattle.ipl_keys.specs.BucketPairs.{Pairs, by_bytes, value_at, set_pair, remove_pair}
+use Rattle.ipl_keys.specs.Bucket.{bucket_bytes}
+use Rattle.ipl_keys.specs.BucketHome.{bucket_of}
+use Rattle.ipl_keys.proofs.BucketReadLemmas.{bytes_total, same_key}
+use Rattle.ipl_keys.proofs.BucketLawLemmas.{set_is_found, removed_is_gone}
 use Rattle.ipl_keys.specs.KeyState.{KeyMap, KeyWrite, last_key_write, with_key_writes}
 use Rattle.ipl_keys.specs.Records.{bytes_of}
 use Rattle.ipl_keys.specs.Sessions.{is_on, writes_on, pairs_after, pairs_with, pairs_seen, written}

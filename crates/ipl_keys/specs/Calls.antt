@@ -8,10 +8,10 @@ use Rattle.ipl_base.specs.declared.fault.StoreFault.{StoreFault}
 use Rattle.ipl_base.specs.declared.fault.Refusal.TheVariants as refused
 use Rattle.ipl_base.specs.declared.fault.StoreFault.TheVariants.{Down, Spent, Refused, Chip}
 use Rattle.ipl_base.specs.declared.limits.TheConstants.{VALUE_LEN}
-use Rattle.ipl_rules.specs.Operations.{after_write}
-use Rattle.ipl_rules.specs.Refusals.{refuses_end}
+use Rattle.ipl_model.specs.Operations.{after_write}
+use Rattle.ipl_model.specs.Refusals.{refuses_end}
 use Rattle.record_locks.specs.Standing.{state_of}
-use Rattle.step_laws.specs.Steps.{Steps}
+use Rattle.unit_io.specs.Steps.{Steps}
 use Rattle.page_frames.specs.Pages.{tables_in}
 use Rattle.store_laws.specs.Keeps.{limits_of}
 use Rattle.store_laws.specs.Refusals.{sessions_refuse_del}
@@ -19,10 +19,10 @@ use Rattle.ipl_store.specs.declared.store.Store.{Store}
 use Rattle.ipl_store.specs.Calls.{IsSound, early_fault, entry_fault, Serves, Calls}
 use Rattle.ipl_store.specs.Puts.{found_room, put_fault, put_next, TellsRoom}
 use Rattle.ipl_store.specs.Shown.{IsSeen}
-use Rattle.key_buckets.specs.declared.limits.TheConstants.{KEY_LEN, KEY_VALUE_LEN}
-use Rattle.key_buckets.specs.Pairs.{Pairs, value_at, set_pair, remove_pair}
-use Rattle.key_buckets.specs.Bucket.{IsBucket, IsBucketText, SpellsBucket, bucket_bytes}
-use Rattle.key_buckets.specs.Home.{bucket_of}
+use Rattle.ipl_keys.specs.declared.bucket_limits.TheConstants.{KEY_LEN, KEY_VALUE_LEN}
+use Rattle.ipl_keys.specs.BucketPairs.{Pairs, value_at, set_pair, remove_pair}
+use Rattle.ipl_keys.specs.Bucket.{IsBucket, IsBucketText, SpellsBucket, bucket_bytes}
+use Rattle.ipl_keys.specs.BucketHome.{bucket_of}
 use Rattle.ipl_keys.specs.declared.keys.Keys.{Keys}
 use Rattle.ipl_keys.specs.declared.fault.KeyFault.{KeyFault}
 use Rattle.ipl_keys.specs.declared.fault.KeyFault.TheVariants as key

@@ -2,8 +2,8 @@
 use Rattle.std.specs.Prelude.{Result}
 use Rattle.chip_trait.specs.Told.{History, Told}
 use Rattle.ipl_meaning.specs.Tables.{IsCountedClean}
-use Rattle.step_laws.specs.Steps.{Settled, OutcomeWhere, TidyWork}
-use Rattle.clean_close.specs.Closing.{CountsUnused}
+use Rattle.unit_io.specs.Steps.{Settled, OutcomeWhere, TidyWork}
+use Rattle.restart.specs.Closing.{CountsUnused}
 use Rattle.page_frames.specs.Pages.{tables_in}
 use Rattle.ipl_store.specs.declared.store.Store.{Store}
 use Rattle.ipl_keys.specs.declared.fault.KeyFault.{KeyFault}

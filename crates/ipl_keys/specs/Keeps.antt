@@ -2,7 +2,7 @@
 use Rattle.std.specs.Prelude.{ℕ, ◌⊎◌}
 use Rattle.chip_trait.specs.Chart.{EachMeans}
 use Rattle.chip_trait.specs.Told.{History, Told}
-use Rattle.ipl_rules.specs.State.{Map, State}
+use Rattle.ipl_model.specs.State.{Map, State}
 use Rattle.ipl_format.specs.Sector.{sector_in}
 use Rattle.ipl_meaning.specs.Chart.{Chart}
 use Rattle.ipl_meaning.specs.Stands.{StandsIn}

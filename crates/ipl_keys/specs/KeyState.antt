@@ -3,7 +3,7 @@ use Rattle.std.specs.Prelude.{ℕ, List, [], ◌∷◌, Option, Some, None, if�
 use Rattle.std.specs.Ordering.{nat_cmp, eq_by_cmp}
 use Rattle.std.specs.Option.{option_map_or}
 use Rattle.std.specs.FinMap.{FinMap, get, insert, remove, empty}
-use Rattle.key_buckets.specs.Pairs.{by_bytes}
+use Rattle.ipl_keys.specs.BucketPairs.{by_bytes}
 
 -- a value for each key that has one
 abbrev pub KeyMap : Type 0

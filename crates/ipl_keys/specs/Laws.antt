@@ -1,10 +1,10 @@
 -- Laws of keys: what sessions see, and that each operation on names is one on keys.
 use Rattle.std.specs.Prelude.{ℕ, ◌≡◌, true, List}
-use Rattle.ipl_rules.specs.State.{Map, State, at_rest, is_open, see}
-use Rattle.ipl_rules.specs.Operations.{after_begin, after_write, after_commit, after_abort}
+use Rattle.ipl_model.specs.State.{Map, State, at_rest, is_open, see}
+use Rattle.ipl_model.specs.Operations.{after_begin, after_write, after_commit, after_abort}
 use Rattle.store_laws.specs.PendingLaws.{StateHasOneWriter}
-use Rattle.key_buckets.specs.Pairs.{Pairs, value_at}
-use Rattle.key_buckets.specs.Home.{bucket_of}
+use Rattle.ipl_keys.specs.BucketPairs.{Pairs, value_at}
+use Rattle.ipl_keys.specs.BucketHome.{bucket_of}
 use Rattle.ipl_keys.specs.KeyState.{KeyMap, KeyWrite, KeyState, keys_at_rest, key_writes_of, see_key, after_key_begin, after_key_write, after_key_commit, after_key_abort}
 use Rattle.ipl_keys.specs.Records.{IsBucketOf, HoldsPairs, HasKeys}
 use Rattle.ipl_keys.specs.Sessions.{pairs_after, pairs_seen, written, HasKeyState}

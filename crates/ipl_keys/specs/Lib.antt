@@ -1,3 +1,9 @@
+pub mod BucketPairs
+pub mod Bucket
+pub mod BucketReading
+pub mod BucketSplits
+pub mod BucketHome
+pub mod BucketLaws
 pub mod KeyState
 pub mod Records
 pub mod Sessions

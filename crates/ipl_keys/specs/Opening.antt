@@ -5,9 +5,9 @@ use Rattle.chip_trait.specs.Moment.{AtEachMoment}
 use Rattle.chip_trait.specs.Story.{Story}
 use Rattle.chip_trait.specs.Told.{History, Told, adds_all}
 use Rattle.ipl_base.specs.declared.fault.OpenFault.{OpenFault}
-use Rattle.ipl_rules.specs.State.{Map}
+use Rattle.ipl_model.specs.State.{Map}
 use Rattle.ipl_meaning.specs.Rests.{now, StoryRests}
-use Rattle.opening_laws.specs.Chosen.{units_at}
+use Rattle.ipl_meaning.specs.Chosen.{units_at}
 use Rattle.unit_io.specs.Leads.{IsSteady}
 use Rattle.ipl_store.specs.declared.store.Store.{Store}
 use Rattle.ipl_keys.specs.declared.keys.Keys.{Keys}

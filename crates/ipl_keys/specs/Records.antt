@@ -1,10 +1,10 @@
 -- What records say of keys: each is a bucket, and a key has the value that its bucket has.
 use Rattle.std.specs.Prelude.{ℕ, ◌≡◌, List, [], Option, unwrap_or}
 use Rattle.std.specs.FinMap.{get}
-use Rattle.ipl_rules.specs.State.{Map}
-use Rattle.key_buckets.specs.Pairs.{Pairs, value_at}
-use Rattle.key_buckets.specs.Bucket.{IsBucket, bucket_bytes}
-use Rattle.key_buckets.specs.Home.{bucket_of, HaveHome}
+use Rattle.ipl_model.specs.State.{Map}
+use Rattle.ipl_keys.specs.BucketPairs.{Pairs, value_at}
+use Rattle.ipl_keys.specs.Bucket.{IsBucket, bucket_bytes}
+use Rattle.ipl_keys.specs.BucketHome.{bucket_of, HaveHome}
 use Rattle.ipl_keys.specs.KeyState.{KeyMap}
 
 -- the bytes of a record, none where there is no record

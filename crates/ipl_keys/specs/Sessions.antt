@@ -2,10 +2,10 @@
 use Rattle.std.specs.Prelude.{ℕ, ◌≡◌, ◌==◌, Bool, List, [], ◌∷◌, filter, Option, Some, None, is_some}
 use Rattle.std.specs.Option.{option_map_or}
 use Rattle.std.specs.FinMap.{get}
-use Rattle.ipl_rules.specs.State.{State, is_open, writes_of, last_write}
-use Rattle.key_buckets.specs.Pairs.{Pairs, set_pair, remove_pair}
-use Rattle.key_buckets.specs.Bucket.{bucket_bytes}
-use Rattle.key_buckets.specs.Home.{bucket_of}
+use Rattle.ipl_model.specs.State.{State, is_open, writes_of, last_write}
+use Rattle.ipl_keys.specs.BucketPairs.{Pairs, set_pair, remove_pair}
+use Rattle.ipl_keys.specs.Bucket.{bucket_bytes}
+use Rattle.ipl_keys.specs.BucketHome.{bucket_of}
 use Rattle.ipl_keys.specs.KeyState.{KeyWrite, KeyState, key_writes_of}
 use Rattle.ipl_keys.specs.Records.{IsBucketOf, HasKeys}
 

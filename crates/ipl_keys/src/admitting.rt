@@ -4,10 +4,10 @@ ghost use Rattle.std.specs.Result.{result_err};
 ghost use Rattle.ipl_store.specs.Calls.{IsSound, entry_fault};
 ghost use Rattle.ipl_keys.specs.Calls.{bad_key, bad_pair, first_fault};
 
+use crate::bucket_limits::{KEY_LEN, KEY_VALUE_LEN};
 use crate::{KeyFault, Keys};
 use chip_trait::Chip;
 use ipl_base::{SESSIONS, StoreFault};
-use key_buckets::{KEY_LEN, KEY_VALUE_LEN};
 
 /// Why a key can't be one, if it can't.
 pub(crate) fn bad_key(key: &[u8]) -> Option<KeyFault>

@@ -3,7 +3,7 @@ ghost use Rattle.std.specs.Prelude.{◌≡◌, ◌<◌, ◌≤◌, ◌*◌, Some
 ghost use Rattle.chip_trait.specs.Told.{Counts};
 ghost use Rattle.ipl_base.specs.declared.limits.TheConstants.{VALUE_LEN};
 ghost use Rattle.ipl_store.specs.Calls.{IsSound};
-ghost use Rattle.key_buckets.specs.Home.{bucket_of};
+ghost use Rattle.ipl_keys.specs.BucketHome.{bucket_of};
 ghost use Rattle.ipl_keys.specs.KeyState.{after_key_write};
 ghost use Rattle.ipl_keys.specs.Calls.{
   CallsKey,
@@ -22,10 +22,10 @@ ghost use Rattle.ipl_keys.specs.Calls.{
 };
 
 use crate::admitting::{bad_key, bad_pair};
+use crate::bucket_changes::{with_pair, without};
 use crate::{KeyFault, Keys};
 use chip_trait::Chip;
 use ipl_base::StoreFault;
-use key_buckets::{with_pair, without};
 
 /// What the store answered.
 pub(crate) fn handed(answer: Result<(), StoreFault>) -> Result<(), KeyFault>

@@ -4,9 +4,9 @@ ghost use Rattle.std.specs.Borrow.{sem};
 ghost use Rattle.std.specs.Io.BufRead.{Rests};
 ghost use Rattle.ipl_base.specs.declared.limits.TheConstants.{UNIT_NAMES, VALUE_LEN};
 ghost use Rattle.ipl_store.specs.Calls.{Calls, IsSound, entry_fault, get_fault};
-ghost use Rattle.key_buckets.specs.Pairs.{Pairs, value_at};
-ghost use Rattle.key_buckets.specs.Bucket.{IsBucketText, SpellsBucket};
-ghost use Rattle.key_buckets.specs.Home.{bucket_of};
+ghost use Rattle.ipl_keys.specs.BucketPairs.{Pairs, value_at};
+ghost use Rattle.ipl_keys.specs.Bucket.{IsBucketText, SpellsBucket};
+ghost use Rattle.ipl_keys.specs.BucketHome.{bucket_of};
 ghost use Rattle.ipl_keys.specs.contracts.keys.Keys.{the_row};
 ghost use Rattle.ipl_keys.specs.Records.{bytes_of};
 ghost use Rattle.ipl_keys.specs.Calls.{
@@ -18,10 +18,12 @@ ghost use Rattle.ipl_keys.specs.Calls.{
 };
 
 use crate::admitting::bad_key;
+use crate::bucket_home::bucket_of;
+use crate::bucket_place::find;
+use crate::bucket_reading::is_bucket;
 use crate::{KeyFault, Keys};
 use chip_trait::Chip;
 use ipl_base::StoreFault;
-use key_buckets::{bucket_of, find, is_bucket};
 
 /// Copies a record of at most 464 bytes, or none, to the front of `into`, and answers how many bytes
 /// it has.

@@ -1,7 +1,7 @@
 //! Sessions begin, and end.
 ghost use Rattle.std.specs.Prelude.{◌^◌};
-ghost use Rattle.ipl_rules.specs.Operations.{after_begin, after_commit, after_abort};
-ghost use Rattle.ipl_rules.specs.Refusals.{refuses_begin, refuses_end};
+ghost use Rattle.ipl_model.specs.Operations.{after_begin, after_commit, after_abort};
+ghost use Rattle.ipl_model.specs.Refusals.{refuses_begin, refuses_end};
 ghost use Rattle.record_locks.specs.Standing.{state_of};
 ghost use Rattle.store_laws.specs.Keeps.{limits_of};
 ghost use Rattle.ipl_store.specs.Calls.{Calls, IsSound, down_fault, early_fault, entry_fault};

@@ -12,7 +12,7 @@ use Rattle.chip_trait.proofs.ImageLemmas.{held_is_named, image_if_closed, header
 use Rattle.chip_trait.proofs.ProgramLemmas.{part_in_quiet, headers_there, without, without_is_image, without_is_whole, there, as_with, as_without}
 use Rattle.chip_trait.proofs.ClosedLemmas.{held_program}
 use Rattle.chip_trait.proofs.LossLemmas.{put}
-use Rattle.ipl_rules.specs.State.{Map}
+use Rattle.ipl_model.specs.State.{Map}
 use Rattle.ipl_format.specs.Sector.{Sector, sector_in}
 use Rattle.ipl_format.specs.Record.{Record}
 use Rattle.ipl_format.proofs.SectorLemmas.{blank_says_nothing}

@@ -10,7 +10,7 @@ use Rattle.chip_trait.specs.Told.{History}
 use Rattle.chip_trait.proofs.ImageLemmas.{held_is_named, image_before_barrier}
 use Rattle.chip_trait.proofs.ProgramLemmas.{part_in_quiet}
 use Rattle.chip_trait.proofs.LossLemmas.{put, put_headers, lossy, covers_worn, put_is_image, left_there}
-use Rattle.ipl_rules.specs.State.{Map}
+use Rattle.ipl_model.specs.State.{Map}
 use Rattle.ipl_format.specs.Sector.{Sector, sector_in}
 use Rattle.ipl_format.proofs.SectorLemmas.{blank_says_nothing}
 use Rattle.ipl_meaning.specs.Chart.{chart_of}

@@ -6,7 +6,7 @@ use Rattle.std.proofs.lemmas.List.Elements.{All-cons}
 use Rattle.std.proofs.lemmas.List.Sums.{sum_by-append, sum_by-cons}
 use Rattle.ipl_base.specs.declared.limits.TheConstants.{PAYLOAD_LEN, RECORD_HEAD, SHORT_LEN, LONG_WEIGHT, UNIT_NAMES, VERSION}
 use Rattle.ipl_format.specs.Record.{Record, IsRecord, value_of}
-use Rattle.ipl_rules.proofs.SumLemmas.{sum_of_two}
+use Rattle.ipl_model.proofs.SumLemmas.{sum_of_two}
 use Rattle.ipl_meaning.specs.Values.{counts_for}
 use Rattle.ipl_meaning.specs.Layout.{records_of}
 use Rattle.ipl_meaning.specs.Last.{has_room, size_of, size_of_all, weight_of, pack_after, pack, carried, name_in_unit}

@@ -2,7 +2,7 @@
 use Rattle.std.proofs.Common.{◌≡◌, ◌<◌, ℕ, ap, arith}
 use Rattle.ipl_base.specs.declared.limits.TheConstants.{SLOTS}
 use Rattle.ipl_base.specs.Sizes.{size_in_page, size_of_values}
-use Rattle.ipl_rules.proofs.SumLemmas.{sums_same}
+use Rattle.ipl_model.proofs.SumLemmas.{sums_same}
 use Rattle.ipl_meaning.specs.Values.{Values}
 
 -- values that are the same in each slot take as many bytes

@@ -1,7 +1,7 @@
 -- What keeps the pages keeps the map, and what a chart stands for after each step.
 use Rattle.std.proofs.Common.{◌≡◌, ◌≤◌, ◌*◌, ℕ, refl, ◌∙◌, subst}
 use Rattle.chip_trait.specs.Chart.{with_sector}
-use Rattle.ipl_rules.specs.State.{Map}
+use Rattle.ipl_model.specs.State.{Map}
 use Rattle.ipl_meaning.specs.Chart.{Chart}
 use Rattle.ipl_meaning.specs.Layout.{Layout, Laid}
 use Rattle.ipl_meaning.specs.Stands.{Says, StandsIn, StandsBeside}

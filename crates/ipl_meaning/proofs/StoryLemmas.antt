@@ -19,7 +19,7 @@ use Rattle.ipl_format.proofs.SectorLemmas.{blank_says_nothing}
 use Rattle.ipl_meaning.specs.Chart.{Chart, chart_of}
 use Rattle.ipl_meaning.specs.Layout.{Entry, Layout, Laid}
 use Rattle.ipl_meaning.specs.Stands.{StandsIn}
-use Rattle.ipl_rules.specs.State.{Map}
+use Rattle.ipl_model.specs.State.{Map}
 use Rattle.ipl_meaning.specs.Rests.{now, EachStands, EachStandsIn, EachStandsEither, EachStandsEitherIn, WornAreIdle, StoryRests}
 use Rattle.ipl_meaning.specs.Steps.{IsPart, KeepsPages, IsIdle, MayLog, with_log, entry_at}
 use Rattle.ipl_meaning.specs.StoryLaws.{QuietImagesAreParts, HeldStands, RestsOnce, ChipsRestOnce, ClosedRests, BarriersRest, BarriersKeepEither, ReadsKeep, SaysKeep, WornsKeep, ErasesKeep, LogSectorsKeep, AsidesKeep, ProgramsLead, OneIsEither, EitherIsKept, MomentsKeepUnits}

@@ -3,7 +3,7 @@ use Rattle.std.proofs.Common.{◌≡◌, ℕ, ◌≤◌, ◌<◌, ◌+◌, ◌||
 use Rattle.std.specs.List.{AllByRecursion, IsDistinct, sum_by, range_with_len, list_any}
 use Rattle.std.proofs.lemmas.Bool.{eq-eqb, ne_eqb}
 use Rattle.std.proofs.lemmas.List.Sums.{sum_by-cons}
-use Rattle.ipl_rules.proofs.SumLemmas.{sums_at, sums_less}
+use Rattle.ipl_model.proofs.SumLemmas.{sums_at, sums_less}
 
 -- the value at the names of a list, 0 elsewhere
 abbrev at_names : (ℕ → ℕ) → List ℕ → ℕ → ℕ

@@ -6,8 +6,8 @@ use Rattle.std.proofs.lemmas.Bool.Decides.{nat_tests}
 use Rattle.ipl_base.specs.declared.limits.TheConstants.{CARRIED_SECTORS, LONG_WEIGHT, PENDING_WEIGHT, SHORT_LEN, SHORT_SIZE, UNIT_NAMES, VERSION}
 use Rattle.ipl_base.specs.Sizes.{size_in_page}
 use Rattle.ipl_format.specs.Record.{Record, Change, IsRecord, value_of}
-use Rattle.ipl_rules.specs.Marks.{Marks, weight_of_mark, weights}
-use Rattle.ipl_rules.proofs.WeightLemmas.{weight_less}
+use Rattle.ipl_model.specs.Marks.{Marks, weight_of_mark, weights}
+use Rattle.ipl_model.proofs.WeightLemmas.{weight_less}
 use Rattle.ipl_meaning.specs.Layout.{Entry, records_of}
 use Rattle.ipl_meaning.specs.Last.{weight_of, name_in_unit, carried_count}
 use Rattle.ipl_meaning.proofs.PackLemmas.{few_are_carried}

@@ -3,7 +3,7 @@ use Rattle.std.specs.Prelude.{ℕ, ◌≡◌, ◌<◌, ◌≤◌, Some, Bool, tr
 use Rattle.std.specs.FinMap.{empty}
 use Rattle.ipl_base.specs.declared.limits.TheConstants.{LEAST_PLACES, MOST_PLACES}
 use Rattle.chip_trait.specs.Chart.{with_sector}
-use Rattle.ipl_rules.specs.State.{Map}
+use Rattle.ipl_model.specs.State.{Map}
 use Rattle.ipl_format.specs.Sector.{Sector}
 use Rattle.ipl_format.specs.Record.{Record}
 use Rattle.ipl_meaning.specs.Chart.{Chart}

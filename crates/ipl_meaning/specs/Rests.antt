@@ -4,7 +4,7 @@ use Rattle.chip_trait.specs.Story.{Story, blank, held}
 use Rattle.chip_trait.specs.Image.{IsQuiet, is_open, is_worn}
 use Rattle.chip_trait.specs.Chart.{EachMeans}
 use Rattle.chip_trait.specs.Told.{History, Told}
-use Rattle.ipl_rules.specs.State.{Map}
+use Rattle.ipl_model.specs.State.{Map}
 use Rattle.ipl_format.specs.Sector.{sector_in}
 use Rattle.ipl_meaning.specs.Chart.{Chart, chart_of}
 use Rattle.ipl_meaning.specs.Layout.{Layout, Laid}

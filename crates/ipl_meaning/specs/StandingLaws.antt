@@ -1,7 +1,7 @@
 -- What a chart stands for after each step.
 use Rattle.std.specs.Prelude.{ℕ, Bool, List}
 use Rattle.chip_trait.specs.Chart.{with_sector}
-use Rattle.ipl_rules.specs.State.{Map}
+use Rattle.ipl_model.specs.State.{Map}
 use Rattle.ipl_format.specs.Sector.{Sector}
 use Rattle.ipl_format.specs.Record.{Record}
 use Rattle.ipl_meaning.specs.Chart.{Chart}

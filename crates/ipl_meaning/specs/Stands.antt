@@ -2,7 +2,7 @@
 use Rattle.std.specs.Prelude.{ℕ, ◌≡◌, ◌<◌, ◌≤◌, ◌+◌, ◌*◌, None, Bool}
 use Rattle.std.specs.FinMap.{get}
 use Rattle.ipl_base.specs.declared.limits.TheConstants.{PAGE_LEN, PAGES, SLOTS, UNIT_NAMES}
-use Rattle.ipl_rules.specs.State.{Map}
+use Rattle.ipl_model.specs.State.{Map}
 use Rattle.ipl_base.specs.Sizes.{size_of_values}
 use Rattle.ipl_format.specs.Page.{Slots, value_in}
 use Rattle.ipl_meaning.specs.Chart.{Chart}

@@ -6,7 +6,7 @@ use Rattle.chip_trait.specs.Image.{is_worn, IsNoChanceImage, IsQuiet, IsClosed, 
 use Rattle.chip_trait.specs.Chart.{with_sector, says}
 use Rattle.chip_trait.specs.Moment.{AtEachMoment}
 use Rattle.chip_trait.specs.Told.{History, Told, adds, adds_all}
-use Rattle.ipl_rules.specs.State.{Map}
+use Rattle.ipl_model.specs.State.{Map}
 use Rattle.ipl_format.specs.Sector.{Sector, sector_in}
 use Rattle.ipl_format.specs.Record.{Record}
 use Rattle.ipl_meaning.specs.Chart.{Chart, chart_of}

@@ -2,9 +2,9 @@
 use Rattle.std.proofs.Common.{◌≡◌, ℕ, List, [], ◌∷◌, ◌++◌, refl, sym, ◌∙◌, ap, subst}
 use Rattle.std.specs.List.{Contains}
 use Rattle.std.specs.FinMap.{remove}
-use Rattle.ipl_rules.specs.State.{Map, Write, State, with_writes, writes_of}
-use Rattle.ipl_rules.specs.Operations.{after_commit, after_batch}
-use Rattle.ipl_rules.proofs.BatchLemmas.{Distinct, first_in, later_in, other_writes}
+use Rattle.ipl_model.specs.State.{Map, Write, State, with_writes, writes_of}
+use Rattle.ipl_model.specs.Operations.{after_commit, after_batch}
+use Rattle.ipl_model.proofs.RuleBatchLemmas.{Distinct, first_in, later_in, other_writes}
 use Rattle.ipl_model.specs.Plain.{batch_writes, with_records, with_closed}
 use Rattle.ipl_model.proofs.ChangeLemmas.{with_writes-append}
 

@@ -6,13 +6,13 @@ use Rattle.std.specs.Result.{OnOk, OnErr}
 use Rattle.std.specs.Ordering.{nat_cmp}
 use Rattle.std.proofs.lemmas.List.{map-set, length-map}
 use Rattle.std.proofs.Math.Seq.{map-set_same}
-use Rattle.ipl_rules.specs.State.{Map, Write, Session, State, with_writes, writes_of, last_write}
-use Rattle.ipl_rules.proofs.SeenLemmas.{get-with_writes}
-use Rattle.ipl_rules.specs.Operations.{after_commit}
+use Rattle.ipl_model.specs.State.{Map, Write, Session, State, with_writes, writes_of, last_write}
+use Rattle.ipl_model.proofs.SeenLemmas.{get-with_writes}
+use Rattle.ipl_model.specs.Operations.{after_commit}
 use Rattle.ipl_model.specs.declared.plain_model.log.LoggedSession as plain
-use Rattle.ipl_rules.specs.Slots.{opened}
+use Rattle.ipl_model.specs.Slots.{opened}
 use Rattle.ipl_model.specs.Plain.{slot_of, session_of}
-use Rattle.ipl_rules.proofs.SlotLemmas.{opened_at, opened-set_some, opened-set_none}
+use Rattle.ipl_model.proofs.RuleSlotLemmas.{opened_at, opened-set_some, opened-set_none}
 use Rattle.ipl_model.proofs.SlotLemmas.{slot_read}
 
 -- the state of these records and slots

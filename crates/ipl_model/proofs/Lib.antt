@@ -1,3 +1,12 @@
+pub mod RuleBatchLemmas
+pub mod ListLemmas
+pub mod SeenLemmas
+pub mod RuleSlotLemmas
+pub mod SumLemmas
+pub mod RuleMarkLemmas
+pub mod FillLemmas
+pub mod WeightLemmas
+pub mod RefusalLemmas
 pub mod RunLemmas
 mod GreatestLemmas
 mod RecordLemmas

@@ -12,13 +12,13 @@ use Rattle.std.proofs.lemmas.List.{ext_get_or}
 use Rattle.std.proofs.lemmas.List.FromFn.{length-map-range_with_len, get_or-map-range_with_len}
 use Rattle.ipl_base.specs.declared.limits.TheConstants.{SLOTS, UNIT_NAMES}
 use Rattle.ipl_base.specs.Sizes.{size_in_page}
-use Rattle.ipl_rules.specs.State as rules
-use Rattle.ipl_rules.specs.Marks.{marks_of, weight_of_mark, weights, values_at, marks_at}
+use Rattle.ipl_model.specs.State as rules
+use Rattle.ipl_model.specs.Marks.{marks_of, weight_of_mark, weights, values_at, marks_at}
 use Rattle.ipl_model.specs.declared.plain_model.log.Write.{Write}
 use Rattle.ipl_model.specs.Plain.{newest_first, records_of, sizes_in, rooms_in, AreRecordSizes}
 use Rattle.ipl_model.proofs.LogLemmas.{newest_first_more}
-use Rattle.ipl_rules.proofs.SeenLemmas.{get-with_writes}
-use Rattle.ipl_rules.proofs.WeightLemmas.{weights_at, weights_elsewhere}
+use Rattle.ipl_model.proofs.SeenLemmas.{get-with_writes}
+use Rattle.ipl_model.proofs.WeightLemmas.{weights_at, weights_elsewhere}
 
 -- ---- weights
 

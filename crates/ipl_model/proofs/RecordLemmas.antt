@@ -3,9 +3,9 @@ use Rattle.std.proofs.Common.{◌≡◌, ◌⊎◌, inl, inr, ℕ, zero, suc, Bo
 use Rattle.std.specs.Option.{option_map_or}
 use Rattle.std.specs.FinMap.{get, insert}
 use Rattle.ipl_base.specs.declared.fault.Refusal.{Refusal}
-use Rattle.ipl_rules.specs.State.{Write, Session, State}
-use Rattle.ipl_rules.specs.Refusals.{is_new_share}
-use Rattle.ipl_rules.specs.Operations.{after_share, after_write}
+use Rattle.ipl_model.specs.State.{Write, Session, State}
+use Rattle.ipl_model.specs.Refusals.{is_new_share}
+use Rattle.ipl_model.specs.Operations.{after_share, after_write}
 use Rattle.ipl_model.specs.declared.command.Command.{Command}
 use Rattle.ipl_model.specs.declared.command.Command.TheVariants as command
 use Rattle.ipl_model.specs.declared.reply.Reply.TheVariants as reply

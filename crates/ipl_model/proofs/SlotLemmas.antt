@@ -2,7 +2,7 @@
 use Rattle.std.proofs.Common.{◌≡◌, ◌≢◌, ◌⊎◌, inl, inr, ℕ, ◌+◌, ◌<◌, ◌≤◌, List, length, map, set, get_or, Option, None, sym, ◌∙◌, ap, arith}
 use Rattle.std.proofs.lemmas.Bool.{cases_eq}
 use Rattle.std.proofs.lemmas.List.{get_or-map, get_or_past, length-map, map-set, get_or-set_same, get_or-set_other, ext_get_or}
-use Rattle.ipl_rules.specs.State.{Session}
+use Rattle.ipl_model.specs.State.{Session}
 use Rattle.ipl_model.specs.declared.plain_model.log.LoggedSession as plain
 use Rattle.ipl_model.specs.Plain.{slot_of}
 

@@ -1,7 +1,7 @@
 -- Laws of runs.
 use Rattle.std.specs.Prelude.{◌≡◌, ◌⊎◌, ℕ, suc, ◌≤◌, Bool, true, false, List, [], ◌∷◌, ◌++◌, take, drop, length, Some, None}
 use Rattle.ipl_base.specs.declared.fault.Refusal.{Refusal}
-use Rattle.ipl_rules.specs.State.{State, Limits}
+use Rattle.ipl_model.specs.State.{State, Limits}
 use Rattle.ipl_model.specs.declared.command.Command.{Command}
 use Rattle.ipl_model.specs.declared.command.Command.TheVariants as command
 use Rattle.ipl_model.specs.declared.reply.Reply.TheVariants as reply

@@ -1,3 +1,10 @@
+pub mod State
+pub mod Slots
+pub mod Marks
+pub mod Refusals
+pub mod Operations
+pub mod FillLaws
+pub mod RuleLaws
 pub mod Step
 pub mod Text
 pub mod Grammar

@@ -8,11 +8,11 @@ use Rattle.std.specs.declared.alloc.AllocError.{AllocError}
 use Rattle.ipl_base.specs.declared.limits.TheConstants.{UNIT_NAMES, SESSIONS, SLOTS}
 use Rattle.ipl_base.specs.declared.fault.Refusal.{Refusal}
 use Rattle.ipl_base.specs.Sizes.{size_in_page}
-use Rattle.ipl_rules.specs.State as rules
-use Rattle.ipl_rules.specs.Marks.{marks_of, values_at, marks_at}
-use Rattle.ipl_rules.specs.Slots.{open_from, opened}
-use Rattle.ipl_rules.specs.Operations.{after_abort}
-use Rattle.ipl_rules.specs.Refusals.{first_of, not_open, conflict, writes_full, pending_full}
+use Rattle.ipl_model.specs.State as rules
+use Rattle.ipl_model.specs.Marks.{marks_of, values_at, marks_at}
+use Rattle.ipl_model.specs.Slots.{open_from, opened}
+use Rattle.ipl_model.specs.Operations.{after_abort}
+use Rattle.ipl_model.specs.Refusals.{first_of, not_open, conflict, writes_full, pending_full}
 use Rattle.ipl_model.specs.declared.plain_model.PlainModel.{PlainModel}
 use Rattle.ipl_model.specs.declared.plain_model.log.Write.{Write}
 use Rattle.ipl_model.specs.declared.plain_model.log.LoggedSession.{LoggedSession}

@@ -1,7 +1,7 @@
 -- A run of commands: the lines that it says, and what it leaves.
 use Rattle.std.specs.Prelude.{◌⊎◌, ℕ, suc, nat_eq, Bool, true, false, ◌&&◌, if◌then◌else◌, List, [], ◌∷◌, ◌++◌, map, take, drop, length}
 use Rattle.std.specs.List.{flat_map}
-use Rattle.ipl_rules.specs.State.{Map, State, Limits, at_rest}
+use Rattle.ipl_model.specs.State.{Map, State, Limits, at_rest}
 use Rattle.ipl_model.specs.declared.command.Command.{Command}
 use Rattle.ipl_model.specs.Step.{step}
 use Rattle.ipl_model.specs.Text.{reply_text}

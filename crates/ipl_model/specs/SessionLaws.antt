@@ -1,7 +1,7 @@
 -- Laws of sessions: what a restart and a commit leave.
 use Rattle.std.specs.Prelude.{◌≡◌, ℕ, false, None}
 use Rattle.std.specs.FinMap.{get}
-use Rattle.ipl_rules.specs.State.{State, Limits, is_open, see}
+use Rattle.ipl_model.specs.State.{State, Limits, is_open, see}
 use Rattle.ipl_model.specs.declared.command.Command.TheVariants as command
 use Rattle.ipl_model.specs.Step.{step, refusal_of}
 

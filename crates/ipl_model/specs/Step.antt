@@ -2,9 +2,9 @@
 use Rattle.std.specs.Prelude.{ℕ, List, [], ◌∷◌, ◌++◌, map, Option, Some, None}
 use Rattle.std.specs.Option.{option_map_or}
 use Rattle.ipl_base.specs.declared.fault.Refusal.{Refusal}
-use Rattle.ipl_rules.specs.State.{State, Limits, see}
-use Rattle.ipl_rules.specs.Refusals.{refuses_begin, refuses_get, refuses_share, refuses_put, refuses_del, refuses_end, refuses_batch, refuses_list, refuses_merge}
-use Rattle.ipl_rules.specs.Operations.{after_begin, after_share, after_write, after_commit, after_batch, after_abort, after_restart, rows}
+use Rattle.ipl_model.specs.State.{State, Limits, see}
+use Rattle.ipl_model.specs.Refusals.{refuses_begin, refuses_get, refuses_share, refuses_put, refuses_del, refuses_end, refuses_batch, refuses_list, refuses_merge}
+use Rattle.ipl_model.specs.Operations.{after_begin, after_share, after_write, after_commit, after_batch, after_abort, after_restart, rows}
 use Rattle.ipl_model.specs.declared.command.Command.{Command}
 use Rattle.ipl_model.specs.declared.command.Command.TheVariants as command
 use Rattle.ipl_model.specs.declared.reply.Reply.{Reply}

@@ -5,9 +5,9 @@ ghost use Rattle.std.specs.Option.{option_copied};
 ghost use Rattle.std.specs.FinMap.{get};
 ghost use Rattle.ipl_base.specs.declared.limits.TheConstants.{SESSIONS};
 ghost use Rattle.ipl_base.specs.Sizes.{size_in_page};
-ghost use Rattle.ipl_rules.specs.State.{at_rest};
+ghost use Rattle.ipl_model.specs.State.{at_rest};
 ghost use Rattle.ipl_model.specs.Step.{step};
-ghost use Rattle.ipl_rules.specs.Slots.{opened};
+ghost use Rattle.ipl_model.specs.Slots.{opened};
 ghost use Rattle.ipl_model.specs.Plain.{state_of, limits_of, limits_for, slot_of};
 
 mod batches;

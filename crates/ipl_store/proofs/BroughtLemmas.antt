@@ -3,7 +3,7 @@ use Rattle.std.proofs.Common.{◌≡◌, ℕ, ◌<◌, ◌≤◌, ◌+◌, [], B
 use Rattle.chip_trait.specs.Told.{Told}
 use Rattle.ipl_base.specs.declared.fault.ChipFault.{ChipFault}
 use Rattle.ipl_base.specs.declared.fault.StoreFault.{StoreFault}
-use Rattle.ipl_rules.specs.State.{State}
+use Rattle.ipl_model.specs.State.{State}
 use Rattle.ipl_meaning.specs.Chart.{chart_of}
 use Rattle.ipl_meaning.specs.Stands.{Says}
 use Rattle.number_set.specs.Numbers.{among}
@@ -19,9 +19,9 @@ use Rattle.page_frames.specs.declared.pages.Pages.{Pages}
 use Rattle.page_frames.specs.Asks.{AsksToBring}
 use Rattle.page_frames.specs.Pages.{tables_in, frames_in, IsFramed, IsCleanFrame, OnlyUses, Upholds}
 use Rattle.page_frames.proofs.FaultyLemmas.{still_sound}
-use Rattle.transactions.specs.declared.transactions.Transactions.{Transactions}
-use Rattle.transactions.specs.Turns.{memory_in, CompletesFor, TellsFaultsFor, Turns}
-use Rattle.transactions.proofs.TurnLemmas.{upheld_then}
+use Rattle.ipl_store.specs.declared.transactions.Transactions.{Transactions}
+use Rattle.ipl_store.specs.Turns.{memory_in, CompletesFor, TellsFaultsFor, Turns}
+use Rattle.ipl_store.proofs.TurnLemmas.{upheld_then}
 use Rattle.ipl_store.specs.declared.store.Store.{Store}
 use Rattle.ipl_store.specs.Calls.{EndsAs}
 use Rattle.ipl_store.specs.Puts.{HasBrought}

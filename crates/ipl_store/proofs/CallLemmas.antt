@@ -8,7 +8,7 @@ use Rattle.ipl_base.specs.declared.fault.ChipFault.{ChipFault}
 use Rattle.ipl_base.specs.declared.fault.Refusal.{Refusal}
 use Rattle.ipl_base.specs.declared.fault.StoreFault.{StoreFault}
 use Rattle.ipl_base.specs.declared.fault.StoreFault.TheVariants.{Down, Spent, Refused, Chip}
-use Rattle.ipl_rules.specs.State.{State}
+use Rattle.ipl_model.specs.State.{State}
 use Rattle.buffer_pool.specs.Holding.{KeepsPins}
 use Rattle.buffer_pool.specs.Uses.{IsUsedLast}
 use Rattle.store_trait.specs.Keeping.{LAST_NUMBER}
@@ -23,10 +23,10 @@ use Rattle.unit_io.specs.Reads.{OfContents}
 use Rattle.place_taking.specs.Spending.{is_worn_out}
 use Rattle.place_taking.specs.Wear.{TellsOfWear}
 use Rattle.place_taking.proofs.WearLemmas.{alike_tables, nothing_wears, wears_are_joined}
-use Rattle.merge_laws.specs.Faults.{FailsByChipAlone}
+use Rattle.selective_merge.specs.Faults.{FailsByChipAlone}
 use Rattle.selective_merge.specs.Throughout.{ChartsThroughout}
-use Rattle.step_laws.specs.Steps.{Tidies}
-use Rattle.step_laws.proofs.TablesLemmas.{tables_none, tables_then, tables_answered, tables_fewer}
+use Rattle.unit_io.specs.Steps.{Tidies}
+use Rattle.unit_io.proofs.TablesLemmas.{tables_none, tables_then, tables_answered, tables_fewer}
 use Rattle.store_laws.specs.Advances.{TurnsMapOf, LeadsTo}
 use Rattle.store_laws.specs.Keeps.{ShowsState}
 use Rattle.store_laws.proofs.AdvanceLemmas.{answers_advance, calls_advance, failures_advance}
@@ -37,9 +37,9 @@ use Rattle.page_frames.specs.declared.pages.Pages.{Pages}
 use Rattle.page_frames.specs.Complete.{FailsByChip}
 use Rattle.page_frames.specs.Faulty.{FailsByPage, TellsFaults}
 use Rattle.page_frames.specs.Pages.{tables_in, IsFramed, KeepsFramed, KeepsFramedFor, PageCause, Upholds}
-use Rattle.transactions.specs.declared.transactions.Transactions.{Transactions}
-use Rattle.transactions.specs.Turns.{memory_in, CompletesFor, IsInOrder, TellsFaultsFor, Turns, TurnsInMemory}
-use Rattle.transactions.proofs.TurnLemmas.{completes_for, tells_for}
+use Rattle.ipl_store.specs.declared.transactions.Transactions.{Transactions}
+use Rattle.ipl_store.specs.Turns.{memory_in, CompletesFor, IsInOrder, TellsFaultsFor, Turns, TurnsInMemory}
+use Rattle.ipl_store.proofs.TurnLemmas.{completes_for, tells_for}
 use Rattle.ipl_store.specs.declared.store.Store.{Store}
 use Rattle.ipl_store.specs.Calls.{memory_of_store, view_of, counter_of, IsMade, IsSound, early_fault, ends_worn_out, entry_fault, down_fault, puts_down, tells_wear, EndsAs, IsOfTheChip, EndsFor, KeepsHolds, Calls}
 use Rattle.ipl_store.specs.Shown.{CostsOnePage, IsUsedLastIn}

@@ -9,10 +9,10 @@ use Rattle.ipl_base.specs.declared.fault.StoreFault.TheVariants.{Chip}
 use Rattle.unit_io.specs.Accounts.{Accounts}
 use Rattle.unit_io.specs.Costs.{ProgramsAt, Spends}
 use Rattle.unit_io.specs.Leads.{IsStopped}
-use Rattle.step_laws.specs.Steps.{Tidies}
+use Rattle.unit_io.specs.Steps.{Tidies}
 use Rattle.selective_merge.specs.Moving.{tables_of}
 use Rattle.selective_merge.specs.declared.parts.Parts.{Parts}
-use Rattle.clean_close.specs.Closing.{ClosesInSteps, EndsWithMark}
+use Rattle.restart.specs.Closing.{ClosesInSteps, EndsWithMark}
 use Rattle.page_frames.specs.declared.pages.Pages.{Pages}
 use Rattle.page_frames.specs.Complete.{FailsByChip}
 use Rattle.page_frames.specs.Faulty.{TellsFaults}

@@ -5,8 +5,8 @@ use Rattle.std.proofs.lemmas.Bool.Decides.{nat_tests}
 use Rattle.std.specs.Option.{option_map}
 use Rattle.chip_trait.specs.Told.{Told}
 use Rattle.ipl_base.specs.declared.fault.StoreFault.{StoreFault}
-use Rattle.ipl_rules.specs.State.{State}
-use Rattle.ipl_rules.specs.Refusals.{Test, first_of}
+use Rattle.ipl_model.specs.State.{State}
+use Rattle.ipl_model.specs.Refusals.{Test, first_of}
 use Rattle.record_locks.proofs.CallLemmas.{passed}
 use Rattle.slab.specs.Slab.{Slab}
 use Rattle.buffer_pool.specs.declared.pool.Buffer.{Buffer}

@@ -1,3 +1,15 @@
+pub mod NumberLemmas
+pub mod WriterLemmas
+pub mod OpenLemmas
+pub mod BatchLemmas
+pub mod OrderLemmas
+pub mod SessionLemmas
+pub mod FramedLemmas
+pub mod AddingLemmas
+pub mod CommitLemmas
+pub mod TurnLemmas
+pub mod WriteLemmas
+pub mod CostLemmas
 pub mod HeldLemmas
 pub mod CallLemmas
 pub mod OpeningLemmas

@@ -8,8 +8,8 @@ use Rattle.chip_trait.specs.Story.{Contents}
 use Rattle.chip_trait.specs.Told.{History, Told}
 use Rattle.ipl_base.specs.Places.{KeepsUnits}
 use Rattle.ipl_base.specs.declared.fault.ChipFault.{ChipFault}
-use Rattle.ipl_rules.specs.Operations.{after_restart}
-use Rattle.ipl_rules.specs.State.{Map, at_rest}
+use Rattle.ipl_model.specs.Operations.{after_restart}
+use Rattle.ipl_model.specs.State.{Map, at_rest}
 use Rattle.ipl_meaning.specs.Agrees.{IsTidy}
 use Rattle.ipl_meaning.specs.Chart.{Chart, chart_of}
 use Rattle.ipl_meaning.specs.Laws.{AreOneLayout}
@@ -21,21 +21,21 @@ use Rattle.ipl_meaning.specs.Tables.{Tables}
 use Rattle.ipl_meaning.specs.Values.{Values}
 use Rattle.ipl_meaning.proofs.OnceLemmas.{laid_once}
 use Rattle.ipl_meaning.proofs.StandsLemmas.{kept_pages_keep_the_map}
-use Rattle.opening_laws.specs.Chosen.{units_at}
-use Rattle.opening_laws.specs.Faults.{greatest_found}
-use Rattle.opening_laws.specs.LaidOut.{layout_in}
+use Rattle.ipl_meaning.specs.Chosen.{units_at}
+use Rattle.ipl_meaning.specs.Faults.{greatest_found}
+use Rattle.ipl_meaning.specs.LaidOut.{layout_in}
 use Rattle.record_locks.specs.Held.{Held, number_of, numbers_in}
 use Rattle.slab.specs.Slab.{get}
 use Rattle.buffer_pool.specs.declared.pool.Buffer.{Buffer}
 use Rattle.buffer_pool.specs.Holding.{is_pinned, pinned_count}
 use Rattle.buffer_pool.specs.Laws.{buffer_in}
 use Rattle.selective_merge.specs.declared.parts.Parts.{Parts}
-use Rattle.step_laws.specs.Laws.{Preserves}
+use Rattle.unit_io.specs.StepLaws.{Preserves}
 use Rattle.unit_io.specs.Charts.{Charts}
 use Rattle.unit_io.specs.Leads.{IsSteady}
 use Rattle.unit_io.specs.Reads.{OfContents}
-use Rattle.status_renewal.specs.Recovers.{RecoversTold, RecoversInSteps, HoldsOpened}
-use Rattle.status_renewal.proofs.ReadyLemmas.{layouts_say}
+use Rattle.restart.specs.Recovers.{RecoversTold, RecoversInSteps, HoldsOpened}
+use Rattle.restart.proofs.ReadyLemmas.{layouts_say}
 use Rattle.store_laws.proofs.FirstLemmas.{empty_slots_are_at_rest}
 use Rattle.store_laws.proofs.MemoryFitLemmas.{openings_fit}
 use Rattle.store_laws.specs.Advances.{Memory, memory_of, MemoryFits, LeadsTo}

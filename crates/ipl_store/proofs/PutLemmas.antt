@@ -10,8 +10,8 @@ use Rattle.ipl_base.specs.declared.limits.TheConstants.{VALUE_LEN}
 use Rattle.ipl_base.specs.Places.{home_of}
 use Rattle.ipl_format.specs.Record.{Change}
 use Rattle.ipl_meaning.specs.Last.{size_of_all}
-use Rattle.ipl_rules.specs.Operations.{after_write}
-use Rattle.ipl_rules.specs.State.{State}
+use Rattle.ipl_model.specs.Operations.{after_write}
+use Rattle.ipl_model.specs.State.{State}
 use Rattle.record_locks.specs.Held.{SessionSlots, marks_in, numbers_in}
 use Rattle.unit_io.specs.Costs.{Costs, Spends}
 use Rattle.buffer_pool.specs.Holding.{KeepsPins}
@@ -30,9 +30,9 @@ use Rattle.store_laws.specs.Refusals.{sessions_refuse_put}
 use Rattle.page_frames.specs.Pages.{tables_in, frames_in, IsFramed, KeepsFramedFor}
 use Rattle.page_frames.proofs.AskLemmas.{one_of_none}
 use Rattle.page_frames.proofs.UseLemmas.{none_leaves, framed_then}
-use Rattle.transactions.specs.declared.transactions.Transactions.{Transactions}
-use Rattle.transactions.specs.Costs.{HasRoomFor, AsksToWrite}
-use Rattle.transactions.specs.Turns.{memory_in, CompletesFor, TellsFaultsFor, Turns}
+use Rattle.ipl_store.specs.declared.transactions.Transactions.{Transactions}
+use Rattle.ipl_store.specs.Costs.{HasRoomFor, AsksToWrite}
+use Rattle.ipl_store.specs.Turns.{memory_in, CompletesFor, TellsFaultsFor, Turns}
 use Rattle.ipl_store.specs.declared.store.Store.{Store}
 use Rattle.ipl_store.specs.Calls.{counter_of, ends_worn_out, tells_wear, IsSound, EndsAs, KeepsHolds, Calls}
 use Rattle.ipl_store.specs.Puts.{found_room, put_fault, put_next, TellsRoom, HasBrought, BringsPageOf, PutsBy}

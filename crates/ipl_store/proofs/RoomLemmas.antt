@@ -10,10 +10,10 @@ use Rattle.ipl_base.specs.declared.fault.StoreFault.TheVariants.{Down, Spent, Re
 use Rattle.ipl_base.specs.declared.fault.ChipFault.{ChipFault}
 use Rattle.ipl_base.specs.Places.{home_of}
 use Rattle.ipl_format.proofs.ListLemmas.{both_true}
-use Rattle.ipl_rules.specs.Marks.{overfills}
+use Rattle.ipl_model.specs.Marks.{overfills}
 use Rattle.ipl_base.specs.Sizes.{size_in_page}
-use Rattle.ipl_rules.specs.Refusals.{Test, first_of, bad_session, bad_name, too_long, not_open, conflict, writes_full}
-use Rattle.ipl_rules.specs.State.{State, Limits, holder_for_write}
+use Rattle.ipl_model.specs.Refusals.{Test, first_of, bad_session, bad_name, too_long, not_open, conflict, writes_full}
+use Rattle.ipl_model.specs.State.{State, Limits, holder_for_write}
 use Rattle.record_locks.specs.Held.{SessionSlots, marks_in}
 use Rattle.record_locks.specs.Locks.{pending_full}
 use Rattle.record_locks.specs.Standing.{state_of}

@@ -6,7 +6,7 @@ use Rattle.chip_trait.specs.Told.{Told}
 use Rattle.ipl_base.specs.declared.fault.ChipFault.{ChipFault}
 use Rattle.ipl_base.specs.declared.fault.StoreFault.{StoreFault}
 use Rattle.ipl_base.specs.Places.{home_of}
-use Rattle.ipl_rules.specs.State.{State, see}
+use Rattle.ipl_model.specs.State.{State, see}
 use Rattle.ipl_format.specs.Record.{Change}
 use Rattle.ipl_meaning.specs.Chart.{chart_of}
 use Rattle.ipl_meaning.specs.Tables.{Tables}
@@ -27,9 +27,9 @@ use Rattle.page_frames.specs.Pages.{tables_in, frames_in, IsFramed, KeepsFramedF
 use Rattle.page_frames.proofs.AskLemmas.{one_of_none}
 use Rattle.page_frames.proofs.UseLemmas.{none_leaves}
 use Rattle.page_frames.proofs.SpendLemmas.{nothing_spent, logs_of_reads}
-use Rattle.transactions.specs.declared.transactions.Transactions.{Transactions}
-use Rattle.transactions.specs.Costs.{AsksToWrite}
-use Rattle.transactions.specs.Turns.{TurnsInMemory}
+use Rattle.ipl_store.specs.declared.transactions.Transactions.{Transactions}
+use Rattle.ipl_store.specs.Costs.{AsksToWrite}
+use Rattle.ipl_store.specs.Turns.{TurnsInMemory}
 use Rattle.ipl_store.specs.declared.store.Store.{Store}
 use Rattle.ipl_store.specs.Calls.{view_of, tells_wear, IsSound}
 use Rattle.ipl_store.proofs.CallLemmas.{calls_refused, let_in_calls, calls_as, calls_fail_as, failed_calls, calls_joined}

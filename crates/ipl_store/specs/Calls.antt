@@ -10,8 +10,8 @@ use Rattle.ipl_base.specs.declared.fault.Refusal.{Refusal}
 use Rattle.ipl_base.specs.declared.fault.Refusal.TheVariants.{BadUnit, HoldsFull, NotHeld}
 use Rattle.ipl_base.specs.declared.fault.StoreFault.{StoreFault}
 use Rattle.ipl_base.specs.declared.fault.StoreFault.TheVariants.{Down, Spent, Refused, Chip}
-use Rattle.ipl_rules.specs.State.{State, Limits}
-use Rattle.ipl_rules.specs.Refusals.{Test, first_of, bad_session, bad_name, refuses_get, refuses_share}
+use Rattle.ipl_model.specs.State.{State, Limits}
+use Rattle.ipl_model.specs.Refusals.{Test, first_of, bad_session, bad_name, refuses_get, refuses_share}
 use Rattle.ipl_meaning.specs.Chart.{chart_of}
 use Rattle.ipl_meaning.specs.Layout.{Layout}
 use Rattle.unit_io.specs.Reads.{OfContents}
@@ -24,10 +24,10 @@ use Rattle.record_locks.specs.Standing.{state_of}
 use Rattle.store_laws.specs.Keeps.{View, ShowsState, limits_of}
 use Rattle.place_taking.specs.Spending.{tells_worn}
 use Rattle.place_taking.specs.Wear.{TellsOfWear}
-use Rattle.step_laws.specs.Steps.{Tidies}
+use Rattle.unit_io.specs.Steps.{Tidies}
 use Rattle.page_frames.specs.Faulty.{FailsByPage}
 use Rattle.page_frames.specs.Pages.{tables_in, PageCause}
-use Rattle.transactions.specs.Turns.{memory_in, IsInOrder}
+use Rattle.ipl_store.specs.Turns.{memory_in, IsInOrder}
 use Rattle.ipl_store.specs.declared.store.Store.{Store}
 
 -- ---- what is seen

@@ -7,9 +7,9 @@ use Rattle.ipl_base.specs.declared.fault.StoreFault.TheVariants.{Chip}
 use Rattle.unit_io.specs.Accounts.{Accounts}
 use Rattle.unit_io.specs.Costs.{ProgramsAt, Spends}
 use Rattle.unit_io.specs.Leads.{IsStopped}
-use Rattle.step_laws.specs.Steps.{Tidies}
+use Rattle.unit_io.specs.Steps.{Tidies}
 use Rattle.place_taking.specs.Wear.{TellsOfWear}
-use Rattle.clean_close.specs.Closing.{ClosesInSteps, EndsWithMark}
+use Rattle.restart.specs.Closing.{ClosesInSteps, EndsWithMark}
 use Rattle.page_frames.specs.Pages.{tables_in}
 use Rattle.ipl_store.specs.declared.store.Store.{Store}
 use Rattle.ipl_store.specs.Calls.{counter_of, ends_worn_out, IsSound, Serves}

@@ -1,3 +1,7 @@
+pub mod Turns
+pub mod Costs
+pub mod Writing
+pub mod Adding
 pub mod Calls
 pub mod Openings
 pub mod Shown

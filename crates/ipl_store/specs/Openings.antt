@@ -8,8 +8,8 @@ use Rattle.ipl_base.specs.declared.fault.OpenFault.{OpenFault}
 use Rattle.ipl_base.specs.declared.fault.OpenFault.TheVariants.{Image, OutOfMemory}
 use Rattle.ipl_base.specs.declared.limits.TheConstants.{SESSIONS}
 use Rattle.ipl_base.specs.Places.{IsGeometry, KeepsUnits}
-use Rattle.ipl_rules.specs.Operations.{after_restart}
-use Rattle.ipl_rules.specs.State.{Map, at_rest}
+use Rattle.ipl_model.specs.Operations.{after_restart}
+use Rattle.ipl_model.specs.State.{Map, at_rest}
 use Rattle.ipl_meaning.specs.Agrees.{IsTidy}
 use Rattle.std.specs.FinMap.{empty}
 use Rattle.ipl_meaning.specs.Chart.{Chart, chart_of}
@@ -17,16 +17,16 @@ use Rattle.ipl_meaning.specs.Layout.{Layout}
 use Rattle.ipl_meaning.specs.Rests.{StoryRests}
 use Rattle.ipl_meaning.specs.Stands.{Stands}
 use Rattle.ipl_meaning.specs.Tables.{Tables}
-use Rattle.opening_laws.specs.Chosen.{units_at}
-use Rattle.opening_laws.specs.Faults.{greatest_found}
+use Rattle.ipl_meaning.specs.Chosen.{units_at}
+use Rattle.ipl_meaning.specs.Faults.{greatest_found}
 use Rattle.restart.specs.Bytes.{ReadsBytes}
 use Rattle.unit_io.specs.Accounts.{Accounts}
 use Rattle.unit_io.specs.Charts.{Charts}
 use Rattle.unit_io.specs.Costs.{Spends}
 use Rattle.unit_io.specs.Leads.{IsSteady}
 use Rattle.unit_io.specs.Reads.{OfContents}
-use Rattle.status_renewal.specs.Passes.{HasErased, ListsRetired}
-use Rattle.status_renewal.specs.Recovers.{CompletesOpening, ErasesOpening, RecoversTold, LooksAtFaults, RecoversInSteps, TidiesOpening, OpeningCause}
+use Rattle.restart.specs.Passes.{HasErased, ListsRetired}
+use Rattle.restart.specs.Recovers.{CompletesOpening, ErasesOpening, RecoversTold, LooksAtFaults, RecoversInSteps, TidiesOpening, OpeningCause}
 use Rattle.store_laws.specs.Advances.{Memory, MemoryFits, LeadsTo}
 use Rattle.store_laws.specs.Keeps.{limits_of, ShowsState, KeepsStore}
 use Rattle.page_frames.specs.Pages.{tables_in}

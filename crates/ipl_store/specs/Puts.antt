@@ -8,9 +8,9 @@ use Rattle.ipl_base.specs.declared.fault.Refusal.TheVariants.{BadSession, BadNam
 use Rattle.ipl_base.specs.declared.fault.StoreFault.{StoreFault}
 use Rattle.ipl_base.specs.declared.fault.StoreFault.TheVariants.{Down, Spent, Refused, Chip}
 use Rattle.ipl_base.specs.Places.{home_of}
-use Rattle.ipl_rules.specs.Marks.{overfills}
-use Rattle.ipl_rules.specs.Operations.{after_write}
-use Rattle.ipl_rules.specs.State.{State}
+use Rattle.ipl_model.specs.Marks.{overfills}
+use Rattle.ipl_model.specs.Operations.{after_write}
+use Rattle.ipl_model.specs.State.{State}
 use Rattle.record_locks.specs.Held.{marks_in}
 use Rattle.ipl_meaning.specs.Tables.{Tables}
 use Rattle.unit_io.specs.Reads.{OfContents}

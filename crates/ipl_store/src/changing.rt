@@ -2,13 +2,13 @@
 ghost use Rattle.std.specs.Prelude.{◌≡◌, ◌≤◌, ◌^◌, [], ◌∷◌, Some, None, length, OnOk};
 ghost use Rattle.ipl_base.specs.declared.limits.TheConstants.{SESSIONS};
 ghost use Rattle.ipl_base.specs.Places.{home_of};
-ghost use Rattle.ipl_rules.specs.Operations.{after_write, after_commit, after_batch};
-ghost use Rattle.ipl_rules.specs.Refusals.{refuses_end, refuses_batch};
+ghost use Rattle.ipl_model.specs.Operations.{after_write, after_commit, after_batch};
+ghost use Rattle.ipl_model.specs.Refusals.{refuses_end, refuses_batch};
 ghost use Rattle.record_locks.specs.Standing.{state_of};
 ghost use Rattle.store_laws.specs.Keeps.{limits_of};
 ghost use Rattle.store_laws.specs.Refusals.{sessions_refuse_del};
 ghost use Rattle.page_frames.specs.Pages.{IsFramed, KeepsFramed, KeepsFramedFor};
-ghost use Rattle.transactions.specs.Costs.{AsksToWrite, CommitAsks};
+ghost use Rattle.ipl_store.specs.Costs.{AsksToWrite, CommitAsks};
 ghost use Rattle.ipl_store.specs.Calls.{
   IsSound,
   KeepsHolds,

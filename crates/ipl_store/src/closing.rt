@@ -1,7 +1,7 @@
 //! A clean close.
 ghost use Rattle.std.specs.Prelude.{◌≡◌, ◌<◌, ◌≤◌, ◌+◌, ◌^◌, true};
 ghost use Rattle.record_locks.specs.Locks.{refuses_close};
-ghost use Rattle.merge_laws.specs.Known.{KnowsPlaces};
+ghost use Rattle.selective_merge.specs.Known.{KnowsPlaces};
 ghost use Rattle.txn_status.specs.Status.{room_of};
 ghost use Rattle.page_frames.specs.Pages.{tables_in};
 ghost use Rattle.ipl_store.specs.Calls.{IsMade, IsSound, counter_of, early_fault, entry_fault};
@@ -9,8 +9,8 @@ ghost use Rattle.ipl_store.specs.Closing.{ClosesStore, MarksStore};
 
 use crate::Store;
 use chip_trait::Chip;
-use clean_close::close;
 use ipl_base::StoreFault;
+use restart::close;
 use store_laws::passing_laws;
 
 impl Store {

@@ -3,7 +3,7 @@ ghost use Rattle.std.specs.Prelude.{◌≤◌, slice_index, is_ok, OnOk};
 ghost use Rattle.ipl_base.specs.declared.limits.TheConstants.{CARRIED_SECTORS};
 ghost use Rattle.unit_io.specs.Charts.{Charts};
 ghost use Rattle.unit_io.specs.Costs.{Spends};
-ghost use Rattle.ipl_rules.specs.Refusals.{refuses_merge};
+ghost use Rattle.ipl_model.specs.Refusals.{refuses_merge};
 ghost use Rattle.selective_merge.specs.Merging.{Merges};
 ghost use Rattle.place_taking.specs.Spending.{ErasesFor};
 ghost use Rattle.store_laws.specs.Keeps.{limits_of};

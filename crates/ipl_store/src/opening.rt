@@ -6,15 +6,14 @@ ghost use Rattle.ipl_store.specs.Calls.{memory_of_store, IsMade, IsSound};
 ghost use Rattle.ipl_store.specs.Openings.{Tries, Reopens, Restarts, OpensAs};
 
 use crate::Store;
+use crate::transactions::Transactions;
 use chip_trait::Chip;
 use ipl_base::{Geometry, ImageFault, OpenFault, OutOfMemory};
 use page_frames::Pages;
 use record_locks::Sessions;
-use restart::Scratch;
+use restart::{KeptNumbers, Scratch, recover};
 use selective_merge::Active;
-use status_renewal::{KeptNumbers, recover};
 use std::alloc::Global;
-use transactions::Transactions;
 
 impl Store {
     /// The memory of a store with 2 to 64 frames for pages, for a chip that isn't opened yet: it is

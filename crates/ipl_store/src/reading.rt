@@ -4,7 +4,7 @@ ghost use Rattle.std.specs.Borrow.{sem, Bor};
 ghost use Rattle.std.specs.Io.BufRead.{Rests};
 ghost use Rattle.ipl_base.specs.declared.limits.TheConstants.{VALUE_LEN, SESSIONS};
 ghost use Rattle.ipl_base.specs.Places.{home_of};
-ghost use Rattle.ipl_rules.specs.Operations.{after_share};
+ghost use Rattle.ipl_model.specs.Operations.{after_share};
 ghost use Rattle.record_locks.specs.Held.{number_of};
 ghost use Rattle.store_trait.specs.Keeping.{LAST_NUMBER};
 ghost use Rattle.page_ops.specs.Pending.{seen_by};

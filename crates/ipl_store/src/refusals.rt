@@ -4,7 +4,7 @@ ghost use Rattle.ipl_base.specs.declared.limits.TheConstants.{VALUE_LEN};
 ghost use Rattle.ipl_base.specs.Sizes.{size_in_page};
 ghost use Rattle.buffer_pool.specs.Holding.{IsHeld};
 ghost use Rattle.record_locks.specs.Standing.{state_of};
-ghost use Rattle.ipl_rules.specs.Refusals.{
+ghost use Rattle.ipl_model.specs.Refusals.{
   refuses_begin,
   refuses_get,
   refuses_share,

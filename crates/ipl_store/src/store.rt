@@ -1,9 +1,8 @@
 //! What a store has in memory.
 ghost use Rattle.std.specs.Prelude.{◌≡◌};
 
-use restart::Scratch;
-use status_renewal::KeptNumbers;
-use transactions::Transactions;
+use crate::transactions::Transactions;
+use restart::{KeptNumbers, Scratch};
 
 /// A store of records over a chip. It has the chip's tables, pages in frames and open sessions in
 /// memory; the chip comes with each call. Memory is taken by `open` alone.

@@ -2,7 +2,7 @@
 use Rattle.std.proofs.Common.{ℕ, Option, Result, refl, sym, subst}
 use Rattle.chip_trait.specs.Told.{Told}
 use Rattle.ipl_base.specs.declared.fault.StoreFault.{StoreFault}
-use Rattle.ipl_rules.specs.State.{State}
+use Rattle.ipl_model.specs.State.{State}
 use Rattle.ipl_store.specs.Calls.{IsSound, Calls}
 use Rattle.ipl_store.specs.declared.store.Store.{Store}
 use Rattle.ipl_keys.specs.declared.fault.KeyFault.{KeyFault}

@@ -3,8 +3,7 @@ use anyhow::{Result, bail};
 use ipl_base::StoreFault;
 use ipl_keys::KeyFault;
 use ipl_model::Reply;
-use plain_text::TextLine;
-use script_text::print;
+use script_text::{TextLine, print};
 use std::io::Write;
 
 /// Says what came of a command. A fault of the chip is no answer, and ends the run.

@@ -1,5 +1,5 @@
 //! What a line says.
-use plain_text::number;
+use script_text::number;
 
 /// A command of a session, which comes first; then a key, then a value.
 #[derive(Clone, Copy)]

@@ -9,8 +9,7 @@ use ipl_base::{ImageFault, Refusal, StoreFault};
 use ipl_cli::MemDesk;
 use ipl_keys::KeyFault;
 use ipl_model::Reply;
-use plain_text::TextLine;
-use script_text::print;
+use script_text::{TextLine, print};
 use std::alloc::Global;
 
 /// The lines of calls in which a read of the chip failed, and a write.

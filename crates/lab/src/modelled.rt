@@ -2,8 +2,7 @@
 use anyhow::Result;
 use ipl_base::Geometry;
 use ipl_model::{Command, Line, PlainModel};
-use plain_text::TextLine;
-use script_text::{parse, print};
+use script_text::{TextLine, parse, print};
 use std::alloc::Global;
 
 /// What the model says of a script. For each number of commands, from 0 on, how many bytes are said

@@ -6,7 +6,7 @@ use Rattle.ipl_base.specs.Calls.{IsFailedCall}
 use Rattle.ipl_base.specs.declared.fault.ChipFault.{ChipFault}
 use Rattle.ipl_base.specs.declared.fault.ChipFault.TheVariants.{ReadFault, Stopped}
 use Rattle.ipl_base.specs.declared.limits.TheConstants.{PAGE_LEN}
-use Rattle.ipl_rules.specs.State.{State}
+use Rattle.ipl_model.specs.State.{State}
 use Rattle.record_locks.specs.Held.{SessionSlots}
 use Rattle.ipl_meaning.specs.Chart.{Chart, chart_of}
 use Rattle.ipl_meaning.specs.Layout.{Layout}
@@ -14,10 +14,10 @@ use Rattle.ipl_meaning.specs.Stands.{Shows, Says, page_in}
 use Rattle.ipl_meaning.specs.Tables.{Tables}
 use Rattle.ipl_meaning.specs.Values.{Values}
 use Rattle.unit_io.specs.Faults.{TellsChipFault}
-use Rattle.merge_laws.specs.Faults.{IsMergeable, IsTheFault}
-use Rattle.merge_laws.proofs.FaultLemmas.{said_units_are_mergeable, by_chip_alone}
+use Rattle.selective_merge.specs.Faults.{IsMergeable, IsTheFault}
+use Rattle.selective_merge.proofs.FaultLemmas.{said_units_are_mergeable, by_chip_alone}
 use Rattle.selective_merge.specs.Merging.{CompletesMerge}
-use Rattle.status_renewal.specs.Passes.{CompletesRenewal}
+use Rattle.restart.specs.Passes.{CompletesRenewal}
 use Rattle.number_set.specs.Numbers.{among}
 use Rattle.page_ops.specs.Pending.{fill_by}
 use Rattle.page_rebuild.specs.Loaded.{OfTables, loaded_pending, load_fault}

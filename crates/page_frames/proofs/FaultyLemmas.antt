@@ -17,7 +17,7 @@ use Rattle.ipl_base.specs.declared.fault.ChipFault.TheVariants.{Damaged, Malform
 use Rattle.ipl_format.specs.Header.{IsCount}
 use Rattle.ipl_format.specs.Place.{base_sector_of}
 use Rattle.ipl_format.specs.Sector.{stored_sum, computed_sum, sector_in}
-use Rattle.ipl_rules.specs.State.{Map, State}
+use Rattle.ipl_model.specs.State.{Map, State}
 use Rattle.ipl_meaning.specs.Chart.{Chart, chart_of}
 use Rattle.ipl_meaning.specs.Layout.{Shape, Layout, Laid, records_of}
 use Rattle.ipl_meaning.specs.Mirrors.{Mirrors}
@@ -29,8 +29,8 @@ use Rattle.ipl_meaning.proofs.OnceLemmas.{laid_once}
 use Rattle.unit_io.specs.Faults.{is_damaged, is_piece, piece_fault, piece_fault_at, text_below, is_page_text, text_fault, page_fault}
 use Rattle.unit_io.proofs.FaultLemmas.{undamaged}
 use Rattle.number_set.specs.Numbers.{among}
-use Rattle.merge_laws.specs.Faults.{page_fault_from}
-use Rattle.merge_laws.specs.Merged.{source_in}
+use Rattle.selective_merge.specs.Faults.{page_fault_from}
+use Rattle.selective_merge.specs.Merged.{source_in}
 use Rattle.page_ops.specs.Pending.{Pendings, fill_by, mark_of}
 use Rattle.page_ops.specs.Rebuilt.{full_fault}
 use Rattle.page_ops.proofs.FillLemmas.{room_in_fill}

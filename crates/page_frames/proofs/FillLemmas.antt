@@ -4,7 +4,7 @@ use Rattle.std.specs.List.{sum_by, range_with_len}
 use Rattle.ipl_base.specs.Places.{home_of}
 use Rattle.ipl_base.specs.Sizes.{size_in_page, size_of_values}
 use Rattle.ipl_base.specs.declared.limits.TheConstants.{PAGE_LEN, SLOTS, VERSION}
-use Rattle.ipl_rules.specs.Marks.{Marks, fill_of}
+use Rattle.ipl_model.specs.Marks.{Marks, fill_of}
 use Rattle.ipl_format.specs.Page.{Slots, SpellsPage, value_in}
 use Rattle.ipl_meaning.specs.Values.{Values}
 use Rattle.ipl_meaning.proofs.SizeLemmas.{texts_have_sizes}

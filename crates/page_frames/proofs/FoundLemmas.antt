@@ -8,7 +8,7 @@ use Rattle.ipl_meaning.specs.Mirrors.{NoneIsLost}
 use Rattle.ipl_meaning.specs.Rests.{now, EachStands, StoryRests}
 use Rattle.ipl_meaning.specs.Tables.{Tables}
 use Rattle.unit_io.specs.Charts.{Charts}
-use Rattle.step_laws.specs.Steps.{RestsAgreeing}
+use Rattle.unit_io.specs.Steps.{RestsAgreeing}
 use Rattle.selective_merge.specs.Merging.{StaysMirrored}
 use Rattle.selective_merge.specs.Placing.{IsPlaced, MakesRoom, RestsWithRoom, MakesRoomInSteps}
 use Rattle.store_laws.specs.Advances.{TurnsTables}

@@ -5,8 +5,8 @@ use Rattle.std.proofs.Math.Nat.{le-max_left, le-max_right}
 use Rattle.std.proofs.lemmas.Bool.{cases_eq, cond-true, cond-false, eq-eqb, ne_eqb}
 use Rattle.ipl_base.specs.Sizes.{size_in_page}
 use Rattle.ipl_base.specs.declared.limits.TheConstants.{PAGE_LEN, SLOTS}
-use Rattle.ipl_rules.specs.Marks.{Marks}
-use Rattle.ipl_rules.proofs.MarkLemmas.{le_trans}
+use Rattle.ipl_model.specs.Marks.{Marks}
+use Rattle.ipl_model.proofs.RuleMarkLemmas.{le_trans}
 use Rattle.ipl_format.specs.Record.{Record}
 use Rattle.ipl_meaning.specs.Values.{Values}
 use Rattle.page_ops.specs.Pending.{Pending, Pendings, fill_by, mark_of}

@@ -10,7 +10,7 @@ use Rattle.ipl_meaning.specs.Layout.{Layout}
 use Rattle.ipl_meaning.specs.Mirrors.{Mirrors}
 use Rattle.ipl_meaning.specs.Tables.{Tables}
 use Rattle.unit_io.specs.Charts.{Charts}
-use Rattle.merge_laws.proofs.FaultLemmas.{fault_stopped}
+use Rattle.selective_merge.proofs.FaultLemmas.{fault_stopped}
 use Rattle.selective_merge.specs.Merging.{FailsAsMerge, StaysMirrored}
 use Rattle.selective_merge.proofs.CompleteLemmas.{fails_complete}
 use Rattle.page_frames.specs.InPlace.{IsInPlace, StaysInPlace}

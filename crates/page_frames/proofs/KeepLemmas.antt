@@ -6,7 +6,7 @@ use Rattle.log_records.specs.View.{Versioned, Spells}
 use Rattle.ipl_base.specs.declared.fault.ChipFault.{ChipFault}
 use Rattle.ipl_base.specs.declared.fault.ChipFault.TheVariants.{Stopped}
 use Rattle.ipl_format.specs.Record.{Record}
-use Rattle.ipl_rules.specs.State.{State}
+use Rattle.ipl_model.specs.State.{State}
 use Rattle.ipl_meaning.specs.Chart.{Chart, chart_of}
 use Rattle.ipl_meaning.specs.Layout.{Layout}
 use Rattle.ipl_meaning.specs.Mirrors.{Mirrors, NoneIsLost}
@@ -16,8 +16,8 @@ use Rattle.ipl_meaning.specs.Steps.{KeepsPages, with_log}
 use Rattle.ipl_meaning.specs.Tables.{Places, Tables}
 use Rattle.record_locks.specs.Held.{SessionSlots, number_of}
 use Rattle.unit_io.specs.Charts.{Charts}
-use Rattle.step_laws.specs.Steps.{Settled}
-use Rattle.merge_laws.specs.Merged.{merged_shape}
+use Rattle.unit_io.specs.Steps.{Settled}
+use Rattle.selective_merge.specs.Merged.{merged_shape}
 use Rattle.store_laws.specs.Pending.{IsPending}
 use Rattle.store_laws.specs.Frames.{PageFrame, Frames, with_frame_at, with_frame_log}
 use Rattle.store_laws.specs.Fits.{Fits}

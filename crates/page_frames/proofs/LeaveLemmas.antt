@@ -10,11 +10,11 @@ use Rattle.buffer_pool.proofs.HoldingLemmas.{rest_stays}
 use Rattle.store_laws.specs.Frames.{PageFrame, Frames, with_frame_at, with_frame_log}
 use Rattle.store_laws.proofs.MemoryLemmas.{cases_page}
 use Rattle.store_laws.proofs.SameLemmas.{frame_here, frame_other}
-use Rattle.step_laws.specs.Steps.{Tidies}
-use Rattle.step_laws.proofs.TablesLemmas.{tables_none}
+use Rattle.unit_io.specs.Steps.{Tidies}
+use Rattle.unit_io.proofs.TablesLemmas.{tables_none}
 use Rattle.place_taking.proofs.WearLemmas.{alike_tables, nothing_wears}
 use Rattle.store_laws.specs.Advances.{KeepsState}
-use Rattle.merge_laws.specs.Known.{KnowsPlaces}
+use Rattle.selective_merge.specs.Known.{KnowsPlaces}
 use Rattle.selective_merge.specs.Moving.{tables_of}
 use Rattle.store_laws.proofs.KeeperLemmas.{evictions_keep_states}
 use Rattle.page_frames.specs.Views.{frame_in, frames_of}

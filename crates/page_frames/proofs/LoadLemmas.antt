@@ -20,9 +20,9 @@ use Rattle.store_laws.specs.Frames.{PageFrame, Frames, logs_of, with_frame_at, I
 use Rattle.place_taking.specs.Spending.{is_worn_out, tells_worn}
 use Rattle.place_taking.specs.Wear.{TellsOfWear}
 use Rattle.place_taking.proofs.WearLemmas.{alike_tables, reads_wear_at}
-use Rattle.status_renewal.specs.Passes.{RenewCause}
-use Rattle.step_laws.specs.Steps.{Tidies}
-use Rattle.step_laws.proofs.TablesLemmas.{tables_read}
+use Rattle.restart.specs.Passes.{RenewCause}
+use Rattle.unit_io.specs.Steps.{Tidies}
+use Rattle.unit_io.proofs.TablesLemmas.{tables_read}
 use Rattle.store_laws.specs.Advances.{KeepsState}
 use Rattle.store_laws.specs.Views.{frame_of}
 use Rattle.store_laws.proofs.KeeperLemmas.{loads_anywhere_keep_states, reads_anywhere_keep_states}
@@ -31,7 +31,7 @@ use Rattle.unit_io.specs.ReadsAt.{Anywhere, ReadsAt}
 use Rattle.unit_io.proofs.ReadsAtLemmas.{at_wider}
 use Rattle.page_frames.proofs.FrameViewLemmas.{put_again, put_same}
 use Rattle.unit_io.specs.Accounts.{Accounts}
-use Rattle.merge_laws.specs.Known.{KnowsPlaces}
+use Rattle.selective_merge.specs.Known.{KnowsPlaces}
 use Rattle.buffer_pool.specs.Holding.{KeepsPins}
 use Rattle.buffer_pool.proofs.HoldingLemmas.{rest_stays}
 use Rattle.store_laws.proofs.MemoryLemmas.{cases_page}

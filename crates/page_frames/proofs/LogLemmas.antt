@@ -11,7 +11,7 @@ use Rattle.ipl_base.specs.declared.spot.Spot.{Spot}
 use Rattle.ipl_format.specs.Record.{Record, SpellsLog}
 use Rattle.ipl_format.specs.Sector.{Sector}
 use Rattle.ipl_format.proofs.RecordLemmas.{logs_spell_once}
-use Rattle.ipl_rules.specs.State.{Map}
+use Rattle.ipl_model.specs.State.{Map}
 use Rattle.ipl_meaning.specs.Chart.{Chart}
 use Rattle.ipl_meaning.specs.Found.{MentionsBelow}
 use Rattle.ipl_meaning.specs.Layout.{Entry, Layout, Laid}
@@ -33,7 +33,7 @@ use Rattle.sector_format.specs.declared.sector.Head.{Head}
 use Rattle.unit_io.specs.Charts.{Charts, Gains}
 use Rattle.unit_io.specs.Leads.{IsSteady, IsStopped, KeepsMap, RestsWith}
 use Rattle.unit_io.specs.Spots.{Programs, IsSpot}
-use Rattle.step_laws.proofs.StepLemmas.{writes_are_steps, failed_writes_are_steps}
+use Rattle.unit_io.proofs.StepLemmas.{writes_are_steps, failed_writes_are_steps}
 use Rattle.selective_merge.specs.Spotting.{IsSpotFor}
 use Rattle.page_frames.specs.Writing.{mask_by, IsAfterLog, IsLogOf, IsToLog, HasLogSector, WritesLog, WritesLogInSteps}
 use Rattle.page_frames.proofs.SpotLemmas.{spot_counted, spot_of_log, log_active}

@@ -8,7 +8,7 @@ use Rattle.ipl_base.specs.declared.fault.ChipFault.{ChipFault}
 use Rattle.ipl_base.specs.declared.fault.ChipFault.TheVariants.{ReadFault, Stopped, Damaged, Malformed, WornOut}
 use Rattle.ipl_meaning.specs.Tables.{Places, Tables}
 use Rattle.unit_io.specs.Accounts.{Accounts}
-use Rattle.status_renewal.specs.Passes.{RenewCause}
+use Rattle.restart.specs.Passes.{RenewCause}
 use Rattle.buffer_pool.specs.Holding.{KeepsPins}
 use Rattle.buffer_pool.proofs.HoldingLemmas.{rest_stays}
 use Rattle.store_laws.specs.Frames.{PageFrame, Frames, logs_of, with_frame_at, with_frame_log}

@@ -10,7 +10,7 @@ use Rattle.ipl_meaning.specs.Chart.{chart_of}
 use Rattle.ipl_meaning.specs.Rests.{now, EachStands, StoryRests}
 use Rattle.ipl_meaning.specs.Tables.{Tables}
 use Rattle.unit_io.specs.Charts.{Charts}
-use Rattle.step_laws.specs.Steps.{NoOtherEnd}
+use Rattle.unit_io.specs.Steps.{NoOtherEnd}
 use Rattle.store_laws.proofs.StepLemmas.{steps_then, steps_weaker}
 use Rattle.ipl_base.specs.declared.spot.Spot.{Spot}
 use Rattle.page_frames.specs.Rooms.{MakesLogRoom, RestsWithLogRoom, FindsRoomInSteps}

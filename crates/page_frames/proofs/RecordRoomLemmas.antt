@@ -8,8 +8,8 @@ use Rattle.ipl_meaning.specs.Layout.{Shape, Layout, records_of}
 use Rattle.ipl_meaning.specs.Mirrors.{Mirrors, NoneIsLost}
 use Rattle.ipl_meaning.specs.Steps.{KeepsPages}
 use Rattle.ipl_meaning.specs.Tables.{Tables}
-use Rattle.merge_laws.specs.Merged.{IsMergedUnit, merged_layout, merged_shape, packs_in}
-use Rattle.merge_laws.proofs.PacksLemmas.{entries_records, packs_join}
+use Rattle.selective_merge.specs.Merged.{IsMergedUnit, merged_layout, merged_shape, packs_in}
+use Rattle.selective_merge.proofs.PacksLemmas.{entries_records, packs_join}
 use Rattle.selective_merge.specs.Placing.{IsPlaced}
 use Rattle.store_laws.specs.Fits.{is_active}
 use Rattle.store_laws.proofs.CarriedLemmas.{merged_or_same}

@@ -9,12 +9,12 @@ use Rattle.ipl_meaning.specs.Mirrors.{NoneIsLost}
 use Rattle.ipl_meaning.specs.Tables.{Tables}
 use Rattle.unit_io.specs.Accounts.{Accounts}
 use Rattle.unit_io.specs.Charts.{Charts}
-use Rattle.step_laws.specs.Steps.{Settled}
+use Rattle.unit_io.specs.Steps.{Settled}
 use Rattle.store_laws.specs.Frames.{Frames}
 use Rattle.store_laws.specs.Advances.{KeepsTablesOn, TurnsTables, KeepsState}
 use Rattle.store_laws.proofs.KeeperLemmas.{table_calls_keep_states}
-use Rattle.status_renewal.specs.Passes.{HasRenewed, HasStopped, RenewsTold, HoldsRenewed, KeepsInSteps, RenewCause}
-use Rattle.status_renewal.proofs.RestLemmas.{passed_logs_are_same_or_carried, exact_numbers_keep, soft_end}
+use Rattle.restart.specs.Passes.{HasRenewed, HasStopped, RenewsTold, HoldsRenewed, KeepsInSteps, RenewCause}
+use Rattle.restart.proofs.RestLemmas.{passed_logs_are_same_or_carried, exact_numbers_keep, soft_end}
 
 -- ---- the tables turned
 

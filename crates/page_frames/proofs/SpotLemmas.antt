@@ -13,7 +13,7 @@ use Rattle.overflow.specs.Lists.{IsPlaceOf, IsSoundOverflow, after_add}
 use Rattle.overflow.specs.Laws.{FirstSpotsAreAdded}
 use Rattle.place_taking.specs.Homes.{KeepsHomes}
 use Rattle.place_taking.proofs.HomeLemmas.{homes_same, homes_then}
-use Rattle.merge_laws.specs.Known.{Suits, IsNamed, KnowsPlaces}
+use Rattle.selective_merge.specs.Known.{Suits, IsNamed, KnowsPlaces}
 use Rattle.selective_merge.specs.Moving.{Holds}
 use Rattle.selective_merge.proofs.HeldLemmas.{homes_moved}
 use Rattle.selective_merge.specs.Spotting.{IsHomeSpot, IsSpotFor}

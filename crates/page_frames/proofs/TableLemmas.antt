@@ -17,7 +17,7 @@ use Rattle.place_taking.specs.Spending.{ErasesFor, SparesUsed, is_worn_out}
 use Rattle.place_taking.specs.Wear.{TellsOfWear}
 use Rattle.place_taking.proofs.HomeLemmas.{erases_leave}
 use Rattle.place_taking.proofs.WearLemmas.{spared_places_wear}
-use Rattle.step_laws.specs.Steps.{Settled, RestsAgreeing, Tidies}
+use Rattle.unit_io.specs.Steps.{Settled, RestsAgreeing, Tidies}
 use Rattle.selective_merge.specs.Homes.{MergeCause}
 use Rattle.selective_merge.specs.Merging.{Merges, StaysMirrored, MergesInSteps, RestsMerged}
 use Rattle.selective_merge.specs.Moving.{Holds}
@@ -28,12 +28,12 @@ use Rattle.store_laws.specs.Advances.{TurnsTables, KeepsState}
 use Rattle.store_laws.proofs.KeeperLemmas.{table_calls_keep_states}
 use Rattle.store_laws.proofs.StepLemmas.{steps_weaker}
 use Rattle.page_frames.proofs.RecordRoomLemmas.{turned_same, turned_merged}
-use Rattle.merge_laws.specs.Known.{KnowsPlaces}
+use Rattle.selective_merge.specs.Known.{KnowsPlaces}
 use Rattle.buffer_pool.specs.Pools.{PoolView}
 use Rattle.buffer_pool.specs.Holding.{IsAtRest, KeepsPins}
 use Rattle.buffer_pool.proofs.HoldingLemmas.{nothing_keeps}
-use Rattle.status_renewal.specs.Passes.{RenewsTold, HoldsRenewed, KeepsInSteps, RenewCause}
-use Rattle.status_renewal.proofs.CauseLemmas.{merge_accounts}
+use Rattle.restart.specs.Passes.{RenewsTold, HoldsRenewed, KeepsInSteps, RenewCause}
+use Rattle.restart.proofs.CauseLemmas.{merge_accounts}
 use Rattle.page_frames.specs.Views.{frames_of}
 use Rattle.page_frames.proofs.RenewLemmas.{renew_keeps}
 use Rattle.page_frames.specs.declared.pages.Pages.{Pages}

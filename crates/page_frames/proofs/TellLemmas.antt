@@ -4,19 +4,19 @@ use Rattle.chip_trait.specs.Story.{Contents}
 use Rattle.chip_trait.specs.Told.{Told}
 use Rattle.ipl_base.specs.declared.fault.ChipFault.{ChipFault}
 use Rattle.ipl_base.specs.declared.fault.ChipFault.TheVariants.{ReadFault}
-use Rattle.ipl_rules.specs.State.{State}
+use Rattle.ipl_model.specs.State.{State}
 use Rattle.record_locks.specs.Held.{SessionSlots}
 use Rattle.ipl_meaning.specs.Chart.{chart_of}
 use Rattle.ipl_meaning.specs.Layout.{Layout}
 use Rattle.ipl_meaning.specs.Tables.{Tables}
 use Rattle.unit_io.specs.Faults.{TellsChipFault}
-use Rattle.merge_laws.specs.Faults.{page_fault_from, merge_fault, FailsByChipAlone}
-use Rattle.merge_laws.specs.Merged.{source_in}
-use Rattle.merge_laws.proofs.FaultLemmas.{merge_faults_are_of_the_unit}
+use Rattle.selective_merge.specs.Faults.{page_fault_from, merge_fault, FailsByChipAlone}
+use Rattle.selective_merge.specs.Merged.{source_in}
+use Rattle.selective_merge.proofs.FaultLemmas.{merge_faults_are_of_the_unit}
 use Rattle.selective_merge.specs.Merging.{Merges, StaysMirrored, FailsAsMerge, TellsMergeFault}
 use Rattle.selective_merge.specs.Throughout.{ChartsThroughout}
 use Rattle.selective_merge.proofs.CompleteLemmas.{merge_fails_so}
-use Rattle.status_renewal.specs.InPlace.{RenewalFailsInPlace}
+use Rattle.restart.specs.InPlace.{RenewalFailsInPlace}
 use Rattle.number_set.specs.Numbers.{among}
 use Rattle.page_rebuild.specs.Loaded.{OfTables, load_fault}
 use Rattle.page_frames.specs.InPlace.{StaysInPlace}

@@ -6,10 +6,10 @@ use Rattle.ipl_meaning.specs.Tables.{Tables, IsCountedClean}
 use Rattle.ipl_meaning.specs.TableSteps.{CountedShrink, with_next}
 use Rattle.unit_io.specs.Costs.{Spends}
 use Rattle.unit_io.specs.Spots.{Programs, IsSpot}
-use Rattle.step_laws.specs.Steps.{Tidies}
-use Rattle.step_laws.proofs.TablesLemmas.{tables_programmed}
-use Rattle.merge_laws.specs.Known.{KnowsPlaces}
-use Rattle.merge_laws.proofs.KnownCleanLemmas.{home_shrinks, overflow_shrinks}
+use Rattle.unit_io.specs.Steps.{Tidies}
+use Rattle.unit_io.proofs.TablesLemmas.{tables_programmed}
+use Rattle.selective_merge.specs.Known.{KnowsPlaces}
+use Rattle.selective_merge.proofs.KnownCleanLemmas.{home_shrinks, overflow_shrinks}
 use Rattle.selective_merge.specs.Spotting.{IsSpotFor}
 use Rattle.page_frames.specs.Writing.{IsAfterLog}
 use Rattle.page_frames.proofs.SpotLemmas.{spot_counted, spot_of_log}

@@ -7,8 +7,8 @@ use Rattle.ipl_base.specs.declared.fault.ChipFault.{ChipFault}
 use Rattle.buffer_pool.proofs.HoldingLemmas.{nothing_keeps, both_keep}
 use Rattle.place_taking.specs.Spending.{is_worn_out}
 use Rattle.place_taking.proofs.WearLemmas.{alike_tables, nothing_wears, wears_are_joined}
-use Rattle.status_renewal.proofs.CauseLemmas.{accounts_then}
-use Rattle.step_laws.proofs.TablesLemmas.{tables_none, tables_then}
+use Rattle.restart.proofs.CauseLemmas.{accounts_then}
+use Rattle.unit_io.proofs.TablesLemmas.{tables_none, tables_then}
 use Rattle.store_laws.proofs.KeeperLemmas.{nothing_keeps_states, keepers_are_joined}
 use Rattle.page_frames.specs.declared.pages.Pages.{Pages}
 use Rattle.page_frames.specs.Pages.{tables_in, frames_in, ArePagesReady, Upholds}

@@ -12,7 +12,7 @@ use Rattle.buffer_pool.proofs.UseLemmas.{kept_uses_are_last}
 use Rattle.store_laws.specs.Frames.{Frames, with_frame_at}
 use Rattle.store_laws.proofs.MemoryLemmas.{cases_page}
 use Rattle.store_laws.proofs.SameLemmas.{frame_other}
-use Rattle.step_laws.proofs.TablesLemmas.{tables_none}
+use Rattle.unit_io.proofs.TablesLemmas.{tables_none}
 use Rattle.place_taking.proofs.WearLemmas.{alike_tables, nothing_wears}
 use Rattle.store_laws.specs.Advances.{KeepsState}
 use Rattle.store_laws.proofs.KeeperLemmas.{nothing_keeps_states}

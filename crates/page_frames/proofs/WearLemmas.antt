@@ -14,7 +14,7 @@ use Rattle.place_taking.specs.Spending.{ErasesFree, SparesUsed}
 use Rattle.place_taking.specs.Wear.{TellsOfWear}
 use Rattle.place_taking.proofs.HomeLemmas.{erases_leave, homes_equal}
 use Rattle.place_taking.proofs.WearLemmas.{failures_wear, programs_leave_places, programs_wear_nothing, spared_places_wear}
-use Rattle.merge_laws.specs.Known.{KnowsPlaces}
+use Rattle.selective_merge.specs.Known.{KnowsPlaces}
 use Rattle.selective_merge.specs.Moving.{Holds}
 use Rattle.selective_merge.proofs.HeldLemmas.{homes_used}
 use Rattle.selective_merge.specs.Spotting.{IsSpotFor}

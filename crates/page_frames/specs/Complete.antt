@@ -3,7 +3,7 @@ use Rattle.std.specs.Prelude.{ℕ, ◌≤◌, Result}
 use Rattle.ipl_base.specs.declared.limits.TheConstants.{PAGE_LEN}
 use Rattle.chip_trait.specs.Told.{Told}
 use Rattle.ipl_base.specs.declared.fault.ChipFault.{ChipFault}
-use Rattle.ipl_rules.specs.State.{State}
+use Rattle.ipl_model.specs.State.{State}
 use Rattle.record_locks.specs.Held.{SessionSlots}
 use Rattle.ipl_meaning.specs.Chart.{chart_of}
 use Rattle.ipl_meaning.specs.Layout.{Layout}
@@ -13,7 +13,7 @@ use Rattle.ipl_meaning.specs.Tables.{Tables}
 use Rattle.ipl_meaning.specs.Values.{Values}
 use Rattle.unit_io.specs.Reads.{OfContents}
 use Rattle.number_set.specs.Numbers.{among}
-use Rattle.merge_laws.specs.Faults.{FailsByChipAlone}
+use Rattle.selective_merge.specs.Faults.{FailsByChipAlone}
 use Rattle.page_ops.specs.Pending.{fill_by}
 use Rattle.page_rebuild.specs.Loaded.{loaded_pending}
 use Rattle.store_laws.specs.Advances.{memory_of, MemoryFits}

@@ -4,7 +4,7 @@ use Rattle.chip_trait.specs.Told.{Told}
 use Rattle.ipl_base.specs.declared.fault.ChipFault.{ChipFault}
 use Rattle.buffer_pool.specs.Pools.{PoolView}
 use Rattle.buffer_pool.specs.Uses.{CountsNoOther, IsUsedLast}
-use Rattle.merge_laws.specs.Known.{Suits}
+use Rattle.selective_merge.specs.Known.{Suits}
 use Rattle.store_laws.specs.Frames.{logs_of}
 use Rattle.page_frames.specs.declared.pages.Pages.{Pages}
 use Rattle.page_frames.specs.Pages.{tables_in, frames_in, IsPageOf, BringsPage}

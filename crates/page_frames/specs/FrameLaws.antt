@@ -1,7 +1,7 @@
 -- What the calls of a pool make of its frames.
 use Rattle.std.specs.Prelude.{ℕ, ◌≡◌, ◌≤◌, ◌<◌, List, [], Some, None}
 use Rattle.ipl_base.specs.declared.limits.TheConstants.{SLOTS}
-use Rattle.ipl_rules.specs.Marks.{Marks}
+use Rattle.ipl_model.specs.Marks.{Marks}
 use Rattle.ipl_format.specs.Record.{Record}
 use Rattle.slab.specs.Slab.{get, Updates}
 use Rattle.page_ops.specs.Frames.{empty_frame}

@@ -7,10 +7,10 @@ use Rattle.ipl_base.specs.declared.limits.TheConstants.{VERSION}
 use Rattle.ipl_meaning.specs.Tables.{Tables}
 use Rattle.unit_io.specs.Accounts.{Accounts}
 use Rattle.unit_io.specs.Costs.{ProgramsAt, Spends}
-use Rattle.step_laws.specs.Steps.{Tidies}
+use Rattle.unit_io.specs.Steps.{Tidies}
 use Rattle.place_taking.specs.Spending.{is_worn_out}
 use Rattle.place_taking.specs.Wear.{TellsOfWear}
-use Rattle.merge_laws.specs.Known.{KnowsPlaces}
+use Rattle.selective_merge.specs.Known.{KnowsPlaces}
 use Rattle.selective_merge.specs.Merging.{FailsAsMerge, CompletesMerge}
 use Rattle.selective_merge.specs.Moving.{Holds}
 use Rattle.selective_merge.specs.Spotting.{IsSpotFor}

@@ -13,11 +13,11 @@ use Rattle.buffer_pool.specs.Holding.{IsAtRest, KeepsPins}
 use Rattle.buffer_pool.specs.Uses.{CountsNoOther, IsUsedFirst, IsUsedLast, UsesPage}
 use Rattle.place_taking.specs.Spending.{is_worn_out}
 use Rattle.place_taking.specs.Wear.{TellsOfWear}
-use Rattle.merge_laws.specs.Known.{KnowsPlaces}
+use Rattle.selective_merge.specs.Known.{KnowsPlaces}
 use Rattle.selective_merge.specs.Moving.{tables_of}
-use Rattle.status_renewal.specs.Passes.{RenewCause}
+use Rattle.restart.specs.Passes.{RenewCause}
 use Rattle.unit_io.specs.Accounts.{Accounts}
-use Rattle.step_laws.specs.Steps.{Tidies}
+use Rattle.unit_io.specs.Steps.{Tidies}
 use Rattle.store_laws.specs.Advances.{KeepsState}
 use Rattle.store_laws.specs.Frames.{PageFrame, Frames, with_frame_at, with_frame_log}
 use Rattle.number_set.specs.Numbers.{among}

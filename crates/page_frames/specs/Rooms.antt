@@ -3,7 +3,7 @@ use Rattle.std.specs.Prelude.{ℕ, ◌≡◌, ◌⊎◌, Result}
 use Rattle.chip_trait.specs.Told.{History, Told}
 use Rattle.ipl_base.specs.declared.fault.ChipFault.{ChipFault}
 use Rattle.ipl_base.specs.declared.spot.Spot.{Spot}
-use Rattle.ipl_rules.specs.State.{Map}
+use Rattle.ipl_model.specs.State.{Map}
 use Rattle.ipl_meaning.specs.Agrees.{IsTidy, Agrees}
 use Rattle.ipl_meaning.specs.Chart.{Chart}
 use Rattle.ipl_meaning.specs.Layout.{Layout}
@@ -11,8 +11,8 @@ use Rattle.ipl_meaning.specs.Mirrors.{Mirrors}
 use Rattle.ipl_meaning.specs.Rests.{now, EachStands, StoryRests}
 use Rattle.ipl_meaning.specs.Tables.{Tables}
 use Rattle.unit_io.specs.Leads.{IsSteady}
-use Rattle.step_laws.specs.Steps.{Steps}
-use Rattle.merge_laws.specs.Merged.{IsMergedUnit, merged_layout}
+use Rattle.unit_io.specs.Steps.{Steps}
+use Rattle.selective_merge.specs.Merged.{IsMergedUnit, merged_layout}
 use Rattle.selective_merge.specs.Placing.{IsPlaced}
 use Rattle.selective_merge.specs.Throughout.{ChartsThroughout}
 use Rattle.store_laws.specs.Advances.{KeepsTablesOn, TurnsTables}

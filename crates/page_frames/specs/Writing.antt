@@ -6,7 +6,7 @@ use Rattle.ipl_base.specs.declared.fault.ChipFault.{ChipFault}
 use Rattle.ipl_base.specs.declared.spot.Spot.{Spot}
 use Rattle.ipl_format.specs.Record.{Record}
 use Rattle.ipl_format.specs.Sector.{Sector}
-use Rattle.ipl_rules.specs.State.{Map}
+use Rattle.ipl_model.specs.State.{Map}
 use Rattle.ipl_meaning.specs.Agrees.{Agrees}
 use Rattle.ipl_meaning.specs.Chart.{Chart}
 use Rattle.ipl_meaning.specs.Layout.{Layout}
@@ -19,8 +19,8 @@ use Rattle.ipl_meaning.specs.Tables.{Tables}
 use Rattle.ipl_meaning.specs.TableSteps.{after_home_log, after_overflow_log}
 use Rattle.unit_io.specs.Charts.{Gains}
 use Rattle.unit_io.specs.Leads.{IsSteady}
-use Rattle.step_laws.specs.Steps.{NoOtherEnd, Steps}
-use Rattle.step_laws.specs.Laws.{Preserves}
+use Rattle.unit_io.specs.Steps.{NoOtherEnd, Steps}
+use Rattle.unit_io.specs.StepLaws.{Preserves}
 use Rattle.selective_merge.specs.Spotting.{IsHomeSpot, IsOverflowSpot}
 use Rattle.selective_merge.specs.Throughout.{ChartsThroughout}
 use Rattle.store_laws.specs.Advances.{TurnsTables}

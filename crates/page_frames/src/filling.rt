@@ -3,7 +3,7 @@ ghost use Rattle.std.specs.Prelude.{◌≡◌, ◌≤◌, ◌<◌, ◌+◌, ◌-
 ghost use Rattle.ipl_base.specs.declared.limits.TheConstants.{SESSIONS, VALUE_LEN};
 ghost use Rattle.ipl_base.specs.Places.{home_of};
 ghost use Rattle.ipl_base.specs.Sizes.{size_in_page};
-ghost use Rattle.ipl_rules.specs.Marks.{with_mark};
+ghost use Rattle.ipl_model.specs.Marks.{with_mark};
 ghost use Rattle.ipl_format.specs.Page.{value_in};
 ghost use Rattle.record_locks.specs.Held.{is_among, marks_in, written_of};
 ghost use Rattle.page_ops.specs.Frames.{values_in};

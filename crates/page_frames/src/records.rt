@@ -3,7 +3,7 @@ ghost use Rattle.ipl_base.specs.declared.limits.TheConstants.{VERSION};
 ghost use Rattle.std.specs.Prelude.{◌≡◌, ◌<◌, ◌+◌, ◌^◌, length, false, OnOk, IsTrue};
 ghost use Rattle.unit_io.specs.Charts.{Charts};
 ghost use Rattle.unit_io.specs.Leads.{IsStopped};
-ghost use Rattle.merge_laws.specs.Known.{KnowsPlaces};
+ghost use Rattle.selective_merge.specs.Known.{KnowsPlaces};
 ghost use Rattle.selective_merge.specs.Moving.{tables_of};
 ghost use Rattle.selective_merge.specs.Spotting.{IsHomeSpot};
 ghost use Rattle.page_frames.specs.Causes.{WritingCause};

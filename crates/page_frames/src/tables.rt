@@ -7,15 +7,15 @@ ghost use Rattle.place_taking.specs.Spending.{ErasesFor, is_worn_out};
 ghost use Rattle.txn_status.specs.Status.{room_of};
 ghost use Rattle.selective_merge.specs.Merging.{Merges, StaysMirrored, FailsAsMerge};
 ghost use Rattle.selective_merge.specs.Throughout.{ChartsThroughout};
-ghost use Rattle.status_renewal.specs.Passes.{ErasesAtMost};
+ghost use Rattle.restart.specs.Passes.{ErasesAtMost};
 ghost use Rattle.page_frames.specs.Pages.{tables_in, KeepsFramed, ArePagesReady};
 ghost use Rattle.page_frames.specs.Works.{WorksOn};
 
 use crate::Pages;
 use chip_trait::Chip;
 use ipl_base::ChipFault;
+use restart::{KeptNumbers, renew};
 use selective_merge::merge;
-use status_renewal::{KeptNumbers, renew};
 
 impl Pages {
     /// Makes sure of a clean sector for a commit: where the status place has none, it is renewed.

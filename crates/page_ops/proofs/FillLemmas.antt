@@ -7,8 +7,8 @@ use Rattle.std.proofs.lemmas.Bool.{false≢true, eq-eqb, ne_eqb}
 use Rattle.std.proofs.lemmas.List.Sums.{sum_by-cons}
 use Rattle.ipl_base.specs.declared.limits.TheConstants.{PAGE_LEN, SLOTS, VERSION}
 use Rattle.ipl_base.specs.Sizes.{size_in_page, size_of_values}
-use Rattle.ipl_rules.specs.Marks.{Marks, fill_of}
-use Rattle.ipl_rules.proofs.SumLemmas.{sums_less, sums_same, sums_joined, sums_at}
+use Rattle.ipl_model.specs.Marks.{Marks, fill_of}
+use Rattle.ipl_model.proofs.SumLemmas.{sums_less, sums_same, sums_joined, sums_at}
 use Rattle.ipl_format.specs.Page.{Slots, SpellsPage, value_in}
 use Rattle.ipl_meaning.specs.Values.{Values}
 use Rattle.ipl_meaning.proofs.SizeLemmas.{texts_have_sizes}

@@ -6,8 +6,8 @@ use Rattle.std.proofs.lemmas.Bool.{cases_eq, eq-eqb, ne_eqb}
 use Rattle.std.proofs.lemmas.List.{get_or-set_other}
 use Rattle.ipl_base.specs.declared.limits.TheConstants.{PAGE_LEN, SLOTS, VERSION}
 use Rattle.ipl_base.specs.Sizes.{size_in_page, size_of_values}
-use Rattle.ipl_rules.specs.Marks.{fill_of}
-use Rattle.ipl_rules.proofs.MarkLemmas.{le_trans}
+use Rattle.ipl_model.specs.Marks.{fill_of}
+use Rattle.ipl_model.proofs.RuleMarkLemmas.{le_trans}
 use Rattle.ipl_format.specs.Page.{Slots, IsPage, empty_page, value_in}
 use Rattle.ipl_meaning.specs.Values.{Values}
 use Rattle.ipl_meaning.proofs.SizeLemmas.{texts_have_sizes}

@@ -1,7 +1,7 @@
 -- Changes of a page's slots that are pending: their transactions aren't committed yet.
 use Rattle.std.specs.Prelude.{ℕ, ◌+◌, ◌==◌, List, Option, Some, None, if◌then◌else◌}
 use Rattle.ipl_base.specs.Sizes.{size_in_page}
-use Rattle.ipl_rules.specs.Marks.{fill_of}
+use Rattle.ipl_model.specs.Marks.{fill_of}
 use Rattle.ipl_format.specs.Record.{Change}
 use Rattle.ipl_meaning.specs.Values.{Values}
 

@@ -5,7 +5,7 @@ use Rattle.std.proofs.Math.Nat.{le-max_left, le-max_right, max-le}
 use Rattle.std.proofs.lemmas.Bool.{cases_lt, false≢true}
 use Rattle.ipl_base.specs.declared.limits.TheConstants.{PAGE_LEN}
 use Rattle.ipl_base.specs.Sizes.{size_in_page, size_of_values}
-use Rattle.ipl_rules.proofs.MarkLemmas.{le_trans}
+use Rattle.ipl_model.proofs.RuleMarkLemmas.{le_trans}
 use Rattle.ipl_meaning.specs.Values.{Values}
 use Rattle.page_ops.specs.Pending.{Pending, Pendings, fill_by, mark_of}
 use Rattle.page_ops.specs.Frames.{FrameView, HasNonePending, empty_frame, pending_in}

@@ -2,13 +2,13 @@
 use Rattle.std.specs.Prelude.{Result}
 use Rattle.chip_trait.specs.Told.{History, Told}
 use Rattle.ipl_base.specs.declared.fault.ChipFault.{ChipFault}
-use Rattle.ipl_rules.specs.State.{Map}
+use Rattle.ipl_model.specs.State.{Map}
 use Rattle.ipl_meaning.specs.Layout.{Layout}
 use Rattle.ipl_meaning.specs.Rests.{StoryRests}
 use Rattle.ipl_meaning.specs.Tables.{Tables}
 use Rattle.ipl_meaning.specs.Agrees.{Agrees}
 use Rattle.unit_io.specs.Leads.{IsSteady}
-use Rattle.step_laws.specs.Steps.{KeepsTables}
+use Rattle.unit_io.specs.Steps.{KeepsTables}
 
 -- whatever map the story rests on, and whatever tables agree with the chip: it rests and they agree
 -- still

@@ -1,7 +1,7 @@
 //! A page is read, and its unit's log.
 ghost use Rattle.std.specs.Prelude.{◌≡◌, ◌≤◌, ◌<◌, length, slice_index, OnOk, OnErr};
 ghost use Rattle.ipl_base.specs.declared.limits.TheConstants.{LIVE_SECTORS};
-ghost use Rattle.ipl_rules.specs.State.{Map};
+ghost use Rattle.ipl_model.specs.State.{Map};
 ghost use Rattle.ipl_format.specs.Page.{empty_page};
 ghost use Rattle.ipl_meaning.specs.Chart.{chart_of};
 ghost use Rattle.ipl_meaning.specs.Stands.{Stands};

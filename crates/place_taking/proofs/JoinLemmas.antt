@@ -11,7 +11,7 @@ use Rattle.chip_trait.specs.Story.{Story}
 use Rattle.chip_trait.specs.Told.{History, Told, Counts, adds_all}
 use Rattle.ipl_base.specs.declared.limits.TheConstants.{SECTORS, FIRST_LOG_SECTOR}
 use Rattle.ipl_base.specs.declared.fault.ChipFault.{ChipFault}
-use Rattle.ipl_rules.specs.State.{Map}
+use Rattle.ipl_model.specs.State.{Map}
 use Rattle.ipl_meaning.specs.Layout.{Layout}
 use Rattle.ipl_meaning.specs.Rests.{EachStands}
 use Rattle.ipl_meaning.specs.Tables.{counted_written, Places, IsFree, Tables, IsCountedClean}
@@ -23,8 +23,8 @@ use Rattle.unit_io.specs.ReadsAt.{IsReadAt, ReadsAt}
 use Rattle.unit_io.specs.Spots.{Programs}
 use Rattle.unit_io.proofs.CostLemmas.{barriers_joined, erased_joined, spends_then, spends_weaker}
 use Rattle.unit_io.proofs.SpotLemmas.{silent_both}
-use Rattle.step_laws.specs.Steps.{Settled, Outcome, TidyWork, RestsAgreeing}
-use Rattle.step_laws.proofs.StepLemmas.{failures_settle, outcome_then, outcome_weaker}
+use Rattle.unit_io.specs.Steps.{Settled, Outcome, TidyWork, RestsAgreeing}
+use Rattle.unit_io.proofs.StepLemmas.{failures_settle, outcome_then, outcome_weaker}
 use Rattle.place_taking.specs.Fills.{AreOf, FillsAt}
 use Rattle.place_taking.specs.Spending.{RetiringCosts, ErasesFree, ErasesFor, WritesFree, tells_worn}
 use Rattle.place_taking.specs.Takes.{ClearsNext, ErasesNext, IsAsideFrom, IsTakenFrom, TakesPlace, with_places}

@@ -17,7 +17,7 @@ use Rattle.ipl_base.specs.declared.fault.ChipFault.{ChipFault}
 use Rattle.ipl_base.specs.declared.fault.ChipFault.TheVariants.{WornOut}
 use Rattle.ipl_base.specs.Places.{spares_on}
 use Rattle.ipl_format.specs.Header.{IsLower}
-use Rattle.ipl_rules.specs.State.{Map}
+use Rattle.ipl_model.specs.State.{Map}
 use Rattle.ipl_meaning.specs.Chart.{Chart}
 use Rattle.ipl_meaning.specs.Layout.{Layout, Laid}
 use Rattle.ipl_meaning.specs.Rests.{now, EachStands, StoryRests}
@@ -41,8 +41,8 @@ use Rattle.unit_io.proofs.PlaceLemmas.{begin_tells, begin_worn, begun_done, begu
 use Rattle.unit_io.proofs.SparesLemmas.{spares_erased, spares_then, spares_waited}
 use Rattle.unit_io.proofs.SpotLemmas.{clears_all, clears_erase, clears_none, clears_worn, silent_both}
 use Rattle.unit_io.proofs.UnreadLemmas.{unread_then}
-use Rattle.step_laws.specs.Steps.{Settled, EndsWith, Outcome, RestsAgreeing}
-use Rattle.step_laws.proofs.StepLemmas.{failures_settle, outcome_then, outcome_weaker}
+use Rattle.unit_io.specs.Steps.{Settled, EndsWith, Outcome, RestsAgreeing}
+use Rattle.unit_io.proofs.StepLemmas.{failures_settle, outcome_then, outcome_weaker}
 use Rattle.place_taking.specs.Spending.{ErasesFree, FindsOneMore, IsFreshFrom, RetiresWorn, SparesClean, SparesUsed, is_found_worn, tells_worn}
 use Rattle.place_taking.specs.Takes.{ClearsNext, ErasesNext, IsAsideFrom, IsNotTaken, IsTakenFrom, RestsTaken, TakesFree, TakesPlace, TellsTaking, with_places}
 use Rattle.place_taking.specs.Turns.{FindsNextWorn}

@@ -4,7 +4,7 @@ use Rattle.chip_trait.specs.Story.{Story}
 use Rattle.chip_trait.specs.Told.{History, Told, Rose}
 use Rattle.ipl_base.specs.declared.fault.ChipFault.{ChipFault}
 use Rattle.ipl_base.specs.declared.fault.ChipFault.TheVariants.{Stopped, WornOut}
-use Rattle.ipl_rules.specs.State.{Map}
+use Rattle.ipl_model.specs.State.{Map}
 use Rattle.ipl_meaning.specs.Chart.{Chart}
 use Rattle.ipl_meaning.specs.Layout.{Layout}
 use Rattle.ipl_meaning.specs.Rests.{now, EachStands}
@@ -15,7 +15,7 @@ use Rattle.unit_io.specs.Charts.{Charts, IsCleared}
 use Rattle.unit_io.specs.Costs.{Spends, is_erased}
 use Rattle.unit_io.specs.Leads.{IsSteady, IsStopped}
 use Rattle.unit_io.specs.Unread.{ReadsNothing}
-use Rattle.step_laws.specs.Steps.{Settled, EndsWith, Outcome, RestsAgreeing}
+use Rattle.unit_io.specs.Steps.{Settled, EndsWith, Outcome, RestsAgreeing}
 use Rattle.place_taking.specs.Spending.{ErasesFree, SparesClean, IsFreshFrom, SparesUsed, is_worn_out}
 
 -- ---- the directory

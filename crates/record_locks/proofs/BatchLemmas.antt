@@ -4,10 +4,10 @@ use Rattle.std.specs.Prelude.{find}
 use Rattle.std.specs.List.{list_any, range_with_len}
 use Rattle.std.proofs.lemmas.List.{length-set}
 use Rattle.ipl_base.specs.declared.fault.Refusal.TheVariants.{BadSession, NotOpen}
-use Rattle.ipl_rules.specs.State.{is_open}
-use Rattle.ipl_rules.specs.Refusals.{first_of, is_twice, twice}
-use Rattle.ipl_rules.specs.Operations as rules
-use Rattle.ipl_rules.proofs.BatchLemmas.{first_in, later_in, any_alike}
+use Rattle.ipl_model.specs.State.{is_open}
+use Rattle.ipl_model.specs.Refusals.{first_of, is_twice, twice}
+use Rattle.ipl_model.specs.Operations as rules
+use Rattle.ipl_model.proofs.RuleBatchLemmas.{first_in, later_in, any_alike}
 use Rattle.record_locks.specs.Held.{SessionSlots, after_end, after_batch}
 use Rattle.record_locks.specs.Standing.{state_of}
 use Rattle.record_locks.specs.Names.{BatchesRefuseAsStates, BatchesKeepNames, BatchesKeepMarks}

@@ -5,18 +5,18 @@ use Rattle.std.specs.List.{count_by}
 use Rattle.std.specs.Option.{option_map, option_map_or}
 use Rattle.std.proofs.lemmas.Bool.Decides.{nat_tests}
 use Rattle.std.proofs.lemmas.List.{get_or_read}
-use Rattle.ipl_rules.specs.State as rules
-use Rattle.ipl_rules.specs.Refusals as tests
+use Rattle.ipl_model.specs.State as rules
+use Rattle.ipl_model.specs.Refusals as tests
 use Rattle.record_locks.specs.Held.{Held, SessionSlots, held_at, written_of, is_among, raised, slot_marks, marks_in, with_written, with_shared}
-use Rattle.ipl_rules.specs.Slots.{open_from}
+use Rattle.ipl_model.specs.Slots.{open_from}
 use Rattle.record_locks.specs.Standing.{state_of, slot_of, keeps_from}
 use Rattle.record_locks.specs.Locks.{AreSoundSlots, IsSized, total, written_in, pending_full, refuses_share, refuses_write, holder_of}
-use Rattle.ipl_rules.proofs.SlotLemmas.{entries-opened}
+use Rattle.ipl_model.proofs.RuleSlotLemmas.{entries-opened}
 use Rattle.record_locks.proofs.StandingLemmas.{new_write_at, new_share_at, shares_counted}
 use Rattle.record_locks.proofs.TotalLemmas.{names_counted, nobody_wrote, total_set}
 use Rattle.record_locks.proofs.MarkLemmas.{written_marks, written_sized, sized_at}
 use Rattle.record_locks.proofs.SoundLemmas.{sound_less, sound_more, once_more}
-use Rattle.ipl_rules.specs.Marks.{with_mark, overloads}
+use Rattle.ipl_model.specs.Marks.{with_mark, overloads}
 
 pub holder_at : (slots : SessionSlots) (s n : ℕ) (for_write : Bool)
     → option_map (λ e. e.0) (find (λ e. not (e.0 == s) && keeps_from for_write n e.1) (open_from 0 (map slot_of slots))) ≡ holder_of slots s n for_write

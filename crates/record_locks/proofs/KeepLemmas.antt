@@ -7,19 +7,19 @@ use Rattle.std.specs.Ordering.{nat_cmp, eq_by_cmp}
 use Rattle.std.proofs.lemmas.Bool.{cases_eq}
 use Rattle.std.proofs.lemmas.Bool.Decides.{nat_tests}
 use Rattle.std.proofs.lemmas.List.{reverse-append}
-use Rattle.ipl_rules.specs.State.{State, Session, Write, last_write, written_names}
-use Rattle.ipl_rules.specs.Refusals.{is_new_share}
-use Rattle.ipl_rules.specs.Operations as rules
+use Rattle.ipl_model.specs.State.{State, Session, Write, last_write, written_names}
+use Rattle.ipl_model.specs.Refusals.{is_new_share}
+use Rattle.ipl_model.specs.Operations as rules
 use Rattle.record_locks.specs.Held.{Held, SessionSlots, held_at, is_among, raised, slot_marks, with_written, with_shared, new_held, after_share, after_write, after_end}
 use Rattle.record_locks.specs.Standing.{state_of, slot_of, session_of, write_of}
 use Rattle.record_locks.specs.Names.{names_of, SameNames, SameMarks, KeepsNames, KeepsNameMarks, CallsKeepNames, CallsKeepMarks}
 use Rattle.record_locks.specs.Locks.{IsSized}
 use Rattle.ipl_base.specs.Sizes.{size_in_page}
-use Rattle.ipl_rules.specs.Marks.{marks_of}
+use Rattle.ipl_model.specs.Marks.{marks_of}
 use Rattle.record_locks.proofs.MarkLemmas.{written_marks, sized_at}
 use Rattle.std.specs.List.{All}
 use Rattle.record_locks.proofs.NameLemmas.{among_reversed}
-use Rattle.ipl_rules.proofs.SlotLemmas.{get_or-set}
+use Rattle.ipl_model.proofs.RuleSlotLemmas.{get_or-set}
 use Rattle.record_locks.proofs.StandingLemmas.{session_at, new_share_at}
 use Rattle.record_locks.proofs.SameLemmas.{among_written, new_shares_alike}
 

@@ -7,9 +7,9 @@ use Rattle.std.proofs.Math.Nat.{le-max_left, le-max_right, max-le, max-zero, max
 use Rattle.std.proofs.lemmas.Bool.{cases_Bool, cases_eq, cases_lt, ne_eqb, eq-eqb}
 use Rattle.std.proofs.lemmas.List.Sums.{sum_by-cons}
 use Rattle.std.proofs.lemmas.List.Elements.{All-cons}
-use Rattle.ipl_rules.specs.Marks.{with_mark, weight_of_mark, weights}
+use Rattle.ipl_model.specs.Marks.{with_mark, weight_of_mark, weights}
 use Rattle.ipl_base.specs.declared.limits.TheConstants.{UNIT_NAMES}
-use Rattle.ipl_rules.proofs.WeightLemmas.{weights_same, weights_none, weights_joined, weights_new}
+use Rattle.ipl_model.proofs.WeightLemmas.{weights_same, weights_none, weights_joined, weights_new}
 use Rattle.record_locks.specs.Held.{Held, SessionSlots, held_at, written_of, is_among, mark_in, raised, weight_listed, slot_marks, marks_in, slot_weight, with_written}
 use Rattle.record_locks.specs.Locks.{IsSized, OneWriter, total, written_in}
 use Rattle.record_locks.proofs.NameLemmas.{count_cons, counted_once}

@@ -4,8 +4,8 @@ use Rattle.std.specs.List.{count_by, sum_by}
 use Rattle.std.proofs.lemmas.List.{reverse-append}
 use Rattle.std.proofs.lemmas.List.Sums.{sum_by-append}
 use Rattle.std.proofs.lemmas.Bool.Decides.{nat_tests}
-use Rattle.ipl_rules.proofs.ListLemmas.{any_of_reversed}
-use Rattle.ipl_rules.specs.State.{last_write, written_names}
+use Rattle.ipl_model.proofs.ListLemmas.{any_of_reversed}
+use Rattle.ipl_model.specs.State.{last_write, written_names}
 use Rattle.record_locks.specs.Held.{is_among}
 use Rattle.record_locks.specs.Standing.{write_of}
 

@@ -5,7 +5,7 @@ use Rattle.std.specs.List.{refill}
 use Rattle.std.proofs.lemmas.Bool.{cases_Bool}
 use Rattle.std.proofs.Math.Seq.{drop-cons}
 use Rattle.std.proofs.lemmas.List.{drop-drop, get_or-drop, take_at}
-use Rattle.ipl_rules.specs.Marks.{weight_of_mark}
+use Rattle.ipl_model.specs.Marks.{weight_of_mark}
 use Rattle.record_locks.specs.Held.{Held, mark_in, raised, rank_of, weight_listed}
 
 pub rank_here : (names : List ℕ) (i n : ℕ) → i < length names → (get_or names i 0 == n) ≡ true → rank_of n (drop i names) ≡ 0

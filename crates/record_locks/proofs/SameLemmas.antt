@@ -8,14 +8,14 @@ use Rattle.std.specs.Option.{option_map, option_map_or}
 use Rattle.std.specs.Ordering.{nat_cmp, eq_by_cmp, is_lt}
 use Rattle.std.proofs.lemmas.Bool.Decides.{nat_tests}
 use Rattle.ipl_base.specs.declared.fault.Refusal.TheVariants.{AlreadyOpen, NotOpen, WritesFull, SharesFull, PendingFull}
-use Rattle.ipl_rules.specs.State.{State, Session, Write, is_open, last_write, written_names, writes_of, shared_of}
+use Rattle.ipl_model.specs.State.{State, Session, Write, is_open, last_write, written_names, writes_of, shared_of}
 use Rattle.ipl_base.specs.Sizes.{size_in_page}
 use Rattle.ipl_base.specs.declared.limits.TheConstants.{PENDING_WEIGHT, UNIT_NAMES}
-use Rattle.ipl_rules.specs.Marks.{Marks, with_mark, marks_of, marks, overloads}
-use Rattle.ipl_rules.proofs.MarkLemmas.{own_most, by_number}
-use Rattle.ipl_rules.proofs.WeightLemmas.{weights_same}
+use Rattle.ipl_model.specs.Marks.{Marks, with_mark, marks_of, marks, overloads}
+use Rattle.ipl_model.proofs.RuleMarkLemmas.{own_most, by_number}
+use Rattle.ipl_model.proofs.WeightLemmas.{weights_same}
 use Rattle.record_locks.proofs.MarkLemmas.{one_of_all, all_at_most}
-use Rattle.ipl_rules.specs.Refusals.{first_of, conflict, is_new_write, is_new_share}
+use Rattle.ipl_model.specs.Refusals.{first_of, conflict, is_new_write, is_new_share}
 use Rattle.record_locks.specs.Held.{is_among, marks_in}
 use Rattle.record_locks.specs.Names.{names_of, SameNames, TestsAlike, SessionsRefuseAsStates, MarksAreTheStates}
 use Rattle.record_locks.specs.Standing.{state_of}

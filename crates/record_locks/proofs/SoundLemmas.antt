@@ -5,10 +5,10 @@ use Rattle.std.proofs.lemmas.List.Elements.{All-nil, All-cons}
 use Rattle.std.proofs.lemmas.Bool.{cases_eq}
 use Rattle.std.proofs.lemmas.Bool.Decides.{nat_tests}
 use Rattle.std.proofs.Math.ListN.{length-set}
-use Rattle.ipl_rules.specs.Marks.{weights, with_mark, overloads}
+use Rattle.ipl_model.specs.Marks.{weights, with_mark, overloads}
 use Rattle.ipl_base.specs.declared.limits.TheConstants.{PENDING_WEIGHT, SESSIONS, UNIT_NAMES}
-use Rattle.ipl_rules.proofs.MarkLemmas.{le_trans}
-use Rattle.ipl_rules.proofs.WeightLemmas.{weights_same, weights_none, weights_less, weights_elsewhere}
+use Rattle.ipl_model.proofs.RuleMarkLemmas.{le_trans}
+use Rattle.ipl_model.proofs.WeightLemmas.{weights_same, weights_none, weights_less, weights_elsewhere}
 use Rattle.record_locks.specs.Held.{Held, SessionSlots, held_at, slot_marks, marks_in}
 use Rattle.record_locks.specs.Locks.{AreSoundSlots, IsSized, total, written_in}
 use Rattle.record_locks.proofs.TotalLemmas.{total_set, total_cons, one_more}

@@ -5,13 +5,13 @@ use Rattle.std.specs.Option.{option_map_or}
 use Rattle.std.specs.List.{list_any}
 use Rattle.std.proofs.Math.ListN.{get_or-map}
 use Rattle.std.proofs.lemmas.List.{length-reverse}
-use Rattle.ipl_rules.specs.State as rules
-use Rattle.ipl_rules.specs.Refusals as tests
+use Rattle.ipl_model.specs.State as rules
+use Rattle.ipl_model.specs.Refusals as tests
 use Rattle.record_locks.specs.Held.{Held, SessionSlots, held_at, written_of, shared_of, is_among}
 use Rattle.record_locks.specs.Standing.{state_of, slot_of, session_of, write_of, keeps_from}
-use Rattle.ipl_rules.proofs.ListLemmas.{any_of_reversed}
+use Rattle.ipl_model.proofs.ListLemmas.{any_of_reversed}
 use Rattle.record_locks.proofs.NameLemmas.{among_reversed}
-use Rattle.ipl_rules.proofs.SlotLemmas.{opened_at}
+use Rattle.ipl_model.proofs.RuleSlotLemmas.{opened_at}
 
 pub session_at : (slots : SessionSlots) (s : ℕ) → get (state_of slots).sessions s ≡ slot_of (held_at slots s)
 unfolding state_of

@@ -7,13 +7,13 @@ use Rattle.std.proofs.lemmas.Bool.{cases_eq, cases_lt}
 use Rattle.std.proofs.lemmas.Bool.Decides.{nat_tests}
 use Rattle.std.proofs.lemmas.List.{map-append, length-reverse, get_or_past}
 use Rattle.std.proofs.lemmas.List.Sums.{sum_by-set, sum_by-append, get_or-le-sum_by}
-use Rattle.ipl_rules.specs.State as rules
+use Rattle.ipl_model.specs.State as rules
 use Rattle.record_locks.specs.Held.{Held, SessionSlots, held_at, written_of, is_among}
-use Rattle.ipl_rules.specs.Slots.{open_from}
+use Rattle.ipl_model.specs.Slots.{open_from}
 use Rattle.record_locks.specs.Standing.{state_of, slot_of, session_of, write_of}
 use Rattle.record_locks.specs.Locks.{AreSoundSlots, OneWriter, total, written_in}
 use Rattle.record_locks.proofs.NameLemmas.{count_of_reversed, written_once, counted_once, not_counted, among_reversed}
-use Rattle.ipl_rules.proofs.SlotLemmas.{entries-opened}
+use Rattle.ipl_model.proofs.RuleSlotLemmas.{entries-opened}
 use Rattle.record_locks.proofs.StandingLemmas.{writes_at}
 
 pub total_set : (p : ℕ → Bool) (slots : SessionSlots) (s : ℕ) (o : Option Held) → s < length slots → total p (set slots s o) + written_in p (get_or slots s None) ≡ total p slots + written_in p o

@@ -3,7 +3,7 @@ use Rattle.std.specs.Prelude.{ℕ, suc, ◌+◌, ◌==◌, ◌/◌, max, drop, s
 use Rattle.std.specs.List.{list_any}
 use Rattle.std.specs.Option.{option_map, option_map_or}
 use Rattle.ipl_base.specs.declared.limits.TheConstants.{UNIT_NAMES}
-use Rattle.ipl_rules.specs.Marks.{Marks, weight_of_mark}
+use Rattle.ipl_model.specs.Marks.{Marks, weight_of_mark}
 
 -- an open session: its transaction number, the names that it wrote and those that it shares, the oldest first, and
 -- beside each name that it wrote the most bytes that a write of it takes in its page

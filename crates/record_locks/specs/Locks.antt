@@ -5,10 +5,10 @@ use Rattle.std.specs.Option.{option_map_or}
 use Rattle.ipl_base.specs.declared.limits.TheConstants.{UNIT_NAMES, SESSIONS, PENDING_WEIGHT}
 use Rattle.ipl_base.specs.declared.fault.Refusal.{Refusal}
 use Rattle.ipl_base.specs.declared.fault.Refusal.TheVariants.{PendingFull}
-use Rattle.ipl_rules.specs.State.{holder_for_share, holder_for_write}
-use Rattle.ipl_rules.specs.Marks.{overloads, weights}
-use Rattle.ipl_rules.specs.Refusals as refusals
-use Rattle.ipl_rules.specs.Refusals.{Test, first_of, already_open, not_open, conflict, writes_full, shares_full}
+use Rattle.ipl_model.specs.State.{holder_for_share, holder_for_write}
+use Rattle.ipl_model.specs.Marks.{overloads, weights}
+use Rattle.ipl_model.specs.Refusals as refusals
+use Rattle.ipl_model.specs.Refusals.{Test, first_of, already_open, not_open, conflict, writes_full, shares_full}
 use Rattle.record_locks.specs.Held.{Held, SessionSlots, written_of, is_among, marks_in}
 use Rattle.record_locks.specs.Standing.{state_of}
 

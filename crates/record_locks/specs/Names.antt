@@ -4,11 +4,11 @@ use Rattle.std.specs.Option.{option_map}
 use Rattle.std.specs.FinMap.{get}
 use Rattle.ipl_base.specs.declared.limits.TheConstants.{SESSIONS}
 use Rattle.ipl_base.specs.Sizes.{size_in_page}
-use Rattle.ipl_rules.specs.State.{Session, State, Limits, is_open, written_names, holder_for_share, holder_for_write, writes_of}
-use Rattle.ipl_rules.specs.Marks.{marks_of, marks}
-use Rattle.ipl_rules.specs.Refusals as refusals
-use Rattle.ipl_rules.specs.Refusals.{first_of, already_open, not_open, conflict, writes_full, shares_full, pending_full}
-use Rattle.ipl_rules.specs.Operations as rules
+use Rattle.ipl_model.specs.State.{Session, State, Limits, is_open, written_names, holder_for_share, holder_for_write, writes_of}
+use Rattle.ipl_model.specs.Marks.{marks_of, marks}
+use Rattle.ipl_model.specs.Refusals as refusals
+use Rattle.ipl_model.specs.Refusals.{first_of, already_open, not_open, conflict, writes_full, shares_full, pending_full}
+use Rattle.ipl_model.specs.Operations as rules
 use Rattle.record_locks.specs.Held.{SessionSlots, held_at, slot_marks, marks_in, after_begin, after_share, after_write, after_end, after_batch}
 use Rattle.record_locks.specs.Standing.{state_of}
 use Rattle.record_locks.specs.Locks.{IsSized, refuses_begin, refuses_share, refuses_write, refuses_end, refuses_batch}

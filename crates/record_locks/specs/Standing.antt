@@ -3,8 +3,8 @@
 use Rattle.std.specs.Prelude.{ℕ, ◌==◌, Bool, not, ◌&&◌, ◌||◌, List, map, reverse, find, Option, None, if◌then◌else◌}
 use Rattle.std.specs.Option.{option_map}
 use Rattle.std.specs.FinMap.{empty}
-use Rattle.ipl_rules.specs.Slots.{open_from, opened}
-use Rattle.ipl_rules.specs.State.{Write, Session, State, has_written, has_shared}
+use Rattle.ipl_model.specs.Slots.{open_from, opened}
+use Rattle.ipl_model.specs.State.{Write, Session, State, has_written, has_shared}
 use Rattle.record_locks.specs.Held.{Held, SessionSlots}
 
 -- a write of a name, as the rules have it

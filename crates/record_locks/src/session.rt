@@ -2,12 +2,12 @@
 ghost use Rattle.std.specs.Prelude.{◌≡◌, ◌≤◌, ◌<◌, ◌^◌, ◌+◌, ◌*◌, ◌++◌, ◌∷◌, ◌==◌, ◌/◌, [], length, map, false, IfSome, if◌then◌else◌};
 ghost use Rattle.std.specs.Option.{option_map};
 ghost use Rattle.ipl_base.specs.declared.limits.TheConstants.{LONG_WEIGHT, SESSION_NAMES, UNIT_NAMES};
-ghost use Rattle.ipl_rules.specs.Marks.{weight_of_mark};
+ghost use Rattle.ipl_model.specs.Marks.{weight_of_mark};
 ghost use Rattle.record_locks.specs.Held.{is_among, mark_in, new_held, raised, rank_of, weight_listed, with_written, with_shared};
 
 use arrayvec::ArrayVec;
 use ipl_base::{Name, UNIT_NAMES};
-use ipl_rules::weight_of;
+use ipl_model::weight_of;
 use std::marker::Model;
 
 /// An open session: its transaction number, the names that it wrote and those that it shares, at

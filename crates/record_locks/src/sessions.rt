@@ -2,7 +2,7 @@
 ghost use Rattle.std.specs.Prelude.{◌≡◌, ◌≤◌, ◌<◌, ◌^◌, ◌-◌, ℕ, true, None, map, length, All, Contains, IfOk, OnOk, OnErr, replicate};
 ghost use Rattle.std.specs.Result.{result_err};
 ghost use Rattle.ipl_base.specs.declared.limits.TheConstants.{PENDING_WEIGHT, SESSIONS};
-ghost use Rattle.ipl_rules.specs.Marks.{weights};
+ghost use Rattle.ipl_model.specs.Marks.{weights};
 ghost use Rattle.record_locks.specs.Held.{is_among, marks_in, number_of, written_of, shared_of, after_begin, after_share, after_write, after_end, after_batch};
 ghost use Rattle.record_locks.specs.Standing.{state_of};
 ghost use Rattle.record_locks.specs.Locks.{refuses_begin, refuses_share, refuses_write, refuses_end, refuses_batch, holder_of, IsSized, OneWriter, FewPending};

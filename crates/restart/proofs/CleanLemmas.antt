@@ -5,14 +5,14 @@ use Rattle.chip_trait.specs.Story.{Contents}
 use Rattle.ipl_meaning.specs.Chart.{chart_of}
 use Rattle.ipl_meaning.specs.Layout.{Laid}
 use Rattle.ipl_meaning.specs.Tables.{Places, OverflowLists, StatusTable, counted_written}
-use Rattle.opening_laws.specs.First.{at, all_below}
-use Rattle.opening_laws.specs.Chosen.{Winner, KeptHeader, units_at, status_at}
-use Rattle.opening_laws.specs.LaidOut.{place_of, layout_in}
-use Rattle.opening_laws.specs.Marked.{is_marked_by, last_close_mark}
-use Rattle.opening_laws.proofs.MarkedLemmas.{marked_units_are_told}
-use Rattle.opening_laws.specs.Found.{overflow_at}
-use Rattle.opening_laws.specs.Opened.{tables_of}
-use Rattle.opening_laws.proofs.SpotLemmas.{in_use_from}
+use Rattle.ipl_meaning.specs.First.{at, all_below}
+use Rattle.ipl_meaning.specs.Chosen.{Winner, KeptHeader, units_at, status_at}
+use Rattle.ipl_meaning.specs.LaidOut.{place_of, layout_in}
+use Rattle.ipl_meaning.specs.Marked.{is_marked_by, last_close_mark}
+use Rattle.ipl_meaning.proofs.MarkedLemmas.{marked_units_are_told}
+use Rattle.ipl_meaning.specs.FoundLogs.{overflow_at}
+use Rattle.ipl_meaning.specs.Opened.{tables_of}
+use Rattle.ipl_meaning.proofs.SpotLemmas.{in_use_from}
 use Rattle.restart.specs.Counted.{NoneKnown, AreReadLogs}
 use Rattle.restart.specs.Opened.{NoneIsClean, IsUnmarked, CountsMarked}
 use Rattle.restart.specs.Shown.{ShowsHeaders}

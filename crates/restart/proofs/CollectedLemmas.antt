@@ -8,9 +8,9 @@ use Rattle.ipl_meaning.specs.Chart.{Chart}
 use Rattle.number_set.proofs.NumberLemmas.{with_numbers_grow}
 use Rattle.restart.specs.Joins.{committed_in, joined}
 use Rattle.restart.proofs.JoinLemmas.{too_many}
-use Rattle.opening_laws.specs.Chosen.{KeptHeader, Winner}
-use Rattle.opening_laws.specs.Live.{kept, seen, is_live, live_at}
-use Rattle.opening_laws.proofs.ScanLemmas.{live_here}
+use Rattle.ipl_meaning.specs.Chosen.{KeptHeader, Winner}
+use Rattle.ipl_meaning.specs.Live.{kept, seen, is_live, live_at}
+use Rattle.ipl_meaning.proofs.ScanLemmas.{live_here}
 use Rattle.restart.specs.Collected.{records_at, numbers_below, AreKept}
 
 -- ---- one sector more

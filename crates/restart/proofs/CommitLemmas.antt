@@ -14,17 +14,17 @@ use Rattle.ipl_meaning.specs.Layout.{Laid}
 use Rattle.ipl_meaning.specs.Tables.{StatusTable}
 use Rattle.unit_io.specs.ReadsAt.{Anywhere, ReadsAt, IsCauseAt}
 use Rattle.ipl_base.specs.First.{first_below}
-use Rattle.opening_laws.specs.First.{greatest_below}
-use Rattle.opening_laws.specs.Chosen.{Winner, head_of, status_at}
-use Rattle.opening_laws.specs.Live.{sectors, noted_at}
-use Rattle.opening_laws.specs.Faults.{TellsImageFault, noted_fault, noted_number, greatest_of_notes}
-use Rattle.opening_laws.specs.LaidOut.{committed_numbers, layout_in}
-use Rattle.opening_laws.proofs.HeaderLemmas.{chosen_are_status}
+use Rattle.ipl_meaning.specs.First.{greatest_below}
+use Rattle.ipl_meaning.specs.Chosen.{Winner, head_of, status_at}
+use Rattle.ipl_meaning.specs.Live.{sectors, noted_at}
+use Rattle.ipl_meaning.specs.Faults.{TellsImageFault, noted_fault, noted_number, greatest_of_notes}
+use Rattle.ipl_meaning.specs.LaidOut.{committed_numbers, layout_in}
+use Rattle.ipl_meaning.proofs.HeaderLemmas.{chosen_are_status}
 use Rattle.number_set.specs.Numbers.{with_numbers}
 use Rattle.number_set.proofs.NumberLemmas.{numbers_are_a_union}
 use Rattle.txn_status.specs.ReadingIn.{under, status_in}
 use Rattle.txn_status.specs.Marks.{MarksRead, marks_in}
-use Rattle.opening_laws.specs.Opened.{IsOpenedStatus}
+use Rattle.ipl_meaning.specs.Opened.{IsOpenedStatus}
 use Rattle.unit_io.proofs.ReadsAtLemmas.{at_wider}
 use Rattle.restart.specs.Looks.{OnlyReads, HasCauseFor, OnlyLooksAt}
 

@@ -8,8 +8,8 @@ use Rattle.ipl_format.specs.Header.{erases_said}
 use Rattle.ipl_format.proofs.SectorOnceLemmas.{formed_facts, said_parts}
 use Rattle.ipl_meaning.specs.Chart.{Chart, chart_of}
 use Rattle.ipl_meaning.specs.Tables.{Places}
-use Rattle.opening_laws.specs.First.{at}
-use Rattle.opening_laws.specs.Chosen.{KeptHeader, header_in, header_at}
+use Rattle.ipl_meaning.specs.First.{at}
+use Rattle.ipl_meaning.specs.Chosen.{KeptHeader, header_in, header_at}
 use Rattle.restart.specs.Filled.{erases_by, AreErasedAsTold}
 
 -- one place more is counted

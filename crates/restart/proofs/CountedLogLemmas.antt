@@ -8,11 +8,11 @@ use Rattle.ipl_format.specs.Sector.{Sector, sector_in}
 use Rattle.ipl_format.proofs.SectorLemmas.{blank_says_nothing}
 use Rattle.ipl_meaning.specs.Chart.{chart_of}
 use Rattle.ipl_meaning.specs.Tables.{Places, OverflowLists}
-use Rattle.opening_laws.specs.Chosen.{KeptHeader, Winner, current_at, status_at}
-use Rattle.opening_laws.specs.LaidOut.{place_of}
-use Rattle.opening_laws.specs.Opened.{KnowsLogs, IsOpenedLog}
-use Rattle.opening_laws.specs.Live.{is_at, is_log_spot}
-use Rattle.opening_laws.specs.Marked.{is_marked_by, last_close_mark}
+use Rattle.ipl_meaning.specs.Chosen.{KeptHeader, Winner, current_at, status_at}
+use Rattle.ipl_meaning.specs.LaidOut.{place_of}
+use Rattle.ipl_meaning.specs.Opened.{KnowsLogs, IsOpenedLog}
+use Rattle.ipl_meaning.specs.Live.{is_at, is_log_spot}
+use Rattle.ipl_meaning.specs.Marked.{is_marked_by, last_close_mark}
 use Rattle.txn_status.specs.Marks.{MarksRead, none_read, counting}
 use Rattle.unit_directory.specs.Directory.{noted_log, with_marked}
 use Rattle.unit_io.specs.Kinds.{sector_named}

@@ -3,10 +3,10 @@ use Rattle.std.proofs.Common.{◌≡◌, ◌≢◌, inl, inr, ◌<◌, ◌+◌, 
 use Rattle.ipl_base.specs.First.{first_below}
 use Rattle.ipl_base.proofs.FirstLemmas.{none_before}
 use Rattle.ipl_format.specs.Sector.{Sector}
-use Rattle.opening_laws.specs.First.{at}
-use Rattle.opening_laws.specs.Chosen.{KeptHeader, Winner, header_in, is_status, picked, chosen}
-use Rattle.opening_laws.specs.Faults.{missing}
-use Rattle.opening_laws.proofs.ChosenLemmas.{chosen_step, chosen_alike}
+use Rattle.ipl_meaning.specs.First.{at}
+use Rattle.ipl_meaning.specs.Chosen.{KeptHeader, Winner, header_in, is_status, picked, chosen}
+use Rattle.ipl_meaning.specs.Faults.{missing}
+use Rattle.ipl_meaning.proofs.ChosenLemmas.{chosen_step, chosen_alike}
 use Rattle.restart.specs.Kept.{KeepsStatus}
 
 -- ---- the status header, while headers are read

@@ -7,15 +7,15 @@ use Rattle.std.proofs.lemmas.Option.{same_Some}
 use Rattle.ipl_base.specs.Places.{KeepsUnits}
 use Rattle.ipl_meaning.specs.Mirrors.{AreApart}
 use Rattle.ipl_meaning.specs.Tables.{Places, OverflowLists, StatusTable, IsFree, place_of as place_in}
-use Rattle.opening_laws.specs.First.{at, all_below, count_below}
-use Rattle.opening_laws.specs.Chosen.{KeptHeader, Winner, is_status, is_data_of, units_in, chosen as all_of}
-use Rattle.opening_laws.specs.Live.{is_at, is_overflow_place}
-use Rattle.opening_laws.specs.LaidOut.{place_of}
-use Rattle.opening_laws.proofs.ChosenLemmas.{IsBest, chosen_is_best}
-use Rattle.opening_laws.specs.Found.{overflow_at}
-use Rattle.merge_laws.specs.Known.{IsNamed, KnowsPlaces}
-use Rattle.opening_laws.specs.Opened.{tables_of}
-use Rattle.opening_laws.proofs.SpotLemmas.{listed_holds, held_listed, places_apart, as_many}
+use Rattle.ipl_meaning.specs.First.{at, all_below, count_below}
+use Rattle.ipl_meaning.specs.Chosen.{KeptHeader, Winner, is_status, is_data_of, units_in, chosen as all_of}
+use Rattle.ipl_meaning.specs.Live.{is_at, is_overflow_place}
+use Rattle.ipl_meaning.specs.LaidOut.{place_of}
+use Rattle.ipl_meaning.proofs.ChosenLemmas.{IsBest, chosen_is_best}
+use Rattle.ipl_meaning.specs.FoundLogs.{overflow_at}
+use Rattle.selective_merge.specs.Known.{IsNamed, KnowsPlaces}
+use Rattle.ipl_meaning.specs.Opened.{tables_of}
+use Rattle.ipl_meaning.proofs.SpotLemmas.{listed_holds, held_listed, places_apart, as_many}
 use Rattle.restart.specs.Notes.{Notes}
 use Rattle.restart.proofs.RetireLemmas.{AreAside}
 use Rattle.restart.specs.Filled.{is_home, is_used, AreUsed, AreAdopted}

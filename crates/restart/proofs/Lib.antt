@@ -1,3 +1,29 @@
+mod PayloadLemmas
+mod LayoutLemmas
+mod CloseCleanLemmas
+mod MarkLemmas
+mod BarrierLemmas
+pub mod ReadyLemmas
+pub mod ChainLemmas
+pub mod RenewalCountLemmas
+pub mod PlaceLemmas
+pub mod PlaceStepLemmas
+pub mod UnitLemmas
+pub mod PassLemmas
+pub mod PreserveLemmas
+pub mod RenewalKnownLemmas
+pub mod TellingLemmas
+pub mod FoundLemmas
+pub mod RenewLemmas
+pub mod CauseLemmas
+pub mod RestLemmas
+pub mod CostLemmas
+pub mod RecoverLemmas
+pub mod CompleteLemmas
+pub mod FaultLemmas
+pub mod TidyLemmas
+pub mod RenewalWornLemmas
+pub mod SecuringLemmas
 pub mod JoinLemmas
 pub mod KeepsLemmas
 pub mod WriteLemmas

@@ -7,9 +7,9 @@ use Rattle.std.proofs.lemmas.List.Elements.{filter-append}
 use Rattle.std.proofs.lemmas.List.Sums.{length-filter}
 use Rattle.ipl_meaning.specs.Tables.{OverflowLists}
 use Rattle.overflow.specs.Lists.{spots_in}
-use Rattle.opening_laws.specs.First.{with_one, all_below}
-use Rattle.opening_laws.specs.Live.{Mark}
-use Rattle.opening_laws.specs.Found.{spot_of}
+use Rattle.ipl_meaning.specs.First.{with_one, all_below}
+use Rattle.ipl_meaning.specs.Live.{Mark}
+use Rattle.ipl_meaning.specs.FoundLogs.{spot_of}
 use Rattle.restart.specs.Notes.{Notes, overflow_count_of, listed, is_overflow_of, spot_in, overflow_spots, IsNoted}
 
 -- ---- one spot more

@@ -9,9 +9,9 @@ use Rattle.ipl_meaning.specs.Masks.{mask_of}
 use Rattle.ipl_meaning.specs.Tables.{Places, OverflowLists, masks_in, with_mask}
 use Rattle.overflow.specs.Lists.{spots_in, masks_at, empty_lists, IsSoundOverflow}
 use Rattle.unit_directory.specs.Directory.{IsSoundDirectory}
-use Rattle.opening_laws.specs.Chosen.{KeptHeader, Winner}
-use Rattle.opening_laws.specs.Live.{kept, is_live, is_log_spot, is_overflow_place}
-use Rattle.opening_laws.specs.Found.{mask_of_sector}
+use Rattle.ipl_meaning.specs.Chosen.{KeptHeader, Winner}
+use Rattle.ipl_meaning.specs.Live.{kept, is_live, is_log_spot, is_overflow_place}
+use Rattle.ipl_meaning.specs.FoundLogs.{mask_of_sector}
 use Rattle.restart.specs.Notes.{listed}
 use Rattle.restart.specs.Masked.{masked, mask_below, NoneNamed, IsMasked}
 use Rattle.restart.proofs.LogLemmas.{spot_of}

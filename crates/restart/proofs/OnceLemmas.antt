@@ -4,9 +4,9 @@ use Rattle.std.specs.Prelude.{◌⊎◌, ◌==◌}
 use Rattle.std.proofs.lemmas.Bool.{and_parts, eqb-true, false≢true}
 use Rattle.std.proofs.lemmas.Bool.Decides.{nat_tests}
 use Rattle.chip_trait.specs.Told.{Told}
-use Rattle.opening_laws.specs.Chosen.{KeptHeader, Winner, is_status, is_overflow, status_in}
-use Rattle.opening_laws.specs.Live.{is_at, is_log_spot_of}
-use Rattle.opening_laws.proofs.ChosenLemmas.{chosen_is_best}
+use Rattle.ipl_meaning.specs.Chosen.{KeptHeader, Winner, is_status, is_overflow, status_in}
+use Rattle.ipl_meaning.specs.Live.{is_at, is_log_spot_of}
+use Rattle.ipl_meaning.proofs.ChosenLemmas.{chosen_is_best}
 use Rattle.unit_io.specs.ReadsAt.{IsAt, Anywhere, ReadsOnce}
 use Rattle.unit_io.proofs.OnceLemmas.{once_then, once_wider}
 use Rattle.txn_status.specs.ReadingIn.{IsCommitSpot}

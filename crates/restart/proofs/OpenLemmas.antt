@@ -18,31 +18,31 @@ use Rattle.ipl_format.specs.Sector.{Sector}
 use Rattle.ipl_meaning.specs.Chart.{Chart, chart_of}
 use Rattle.ipl_meaning.specs.Layout.{Laid}
 use Rattle.ipl_meaning.specs.Tables.{Places, OverflowLists, IsFree}
-use Rattle.opening_laws.specs.First.{at, first_of, count_below}
-use Rattle.opening_laws.specs.Chosen.{KeptHeader, Winner, is_head_payload, head_of, is_header, is_data_of, is_status, chosen, header_in, header_at, units_told, units_in, units_at, current_in, current_at, status_in, status_at}
-use Rattle.opening_laws.specs.Live.{sectors, is_at, is_log_spot, is_overflow_place, Mark, marks, marks_in}
-use Rattle.opening_laws.specs.Faults.{TellsImageFault, size_fault, keeps_units, status_geometry, header_tests, header_fault, fault_for, greatest_of_heads, greatest_of_notes, greatest_of_logs, greatest_found, spent_for, no_spare, holds_live}
-use Rattle.opening_laws.specs.LaidOut.{no_sector, place_of, sector_of, retired_at, layout_in}
+use Rattle.ipl_meaning.specs.First.{at, first_of, count_below}
+use Rattle.ipl_meaning.specs.Chosen.{KeptHeader, Winner, is_head_payload, head_of, is_header, is_data_of, is_status, chosen, header_in, header_at, units_told, units_in, units_at, current_in, current_at, status_in, status_at}
+use Rattle.ipl_meaning.specs.Live.{sectors, is_at, is_log_spot, is_overflow_place, Mark, marks, marks_in}
+use Rattle.ipl_meaning.specs.Faults.{TellsImageFault, size_fault, keeps_units, status_geometry, header_tests, header_fault, fault_for, greatest_of_heads, greatest_of_notes, greatest_of_logs, greatest_found, spent_for, no_spare, holds_live}
+use Rattle.ipl_meaning.specs.LaidOut.{no_sector, place_of, sector_of, retired_at, layout_in}
 use Rattle.unit_layout.specs.Retired.{retired_in, may_be_retired}
-use Rattle.opening_laws.specs.Payloads.{is_status_payload}
-use Rattle.opening_laws.proofs.PayloadLemmas.{status_says}
+use Rattle.ipl_meaning.specs.Payloads.{is_status_payload}
+use Rattle.ipl_meaning.proofs.PayloadLemmas.{status_says}
 use Rattle.unit_directory.proofs.AsideLemmas.{free_within}
 use Rattle.ipl_format.specs.Whole.{IsWhole}
-use Rattle.opening_laws.specs.Laws.{MayBeRead, IsByteChart}
-use Rattle.opening_laws.proofs.ChosenLemmas.{chosen_is_best}
-use Rattle.opening_laws.proofs.PartLemmas.{keeps_to}
-use Rattle.opening_laws.proofs.ContentsLemmas.{whole_sectors_make_byte_charts}
-use Rattle.opening_laws.proofs.NoFaultLemmas.{no_fault_lays}
-use Rattle.opening_laws.proofs.TellsLemmas.{tells_exit, tells_past}
+use Rattle.ipl_meaning.specs.OpeningLaws.{MayBeRead, IsByteChart}
+use Rattle.ipl_meaning.proofs.ChosenLemmas.{chosen_is_best}
+use Rattle.ipl_meaning.proofs.OpeningPartLemmas.{keeps_to}
+use Rattle.ipl_meaning.proofs.ContentsLemmas.{whole_sectors_make_byte_charts}
+use Rattle.ipl_meaning.proofs.NoFaultLemmas.{no_fault_lays}
+use Rattle.ipl_meaning.proofs.TellsLemmas.{tells_exit, tells_past}
 use Rattle.restart.specs.Bytes.{IsRestWhole}
 use Rattle.restart.specs.Looks.{IsMissed}
 use Rattle.restart.specs.Notes.{Notes, IsNoted}
-use Rattle.opening_laws.specs.Found.{generation_of}
+use Rattle.ipl_meaning.specs.FoundLogs.{generation_of}
 use Rattle.restart.specs.Filled.{is_home, is_used, erases_by, with_all_aside, AreUsed, AreErasedAsTold, AreAdopted}
 use Rattle.restart.specs.Kept.{counted_in, retired_of}
 use Rattle.restart.specs.Shown.{ShowsHeaders, AreChosen, HeadersCount, current_tests, is_held, number_by, fault_by}
-use Rattle.opening_laws.specs.Opened.{IsUnused, IsOpened, IsOpenedLog}
-use Rattle.opening_laws.proofs.ListLemmas.{count_alike}
+use Rattle.ipl_meaning.specs.Opened.{IsUnused, IsOpened, IsOpenedLog}
+use Rattle.ipl_meaning.proofs.ListLemmas.{count_alike}
 use Rattle.restart.specs.Opened.{HasFree}
 use Rattle.restart.specs.Counted.{AreHomes}
 use Rattle.restart.proofs.CountLemmas.{said_by_header}

@@ -5,12 +5,12 @@ use Rattle.ipl_meaning.specs.Chart.{Chart}
 use Rattle.ipl_meaning.specs.Tables.{Places, OverflowLists}
 use Rattle.overflow.specs.Lists.{spots_in as listed_in, IsSoundOverflow}
 use Rattle.unit_directory.specs.Directory.{IsSoundDirectory}
-use Rattle.opening_laws.specs.First.{at}
-use Rattle.opening_laws.specs.Chosen.{KeptHeader, Winner, current_at, units_at}
-use Rattle.opening_laws.specs.Live.{is_overflow_place}
-use Rattle.opening_laws.specs.LaidOut.{place_of}
-use Rattle.opening_laws.specs.Found.{spots_in, mask_found}
-use Rattle.opening_laws.specs.Opened.{AreOpenedMasks}
+use Rattle.ipl_meaning.specs.First.{at}
+use Rattle.ipl_meaning.specs.Chosen.{KeptHeader, Winner, current_at, units_at}
+use Rattle.ipl_meaning.specs.Live.{is_overflow_place}
+use Rattle.ipl_meaning.specs.LaidOut.{place_of}
+use Rattle.ipl_meaning.specs.FoundLogs.{spots_in, mask_found}
+use Rattle.ipl_meaning.specs.Opened.{AreOpenedMasks}
 use Rattle.restart.specs.Masked.{mask_below, mask_by, IsMasked}
 use Rattle.restart.specs.Shown.{ShowsHeaders, AreChosen}
 use Rattle.restart.proofs.OpenLemmas.{to_chart}

@@ -14,12 +14,12 @@ use Rattle.number_set.proofs.NumberLemmas.{contains_cons, contains_here, contain
 use Rattle.restart.specs.Joins.{committed_in, joined}
 use Rattle.restart.specs.Keeps.{IsLogged, KeepsBelow}
 use Rattle.restart.proofs.JoinLemmas.{IsNumberOf, committed_is_logged}
-use Rattle.opening_laws.specs.First.{at}
-use Rattle.opening_laws.specs.Chosen.{KeptHeader, Winner, header_at, current_at}
-use Rattle.opening_laws.specs.LaidOut.{entry_of, entry_at, log_in, layout_in}
-use Rattle.opening_laws.specs.Live.{live_at, live_in}
-use Rattle.opening_laws.proofs.LiveLemmas.{live_from}
-use Rattle.opening_laws.proofs.SortLemmas.{sorted_has, sorted_from}
+use Rattle.ipl_meaning.specs.First.{at}
+use Rattle.ipl_meaning.specs.Chosen.{KeptHeader, Winner, header_at, current_at}
+use Rattle.ipl_meaning.specs.LaidOut.{entry_of, entry_at, log_in, layout_in}
+use Rattle.ipl_meaning.specs.Live.{live_at, live_in}
+use Rattle.ipl_meaning.proofs.LiveLemmas.{live_from}
+use Rattle.ipl_meaning.proofs.SortLemmas.{sorted_has, sorted_from}
 use Rattle.restart.specs.Collected.{records_at, numbers_below, AreKept, AreCollected}
 use Rattle.restart.specs.Shown.{ShowsHeaders}
 use Rattle.restart.proofs.LogLemmas.{at_low}

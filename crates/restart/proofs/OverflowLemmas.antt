@@ -4,14 +4,14 @@ use Rattle.std.proofs.lemmas.Bool.{cases_eq}
 use Rattle.ipl_meaning.specs.Chart.{Chart}
 use Rattle.ipl_meaning.specs.Tables.{OverflowLists}
 use Rattle.overflow.specs.Lists.{spots_in}
-use Rattle.opening_laws.specs.First.{at, all_below, count_below}
-use Rattle.opening_laws.specs.Chosen.{KeptHeader, Winner, header_at, current_at}
-use Rattle.opening_laws.specs.Live.{mark_at, marks, marks_in}
-use Rattle.opening_laws.specs.Faults.{holds_live}
-use Rattle.opening_laws.proofs.FirstLemmas.{count_step}
-use Rattle.opening_laws.specs.Found.{spots_below, overflow_at}
-use Rattle.opening_laws.specs.Opened.{IsOpenedOverflow}
-use Rattle.opening_laws.proofs.SpotLemmas.{as_many}
+use Rattle.ipl_meaning.specs.First.{at, all_below, count_below}
+use Rattle.ipl_meaning.specs.Chosen.{KeptHeader, Winner, header_at, current_at}
+use Rattle.ipl_meaning.specs.Live.{mark_at, marks, marks_in}
+use Rattle.ipl_meaning.specs.Faults.{holds_live}
+use Rattle.ipl_meaning.proofs.FirstLemmas.{count_step}
+use Rattle.ipl_meaning.specs.FoundLogs.{spots_below, overflow_at}
+use Rattle.ipl_meaning.specs.Opened.{IsOpenedOverflow}
+use Rattle.ipl_meaning.proofs.SpotLemmas.{as_many}
 use Rattle.restart.specs.Notes.{Notes, IsNoted}
 use Rattle.restart.specs.Shown.{ShowsHeaders, is_held}
 use Rattle.restart.proofs.ListedLemmas.{spots_all}

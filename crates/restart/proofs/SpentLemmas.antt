@@ -9,12 +9,12 @@ use Rattle.ipl_base.specs.declared.fault.ImageFault.TheVariants.{Geometry, Spent
 use Rattle.ipl_base.specs.First.{first_below}
 use Rattle.ipl_format.specs.Sector.{Sector}
 use Rattle.ipl_meaning.specs.Chart.{Chart, chart_of}
-use Rattle.opening_laws.specs.First.{first_of}
-use Rattle.opening_laws.specs.Chosen.{KeptHeader, Winner, units_told, current_at, status_at, units_at}
-use Rattle.opening_laws.specs.Live.{sectors, Mark, mark_of, marks, noted_at, live_at}
-use Rattle.opening_laws.specs.Faults.{TellsImageFault, is_image, malformed, not_formatted, keeps_units, status_geometry, says_other, other_geometry, missing, bad_header, header_fault, is_noted_payload, noted_test, noted_fault, is_log_well, log_test, log_fault, fault_for}
-use Rattle.opening_laws.specs.Laws.{IsByteChart}
-use Rattle.opening_laws.proofs.TellsLemmas.{tells_past, tells_here}
+use Rattle.ipl_meaning.specs.First.{first_of}
+use Rattle.ipl_meaning.specs.Chosen.{KeptHeader, Winner, units_told, current_at, status_at, units_at}
+use Rattle.ipl_meaning.specs.Live.{sectors, Mark, mark_of, marks, noted_at, live_at}
+use Rattle.ipl_meaning.specs.Faults.{TellsImageFault, is_image, malformed, not_formatted, keeps_units, status_geometry, says_other, other_geometry, missing, bad_header, header_fault, is_noted_payload, noted_test, noted_fault, is_log_well, log_test, log_fault, fault_for}
+use Rattle.ipl_meaning.specs.OpeningLaws.{IsByteChart}
+use Rattle.ipl_meaning.proofs.TellsLemmas.{tells_past, tells_here}
 use Rattle.unit_io.specs.Reads.{OfContents}
 use Rattle.restart.specs.Bytes.{ReadsBytesFor}
 use Rattle.restart.specs.Looks.{HasCauseFor}

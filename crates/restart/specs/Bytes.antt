@@ -9,11 +9,11 @@ use Rattle.chip_trait.specs.Told.{Told}
 use Rattle.ipl_format.specs.Whole.{IsWhole}
 use Rattle.ipl_meaning.specs.Chart.{chart_of}
 use Rattle.unit_io.specs.Reads.{OfContents}
-use Rattle.opening_laws.specs.First.{at}
-use Rattle.opening_laws.specs.Chosen.{KeptHeader, Winner}
-use Rattle.opening_laws.specs.Live.{is_log_spot}
-use Rattle.opening_laws.specs.Faults.{fault_for}
-use Rattle.opening_laws.specs.Laws.{IsByteChart}
+use Rattle.ipl_meaning.specs.First.{at}
+use Rattle.ipl_meaning.specs.Chosen.{KeptHeader, Winner}
+use Rattle.ipl_meaning.specs.Live.{is_log_spot}
+use Rattle.ipl_meaning.specs.Faults.{fault_for}
+use Rattle.ipl_meaning.specs.OpeningLaws.{IsByteChart}
 
 -- by these headers, the other sectors of the status place and those where log sectors may stand are whole
 abbrev pub IsRestWhole : Contents → ℕ → List (Option KeptHeader) → List (Option Winner) → Winner → Type 0

@@ -9,9 +9,9 @@ use Rattle.ipl_meaning.specs.Chart.{Chart}
 use Rattle.number_set.specs.Numbers.{AreRising}
 use Rattle.restart.specs.Joins.{joined}
 use Rattle.restart.specs.Keeps.{KeepsBelow}
-use Rattle.opening_laws.specs.Chosen.{KeptHeader, Winner}
-use Rattle.opening_laws.specs.LaidOut.{layout_in}
-use Rattle.opening_laws.specs.Live.{live_at}
+use Rattle.ipl_meaning.specs.Chosen.{KeptHeader, Winner}
+use Rattle.ipl_meaning.specs.LaidOut.{layout_in}
+use Rattle.ipl_meaning.specs.Live.{live_at}
 
 -- the records of a log sector, where there is one
 abbrev pub records_at : Option Sector → List Record

@@ -5,8 +5,8 @@ use Rattle.chip_trait.specs.Story.{Contents, blank}
 use Rattle.ipl_format.specs.Sector.{Sector}
 use Rattle.ipl_meaning.specs.Chart.{chart_of}
 use Rattle.ipl_meaning.specs.Tables.{Places, UNKNOWN_LOGS, MARKED_LOGS}
-use Rattle.opening_laws.specs.Chosen.{KeptHeader, Winner}
-use Rattle.opening_laws.specs.Marked.{is_marked_by}
+use Rattle.ipl_meaning.specs.Chosen.{KeptHeader, Winner}
+use Rattle.ipl_meaning.specs.Marked.{is_marked_by}
 use Rattle.unit_directory.specs.Directory.{with_noted_log}
 use Rattle.unit_io.specs.declared.reading.Found.{Found}
 use Rattle.unit_io.specs.declared.reading.Found.TheVariants.{Erased, Bad, Sector as Checks}

@@ -1,10 +1,10 @@
 -- A directory as an opening fills it, by the headers that count and the places that hold live log sectors.
 use Rattle.std.specs.Prelude.{ℕ, zero, suc, ◌≡◌, ◌<◌, ◌≤◌, ◌+◌, ◌==◌, ◌||◌, Bool, true, false, if◌then◌else◌, List, [], ◌∷◌, length, slice_index, slice_index_or, Option, Some, None}
 use Rattle.ipl_meaning.specs.Tables.{Places}
-use Rattle.opening_laws.specs.Chosen.{KeptHeader, Winner}
-use Rattle.opening_laws.specs.Live.{is_at}
-use Rattle.opening_laws.specs.LaidOut.{place_of}
-use Rattle.opening_laws.specs.Found.{generation_of}
+use Rattle.ipl_meaning.specs.Chosen.{KeptHeader, Winner}
+use Rattle.ipl_meaning.specs.Live.{is_at}
+use Rattle.ipl_meaning.specs.LaidOut.{place_of}
+use Rattle.ipl_meaning.specs.FoundLogs.{generation_of}
 use Rattle.unit_directory.specs.Free.{free_count, put_aside}
 
 -- one of the first n units has its header at the place

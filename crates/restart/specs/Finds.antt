@@ -6,9 +6,9 @@ use Rattle.ipl_meaning.specs.Layout.{Laid}
 use Rattle.ipl_meaning.specs.Mirrors.{Mirrors}
 use Rattle.ipl_meaning.specs.Tables.{Tables}
 use Rattle.unit_io.specs.Reads.{OfContents}
-use Rattle.merge_laws.specs.Known.{KnowsPlaces}
-use Rattle.opening_laws.specs.LaidOut.{layout_in}
-use Rattle.opening_laws.specs.Opened.{AreOpened}
+use Rattle.selective_merge.specs.Known.{KnowsPlaces}
+use Rattle.ipl_meaning.specs.LaidOut.{layout_in}
+use Rattle.ipl_meaning.specs.Opened.{AreOpened}
 use Rattle.restart.specs.Collected.{AreCollected}
 use Rattle.restart.specs.Opened.{HasFree, IsUnmarked, CountsMarked}
 

@@ -2,7 +2,7 @@
 use Rattle.std.specs.Prelude.{ℕ, ◌≡◌, ◌⊎◌, nat_lt, Bool, true, false, List, [], take, Option, Some, None, if◌then◌else◌}
 use Rattle.ipl_format.specs.Sector.{Sector}
 use Rattle.unit_layout.specs.Retired.{listed_bytes, retired_in}
-use Rattle.opening_laws.specs.Chosen.{KeptHeader, Winner, units_told}
+use Rattle.ipl_meaning.specs.Chosen.{KeptHeader, Winner, units_told}
 
 -- ---- a number that may be said
 

@@ -1,3 +1,13 @@
+pub mod Closing
+pub mod Ready
+pub mod RenewalChains
+pub mod Renewed
+pub mod Passes
+pub mod Renewals
+pub mod Recovers
+pub mod InPlace
+pub mod Leaving
+pub mod Securing
 pub mod Joins
 pub mod Keeps
 pub mod Writes

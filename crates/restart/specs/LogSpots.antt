@@ -8,10 +8,10 @@ use Rattle.ipl_base.specs.First.{first_below}
 use Rattle.ipl_format.specs.Sector.{Sector}
 use Rattle.ipl_meaning.specs.Chart.{chart_of}
 use Rattle.unit_io.specs.Reads.{OfContents}
-use Rattle.opening_laws.specs.First.{at, with_one}
-use Rattle.opening_laws.specs.Live.{Mark, kept, mark_of, is_live, is_log_spot}
-use Rattle.opening_laws.specs.Found.{mask_of_sector}
-use Rattle.opening_laws.specs.Faults.{TellsImageFault, is_image, is_told, log_fault, log_test}
+use Rattle.ipl_meaning.specs.First.{at, with_one}
+use Rattle.ipl_meaning.specs.Live.{Mark, kept, mark_of, is_live, is_log_spot}
+use Rattle.ipl_meaning.specs.FoundLogs.{mask_of_sector}
+use Rattle.ipl_meaning.specs.Faults.{TellsImageFault, is_image, is_told, log_fault, log_test}
 use Rattle.restart.specs.declared.collecting.Gathered.{Gathered}
 use Rattle.restart.specs.declared.findings.Findings.{Findings}
 use Rattle.restart.specs.declared.findings.Heads.{Heads}

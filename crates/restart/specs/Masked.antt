@@ -4,9 +4,9 @@ use Rattle.ipl_base.specs.declared.limits.TheConstants.{SECTORS, FIRST_LOG_SECTO
 use Rattle.ipl_meaning.specs.Chart.{Chart}
 use Rattle.ipl_meaning.specs.Tables.{Places, OverflowLists, masks_in, with_mask}
 use Rattle.overflow.specs.Lists.{spots_in, masks_at}
-use Rattle.opening_laws.specs.Chosen.{KeptHeader, Winner}
-use Rattle.opening_laws.specs.Live.{is_overflow_place, live_at}
-use Rattle.opening_laws.specs.Found.{mask_of_sector}
+use Rattle.ipl_meaning.specs.Chosen.{KeptHeader, Winner}
+use Rattle.ipl_meaning.specs.Live.{is_overflow_place, live_at}
+use Rattle.ipl_meaning.specs.FoundLogs.{mask_of_sector}
 
 -- each unit has the place and the generation that it had, and which are in use or retired and how far they are written is
 -- the same

@@ -2,7 +2,7 @@
 use Rattle.std.specs.Prelude.{ℕ, ◌≡◌, List, length, Option}
 use Rattle.chip_trait.specs.Told.{Told}
 use Rattle.ipl_base.specs.Places.{units_on}
-use Rattle.opening_laws.specs.Chosen.{KeptHeader, Winner}
+use Rattle.ipl_meaning.specs.Chosen.{KeptHeader, Winner}
 use Rattle.restart.specs.declared.findings.Findings.{Findings}
 use Rattle.restart.specs.LogSpots.{SameReferences}
 use Rattle.restart.specs.Notes.{NotesHaveRoom}

@@ -5,10 +5,10 @@ use Rattle.ipl_base.specs.Places.{KeepsUnits}
 use Rattle.ipl_meaning.specs.Chart.{chart_of}
 use Rattle.unit_io.specs.Reads.{OfContents}
 use Rattle.txn_status.specs.ReadingIn.{status_in}
-use Rattle.opening_laws.specs.First.{at, count_below}
-use Rattle.opening_laws.specs.Chosen.{Winner, units_told}
-use Rattle.opening_laws.specs.Live.{marks as live_marks}
-use Rattle.opening_laws.specs.Marked.{last_close_mark}
+use Rattle.ipl_meaning.specs.First.{at, count_below}
+use Rattle.ipl_meaning.specs.Chosen.{Winner, units_told}
+use Rattle.ipl_meaning.specs.Live.{marks as live_marks}
+use Rattle.ipl_meaning.specs.Marked.{last_close_mark}
 use Rattle.restart.specs.declared.collecting.Gathered.{Gathered}
 use Rattle.restart.specs.declared.findings.Aim.{Aim}
 use Rattle.restart.specs.declared.findings.Findings.{Findings}

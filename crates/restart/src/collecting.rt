@@ -3,7 +3,7 @@ ghost use Rattle.std.specs.Prelude.{◌≡◌, ◌≤◌, ℕ, List, true, lengt
 ghost use Rattle.ipl_base.specs.declared.limits.TheConstants.{PAYLOAD_LEN};
 ghost use Rattle.log_records.specs.Reading.{records_of};
 ghost use Rattle.restart.specs.Joins.{joined};
-ghost use Rattle.opening_laws.specs.Payloads.{is_log_payload};
+ghost use Rattle.ipl_meaning.specs.Payloads.{is_log_payload};
 ghost use Rattle.restart.specs.Collected.{AreKept};
 
 use crate::numbers::KeptNumbers;

@@ -2,10 +2,10 @@
 ghost use Rattle.std.specs.Prelude.{◌≡◌, ◌<◌, ◌≤◌, ◌+◌, ◌&&◌, ◌||◌, Bool, ℕ, [], true, length, if◌then◌else◌, Option, Some};
 ghost use Rattle.ipl_base.specs.declared.limits.TheConstants.{MOST_PLACES};
 ghost use Rattle.ipl_base.specs.Places.{KeepsUnits};
-ghost use Rattle.opening_laws.specs.First.{at, count_below, all_below, with_one};
-ghost use Rattle.opening_laws.specs.Chosen.{Winner as Chosen};
-ghost use Rattle.opening_laws.specs.Live.{is_overflow_place};
-ghost use Rattle.opening_laws.specs.Found.{overflow_at};
+ghost use Rattle.ipl_meaning.specs.First.{at, count_below, all_below, with_one};
+ghost use Rattle.ipl_meaning.specs.Chosen.{Winner as Chosen};
+ghost use Rattle.ipl_meaning.specs.Live.{is_overflow_place};
+ghost use Rattle.ipl_meaning.specs.FoundLogs.{overflow_at};
 ghost use Rattle.restart.specs.Notes.{places_of, holds_one};
 ghost use Rattle.restart.specs.Shown.{is_held as is_held_place};
 ghost use Rattle.unit_layout.specs.Retired.{may_be_retired};
@@ -15,7 +15,7 @@ ghost use Rattle.restart.specs.Filled.{is_home, is_used, erases_by, with_counts,
 ghost use Rattle.restart.specs.Masked.{NoneNamed};
 ghost use Rattle.restart.specs.Counted.{NoneKnown, SameHomes, AreUnitsMarked};
 ghost use Rattle.txn_status.specs.Marks.{counting, none_read};
-ghost use Rattle.opening_laws.specs.Marked.{is_marked_by};
+ghost use Rattle.ipl_meaning.specs.Marked.{is_marked_by};
 
 use crate::head_sector::HeadSector;
 use crate::kept::{Header, Winner};

@@ -3,7 +3,7 @@ ghost use Rattle.std.specs.Prelude.{◌≡◌, ◌≤◌, IfSome, None};
 ghost use Rattle.ipl_base.specs.declared.limits.TheConstants.{PAYLOAD_LEN};
 ghost use Rattle.unit_layout.specs.Retired.{listed_bytes};
 ghost use Rattle.unit_io.specs.Kinds.{sector_named};
-ghost use Rattle.opening_laws.specs.Chosen.{header_in};
+ghost use Rattle.ipl_meaning.specs.Chosen.{header_in};
 ghost use Rattle.restart.specs.Kept.{listed_in};
 
 use crate::kept::Header;

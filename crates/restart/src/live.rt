@@ -4,10 +4,10 @@ ghost use Rattle.ipl_base.specs.declared.limits.TheConstants.{PAYLOAD_LEN};
 ghost use Rattle.sector_format.specs.Decode.{sector_of};
 ghost use Rattle.ipl_meaning.specs.Masks.{mask_of};
 ghost use Rattle.log_records.specs.Reading.{records_of};
-ghost use Rattle.opening_laws.specs.First.{at, greatest_of};
-ghost use Rattle.opening_laws.specs.Payloads.{is_log_payload, tid_of};
-ghost use Rattle.opening_laws.specs.Live.{is_at, is_generation, is_log_spot, is_overflow_place, is_place_of, is_live};
-ghost use Rattle.opening_laws.specs.Faults.{log_number};
+ghost use Rattle.ipl_meaning.specs.First.{at, greatest_of};
+ghost use Rattle.ipl_meaning.specs.Payloads.{is_log_payload, tid_of};
+ghost use Rattle.ipl_meaning.specs.Live.{is_at, is_generation, is_log_spot, is_overflow_place, is_place_of, is_live};
+ghost use Rattle.ipl_meaning.specs.Faults.{log_number};
 
 use crate::findings::Heads;
 use crate::kept::{Header, Winner};

@@ -6,8 +6,8 @@ use Rattle.std.proofs.lemmas.List.{append-nil, map-append}
 use Rattle.std.specs.FinMap.{get}
 use Rattle.std.specs.Option.{option_map_or}
 use Rattle.ipl_base.specs.declared.fault.Refusal.TheVariants.{BadName}
-use Rattle.ipl_rules.specs.State.{Map, State, Limits}
-use Rattle.ipl_rules.specs.Operations.{rows, rows_from, row_of}
+use Rattle.ipl_model.specs.State.{Map, State, Limits}
+use Rattle.ipl_model.specs.Operations.{rows, rows_from, row_of}
 use Rattle.ipl_model.specs.declared.command.Command.{Command}
 use Rattle.ipl_model.specs.declared.command.Command.TheVariants as command
 use Rattle.ipl_model.specs.declared.reply.Reply.{Reply}

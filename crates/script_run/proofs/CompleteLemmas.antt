@@ -1,7 +1,7 @@
 -- What a run does with a store that keeps a state, in one part after another.
 use Rattle.std.proofs.Common.{◌≡◌, inl, inr, ◌≤◌, ◌+◌, ℕ, List, Option, Result, Ok, Err, arith, subst}
 use Rattle.std.specs.Prelude.{IsErrAnd, IsErrOf}
-use Rattle.ipl_rules.specs.State.{State, Limits}
+use Rattle.ipl_model.specs.State.{State, Limits}
 use Rattle.ipl_model.specs.declared.command.Command.{Command}
 use Rattle.ipl_model.specs.declared.reply.Reply.{Reply}
 use Rattle.ipl_model.specs.Step.{step}

@@ -4,7 +4,7 @@ use Rattle.std.specs.List.{fold, position}
 use Rattle.std.specs.Option.{option_map}
 use Rattle.std.proofs.lemmas.List.{take_more, take_rest, take-append-drop, drop_all}
 use Rattle.std.proofs.Math.Seq.{take-add}
-use Rattle.ipl_rules.specs.State.{State, Limits}
+use Rattle.ipl_model.specs.State.{State, Limits}
 use Rattle.ipl_model.specs.declared.command.Command.{Command}
 use Rattle.ipl_model.specs.Run.{after_all}
 use Rattle.ipl_model.specs.Grammar.{line_of, commands_in, commands_of, is_line_feed}

@@ -3,7 +3,7 @@ use Rattle.std.proofs.Common.{◌≡◌, ◌⊎◌, inl, inr, ⊎_elim, ◌||◌
 use Rattle.std.specs.Option.{option_map}
 use Rattle.std.proofs.lemmas.Bool.{false≢true, or_parts}
 use Rattle.std.proofs.lemmas.List.{append-nil}
-use Rattle.ipl_rules.specs.State.{Map, State, Limits}
+use Rattle.ipl_model.specs.State.{Map, State, Limits}
 use Rattle.ipl_model.specs.declared.command.Command.{Command}
 use Rattle.ipl_model.specs.Step.{step}
 use Rattle.ipl_model.specs.Run.{reply_lines, lines, text, after_all, IsNear}

@@ -2,7 +2,7 @@
 use Rattle.std.proofs.Common.{◌≡◌, ℕ, List, [], map, Result, Err, sym, ◌∙◌, ap, subst, false}
 use Rattle.std.specs.Prelude.{is_ok}
 use Rattle.std.specs.FinMap.{empty}
-use Rattle.ipl_rules.specs.State.{State, Limits, at_rest}
+use Rattle.ipl_model.specs.State.{State, Limits, at_rest}
 use Rattle.ipl_model.specs.declared.command.Command.{Command}
 use Rattle.chip_trait.specs.Told.{Told}
 use Rattle.serial_view.specs.Serial.{serial}

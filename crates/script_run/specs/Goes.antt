@@ -1,7 +1,7 @@
 -- How a run goes on as the bytes of its script come.
 use Rattle.std.specs.Prelude.{◌≡◌, ℕ, ◌≤◌, ◌+◌, ◌-◌, ◌*◌, ◌^◌, min, max, true, false, take, drop, length, List, [], ◌++◌, Option, Some, Result, Ok, Err, MatchResult, IfErr, OnOk, IsErrOf, is_ok, map}
-use Rattle.ipl_rules.specs.State.{Map, State, Limits}
-use Rattle.ipl_rules.specs.Operations.{row_of, rows_from}
+use Rattle.ipl_model.specs.State.{Map, State, Limits}
+use Rattle.ipl_model.specs.Operations.{row_of, rows_from}
 use Rattle.ipl_model.specs.declared.command.Command.{Command}
 use Rattle.ipl_model.specs.Step.{row_reply}
 use Rattle.ipl_model.specs.Text.{reply_text}

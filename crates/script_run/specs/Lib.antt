@@ -1,3 +1,8 @@
+pub mod TrialWords
+pub mod TrialSource
+pub mod TrialSummary
+pub mod TrialLaws
+pub mod Trial
 pub mod View
 pub mod Run
 pub mod Lines

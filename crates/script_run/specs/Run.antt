@@ -1,7 +1,7 @@
 -- What a run of commands leaves, wherever it stops.
 use Rattle.std.specs.Prelude.{◌≡◌, ℕ, Bool, true, List, [], ◌∷◌, ◌++◌, Result, Ok, Err, is_ok, false}
 use Rattle.std.specs.Option.{option_map}
-use Rattle.ipl_rules.specs.State.{Map, State, Limits}
+use Rattle.ipl_model.specs.State.{Map, State, Limits}
 use Rattle.ipl_model.specs.declared.command.Command.{Command}
 use Rattle.ipl_model.specs.Step.{step}
 use Rattle.ipl_model.specs.Run.{reply_lines, lines, after_all, IsNear}

@@ -3,7 +3,7 @@ use Rattle.std.specs.Prelude.{◌≡◌, ℕ, Bool, true, List, [], ◌++◌, ma
 use Rattle.std.specs.Option.{option_map}
 use Rattle.std.specs.Fmt.{decimal}
 use Rattle.std.specs.FinMap.{empty}
-use Rattle.ipl_rules.specs.State.{Limits}
+use Rattle.ipl_model.specs.State.{Limits}
 use Rattle.ipl_model.specs.declared.command.Command.{Command}
 use Rattle.ipl_model.specs.Grammar.{commands_of}
 use Rattle.chip_trait.specs.Told.{Told, Rose, adds_all}

@@ -14,8 +14,7 @@ use crate::Stop;
 use chip_trait::{Desk, Failed};
 use ipl_base::Refusal;
 use ipl_model::{Command, Line, Reply};
-use plain_text::TextLine;
-use script_text::{parse, print};
+use script_text::{TextLine, parse, print};
 use store_trait::{Fault, Store};
 
 /// Says one line of a reply.

@@ -13,7 +13,7 @@ use chip_trait::{Desk, Failed};
 use ipl_base::{Geometry, OutOfMemory};
 use ipl_model::{Command, PlainModel};
 use itoa::Buffer;
-use plain_text::TextLine;
+use script_text::TextLine;
 use serial_view::serial_order;
 use std::alloc::Global;
 

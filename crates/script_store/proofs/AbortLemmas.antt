@@ -11,9 +11,9 @@ use Rattle.chip_trait.proofs.MomentLemmas.{at_start}
 use Rattle.ipl_base.specs.declared.fault.Refusal.{Refusal}
 use Rattle.ipl_base.specs.declared.fault.StoreFault.{StoreFault}
 use Rattle.ipl_base.specs.declared.fault.StoreFault.TheVariants as store
-use Rattle.ipl_rules.specs.Operations.{after_abort}
-use Rattle.ipl_rules.specs.Refusals.{refuses_end}
-use Rattle.ipl_rules.specs.State.{Map, State, Limits}
+use Rattle.ipl_model.specs.Operations.{after_abort}
+use Rattle.ipl_model.specs.Refusals.{refuses_end}
+use Rattle.ipl_model.specs.State.{Map, State, Limits}
 use Rattle.ipl_format.specs.Sector.{sector_in}
 use Rattle.ipl_model.specs.declared.command.Command.TheVariants as command
 use Rattle.ipl_model.specs.declared.reply.Reply.TheVariants as reply

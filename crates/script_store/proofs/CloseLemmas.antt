@@ -11,7 +11,7 @@ use Rattle.ipl_base.specs.declared.fault.ChipFault.TheVariants.{Stopped}
 use Rattle.ipl_base.specs.declared.fault.Refusal.{Refusal}
 use Rattle.ipl_base.specs.declared.fault.StoreFault.{StoreFault}
 use Rattle.ipl_base.specs.declared.fault.StoreFault.TheVariants as store
-use Rattle.ipl_rules.specs.State.{State, Limits}
+use Rattle.ipl_model.specs.State.{State, Limits}
 use Rattle.ipl_model.specs.declared.command.Command.TheVariants as command
 use Rattle.ipl_model.specs.declared.reply.Reply.TheVariants as reply
 use Rattle.ipl_meaning.specs.Chart.{chart_of}
@@ -21,11 +21,11 @@ use Rattle.unit_io.specs.Accounts.{Accounts}
 use Rattle.unit_io.specs.Costs.{Spends}
 use Rattle.unit_io.specs.Leads.{IsStopped}
 use Rattle.unit_io.proofs.CostLemmas.{spends_then}
-use Rattle.step_laws.specs.Steps.{Settled, Tidies}
+use Rattle.unit_io.specs.Steps.{Settled, Tidies}
 use Rattle.place_taking.specs.Wear.{TellsOfWear}
 use Rattle.place_taking.proofs.HomeLemmas.{homes_equal}
 use Rattle.place_taking.proofs.WearLemmas.{programs_leave_places}
-use Rattle.clean_close.specs.Closing.{ClosesInSteps, EndsWithMark, MarksUnits}
+use Rattle.restart.specs.Closing.{ClosesInSteps, EndsWithMark, MarksUnits}
 use Rattle.record_locks.specs.Locks.{refuses_close}
 use Rattle.page_frames.specs.Pages.{tables_in}
 use Rattle.store_trait.specs.declared.fault.Fault.{Fault}

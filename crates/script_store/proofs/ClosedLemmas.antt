@@ -5,8 +5,8 @@ use Rattle.std.proofs.lemmas.Bool.{cases_eq}
 use Rattle.std.proofs.lemmas.Bool.Decides.{nat_tests}
 use Rattle.ipl_base.specs.declared.fault.Refusal.{Refusal}
 use Rattle.ipl_base.specs.declared.fault.Refusal.TheVariants.{BadSession, NotOpen}
-use Rattle.ipl_rules.specs.Refusals.{first_of, sessions_open, refuses_end}
-use Rattle.ipl_rules.specs.State.{is_open}
+use Rattle.ipl_model.specs.Refusals.{first_of, sessions_open, refuses_end}
+use Rattle.ipl_model.specs.State.{is_open}
 use Rattle.record_locks.specs.Held.{Held, SessionSlots, held_at, after_end}
 use Rattle.record_locks.specs.Locks.{refuses_close}
 use Rattle.record_locks.specs.Standing.{state_of}

@@ -10,7 +10,7 @@ use Rattle.chip_trait.proofs.LawfulLemmas.{clean-append}
 use Rattle.ipl_meaning.specs.Tables.{Tables, written_of}
 use Rattle.place_taking.specs.Homes.{IsUnknown}
 use Rattle.unit_io.specs.Costs.{is_tried}
-use Rattle.clean_close.specs.Closing.{MarksUnits}
+use Rattle.restart.specs.Closing.{MarksUnits}
 use Rattle.script_store.specs.Closes.{MarksErased}
 
 -- ---- a place of which no erase was tried

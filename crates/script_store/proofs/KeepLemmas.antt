@@ -11,7 +11,7 @@ use Rattle.ipl_model.specs.Step.{step}
 use Rattle.store_trait.specs.declared.fault.Fault.{Fault}
 use Rattle.store_trait.specs.Keeping.{FOUND_NUMBER, LAST_NUMBER, WORK_DRAWS, LOOK_UP_DRAWS, Excuses, Draws, WorkLeaves, Stays, Works, LooksUp, LeavesTidy}
 use Rattle.ipl_base.specs.declared.fault.StoreFault.{StoreFault}
-use Rattle.step_laws.specs.Steps.{Tidies}
+use Rattle.unit_io.specs.Steps.{Tidies}
 use Rattle.page_frames.specs.Pages.{tables_in}
 use Rattle.store_laws.specs.Keeps.{KeepsStore, store_keeping}
 use Rattle.ipl_store.specs.Calls.{view_of, counter_of}

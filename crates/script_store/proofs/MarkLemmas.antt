@@ -7,7 +7,7 @@ use Rattle.chip_trait.specs.Told.{History, Told, adds_all}
 use Rattle.chip_trait.proofs.ImageLemmas.{held_is_image}
 use Rattle.chip_trait.proofs.MomentLemmas.{at_end}
 use Rattle.ipl_base.specs.declared.fault.ChipFault.{ChipFault}
-use Rattle.ipl_rules.specs.State.{Map, State, Limits}
+use Rattle.ipl_model.specs.State.{Map, State, Limits}
 use Rattle.ipl_format.specs.Sector.{sector_in}
 use Rattle.ipl_meaning.specs.Chart.{chart_of}
 use Rattle.ipl_meaning.specs.Rests.{EachStandsIn, StoryRests}
@@ -16,8 +16,8 @@ use Rattle.ipl_meaning.specs.Marks.{KeepsMarks, MarksAreUnused}
 use Rattle.ipl_meaning.specs.Tables.{Tables}
 use Rattle.ipl_meaning.proofs.CarriedLemmas.{unused_is_carried}
 use Rattle.ipl_meaning.proofs.StoryLemmas.{moments_of_one, rests_in_units}
-use Rattle.step_laws.specs.Steps.{Settled, NoOtherEnd, EndsWith}
-use Rattle.clean_close.specs.Closing.{Closes, ClosesInSteps, MarksUnits, RestsMarked}
+use Rattle.unit_io.specs.Steps.{Settled, NoOtherEnd, EndsWith}
+use Rattle.restart.specs.Closing.{Closes, ClosesInSteps, MarksUnits, RestsMarked}
 use Rattle.store_trait.specs.Keeping.{WorkLeaves}
 use Rattle.store_laws.specs.Keeps.{View, limits_of, KeepsStore, IsUp, UsedNothing, store_keeping}
 use Rattle.store_laws.proofs.KeepLemmas.{all_done, at_limits, done_settles}

@@ -10,7 +10,7 @@ use Rattle.ipl_model.specs.declared.command.Command.TheVariants as command
 use Rattle.ipl_model.specs.declared.reply.Reply.{Reply}
 use Rattle.ipl_model.specs.declared.reply.Reply.TheVariants as reply
 use Rattle.page_frames.specs.Pages.{tables_in}
-use Rattle.step_laws.specs.Steps.{Tidies}
+use Rattle.unit_io.specs.Steps.{Tidies}
 use Rattle.store_trait.specs.declared.fault.Fault.{Fault}
 use Rattle.store_trait.specs.declared.fault.Fault.TheVariants.{Spent}
 use Rattle.store_trait.specs.Keeping.{WORK_DRAWS, Works, Learns, StillRecalls}

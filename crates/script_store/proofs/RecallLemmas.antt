@@ -3,7 +3,7 @@ use Rattle.std.proofs.Common.{ℕ, ◌≡◌, Bool, false, ◌||◌, ◌++◌, s
 use Rattle.std.specs.Option.{option_map}
 use Rattle.chip_trait.specs.Told.{History, Told, adds_all}
 use Rattle.ipl_base.specs.declared.fault.StoreFault.{StoreFault}
-use Rattle.ipl_rules.specs.State.{State}
+use Rattle.ipl_model.specs.State.{State}
 use Rattle.ipl_meaning.specs.Tables.{Places}
 use Rattle.place_taking.specs.Homes.{LeavesPlaces}
 use Rattle.unit_io.specs.Costs.{Spends, is_tried}

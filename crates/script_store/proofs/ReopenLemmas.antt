@@ -9,19 +9,19 @@ use Rattle.chip_trait.specs.Told.{History, Told, adds_all}
 use Rattle.ipl_base.specs.declared.fault.ChipFault.{ChipFault}
 use Rattle.ipl_base.specs.declared.fault.ImageFault.{ImageFault}
 use Rattle.ipl_base.specs.declared.fault.ImageFault.TheVariants as image
-use Rattle.ipl_rules.specs.State.{at_rest}
+use Rattle.ipl_model.specs.State.{at_rest}
 use Rattle.ipl_format.specs.Sector.{Sector}
 use Rattle.unit_layout.specs.Retired.{retired_in}
 use Rattle.ipl_meaning.specs.Chart.{Chart, chart_of}
 use Rattle.ipl_meaning.specs.Layout.{Layout, Laid}
 use Rattle.ipl_meaning.specs.Tables.{Tables}
-use Rattle.opening_laws.specs.Chosen.{status_at, units_at}
-use Rattle.opening_laws.specs.LaidOut.{no_sector, retired_at, sector_of}
-use Rattle.opening_laws.proofs.LaidLemmas.{laid_says_its_units}
-use Rattle.opening_laws.proofs.NumberLemmas.{status_is}
+use Rattle.ipl_meaning.specs.Chosen.{status_at, units_at}
+use Rattle.ipl_meaning.specs.LaidOut.{no_sector, retired_at, sector_of}
+use Rattle.ipl_meaning.proofs.LaidLemmas.{laid_says_its_units}
+use Rattle.ipl_meaning.proofs.NumberLemmas.{status_is}
 use Rattle.place_taking.specs.Wear.{IsListedRetired}
-use Rattle.status_renewal.specs.Passes.{ListsRetired}
-use Rattle.status_renewal.specs.Recovers.{ErasesOpening, ends_worn_out}
+use Rattle.restart.specs.Passes.{ListsRetired}
+use Rattle.restart.specs.Recovers.{ErasesOpening, ends_worn_out}
 use Rattle.page_frames.specs.Pages.{tables_in}
 use Rattle.store_trait.specs.declared.fault.Fault.TheVariants.{Image}
 use Rattle.store_laws.specs.Advances.{MemoryFits}

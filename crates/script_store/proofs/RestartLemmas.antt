@@ -8,8 +8,8 @@ use Rattle.ipl_base.specs.declared.fault.ChipFault.TheVariants.{ReadFault, Stopp
 use Rattle.ipl_base.specs.Places.{KeepsUnits, spares_on}
 use Rattle.ipl_base.specs.declared.fault.ImageFault.{ImageFault}
 use Rattle.ipl_base.specs.declared.fault.ImageFault.TheVariants as image
-use Rattle.ipl_rules.specs.Operations.{after_restart}
-use Rattle.ipl_rules.specs.State.{Map, State}
+use Rattle.ipl_model.specs.Operations.{after_restart}
+use Rattle.ipl_model.specs.State.{Map, State}
 use Rattle.ipl_model.specs.declared.command.Command.TheVariants as command
 use Rattle.ipl_model.specs.declared.reply.Reply.{Reply}
 use Rattle.ipl_model.specs.declared.reply.Reply.TheVariants as reply
@@ -18,19 +18,19 @@ use Rattle.ipl_meaning.specs.Found.{IsAbove}
 use Rattle.ipl_meaning.specs.Layout.{Layout, Laid}
 use Rattle.ipl_meaning.specs.Rests.{StoryRests}
 use Rattle.ipl_meaning.specs.Tables.{Places, Tables, IsCountedClean}
-use Rattle.opening_laws.specs.Chosen.{units_at}
-use Rattle.opening_laws.specs.Faults.{first_fault, greatest_found}
-use Rattle.opening_laws.specs.LaidOut.{layout_in}
-use Rattle.opening_laws.specs.Laws.{IsByteChart}
-use Rattle.opening_laws.proofs.LaidLemmas.{laid_has_no_fault, laid_is_fine_or_spent, laid_says_its_units}
-use Rattle.opening_laws.proofs.NoFaultLemmas.{no_fault_is_laid}
-use Rattle.opening_laws.proofs.NumberLemmas.{greatest_is_found}
+use Rattle.ipl_meaning.specs.Chosen.{units_at}
+use Rattle.ipl_meaning.specs.Faults.{first_fault, greatest_found}
+use Rattle.ipl_meaning.specs.LaidOut.{layout_in}
+use Rattle.ipl_meaning.specs.OpeningLaws.{IsByteChart}
+use Rattle.ipl_meaning.proofs.LaidLemmas.{laid_has_no_fault, laid_is_fine_or_spent, laid_says_its_units}
+use Rattle.ipl_meaning.proofs.NoFaultLemmas.{no_fault_is_laid}
+use Rattle.ipl_meaning.proofs.NumberLemmas.{greatest_is_found}
 use Rattle.unit_io.specs.Leads.{IsSteady}
 use Rattle.page_frames.specs.Pages.{tables_in}
-use Rattle.step_laws.specs.Laws.{Preserves}
+use Rattle.unit_io.specs.StepLaws.{Preserves}
 use Rattle.place_taking.proofs.SpendingLemmas.{or_right}
-use Rattle.status_renewal.specs.Recovers.{IsOpeningFault, FailsByCallAlone, OpeningCause, tells_wear}
-use Rattle.status_renewal.proofs.ReadyLemmas.{layouts_say}
+use Rattle.restart.specs.Recovers.{IsOpeningFault, FailsByCallAlone, OpeningCause, tells_wear}
+use Rattle.restart.proofs.ReadyLemmas.{layouts_say}
 use Rattle.store_trait.specs.declared.fault.Fault.{Fault}
 use Rattle.store_trait.specs.declared.fault.Fault.TheVariants.{Image}
 use Rattle.store_trait.specs.Keeping.{FOUND_NUMBER, WORK_DRAWS, ChipRose, SaysFailedCall, Works}

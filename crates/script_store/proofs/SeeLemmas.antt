@@ -9,13 +9,13 @@ use Rattle.ipl_base.specs.declared.fault.Refusal.{Refusal}
 use Rattle.ipl_base.specs.declared.fault.Refusal.TheVariants.{BadName}
 use Rattle.ipl_base.specs.declared.fault.StoreFault.{StoreFault}
 use Rattle.ipl_base.specs.declared.fault.StoreFault.TheVariants as store
-use Rattle.ipl_rules.specs.State.{State, Limits, see}
+use Rattle.ipl_model.specs.State.{State, Limits, see}
 use Rattle.ipl_model.specs.declared.command.Command.TheVariants as command
 use Rattle.ipl_model.specs.declared.reply.Reply.TheVariants as reply
 use Rattle.ipl_model.specs.Step.{found_reply}
 use Rattle.ipl_meaning.specs.Tables.{Places}
 use Rattle.unit_io.specs.Reads.{OfContents}
-use Rattle.step_laws.specs.Steps.{Tidies}
+use Rattle.unit_io.specs.Steps.{Tidies}
 use Rattle.page_frames.specs.Pages.{tables_in, PageCause}
 use Rattle.store_trait.specs.declared.fault.Fault.TheVariants.{Chip, Spent}
 use Rattle.store_trait.specs.Keeping.{LAST_NUMBER, LOOK_UP_DRAWS, WorkLeaves, Works, LooksUp, LeavesTidy, Learns, StillRecalls}

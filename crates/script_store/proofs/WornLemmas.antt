@@ -10,11 +10,11 @@ use Rattle.ipl_base.specs.declared.fault.ChipFault.{ChipFault}
 use Rattle.ipl_base.specs.declared.fault.ChipFault.TheVariants.{ReadFault, Stopped, Damaged, Malformed, WornOut}
 use Rattle.ipl_base.specs.declared.fault.StoreFault.{StoreFault}
 use Rattle.ipl_base.specs.declared.fault.StoreFault.TheVariants as store
-use Rattle.ipl_rules.specs.State.{State}
+use Rattle.ipl_model.specs.State.{State}
 use Rattle.ipl_model.specs.declared.reply.Reply.{Reply}
 use Rattle.ipl_meaning.specs.Chart.{Chart, chart_of}
 use Rattle.ipl_meaning.specs.Tables.{Places, Tables}
-use Rattle.opening_laws.specs.Chosen.{units_at}
+use Rattle.ipl_meaning.specs.Chosen.{units_at}
 use Rattle.unit_directory.specs.Free.{spares_of}
 use Rattle.place_taking.specs.Spending.{RetiresWorn}
 use Rattle.place_taking.specs.Wear.{IsListedRetired, TellsOfWear}

@@ -9,7 +9,7 @@ use Rattle.ipl_model.specs.declared.reply.Reply.{Reply}
 use Rattle.ipl_model.specs.declared.reply.Reply.TheVariants as reply
 use Rattle.ipl_model.specs.Step.{found_reply}
 use Rattle.unit_io.specs.Costs.{Spends}
-use Rattle.status_renewal.specs.Passes.{HasErased}
+use Rattle.restart.specs.Passes.{HasErased}
 use Rattle.ipl_store.specs.Shown.{IsSeen, HasCommitted}
 use Rattle.script_store.specs.declared.store.ScriptStore.{ScriptStore}
 

@@ -13,9 +13,9 @@ use Rattle.ipl_base.specs.declared.fault.ImageFault.TheVariants as image
 use Rattle.ipl_meaning.specs.Chart.{Chart, chart_of}
 use Rattle.ipl_meaning.specs.Layout.{Layout}
 use Rattle.ipl_meaning.specs.Mirrors.{AreApart}
-use Rattle.ipl_rules.specs.State.{State}
-use Rattle.opening_laws.specs.Chosen.{units_at}
-use Rattle.opening_laws.specs.LaidOut.{retired_at}
+use Rattle.ipl_model.specs.State.{State}
+use Rattle.ipl_meaning.specs.Chosen.{units_at}
+use Rattle.ipl_meaning.specs.LaidOut.{retired_at}
 use Rattle.place_taking.specs.Spending.{is_found_worn}
 use Rattle.place_taking.specs.Wear.{IsListedRetired}
 use Rattle.place_taking.proofs.SpendingLemmas.{found_earlier}

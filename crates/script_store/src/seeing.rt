@@ -1,7 +1,7 @@
 //! What sessions see, and what is committed.
 ghost use Rattle.std.specs.Prelude.{IfOk};
 ghost use Rattle.ipl_model.specs.declared.command.Command.TheVariants as command;
-ghost use Rattle.ipl_rules.specs.Operations.{after_share};
+ghost use Rattle.ipl_model.specs.Operations.{after_share};
 ghost use Rattle.ipl_store.specs.Calls.{Calls, get_fault, share_fault, name_fault};
 ghost use Rattle.ipl_store.specs.Shown.{IsSeen, HasCommitted};
 ghost use Rattle.script_store.specs.Keeps.{IsRunning, DoesCommand, Finds};

@@ -1,7 +1,7 @@
 //! The store that a run of a script works with.
 ghost use Rattle.std.specs.Prelude.{◌≡◌, ◌≤◌, ℕ, false, IfOk};
 ghost use Rattle.chip_trait.specs.Told.{History, Told};
-ghost use Rattle.ipl_rules.specs.State.{State, Limits};
+ghost use Rattle.ipl_model.specs.State.{State, Limits};
 ghost use Rattle.store_trait.specs.Keeping.{IsSingle, Works, LooksUp, WorksAlong, DoneRecalls, is_restart, WORK_DRAWS, LOOK_UP_DRAWS};
 ghost use Rattle.script_store.specs.Keeps.{IsRunning, KeepsScript, DoesCommand, script_keeping};
 ghost use Rattle.script_store.specs.Done.{HasDone, HasFound};

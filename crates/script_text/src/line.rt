@@ -6,9 +6,9 @@ ghost use Rattle.ipl_model.specs.declared.command.Command.TheVariants.{Put, Rest
 ghost use Rattle.ipl_model.specs.Grammar.{is_space, words_behind, one_number, two_numbers, numbers_and_value, sessions_of, commit_of, alone, command_of, line_of};
 ghost use Rattle.script_text.specs.Verbs.{without_session};
 
+use crate::decimal::number;
 use crate::word::{first_word, value};
 use ipl_model::{Command, Line, PutBytes, Sessions};
-use plain_text::number;
 
 /// The number that the words behind a verb are.
 #[tactic(auto, using(crate::proofs::Words::one_too_many))]

@@ -3,11 +3,11 @@ ghost use Rattle.std.specs.Prelude.{◌≡◌, ◌≤◌, ◌<◌, ◌+◌, ◌*
 ghost use Rattle.std.specs.Fmt.{decimal};
 ghost use Rattle.ipl_base.specs.declared.limits.TheConstants.{VALUE_LEN};
 ghost use Rattle.ipl_model.specs.Text.{refusal_text, reply_text, value_text};
-ghost use Rattle.plain_text.specs.declared.text_line.TheConstants.{LINE_LEN};
+ghost use Rattle.script_text.specs.declared.text_line.TheConstants.{LINE_LEN};
 
+use crate::text_line::TextLine;
 use ipl_base::{Refusal, VALUE_LEN, Value};
 use ipl_model::Reply;
-use plain_text::TextLine;
 
 /// Appends a word and a number.
 fn push_numbered(word: &[u8], number: u32, out: &mut TextLine)

@@ -9,7 +9,7 @@ use Rattle.ipl_format.specs.Record.{Record as LogRecord, IsRecord, log_bytes, re
 use Rattle.ipl_format.proofs.RecordLemmas.{records_have_sizes}
 use Rattle.log_records.specs.View.{Versioned}
 use Rattle.ipl_meaning.specs.Last.{size_of, size_of_all, has_room, pack_after}
-use Rattle.merge_laws.specs.Packs.{payloads_of, payload_of}
+use Rattle.selective_merge.specs.Packs.{payloads_of, payload_of}
 use Rattle.selective_merge.proofs.LogLemmas.{bytes_size}
 use Rattle.selective_merge.specs.Packing.{pack_open, IsAdded, IsPayload}
 

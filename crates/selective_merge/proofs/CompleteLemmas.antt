@@ -9,11 +9,11 @@ use Rattle.ipl_meaning.specs.Layout.{Shape}
 use Rattle.ipl_meaning.specs.Tables.{IsFree, Places, Tables}
 use Rattle.unit_io.specs.Charts.{Spares}
 use Rattle.place_taking.specs.Spending.{SparesUsed}
-use Rattle.merge_laws.specs.Faults.{fault_with, merge_fault, TellsTheFault}
-use Rattle.merge_laws.specs.Merged.{source_of}
-use Rattle.merge_laws.specs.Moved.{Source}
-use Rattle.merge_laws.specs.Packs.{packs_of}
-use Rattle.merge_laws.proofs.FaultLemmas.{tells_fault, mergeable_units_have_no_fault, mergeable_by, by_chip_alone}
+use Rattle.selective_merge.specs.Faults.{fault_with, merge_fault, TellsTheFault}
+use Rattle.selective_merge.specs.Merged.{source_of}
+use Rattle.selective_merge.specs.Moved.{Source}
+use Rattle.selective_merge.specs.Packs.{packs_of}
+use Rattle.selective_merge.proofs.FaultLemmas.{tells_fault, mergeable_units_have_no_fault, mergeable_by, by_chip_alone}
 use Rattle.selective_merge.specs.declared.home.HomeHeader.{HomeHeader}
 use Rattle.selective_merge.specs.Homes.{from_home, IsHomeOf}
 use Rattle.selective_merge.specs.Merging.{TellsMergeFault, FailsAsMerge, CompletesMerge}

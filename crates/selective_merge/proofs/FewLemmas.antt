@@ -5,7 +5,7 @@ use Rattle.log_records.specs.View.{Versioned}
 use Rattle.ipl_base.specs.declared.fault.ChipFault.{ChipFault}
 use Rattle.ipl_base.specs.declared.fault.ChipFault.TheVariants.{ReadFault, Malformed}
 use Rattle.ipl_format.specs.Record.{Record}
-use Rattle.merge_laws.specs.Packs.{packs_of, payloads_of, payload_of}
+use Rattle.selective_merge.specs.Packs.{packs_of, payloads_of, payload_of}
 use Rattle.selective_merge.specs.Merging.{CarriesFew}
 
 -- few were packed

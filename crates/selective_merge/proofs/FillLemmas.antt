@@ -8,17 +8,17 @@ use Rattle.chip_trait.specs.Image.{is_worn}
 use Rattle.log_records.specs.View.{Versioned}
 use Rattle.ipl_base.specs.declared.fault.ChipFault.{ChipFault}
 use Rattle.ipl_format.proofs.SectorLemmas.{blank_says_nothing}
-use Rattle.ipl_rules.specs.State.{Map}
+use Rattle.ipl_model.specs.State.{Map}
 use Rattle.ipl_meaning.specs.Chart.{Chart}
 use Rattle.ipl_meaning.specs.Rests.{now, StoryRests}
 use Rattle.unit_io.specs.Charts.{Charts, IsCleared}
 use Rattle.unit_io.specs.Leads.{IsSteady, IsStopped}
 use Rattle.unit_io.specs.Spots.{Programs, IsSpot}
 use Rattle.unit_io.proofs.SpotLemmas.{programs_then, programs_wider}
-use Rattle.merge_laws.specs.Merged.{IsFilled}
-use Rattle.merge_laws.specs.Moved.{Source, HasMoved, IsAside, IsUnsealed}
-use Rattle.merge_laws.specs.Packs.{IsLogSpotBelow, HasLogs}
-use Rattle.merge_laws.specs.Pages.{IsBaseSpotBelow}
+use Rattle.selective_merge.specs.Merged.{IsFilled}
+use Rattle.selective_merge.specs.Moved.{Source, HasMoved, IsAside, IsUnsealed}
+use Rattle.selective_merge.specs.Packs.{IsLogSpotBelow, HasLogs}
+use Rattle.selective_merge.specs.Pages.{IsBaseSpotBelow}
 use Rattle.selective_merge.specs.Throughout.{KeepsThroughout}
 use Rattle.selective_merge.specs.Writing.{GainsUnit, IsCleanPlace, IsFilledSpot, IsUnitSpot, MovesPages, WritesLogs}
 use Rattle.selective_merge.proofs.MoveLemmas.{moved_aside}

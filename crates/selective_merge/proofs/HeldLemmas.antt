@@ -13,10 +13,10 @@ use Rattle.unit_directory.specs.Laws.{UsesTake}
 use Rattle.unit_directory.proofs.AsideLemmas.{next_places_are_aside, next_places_leave_ready}
 use Rattle.place_taking.specs.Homes.{HomesAreUsed, KeepsHomes}
 use Rattle.place_taking.proofs.HomeLemmas.{homes_same, homes_then}
-use Rattle.merge_laws.specs.Known.{KnowsPlaces}
-use Rattle.merge_laws.specs.KnownLaws.{KnownPlacesMove}
-use Rattle.merge_laws.proofs.CountLemmas.{known_places_are_ready}
-use Rattle.merge_laws.proofs.KnownLemmas.{free_before, known_places_may_be_aside}
+use Rattle.selective_merge.specs.Known.{KnowsPlaces}
+use Rattle.selective_merge.specs.KnownLaws.{KnownPlacesMove}
+use Rattle.selective_merge.proofs.CountLemmas.{known_places_are_ready}
+use Rattle.selective_merge.proofs.KnownLemmas.{free_before, known_places_may_be_aside}
 use Rattle.selective_merge.specs.Moving.{Holds, NoneIsLostBut, set_aside}
 
 -- ---- a place given back

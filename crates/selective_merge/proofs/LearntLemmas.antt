@@ -8,7 +8,7 @@ use Rattle.ipl_meaning.specs.Layout.{Shape}
 use Rattle.ipl_meaning.specs.Tables.{Tables}
 use Rattle.unit_io.specs.ReadsAt.{ReadsAt}
 use Rattle.unit_log.specs.Live.{AreMirrored}
-use Rattle.merge_laws.specs.Packs.{among, packs_of}
+use Rattle.selective_merge.specs.Packs.{among, packs_of}
 use Rattle.selective_merge.specs.Homes.{IsHomeBy, IsHomeOf, LearnsHome, IsLearnt}
 use Rattle.selective_merge.specs.Merging.{IsReadyToMerge}
 use Rattle.selective_merge.specs.declared.home.HomeHeader.{HomeHeader}

@@ -11,8 +11,8 @@ use Rattle.overflow.specs.Lists.{spots_in}
 use Rattle.unit_io.specs.Costs.{Spends}
 use Rattle.unit_io.specs.ReadsAt.{IsCauseAt, ReadsAt}
 use Rattle.unit_log.specs.Looks.{IsLogRead}
-use Rattle.step_laws.proofs.TablesLemmas.{tables_none, tables_read}
-use Rattle.merge_laws.specs.Known.{KnowsPlaces}
+use Rattle.unit_io.proofs.TablesLemmas.{tables_none, tables_read}
+use Rattle.selective_merge.specs.Known.{KnowsPlaces}
 use Rattle.place_taking.specs.Spending.{ErasesFree, is_worn_out, tells_worn}
 use Rattle.place_taking.specs.Takes.{IsNotTaken}
 use Rattle.place_taking.proofs.HomeLemmas.{homes_same}

@@ -1,3 +1,13 @@
+pub mod PagesLemmas
+pub mod PacksLemmas
+pub mod FilledLemmas
+pub mod CountLemmas
+pub mod KnownLemmas
+pub mod GrownLemmas
+pub mod MergeLemmas
+pub mod FaultLemmas
+pub mod KnownCleanLemmas
+pub mod MergedMaskLemmas
 mod CarryLemmas
 mod RecordTestLemmas
 mod LogLemmas

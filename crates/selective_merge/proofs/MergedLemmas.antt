@@ -13,7 +13,7 @@ use Rattle.ipl_base.specs.declared.limits.TheConstants.{VERSION}
 use Rattle.ipl_base.specs.declared.fault.ChipFault.{ChipFault}
 use Rattle.ipl_format.specs.Record.{Record, IsRecord}
 use Rattle.ipl_format.specs.Sector.{Sector}
-use Rattle.ipl_rules.specs.State.{Map}
+use Rattle.ipl_model.specs.State.{Map}
 use Rattle.ipl_meaning.specs.Chart.{Chart}
 use Rattle.ipl_meaning.specs.Layout.{Layout, records_of}
 use Rattle.ipl_meaning.specs.Mirrors.{Mirrors}
@@ -28,15 +28,15 @@ use Rattle.ipl_meaning.proofs.KnownLogLemmas.{counted_few}
 use Rattle.ipl_meaning.proofs.MirrorLemmas.{free_places_are_idle}
 use Rattle.unit_directory.specs.Free.{AreNext, aside}
 use Rattle.unit_directory.proofs.AsideLemmas.{next_places_are_aside}
-use Rattle.step_laws.specs.Steps.{RestsAgreeing}
+use Rattle.unit_io.specs.Steps.{RestsAgreeing}
 use Rattle.place_taking.specs.Spending.{WritesFree}
 use Rattle.place_taking.proofs.JoinLemmas.{counted_alike, counted_used}
-use Rattle.merge_laws.specs.Merged.{source_of, packs_in, IsToMerge, IsUnitHead, IsWritten, IsMergedUnit}
-use Rattle.merge_laws.specs.Moved.{Source, IsUnsealed}
-use Rattle.merge_laws.specs.Packs.{packs_of, payloads_of, masks_of_packs, payload_of}
-use Rattle.merge_laws.proofs.MergeLemmas.{tables_follow_filling}
-use Rattle.merge_laws.proofs.MaskedLemmas.{packs_are_told}
-use Rattle.merge_laws.proofs.PacksLemmas.{packs_all, all_records}
+use Rattle.selective_merge.specs.Merged.{source_of, packs_in, IsToMerge, IsUnitHead, IsWritten, IsMergedUnit}
+use Rattle.selective_merge.specs.Moved.{Source, IsUnsealed}
+use Rattle.selective_merge.specs.Packs.{packs_of, payloads_of, masks_of_packs, payload_of}
+use Rattle.selective_merge.proofs.MergeLemmas.{tables_follow_filling}
+use Rattle.selective_merge.proofs.MergedMaskLemmas.{packs_are_told}
+use Rattle.selective_merge.proofs.PacksLemmas.{packs_all, all_records}
 use Rattle.selective_merge.specs.Packing.{masks_of_payloads}
 use Rattle.selective_merge.proofs.PackedMaskLemmas.{packs_masks}
 use Rattle.selective_merge.specs.Merging.{StepsMerging}

@@ -7,8 +7,8 @@ use Rattle.ipl_format.specs.Page.{Slots, IsPage}
 use Rattle.ipl_format.specs.Place.{base_sector_of}
 use Rattle.ipl_meaning.specs.Chart.{Chart}
 use Rattle.unit_io.specs.Charts.{HasPageSectors}
-use Rattle.merge_laws.specs.Pages.{HasPages, IsFew}
-use Rattle.merge_laws.specs.Moved.{Source, IsMadeFrom, MovesPage, HasMoved, IsAside}
+use Rattle.selective_merge.specs.Pages.{HasPages, IsFew}
+use Rattle.selective_merge.specs.Moved.{Source, IsMadeFrom, MovesPage, HasMoved, IsAside}
 
 -- ---- pages at a place
 

@@ -10,8 +10,8 @@ use Rattle.ipl_meaning.specs.TableSteps.{IsMoved, with_next}
 use Rattle.overflow.specs.Laws.{DropsMove}
 use Rattle.overflow.specs.Lists.{IsSoundOverflow, after_drop, places_left, listed}
 use Rattle.unit_directory.specs.Directory.{no_masks}
-use Rattle.merge_laws.specs.Packs.{among}
-use Rattle.merge_laws.proofs.PacksLemmas.{among_contains, contains_among}
+use Rattle.selective_merge.specs.Packs.{among}
+use Rattle.selective_merge.proofs.PacksLemmas.{among_contains, contains_among}
 use Rattle.selective_merge.specs.Moving.{places_moved, Frees, NoneIsLostBut, TellsUnit}
 
 -- ---- the directory

@@ -13,7 +13,7 @@ use Rattle.ipl_base.specs.declared.limits.TheConstants.{VERSION}
 use Rattle.ipl_format.proofs.HeaderOnceLemmas.{overflow_headers_say_erases}
 use Rattle.ipl_format.specs.Sector.{Sector}
 use Rattle.unit_layout.specs.Header.{SpellsOverflow}
-use Rattle.ipl_rules.specs.State.{Map}
+use Rattle.ipl_model.specs.State.{Map}
 use Rattle.ipl_meaning.specs.Chart.{Chart, chart_of}
 use Rattle.ipl_meaning.specs.Found.{MentionsBelow}
 use Rattle.ipl_meaning.specs.Layout.{Layout, Laid}
@@ -41,11 +41,11 @@ use Rattle.unit_io.specs.Charts.{Charts, IsCleared, Gains}
 use Rattle.unit_io.specs.Leads.{IsSteady, SwitchesMap, IsStopped}
 use Rattle.unit_io.specs.Spots.{Programs, IsSpot}
 use Rattle.unit_io.proofs.LeadsLemmas.{leads_weaker}
-use Rattle.step_laws.specs.Steps.{Steps, RestsAgreeing}
+use Rattle.unit_io.specs.Steps.{Steps, RestsAgreeing}
 use Rattle.place_taking.specs.Spending.{WritesFree}
 use Rattle.place_taking.specs.Takes.{ClearsNext, TakesPlace}
 use Rattle.place_taking.proofs.JoinLemmas.{counted_alike, counted_used, writes_taken}
-use Rattle.merge_laws.proofs.KnownLemmas.{taken_is_used}
+use Rattle.selective_merge.proofs.KnownLemmas.{taken_is_used}
 use Rattle.selective_merge.specs.Moving.{set_aside}
 use Rattle.selective_merge.specs.Placing.{HasOverflowHeader, OpensPlace, SaysErases, RestsOpened}
 use Rattle.selective_merge.specs.Throughout.{KeepsThroughout}

@@ -8,7 +8,7 @@ use Rattle.ipl_format.specs.Record.{Record, IsRecord, log_bytes}
 use Rattle.log_records.specs.Reading.{records_of}
 use Rattle.log_records.proofs.RecordsLemmas.{records_list}
 use Rattle.ipl_meaning.specs.Masks.{mask_of}
-use Rattle.merge_laws.specs.Packs.{payloads_of, masks_of_packs}
+use Rattle.selective_merge.specs.Packs.{payloads_of, masks_of_packs}
 use Rattle.selective_merge.specs.Packing.{masks_of_payloads}
 
 -- the records of a payload

@@ -14,7 +14,7 @@ use Rattle.ipl_meaning.proofs.SizeLemmas.{texts_have_sizes}
 use Rattle.page_ops.specs.Frames.{with_record}
 use Rattle.page_ops.specs.Rebuilt.{with_records, AreComing, IsMaking}
 use Rattle.page_ops.proofs.RebuildLemmas.{on_own, of_no_number, making_earlier, making_last, making_full, making_done}
-use Rattle.merge_laws.specs.Moved.{IsRebased}
+use Rattle.selective_merge.specs.Moved.{IsRebased}
 use Rattle.selective_merge.specs.Homes.{is_counted}
 use Rattle.selective_merge.specs.Logs.{nth_record}
 use Rattle.selective_merge.proofs.KeptLemmas.{nth_first}

@@ -4,7 +4,7 @@ use Rattle.chip_trait.specs.Lawful.{Clean, age}
 use Rattle.chip_trait.specs.Told.{History, Told, Counts, adds_all}
 use Rattle.ipl_base.specs.declared.limits.TheConstants.{VERSION}
 use Rattle.ipl_base.specs.declared.fault.ChipFault.{ChipFault}
-use Rattle.ipl_rules.specs.State.{Map}
+use Rattle.ipl_model.specs.State.{Map}
 use Rattle.ipl_format.specs.Page.{Slots, IsPage}
 use Rattle.ipl_meaning.specs.Chart.{Chart, chart_of}
 use Rattle.ipl_meaning.specs.Rests.{now, StoryRests}
@@ -15,8 +15,8 @@ use Rattle.unit_io.specs.Reads.{OfContents}
 use Rattle.unit_io.specs.ReadsAt.{ReadsAt}
 use Rattle.unit_io.specs.Spots.{Programs, IsPieceSpot}
 use Rattle.unit_io.proofs.SpotLemmas.{programs_none, programs_then, programs_wider}
-use Rattle.merge_laws.specs.Moved.{Source, IsRebased, MovesPage, HasMoved, IsAside}
-use Rattle.merge_laws.specs.Pages.{IsBaseSpotBelow, IsFew}
+use Rattle.selective_merge.specs.Moved.{Source, IsRebased, MovesPage, HasMoved, IsAside}
+use Rattle.selective_merge.specs.Pages.{IsBaseSpotBelow, IsFew}
 use Rattle.selective_merge.specs.Throughout.{KeepsThroughout, ChartsThroughout}
 use Rattle.selective_merge.specs.Writing.{MovesOnePage}
 use Rattle.selective_merge.proofs.MoveLemmas.{moved_none, moved_more, moved_aside, aside_then, aside_none}

@@ -12,8 +12,8 @@ use Rattle.ipl_meaning.specs.Steps.{KeepsPages, with_unit}
 use Rattle.ipl_meaning.specs.Tables.{IsFree, OverflowLists, Tables, spots_of}
 use Rattle.unit_directory.proofs.AsideLemmas.{next_places_are_aside}
 use Rattle.ipl_meaning.proofs.MirrorLemmas.{map_contains}
-use Rattle.merge_laws.specs.Merged.{IsMergedUnit, merged_layout, merged_shape}
-use Rattle.merge_laws.specs.Packs.{among}
+use Rattle.selective_merge.specs.Merged.{IsMergedUnit, merged_layout, merged_shape}
+use Rattle.selective_merge.specs.Packs.{among}
 use Rattle.selective_merge.specs.Placing.{SaysErases, MayHaveMerged, IsElsewhere, IsPlaced}
 use Rattle.selective_merge.specs.Spotting.{HasHomeSpot, IsHomeSpot, IsOverflowSpot, HasCleanSpot, IsLowest, MayOverflow, OpensNext}
 

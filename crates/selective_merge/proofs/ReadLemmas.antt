@@ -4,7 +4,7 @@ use Rattle.chip_trait.specs.Story.{Story, Contents, held}
 use Rattle.chip_trait.specs.Lawful.{Clean, age}
 use Rattle.chip_trait.specs.Told.{History, Told}
 use Rattle.ipl_base.specs.declared.fault.ChipFault.{ChipFault}
-use Rattle.ipl_rules.specs.State.{Map}
+use Rattle.ipl_model.specs.State.{Map}
 use Rattle.ipl_meaning.specs.Chart.{Chart}
 use Rattle.ipl_meaning.specs.Rests.{now, StoryRests}
 use Rattle.unit_io.specs.Leads.{IsSteady}
@@ -13,9 +13,9 @@ use Rattle.unit_io.specs.ReadsAt.{ReadsAt}
 use Rattle.unit_io.specs.Spots.{Programs}
 use Rattle.unit_io.proofs.ReadsAtLemmas.{at_rests, at_now}
 use Rattle.unit_io.proofs.SpotLemmas.{programs_then}
-use Rattle.step_laws.specs.Steps.{Settled}
-use Rattle.step_laws.proofs.StepLemmas.{outcome_reads}
-use Rattle.step_laws.proofs.TidyLemmas.{tidy_reads}
+use Rattle.unit_io.specs.Steps.{Settled}
+use Rattle.unit_io.proofs.StepLemmas.{outcome_reads}
+use Rattle.unit_io.proofs.StepTidyLemmas.{tidy_reads}
 use Rattle.selective_merge.specs.Throughout.{RestsBy, KeepsThroughout}
 use Rattle.selective_merge.proofs.ThroughoutLemmas.{SoFar}
 

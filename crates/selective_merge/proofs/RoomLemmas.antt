@@ -11,9 +11,9 @@ use Rattle.ipl_meaning.specs.Rests.{now, EachStands}
 use Rattle.ipl_meaning.specs.Steps.{KeepsPages}
 use Rattle.ipl_meaning.specs.Tables.{Tables, IsCountedClean}
 use Rattle.unit_io.specs.ReadsAt.{ReadsAt}
-use Rattle.step_laws.specs.Steps.{TidyWork, Steps, RestsAgreeing}
-use Rattle.step_laws.proofs.StepLemmas.{outcome_none, outcome_weaker}
-use Rattle.step_laws.proofs.TidyLemmas.{tidy_none}
+use Rattle.unit_io.specs.Steps.{TidyWork, Steps, RestsAgreeing}
+use Rattle.unit_io.proofs.StepLemmas.{outcome_none, outcome_weaker}
+use Rattle.unit_io.proofs.StepTidyLemmas.{tidy_none}
 use Rattle.selective_merge.specs.Merging.{MergesUnit, StaysMirrored, RestsMerged}
 use Rattle.selective_merge.specs.Placing.{OpensOverflow, SaysErases, RestsOpened, OpensInSteps, IsMergedSpot, MakesRoom, RestsWithRoom, MakesRoomInSteps, PlacesLog}
 use Rattle.selective_merge.specs.Spotting.{IsHomeSpot}

@@ -5,9 +5,9 @@ use Rattle.chip_trait.specs.Chart.{with_sector}
 use Rattle.chip_trait.specs.Lawful.{Clean, age}
 use Rattle.chip_trait.specs.Told.{History, Told, Counts, adds_all}
 use Rattle.log_records.specs.View.{Versioned}
-use Rattle.merge_laws.specs.Packs.{payload_of}
+use Rattle.selective_merge.specs.Packs.{payload_of}
 use Rattle.ipl_base.specs.declared.fault.ChipFault.{ChipFault}
-use Rattle.ipl_rules.specs.State.{Map}
+use Rattle.ipl_model.specs.State.{Map}
 use Rattle.ipl_base.specs.declared.limits.TheConstants.{VERSION}
 use Rattle.ipl_format.proofs.HeaderOnceLemmas.{data_headers_say_erases}
 use Rattle.ipl_format.specs.Sector.{Sector}
@@ -32,11 +32,11 @@ use Rattle.unit_io.specs.Charts.{Charts, Gains}
 use Rattle.unit_io.specs.Leads.{IsSteady, SwitchesMap, IsStopped}
 use Rattle.unit_io.specs.Spots.{Programs, IsSpot}
 use Rattle.unit_io.proofs.LeadsLemmas.{leads_weaker}
-use Rattle.merge_laws.specs.Merged.{source_of, packs_in, merged_shape, IsUnitHead, IsFilled, MayMerge, IsToMerge, IsWritten}
-use Rattle.merge_laws.specs.Moved.{Source, IsAside}
-use Rattle.merge_laws.specs.Pages.{IsFew}
-use Rattle.merge_laws.proofs.FilledLemmas.{mirrors_filled}
-use Rattle.merge_laws.proofs.MergeLemmas.{filled_places_are_ready, stands_after_filling}
+use Rattle.selective_merge.specs.Merged.{source_of, packs_in, merged_shape, IsUnitHead, IsFilled, MayMerge, IsToMerge, IsWritten}
+use Rattle.selective_merge.specs.Moved.{Source, IsAside}
+use Rattle.selective_merge.specs.Pages.{IsFew}
+use Rattle.selective_merge.proofs.FilledLemmas.{mirrors_filled}
+use Rattle.selective_merge.proofs.MergeLemmas.{filled_places_are_ready, stands_after_filling}
 use Rattle.selective_merge.specs.Throughout.{KeepsThroughout, ChartsThroughout}
 use Rattle.selective_merge.specs.Writing.{GainsUnit, IsCleanPlace, IsFilledSpot, IsSealed, IsUnitSpot, SealsUnit, TellsWritten}
 use Rattle.selective_merge.proofs.FillLemmas.{clean_bare, worn_apart, programs_unit, programs_unsealed, filled_by}

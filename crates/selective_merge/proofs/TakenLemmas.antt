@@ -4,7 +4,7 @@ use Rattle.chip_trait.specs.Told.{History, Told, Counts, adds_all}
 use Rattle.log_records.specs.View.{Versioned}
 use Rattle.ipl_base.specs.declared.fault.ChipFault.{ChipFault}
 use Rattle.ipl_base.specs.declared.fault.ChipFault.TheVariants.{ReadFault, Stopped, Damaged, Malformed, WornOut}
-use Rattle.ipl_rules.specs.State.{Map}
+use Rattle.ipl_model.specs.State.{Map}
 use Rattle.ipl_meaning.specs.Agrees.{Agrees}
 use Rattle.ipl_meaning.specs.Chart.{Chart, chart_of}
 use Rattle.ipl_meaning.specs.Layout.{Layout}
@@ -19,15 +19,15 @@ use Rattle.txn_status.specs.Switching.{HasCounts}
 use Rattle.unit_io.specs.Charts.{Charts, IsCleared}
 use Rattle.unit_io.specs.Leads.{IsSteady}
 use Rattle.unit_io.specs.Spots.{Programs}
-use Rattle.step_laws.specs.Steps.{Settled, TidyWork, Steps, RestsAgreeing}
-use Rattle.step_laws.proofs.StepLemmas.{outcome_weaker}
+use Rattle.unit_io.specs.Steps.{Settled, TidyWork, Steps, RestsAgreeing}
+use Rattle.unit_io.proofs.StepLemmas.{outcome_weaker}
 use Rattle.place_taking.specs.Spending.{WritesFree}
 use Rattle.place_taking.specs.Takes.{ClearsNext, IsAsideFrom, IsNotTaken, RestsTaken, TakesPlace, with_places}
 use Rattle.place_taking.proofs.JoinLemmas.{untaken, writes_taken}
-use Rattle.merge_laws.specs.Faults.{IsTheFault}
-use Rattle.merge_laws.specs.Merged.{IsToMerge, IsWritten}
-use Rattle.merge_laws.specs.Moved.{Source, IsAside, IsUnsealed}
-use Rattle.merge_laws.proofs.FaultLemmas.{fault_not_taken}
+use Rattle.selective_merge.specs.Faults.{IsTheFault}
+use Rattle.selective_merge.specs.Merged.{IsToMerge, IsWritten}
+use Rattle.selective_merge.specs.Moved.{Source, IsAside, IsUnsealed}
+use Rattle.selective_merge.proofs.FaultLemmas.{fault_not_taken}
 use Rattle.selective_merge.specs.Homes.{MoveCause, MergeCause}
 use Rattle.selective_merge.specs.Merging.{StaysMirrored}
 use Rattle.selective_merge.specs.Moving.{set_aside}

@@ -6,7 +6,7 @@ use Rattle.chip_trait.specs.declared.event.Event.TheVariants.{Read, Program, Era
 use Rattle.chip_trait.specs.Story.{Story}
 use Rattle.chip_trait.specs.Told.{History, Told, Counts, adds_all}
 use Rattle.ipl_base.specs.declared.fault.ChipFault.{ChipFault}
-use Rattle.ipl_rules.specs.State.{Map}
+use Rattle.ipl_model.specs.State.{Map}
 use Rattle.ipl_meaning.specs.Chart.{Chart, chart_of}
 use Rattle.ipl_meaning.specs.Rests.{now, EachStands, StoryRests}
 use Rattle.unit_io.specs.Charts.{Charts}
@@ -14,8 +14,8 @@ use Rattle.unit_io.specs.Leads.{IsSteady, KeepsMap, RestsWith, IsStopped}
 use Rattle.unit_io.specs.Reads.{PageAsked, Reads, page_reads, IsPageRead}
 use Rattle.unit_io.specs.ReadsAt.{IsReadAt, ReadsAt}
 use Rattle.unit_io.proofs.ReadsLemmas.{page_reads_of}
-use Rattle.step_laws.specs.Steps.{Settled, EndsWith, Outcome}
-use Rattle.step_laws.proofs.StepLemmas.{outcome_none, outcome_then, outcome_weaker, outcome_written}
+use Rattle.unit_io.specs.Steps.{Settled, EndsWith, Outcome}
+use Rattle.unit_io.proofs.StepLemmas.{outcome_none, outcome_then, outcome_weaker, outcome_written}
 use Rattle.selective_merge.specs.Throughout.{RestsBy, KeepsThroughout, ChartsThroughout}
 
 -- ---- ends

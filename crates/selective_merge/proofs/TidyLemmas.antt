@@ -12,12 +12,12 @@ use Rattle.unit_io.proofs.SpotLemmas.{programs_none}
 use Rattle.unit_io.proofs.TidyLemmas.{tidy_then, tidy_wider}
 use Rattle.unit_directory.specs.Free.{AreNext}
 use Rattle.unit_directory.proofs.AsideLemmas.{next_places_are_aside}
-use Rattle.step_laws.specs.Steps.{Settled, Tidies, TidyWork}
-use Rattle.step_laws.proofs.TablesLemmas.{tables_read, tables_then}
-use Rattle.merge_laws.specs.Known.{KnowsPlaces}
-use Rattle.merge_laws.specs.Packs.{IsLogSpotBelow}
-use Rattle.merge_laws.specs.Pages.{IsBaseSpotBelow}
-use Rattle.merge_laws.proofs.KnownCleanLemmas.{StaysOrIsFrom, counted_before, counted_in_use, merged_clean, opened_clean, stays_before}
+use Rattle.unit_io.specs.Steps.{Settled, Tidies, TidyWork}
+use Rattle.unit_io.proofs.TablesLemmas.{tables_read, tables_then}
+use Rattle.selective_merge.specs.Known.{KnowsPlaces}
+use Rattle.selective_merge.specs.Packs.{IsLogSpotBelow}
+use Rattle.selective_merge.specs.Pages.{IsBaseSpotBelow}
+use Rattle.selective_merge.proofs.KnownCleanLemmas.{StaysOrIsFrom, counted_before, counted_in_use, merged_clean, opened_clean, stays_before}
 use Rattle.place_taking.specs.Spending.{WritesFree}
 use Rattle.place_taking.specs.Takes.{ClearsNext, IsAsideFrom, with_places}
 use Rattle.place_taking.proofs.JoinLemmas.{tidy_untaken, tidy_writes}

@@ -16,10 +16,10 @@ use Rattle.unit_io.specs.Reads.{OfContents}
 use Rattle.unit_io.specs.ReadsAt.{IsCauseAt, ReadsAt}
 use Rattle.unit_io.proofs.ReadsAtLemmas.{at_none}
 use Rattle.unit_log.specs.Looks.{IsLogRead}
-use Rattle.merge_laws.specs.Faults.{pages_fault, TellsTheFault}
-use Rattle.merge_laws.specs.Known.{KnowsPlaces}
-use Rattle.merge_laws.specs.Packs.{among, packs_of}
-use Rattle.merge_laws.proofs.FaultLemmas.{fault_unread, fault_with_few, fault_with_many}
+use Rattle.selective_merge.specs.Faults.{pages_fault, TellsTheFault}
+use Rattle.selective_merge.specs.Known.{KnowsPlaces}
+use Rattle.selective_merge.specs.Packs.{among, packs_of}
+use Rattle.selective_merge.proofs.FaultLemmas.{fault_unread, fault_with_few, fault_with_many}
 use Rattle.selective_merge.specs.declared.home.HomeHeader.{HomeHeader}
 use Rattle.selective_merge.specs.Homes.{from_home, IsHomeOf, IsLearnt, LearnsHome}
 use Rattle.selective_merge.specs.Leaving.{MovesUnit}

@@ -4,7 +4,7 @@ use Rattle.chip_trait.specs.Story.{Contents, held}
 use Rattle.chip_trait.specs.Told.{History, Told, adds_all}
 use Rattle.ipl_base.specs.declared.fault.ChipFault.{ChipFault}
 use Rattle.ipl_format.specs.Record.{Record}
-use Rattle.ipl_rules.specs.State.{Map}
+use Rattle.ipl_model.specs.State.{Map}
 use Rattle.ipl_meaning.specs.Agrees.{Agrees}
 use Rattle.ipl_meaning.specs.Chart.{Chart, chart_of}
 use Rattle.ipl_meaning.specs.Layout.{Shape, Layout}
@@ -15,12 +15,12 @@ use Rattle.unit_io.specs.Charts.{Charts}
 use Rattle.unit_io.specs.Leads.{IsSteady}
 use Rattle.unit_io.specs.ReadsAt.{ReadsAt}
 use Rattle.unit_io.proofs.ReadsAtLemmas.{at_rests, at_agrees, at_now}
-use Rattle.step_laws.specs.Steps.{Settled, EndsWith, TidyWork, Steps, RestsAgreeing}
-use Rattle.step_laws.proofs.MapLemmas.{reads_keep_tables}
-use Rattle.step_laws.proofs.StepLemmas.{outcome_reads, outcome_then, outcome_weaker}
-use Rattle.step_laws.proofs.TidyLemmas.{tidy_reads, tidy_then, tidy_weaker}
-use Rattle.merge_laws.specs.Merged.{source_of}
-use Rattle.merge_laws.specs.Moved.{Source}
+use Rattle.unit_io.specs.Steps.{Settled, EndsWith, TidyWork, Steps, RestsAgreeing}
+use Rattle.unit_io.proofs.MapLemmas.{reads_keep_tables}
+use Rattle.unit_io.proofs.StepLemmas.{outcome_reads, outcome_then, outcome_weaker}
+use Rattle.unit_io.proofs.StepTidyLemmas.{tidy_reads, tidy_then, tidy_weaker}
+use Rattle.selective_merge.specs.Merged.{source_of}
+use Rattle.selective_merge.specs.Moved.{Source}
 use Rattle.selective_merge.specs.declared.home.HomeHeader.{HomeHeader}
 use Rattle.selective_merge.specs.Homes.{from_home, IsHomeOf, LearnsHome}
 use Rattle.selective_merge.specs.Merging.{Merges, MergesFrom, StaysMirrored, RestsMerged, MergesInSteps, MergesFromInSteps}

@@ -8,7 +8,7 @@ use Rattle.chip_trait.specs.Told.{History, Told, adds_all}
 use Rattle.log_records.specs.View.{Versioned}
 use Rattle.ipl_base.specs.declared.fault.ChipFault.{ChipFault}
 use Rattle.ipl_format.specs.Sector.{Sector}
-use Rattle.ipl_rules.specs.State.{Map}
+use Rattle.ipl_model.specs.State.{Map}
 use Rattle.ipl_meaning.specs.Chart.{Chart}
 use Rattle.ipl_meaning.specs.Rests.{now, EachStands, StoryRests}
 use Rattle.unit_io.specs.Charts.{Gains}
@@ -17,8 +17,8 @@ use Rattle.unit_io.specs.Spots.{Programs, IsSpot}
 use Rattle.unit_io.proofs.SectorLemmas.{untouched}
 use Rattle.unit_io.proofs.LeadsLemmas.{leads_none, leads_then, leads_failed}
 use Rattle.unit_io.proofs.SpotLemmas.{programs_none, programs_then, programs_wider}
-use Rattle.merge_laws.specs.Packs.{log_sector, IsLogSpotBelow, HasLogs, payload_of}
-use Rattle.merge_laws.specs.Moved.{IsAside}
+use Rattle.selective_merge.specs.Packs.{log_sector, IsLogSpotBelow, HasLogs, payload_of}
+use Rattle.selective_merge.specs.Moved.{IsAside}
 use Rattle.selective_merge.specs.Writing.{WritesToBare, KeepsLogs}
 
 -- a sector that was put in, and the others

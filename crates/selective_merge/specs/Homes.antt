@@ -10,9 +10,9 @@ use Rattle.ipl_meaning.specs.Tables.{Places, OverflowLists, Tables}
 use Rattle.unit_directory.specs.Free.{spares_of}
 use Rattle.unit_log.specs.Live.{OfMirrored}
 use Rattle.unit_log.specs.Looks.{IsLogRead}
-use Rattle.merge_laws.specs.Packs.{among}
-use Rattle.merge_laws.specs.Pages.{IsBaseSpotBelow, IsFew}
-use Rattle.merge_laws.specs.Moved.{Source}
+use Rattle.selective_merge.specs.Packs.{among}
+use Rattle.selective_merge.specs.Pages.{IsBaseSpotBelow, IsFew}
+use Rattle.selective_merge.specs.Moved.{Source}
 use Rattle.selective_merge.specs.declared.home.HomeHeader.{HomeHeader}
 
 -- the source of a move from there, with these committed numbers and log records

@@ -9,7 +9,7 @@ use Rattle.overflow.specs.Lists.{spots_in}
 use Rattle.unit_directory.specs.Free.{free_count}
 use Rattle.unit_io.specs.Accounts.{Accounts}
 use Rattle.unit_io.specs.Costs.{Spends}
-use Rattle.step_laws.specs.Steps.{Tidies}
+use Rattle.unit_io.specs.Steps.{Tidies}
 use Rattle.place_taking.specs.Spending.{ErasesFor, ErasesFree, SparesUsed, is_worn_out}
 use Rattle.selective_merge.specs.Homes.{MergeCause}
 use Rattle.selective_merge.specs.Moving.{Holds}

@@ -1,3 +1,12 @@
+pub mod Pages
+pub mod Packs
+pub mod Moved
+pub mod Merged
+pub mod Known
+pub mod Laws
+pub mod KnownLaws
+pub mod Faults
+pub mod FaultLaws
 pub mod Logs
 pub mod Throughout
 pub mod Packing

@@ -4,7 +4,7 @@ use Rattle.ipl_base.specs.declared.limits.TheConstants.{CARRIED_SECTORS}
 use Rattle.chip_trait.specs.Told.{History, Told}
 use Rattle.ipl_base.specs.declared.fault.ChipFault.{ChipFault}
 use Rattle.ipl_base.specs.declared.fault.ChipFault.TheVariants.{Malformed, ReadFault}
-use Rattle.ipl_rules.specs.State.{Map}
+use Rattle.ipl_model.specs.State.{Map}
 use Rattle.ipl_meaning.specs.Agrees.{IsTidy, Agrees}
 use Rattle.ipl_meaning.specs.Chart.{Chart, chart_of}
 use Rattle.ipl_meaning.specs.Last.{carried_count}
@@ -15,12 +15,12 @@ use Rattle.ipl_meaning.specs.Steps.{KeepsPages}
 use Rattle.ipl_meaning.specs.Tables.{Tables}
 use Rattle.unit_io.specs.Leads.{IsSteady}
 use Rattle.unit_io.specs.Reads.{OfContents}
-use Rattle.step_laws.specs.Steps.{Steps, RestsAgreeing}
-use Rattle.merge_laws.specs.Faults.{merge_fault, IsMergeable, IsTheFault, TellsTheFault, FailsByChipAlone}
-use Rattle.merge_laws.specs.Known.{KnowsPlaces}
-use Rattle.merge_laws.specs.Merged.{source_of, IsMergedUnit}
-use Rattle.merge_laws.specs.Moved.{Source}
-use Rattle.merge_laws.specs.Packs.{among}
+use Rattle.unit_io.specs.Steps.{Steps, RestsAgreeing}
+use Rattle.selective_merge.specs.Faults.{merge_fault, IsMergeable, IsTheFault, TellsTheFault, FailsByChipAlone}
+use Rattle.selective_merge.specs.Known.{KnowsPlaces}
+use Rattle.selective_merge.specs.Merged.{source_of, IsMergedUnit}
+use Rattle.selective_merge.specs.Moved.{Source}
+use Rattle.selective_merge.specs.Packs.{among}
 use Rattle.selective_merge.specs.Leaving.{MovesUnit}
 use Rattle.selective_merge.specs.Throughout.{ChartsThroughout}
 

@@ -7,8 +7,8 @@ use Rattle.unit_directory.specs.Directory.{after_replace}
 use Rattle.unit_directory.specs.Free.{free_count, aside}
 use Rattle.place_taking.specs.Homes.{KeepsHomes}
 use Rattle.place_taking.specs.Takes.{with_places}
-use Rattle.merge_laws.specs.Known.{KnowsPlaces}
-use Rattle.merge_laws.specs.Moved.{Source}
+use Rattle.selective_merge.specs.Known.{KnowsPlaces}
+use Rattle.selective_merge.specs.Moved.{Source}
 use Rattle.selective_merge.specs.Homes.{from_home}
 use Rattle.selective_merge.specs.Packing.{masks_of_payloads}
 use Rattle.selective_merge.specs.declared.parts.Parts.{Parts}

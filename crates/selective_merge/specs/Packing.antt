@@ -8,7 +8,7 @@ use Rattle.log_records.specs.Reading.{records_of}
 use Rattle.ipl_meaning.specs.Masks.{mask_of}
 use Rattle.ipl_meaning.specs.Last.{pack, pack_after, carried}
 use Rattle.ipl_meaning.specs.Values.{counts_for}
-use Rattle.merge_laws.specs.Packs.{payload_of, payloads_of}
+use Rattle.selective_merge.specs.Packs.{payload_of, payloads_of}
 
 -- the record is carried, where these come after it
 abbrev pub is_kept : (ℕ → Bool) → Record → List Record → Bool

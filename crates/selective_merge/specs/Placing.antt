@@ -5,7 +5,7 @@ use Rattle.ipl_base.specs.declared.fault.ChipFault.{ChipFault}
 use Rattle.ipl_base.specs.declared.spot.Spot.{Spot}
 use Rattle.ipl_format.specs.Header.{SpellsOverflowHeader, erases_said}
 use Rattle.ipl_format.specs.Sector.{Sector}
-use Rattle.ipl_rules.specs.State.{Map}
+use Rattle.ipl_model.specs.State.{Map}
 use Rattle.ipl_meaning.specs.Agrees.{IsTidy, Agrees}
 use Rattle.ipl_meaning.specs.Chart.{Chart}
 use Rattle.ipl_meaning.specs.Last.{carried_count}
@@ -17,9 +17,9 @@ use Rattle.ipl_meaning.specs.Tables.{IsFree, Tables}
 use Rattle.unit_io.specs.Charts.{Gains}
 use Rattle.unit_io.specs.Leads.{IsSteady, KeepsMap}
 use Rattle.unit_io.specs.Spots.{Programs, IsSpot}
-use Rattle.step_laws.specs.Steps.{Steps, RestsAgreeing}
-use Rattle.merge_laws.specs.Merged.{IsMergedUnit}
-use Rattle.merge_laws.specs.Packs.{among}
+use Rattle.unit_io.specs.Steps.{Steps, RestsAgreeing}
+use Rattle.selective_merge.specs.Merged.{IsMergedUnit}
+use Rattle.selective_merge.specs.Packs.{among}
 use Rattle.selective_merge.specs.Leaving.{FindsSpot}
 use Rattle.selective_merge.specs.Merging.{FailsAsMerge, StaysMirrored}
 use Rattle.selective_merge.specs.Spotting.{IsHomeSpot, IsSpotFor, MayOverflow, TakesOverflow, FollowsRules}

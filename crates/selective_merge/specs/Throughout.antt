@@ -4,12 +4,12 @@ use Rattle.chip_trait.specs.Story.{Story}
 use Rattle.chip_trait.specs.Told.{History, Told}
 use Rattle.ipl_base.specs.declared.fault.ChipFault.{ChipFault}
 use Rattle.ipl_base.specs.declared.fault.ChipFault.TheVariants.{Stopped}
-use Rattle.ipl_rules.specs.State.{Map}
+use Rattle.ipl_model.specs.State.{Map}
 use Rattle.ipl_meaning.specs.Chart.{Chart}
 use Rattle.ipl_meaning.specs.Rests.{now, EachStands, StoryRests}
 use Rattle.unit_io.specs.Charts.{Charts}
 use Rattle.unit_io.specs.Leads.{RestsWith}
-use Rattle.step_laws.specs.Steps.{Settled, EndsWith, Outcome}
+use Rattle.unit_io.specs.Steps.{Settled, EndsWith, Outcome}
 
 -- The story rests on the map, and G holds of the chart at the history before and of the chart then.
 abbrev pub RestsBy : ℕ → Map → (Chart → Chart → Type 0) → History → History → Type 0

@@ -11,7 +11,7 @@ use Rattle.ipl_base.specs.declared.fault.ChipFault.{ChipFault}
 use Rattle.ipl_format.specs.Page.{Slots, IsPage, page_text, value_in}
 use Rattle.ipl_format.specs.Record.{Record}
 use Rattle.ipl_format.specs.Sector.{Sector}
-use Rattle.ipl_rules.specs.State.{Map}
+use Rattle.ipl_model.specs.State.{Map}
 use Rattle.ipl_meaning.specs.Chart.{Chart}
 use Rattle.ipl_meaning.specs.Layout.{Layout}
 use Rattle.ipl_meaning.specs.Marks.{MarksNoMore}
@@ -27,10 +27,10 @@ use Rattle.unit_io.specs.Leads.{IsSteady, KeepsMap}
 use Rattle.unit_io.specs.Spots.{Programs, IsSpot, IsPieceSpot}
 use Rattle.unit_io.specs.Tails.{FitTails}
 use Rattle.page_ops.specs.Rebuilt.{with_records}
-use Rattle.merge_laws.specs.Merged.{IsUnitHead, IsToMerge, IsWritten}
-use Rattle.merge_laws.specs.Moved.{Source, IsRebased, MovesPage, HasMoved, IsAside}
-use Rattle.merge_laws.specs.Packs.{IsLogSpotBelow, HasLogs}
-use Rattle.merge_laws.specs.Pages.{IsBaseSpotBelow, IsFew}
+use Rattle.selective_merge.specs.Merged.{IsUnitHead, IsToMerge, IsWritten}
+use Rattle.selective_merge.specs.Moved.{Source, IsRebased, MovesPage, HasMoved, IsAside}
+use Rattle.selective_merge.specs.Packs.{IsLogSpotBelow, HasLogs}
+use Rattle.selective_merge.specs.Pages.{IsBaseSpotBelow, IsFew}
 use Rattle.selective_merge.specs.Throughout.{KeepsThroughout}
 use Rattle.selective_merge.specs.declared.home.HomeHeader.{HomeHeader}
 

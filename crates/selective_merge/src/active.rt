@@ -1,7 +1,7 @@
 //! The numbers of the open sessions.
 ghost use Rattle.std.specs.Prelude.{◌≡◌, ◌<◌, ◌≤◌, ◌++◌, ◌∷◌, [], length};
 ghost use Rattle.ipl_base.specs.declared.limits.TheConstants.{SESSIONS};
-ghost use Rattle.merge_laws.specs.Packs.{among};
+ghost use Rattle.selective_merge.specs.Packs.{among};
 
 use arrayvec::ArrayVec;
 use ipl_base::SESSIONS;

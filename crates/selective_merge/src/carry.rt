@@ -6,7 +6,7 @@ ghost use Rattle.ipl_base.specs.declared.limits.TheConstants.{CARRIED_SECTORS};
 ghost use Rattle.ipl_format.specs.Record.{Record as LogRecord};
 ghost use Rattle.ipl_meaning.specs.Last.{pack, carried};
 ghost use Rattle.ipl_meaning.specs.Values.{counts_for};
-ghost use Rattle.merge_laws.specs.Packs.{among, packs_of, payloads_of};
+ghost use Rattle.selective_merge.specs.Packs.{among, packs_of, payloads_of};
 ghost use Rattle.selective_merge.specs.Logs.{nth_record};
 ghost use Rattle.selective_merge.specs.Packing.{is_kept, IsPacking};
 

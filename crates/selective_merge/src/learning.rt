@@ -2,7 +2,7 @@
 ghost use Rattle.std.specs.Prelude.{◌≡◌, ◌<◌, length, slice_index, OnOk};
 ghost use Rattle.overflow.specs.Lists.{spots_in};
 ghost use Rattle.unit_log.specs.Looks.{IsLogRead, LooksAt};
-ghost use Rattle.merge_laws.specs.Known.{Suits};
+ghost use Rattle.selective_merge.specs.Known.{Suits};
 ghost use Rattle.selective_merge.specs.Homes.{IsHomeBy, LearnsHome};
 ghost use Rattle.selective_merge.specs.Moving.{tables_of};
 

@@ -6,7 +6,7 @@ ghost use Rattle.unit_io.specs.Charts.{Charts, Spares, Gains};
 ghost use Rattle.unit_io.specs.Costs.{ProgramsAt, Spends};
 ghost use Rattle.unit_io.specs.Leads.{IsStopped};
 ghost use Rattle.unit_io.specs.Spots.{Programs, IsSpot};
-ghost use Rattle.merge_laws.specs.Packs.{log_sector, IsLogSpotBelow, HasLogs};
+ghost use Rattle.selective_merge.specs.Packs.{log_sector, IsLogSpotBelow, HasLogs};
 ghost use Rattle.selective_merge.specs.Writing.{DrawsSerials, WritesToBare, WritesLogs, WritesPlace};
 
 use chip_trait::Chip;

@@ -2,8 +2,8 @@
 ghost use Rattle.std.specs.Prelude.{◌≡◌, ◌≤◌, length};
 ghost use Rattle.ipl_base.specs.declared.limits.TheConstants.{CARRIED_SECTORS};
 ghost use Rattle.unit_io.specs.Reads.{OfContents};
-ghost use Rattle.merge_laws.specs.Faults.{pages_fault, TellsTheFault};
-ghost use Rattle.merge_laws.specs.Packs.{packs_of, payloads_of};
+ghost use Rattle.selective_merge.specs.Faults.{pages_fault, TellsTheFault};
+ghost use Rattle.selective_merge.specs.Packs.{packs_of, payloads_of};
 ghost use Rattle.selective_merge.specs.Homes.{IsHomeBy, IsLearnt};
 ghost use Rattle.selective_merge.specs.Leaving.{MovesUnit};
 ghost use Rattle.selective_merge.specs.Moving.{source_read, tables_of};
@@ -12,12 +12,12 @@ ghost use Rattle.selective_merge.specs.Throughout.{ChartsThroughout};
 
 use crate::Parts;
 use crate::carry::pack_carried;
+use crate::laws::known_laws;
 use crate::learning::learn;
 use crate::parts::move_unit;
 use crate::places::write_unit;
 use chip_trait::Chip;
 use ipl_base::ChipFault;
-use merge_laws::known_laws;
 use place_taking::take_place;
 use unit_directory::directory_laws;
 

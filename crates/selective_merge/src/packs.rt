@@ -4,7 +4,7 @@ ghost use Rattle.std.specs.Bool.{OnTrue, OnFalse};
 ghost use Rattle.ipl_base.specs.declared.limits.TheConstants.{CARRIED_SECTORS, VERSION};
 ghost use Rattle.ipl_format.specs.Record.{IsRecord, Record as LogRecord};
 ghost use Rattle.log_records.specs.View.{record_of};
-ghost use Rattle.merge_laws.specs.Packs.{payload_of, payloads_of};
+ghost use Rattle.selective_merge.specs.Packs.{payload_of, payloads_of};
 ghost use Rattle.selective_merge.specs.Packing.{pack_open, IsAdded, IsPayload, masks_of_payloads};
 
 use ipl_base::{CARRIED_SECTORS, OutOfMemory};

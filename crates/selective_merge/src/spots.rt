@@ -8,8 +8,8 @@ ghost use Rattle.ipl_meaning.specs.Mirrors.{Mirrors};
 ghost use Rattle.overflow.specs.Lists.{spots_in};
 ghost use Rattle.unit_io.specs.Reads.{OfContents};
 ghost use Rattle.unit_log.specs.Looks.{IsLogRead, LooksAt};
-ghost use Rattle.merge_laws.specs.Known.{Suits};
-ghost use Rattle.merge_laws.specs.Packs.{among, packs_of};
+ghost use Rattle.selective_merge.specs.Known.{Suits};
+ghost use Rattle.selective_merge.specs.Packs.{among, packs_of};
 ghost use Rattle.selective_merge.specs.Moving.{tables_of};
 ghost use Rattle.selective_merge.specs.Spotting.{IsHomeSpot, IsChoice};
 

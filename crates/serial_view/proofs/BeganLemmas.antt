@@ -4,7 +4,7 @@ use Rattle.std.specs.Prelude.{filter}
 use Rattle.std.specs.List.{range_with_len}
 use Rattle.std.proofs.lemmas.Bool.{cases_Bool, eq-eqb}
 use Rattle.std.proofs.lemmas.List.{append-nil}
-use Rattle.ipl_rules.specs.State.{Map, Limits}
+use Rattle.ipl_model.specs.State.{Map, Limits}
 use Rattle.ipl_model.specs.declared.command.Command.{Command}
 use Rattle.ipl_model.specs.declared.command.Command.TheVariants as command
 use Rattle.serial_view.specs.Serial.{command_at, is_accepted, is_begin, is_turn, turns}

@@ -11,14 +11,14 @@ use Rattle.std.proofs.lemmas.Bool.Decides.{nat_tests}
 use Rattle.ipl_base.specs.declared.fault.Refusal.{Refusal}
 use Rattle.ipl_base.specs.declared.limits.TheConstants.{PAGE_LEN, PENDING_WEIGHT, SLOTS, UNIT_NAMES}
 use Rattle.ipl_base.specs.Sizes.{size_in_page}
-use Rattle.ipl_rules.specs.State.{Map, Write, Session, State, Limits, last_write, written_names, has_written, has_shared, least_other}
-use Rattle.ipl_rules.specs.Marks.{Marks, with_mark, marks_of, marks, fill_with, overfills, overloads}
-use Rattle.ipl_rules.specs.FillLaws.{PageFits, UnitsFit}
-use Rattle.ipl_rules.specs.Refusals.{refuses_begin, refuses_get, refuses_share, refuses_put, refuses_del, Test, bad_session, bad_name, already_open, not_open, page_full}
-use Rattle.ipl_rules.specs.Operations.{new_session}
-use Rattle.ipl_rules.proofs.MarkLemmas.{le_trans, more_than}
-use Rattle.ipl_rules.proofs.FillLemmas.{fills_less}
-use Rattle.ipl_rules.proofs.WeightLemmas.{weights_less}
+use Rattle.ipl_model.specs.State.{Map, Write, Session, State, Limits, last_write, written_names, has_written, has_shared, least_other}
+use Rattle.ipl_model.specs.Marks.{Marks, with_mark, marks_of, marks, fill_with, overfills, overloads}
+use Rattle.ipl_model.specs.FillLaws.{PageFits, UnitsFit}
+use Rattle.ipl_model.specs.Refusals.{refuses_begin, refuses_get, refuses_share, refuses_put, refuses_del, Test, bad_session, bad_name, already_open, not_open, page_full}
+use Rattle.ipl_model.specs.Operations.{new_session}
+use Rattle.ipl_model.proofs.RuleMarkLemmas.{le_trans, more_than}
+use Rattle.ipl_model.proofs.FillLemmas.{fills_less}
+use Rattle.ipl_model.proofs.WeightLemmas.{weights_less}
 use Rattle.ipl_model.specs.declared.command.Command.{Command}
 use Rattle.ipl_model.specs.declared.command.Command.TheVariants as command
 use Rattle.ipl_model.specs.Step.{Stepped, step, refusal_of}

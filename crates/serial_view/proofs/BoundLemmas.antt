@@ -5,13 +5,13 @@ use Rattle.std.specs.Prelude.{is_some}
 use Rattle.std.specs.FinMap.{get, insert, empty}
 use Rattle.std.proofs.lemmas.Bool.{cases_eq, eqb-true, or_cases, or_parts}
 use Rattle.ipl_base.specs.declared.limits.TheConstants.{SLOTS}
-use Rattle.ipl_rules.specs.State.{Map, Session, State, Limits, at_rest, has_written, has_shared, least_other}
-use Rattle.ipl_rules.specs.Marks.{marks, overfills}
-use Rattle.ipl_rules.specs.FillLaws.{PageFits, UnitsFit}
-use Rattle.ipl_rules.specs.Operations.{after_write}
-use Rattle.ipl_rules.proofs.MarkLemmas.{by_number}
-use Rattle.ipl_rules.proofs.FillLemmas.{pages_stay_fit, puts_make_pages_fit}
-use Rattle.ipl_rules.proofs.WeightLemmas.{weights_less, weights_none, units_stay_fit}
+use Rattle.ipl_model.specs.State.{Map, Session, State, Limits, at_rest, has_written, has_shared, least_other}
+use Rattle.ipl_model.specs.Marks.{marks, overfills}
+use Rattle.ipl_model.specs.FillLaws.{PageFits, UnitsFit}
+use Rattle.ipl_model.specs.Operations.{after_write}
+use Rattle.ipl_model.proofs.RuleMarkLemmas.{by_number}
+use Rattle.ipl_model.proofs.FillLemmas.{pages_stay_fit, puts_make_pages_fit}
+use Rattle.ipl_model.proofs.WeightLemmas.{weights_less, weights_none, units_stay_fit}
 use Rattle.ipl_model.specs.declared.command.Command.{Command}
 use Rattle.ipl_model.specs.declared.command.Command.TheVariants as command
 use Rattle.ipl_model.specs.Step.{refusal_of, accepted}

@@ -10,9 +10,9 @@ use Rattle.std.proofs.lemmas.Bool.Decides.{nat_tests}
 use Rattle.std.proofs.lemmas.List.{get_or_past, get_or-replicate, length-replicate}
 use Rattle.ipl_base.specs.Sizes.{size_in_page}
 use Rattle.ipl_base.specs.declared.limits.TheConstants.{SESSIONS, UNIT_NAMES}
-use Rattle.ipl_rules.specs.State.{Map, Write, Session, State, Limits, at_rest, last_write, writes_of}
-use Rattle.ipl_rules.specs.Marks.{marks_of}
-use Rattle.ipl_rules.specs.Operations.{after_abort, after_restart}
+use Rattle.ipl_model.specs.State.{Map, Write, Session, State, Limits, at_rest, last_write, writes_of}
+use Rattle.ipl_model.specs.Marks.{marks_of}
+use Rattle.ipl_model.specs.Operations.{after_abort, after_restart}
 use Rattle.ipl_model.specs.Plain.{limits_for, writes_in}
 use Rattle.record_locks.specs.Held.{Held, held_at, slot_marks}
 use Rattle.record_locks.specs.Names.{names_of}

@@ -6,8 +6,8 @@ use Rattle.std.proofs.lemmas.List.{take_more, take_all}
 use Rattle.ipl_base.specs.declared.fault.Refusal.{Refusal}
 use Rattle.ipl_base.specs.declared.fault.Refusal.TheVariants.{NotOpen}
 use Rattle.ipl_base.specs.declared.limits.TheConstants.{SESSIONS}
-use Rattle.ipl_rules.specs.State.{State, is_open, writes_of, with_writes}
-use Rattle.ipl_rules.specs.Operations.{after_commit, after_batch, after_abort, after_restart}
+use Rattle.ipl_model.specs.State.{State, is_open, writes_of, with_writes}
+use Rattle.ipl_model.specs.Operations.{after_commit, after_batch, after_abort, after_restart}
 use Rattle.record_locks.specs.Held.{Held, SessionSlots, held_at, written_of, after_end}
 use Rattle.record_locks.specs.Locks.{refuses_end}
 use Rattle.record_locks.specs.Standing.{state_of}

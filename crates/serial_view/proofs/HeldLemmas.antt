@@ -5,8 +5,8 @@ use Rattle.std.specs.List.{list_any}
 use Rattle.std.specs.FinMap.{get}
 use Rattle.std.proofs.lemmas.Bool.{cases_Bool, and_left, eqb-true}
 use Rattle.std.proofs.lemmas.List.Folds.{list_any-append}
-use Rattle.ipl_rules.specs.State.{Map, Session, State, Limits, last_write, has_written, has_shared}
-use Rattle.ipl_rules.specs.Refusals.{bad_session, bad_name, not_open}
+use Rattle.ipl_model.specs.State.{Map, Session, State, Limits, last_write, has_written, has_shared}
+use Rattle.ipl_model.specs.Refusals.{bad_session, bad_name, not_open}
 use Rattle.ipl_model.specs.declared.command.Command.{Command}
 use Rattle.ipl_model.specs.declared.command.Command.TheVariants as command
 use Rattle.ipl_model.specs.Step.{refusal_of, accepted}

@@ -7,15 +7,15 @@ use Rattle.std.specs.FinMap.{get, empty, entries, get-entries}
 use Rattle.std.specs.FinMap.Entries as es
 use Rattle.std.proofs.lemmas.Bool.{cases_eq, eq-eqb, ne_eqb, eqb-true, both_ways, or_cases, or_parts}
 use Rattle.std.proofs.lemmas.Bool.Decides.{nat_tests}
-use Rattle.ipl_rules.specs.State.{Map, Write, Session, State, Limits, writes_of, last_write, has_written, has_shared, least_other, with_writes}
-use Rattle.ipl_rules.proofs.SeenLemmas.{get-with_writes}
+use Rattle.ipl_model.specs.State.{Map, Write, Session, State, Limits, writes_of, last_write, has_written, has_shared, least_other, with_writes}
+use Rattle.ipl_model.proofs.SeenLemmas.{get-with_writes}
 use Rattle.ipl_model.specs.declared.command.Command.{Command}
 use Rattle.ipl_model.specs.declared.command.Command.TheVariants as command
 use Rattle.ipl_model.specs.Step.{refusal_of, accepted}
 use Rattle.ipl_model.specs.Plain.{writes_in}
 use Rattle.ipl_model.specs.Laws.{is_commit}
-use Rattle.ipl_rules.specs.Operations.{after_batch, after_commit}
-use Rattle.ipl_rules.proofs.BatchLemmas.{first_or_later, batches_keep}
+use Rattle.ipl_model.specs.Operations.{after_batch, after_commit}
+use Rattle.ipl_model.proofs.RuleBatchLemmas.{first_or_later, batches_keep}
 use Rattle.std.specs.List.{Contains}
 use Rattle.serial_view.proofs.SessionLemmas.{Sessions, with_session, shared_too, is_unheld, is_unheld_in, write_by, same_some, none_open}
 use Rattle.serial_view.proofs.TestLemmas.{worker, all_fail, share_tests, put_tests, del_tests}

@@ -8,9 +8,9 @@ use Rattle.std.specs.FinMap.Entries as es
 use Rattle.std.proofs.lemmas.Bool.{cases_eq, eq-eqb}
 use Rattle.std.proofs.lemmas.Bool.Decides.{nat_tests}
 use Rattle.ipl_base.specs.Sizes.{size_in_page}
-use Rattle.ipl_rules.specs.State.{Write, Session, last_write}
-use Rattle.ipl_rules.specs.Marks.{marks_of}
-use Rattle.ipl_rules.proofs.MarkLemmas.{one_more, more_than, last_most, found_most, by_number}
+use Rattle.ipl_model.specs.State.{Write, Session, last_write}
+use Rattle.ipl_model.specs.Marks.{marks_of}
+use Rattle.ipl_model.proofs.RuleMarkLemmas.{one_more, more_than, last_most, found_most, by_number}
 use Rattle.serial_view.proofs.SessionLemmas.{Sessions, written, same_some, get_inserted, get_other}
 
 -- ---- entries

@@ -9,11 +9,11 @@ use Rattle.std.proofs.Math.Nat.{le-max_left, max-le, max-eq_left, max-eq_right}
 use Rattle.std.proofs.lemmas.Bool.{cases_Bool, cases_eq, cases_lt}
 use Rattle.std.proofs.lemmas.Bool.Decides.{nat_tests}
 use Rattle.ipl_base.specs.Sizes.{size_in_page}
-use Rattle.ipl_rules.specs.State.{Write, Session, State, is_open, last_write, writes_of}
-use Rattle.ipl_rules.specs.Marks.{marks, marks_of, with_mark}
-use Rattle.ipl_rules.specs.Refusals.{is_new_share}
-use Rattle.ipl_rules.specs.Operations.{new_session, after_begin, after_share, after_write}
-use Rattle.ipl_rules.proofs.MarkLemmas.{by_number, own_most, more_than, with_write}
+use Rattle.ipl_model.specs.State.{Write, Session, State, is_open, last_write, writes_of}
+use Rattle.ipl_model.specs.Marks.{marks, marks_of, with_mark}
+use Rattle.ipl_model.specs.Refusals.{is_new_share}
+use Rattle.ipl_model.specs.Operations.{new_session, after_begin, after_share, after_write}
+use Rattle.ipl_model.proofs.RuleMarkLemmas.{by_number, own_most, more_than, with_write}
 use Rattle.ipl_model.specs.Plain.{writes_in}
 use Rattle.serial_view.proofs.SessionLemmas.{with_session, shared_too, written, write_by, get_inserted, get_other}
 

@@ -5,7 +5,7 @@ use Rattle.std.specs.List.{range_with_len, list_any, flat_map, Contains}
 use Rattle.std.proofs.lemmas.Bool.{cases_eq, eq-eqb, ne_eqb, and_left}
 use Rattle.std.proofs.lemmas.List.{length-set, get_or-replicate}
 use Rattle.std.proofs.lemmas.List.FromFn.{get_or-map-range_with_len, map-range_with_len_more, length-map-range_with_len}
-use Rattle.ipl_rules.specs.State.{Map, State, Limits, at_rest}
+use Rattle.ipl_model.specs.State.{Map, State, Limits, at_rest}
 use Rattle.ipl_model.specs.declared.command.Command.{Command}
 use Rattle.ipl_model.specs.declared.command.Command.TheVariants as command
 use Rattle.ipl_model.specs.Step.{step}
@@ -16,7 +16,7 @@ use Rattle.serial_view.specs.Turns.{KeptTurns, is_turn_of, turns_from, begun_aft
 use Rattle.serial_view.proofs.SessionStepLemmas.{own, has_slot}
 use Rattle.serial_view.proofs.TurnLemmas.{turn_is, turns_on, turns_same, serial_until, serial_more, serial_same, commits_turns, batch_turns}
 use Rattle.ipl_model.specs.Laws.{is_commit}
-use Rattle.ipl_rules.proofs.BatchLemmas.{first_in, later_in}
+use Rattle.ipl_model.proofs.RuleBatchLemmas.{first_in, later_in}
 use Rattle.serial_view.proofs.MetLemmas.{met_more, passes}
 use Rattle.serial_view.proofs.SerialLemmas.{leaves_the_same, replies_the_same}
 use Rattle.serial_view.proofs.FilterLemmas.{filter_alike}

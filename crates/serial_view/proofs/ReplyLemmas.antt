@@ -4,7 +4,7 @@ use Rattle.std.specs.Prelude.{is_some}
 use Rattle.std.specs.Option.{option_map_or}
 use Rattle.std.specs.FinMap.{get}
 use Rattle.std.proofs.lemmas.Bool.{eq-eqb}
-use Rattle.ipl_rules.specs.State.{Map, Session, State, Limits, last_write, has_written, has_shared, seen_through}
+use Rattle.ipl_model.specs.State.{Map, Session, State, Limits, last_write, has_written, has_shared, seen_through}
 use Rattle.ipl_model.specs.declared.command.Command.{Command}
 use Rattle.ipl_model.specs.declared.command.Command.TheVariants as command
 use Rattle.ipl_model.specs.declared.reply.Reply.{Reply}

@@ -6,9 +6,9 @@ use Rattle.std.proofs.lemmas.List.Sums.{sum_by-cons}
 use Rattle.std.specs.FinMap.{get}
 use Rattle.ipl_base.specs.Sizes.{size_in_page}
 use Rattle.ipl_base.specs.declared.limits.TheConstants.{PAGE_LEN, SLOTS, UNIT_NAMES}
-use Rattle.ipl_rules.specs.State.{State}
-use Rattle.ipl_rules.specs.Marks.{marks, with_mark, fill_of, fill_with, overfills}
-use Rattle.ipl_rules.proofs.SumLemmas.{sums_same}
+use Rattle.ipl_model.specs.State.{State}
+use Rattle.ipl_model.specs.Marks.{marks, with_mark, fill_of, fill_with, overfills}
+use Rattle.ipl_model.proofs.SumLemmas.{sums_same}
 use Rattle.serial_view.specs.Running.{KeptRun, run_limits, Tracks, room_in, fill_in}
 use Rattle.serial_view.proofs.MostLemmas.{less_one}
 

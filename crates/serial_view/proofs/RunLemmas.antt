@@ -1,6 +1,6 @@
 -- One command on, what is kept is the state that the next command meets, and the table holds the commands so far.
 use Rattle.std.proofs.Common.{◌≡◌, ℕ, ◌+◌, List, ◌∙◌, ap, subst}
-use Rattle.ipl_rules.specs.State.{Map, State, Limits}
+use Rattle.ipl_model.specs.State.{Map, State, Limits}
 use Rattle.ipl_model.specs.declared.command.Command.{Command}
 use Rattle.ipl_model.specs.Plain.{limits_for}
 use Rattle.ipl_model.specs.Step.{step}

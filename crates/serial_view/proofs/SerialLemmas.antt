@@ -5,8 +5,8 @@ use Rattle.std.proofs.Common.{◌≡◌, inl, inr, ℕ, zero, suc, Bool, true, f
 use Rattle.std.specs.Ordering.{nat_cmp}
 use Rattle.std.specs.FinMap.{get, empty, get-empty, same_map, nat_cmp-IsAntisymmetric}
 use Rattle.std.proofs.lemmas.Bool.{cases_Bool, cases_eq, or_parts, both_ways, eq-eqb}
-use Rattle.ipl_rules.specs.State.{Map, Session, State, Limits, at_rest, has_shared, is_open, with_writes}
-use Rattle.ipl_rules.specs.Operations.{new_session}
+use Rattle.ipl_model.specs.State.{Map, Session, State, Limits, at_rest, has_shared, is_open, with_writes}
+use Rattle.ipl_model.specs.Operations.{new_session}
 use Rattle.ipl_model.specs.declared.command.Command.{Command}
 use Rattle.ipl_model.specs.declared.command.Command.TheVariants as command
 use Rattle.ipl_model.specs.declared.reply.Reply.{Reply}
@@ -16,8 +16,8 @@ use Rattle.ipl_model.specs.Plain.{writes_in}
 use Rattle.ipl_model.specs.Run.{after_all}
 use Rattle.serial_view.specs.Serial.{command_at, met_at, is_accepted, serial}
 use Rattle.ipl_model.specs.Laws.{is_commit}
-use Rattle.ipl_rules.specs.Operations.{after_batch}
-use Rattle.ipl_rules.proofs.BatchLemmas.{Distinct, distinct, first_in, later_in, first_or_later, any_fails, any_listed, batches_name_once, same_records, closes, refused_alike}
+use Rattle.ipl_model.specs.Operations.{after_batch}
+use Rattle.ipl_model.proofs.RuleBatchLemmas.{Distinct, distinct, first_in, later_in, first_or_later, any_fails, any_listed, batches_name_once, same_records, closes, refused_alike}
 use Rattle.std.specs.Prelude.{is_some}
 use Rattle.std.specs.Cmp.{nat_cmp_total}
 use Rattle.std.specs.List.{flat_map, list_any, Contains}

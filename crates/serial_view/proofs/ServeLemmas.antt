@@ -5,8 +5,8 @@ use Rattle.std.specs.FinMap.{get}
 use Rattle.std.proofs.lemmas.Bool.{and_left, or_parts}
 use Rattle.std.proofs.lemmas.List.{map-append}
 use Rattle.std.proofs.lemmas.List.Folds.{list_any-append}
-use Rattle.ipl_rules.specs.State.{Map, Session, State, Limits, at_rest}
-use Rattle.ipl_rules.specs.FillLaws.{UnitsFit}
+use Rattle.ipl_model.specs.State.{Map, Session, State, Limits, at_rest}
+use Rattle.ipl_model.specs.FillLaws.{UnitsFit}
 use Rattle.ipl_model.specs.declared.command.Command.{Command}
 use Rattle.ipl_model.specs.declared.reply.Reply.{Reply}
 use Rattle.ipl_model.specs.Run.{after_all}

@@ -8,7 +8,7 @@ use Rattle.std.specs.Ordering.{nat_cmp, eq_by_cmp}
 use Rattle.std.specs.FinMap.{FinMap, get, insert, remove, empty, get-empty, get-insert, get-remove, same_map, nat_cmp-IsAntisymmetric}
 use Rattle.std.proofs.lemmas.Bool.{cases_eq}
 use Rattle.std.proofs.lemmas.Bool.Decides.{nat_tests}
-use Rattle.ipl_rules.specs.State.{Map, Write, Session, State, last_write, has_written, has_shared}
+use Rattle.ipl_model.specs.State.{Map, Write, Session, State, last_write, has_written, has_shared}
 use Rattle.ipl_model.specs.Plain.{writes_in}
 
 abbrev pub Sessions : Type 0

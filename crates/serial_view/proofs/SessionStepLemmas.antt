@@ -7,10 +7,10 @@ use Rattle.std.specs.Ordering.{nat_cmp, eq_by_cmp}
 use Rattle.std.specs.FinMap.{get, insert, remove, get-remove}
 use Rattle.std.proofs.lemmas.Bool.{cases_eq, eq-eqb, ne_eqb, leb-false}
 use Rattle.std.proofs.lemmas.Bool.Decides.{nat_tests}
-use Rattle.ipl_rules.specs.State.{Session, State, Limits}
-use Rattle.ipl_rules.specs.Refusals.{bad_session, bad_name, already_open, not_open}
-use Rattle.ipl_rules.proofs.BatchLemmas.{batches_name_once}
-use Rattle.ipl_rules.specs.Operations.{new_session, after_commit, after_batch}
+use Rattle.ipl_model.specs.State.{Session, State, Limits}
+use Rattle.ipl_model.specs.Refusals.{bad_session, bad_name, already_open, not_open}
+use Rattle.ipl_model.proofs.RuleBatchLemmas.{batches_name_once}
+use Rattle.ipl_model.specs.Operations.{new_session, after_commit, after_batch}
 use Rattle.ipl_model.specs.declared.command.Command.{Command}
 use Rattle.ipl_model.specs.declared.command.Command.TheVariants as command
 use Rattle.ipl_model.specs.Step.{Stepped, refusal_of, accepted}

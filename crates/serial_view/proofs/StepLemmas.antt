@@ -4,8 +4,8 @@ use Rattle.std.specs.Prelude.{if◌then◌else◌}
 use Rattle.std.specs.Option.{option_map_or}
 use Rattle.std.specs.FinMap.{get, insert, remove, empty}
 use Rattle.ipl_base.specs.declared.fault.Refusal.{Refusal}
-use Rattle.ipl_rules.specs.State.{Map, Write, Session, State, Limits, at_rest, seen_through, with_writes}
-use Rattle.ipl_rules.specs.Operations.{after_write}
+use Rattle.ipl_model.specs.State.{Map, Write, Session, State, Limits, at_rest, seen_through, with_writes}
+use Rattle.ipl_model.specs.Operations.{after_write}
 use Rattle.ipl_model.specs.declared.command.Command.{Command}
 use Rattle.ipl_model.specs.declared.command.Command.TheVariants as command
 use Rattle.ipl_model.specs.declared.reply.Reply.{Reply}

@@ -9,11 +9,11 @@ use Rattle.ipl_base.specs.Sizes.{size_in_page}
 use Rattle.ipl_base.specs.declared.fault.Refusal.{Refusal}
 use Rattle.ipl_base.specs.declared.fault.Refusal.TheVariants.{NotOpen}
 use Rattle.ipl_base.specs.declared.limits.TheConstants.{PAGE_LEN, SESSIONS, VALUE_LEN}
-use Rattle.ipl_rules.specs.State.{Session, State, is_open, writes_of, last_write, has_written, has_shared, holder_for_write}
-use Rattle.ipl_rules.specs.Operations.{after_commit, after_batch, after_abort, after_restart}
-use Rattle.ipl_rules.specs.Refusals as rules
-use Rattle.ipl_rules.specs.Refusals.{Test, first_of, bad_session, bad_name, too_long, already_open, not_open, conflict, writes_full, pending_full, page_full}
-use Rattle.ipl_rules.proofs.BatchLemmas.{batches_name_once}
+use Rattle.ipl_model.specs.State.{Session, State, is_open, writes_of, last_write, has_written, has_shared, holder_for_write}
+use Rattle.ipl_model.specs.Operations.{after_commit, after_batch, after_abort, after_restart}
+use Rattle.ipl_model.specs.Refusals as rules
+use Rattle.ipl_model.specs.Refusals.{Test, first_of, bad_session, bad_name, too_long, already_open, not_open, conflict, writes_full, pending_full, page_full}
+use Rattle.ipl_model.proofs.RuleBatchLemmas.{batches_name_once}
 use Rattle.ipl_model.specs.declared.command.Command.{Command}
 use Rattle.ipl_model.specs.declared.command.Command.TheVariants as command
 use Rattle.ipl_model.specs.Plain.{writes_in}

@@ -2,8 +2,8 @@
 use Rattle.std.proofs.Common.{◌≡◌, ℕ, Bool, true, false, cond, not, List, [], ◌∷◌, Option, Some, None, refl, ap}
 use Rattle.std.specs.Prelude.{is_some}
 use Rattle.std.specs.FinMap.{get, empty}
-use Rattle.ipl_rules.specs.State.{Map, Write, Session, State, Limits, holder_for_share, holder_for_write}
-use Rattle.ipl_rules.specs.Refusals.{refuses_end, Test, first_of, bad_session, bad_name, too_long, not_open, conflict, writes_full, shares_full, pending_full, page_full}
+use Rattle.ipl_model.specs.State.{Map, Write, Session, State, Limits, holder_for_share, holder_for_write}
+use Rattle.ipl_model.specs.Refusals.{refuses_end, Test, first_of, bad_session, bad_name, too_long, not_open, conflict, writes_full, shares_full, pending_full, page_full}
 use Rattle.ipl_model.specs.declared.command.Command.{Command}
 use Rattle.ipl_model.specs.declared.command.Command.TheVariants as command
 use Rattle.serial_view.proofs.SessionLemmas.{alone, get_inserted}

@@ -8,11 +8,11 @@ use Rattle.std.proofs.lemmas.Bool.{cases_eq, eq-eqb, ne_eqb}
 use Rattle.std.proofs.lemmas.List.{length-set}
 use Rattle.ipl_base.specs.Sizes.{size_in_page}
 use Rattle.ipl_base.specs.declared.limits.TheConstants.{SESSIONS}
-use Rattle.ipl_rules.specs.State.{Map, Write, State, is_open, last_write, writes_of, with_writes}
-use Rattle.ipl_rules.specs.Marks.{marks, marks_of}
-use Rattle.ipl_rules.specs.Operations as rules
-use Rattle.ipl_rules.proofs.SeenLemmas.{get-with_writes}
-use Rattle.ipl_rules.proofs.BatchLemmas.{closed_writes, other_writes}
+use Rattle.ipl_model.specs.State.{Map, Write, State, is_open, last_write, writes_of, with_writes}
+use Rattle.ipl_model.specs.Marks.{marks, marks_of}
+use Rattle.ipl_model.specs.Operations as rules
+use Rattle.ipl_model.proofs.SeenLemmas.{get-with_writes}
+use Rattle.ipl_model.proofs.RuleBatchLemmas.{closed_writes, other_writes}
 use Rattle.ipl_model.specs.declared.command.Command.TheVariants as command
 use Rattle.record_locks.specs.Held.{SessionSlots, written_of, is_among, after_begin, after_share, after_end}
 use Rattle.record_locks.specs.Locks.{IsSized, OneWriter}

@@ -4,7 +4,7 @@ use Rattle.std.specs.Prelude.{filter, is_some}
 use Rattle.std.specs.List.{range_with_len, list_any, Contains}
 use Rattle.std.specs.FinMap.{get}
 use Rattle.std.proofs.lemmas.Bool.{cases_Bool, cases_lt, and_left, and_right, eq-eqb, ne_eqb, both_ways}
-use Rattle.ipl_rules.specs.State.{Map, Session, State, Limits}
+use Rattle.ipl_model.specs.State.{Map, Session, State, Limits}
 use Rattle.ipl_model.specs.declared.command.Command.{Command}
 use Rattle.ipl_model.specs.declared.command.Command.TheVariants as command
 use Rattle.ipl_model.specs.Step.{refusal_of, accepted}
@@ -12,7 +12,7 @@ use Rattle.serial_view.specs.Serial.{command_at, met_at, is_accepted, is_turn, b
 use Rattle.serial_view.specs.Laws.{ends, commits, IsTransaction, BatchesCommitTransactions}
 use Rattle.serial_view.proofs.SessionLemmas.{none_open}
 use Rattle.serial_view.proofs.SessionStepLemmas.{own, After, how, closed, worker_commits, committer_open}
-use Rattle.ipl_rules.proofs.BatchLemmas.{first_in, later_in, batches_name_once, any_fails}
+use Rattle.ipl_model.proofs.RuleBatchLemmas.{first_in, later_in, batches_name_once, any_fails}
 use Rattle.serial_view.proofs.LockLemmas.{not_named}
 use Rattle.serial_view.proofs.TurnLemmas.{turn_is, begins_is, commits_turns, batch_turns}
 use Rattle.serial_view.proofs.MetLemmas.{met_accepted, met_refused, passes}

@@ -4,7 +4,7 @@ use Rattle.std.specs.List.{range_with_len, flat_map}
 use Rattle.std.proofs.lemmas.Bool.{and_parts, and_left, and_right, eq-eqb}
 use Rattle.std.proofs.lemmas.List.{append-nil}
 use Rattle.std.proofs.lemmas.List.Concat.{flat_map-append}
-use Rattle.ipl_rules.specs.State.{Map, Limits}
+use Rattle.ipl_model.specs.State.{Map, Limits}
 use Rattle.ipl_model.specs.declared.command.Command.{Command}
 use Rattle.ipl_model.specs.declared.command.Command.TheVariants as command
 use Rattle.serial_view.specs.Serial.{command_at, is_accepted, is_begin, is_turn, begins, turns, commits_at, committed_at}

@@ -1,8 +1,8 @@
 -- The laws of the serial view.
 use Rattle.std.specs.Prelude.{◌≡◌, ℕ, ◌+◌, ◌-◌, ◌<◌, ◌==◌, Bool, true, false, not, ◌&&◌, List, [], ◌∷◌, ◌++◌, map, filter, Contains}
 use Rattle.std.specs.List.{list_any, flat_map, range_with_len}
-use Rattle.ipl_rules.specs.State.{Map, State, Limits, at_rest}
-use Rattle.ipl_rules.specs.Refusals.{is_new_share}
+use Rattle.ipl_model.specs.State.{Map, State, Limits, at_rest}
+use Rattle.ipl_model.specs.Refusals.{is_new_share}
 use Rattle.ipl_model.specs.declared.command.Command.{Command}
 use Rattle.ipl_model.specs.declared.command.Command.TheVariants as command
 use Rattle.ipl_model.specs.declared.reply.Reply.{Reply}

@@ -4,8 +4,8 @@ use Rattle.std.specs.List.{range_with_len}
 use Rattle.std.specs.FinMap.{get}
 use Rattle.ipl_base.specs.Sizes.{size_in_page}
 use Rattle.ipl_base.specs.declared.limits.TheConstants.{SLOTS}
-use Rattle.ipl_rules.specs.State.{State, Limits, last_write, writes_of}
-use Rattle.ipl_rules.specs.Marks as rules
+use Rattle.ipl_model.specs.State.{State, Limits, last_write, writes_of}
+use Rattle.ipl_model.specs.Marks as rules
 use Rattle.ipl_model.specs.declared.command.Command.{Command}
 use Rattle.ipl_model.specs.Plain.{limits_for}
 use Rattle.ipl_model.specs.Step.{step}

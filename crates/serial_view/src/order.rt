@@ -1,6 +1,6 @@
 //! The serial view of a list of commands.
 ghost use Rattle.std.specs.Prelude.{◌≡◌, IfOk, OnOk};
-ghost use Rattle.ipl_rules.specs.State.{at_rest};
+ghost use Rattle.ipl_model.specs.State.{at_rest};
 ghost use Rattle.ipl_model.specs.Plain.{state_of, limits_for, limits_of};
 ghost use Rattle.serial_view.specs.Turns.{kept_of};
 ghost use Rattle.serial_view.specs.Running.{run_of, RunsTracked};

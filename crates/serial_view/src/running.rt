@@ -1,8 +1,8 @@
 //! A run of commands, as far as it tells which of them are refused.
 ghost use Rattle.std.specs.Prelude.{◌≡◌, ◌<◌, ℕ, true, false, map, length, not, is_some, nat_lt, replicate, slice_index, slice_set, Contains, IfOk};
 ghost use Rattle.ipl_base.specs.declared.limits.TheConstants.{SESSIONS, PAGE_LEN};
-ghost use Rattle.ipl_rules.specs.State.{at_rest};
-ghost use Rattle.ipl_rules.specs.Operations.{after_commit, after_batch, after_abort, after_restart};
+ghost use Rattle.ipl_model.specs.State.{at_rest};
+ghost use Rattle.ipl_model.specs.Operations.{after_commit, after_batch, after_abort, after_restart};
 ghost use Rattle.ipl_model.specs.declared.command.Command.TheVariants as command;
 ghost use Rattle.ipl_model.specs.Plain.{state_of, limits_of, limits_for};
 ghost use Rattle.record_locks.specs.Locks.{refuses_write};

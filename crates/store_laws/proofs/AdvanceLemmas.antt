@@ -2,7 +2,7 @@
 use Rattle.std.proofs.Common.{◌≡◌, ℕ, ◌≤◌, ◌*◌, Result, Ok, Err, Some, is_ok, refl, sym, ◌∙◌, subst, arith}
 use Rattle.chip_trait.specs.Story.{Contents, held}
 use Rattle.chip_trait.specs.Told.{History, Told, Counts, adds_all}
-use Rattle.ipl_rules.specs.State.{Map, State}
+use Rattle.ipl_model.specs.State.{Map, State}
 use Rattle.ipl_meaning.proofs.CarriedLemmas.{tidy_is_carried}
 use Rattle.ipl_meaning.specs.Chart.{Chart, chart_of}
 use Rattle.ipl_meaning.specs.Layout.{Layout}
@@ -10,9 +10,9 @@ use Rattle.ipl_meaning.specs.Rests.{now, EachStands, EachStandsEither, StoryRest
 use Rattle.ipl_meaning.specs.Tables.{IsCountedClean}
 use Rattle.unit_io.specs.Leads.{IsSteady}
 use Rattle.unit_io.proofs.ReadsAtLemmas.{at_rests}
-use Rattle.step_laws.specs.Steps.{Settled, EndsWith, TidyWork, Steps}
-use Rattle.step_laws.proofs.StepLemmas.{outcome_reads, outcome_weaker}
-use Rattle.step_laws.proofs.TidyLemmas.{tidy_reads}
+use Rattle.unit_io.specs.Steps.{Settled, EndsWith, TidyWork, Steps}
+use Rattle.unit_io.proofs.StepLemmas.{outcome_reads, outcome_weaker}
+use Rattle.unit_io.proofs.StepTidyLemmas.{tidy_reads}
 use Rattle.store_laws.specs.Advances.{Memory, MemoryFits, MemoryFitsStory, ShowsNext, FitsOn, state_then, Advances, LeadsTo, ReadsInto}
 use Rattle.store_laws.proofs.StepLemmas.{later_settled, steps_then}
 

@@ -3,9 +3,9 @@ use Rattle.std.proofs.Common.{Bool, List, None, Some, [], ap, arith, false, leng
 use Rattle.std.specs.List.{All, Contains}
 use Rattle.std.proofs.lemmas.List.{length-set}
 use Rattle.std.proofs.lemmas.List.Elements.{All-contains}
-use Rattle.ipl_rules.proofs.BatchLemmas.{distinct}
-use Rattle.ipl_rules.specs.Operations as rules
-use Rattle.ipl_rules.specs.State.{State}
+use Rattle.ipl_model.proofs.RuleBatchLemmas.{distinct}
+use Rattle.ipl_model.specs.Operations as rules
+use Rattle.ipl_model.specs.State.{State}
 use Rattle.record_locks.specs.Held.{SessionSlots, after_end, after_batch, is_among, number_of, numbers_in}
 use Rattle.record_locks.proofs.BatchLemmas.{batches_keep_names, batches_keep_marks}
 use Rattle.ipl_meaning.specs.Chart.{Chart}

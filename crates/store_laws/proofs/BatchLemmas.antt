@@ -3,9 +3,9 @@ use Rattle.std.proofs.Common.{◌≡◌, ℕ, ◌++◌, Bool, List, [], ◌∷�
 use Rattle.std.specs.List.{All, Contains}
 use Rattle.std.proofs.lemmas.List.Elements.{All-append, All-contains, Contains-append_left, Contains-append_right}
 use Rattle.std.proofs.lemmas.Option.{same_Some}
-use Rattle.ipl_rules.proofs.BatchLemmas.{Distinct}
-use Rattle.ipl_rules.specs.Operations.{after_commit}
-use Rattle.ipl_rules.specs.State.{State}
+use Rattle.ipl_model.proofs.RuleBatchLemmas.{Distinct}
+use Rattle.ipl_model.specs.Operations.{after_commit}
+use Rattle.ipl_model.specs.State.{State}
 use Rattle.record_locks.specs.Held.{SessionSlots, number_of, written_of, written_by, writer_number, writer_numbers}
 use Rattle.ipl_meaning.specs.Chart.{Chart}
 use Rattle.ipl_meaning.specs.Layout.{Layout}

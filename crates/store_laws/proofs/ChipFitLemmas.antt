@@ -1,7 +1,7 @@
 -- A store fits after each step on the chip.
 use Rattle.std.proofs.Common.{List, Some, [], ap, arith, inl, refl, subst, sym, ℕ, ◌<◌, ◌∙◌, ◌≡◌}
 use Rattle.std.specs.List.{All}
-use Rattle.ipl_rules.specs.State.{State}
+use Rattle.ipl_model.specs.State.{State}
 use Rattle.record_locks.specs.Held.{SessionSlots, number_of}
 use Rattle.ipl_meaning.specs.Chart.{Chart}
 use Rattle.ipl_meaning.specs.Layout.{Entry, Layout, records_of}

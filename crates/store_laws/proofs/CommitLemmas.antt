@@ -7,9 +7,9 @@ use Rattle.std.proofs.lemmas.List.Elements.{All-contains}
 use Rattle.chip_trait.specs.Told.{History, Told}
 use Rattle.ipl_base.specs.Places.{home_of}
 use Rattle.ipl_base.specs.declared.fault.ChipFault.{ChipFault}
-use Rattle.ipl_rules.specs.Operations.{after_batch}
-use Rattle.ipl_rules.specs.State.{State}
-use Rattle.ipl_rules.proofs.BatchLemmas.{any_alike, batches_keep, distinct}
+use Rattle.ipl_model.specs.Operations.{after_batch}
+use Rattle.ipl_model.specs.State.{State}
+use Rattle.ipl_model.proofs.RuleBatchLemmas.{any_alike, batches_keep, distinct}
 use Rattle.record_locks.specs.Held.{SessionSlots, number_of, written_of, written_by, writer_numbers}
 use Rattle.record_locks.specs.Held.{after_batch as slots_after}
 use Rattle.ipl_meaning.specs.Chart.{Chart, chart_of}
@@ -21,8 +21,8 @@ use Rattle.ipl_meaning.specs.Steps.{KeepsPages, with_committed}
 use Rattle.ipl_meaning.specs.Tables.{Tables, IsCountedClean}
 use Rattle.unit_io.specs.Charts.{Charts}
 use Rattle.unit_io.specs.Leads.{IsSteady}
-use Rattle.step_laws.specs.Steps.{Settled, NoOtherEnd, TidyWork, RestsAgreeing, Steps}
-use Rattle.step_laws.proofs.StepLemmas.{outcome_weaker}
+use Rattle.unit_io.specs.Steps.{Settled, NoOtherEnd, TidyWork, RestsAgreeing, Steps}
+use Rattle.unit_io.proofs.StepLemmas.{outcome_weaker}
 use Rattle.number_set.specs.Numbers.{also}
 use Rattle.txn_status.specs.Adding.{with_added, layout_added, Added}
 use Rattle.store_laws.specs.Pending.{name_at, wrote, IsWrittenOut}

@@ -2,8 +2,8 @@
 use Rattle.std.proofs.Common.{Bool, List, None, Some, [], ap, arith, eqb, false, is_some, refl, subst, suc, sym, true, ℕ, ◌<◌, ◌==◌, ◌∙◌, ◌∷◌, ◌≡◌, ◌≢◌}
 use Rattle.std.specs.List.{All, Contains, filter}
 use Rattle.std.proofs.lemmas.Bool.{cond-true, eq-eqb, ne_eqb, not_from_false, both_ways}
-use Rattle.ipl_rules.specs.Operations.{after_abort, after_commit}
-use Rattle.ipl_rules.specs.State.{State, Write, last_write, with_writes, writes_of}
+use Rattle.ipl_model.specs.Operations.{after_abort, after_commit}
+use Rattle.ipl_model.specs.State.{State, Write, last_write, with_writes, writes_of}
 use Rattle.ipl_format.specs.Record.{Record}
 use Rattle.ipl_meaning.specs.Chart.{Chart}
 use Rattle.ipl_meaning.specs.Last.{last_that}

@@ -1,8 +1,8 @@
 -- A store fits after a session is aborted.
 use Rattle.std.proofs.Common.{Bool, None, refl, ℕ, ◌≡◌}
 use Rattle.std.specs.List.{filter}
-use Rattle.ipl_rules.specs.Operations.{after_abort}
-use Rattle.ipl_rules.proofs.MarkLemmas.{removed_most}
+use Rattle.ipl_model.specs.Operations.{after_abort}
+use Rattle.ipl_model.proofs.RuleMarkLemmas.{removed_most}
 use Rattle.record_locks.specs.Held.{after_end, number_of}
 use Rattle.record_locks.proofs.KeepLemmas.{keeps_names}
 use Rattle.page_ops.specs.Pending.{without_pending}
@@ -20,7 +20,7 @@ use Rattle.store_laws.proofs.FitLemmas.{sessions_are_sound}
 use Rattle.store_laws.proofs.MemoryFitLemmas.{keep_marks}
 use Rattle.store_laws.proofs.RoomLemmas.{room_kept}
 use Rattle.store_laws.proofs.SameLemmas.{pending_with_logs, pending_with_numbers, active_with_numbers, frame_as, IsPlaced, both_logs, frames_all}
-use Rattle.ipl_rules.specs.Operations as rules
+use Rattle.ipl_model.specs.Operations as rules
 
 pub aborts_fit : AbortsFit
 aborts_fit places c it t frames after slots state s tid fits within mine all locked = record {

@@ -7,13 +7,13 @@ use Rattle.chip_trait.specs.Told.{History, Told, adds_all}
 use Rattle.chip_trait.proofs.HistoryLemmas.{same_history}
 use Rattle.chip_trait.proofs.ImageLemmas.{held_is_image}
 use Rattle.chip_trait.proofs.MomentLemmas.{at_start, at_end}
-use Rattle.ipl_rules.specs.State.{Limits}
+use Rattle.ipl_model.specs.State.{Limits}
 use Rattle.ipl_model.specs.declared.reply.Reply.{Reply}
 use Rattle.ipl_format.specs.Sector.{sector_in}
 use Rattle.ipl_meaning.specs.Chart.{chart_of}
 use Rattle.ipl_meaning.specs.Rests.{EachStandsIn, StoryRests}
 use Rattle.ipl_meaning.proofs.StoryLemmas.{moments_of_one, rests_in_units}
-use Rattle.step_laws.specs.Laws.{Preserves}
+use Rattle.unit_io.specs.StepLaws.{Preserves}
 use Rattle.store_laws.proofs.MemoryFitLemmas.{openings_fit}
 use Rattle.store_trait.specs.declared.fault.Fault.{Fault}
 use Rattle.store_trait.specs.Keeping.{WorkLeaves, WorksFor}

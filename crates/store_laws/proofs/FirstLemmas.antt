@@ -7,8 +7,8 @@ use Rattle.std.proofs.lemmas.Bool.{cases_eq, cases_lt}
 use Rattle.std.proofs.lemmas.List.{get_or-append_right, get_or-replicate, get_or_past, length-replicate}
 use Rattle.std.proofs.lemmas.List.FromFn.{get_or-range_with_len, length-range_with_len}
 use Rattle.ipl_base.specs.declared.limits.TheConstants.{SESSIONS}
-use Rattle.ipl_rules.specs.Marks.{marks_of}
-use Rattle.ipl_rules.specs.State.{Session, at_rest}
+use Rattle.ipl_model.specs.Marks.{marks_of}
+use Rattle.ipl_model.specs.State.{Session, at_rest}
 use Rattle.record_locks.specs.Held.{Held, slot_marks}
 use Rattle.record_locks.specs.Names.{names_of, SameMarks, SameNames}
 use Rattle.record_locks.specs.Standing.{slot_of, state_of}

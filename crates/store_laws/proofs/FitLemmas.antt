@@ -3,10 +3,10 @@ use Rattle.std.proofs.Common.{Bool, Some, arith, not, refl, subst, sym, true, â„
 use Rattle.std.specs.List.{Contains}
 use Rattle.std.proofs.lemmas.Bool.{not-false, not_from_true}
 use Rattle.std.proofs.lemmas.List.Elements.{Contains-append_left}
-use Rattle.ipl_rules.specs.Marks.{marks, weight_of_mark, weights}
-use Rattle.ipl_rules.specs.State.{Map, State}
-use Rattle.ipl_rules.proofs.MarkLemmas.{le_trans}
-use Rattle.ipl_rules.proofs.WeightLemmas.{weights_less}
+use Rattle.ipl_model.specs.Marks.{marks, weight_of_mark, weights}
+use Rattle.ipl_model.specs.State.{Map, State}
+use Rattle.ipl_model.proofs.RuleMarkLemmas.{le_trans}
+use Rattle.ipl_model.proofs.WeightLemmas.{weights_less}
 use Rattle.record_locks.specs.Held.{SessionSlots, is_among, marks_in, number_of, written_of}
 use Rattle.record_locks.specs.Standing.{state_of}
 use Rattle.record_locks.proofs.SameLemmas.{marks_are, new_writes_alike}

@@ -6,7 +6,7 @@ use Rattle.std.specs.Option.{option_map_or}
 use Rattle.std.proofs.lemmas.Bool.{cases_eq, cond-false, cond-true, eq-eqb, ne_eqb, false_from_ne_true}
 use Rattle.std.proofs.lemmas.List.Elements.{All-contains}
 use Rattle.std.proofs.lemmas.Option.{none-some, same_Some}
-use Rattle.ipl_rules.specs.State.{see}
+use Rattle.ipl_model.specs.State.{see}
 use Rattle.ipl_format.specs.Record.{Change, Record}
 use Rattle.ipl_meaning.specs.Last.{is_number, last_that}
 use Rattle.ipl_meaning.specs.Layout.{records_of}

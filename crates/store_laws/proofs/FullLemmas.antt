@@ -7,10 +7,10 @@ use Rattle.std.proofs.lemmas.Bool.Decides.{nat_tests}
 use Rattle.ipl_base.specs.Places.{home_of}
 use Rattle.ipl_base.specs.Sizes.{size_in_page}
 use Rattle.ipl_base.specs.declared.limits.TheConstants.{PAGE_LEN, PAGES, SLOTS, UNIT_NAMES}
-use Rattle.ipl_rules.specs.Marks.{Marks, with_mark, marks_of, marks, fill_of}
-use Rattle.ipl_rules.specs.State.{Session, State, Write, last_write}
-use Rattle.ipl_rules.proofs.MarkLemmas.{le_trans, by_number}
-use Rattle.ipl_rules.proofs.SumLemmas.{sums_same}
+use Rattle.ipl_model.specs.Marks.{Marks, with_mark, marks_of, marks, fill_of}
+use Rattle.ipl_model.specs.State.{Session, State, Write, last_write}
+use Rattle.ipl_model.proofs.RuleMarkLemmas.{le_trans, by_number}
+use Rattle.ipl_model.proofs.SumLemmas.{sums_same}
 use Rattle.record_locks.specs.Held.{number_of}
 use Rattle.record_locks.proofs.SameLemmas.{marks_are}
 use Rattle.ipl_meaning.specs.Layout.{Layout}

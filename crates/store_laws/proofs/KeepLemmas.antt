@@ -7,7 +7,7 @@ use Rattle.chip_trait.specs.Chart.{says}
 use Rattle.chip_trait.specs.Story.{Story, Contents, held}
 use Rattle.chip_trait.specs.Told.{History, Told, Unrisen, adds_all}
 use Rattle.ipl_base.specs.Places.{spares_on}
-use Rattle.ipl_rules.specs.State.{Map, State, Limits}
+use Rattle.ipl_model.specs.State.{Map, State, Limits}
 use Rattle.ipl_model.specs.declared.command.Command.{Command}
 use Rattle.ipl_model.specs.declared.reply.Reply.{Reply}
 use Rattle.ipl_model.specs.Step.{Stepped, step}
@@ -20,7 +20,7 @@ use Rattle.ipl_meaning.specs.Stands.{Says, StandsIn}
 use Rattle.ipl_meaning.specs.Rests.{now, EachStandsIn, EachStandsEitherIn, StoryRests}
 use Rattle.ipl_meaning.proofs.StoryLemmas.{moments_keep_units, moments_of_one, rests_in_units}
 use Rattle.unit_io.specs.Leads.{IsSteady}
-use Rattle.step_laws.specs.Steps.{Settled, EndsWith, Steps}
+use Rattle.unit_io.specs.Steps.{Settled, EndsWith, Steps}
 use Rattle.store_laws.specs.Fits.{AreSessionsOf}
 use Rattle.store_trait.specs.declared.fault.Fault.{Fault}
 use Rattle.store_trait.specs.Keeping.{AllOf, WORK_DRAWS, LOOK_UP_DRAWS, Excuses, WorkLeaves, WorksFor, LooksUpFor}

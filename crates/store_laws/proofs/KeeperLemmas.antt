@@ -2,7 +2,7 @@
 use Rattle.std.proofs.Common.{◌≡◌, ℕ, ◌<◌, [], length, Result, Ok, Err, is_ok, Some, None, refl, sym, subst, arith}
 use Rattle.chip_trait.specs.Told.{Told, Counts}
 use Rattle.ipl_base.specs.declared.fault.ChipFault.{ChipFault}
-use Rattle.ipl_rules.specs.State.{Map, State}
+use Rattle.ipl_model.specs.State.{Map, State}
 use Rattle.record_locks.specs.Held.{SessionSlots, number_of}
 use Rattle.ipl_meaning.specs.Chart.{Chart, chart_of}
 use Rattle.ipl_meaning.specs.Layout.{Layout}

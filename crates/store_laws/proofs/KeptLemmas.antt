@@ -4,8 +4,8 @@ use Rattle.std.specs.FinMap.{get}
 use Rattle.chip_trait.specs.Story.{held}
 use Rattle.chip_trait.specs.Told.{History, Told}
 use Rattle.ipl_base.specs.Places.{home_of}
-use Rattle.ipl_rules.specs.Refusals.{refuses_get, refuses_share}
-use Rattle.ipl_rules.specs.State.{Limits, State, see}
+use Rattle.ipl_model.specs.Refusals.{refuses_get, refuses_share}
+use Rattle.ipl_model.specs.State.{Limits, State, see}
 use Rattle.ipl_model.specs.declared.command.Command.TheVariants as command
 use Rattle.ipl_model.specs.Step.{Stepped, found_reply, step}
 use Rattle.record_locks.specs.Held.{SessionSlots, number_of}

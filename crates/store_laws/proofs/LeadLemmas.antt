@@ -2,8 +2,8 @@
 use Rattle.std.proofs.Common.{ℕ, Result, Ok, Err}
 use Rattle.chip_trait.specs.Told.{History, Told, Counts}
 use Rattle.ipl_base.specs.declared.fault.ChipFault.{ChipFault}
-use Rattle.ipl_rules.specs.State.{State}
-use Rattle.ipl_rules.specs.Operations.{after_restart}
+use Rattle.ipl_model.specs.State.{State}
+use Rattle.ipl_model.specs.Operations.{after_restart}
 use Rattle.ipl_meaning.specs.Chart.{chart_of}
 use Rattle.ipl_meaning.specs.Tables.{Tables}
 use Rattle.ipl_meaning.specs.Rests.{EachStands, StoryRests}

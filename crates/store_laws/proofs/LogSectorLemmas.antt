@@ -5,7 +5,7 @@ use Rattle.std.proofs.lemmas.Bool.{cases_eq, false_from_ne_true}
 use Rattle.std.proofs.lemmas.List.Concat.{flat_map-append}
 use Rattle.std.proofs.lemmas.List.Elements.{All-append, All-contains, All-weaker, Contains-append_cases, Contains-append_left, Contains-append_right}
 use Rattle.ipl_base.specs.declared.limits.TheConstants.{VERSION}
-use Rattle.ipl_rules.specs.State.{State}
+use Rattle.ipl_model.specs.State.{State}
 use Rattle.ipl_format.specs.Record.{IsRecord, Record}
 use Rattle.ipl_meaning.specs.Last.{NoneIsBehind, is_number, last_that}
 use Rattle.ipl_meaning.specs.Layout.{Entry, Layout, Shape, records_of}

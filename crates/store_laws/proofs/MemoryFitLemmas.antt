@@ -9,9 +9,9 @@ use Rattle.std.proofs.lemmas.Option.{none-some}
 use Rattle.ipl_format.proofs.RecordLemmas.{all_stay}
 use Rattle.ipl_base.specs.declared.limits.TheConstants.{VERSION}
 use Rattle.ipl_base.specs.Sizes.{size_in_page}
-use Rattle.ipl_rules.specs.Marks.{Marks, marks}
-use Rattle.ipl_rules.specs.State.{Map, State, at_rest}
-use Rattle.ipl_rules.proofs.MarkLemmas.{by_number, inserted_most, shared_less}
+use Rattle.ipl_model.specs.Marks.{Marks, marks}
+use Rattle.ipl_model.specs.State.{Map, State, at_rest}
+use Rattle.ipl_model.proofs.RuleMarkLemmas.{by_number, inserted_most, shared_less}
 use Rattle.record_locks.specs.Held.{SessionSlots, after_begin, after_share, is_among, marks_in, number_of}
 use Rattle.record_locks.specs.Names.{KeepsNameMarks}
 use Rattle.record_locks.proofs.KeepLemmas.{keeps_marks, keeps_names}
@@ -38,7 +38,7 @@ use Rattle.store_laws.proofs.FrameLemmas.{begins_keep_frames, writes_keep_frames
 use Rattle.store_laws.proofs.ActiveLemmas.{is_listed, active_begun}
 use Rattle.store_laws.proofs.TableLemmas.{begun_mirrors}
 use Rattle.store_laws.proofs.SameLemmas.{pending_with_logs, pending_with_numbers, active_with_numbers, frame_as, IsPlaced, log_in, logs_with, logs_unchanged, frames_with, frames_put, other_frames}
-use Rattle.ipl_rules.specs.Operations as rules
+use Rattle.ipl_model.specs.Operations as rules
 
 -- ---- sessions
 

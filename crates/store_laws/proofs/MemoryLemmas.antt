@@ -4,7 +4,7 @@ use Rattle.std.specs.List.{All, Contains}
 use Rattle.std.proofs.lemmas.Bool.{and_from, and_left, and_right, cases_eq, cond-false, cond-true, eq-eqb, ne_eqb}
 use Rattle.std.proofs.lemmas.List.Elements.{All-append, All-contains, All-nil, Contains-append_cases}
 use Rattle.ipl_base.specs.declared.limits.TheConstants.{VERSION}
-use Rattle.ipl_rules.specs.State.{State}
+use Rattle.ipl_model.specs.State.{State}
 use Rattle.ipl_format.specs.Record.{IsRecord, Record}
 use Rattle.ipl_meaning.specs.Layout.{Entry, Layout, Shape, records_of}
 use Rattle.ipl_meaning.specs.Steps.{with_unit}

@@ -4,7 +4,7 @@ use Rattle.std.specs.List.{All, Contains}
 use Rattle.std.proofs.lemmas.Bool.{cases_eq}
 use Rattle.std.proofs.lemmas.List.Elements.{All-contains, Contains-append_cases, Contains-append_left, Contains-append_right}
 use Rattle.ipl_base.specs.declared.limits.TheConstants.{VERSION}
-use Rattle.ipl_rules.specs.State.{State}
+use Rattle.ipl_model.specs.State.{State}
 use Rattle.ipl_format.specs.Record.{IsRecord, Record}
 use Rattle.ipl_meaning.specs.Last.{NoneIsBehind, carried, is_number, last_that}
 use Rattle.ipl_meaning.specs.Layout.{Layout, Shape, records_of}

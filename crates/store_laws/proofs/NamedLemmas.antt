@@ -5,7 +5,7 @@ use Rattle.std.proofs.lemmas.Bool.{cases_eq, eq-eqb, not-true}
 use Rattle.std.proofs.lemmas.List.Elements.{All-contains, Contains-append_right}
 use Rattle.std.proofs.lemmas.Option.{none-some}
 use Rattle.ipl_base.specs.Places.{home_of}
-use Rattle.ipl_rules.specs.State.{State}
+use Rattle.ipl_model.specs.State.{State}
 use Rattle.ipl_format.specs.Record.{Record}
 use Rattle.record_locks.specs.Held.{number_of, written_of}
 use Rattle.ipl_meaning.specs.Chart.{Chart}

@@ -9,7 +9,7 @@ use Rattle.chip_trait.specs.declared.event.Event.TheVariants.{Barrier}
 use Rattle.chip_trait.specs.Story.{Story, after}
 use Rattle.chip_trait.specs.Told.{History, Told, Counts, Appends, adds, adds_all}
 use Rattle.ipl_base.specs.declared.fault.ChipFault.{ChipFault}
-use Rattle.ipl_rules.specs.State.{Map}
+use Rattle.ipl_model.specs.State.{Map}
 use Rattle.ipl_meaning.specs.Chart.{Chart}
 use Rattle.ipl_meaning.specs.Layout.{Layout}
 use Rattle.ipl_meaning.specs.Rests.{EachStandsEither, StoryRests}
@@ -20,9 +20,9 @@ use Rattle.ipl_meaning.proofs.StoryLemmas.{held_stands, barriers_rest, barriers_
 use Rattle.unit_io.specs.Charts.{Charts}
 use Rattle.unit_io.specs.Leads.{IsSteady, Leads, Waited, IsStopped}
 use Rattle.unit_io.proofs.LeadsLemmas.{leads_waited}
-use Rattle.step_laws.specs.Steps.{NoOtherEnd, TidyWork, RestsAgreeing, Steps}
-use Rattle.step_laws.proofs.StepLemmas.{writes_are_steps, failed_writes_are_steps}
-use Rattle.step_laws.proofs.TidyLemmas.{tidy_none}
+use Rattle.unit_io.specs.Steps.{NoOtherEnd, TidyWork, RestsAgreeing, Steps}
+use Rattle.unit_io.proofs.StepLemmas.{writes_are_steps, failed_writes_are_steps}
+use Rattle.unit_io.proofs.StepTidyLemmas.{tidy_none}
 use Rattle.txn_status.specs.Adding.{MayAdd, Adds, AddsInSteps, IsReadyToAdd, with_added, layout_added, KeepsFirstAt}
 use Rattle.record_locks.specs.Held.{is_among}
 use Rattle.store_laws.specs.Fits.{is_none_of}

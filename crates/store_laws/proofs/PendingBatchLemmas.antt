@@ -2,9 +2,9 @@
 use Rattle.std.proofs.Common.{◌≡◌, ℕ, ◌<◌, ◌++◌, Bool, true, false, cond, ◌||◌, List, [], ◌∷◌, Some, None, inl, inr, refl, sym, ◌∙◌, subst}
 use Rattle.std.specs.List.{Contains, list_any}
 use Rattle.std.proofs.lemmas.Bool.{false_from_ne_true}
-use Rattle.ipl_rules.proofs.BatchLemmas.{Distinct, batches_keep}
-use Rattle.ipl_rules.specs.Operations.{after_commit, after_batch}
-use Rattle.ipl_rules.specs.State.{State}
+use Rattle.ipl_model.proofs.RuleBatchLemmas.{Distinct, batches_keep}
+use Rattle.ipl_model.specs.Operations.{after_commit, after_batch}
+use Rattle.ipl_model.specs.State.{State}
 use Rattle.record_locks.specs.Held.{SessionSlots, number_of, written_of, writer_number, writer_numbers}
 use Rattle.ipl_meaning.specs.Chart.{Chart}
 use Rattle.ipl_meaning.specs.Last.{is_number}

@@ -3,8 +3,8 @@ use Rattle.std.proofs.Common.{Bool, None, Some, ap, eqb, inl, inr, is_some, refl
 use Rattle.std.specs.List.{Contains, filter}
 use Rattle.std.proofs.lemmas.Bool.{cases_eq, cond-false, eqb-true, ne_eqb, not_from_false}
 use Rattle.std.proofs.lemmas.List.Elements.{Contains-append_cases, Contains-append_left, Contains-append_right}
-use Rattle.ipl_rules.specs.Operations.{after_abort}
-use Rattle.ipl_rules.specs.State.{State, Write, is_open, last_write, writes_of}
+use Rattle.ipl_model.specs.Operations.{after_abort}
+use Rattle.ipl_model.specs.State.{State, Write, is_open, last_write, writes_of}
 use Rattle.ipl_format.specs.Record.{Record}
 use Rattle.ipl_meaning.specs.Last.{NoneIsBehind, is_number, last_that}
 use Rattle.ipl_meaning.specs.Layout.{Layout, records_of}

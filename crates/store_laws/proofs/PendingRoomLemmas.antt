@@ -3,9 +3,9 @@ use Rattle.std.proofs.Common.{◌≡◌, ℕ, Bool, ◌+◌, ◌<◌, ◌≤◌,
 use Rattle.std.specs.List.{Contains}
 use Rattle.std.proofs.lemmas.List.Elements.{Contains-append_left}
 use Rattle.ipl_base.specs.Sizes.{size_in_page}
-use Rattle.ipl_rules.specs.Marks.{marks}
-use Rattle.ipl_rules.specs.State.{State, writes_of}
-use Rattle.ipl_rules.proofs.MarkLemmas.{le_trans, own_most}
+use Rattle.ipl_model.specs.Marks.{marks}
+use Rattle.ipl_model.specs.State.{State, writes_of}
+use Rattle.ipl_model.proofs.RuleMarkLemmas.{le_trans, own_most}
 use Rattle.record_locks.specs.Held.{number_of}
 use Rattle.record_locks.proofs.SameLemmas.{marks_are}
 use Rattle.ipl_format.specs.Record.{Record}

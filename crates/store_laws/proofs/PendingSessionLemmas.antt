@@ -5,8 +5,8 @@ use Rattle.std.specs.List.{Contains}
 use Rattle.std.specs.Ordering.{nat_cmp}
 use Rattle.std.proofs.lemmas.Bool.{cases_eq}
 use Rattle.std.proofs.lemmas.List.Elements.{All-contains, All-nil, Contains-append_left}
-use Rattle.ipl_rules.specs.Operations.{after_begin}
-use Rattle.ipl_rules.specs.State.{Session, is_open, last_write, writes_of}
+use Rattle.ipl_model.specs.Operations.{after_begin}
+use Rattle.ipl_model.specs.State.{Session, is_open, last_write, writes_of}
 use Rattle.ipl_meaning.specs.Last.{NoneIsBehind, is_number}
 use Rattle.ipl_meaning.specs.Layout.{records_of}
 use Rattle.ipl_meaning.specs.Values.{counts_for}

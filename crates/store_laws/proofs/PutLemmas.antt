@@ -7,9 +7,9 @@ use Rattle.ipl_base.specs.Places.{home_of}
 use Rattle.ipl_base.specs.declared.fault.ChipFault.{ChipFault}
 use Rattle.ipl_base.specs.declared.fault.Refusal.{Refusal}
 use Rattle.ipl_base.specs.declared.fault.Refusal.TheVariants.{PageFull}
-use Rattle.ipl_rules.specs.Operations.{after_write}
-use Rattle.ipl_rules.specs.Refusals.{refuses_put}
-use Rattle.ipl_rules.specs.State.{State}
+use Rattle.ipl_model.specs.Operations.{after_write}
+use Rattle.ipl_model.specs.Refusals.{refuses_put}
+use Rattle.ipl_model.specs.State.{State}
 use Rattle.ipl_model.specs.declared.command.Command.TheVariants as command
 use Rattle.ipl_model.specs.declared.reply.Reply.TheVariants as reply
 use Rattle.ipl_model.specs.Step.{accepted, step}

@@ -6,13 +6,13 @@ use Rattle.std.proofs.lemmas.Bool.{not-false}
 use Rattle.std.proofs.lemmas.Bool.Decides.{nat_tests}
 use Rattle.ipl_base.specs.declared.fault.Refusal.{Refusal}
 use Rattle.ipl_base.specs.declared.fault.Refusal.TheVariants.{BadSession, BadName, AlreadyOpen, NotOpen, PendingFull, BadUnit, PageFull}
-use Rattle.ipl_rules.specs.Refusals.{Test, first_of, bad_session, bad_name, too_long, already_open, not_open, conflict, writes_full, shares_full, page_full, is_twice, twice, least_twice, early_tests, refuses_begin, refuses_get, refuses_share, refuses_del, refuses_end, refuses_batch, refuses_list, refuses_merge}
-use Rattle.ipl_rules.proofs.BatchLemmas.{any_alike, batches_name_once}
-use Rattle.ipl_rules.proofs.RefusalLemmas.{first_of-append}
-use Rattle.ipl_rules.specs.Marks.{marks, overloads}
+use Rattle.ipl_model.specs.Refusals.{Test, first_of, bad_session, bad_name, too_long, already_open, not_open, conflict, writes_full, shares_full, page_full, is_twice, twice, least_twice, early_tests, refuses_begin, refuses_get, refuses_share, refuses_del, refuses_end, refuses_batch, refuses_list, refuses_merge}
+use Rattle.ipl_model.proofs.RuleBatchLemmas.{any_alike, batches_name_once}
+use Rattle.ipl_model.proofs.RefusalLemmas.{first_of-append}
+use Rattle.ipl_model.specs.Marks.{marks, overloads}
 use Rattle.ipl_base.specs.Sizes.{size_in_page}
 use Rattle.ipl_base.specs.declared.limits.TheConstants.{UNIT_NAMES, VALUE_LEN}
-use Rattle.ipl_rules.specs.State.{State, Limits, is_open, holder_for_share, holder_for_write}
+use Rattle.ipl_model.specs.State.{State, Limits, is_open, holder_for_share, holder_for_write}
 use Rattle.ipl_model.specs.declared.command.Command.TheVariants as command
 use Rattle.ipl_model.specs.declared.reply.Reply.TheVariants as reply
 use Rattle.ipl_model.specs.declared.command.Command.{Command}

@@ -2,7 +2,7 @@
 use Rattle.std.proofs.Common.{Bool, Some, ap, arith, false, inl, inr, refl, subst, suc, sym, zero, ℕ, ◌<◌, ◌∙◌, ◌≡◌, ◌≤◌}
 use Rattle.std.specs.List.{All}
 use Rattle.std.proofs.lemmas.Bool.{cases_eq}
-use Rattle.ipl_rules.specs.State.{State}
+use Rattle.ipl_model.specs.State.{State}
 use Rattle.ipl_meaning.specs.Last.{carried}
 use Rattle.ipl_meaning.specs.Layout.{Layout, Shape, records_of}
 use Rattle.ipl_meaning.specs.Steps.{with_unit}

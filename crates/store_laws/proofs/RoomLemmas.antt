@@ -5,11 +5,11 @@ use Rattle.std.proofs.Math.Nat.{le-max_left, le-max_right, max-le}
 use Rattle.std.proofs.lemmas.Bool.{cases_eq, cond-false, ne_eqb}
 use Rattle.ipl_base.specs.declared.limits.TheConstants.{PAGE_LEN, PAGES, SLOTS}
 use Rattle.ipl_base.specs.Sizes.{size_in_page}
-use Rattle.ipl_rules.specs.Marks.{Marks, marks, fill_of}
-use Rattle.ipl_rules.specs.Operations.{after_write}
-use Rattle.ipl_rules.specs.State.{State}
-use Rattle.ipl_rules.proofs.FillLemmas.{max_one}
-use Rattle.ipl_rules.proofs.MarkLemmas.{le_trans, with_write}
+use Rattle.ipl_model.specs.Marks.{Marks, marks, fill_of}
+use Rattle.ipl_model.specs.Operations.{after_write}
+use Rattle.ipl_model.specs.State.{State}
+use Rattle.ipl_model.proofs.FillLemmas.{max_one}
+use Rattle.ipl_model.proofs.RuleMarkLemmas.{le_trans, with_write}
 use Rattle.ipl_format.specs.Record.{Record}
 use Rattle.ipl_meaning.specs.Chart.{Chart}
 use Rattle.ipl_meaning.specs.Layout.{Layout}

@@ -5,11 +5,11 @@ use Rattle.std.specs.Option.{option_map_or}
 use Rattle.std.proofs.Math.Nat.{le-max_left, le-max_right, max-le}
 use Rattle.ipl_base.specs.Sizes.{size_in_page}
 use Rattle.ipl_base.specs.declared.limits.TheConstants.{PAGE_LEN, PAGES, SLOTS}
-use Rattle.ipl_rules.specs.Marks.{marks}
-use Rattle.ipl_rules.specs.Operations.{after_commit}
-use Rattle.ipl_rules.specs.State.{State, last_write, writes_of}
-use Rattle.ipl_rules.proofs.MarkLemmas.{le_trans, last_most, own_most, removed_most}
-use Rattle.ipl_rules.proofs.SeenLemmas.{get-with_writes}
+use Rattle.ipl_model.specs.Marks.{marks}
+use Rattle.ipl_model.specs.Operations.{after_commit}
+use Rattle.ipl_model.specs.State.{State, last_write, writes_of}
+use Rattle.ipl_model.proofs.RuleMarkLemmas.{le_trans, last_most, own_most, removed_most}
+use Rattle.ipl_model.proofs.SeenLemmas.{get-with_writes}
 use Rattle.ipl_format.specs.Page.{value_in}
 use Rattle.ipl_format.specs.Record.{Change, Record}
 use Rattle.ipl_meaning.specs.Chart.{Chart}

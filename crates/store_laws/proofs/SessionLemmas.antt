@@ -5,9 +5,9 @@ use Rattle.std.specs.Option.{option_map, option_map_or}
 use Rattle.std.proofs.Common.{◌≡◌, ℕ, ◌+◌, ◌<◌, ◌==◌, Bool, true, false, not, List, [], ◌∷◌, Option, Some, None, is_some, refl, sym, ◌∙◌, ap, subst, arith, if◌then◌else◌}
 use Rattle.std.proofs.lemmas.Bool.{both_ways, false_from_ne_true}
 use Rattle.ipl_base.specs.declared.fault.Refusal.TheVariants.{NotOpen}
-use Rattle.ipl_rules.specs.Operations as rules
-use Rattle.ipl_rules.specs.Refusals.{is_new_share}
-use Rattle.ipl_rules.specs.State.{Session, State, Write}
+use Rattle.ipl_model.specs.Operations as rules
+use Rattle.ipl_model.specs.Refusals.{is_new_share}
+use Rattle.ipl_model.specs.State.{Session, State, Write}
 use Rattle.record_locks.specs.Held.{written_of, written_by}
 use Rattle.record_locks.specs.Held as held
 use Rattle.record_locks.proofs.StandingLemmas.{open_at}

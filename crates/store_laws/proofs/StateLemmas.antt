@@ -6,9 +6,9 @@ use Rattle.std.specs.Option.{option_map_or}
 use Rattle.std.specs.Ordering.{nat_cmp, eq_by_cmp}
 use Rattle.std.proofs.lemmas.Bool.{both_ways, cases_eq, cond-true, cond-false, eq-eqb, ne_eqb}
 use Rattle.std.proofs.lemmas.Bool.Decides.{nat_tests}
-use Rattle.ipl_rules.specs.State.{State, Session, Write, is_open, writes_of, last_write}
-use Rattle.ipl_rules.specs.Refusals.{is_new_share}
-use Rattle.ipl_rules.specs.Operations.{new_session, after_begin, after_share, after_write, after_abort}
+use Rattle.ipl_model.specs.State.{State, Session, Write, is_open, writes_of, last_write}
+use Rattle.ipl_model.specs.Refusals.{is_new_share}
+use Rattle.ipl_model.specs.Operations.{new_session, after_begin, after_share, after_write, after_abort}
 
 -- ---- one session of a state
 

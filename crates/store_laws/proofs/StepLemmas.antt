@@ -2,9 +2,9 @@
 use Rattle.std.proofs.Common.{Result, Ok, Err, arith}
 use Rattle.chip_trait.specs.Told.{History, Told, Counts, adds_all}
 use Rattle.ipl_meaning.specs.Tables.{Tables, IsCountedClean}
-use Rattle.step_laws.specs.Steps.{Settled, EndsWith, Outcome, TidyWork, Steps}
-use Rattle.step_laws.proofs.StepLemmas.{outcome_then, outcome_weaker}
-use Rattle.step_laws.proofs.TidyLemmas.{tidy_then, tidy_weaker}
+use Rattle.unit_io.specs.Steps.{Settled, EndsWith, Outcome, TidyWork, Steps}
+use Rattle.unit_io.proofs.StepLemmas.{outcome_then, outcome_weaker}
+use Rattle.unit_io.proofs.StepTidyLemmas.{tidy_then, tidy_weaker}
 
 -- a part of a call's time settled where the call did
 pub later_settled : {U F : Type 0} (result : Result U F) (old mid new : Told) → Counts old mid

@@ -1,9 +1,9 @@
 -- What waits while sessions are committed one after the other, and what the commit of one of them keeps of it.
 use Rattle.std.proofs.Common.{Bool, None, Some, ap, false, inl, inr, is_some, refl, subst, sym, true, ℕ, ◌<◌, ◌∙◌, ◌≡◌}
 use Rattle.std.proofs.lemmas.Bool.{cases_eq}
-use Rattle.ipl_rules.specs.Operations.{after_commit}
-use Rattle.ipl_rules.specs.State.{State, last_write}
-use Rattle.ipl_rules.proofs.MarkLemmas.{removed_most}
+use Rattle.ipl_model.specs.Operations.{after_commit}
+use Rattle.ipl_model.specs.State.{State, last_write}
+use Rattle.ipl_model.proofs.RuleMarkLemmas.{removed_most}
 use Rattle.ipl_meaning.specs.Chart.{Chart}
 use Rattle.ipl_meaning.specs.Layout.{Layout}
 use Rattle.ipl_meaning.specs.Stands.{Shows, page_in}

@@ -5,10 +5,10 @@ use Rattle.std.proofs.lemmas.Bool.{cases_Bool, ne_eqb}
 use Rattle.std.proofs.lemmas.Bool.Decides.{nat_tests}
 use Rattle.ipl_base.specs.Sizes.{size_in_page}
 use Rattle.ipl_base.specs.declared.limits.TheConstants.{SHORT_LEN, SHORT_SIZE, LONG_WEIGHT}
-use Rattle.ipl_rules.specs.Marks.{marks_of, weight_of_mark}
-use Rattle.ipl_rules.specs.State.{Write, writes_of}
-use Rattle.ipl_rules.proofs.MarkLemmas.{le_trans, last_most, more_than, own_most}
-use Rattle.ipl_rules.proofs.WeightLemmas.{weight_less}
+use Rattle.ipl_model.specs.Marks.{marks_of, weight_of_mark}
+use Rattle.ipl_model.specs.State.{Write, writes_of}
+use Rattle.ipl_model.proofs.RuleMarkLemmas.{le_trans, last_most, more_than, own_most}
+use Rattle.ipl_model.proofs.WeightLemmas.{weight_less}
 use Rattle.ipl_format.specs.Record.{Change, value_of}
 use Rattle.store_laws.specs.Pending.{name_at}
 use Rattle.store_laws.specs.PendingLaws.{RecordsWeighNoMore}

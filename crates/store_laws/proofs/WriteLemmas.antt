@@ -4,8 +4,8 @@ use Rattle.std.specs.List.{Contains}
 use Rattle.std.proofs.lemmas.Bool.{cases_Bool, cases_eq, cond-false, cond-true, eqb-true, both_ways}
 use Rattle.std.proofs.lemmas.List.Elements.{Contains-append_cases, Contains-append_left, Contains-append_right, Contains-push_cases}
 use Rattle.ipl_base.specs.declared.limits.TheConstants.{VERSION}
-use Rattle.ipl_rules.specs.Operations.{after_write}
-use Rattle.ipl_rules.specs.State.{State, Write, is_open, last_write, writes_of}
+use Rattle.ipl_model.specs.Operations.{after_write}
+use Rattle.ipl_model.specs.State.{State, Write, is_open, last_write, writes_of}
 use Rattle.ipl_format.specs.Record.{IsRecord, Record}
 use Rattle.ipl_meaning.specs.Last.{is_number, last_that}
 use Rattle.ipl_meaning.specs.Layout.{Layout, records_of}

@@ -3,7 +3,7 @@ use Rattle.std.specs.Prelude.{ℕ, ◌≡◌, ◌<◌, ◌≤◌, ◌*◌, None,
 use Rattle.std.specs.FinMap.{get}
 use Rattle.ipl_base.specs.declared.limits.TheConstants.{PAGES, UNIT_NAMES}
 use Rattle.chip_trait.specs.Told.{History, Told}
-use Rattle.ipl_rules.specs.State.{Map, State}
+use Rattle.ipl_model.specs.State.{Map, State}
 use Rattle.record_locks.specs.Held.{SessionSlots}
 use Rattle.ipl_meaning.specs.Chart.{Chart, chart_of}
 use Rattle.ipl_meaning.specs.Layout.{Layout, records_of}
@@ -16,7 +16,7 @@ use Rattle.unit_io.specs.Leads.{IsSteady}
 use Rattle.unit_io.specs.Charts.{Charts}
 use Rattle.unit_io.specs.Reads.{OfContents}
 use Rattle.unit_io.specs.ReadsAt.{ReadsAt}
-use Rattle.step_laws.specs.Steps.{Settled, Steps}
+use Rattle.unit_io.specs.Steps.{Settled, Steps}
 use Rattle.store_laws.specs.PendingLaws.{IsSameOrMerged}
 use Rattle.store_laws.specs.Frames.{Frames}
 use Rattle.store_laws.specs.Fits.{is_active, Fits, FitsStory}

@@ -3,7 +3,7 @@ use Rattle.std.specs.Prelude.{ℕ, ◌≡◌, ◌+◌, ◌==◌, not, Bool, List
 use Rattle.ipl_base.specs.declared.limits.TheConstants.{SESSIONS}
 use Rattle.chip_trait.specs.Story.{Contents, blank}
 use Rattle.chip_trait.specs.Told.{History}
-use Rattle.ipl_rules.specs.State.{State}
+use Rattle.ipl_model.specs.State.{State}
 use Rattle.record_locks.specs.Held.{SessionSlots, number_of, is_among}
 use Rattle.record_locks.specs.Standing.{state_of}
 use Rattle.record_locks.specs.Locks.{OneWriter, FewPending, IsSized}

@@ -5,8 +5,8 @@ use Rattle.ipl_base.specs.declared.limits.TheConstants.{LEAST_PLACES, MOST_PLACE
 use Rattle.chip_trait.specs.Story.{Contents}
 use Rattle.chip_trait.specs.Told.{History}
 use Rattle.ipl_base.specs.Places.{home_of, KeepsUnits, spares_on}
-use Rattle.ipl_rules.specs.Marks.{Marks, marks, overfills}
-use Rattle.ipl_rules.specs.State.{Map, State, at_rest}
+use Rattle.ipl_model.specs.Marks.{Marks, marks, overfills}
+use Rattle.ipl_model.specs.State.{Map, State, at_rest}
 use Rattle.ipl_format.specs.Record.{Record}
 use Rattle.record_locks.specs.Held.{SessionSlots, marks_in, number_of}
 use Rattle.ipl_meaning.specs.Chart.{Chart}
@@ -20,7 +20,7 @@ use Rattle.ipl_meaning.specs.Tables.{IsFree, Tables}
 use Rattle.ipl_meaning.specs.Mirrors.{Mirrors, NoneIsLost}
 use Rattle.ipl_meaning.specs.Formatted.{formatted}
 use Rattle.ipl_meaning.specs.FirstTables.{first_layout, first_tables}
-use Rattle.ipl_rules.specs.FillLaws.{PageFits, UnitsFit}
+use Rattle.ipl_model.specs.FillLaws.{PageFits, UnitsFit}
 use Rattle.page_ops.specs.Pending.{fill_by, mark_of}
 use Rattle.store_laws.specs.Pending.{name_at}
 use Rattle.store_laws.specs.PendingLaws.{StateHasOneWriter}

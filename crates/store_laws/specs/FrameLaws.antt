@@ -3,7 +3,7 @@ use Rattle.std.specs.Prelude.{ℕ, ◌≡◌, ◌<◌, ◌∷◌, ◌++◌, Bool
 use Rattle.std.specs.FinMap.{get}
 use Rattle.ipl_base.specs.Sizes.{size_of_values}
 use Rattle.ipl_base.specs.declared.limits.TheConstants.{PAGES, SLOTS, PAGE_LEN}
-use Rattle.ipl_rules.specs.State.{State, see}
+use Rattle.ipl_model.specs.State.{State, see}
 use Rattle.ipl_format.specs.Record.{Record}
 use Rattle.ipl_format.specs.Page.{Slots, value_in}
 use Rattle.ipl_meaning.specs.Chart.{Chart}

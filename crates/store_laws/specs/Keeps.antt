@@ -13,7 +13,7 @@ use Rattle.ipl_base.specs.declared.fault.ChipFault.TheVariants.{ReadFault, Stopp
 use Rattle.ipl_base.specs.declared.fault.ImageFault.{ImageFault}
 use Rattle.ipl_base.specs.declared.fault.ImageFault.TheVariants as image
 use Rattle.ipl_base.specs.Places.{home_of, KeepsUnits, spares_on}
-use Rattle.ipl_rules.specs.State.{Map, State, Limits, at_rest, see}
+use Rattle.ipl_model.specs.State.{Map, State, Limits, at_rest, see}
 use Rattle.ipl_model.specs.declared.command.Command.{Command}
 use Rattle.ipl_model.specs.declared.reply.Reply.{Reply}
 use Rattle.ipl_model.specs.Step.{step}
@@ -30,7 +30,7 @@ use Rattle.ipl_meaning.specs.Agrees.{IsTidy}
 use Rattle.ipl_meaning.proofs.StoryLemmas.{held_stands, rests_in_units, says_keep}
 use Rattle.unit_io.specs.Leads.{IsSteady}
 use Rattle.unit_io.specs.Reads.{OfContents}
-use Rattle.step_laws.specs.Laws.{Preserves}
+use Rattle.unit_io.specs.StepLaws.{Preserves}
 use Rattle.page_ops.specs.Pending.{seen_by}
 use Rattle.store_laws.specs.Frames.{PageFrame, Frames}
 use Rattle.store_laws.specs.Fits.{AreSessionsOf}

@@ -4,9 +4,9 @@ use Rattle.ipl_base.specs.declared.limits.TheConstants.{PAGES, SLOTS}
 use Rattle.chip_trait.specs.Told.{History, Told, Counts}
 use Rattle.ipl_base.specs.Places.{home_of}
 use Rattle.ipl_base.specs.declared.fault.ChipFault.{ChipFault}
-use Rattle.ipl_rules.specs.Marks.{overfills}
-use Rattle.ipl_rules.specs.State.{Map, State, at_rest}
-use Rattle.ipl_rules.specs.Operations.{after_batch, after_restart}
+use Rattle.ipl_model.specs.Marks.{overfills}
+use Rattle.ipl_model.specs.State.{Map, State, at_rest}
+use Rattle.ipl_model.specs.Operations.{after_batch, after_restart}
 use Rattle.ipl_model.specs.declared.reply.Reply.{Reply}
 use Rattle.ipl_format.specs.Record.{Record}
 use Rattle.record_locks.specs.Held.{SessionSlots, marks_in, number_of, written_of, written_by, writer_numbers}
@@ -23,8 +23,8 @@ use Rattle.unit_io.specs.Charts.{Charts}
 use Rattle.unit_io.specs.Leads.{IsSteady, IsStopped}
 use Rattle.unit_io.specs.Reads.{OfContents}
 use Rattle.unit_io.specs.ReadsAt.{Anywhere, ReadsAt}
-use Rattle.step_laws.specs.Steps.{Settled}
-use Rattle.step_laws.specs.Laws.{Preserves}
+use Rattle.unit_io.specs.Steps.{Settled}
+use Rattle.unit_io.specs.StepLaws.{Preserves}
 use Rattle.store_laws.specs.Pending.{IsWrittenOut}
 use Rattle.store_laws.specs.Frames.{PageFrame, Frames, logs_of, with_frame_at, with_frame_log, IsFrameOf}
 use Rattle.store_laws.specs.FrameLaws.{TellsSlot}

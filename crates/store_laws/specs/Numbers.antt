@@ -3,7 +3,7 @@ use Rattle.std.specs.Prelude.{ℕ, ◌≡◌, ◌+◌, [], List, All, Contains, 
 use Rattle.chip_trait.specs.Told.{History, Told}
 use Rattle.ipl_base.specs.Places.{home_of}
 use Rattle.ipl_base.specs.declared.fault.ChipFault.{ChipFault}
-use Rattle.ipl_rules.specs.State.{Map}
+use Rattle.ipl_model.specs.State.{Map}
 use Rattle.record_locks.specs.Held.{SessionSlots, numbers_in}
 use Rattle.ipl_meaning.specs.Chart.{Chart}
 use Rattle.ipl_meaning.specs.Layout.{Layout}
@@ -12,7 +12,7 @@ use Rattle.ipl_meaning.specs.Rests.{now, EachStandsEither, StoryRests}
 use Rattle.ipl_meaning.specs.Mirrors.{Mirrors}
 use Rattle.ipl_meaning.specs.Tables.{StatusTable, Tables}
 use Rattle.unit_io.specs.Leads.{IsSteady}
-use Rattle.step_laws.specs.Steps.{NoOtherEnd, Steps, RestsAgreeing}
+use Rattle.unit_io.specs.Steps.{NoOtherEnd, Steps, RestsAgreeing}
 use Rattle.txn_status.specs.Adding.{HasStatus, with_added, layout_added, Added}
 use Rattle.store_laws.specs.Frames.{Frames, logs_of}
 use Rattle.store_laws.specs.Fits.{is_none_of}

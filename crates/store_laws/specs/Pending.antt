@@ -2,7 +2,7 @@
 use Rattle.std.specs.Prelude.{ℕ, ◌≡◌, ◌≢◌, ◌<◌, ◌≤◌, ◌+◌, ◌*◌, ◌==◌, ◌&&◌, not, Bool, false, List, ◌++◌, filter, Option, Some, None, is_some, All, Contains, if◌then◌else◌}
 use Rattle.std.specs.Option.{option_map}
 use Rattle.ipl_base.specs.declared.limits.TheConstants.{PAGES, SLOTS, UNIT_NAMES, VERSION}
-use Rattle.ipl_rules.specs.State.{State, is_open, writes_of, last_write}
+use Rattle.ipl_model.specs.State.{State, is_open, writes_of, last_write}
 use Rattle.ipl_format.specs.Record.{Record, Change, IsRecord}
 use Rattle.ipl_meaning.specs.Values.{counts_for}
 use Rattle.ipl_meaning.specs.Layout.{Layout, records_of}

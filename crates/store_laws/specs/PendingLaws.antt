@@ -2,9 +2,9 @@
 use Rattle.std.specs.Prelude.{ℕ, ◌≡◌, ◌≢◌, ◌↔◌, ◌⊎◌, ◌<◌, ◌≤◌, ◌∷◌, ◌++◌, Bool, true, false, IsTrue, List, [], Some, None, All, Contains, if◌then◌else◌}
 use Rattle.std.specs.List.{list_any}
 use Rattle.ipl_base.specs.declared.limits.TheConstants.{PAGES, SLOTS, VERSION}
-use Rattle.ipl_rules.specs.Marks.{weight_of_mark, marks}
-use Rattle.ipl_rules.specs.State.{State}
-use Rattle.ipl_rules.specs.Operations.{after_begin, after_share, after_write, after_commit, after_batch, after_abort, after_restart}
+use Rattle.ipl_model.specs.Marks.{weight_of_mark, marks}
+use Rattle.ipl_model.specs.State.{State}
+use Rattle.ipl_model.specs.Operations.{after_begin, after_share, after_write, after_commit, after_batch, after_abort, after_restart}
 use Rattle.ipl_format.specs.Record.{Record, IsRecord}
 use Rattle.ipl_meaning.specs.Chart.{Chart}
 use Rattle.ipl_meaning.specs.Layout.{Entry, Shape, Layout, records_of}

@@ -8,10 +8,10 @@ use Rattle.ipl_base.specs.Sizes.{size_in_page}
 use Rattle.ipl_base.specs.declared.fault.ChipFault.{ChipFault}
 use Rattle.ipl_base.specs.declared.fault.Refusal.{Refusal}
 use Rattle.ipl_base.specs.declared.fault.Refusal.TheVariants.{PageFull}
-use Rattle.ipl_rules.specs.Marks.{overfills}
-use Rattle.ipl_rules.specs.Operations.{after_write}
-use Rattle.ipl_rules.specs.Refusals.{first_of, bad_session, bad_name, too_long, not_open, conflict, writes_full, refuses_begin, refuses_get, refuses_share, refuses_put_early, refuses_del, refuses_end, refuses_batch, is_twice, refuses_list, refuses_merge}
-use Rattle.ipl_rules.specs.State.{State, Limits, holder_for_write}
+use Rattle.ipl_model.specs.Marks.{overfills}
+use Rattle.ipl_model.specs.Operations.{after_write}
+use Rattle.ipl_model.specs.Refusals.{first_of, bad_session, bad_name, too_long, not_open, conflict, writes_full, refuses_begin, refuses_get, refuses_share, refuses_put_early, refuses_del, refuses_end, refuses_batch, is_twice, refuses_list, refuses_merge}
+use Rattle.ipl_model.specs.State.{State, Limits, holder_for_write}
 use Rattle.ipl_model.specs.declared.command.Command.{Command}
 use Rattle.ipl_model.specs.declared.command.Command.TheVariants as command
 use Rattle.ipl_model.specs.declared.reply.Reply.TheVariants as reply

@@ -3,8 +3,8 @@ use Rattle.std.specs.Prelude.{ℕ, ◌+◌, ◌<◌, ◌≤◌, nat_lt, Bool, Li
 use Rattle.ipl_base.specs.Places.{home_of}
 use Rattle.ipl_base.specs.Sizes.{size_in_page}
 use Rattle.ipl_base.specs.declared.limits.TheConstants.{PAGE_LEN, PAGES, SLOTS}
-use Rattle.ipl_rules.specs.Marks.{Marks, with_mark, marks, fill_of}
-use Rattle.ipl_rules.specs.State.{State}
+use Rattle.ipl_model.specs.Marks.{Marks, with_mark, marks, fill_of}
+use Rattle.ipl_model.specs.State.{State}
 use Rattle.ipl_format.specs.Record.{Record}
 use Rattle.ipl_meaning.specs.Chart.{Chart}
 use Rattle.ipl_meaning.specs.Values.{Values}

@@ -3,7 +3,7 @@ use Rattle.std.specs.Prelude.{ℕ, ◌≡◌, ◌<◌, ◌≤◌, ◌+◌, List,
 use Rattle.ipl_base.specs.declared.limits.TheConstants.{VERSION}
 use Rattle.chip_trait.specs.Told.{Told}
 use Rattle.ipl_base.specs.declared.fault.ChipFault.{ChipFault}
-use Rattle.ipl_rules.specs.Operations as rules
+use Rattle.ipl_model.specs.Operations as rules
 use Rattle.ipl_format.specs.Record.{Record, IsRecord}
 use Rattle.record_locks.specs.Held.{SessionSlots, marks_in, number_of, numbers_in, written_of, written_by, after_begin, after_share, after_end}
 use Rattle.record_locks.specs.Held.{after_batch as slots_after}

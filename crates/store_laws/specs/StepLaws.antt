@@ -3,9 +3,9 @@ use Rattle.std.specs.Prelude.{ℕ, ◌≡◌, ◌<◌, ◌≤◌, Bool, false, L
 use Rattle.ipl_base.specs.declared.limits.TheConstants.{PAGES, VERSION}
 use Rattle.chip_trait.specs.Told.{History}
 use Rattle.ipl_base.specs.Sizes.{size_in_page}
-use Rattle.ipl_rules.specs.State.{Map, State, at_rest}
-use Rattle.ipl_rules.specs.Refusals.{is_twice}
-use Rattle.ipl_rules.specs.Operations as rules
+use Rattle.ipl_model.specs.State.{Map, State, at_rest}
+use Rattle.ipl_model.specs.Refusals.{is_twice}
+use Rattle.ipl_model.specs.Operations as rules
 use Rattle.record_locks.specs.Held.{SessionSlots, number_of, numbers_in, writer_numbers, marks_in, after_begin, after_share, after_write, after_end, after_batch}
 use Rattle.ipl_format.specs.Record.{Record, IsRecord}
 use Rattle.ipl_meaning.specs.Chart.{Chart}

@@ -1,7 +1,7 @@
 -- What work leaves that comes behind a script and says nothing, as a close.
 use Rattle.std.specs.Prelude.{◌≡◌, ◌≤◌, ℕ, ◌+◌, Result, MatchResult, IfErr, IsErrOf, is_ok}
 use Rattle.chip_trait.specs.Told.{History, Told, Counts, adds_all}
-use Rattle.ipl_rules.specs.State.{State, Limits}
+use Rattle.ipl_model.specs.State.{State, Limits}
 use Rattle.store_trait.specs.declared.fault.Fault.{Fault}
 use Rattle.store_trait.specs.declared.fault.Fault.TheVariants.{Spent}
 use Rattle.store_trait.specs.Keeping.{Keeping, WORK_DRAWS, WorkLeaves, LeavesTidy, Stays, Draws, Learns, DoneRecalls, Excuses}

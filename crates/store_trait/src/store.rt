@@ -9,7 +9,7 @@ use ipl_model::{Command, Reply};
 
 /// A store of records over a chip. It says nothing; a run says its replies.
 pub trait Store {
-    ghost use Rattle.ipl_rules.specs.State.{State, Limits};
+    ghost use Rattle.ipl_model.specs.State.{State, Limits};
     ghost use Rattle.store_trait.specs.Keeping.{Keeping, IsSingle, Works, LooksUp, WorksAlong, DoneRecalls, is_restart, WORK_DRAWS, LOOK_UP_DRAWS};
 
     /// How it keeps a state on a chip of so many places.

@@ -10,7 +10,7 @@ use Rattle.ipl_base.specs.declared.fault.ChipFault.{ChipFault}
 use Rattle.ipl_format.specs.Sector.{Sector}
 use Rattle.ipl_format.specs.Commit.{SpellsCommit, IsLong}
 use Rattle.ipl_format.proofs.PayloadLemmas.{commits_spell_once}
-use Rattle.ipl_rules.specs.State.{Map}
+use Rattle.ipl_model.specs.State.{Map}
 use Rattle.ipl_meaning.specs.Chart.{Chart}
 use Rattle.ipl_meaning.specs.Layout.{Layout}
 use Rattle.ipl_meaning.specs.Stands.{Says, StandsBeside}
@@ -34,8 +34,8 @@ use Rattle.ipl_meaning.proofs.MarkLemmas.{commits_mark_no_more}
 use Rattle.unit_io.specs.Leads.{IsStopped}
 use Rattle.unit_io.specs.Spots.{Programs, IsSpot}
 use Rattle.unit_io.specs.Charts.{Charts, Gains}
-use Rattle.step_laws.specs.Steps.{RestsAgreeing}
-use Rattle.step_laws.proofs.StepLemmas.{writes_are_steps}
+use Rattle.unit_io.specs.Steps.{RestsAgreeing}
+use Rattle.unit_io.proofs.StepLemmas.{writes_are_steps}
 use Rattle.number_set.specs.Numbers.{with_numbers, also}
 use Rattle.number_set.proofs.NumberLemmas.{numbers_are_a_union}
 use Rattle.number_set.proofs.AmongLemmas.{also_is_a_union}

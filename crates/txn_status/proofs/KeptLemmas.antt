@@ -11,7 +11,7 @@ use Rattle.ipl_format.proofs.HeaderOnceLemmas.{status_headers_say_erases}
 use Rattle.sector_format.specs.declared.sector.Head.{Head}
 use Rattle.sector_format.specs.Decode.{sector_of}
 use Rattle.sector_format.specs.Written.{written_head}
-use Rattle.ipl_rules.specs.State.{Map}
+use Rattle.ipl_model.specs.State.{Map}
 use Rattle.ipl_meaning.specs.Chart.{Chart, chart_of}
 use Rattle.ipl_meaning.specs.Rests.{now, EachStands, EachStandsEither, StoryRests}
 use Rattle.ipl_meaning.proofs.StoryLemmas.{either_is_kept}

@@ -5,7 +5,7 @@ use Rattle.chip_trait.specs.Chart.{with_sector}
 use Rattle.chip_trait.specs.Told.{History, Told, adds}
 use Rattle.ipl_base.specs.declared.fault.ChipFault.{ChipFault}
 use Rattle.ipl_format.specs.Sector.{Sector, sector_in}
-use Rattle.ipl_rules.specs.State.{Map}
+use Rattle.ipl_model.specs.State.{Map}
 use Rattle.ipl_meaning.specs.Chart.{Chart}
 use Rattle.ipl_meaning.specs.Layout.{Layout}
 use Rattle.ipl_meaning.specs.Marks.{AreUnused, KeepsMarks}
@@ -23,8 +23,8 @@ use Rattle.unit_io.specs.Spots.{Programs, IsSpot}
 use Rattle.sector_format.specs.declared.sector.Head.{Head}
 use Rattle.sector_format.specs.Decode.{sector_of}
 use Rattle.sector_format.specs.Written.{written_head}
-use Rattle.step_laws.specs.Steps.{NoOtherEnd}
-use Rattle.step_laws.proofs.StepLemmas.{outcome_written}
+use Rattle.unit_io.specs.Steps.{NoOtherEnd}
+use Rattle.unit_io.proofs.StepLemmas.{outcome_written}
 use Rattle.txn_status.specs.Adding.{HasStatus}
 use Rattle.txn_status.specs.Marking.{mark_sector, IsReadyToMark, MarksInSteps}
 use Rattle.unit_io.specs.Writing.{LeadsMark}

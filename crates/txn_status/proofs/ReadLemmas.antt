@@ -17,16 +17,16 @@ use Rattle.unit_io.specs.Reads.{Asked, IsReadFault}
 use Rattle.unit_io.specs.ReadsAt.{IsAt, IsCauseAt, ReadsAt, ReadsOnce}
 use Rattle.unit_io.proofs.OnceLemmas.{once_asked, once_then, once_wider}
 use Rattle.unit_io.proofs.ReadsAtLemmas.{at_asked, at_then, at_wider}
-use Rattle.opening_laws.specs.First.{greatest_of, joined_below}
-use Rattle.opening_laws.specs.Payloads.{numbers_within}
-use Rattle.opening_laws.specs.Live.{kept, is_commit_sector, is_close_mark, is_noted_of, commit_at, noted_at}
-use Rattle.opening_laws.specs.LaidOut.{numbers_of}
-use Rattle.opening_laws.specs.Faults.{noted_number, greatest_of_notes}
-use Rattle.opening_laws.specs.Marked.{serial_of}
+use Rattle.ipl_meaning.specs.First.{greatest_of, joined_below}
+use Rattle.ipl_meaning.specs.Payloads.{numbers_within}
+use Rattle.ipl_meaning.specs.Live.{kept, is_commit_sector, is_close_mark, is_noted_of, commit_at, noted_at}
+use Rattle.ipl_meaning.specs.LaidOut.{numbers_of}
+use Rattle.ipl_meaning.specs.Faults.{noted_number, greatest_of_notes}
+use Rattle.ipl_meaning.specs.Marked.{serial_of}
 use Rattle.ipl_format.specs.Whole.{IsWhole}
-use Rattle.opening_laws.proofs.FirstLemmas.{greatest_step, joined_step}
-use Rattle.opening_laws.proofs.BelowLemmas.{greatest_of-push}
-use Rattle.opening_laws.proofs.LiveLemmas.{noted_commits}
+use Rattle.ipl_meaning.proofs.FirstLemmas.{greatest_step, joined_step}
+use Rattle.ipl_meaning.proofs.BelowLemmas.{greatest_of-push}
+use Rattle.ipl_meaning.proofs.LiveLemmas.{noted_commits}
 use Rattle.number_set.specs.Numbers.{Numbers, with_list, with_number, with_numbers}
 use Rattle.txn_status.specs.ReadingIn.{under, IsCommitSpot, IsStatusAt, LooksOnceAt}
 use Rattle.txn_status.specs.Marks.{MarksRead, with_noted, marks_below}

@@ -10,7 +10,7 @@ use Rattle.chip_trait.specs.Story.{Story}
 use Rattle.ipl_format.specs.Sector.{Sector}
 use Rattle.ipl_format.specs.Commit.{SpellsCommit, IsLong}
 use Rattle.ipl_format.proofs.PayloadLemmas.{commits_spell_once}
-use Rattle.ipl_rules.specs.State.{Map}
+use Rattle.ipl_model.specs.State.{Map}
 use Rattle.ipl_meaning.specs.Chart.{Chart}
 use Rattle.ipl_meaning.specs.Layout.{Layout, Laid, IsStatus, HasNoMark}
 use Rattle.ipl_meaning.specs.Rests.{WornAreIdle}

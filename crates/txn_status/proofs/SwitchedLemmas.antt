@@ -9,7 +9,7 @@ use Rattle.chip_trait.specs.Told.{History, Told, adds_all}
 use Rattle.chip_trait.proofs.AgeLemmas.{clean_lasting}
 use Rattle.ipl_base.specs.declared.fault.ChipFault.{ChipFault}
 use Rattle.ipl_format.specs.Sector.{Sector}
-use Rattle.ipl_rules.specs.State.{Map}
+use Rattle.ipl_model.specs.State.{Map}
 use Rattle.ipl_meaning.specs.Chart.{Chart, chart_of}
 use Rattle.ipl_meaning.specs.Layout.{Layout}
 use Rattle.ipl_meaning.specs.Steps.{with_status}
@@ -26,8 +26,8 @@ use Rattle.unit_io.specs.Charts.{Charts, Gains}
 use Rattle.unit_io.proofs.SectorLemmas.{untouched}
 use Rattle.unit_io.proofs.LeadsLemmas.{leads_and, leads_failed, leads_then}
 use Rattle.unit_io.proofs.SpotLemmas.{programs_then, programs_wider}
-use Rattle.step_laws.specs.Steps.{NoOtherEnd}
-use Rattle.step_laws.proofs.StepLemmas.{outcome_written}
+use Rattle.unit_io.specs.Steps.{NoOtherEnd}
+use Rattle.unit_io.proofs.StepLemmas.{outcome_written}
 use Rattle.number_set.specs.Numbers.{among}
 use Rattle.txn_status.specs.Status.{parts_of}
 use Rattle.txn_status.specs.Adding.{HasStatus}

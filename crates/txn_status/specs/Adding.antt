@@ -3,7 +3,7 @@ use Rattle.std.specs.Prelude.{ℕ, ◌≡◌, ◌<◌, ◌+◌, List, All, AllPa
 use Rattle.chip_trait.specs.Image.{IsClosed}
 use Rattle.chip_trait.specs.Told.{History, Told}
 use Rattle.ipl_base.specs.declared.fault.ChipFault.{ChipFault}
-use Rattle.ipl_rules.specs.State.{Map}
+use Rattle.ipl_model.specs.State.{Map}
 use Rattle.ipl_meaning.specs.Chart.{Chart}
 use Rattle.ipl_meaning.specs.Layout.{Layout}
 use Rattle.ipl_meaning.specs.Stands.{Says}
@@ -13,7 +13,7 @@ use Rattle.ipl_meaning.specs.Tables.{StatusTable, Tables}
 use Rattle.ipl_meaning.specs.Mirrors.{AreApart, Mirrors}
 use Rattle.ipl_meaning.specs.Agrees.{Agrees}
 use Rattle.unit_io.specs.Leads.{IsSteady}
-use Rattle.step_laws.specs.Steps.{NoOtherEnd, Steps, RestsAgreeing}
+use Rattle.unit_io.specs.Steps.{NoOtherEnd, Steps, RestsAgreeing}
 use Rattle.number_set.specs.Numbers.{also}
 use Rattle.txn_status.specs.Status.{after_add}
 

@@ -6,7 +6,7 @@ use Rattle.ipl_base.specs.declared.fault.ChipFault.{ChipFault}
 use Rattle.ipl_base.specs.declared.limits.TheConstants.{VERSION}
 use Rattle.ipl_format.specs.Mark.{SpellsMark}
 use Rattle.ipl_format.specs.Sector.{Sector}
-use Rattle.ipl_rules.specs.State.{Map}
+use Rattle.ipl_model.specs.State.{Map}
 use Rattle.ipl_meaning.specs.Layout.{Layout}
 use Rattle.ipl_meaning.specs.Stands.{Says}
 use Rattle.ipl_meaning.specs.Rests.{now, EachStands, StoryRests}
@@ -16,7 +16,7 @@ use Rattle.ipl_meaning.specs.Marks.{AreUnused}
 use Rattle.ipl_meaning.specs.MarkLaws.{MarksWhatIsKnown}
 use Rattle.unit_io.specs.Leads.{IsSteady, RestsAdded}
 use Rattle.unit_io.specs.Spots.{Programs, IsSpot}
-use Rattle.step_laws.specs.Steps.{Settled, NoOtherEnd, EndsWith, OutcomeWhere}
+use Rattle.unit_io.specs.Steps.{Settled, NoOtherEnd, EndsWith, OutcomeWhere}
 use Rattle.txn_status.specs.Adding.{HasStatus}
 
 -- a close mark of this payload, as it is written

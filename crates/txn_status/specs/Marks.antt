@@ -2,8 +2,8 @@
 use Rattle.std.specs.Prelude.{ℕ, max, nat_lt, Bool, true, Option, Some, None}
 use Rattle.ipl_format.specs.Sector.{Sector}
 use Rattle.ipl_meaning.specs.Chart.{Chart}
-use Rattle.opening_laws.specs.Live.{sectors, kept, is_commit_sector, is_close_mark}
-use Rattle.opening_laws.specs.Marked.{later_close_mark, best_close_mark, serial_of, commit_serial, is_no_older}
+use Rattle.ipl_meaning.specs.Live.{sectors, kept, is_commit_sector, is_close_mark}
+use Rattle.ipl_meaning.specs.Marked.{later_close_mark, best_close_mark, serial_of, commit_serial, is_no_older}
 use Rattle.txn_status.specs.ReadingIn.{under}
 
 -- the close mark with the greatest serial, the first on a tie, and the greatest serial of a commit

@@ -11,10 +11,10 @@ use Rattle.ipl_meaning.specs.Chart.{Chart}
 use Rattle.ipl_meaning.specs.Tables.{StatusTable}
 use Rattle.unit_io.specs.ReadsAt.{ReadsAt, ReadsOnce, IsCauseAt}
 use Rattle.ipl_base.specs.First.{first_below}
-use Rattle.opening_laws.specs.Chosen.{Winner}
-use Rattle.opening_laws.specs.Live.{sectors}
-use Rattle.opening_laws.specs.LaidOut.{committed_numbers}
-use Rattle.opening_laws.specs.Faults.{TellsImageFault, noted_fault, greatest_of_notes}
+use Rattle.ipl_meaning.specs.Chosen.{Winner}
+use Rattle.ipl_meaning.specs.Live.{sectors}
+use Rattle.ipl_meaning.specs.LaidOut.{committed_numbers}
+use Rattle.ipl_meaning.specs.Faults.{TellsImageFault, noted_fault, greatest_of_notes}
 use Rattle.number_set.specs.Numbers.{Numbers, with_numbers}
 
 -- ---- which sectors

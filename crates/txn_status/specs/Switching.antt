@@ -5,7 +5,7 @@ use Rattle.chip_trait.specs.Told.{History, Told}
 use Rattle.ipl_base.specs.declared.fault.ChipFault.{ChipFault}
 use Rattle.ipl_format.specs.Header.{SpellsStatusHeader, erases_said}
 use Rattle.ipl_format.specs.Sector.{Sector}
-use Rattle.ipl_rules.specs.State.{Map}
+use Rattle.ipl_model.specs.State.{Map}
 use Rattle.ipl_meaning.specs.Chart.{Chart}
 use Rattle.ipl_meaning.specs.Layout.{Layout, HasNoMark}
 use Rattle.ipl_meaning.specs.Stands.{Says}
@@ -17,7 +17,7 @@ use Rattle.ipl_meaning.specs.Mirrors.{Mirrors}
 use Rattle.ipl_meaning.specs.Agrees.{Agrees}
 use Rattle.unit_io.specs.Leads.{IsSteady}
 use Rattle.unit_io.specs.Spots.{Programs}
-use Rattle.step_laws.specs.Steps.{Settled, NoOtherEnd, EndsWith, Outcome, RestsAgreeing}
+use Rattle.unit_io.specs.Steps.{Settled, NoOtherEnd, EndsWith, Outcome, RestsAgreeing}
 use Rattle.number_set.specs.Numbers.{among}
 use Rattle.unit_layout.specs.Retired.{retired_in}
 use Rattle.txn_status.specs.Commits.{commit_sector, part_of}

@@ -2,9 +2,9 @@
 use Rattle.std.specs.Prelude.{ℕ, ◌≡◌, List, [], Option}
 use Rattle.ipl_format.specs.Sector.{Sector}
 use Rattle.ipl_meaning.specs.Chart.{Chart}
-use Rattle.opening_laws.specs.Live.{sectors, kept, is_commit_sector}
-use Rattle.opening_laws.specs.LaidOut.{numbers_of, committed_numbers}
-use Rattle.opening_laws.specs.Faults.{noted_number, greatest_of_notes}
+use Rattle.ipl_meaning.specs.Live.{sectors, kept, is_commit_sector}
+use Rattle.ipl_meaning.specs.LaidOut.{numbers_of, committed_numbers}
+use Rattle.ipl_meaning.specs.Faults.{noted_number, greatest_of_notes}
 use Rattle.number_set.specs.Numbers.{with_numbers}
 use Rattle.txn_status.specs.ReadingIn.{under}
 use Rattle.txn_status.specs.Marks.{MarksRead, with_noted, marks_in}

@@ -6,7 +6,7 @@ use Rattle.chip_trait.specs.Chart.{with_sector}
 use Rattle.chip_trait.specs.Told.{History, Told}
 use Rattle.ipl_base.specs.declared.fault.ChipFault.{ChipFault}
 use Rattle.ipl_format.specs.Sector.{Sector}
-use Rattle.ipl_rules.specs.State.{Map}
+use Rattle.ipl_model.specs.State.{Map}
 use Rattle.ipl_meaning.specs.Chart.{Chart}
 use Rattle.ipl_meaning.specs.Stands.{StandsBeside}
 use Rattle.ipl_meaning.specs.Rests.{now, WornAreIdle, StoryRests}

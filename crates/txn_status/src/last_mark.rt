@@ -3,8 +3,8 @@ ghost use Rattle.std.specs.Prelude.{◌≡◌, ◌≤◌, ◌<◌, nat_lt, ℕ, 
 ghost use Rattle.ipl_format.specs.Mark.{has_unit};
 ghost use Rattle.ipl_format.specs.Sector.{Sector};
 ghost use Rattle.sector_format.specs.Decode.{sector_of};
-ghost use Rattle.opening_laws.specs.Chosen.{Winner};
-ghost use Rattle.opening_laws.specs.Marked.{later_close_mark, is_marked_by};
+ghost use Rattle.ipl_meaning.specs.Chosen.{Winner};
+ghost use Rattle.ipl_meaning.specs.Marked.{later_close_mark, is_marked_by};
 ghost use Rattle.txn_status.specs.Marks.{MarksRead, none_read, counting, is_later};
 
 use arrayvec::ArrayVec;

@@ -5,9 +5,9 @@ ghost use Rattle.ipl_base.specs.declared.fault.ChipFault.TheVariants.{Malformed}
 ghost use Rattle.ipl_format.specs.Whole.{IsWhole};
 ghost use Rattle.sector_format.specs.Decode.{sector_of};
 ghost use Rattle.unit_io.specs.Kinds.{sector_named};
-ghost use Rattle.opening_laws.specs.Live.{kept, is_commit_sector, is_noted_of};
-ghost use Rattle.opening_laws.specs.Faults.{TellsImageFault, is_noted_payload, noted_test, noted_number};
-ghost use Rattle.opening_laws.specs.LaidOut.{numbers_of};
+ghost use Rattle.ipl_meaning.specs.Live.{kept, is_commit_sector, is_noted_of};
+ghost use Rattle.ipl_meaning.specs.Faults.{TellsImageFault, is_noted_payload, noted_test, noted_number};
+ghost use Rattle.ipl_meaning.specs.LaidOut.{numbers_of};
 ghost use Rattle.number_set.specs.Numbers.{with_numbers};
 ghost use Rattle.txn_status.specs.ReadingIn.{of_image, GrowsBy};
 ghost use Rattle.txn_status.specs.Marks.{with_noted};

@@ -1,8 +1,8 @@
 //! The numbers in the payload of a commit sector.
 ghost use Rattle.std.specs.Prelude.{◌≡◌, ◌≤◌, ◌+◌, ◌/◌, length};
 ghost use Rattle.ipl_format.specs.Numbers.{long_at};
-ghost use Rattle.opening_laws.specs.First.{greatest_of};
-ghost use Rattle.opening_laws.specs.Payloads.{is_commit_payload, numbers_in};
+ghost use Rattle.ipl_meaning.specs.First.{greatest_of};
+ghost use Rattle.ipl_meaning.specs.Payloads.{is_commit_payload, numbers_in};
 ghost use Rattle.number_set.specs.Numbers.{with_list, with_numbers};
 ghost use Rattle.txn_status.specs.ReadingIn.{GrowsBy};
 

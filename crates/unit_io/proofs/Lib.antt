@@ -1,3 +1,7 @@
+pub mod StepLemmas
+pub mod StepTidyLemmas
+pub mod MapLemmas
+pub mod TablesLemmas
 pub mod LeadsLemmas
 pub mod SpotLemmas
 pub mod PlaceLemmas

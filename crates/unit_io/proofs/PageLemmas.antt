@@ -10,7 +10,7 @@ use Rattle.chip_trait.specs.Chart.{with_sector}
 use Rattle.chip_trait.specs.Told.{History, Told, adds_all}
 use Rattle.ipl_base.specs.declared.fault.ChipFault.{ChipFault}
 use Rattle.ipl_base.specs.declared.limits.TheConstants.{VERSION}
-use Rattle.ipl_rules.specs.State.{Map}
+use Rattle.ipl_model.specs.State.{Map}
 use Rattle.ipl_format.specs.Sector.{Sector}
 use Rattle.ipl_format.specs.Page.{Slots, IsCutInto, page_text, piece_of}
 use Rattle.ipl_format.specs.Place.{base_sector_of}

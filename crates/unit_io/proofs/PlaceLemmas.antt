@@ -11,7 +11,7 @@ use Rattle.chip_trait.specs.Told.{History, Told, Appends, Breaks, Halts, adds, a
 use Rattle.chip_trait.specs.Wears.{Wears, erase_event}
 use Rattle.ipl_base.specs.declared.fault.ChipFault.{ChipFault}
 use Rattle.ipl_base.specs.declared.fault.ChipFault.TheVariants.{Stopped}
-use Rattle.ipl_rules.specs.State.{Map}
+use Rattle.ipl_model.specs.State.{Map}
 use Rattle.ipl_format.proofs.SectorLemmas.{blank_says_nothing}
 use Rattle.ipl_meaning.specs.Chart.{chart_of}
 use Rattle.ipl_meaning.specs.Layout.{Layout, Laid}

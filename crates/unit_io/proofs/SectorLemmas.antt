@@ -8,7 +8,7 @@ use Rattle.chip_trait.specs.Told.{History, Told, adds}
 use Rattle.chip_trait.proofs.AgeLemmas.{clean_blank, clean_closed, clean_lasting}
 use Rattle.chip_trait.proofs.ClosedLemmas.{held_program}
 use Rattle.ipl_base.specs.declared.fault.ChipFault.{ChipFault}
-use Rattle.ipl_rules.specs.State.{Map}
+use Rattle.ipl_model.specs.State.{Map}
 use Rattle.ipl_format.specs.Sector.{Sector, sector_in}
 use Rattle.ipl_format.specs.Record.{Record}
 use Rattle.ipl_meaning.specs.Chart.{chart_of}

@@ -1,3 +1,5 @@
+pub mod Steps
+pub mod StepLaws
 pub mod Accounts
 pub mod Leads
 pub mod Spots

@@ -8,7 +8,7 @@ use Rattle.chip_trait.specs.Told.{History, Told, adds}
 use Rattle.ipl_base.specs.declared.fault.ChipFault.{ChipFault}
 use Rattle.ipl_base.specs.declared.limits.TheConstants.{PAGE_SECTORS, PAYLOAD_LEN, VERSION}
 use Rattle.ipl_format.specs.Sector.{Sector, sector_in}
-use Rattle.ipl_rules.specs.State.{Map}
+use Rattle.ipl_model.specs.State.{Map}
 use Rattle.ipl_meaning.specs.Chart.{Chart}
 use Rattle.ipl_meaning.specs.Stands.{StandsBeside}
 use Rattle.ipl_meaning.specs.Rests.{now, IsUntouched, EachStands, WornAreIdle, StoryRests}

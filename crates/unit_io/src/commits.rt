@@ -4,7 +4,7 @@ ghost use Rattle.chip_trait.specs.declared.event.Event.TheVariants.{Program};
 ghost use Rattle.chip_trait.specs.Image.{IsClosed};
 ghost use Rattle.chip_trait.specs.Chart.{with_sector};
 ghost use Rattle.chip_trait.specs.Told.{Told, History, adds};
-ghost use Rattle.ipl_rules.specs.State.{Map};
+ghost use Rattle.ipl_model.specs.State.{Map};
 ghost use Rattle.ipl_format.specs.Sector.{IsKind, sector_in};
 ghost use Rattle.sector_format.specs.Decode.{sector_of};
 ghost use Rattle.ipl_meaning.specs.Stands.{StandsBeside};

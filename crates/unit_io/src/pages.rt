@@ -3,7 +3,7 @@ ghost use Rattle.std.specs.Prelude.{◌≡◌, ◌<◌, ◌≤◌, ◌+◌, ◌*
 ghost use Rattle.ipl_base.specs.declared.limits.TheConstants.{PAGE_LEN, PAGE_SECTORS, PAYLOAD_LEN, VERSION};
 ghost use Rattle.chip_trait.specs.Lawful.{Clean, age};
 ghost use Rattle.chip_trait.specs.Told.{Told, History};
-ghost use Rattle.ipl_rules.specs.State.{Map};
+ghost use Rattle.ipl_model.specs.State.{Map};
 ghost use Rattle.crc_sum.specs.Crc.{tail_sum};
 ghost use Rattle.ipl_format.specs.Page.{IsCutInto, page_text, piece_of};
 ghost use Rattle.ipl_format.specs.Sector.{IsKind, filled, sector_in};

@@ -2,7 +2,7 @@
 ghost use Rattle.std.specs.Prelude.{◌≡◌, ◌<◌, ℕ, List, Some, OnOk, is_ok};
 ghost use Rattle.ipl_base.specs.declared.limits.TheConstants.{VERSION};
 ghost use Rattle.chip_trait.specs.Told.{Told, History};
-ghost use Rattle.ipl_rules.specs.State.{Map};
+ghost use Rattle.ipl_model.specs.State.{Map};
 ghost use Rattle.ipl_format.specs.Sector.{Sector, sector_in};
 ghost use Rattle.ipl_format.specs.Record.{Record};
 ghost use Rattle.sector_format.specs.Decode.{sector_of};

@@ -7,8 +7,7 @@ use crate::words::{bytes_of, geometry_of, join, number, parted};
 use anyhow::{Context, Result};
 use ipl_base::{Home, Name, home};
 use ipl_model::{Line, PlainModel, Reply};
-use plain_text::TextLine;
-use script_text::{parse, print};
+use script_text::{TextLine, parse, print};
 use std::alloc::Global;
 
 /// What comes of a row `run PLACES LINES`: the replies of a new model over so many places, 5 to

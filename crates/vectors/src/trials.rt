@@ -4,8 +4,8 @@ ghost use Rattle.std.specs.Prelude.{◌≡◌};
 use crate::words::{geometry_of, join, number, words_of};
 use anyhow::{Context, Result, bail};
 use ipl_model::{Command, PlainModel, Reply};
+use script_run::{Records, Tally, TrialCommands, summary_lines};
 use std::alloc::Global;
-use trial_run::{Records, Tally, TrialCommands, summary_lines};
 
 /// What comes of a row `trial PLACES SEED COUNT`: the six lines of the summary of so many commands
 /// of the seed, done by a new model over so many places, 5 to 1,028. Fails where the words aren't

@@ -1,9 +1,9 @@
 //! A commit of several sessions in the plain model.
 ghost use Rattle.std.specs.Prelude.{◌≡◌, ◌<◌, ◌++◌, ℕ, None, Contains, IfOk, OnOk, OnErr};
 ghost use Rattle.ipl_base.specs.declared.limits.TheConstants.{SESSIONS};
-ghost use Rattle.ipl_rules.specs.State.{writes_of};
-ghost use Rattle.ipl_rules.specs.Refusals.{refuses_batch};
-ghost use Rattle.ipl_rules.specs.Operations.{after_batch};
+ghost use Rattle.ipl_model.specs.State.{writes_of};
+ghost use Rattle.ipl_model.specs.Refusals.{refuses_batch};
+ghost use Rattle.ipl_model.specs.Operations.{after_batch};
 ghost use Rattle.ipl_model.specs.Plain.{state_of, limits_of, newest_first, batch_writes, with_records, with_closed};
 
 use super::PlainModel;

@@ -1,7 +1,7 @@
 //! What an operation of the plain model does that isn't refused.
 ghost use Rattle.std.specs.Prelude.{◌≡◌, ◌<◌, ◌++◌, [], OnOk, OnErr};
 ghost use Rattle.ipl_base.specs.declared.limits.TheConstants.{SESSIONS};
-ghost use Rattle.ipl_rules.specs.Operations.{after_begin, after_share, after_write, after_commit, after_abort, after_restart};
+ghost use Rattle.ipl_model.specs.Operations.{after_begin, after_share, after_write, after_commit, after_abort, after_restart};
 ghost use Rattle.ipl_model.specs.Plain.{state_of, newest_first, slot_of, writes_in, with_share};
 
 use super::log::{LoggedSession, Write};

@@ -1,7 +1,7 @@
 //! Who holds a name, and what is pending, over all sessions of the plain model.
 ghost use Rattle.std.specs.Prelude.{◌≡◌, ◌<◌, ◌^◌, ◌==◌, ◌&&◌, ◌++◌, not, map, length, false, IfOk, OnOk};
 ghost use Rattle.std.specs.Option.{option_map_or};
-ghost use Rattle.ipl_rules.specs.State.{has_written, has_shared};
+ghost use Rattle.ipl_model.specs.State.{has_written, has_shared};
 ghost use Rattle.ipl_model.specs.Plain.{newest_first, session_of, slot_of, keeps_from, least_holder, writes_in, all_writes};
 
 use super::log::{LoggedSession, Write};
@@ -24,7 +24,7 @@ impl LoggedSession {
     }
 
     /// Whether the session shares a name.
-    #[tactic(auto, using(ipl_rules::proofs::ListLemmas::any_of_reversed))]
+    #[tactic(auto, using(crate::proofs::ListLemmas::any_of_reversed))]
     pub fn has_shared(&self, name: u32) -> bool
         ensures { result ≡ has_shared (session_of self.now) name }
     {

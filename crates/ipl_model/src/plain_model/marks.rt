@@ -3,12 +3,12 @@ ghost use Rattle.std.specs.Prelude.{◌≡◌, ◌≤◌, ◌+◌, ◌^◌, max,
 ghost use Rattle.std.specs.List.{sum};
 ghost use Rattle.ipl_base.specs.declared.limits.TheConstants.{LONG_WEIGHT, SLOTS, VALUE_LEN};
 ghost use Rattle.ipl_base.specs.Sizes.{size_in_page};
-ghost use Rattle.ipl_rules.specs.Marks.{marks_of, weight_of_mark, weights, fill_with};
+ghost use Rattle.ipl_model.specs.Marks.{marks_of, weight_of_mark, weights, fill_with};
 ghost use Rattle.ipl_model.specs.Plain.{newest_first, records_of, sizes_in, rooms_in, AreRecordSizes};
 
 use super::log::Write;
+use crate::weights::weight_of;
 use ipl_base::{SLOTS, UNIT_NAMES, Value};
-use ipl_rules::weight_of;
 use std::alloc::{AllocError, Global};
 
 /// The slots of a page, for arrays.

@@ -3,9 +3,9 @@ ghost use Rattle.std.specs.Prelude.{◌≡◌, ◌≤◌, ◌+◌, ◌∷◌, �
 ghost use Rattle.std.specs.List.{list_any};
 ghost use Rattle.ipl_base.specs.declared.limits.TheConstants.{VALUE_LEN};
 ghost use Rattle.ipl_base.specs.Sizes.{size_in_page};
-ghost use Rattle.ipl_rules.specs.State.{is_open, writes_of, shared_of, last_write, written_names, least_other, pending_writes};
-ghost use Rattle.ipl_rules.specs.Marks.{marks, overloads, overfills};
-ghost use Rattle.ipl_rules.specs.Refusals.{is_new_write, is_new_share};
+ghost use Rattle.ipl_model.specs.State.{is_open, writes_of, shared_of, last_write, written_names, least_other, pending_writes};
+ghost use Rattle.ipl_model.specs.Marks.{marks, overloads, overfills};
+ghost use Rattle.ipl_model.specs.Refusals.{is_new_write, is_new_share};
 ghost use Rattle.ipl_model.specs.Plain.{state_of, limits_of, keeps_from, newest_first};
 
 use super::PlainModel;
@@ -13,10 +13,10 @@ use super::locks::{Lock, holder, pending_writes};
 use super::log::Write;
 use super::marks::{fill, weights};
 use super::scan::{count_names, newest};
+use crate::numbers::{has_bad_session, least_twice};
 use ipl_base::{
     PAGE_LEN, PENDING_WEIGHT, Refusal, SESSION_NAMES, SLOTS, UNIT_NAMES, VALUE_LEN, Value,
 };
-use ipl_rules::{has_bad_session, least_twice};
 use std::alloc::AllocError;
 
 impl PlainModel {
@@ -118,7 +118,7 @@ impl PlainModel {
 }
 
 impl PlainModel {
-    ghost use Rattle.ipl_rules.specs.Refusals.{refuses_begin, refuses_get, refuses_share, refuses_put, refuses_del, refuses_end, refuses_batch, refuses_list, refuses_merge};
+    ghost use Rattle.ipl_model.specs.Refusals.{refuses_begin, refuses_get, refuses_share, refuses_put, refuses_del, refuses_end, refuses_batch, refuses_list, refuses_merge};
     ghost use Rattle.ipl_model.specs.Plain.{refuses_write};
 
     /// Whether there is no such name.

@@ -1,7 +1,7 @@
 //! Scans of a log of writes, the oldest of which stands first.
 ghost use Rattle.std.specs.Prelude.{◌≡◌, ◌≤◌, length, is_some};
 ghost use Rattle.std.specs.FinMap.{get};
-ghost use Rattle.ipl_rules.specs.State.{last_write, written_names};
+ghost use Rattle.ipl_model.specs.State.{last_write, written_names};
 ghost use Rattle.ipl_model.specs.Plain.{newest_first, records_of};
 
 use super::log::{Write, copied};

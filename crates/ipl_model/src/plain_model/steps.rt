@@ -1,8 +1,8 @@
 //! The steps of the plain model, a function for each command.
 ghost use Rattle.std.specs.Prelude.{◌≡◌, ◌∷◌, [], map, IfOk};
 ghost use Rattle.std.specs.FinMap.{get};
-ghost use Rattle.ipl_rules.specs.State.{see};
-ghost use Rattle.ipl_rules.specs.Operations.{rows};
+ghost use Rattle.ipl_model.specs.State.{see};
+ghost use Rattle.ipl_model.specs.Operations.{rows};
 ghost use Rattle.ipl_model.specs.Step.{found_reply, row_reply};
 ghost use Rattle.ipl_model.specs.Plain.{state_of, limits_of, IsStep};
 ghost use Rattle.ipl_model.specs.declared.command.Command.TheVariants as command;

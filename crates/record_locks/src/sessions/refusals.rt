@@ -2,17 +2,17 @@
 ghost use Rattle.std.specs.Prelude.{◌≡◌, ◌<◌, ◌+◌, length, nat_le, not};
 ghost use Rattle.std.specs.List.{find, list_any, range_with_len};
 ghost use Rattle.ipl_base.specs.declared.limits.TheConstants.{SESSIONS};
-ghost use Rattle.ipl_rules.specs.Marks.{overloads};
+ghost use Rattle.ipl_model.specs.Marks.{overloads};
 ghost use Rattle.record_locks.specs.Held.{marks_in};
-ghost use Rattle.ipl_rules.specs.State.{is_open, writes_of, shared_of, written_names};
-ghost use Rattle.ipl_rules.specs.Refusals.{is_new_write, is_new_share};
+ghost use Rattle.ipl_model.specs.State.{is_open, writes_of, shared_of, written_names};
+ghost use Rattle.ipl_model.specs.Refusals.{is_new_write, is_new_share};
 ghost use Rattle.record_locks.specs.Standing.{state_of};
 ghost use Rattle.record_locks.specs.Locks.{refuses_share, refuses_write, refuses_batch, refuses_close};
 
 use super::Sessions;
 use crate::session::is_listed;
 use ipl_base::{Name, PENDING_WEIGHT, Refusal, SESSIONS, UNIT_NAMES};
-use ipl_rules::{has_bad_session, least_twice, weight_of};
+use ipl_model::{has_bad_session, least_twice, weight_of};
 
 impl Sessions {
     /// Whether a session is open.

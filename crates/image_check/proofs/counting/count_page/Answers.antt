@@ -1,6 +1,6 @@
 use Rattle.std.proofs.Common.{◌∙◌, ap, is_some}
 use Rattle.ipl_format.specs.Page.{Slots, value_in}
-use Rattle.opening_laws.specs.First.{count_below}
+use Rattle.ipl_meaning.specs.First.{count_below}
 use Rattle.unit_io.specs.ReadsAt.{Anywhere}
 use Rattle.unit_io.proofs.ReadsAtLemmas.{at_wider}
 use Rattle.chip_trait.proofs.CountsLemmas.{counts_none}

@@ -1,6 +1,6 @@
 use Rattle.std.proofs.Common.{◌≡◌, ◌≤◌, is_some}
 use Rattle.ipl_format.specs.Page.{value_in}
-use Rattle.opening_laws.specs.First.{count_below}
+use Rattle.ipl_meaning.specs.First.{count_below}
 use Rattle.image_check.proofs.counting.count_slots.Given as goal
 
 abbrev pub invariant-loop-slot : goal.invariant-loop-slot

@@ -4,8 +4,8 @@ use Rattle.std.specs.Option.{option_map_or}
 use Rattle.std.specs.Prelude.{is_some}
 use Rattle.std.specs.Ordering.{nat_cmp}
 use Rattle.ipl_base.specs.declared.fault.Refusal.{Refusal}
-use Rattle.ipl_rules.specs.State.{writes_of}
-use Rattle.ipl_rules.proofs.SeenLemmas.{get-with_writes}
+use Rattle.ipl_model.specs.State.{writes_of}
+use Rattle.ipl_model.proofs.SeenLemmas.{get-with_writes}
 use Rattle.ipl_model.specs.declared.command.Command.TheVariants as command
 use Rattle.ipl_model.specs.declared.reply.Reply.TheVariants as reply
 use Rattle.ipl_model.specs.Step.{accepted}

@@ -2,7 +2,7 @@ use Rattle.std.proofs.Common.{◌≡◌, ◌<◌, inl, inr, ℕ, None, map, leng
 use Rattle.std.proofs.lemmas.Bool.{cases_lt}
 use Rattle.std.proofs.lemmas.List.{get_or-map}
 use Rattle.ipl_model.specs.Plain.{slot_of}
-use Rattle.ipl_rules.proofs.SlotLemmas.{opened_none}
+use Rattle.ipl_model.proofs.RuleSlotLemmas.{opened_none}
 use Rattle.ipl_model.proofs.SlotLemmas.{past_slots}
 use Rattle.ipl_model.proofs.plain_model.closed.Goals as goal
 

@@ -1,6 +1,6 @@
 use Rattle.std.proofs.Common.{◌+◌, ◌-◌, ◌∙◌, ℕ, length, ap, subst, arith}
 use Rattle.ipl_base.specs.Sizes.{size_in_page}
-use Rattle.ipl_rules.specs.Marks.{with_mark}
+use Rattle.ipl_model.specs.Marks.{with_mark}
 use Rattle.ipl_format.specs.Page.{Slots, value_in}
 use Rattle.record_locks.specs.Held.{marks_in}
 use Rattle.page_frames.proofs.FillLemmas.{marks_here, IsGrownSoFar, grown_first, grown_more, grown_same, grown_all, name_here}

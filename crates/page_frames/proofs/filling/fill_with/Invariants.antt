@@ -1,5 +1,5 @@
 use Rattle.std.specs.Prelude.{◌+◌}
-use Rattle.ipl_rules.specs.Marks.{with_mark}
+use Rattle.ipl_model.specs.Marks.{with_mark}
 use Rattle.record_locks.specs.Held.{marks_in}
 use Rattle.page_ops.specs.Frames.{values_in}
 use Rattle.page_frames.proofs.FillLemmas.{marks_here, IsGrownSoFar}

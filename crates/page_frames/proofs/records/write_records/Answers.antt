@@ -13,9 +13,9 @@ use Rattle.page_frames.proofs.RecordSpendLemmas.{unplaced_costs, placed_costs, r
 use Rattle.page_frames.proofs.SpotLemmas.{holds_then}
 use Rattle.page_frames.proofs.WearLemmas.{no_room_wears, room_wears}
 use Rattle.place_taking.proofs.WearLemmas.{wears_are_joined}
-use Rattle.merge_laws.specs.Known.{KnowsPlaces}
+use Rattle.selective_merge.specs.Known.{KnowsPlaces}
 use Rattle.ipl_base.specs.declared.fault.ChipFault.{ChipFault}
-use Rattle.step_laws.proofs.TablesLemmas.{tables_then}
+use Rattle.unit_io.proofs.TablesLemmas.{tables_then}
 use Rattle.ipl_base.specs.declared.spot.Spot.{Spot}
 use Rattle.page_frames.proofs.records.write_records.Goals as goal
 

@@ -1,7 +1,7 @@
 use Rattle.std.proofs.Common.{Err, ◌+◌, length, inl, ◌∙◌, arith}
 use Rattle.unit_log.specs.Paged.{page_spots, IsPageLogRead}
 use Rattle.unit_log.proofs.CountLemmas.{most_then, most_wider}
-use Rattle.step_laws.proofs.MapLemmas.{reads_keep_tables}
+use Rattle.unit_io.proofs.MapLemmas.{reads_keep_tables}
 use Rattle.page_rebuild.specs.Loaded.{IsLoadRead}
 use Rattle.page_rebuild.proofs.ReadLemmas.{within, both_read, log_read, few_at, log_allowed, both_allowed, rebuilt_cause, ok_then, ok_always}
 use Rattle.page_rebuild.proofs.LoadedLemmas.{count_is, known_by, known_as, page_of_map}

@@ -2,7 +2,7 @@ use Rattle.std.proofs.Common.{◌≡◌, ◌+◌, suc, map, length, ◌<◌, ◌
 use Rattle.std.specs.Option.{option_map}
 use Rattle.std.proofs.lemmas.List.{length-map}
 use Rattle.record_locks.specs.Standing.{slot_of, keeps_from}
-use Rattle.ipl_rules.proofs.SlotLemmas.{first_here, first_later, first_from}
+use Rattle.ipl_model.proofs.RuleSlotLemmas.{first_here, first_later, first_from}
 use Rattle.record_locks.proofs.SlotLemmas.{slot_read}
 use Rattle.record_locks.proofs.scan.find_holder.Goals as goal
 

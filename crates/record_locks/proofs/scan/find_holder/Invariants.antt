@@ -1,6 +1,6 @@
 use Rattle.std.proofs.Common.{◌≡◌, ◌==◌, ◌&&◌, not, map, drop}
 use Rattle.std.specs.Prelude.{find}
-use Rattle.ipl_rules.specs.Slots.{open_from}
+use Rattle.ipl_model.specs.Slots.{open_from}
 use Rattle.record_locks.specs.Standing.{slot_of, keeps_from}
 use Rattle.record_locks.proofs.scan.find_holder.Given as goal
 

@@ -2,7 +2,7 @@ use Rattle.std.proofs.Common.{◌≡◌, ◌+◌, ◌<◌, ◌==◌, ◌/◌, co
 use Rattle.std.proofs.Math.ListN.{get_or-map}
 use Rattle.std.proofs.lemmas.List.{length-map}
 use Rattle.ipl_base.specs.declared.name.Name.{Name}
-use Rattle.ipl_rules.specs.Marks.{weight_of_mark}
+use Rattle.ipl_model.specs.Marks.{weight_of_mark}
 use Rattle.record_locks.specs.Held.{weight_listed}
 use Rattle.record_locks.proofs.RankLemmas.{weight_next}
 use Rattle.record_locks.proofs.session.weigh.Goals as goal

@@ -4,7 +4,7 @@ use Rattle.std.specs.Bool.{OnTrue}
 use Rattle.log_records.specs.View.{Versioned}
 use Rattle.log_records.specs.Reading.{records_of}
 use Rattle.restart.specs.Joins.{joined}
-use Rattle.opening_laws.proofs.PayloadLemmas.{log_payloads_are_spelled}
+use Rattle.ipl_meaning.proofs.PayloadLemmas.{log_payloads_are_spelled}
 use Rattle.restart.proofs.CollectedLemmas.{kept_over, kept_joined}
 use Rattle.restart.proofs.collecting.collect.Goals as goal
 

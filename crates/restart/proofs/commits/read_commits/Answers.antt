@@ -1,5 +1,5 @@
 use Rattle.std.proofs.Common.{◌∙◌, ap, Ok}
-use Rattle.opening_laws.specs.Chosen.{KeptHeader}
+use Rattle.ipl_meaning.specs.Chosen.{KeptHeader}
 use Rattle.ipl_meaning.specs.Chart.{chart_of}
 use Rattle.txn_status.specs.ReadingIn.{IsCommitSpot}
 use Rattle.restart.proofs.LookLemmas.{looks_done}

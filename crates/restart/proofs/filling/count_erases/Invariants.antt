@@ -1,6 +1,6 @@
 use Rattle.std.proofs.Common.{◌≡◌, ◌<◌, ℕ, length}
 use Rattle.std.specs.Prelude.{slice_index}
-use Rattle.opening_laws.specs.First.{at}
+use Rattle.ipl_meaning.specs.First.{at}
 use Rattle.restart.specs.Filled.{erases_by, with_counts}
 use Rattle.restart.proofs.filling.count_erases.Given as goal
 

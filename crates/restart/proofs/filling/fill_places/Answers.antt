@@ -1,6 +1,6 @@
 use Rattle.std.proofs.Common.{◌≡◌, ◌∙◌, ◌||◌, ◌==◌, ◌+◌, ℕ, true, ap, sym, subst, arith, length, length-set}
 use Rattle.ipl_meaning.specs.Tables.{Places, with_use}
-use Rattle.opening_laws.specs.First.{count_below}
+use Rattle.ipl_meaning.specs.First.{count_below}
 use Rattle.restart.specs.Shown.{is_held}
 use Rattle.restart.specs.Filled.{is_home, is_used, AreUsed}
 use Rattle.restart.proofs.FillLemmas.{used_more}

@@ -1,6 +1,6 @@
 use Rattle.std.proofs.Common.{◌≡◌}
-use Rattle.opening_laws.specs.First.{all_below}
-use Rattle.opening_laws.specs.Found.{overflow_at}
+use Rattle.ipl_meaning.specs.First.{all_below}
+use Rattle.ipl_meaning.specs.FoundLogs.{overflow_at}
 use Rattle.restart.specs.Shown.{is_held}
 use Rattle.restart.proofs.filling.list_places.Given as goal
 

@@ -1,5 +1,5 @@
 use Rattle.std.proofs.Common.{◌≡◌, length}
-use Rattle.opening_laws.specs.First.{at}
+use Rattle.ipl_meaning.specs.First.{at}
 use Rattle.txn_status.specs.Marks.{counting}
 use Rattle.restart.specs.Counted.{SameHomes, AreUnitsMarked}
 use Rattle.restart.proofs.CountedLogLemmas.{AreLater}

@@ -1,5 +1,5 @@
 use Rattle.std.proofs.Common.{length}
-use Rattle.opening_laws.specs.First.{at}
+use Rattle.ipl_meaning.specs.First.{at}
 use Rattle.restart.proofs.HeaderLemmas.{units_there}
 use Rattle.restart.proofs.headers.check_headers.Goals as goal
 

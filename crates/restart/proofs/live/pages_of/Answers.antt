@@ -2,7 +2,7 @@ use Rattle.std.proofs.Common.{◌∙◌, ap}
 use Rattle.log_records.specs.Reading.{records_of}
 use Rattle.log_records.specs.View.{Versioned}
 use Rattle.ipl_meaning.specs.Masks.{mask_of}
-use Rattle.opening_laws.proofs.PayloadLemmas.{log_payloads_are_spelled}
+use Rattle.ipl_meaning.proofs.PayloadLemmas.{log_payloads_are_spelled}
 use Rattle.restart.proofs.live.pages_of.Goals as goal
 
 pub of-requires-clause-list : goal.of-requires-clause-list

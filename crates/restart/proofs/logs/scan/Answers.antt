@@ -3,8 +3,8 @@ use Rattle.std.proofs.lemmas.Grind.{common_steps}
 use Rattle.std.proofs.lemmas.Result.{err_from_is_err_and}
 use Rattle.ipl_meaning.specs.Chart.{chart_of}
 use Rattle.ipl_base.specs.First.{first_below}
-use Rattle.opening_laws.specs.First.{at}
-use Rattle.opening_laws.specs.Faults.{log_fault}
+use Rattle.ipl_meaning.specs.First.{at}
+use Rattle.ipl_meaning.specs.Faults.{log_fault}
 use Rattle.restart.specs.Notes.{AreSized}
 use Rattle.restart.specs.Masked.{mask_by}
 use Rattle.restart.proofs.LookLemmas.{reads_none, reads_then, looks_then, looks_done}

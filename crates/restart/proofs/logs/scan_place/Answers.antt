@@ -1,5 +1,5 @@
 use Rattle.std.proofs.Common.{rules, ◌≡◌, ◌∙◌, ◌+◌, ◌*◌, ℕ, subst, arith, length}
-use Rattle.opening_laws.specs.First.{at}
+use Rattle.ipl_meaning.specs.First.{at}
 use Rattle.restart.specs.Notes.{FitsNotes}
 use Rattle.restart.proofs.LookLemmas.{reads_then, looks_then, looks_done}
 use Rattle.restart.specs.Counted.{AreReadLogs}

@@ -1,6 +1,6 @@
 use Rattle.std.proofs.Common.{◌+◌, ◌*◌, ℕ, length, Option}
 use Rattle.unit_io.specs.Reads.{OfContents}
-use Rattle.opening_laws.specs.First.{at}
+use Rattle.ipl_meaning.specs.First.{at}
 use Rattle.restart.specs.Looks.{OnlyReads}
 use Rattle.restart.specs.Notes.{AreSized, FitsNotes}
 use Rattle.restart.specs.Counted.{SameHomes, StaysUnknown, AreHomes, AreReadLogs}

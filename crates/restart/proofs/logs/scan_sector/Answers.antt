@@ -1,8 +1,8 @@
 use Rattle.std.proofs.Common.{rules, ◌∙◌, ◌+◌, ◌*◌, false, None, sym, arith, refl, length, subst, ap, ℕ, List, get_or}
 use Rattle.std.proofs.lemmas.Result.{err_from_is_err_and}
 use Rattle.ipl_meaning.specs.Chart.{chart_of}
-use Rattle.opening_laws.specs.First.{at}
-use Rattle.opening_laws.specs.Live.{kept, is_log}
+use Rattle.ipl_meaning.specs.First.{at}
+use Rattle.ipl_meaning.specs.Live.{kept, is_log}
 use Rattle.unit_io.specs.Kinds.{sector_named}
 use Rattle.restart.proofs.LookLemmas.{reads_none, asked_reads, looks_missed, looks_weaker, looks_found, looks_done}
 use Rattle.restart.proofs.LogLemmas.{scanned_more, fault_found, none_seen, read_seen}

@@ -1,8 +1,8 @@
 use Rattle.std.proofs.Common.{rules, ◌≡◌, ◌∙◌, Option, Some, ap}
 use Rattle.ipl_format.specs.Sector.{Sector}
 use Rattle.sector_format.specs.Decode.{sector_of}
-use Rattle.opening_laws.specs.Found.{mask_of_sector}
-use Rattle.opening_laws.specs.Live.{kept, is_log}
+use Rattle.ipl_meaning.specs.FoundLogs.{mask_of_sector}
+use Rattle.ipl_meaning.specs.Live.{kept, is_log}
 use Rattle.unit_io.specs.Kinds.{sector_named}
 use Rattle.restart.specs.LogSpots.{live_found}
 use Rattle.restart.proofs.logs.take_found.Goals as goal

@@ -2,11 +2,11 @@ use Rattle.std.proofs.Common.{rules, ◌∙◌, ◌+◌, ◌*◌, ap, sym, subst
 use Rattle.ipl_format.specs.Sector.{Sector}
 use Rattle.sector_format.specs.Decode.{sector_of}
 use Rattle.std.specs.Option.{option_map}
-use Rattle.opening_laws.specs.First.{at, with_one}
-use Rattle.opening_laws.specs.Live.{mark_of, is_overflow_place}
-use Rattle.opening_laws.specs.Faults.{TellsImageFault, log_test}
-use Rattle.opening_laws.proofs.TellsLemmas.{tells_exit}
-use Rattle.opening_laws.specs.Found.{mask_of_sector}
+use Rattle.ipl_meaning.specs.First.{at, with_one}
+use Rattle.ipl_meaning.specs.Live.{mark_of, is_overflow_place}
+use Rattle.ipl_meaning.specs.Faults.{TellsImageFault, log_test}
+use Rattle.ipl_meaning.proofs.TellsLemmas.{tells_exit}
+use Rattle.ipl_meaning.specs.FoundLogs.{mask_of_sector}
 use Rattle.restart.specs.Joins.{joined}
 use Rattle.restart.specs.Collected.{records_at, AreKept}
 use Rattle.restart.specs.Notes.{IsNoted}

@@ -1,9 +1,9 @@
 use Rattle.std.proofs.Common.{Option, [], false, ◌≡◌, ◌<◌, ◌∙◌, ◌+◌, ◌*◌, ℕ, List, Some, take, get_or, refl, ap, arith, Ok, length, true, sym, subst}
 use Rattle.std.proofs.lemmas.List.{length-take-le}
 use Rattle.ipl_meaning.specs.Chart.{chart_of}
-use Rattle.opening_laws.specs.First.{at, count_below}
-use Rattle.opening_laws.proofs.TellsLemmas.{tells_again}
-use Rattle.opening_laws.proofs.OpenedLemmas.{opened_tables_mirror}
+use Rattle.ipl_meaning.specs.First.{at, count_below}
+use Rattle.ipl_meaning.proofs.TellsLemmas.{tells_again}
+use Rattle.ipl_meaning.proofs.OpenedLemmas.{opened_tables_mirror}
 use Rattle.unit_layout.specs.Retired.{may_be_retired}
 use Rattle.restart.specs.Kept.{retired_of}
 use Rattle.restart.specs.Shown.{ShowsHeaders, is_held}
@@ -21,16 +21,16 @@ use Rattle.restart.proofs.OpenedNumbersLemmas.{all_collected}
 use Rattle.restart.proofs.CleanLemmas.{unmarked, counts_marked}
 use Rattle.restart.specs.Counted.{IsReadLog, AreReadLogs}
 use Rattle.restart.proofs.CountedLogLemmas.{read_opened}
-use Rattle.opening_laws.specs.Marked.{last_close_mark}
-use Rattle.opening_laws.specs.Opened.{IsOpenedLog, AreOpened, tables_of}
+use Rattle.ipl_meaning.specs.Marked.{last_close_mark}
+use Rattle.ipl_meaning.specs.Opened.{IsOpenedLog, AreOpened, tables_of}
 use Rattle.ipl_meaning.specs.Layout.{Laid}
 use Rattle.ipl_meaning.specs.Mirrors.{Mirrors}
-use Rattle.opening_laws.specs.LaidOut.{layout_in}
+use Rattle.ipl_meaning.specs.LaidOut.{layout_in}
 use Rattle.unit_io.specs.Reads.{OfContents}
 use Rattle.restart.proofs.OnceLemmas.{headers_alone, all_once, status_unlogged}
 use Rattle.ipl_meaning.specs.Tables.{Tables}
-use Rattle.merge_laws.specs.Known.{KnowsPlaces}
-use Rattle.opening_laws.specs.Chosen.{KeptHeader, Winner}
+use Rattle.selective_merge.specs.Known.{KnowsPlaces}
+use Rattle.ipl_meaning.specs.Chosen.{KeptHeader, Winner}
 use Rattle.restart.specs.Collected.{AreCollected}
 use Rattle.restart.specs.Filled.{is_used, AreUsed, AreAdopted}
 use Rattle.restart.specs.Opened.{HasFree, IsUnmarked, CountsMarked}

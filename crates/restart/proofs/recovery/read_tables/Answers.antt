@@ -1,8 +1,8 @@
 use Rattle.std.proofs.Common.{◌∙◌, ◌+◌, ◌≡◌, ℕ, Bool, None, Err, rules, sym, subst}
 use Rattle.ipl_meaning.specs.Chart.{chart_of}
-use Rattle.opening_laws.specs.Faults.{TellsImageFault, first_fault}
-use Rattle.opening_laws.specs.Laws.{IsByteChart}
-use Rattle.opening_laws.specs.Opened.{tables_of}
+use Rattle.ipl_meaning.specs.Faults.{TellsImageFault, first_fault}
+use Rattle.ipl_meaning.specs.OpeningLaws.{IsByteChart}
+use Rattle.ipl_meaning.specs.Opened.{tables_of}
 use Rattle.restart.specs.Bytes.{ReadsBytes}
 use Rattle.restart.specs.Finds.{FindsStore}
 use Rattle.restart.proofs.recovery.read_tables.Goals.{in-Ok, in-Err}

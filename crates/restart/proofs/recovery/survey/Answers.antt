@@ -2,11 +2,11 @@ use Rattle.std.proofs.Common.{◌∙◌, ◌+◌, ◌≡◌, ℕ, None, Err, rul
 use Rattle.ipl_meaning.specs.Chart.{chart_of}
 use Rattle.ipl_meaning.specs.Layout.{Laid}
 use Rattle.ipl_meaning.specs.Mirrors.{Mirrors}
-use Rattle.merge_laws.specs.Known.{KnowsPlaces}
-use Rattle.opening_laws.specs.Faults.{TellsImageFault, shape_fault, greatest_found}
-use Rattle.opening_laws.specs.LaidOut.{layout_in}
-use Rattle.opening_laws.specs.Laws.{IsByteChart}
-use Rattle.opening_laws.specs.Opened.{tables_of}
+use Rattle.selective_merge.specs.Known.{KnowsPlaces}
+use Rattle.ipl_meaning.specs.Faults.{TellsImageFault, shape_fault, greatest_found}
+use Rattle.ipl_meaning.specs.LaidOut.{layout_in}
+use Rattle.ipl_meaning.specs.OpeningLaws.{IsByteChart}
+use Rattle.ipl_meaning.specs.Opened.{tables_of}
 use Rattle.restart.proofs.recovery.survey.Goals.{in-Ok, in-Err}
 use Rattle.restart.proofs.recovery.survey.Goals as goal
 

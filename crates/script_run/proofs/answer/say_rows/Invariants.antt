@@ -1,5 +1,5 @@
 use Rattle.std.proofs.Common.{◌≡◌, ◌≤◌, ◌<◌, ◌-◌, ◌*◌, true}
-use Rattle.ipl_rules.specs.State.{State, Limits}
+use Rattle.ipl_model.specs.State.{State, Limits}
 use Rattle.chip_trait.specs.Told.{History, adds_all}
 use Rattle.store_trait.specs.Keeping.{LOOK_UP_DRAWS}
 use Rattle.script_run.specs.Run.{SayingLeaves}

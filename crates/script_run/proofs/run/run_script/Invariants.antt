@@ -1,5 +1,5 @@
 use Rattle.std.proofs.Common.{◌≡◌, ◌≤◌, ◌-◌, ◌+◌, ◌*◌, max, List, ℕ, Some, Ok, true}
-use Rattle.ipl_rules.specs.State.{State, Limits}
+use Rattle.ipl_model.specs.State.{State, Limits}
 use Rattle.chip_trait.specs.Told.{History, Grew}
 use Rattle.store_trait.specs.Keeping.{FOUND_NUMBER, COMMAND_DRAWS, LeavesTidy}
 use Rattle.store_trait.specs.Onward.{Further}

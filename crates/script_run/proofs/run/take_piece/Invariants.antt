@@ -1,5 +1,5 @@
 use Rattle.std.proofs.Common.{◌*◌, ◌-◌, ◌≤◌, length, take}
-use Rattle.ipl_rules.specs.State.{State, Limits}
+use Rattle.ipl_model.specs.State.{State, Limits}
 use Rattle.chip_trait.specs.Told.{History}
 use Rattle.store_trait.specs.Keeping.{COMMAND_DRAWS}
 use Rattle.script_run.specs.Goes.{Goes, KeepsSome}

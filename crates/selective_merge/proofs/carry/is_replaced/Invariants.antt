@@ -1,7 +1,7 @@
 use Rattle.std.proofs.Common.{◌≡◌, ◌+◌, drop}
 use Rattle.std.specs.List.{list_any}
 use Rattle.ipl_meaning.specs.Values.{counts_for}
-use Rattle.merge_laws.specs.Packs.{among}
+use Rattle.selective_merge.specs.Packs.{among}
 use Rattle.selective_merge.proofs.carry.is_replaced.Given as goal
 
 -- none so far is

@@ -1,5 +1,5 @@
 use Rattle.std.proofs.Common.{drop}
-use Rattle.merge_laws.specs.Packs.{among}
+use Rattle.selective_merge.specs.Packs.{among}
 use Rattle.selective_merge.specs.Packing.{IsPacking}
 use Rattle.selective_merge.proofs.carry.pack_carried.Given as goal
 

@@ -8,7 +8,7 @@ use Rattle.ipl_format.specs.Sector.{Sector}
 use Rattle.unit_io.specs.Charts.{Charts, Gains}
 use Rattle.unit_io.specs.Costs.{ProgramsAt}
 use Rattle.unit_io.proofs.CostLemmas.{nothing_at, spends_at_most, spends_at_then, spends_none}
-use Rattle.merge_laws.specs.Packs.{log_sector, IsLogSpotBelow, HasLogs, payload_of}
+use Rattle.selective_merge.specs.Packs.{log_sector, IsLogSpotBelow, HasLogs, payload_of}
 use Rattle.selective_merge.specs.Writing.{KeepsLogs}
 use Rattle.selective_merge.proofs.ThroughoutLemmas.{charts_none, charts_then}
 use Rattle.selective_merge.proofs.WriteLemmas.{logs_none, logs_more, keeps_none, keeps_more, keeps_failed, log_named, same_log}

@@ -16,10 +16,10 @@ use Rattle.place_taking.specs.Spending.{tells_worn}
 use Rattle.place_taking.specs.Takes.{IsTakenFrom, with_places}
 use Rattle.place_taking.proofs.JoinLemmas.{costs_of_filled, taken_was_free, taken_within, tidy_taken}
 use Rattle.overflow.specs.Lists.{spots_in}
-use Rattle.merge_laws.specs.Faults.{IsTheFault}
-use Rattle.merge_laws.specs.Known.{KnowsPlaces}
-use Rattle.merge_laws.specs.Moved.{Source, IsAside, IsUnsealed}
-use Rattle.merge_laws.proofs.FaultLemmas.{all_alike, fault_as, fault_not_taken}
+use Rattle.selective_merge.specs.Faults.{IsTheFault}
+use Rattle.selective_merge.specs.Known.{KnowsPlaces}
+use Rattle.selective_merge.specs.Moved.{Source, IsAside, IsUnsealed}
+use Rattle.selective_merge.proofs.FaultLemmas.{all_alike, fault_as, fault_not_taken}
 use Rattle.selective_merge.specs.declared.parts.Parts.{Parts}
 use Rattle.selective_merge.specs.Homes.{MoveCause}
 use Rattle.selective_merge.specs.Merging.{RestsMerged}

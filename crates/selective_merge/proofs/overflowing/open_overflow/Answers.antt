@@ -12,7 +12,7 @@ use Rattle.place_taking.specs.Takes.{IsTakenFrom, with_places}
 use Rattle.place_taking.proofs.HomeLemmas.{homes_same, homes_then}
 use Rattle.place_taking.proofs.JoinLemmas.{costs_of_filled, fills_programs, taken_was_free, taken_within, tidy_taken}
 use Rattle.unit_directory.specs.Free.{aside}
-use Rattle.merge_laws.specs.Known.{KnowsPlaces}
+use Rattle.selective_merge.specs.Known.{KnowsPlaces}
 use Rattle.selective_merge.specs.Moving.{tables_of, set_aside}
 use Rattle.selective_merge.specs.Placing.{RestsOpened}
 use Rattle.selective_merge.proofs.CompleteLemmas.{used_then}

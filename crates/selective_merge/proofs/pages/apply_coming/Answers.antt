@@ -1,6 +1,6 @@
 use Rattle.std.proofs.Common.{refl, arith}
 use Rattle.ipl_format.specs.Page.{value_in}
-use Rattle.merge_laws.specs.Packs.{among}
+use Rattle.selective_merge.specs.Packs.{among}
 use Rattle.page_ops.proofs.RebuildLemmas.{making_first}
 use Rattle.selective_merge.proofs.PageLemmas.{made_all}
 use Rattle.selective_merge.proofs.pages.apply_coming.Goals as goal

@@ -1,6 +1,6 @@
 use Rattle.std.proofs.Common.{drop}
 use Rattle.ipl_format.specs.Page.{value_in}
-use Rattle.merge_laws.specs.Packs.{among}
+use Rattle.selective_merge.specs.Packs.{among}
 use Rattle.page_ops.specs.Rebuilt.{IsMaking}
 use Rattle.selective_merge.proofs.pages.apply_coming.Given as goal
 

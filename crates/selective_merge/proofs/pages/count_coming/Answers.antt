@@ -1,4 +1,4 @@
-use Rattle.merge_laws.specs.Packs.{among}
+use Rattle.selective_merge.specs.Packs.{among}
 use Rattle.selective_merge.proofs.PageLemmas.{none_coming}
 use Rattle.selective_merge.proofs.pages.count_coming.Goals as goal
 

@@ -1,5 +1,5 @@
 use Rattle.std.proofs.Common.{take}
-use Rattle.merge_laws.specs.Packs.{among}
+use Rattle.selective_merge.specs.Packs.{among}
 use Rattle.page_ops.specs.Rebuilt.{AreComing}
 use Rattle.selective_merge.proofs.pages.count_coming.Given as goal
 

@@ -1,4 +1,4 @@
-use Rattle.merge_laws.proofs.PacksLemmas.{among_test}
+use Rattle.selective_merge.proofs.PacksLemmas.{among_test}
 use Rattle.selective_merge.proofs.pages.is_committed.Goals as goal
 
 pub returns : goal.returns

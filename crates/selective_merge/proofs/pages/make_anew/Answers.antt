@@ -1,6 +1,6 @@
 use Rattle.std.proofs.Common.{◌≡◌, replicate, rules}
 use Rattle.ipl_format.specs.Page.{value_in}
-use Rattle.merge_laws.specs.Packs.{among}
+use Rattle.selective_merge.specs.Packs.{among}
 use Rattle.page_ops.proofs.RebuildLemmas.{none_comes}
 use Rattle.selective_merge.proofs.pages.make_anew.Goals as goal
 

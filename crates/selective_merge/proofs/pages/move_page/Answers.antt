@@ -13,10 +13,10 @@ use Rattle.selective_merge.proofs.PageMoveLemmas.{page_unread, page_moves, page_
 use Rattle.selective_merge.proofs.SpendLemmas.{spends_read, programs_behind}
 use Rattle.selective_merge.proofs.ThroughoutLemmas.{page_asked_at}
 use Rattle.unit_io.proofs.SparesLemmas.{spares_none, spares_behind}
-use Rattle.merge_laws.specs.Faults.{page_fault_from}
+use Rattle.selective_merge.specs.Faults.{page_fault_from}
 use Rattle.ipl_base.specs.declared.fault.ChipFault.{ChipFault}
 use Rattle.ipl_base.specs.declared.fault.ChipFault.TheVariants.{Malformed}
-use Rattle.merge_laws.proofs.FaultLemmas.{fault_as, page_told, page_fine, page_full, tells_written}
+use Rattle.selective_merge.proofs.FaultLemmas.{fault_as, page_told, page_fine, page_full, tells_written}
 use Rattle.selective_merge.proofs.MoveLemmas.{aside_none}
 use Rattle.selective_merge.proofs.PageLemmas.{rebased_fits}
 use Rattle.unit_io.specs.Spots.{IsPieceSpot}

@@ -4,7 +4,7 @@ use Rattle.std.proofs.lemmas.Result.{err_from_is_err_and}
 use Rattle.chip_trait.proofs.CountsLemmas.{counts_none, counts_then}
 use Rattle.unit_io.specs.Costs.{ProgramsAt}
 use Rattle.unit_io.proofs.CostLemmas.{nothing_at, spends_at_most, spends_at_then, spends_none}
-use Rattle.merge_laws.specs.Moved.{HasMoved, MovesPage, IsAside}
+use Rattle.selective_merge.specs.Moved.{HasMoved, MovesPage, IsAside}
 use Rattle.selective_merge.specs.Homes.{from_home}
 use Rattle.selective_merge.specs.Writing.{MovesOnePage}
 use Rattle.selective_merge.proofs.MoveLemmas.{few_none, few_more, moved_none, moved_more, moved_aside, aside_then}
@@ -15,10 +15,10 @@ use Rattle.std.specs.Prelude.{None}
 use Rattle.ipl_base.specs.First.{first_below}
 use Rattle.ipl_base.proofs.FirstLemmas.{first_more}
 use Rattle.unit_io.proofs.SparesLemmas.{spares_none, spares_then}
-use Rattle.merge_laws.specs.Faults.{page_fault_from}
-use Rattle.merge_laws.proofs.FaultLemmas.{fault_as, page_from_alike, first_page}
+use Rattle.selective_merge.specs.Faults.{page_fault_from}
+use Rattle.selective_merge.proofs.FaultLemmas.{fault_as, page_from_alike, first_page}
 use Rattle.selective_merge.proofs.TidyLemmas.{tidy_none, tidy_page_more, tidy_pages}
-use Rattle.merge_laws.specs.Pages.{IsBaseSpotBelow}
+use Rattle.selective_merge.specs.Pages.{IsBaseSpotBelow}
 use Rattle.selective_merge.proofs.pages.move_pages.Goals as goal
 
 pub loop-page-init : goal.loop-page-init

@@ -1,17 +1,17 @@
 use Rattle.std.proofs.Common.{◌≡◌, ◌*◌, ℕ, true, List, None, length}
 use Rattle.chip_trait.specs.Lawful.{Clean, age}
 use Rattle.chip_trait.specs.Told.{Told, History, Counts}
-use Rattle.ipl_rules.specs.State.{Map}
+use Rattle.ipl_model.specs.State.{Map}
 use Rattle.ipl_meaning.specs.Rests.{now, StoryRests}
 use Rattle.ipl_base.specs.First.{first_below}
 use Rattle.unit_io.specs.Charts.{Charts, Spares}
 use Rattle.unit_io.specs.Reads.{OfContents}
-use Rattle.merge_laws.specs.Faults.{page_fault_from}
+use Rattle.selective_merge.specs.Faults.{page_fault_from}
 use Rattle.unit_io.specs.Costs.{ProgramsAt, Spends}
 use Rattle.unit_io.specs.Leads.{IsSteady}
 use Rattle.unit_io.specs.Spots.{Programs}
-use Rattle.merge_laws.specs.Moved.{Source, HasMoved}
-use Rattle.merge_laws.specs.Pages.{IsBaseSpotBelow, IsFew}
+use Rattle.selective_merge.specs.Moved.{Source, HasMoved}
+use Rattle.selective_merge.specs.Pages.{IsBaseSpotBelow, IsFew}
 use Rattle.selective_merge.specs.Homes.{from_home}
 use Rattle.selective_merge.proofs.PageMoveLemmas.{MovedSoFar}
 use Rattle.selective_merge.proofs.pages.move_pages.Given as goal

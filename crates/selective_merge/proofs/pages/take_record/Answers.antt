@@ -1,6 +1,6 @@
 use Rattle.std.proofs.Common.{◌+◌, drop, sym, ◌∙◌}
 use Rattle.log_records.specs.View.{record_of}
-use Rattle.merge_laws.specs.Packs.{among}
+use Rattle.selective_merge.specs.Packs.{among}
 use Rattle.page_ops.proofs.RebuildLemmas.{making_past}
 use Rattle.selective_merge.specs.Logs.{nth_record}
 use Rattle.selective_merge.proofs.PageLemmas.{none_counted, made_next, taken_off, earlier_made, last_made, last_full}

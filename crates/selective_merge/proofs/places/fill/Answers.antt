@@ -6,12 +6,12 @@ use Rattle.log_records.specs.View.{Versioned}
 use Rattle.unit_io.specs.Charts.{Charts}
 use Rattle.unit_io.specs.Spots.{Programs}
 use Rattle.place_taking.specs.Fills.{FillsAt}
-use Rattle.merge_laws.specs.Moved.{IsAside}
+use Rattle.selective_merge.specs.Moved.{IsAside}
 use Rattle.selective_merge.specs.Homes.{from_home, MoveCause}
 use Rattle.selective_merge.specs.Throughout.{KeepsThroughout}
 use Rattle.selective_merge.specs.Writing.{DrawsSerials, GainsUnit, IsFilledSpot, WritesLogs, WritesPlace}
 use Rattle.selective_merge.proofs.FillLemmas.{pages_failed, logged, logs_failed, filled_told}
-use Rattle.merge_laws.proofs.FaultLemmas.{fault_as, fault_stopped}
+use Rattle.selective_merge.proofs.FaultLemmas.{fault_as, fault_stopped}
 use Rattle.place_taking.proofs.JoinLemmas.{fills_programs, fills_then}
 use Rattle.unit_io.proofs.SparesLemmas.{spares_then}
 use Rattle.selective_merge.proofs.PlaceLemmas.{stopped_unmoved}

@@ -9,9 +9,9 @@ use Rattle.unit_io.specs.Charts.{Charts}
 use Rattle.selective_merge.specs.Throughout.{ChartsThroughout}
 use Rattle.selective_merge.specs.Writing.{FillsPlace, GainsUnit, IsSealed, SealsUnit, TellsWritten}
 use Rattle.selective_merge.proofs.SealLemmas.{unit_written, written_told, fill_failed}
-use Rattle.merge_laws.specs.Faults.{pages_fault}
-use Rattle.merge_laws.specs.Moved.{IsAside}
-use Rattle.merge_laws.proofs.FaultLemmas.{fault_as, tells_written}
+use Rattle.selective_merge.specs.Faults.{pages_fault}
+use Rattle.selective_merge.specs.Moved.{IsAside}
+use Rattle.selective_merge.proofs.FaultLemmas.{fault_as, tells_written}
 use Rattle.unit_io.proofs.SparesLemmas.{spares_behind}
 use Rattle.selective_merge.proofs.PlaceLemmas.{stopped_unmoved, where_done}
 use Rattle.selective_merge.proofs.TidyLemmas.{tidy_sealed, tidy_unsealed}

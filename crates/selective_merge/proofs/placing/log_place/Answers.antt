@@ -6,7 +6,7 @@ use Rattle.ipl_meaning.specs.Mirrors.{Mirrors}
 use Rattle.ipl_meaning.specs.Tables.{Tables}
 use Rattle.overflow.specs.Lists.{spots_in}
 use Rattle.unit_log.specs.Looks.{IsLogRead}
-use Rattle.merge_laws.proofs.FaultLemmas.{fault_unread}
+use Rattle.selective_merge.proofs.FaultLemmas.{fault_unread}
 use Rattle.selective_merge.specs.Moving.{tables_of}
 use Rattle.selective_merge.specs.Placing.{IsElsewhere, IsMergedSpot, IsPlaced, PlacesLog}
 use Rattle.selective_merge.specs.Spotting.{HasHomeSpot}

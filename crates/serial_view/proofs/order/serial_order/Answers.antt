@@ -1,6 +1,6 @@
 use Rattle.std.proofs.Common.{◌≡◌, ◌<◌, length, refl, ap, subst, arith}
 use Rattle.std.proofs.lemmas.List.{get_or_read}
-use Rattle.ipl_rules.specs.State.{State, at_rest}
+use Rattle.ipl_model.specs.State.{State, at_rest}
 use Rattle.ipl_model.specs.declared.command.Command.TheVariants as command
 use Rattle.ipl_model.specs.Plain.{state_of, limits_for}
 use Rattle.serial_view.specs.Serial.{met_at}

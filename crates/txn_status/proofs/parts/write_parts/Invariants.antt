@@ -1,7 +1,7 @@
 use Rattle.std.proofs.Common.{◌≡◌, ◌+◌, ℕ, true, List, None, Ok}
 use Rattle.chip_trait.specs.Lawful.{Clean, age}
 use Rattle.chip_trait.specs.Told.{Told, History, Counts}
-use Rattle.ipl_rules.specs.State.{Map}
+use Rattle.ipl_model.specs.State.{Map}
 use Rattle.ipl_meaning.specs.Rests.{now, StoryRests}
 use Rattle.unit_io.specs.Leads.{IsSteady}
 use Rattle.unit_io.specs.Costs.{ProgramsAt, Spends}

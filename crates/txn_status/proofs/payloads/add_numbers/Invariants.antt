@@ -1,5 +1,5 @@
 use Rattle.std.proofs.Common.{◌≡◌, ◌≤◌, ◌+◌, length}
-use Rattle.opening_laws.specs.Payloads.{numbers_within}
+use Rattle.ipl_meaning.specs.Payloads.{numbers_within}
 use Rattle.number_set.specs.Numbers.{with_list, with_numbers}
 use Rattle.txn_status.proofs.payloads.add_numbers.Given as goal
 

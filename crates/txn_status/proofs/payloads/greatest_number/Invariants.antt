@@ -1,6 +1,6 @@
 use Rattle.std.proofs.Common.{◌≡◌}
-use Rattle.opening_laws.specs.First.{greatest_of}
-use Rattle.opening_laws.specs.Payloads.{numbers_within}
+use Rattle.ipl_meaning.specs.First.{greatest_of}
+use Rattle.ipl_meaning.specs.Payloads.{numbers_within}
 use Rattle.txn_status.proofs.payloads.greatest_number.Given as goal
 
 abbrev pub invariant-loop-i : goal.invariant-loop-i

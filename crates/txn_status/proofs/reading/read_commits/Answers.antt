@@ -2,12 +2,12 @@ use Rattle.std.proofs.Common.{◌≡◌, ◌∙◌, ◌≤◌, ◌<◌, ℕ, [],
 use Rattle.std.proofs.lemmas.Result.{err_from_is_err_and}
 use Rattle.ipl_meaning.specs.Chart.{chart_of}
 use Rattle.ipl_base.specs.First.{first_below}
-use Rattle.opening_laws.specs.First.{joined_below}
-use Rattle.opening_laws.specs.LaidOut.{numbers_of}
-use Rattle.opening_laws.specs.Live.{sectors, commit_at}
-use Rattle.opening_laws.specs.Faults.{noted_fault, greatest_of_notes}
+use Rattle.ipl_meaning.specs.First.{joined_below}
+use Rattle.ipl_meaning.specs.LaidOut.{numbers_of}
+use Rattle.ipl_meaning.specs.Live.{sectors, commit_at}
+use Rattle.ipl_meaning.specs.Faults.{noted_fault, greatest_of_notes}
 use Rattle.ipl_base.proofs.FirstLemmas.{first_more, first_found}
-use Rattle.opening_laws.proofs.LiveLemmas.{sectors_are}
+use Rattle.ipl_meaning.proofs.LiveLemmas.{sectors_are}
 use Rattle.number_set.specs.Numbers.{with_numbers}
 use Rattle.txn_status.specs.ReadingIn.{under}
 use Rattle.txn_status.specs.Marks.{marks_below}

@@ -4,10 +4,10 @@ use Rattle.ipl_meaning.specs.Chart.{chart_of}
 use Rattle.unit_io.specs.Reads.{OfContents}
 use Rattle.unit_io.specs.ReadsAt.{ReadsAt, ReadsOnce}
 use Rattle.ipl_base.specs.First.{first_below}
-use Rattle.opening_laws.specs.First.{joined_below}
-use Rattle.opening_laws.specs.Live.{commit_at}
-use Rattle.opening_laws.specs.LaidOut.{numbers_of}
-use Rattle.opening_laws.specs.Faults.{noted_fault, greatest_of_notes}
+use Rattle.ipl_meaning.specs.First.{joined_below}
+use Rattle.ipl_meaning.specs.Live.{commit_at}
+use Rattle.ipl_meaning.specs.LaidOut.{numbers_of}
+use Rattle.ipl_meaning.specs.Faults.{noted_fault, greatest_of_notes}
 use Rattle.ipl_format.specs.Whole.{IsWhole}
 use Rattle.number_set.specs.Numbers.{Numbers, with_numbers}
 use Rattle.txn_status.specs.ReadingIn.{under, IsCommitSpot}

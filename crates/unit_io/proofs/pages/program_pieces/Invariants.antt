@@ -1,6 +1,6 @@
 use Rattle.std.proofs.Common.{ℕ, List, true}
 use Rattle.chip_trait.specs.Told.{Told, History, Counts}
-use Rattle.ipl_rules.specs.State.{Map}
+use Rattle.ipl_model.specs.State.{Map}
 use Rattle.unit_io.specs.Leads.{IsSteady}
 use Rattle.unit_io.specs.Charts.{Charts, Spares, HasPieces}
 use Rattle.unit_io.specs.Plain.{AddsPlain}

@@ -1,6 +1,6 @@
 use Rattle.std.proofs.Common.{◌≡◌, ◌∙◌, ℕ, refl, sym}
 use Rattle.ipl_meaning.specs.Chart.{chart_of}
-use Rattle.opening_laws.specs.LaidOut.{layout_in}
+use Rattle.ipl_meaning.specs.LaidOut.{layout_in}
 use Rattle.unit_io.specs.ReadsAt.{Anywhere}
 use Rattle.unit_io.proofs.ReadsAtLemmas.{at_then}
 use Rattle.image_check.proofs.EndLemmas.{all_tables, sized_by, looked_tells, looked_cause, counted_tells, counted_cause, all_checked}

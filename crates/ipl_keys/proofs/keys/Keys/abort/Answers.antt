@@ -1,5 +1,5 @@
-use Rattle.ipl_rules.specs.Operations.{after_abort}
-use Rattle.ipl_rules.specs.Refusals.{refuses_end}
+use Rattle.ipl_model.specs.Operations.{after_abort}
+use Rattle.ipl_model.specs.Refusals.{refuses_end}
 use Rattle.record_locks.specs.Standing.{state_of}
 use Rattle.store_laws.specs.Keeps.{limits_of}
 use Rattle.ipl_store.specs.Calls.{early_fault, down_fault}

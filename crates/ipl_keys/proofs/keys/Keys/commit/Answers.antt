@@ -1,7 +1,7 @@
 use Rattle.std.specs.Prelude.{◌^◌}
 use Rattle.store_laws.proofs.FitLemmas.{sessions_are_sound}
-use Rattle.ipl_rules.specs.Operations.{after_commit}
-use Rattle.ipl_rules.specs.Refusals.{refuses_end}
+use Rattle.ipl_model.specs.Operations.{after_commit}
+use Rattle.ipl_model.specs.Refusals.{refuses_end}
 use Rattle.record_locks.specs.Standing.{state_of}
 use Rattle.store_laws.specs.Keeps.{limits_of}
 use Rattle.ipl_store.specs.Calls.{early_fault, entry_fault}

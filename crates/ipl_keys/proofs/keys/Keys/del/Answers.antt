@@ -1,7 +1,7 @@
 use Rattle.std.proofs.Common.{◌∙◌, Result, Err, None, inr, subst, ap, take}
 use Rattle.std.proofs.lemmas.Result.{err_from_is_err_and}
-use Rattle.key_buckets.specs.Pairs.{remove_pair}
-use Rattle.key_buckets.specs.Home.{bucket_of}
+use Rattle.ipl_keys.specs.BucketPairs.{remove_pair}
+use Rattle.ipl_keys.specs.BucketHome.{bucket_of}
 use Rattle.ipl_keys.specs.Calls.{bad_key, early_key_fault, Dels, IsBucketWritten}
 use Rattle.ipl_keys.proofs.ReadLemmas.{bad_key_is_good, named}
 use Rattle.ipl_keys.specs.declared.fault.KeyFault.{KeyFault}

@@ -2,8 +2,8 @@ use Rattle.ipl_store.specs.Calls.{IsSound}
 use Rattle.chip_trait.proofs.CountsLemmas.{counts_none}
 use Rattle.std.proofs.Common.{ℕ, sym, subst, ◌∙◌, Result, ◌⊎◌, Err, Some, inl, inr, refl, ap, take}
 use Rattle.std.proofs.lemmas.Result.{err_from_is_err_and}
-use Rattle.key_buckets.specs.Pairs.{set_pair}
-use Rattle.key_buckets.specs.Home.{bucket_of}
+use Rattle.ipl_keys.specs.BucketPairs.{set_pair}
+use Rattle.ipl_keys.specs.BucketHome.{bucket_of}
 use Rattle.ipl_keys.specs.Calls.{bad_pair, early_key_fault, Puts, IsFull, IsBucketWritten}
 use Rattle.ipl_keys.proofs.ReadLemmas.{bad_pair_is_good, named}
 use Rattle.ipl_keys.specs.declared.fault.KeyFault.{KeyFault}

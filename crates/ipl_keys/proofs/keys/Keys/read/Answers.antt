@@ -2,7 +2,7 @@ use Rattle.std.proofs.Common.{Ok, Err, refl, subst}
 use Rattle.std.proofs.lemmas.Bool.{false≢true}
 use Rattle.ipl_store.specs.Calls.{get_fault}
 use Rattle.ipl_store.proofs.CallLemmas.{calls_as, calls_fail_as}
-use Rattle.key_buckets.specs.Bucket.{IsBucketText}
+use Rattle.ipl_keys.specs.Bucket.{IsBucketText}
 use Rattle.ipl_keys.proofs.ReadLemmas.{done_hands, read_calls}
 use Rattle.ipl_keys.proofs.keys.Keys.read.Goals as goal
 

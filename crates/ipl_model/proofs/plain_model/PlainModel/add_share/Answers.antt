@@ -1,7 +1,7 @@
 use Rattle.std.proofs.Common.{◌≡◌, ◌<◌, ◌∷◌, [], List, ℕ, length, reverse, Option, Some, set, sym, ◌∙◌, ap, arith}
 use Rattle.std.specs.FinMap.{empty}
 use Rattle.std.proofs.lemmas.List.{reverse-append}
-use Rattle.ipl_rules.specs.State.{with_writes}
+use Rattle.ipl_model.specs.State.{with_writes}
 use Rattle.ipl_model.specs.declared.plain_model.log.LoggedSession as plain
 use Rattle.ipl_model.specs.Plain.{state_of, newest_first, slot_of}
 use Rattle.ipl_model.proofs.ChangeLemmas.{standing, on_err, keeps, changes, changes_nothing}

@@ -1,6 +1,6 @@
 use Rattle.std.proofs.Common.{◌≡◌, ◌<◌, ◌∷◌, [], List, length, reverse, Option, Some, set, sym, ◌∙◌, ap, arith}
 use Rattle.std.specs.FinMap.{empty}
-use Rattle.ipl_rules.specs.State.{Write, with_writes}
+use Rattle.ipl_model.specs.State.{Write, with_writes}
 use Rattle.ipl_model.specs.declared.plain_model.log.Write as plain
 use Rattle.ipl_model.specs.declared.plain_model.log.LoggedSession.{LoggedSession}
 use Rattle.ipl_model.specs.Plain.{state_of, newest_first, slot_of}

@@ -1,6 +1,6 @@
 use Rattle.std.proofs.Common.{List, ◌∙◌, ap}
-use Rattle.ipl_rules.specs.State.{State, Write}
-use Rattle.ipl_rules.proofs.BatchLemmas.{batches_name_once, distinct}
+use Rattle.ipl_model.specs.State.{State, Write}
+use Rattle.ipl_model.proofs.RuleBatchLemmas.{batches_name_once, distinct}
 use Rattle.ipl_model.specs.Plain.{state_of, limits_of, with_records, with_closed}
 use Rattle.ipl_model.proofs.BatchLemmas.{batch_is}
 use Rattle.ipl_model.proofs.plain_model.PlainModel.apply_batch.Goals as goal

@@ -1,6 +1,6 @@
 use Rattle.std.proofs.Common.{List, ◌∙◌, ap}
 use Rattle.std.specs.FinMap.{empty}
-use Rattle.ipl_rules.specs.State as rules
+use Rattle.ipl_model.specs.State as rules
 use Rattle.ipl_model.specs.declared.plain_model.log.Write.{Write}
 use Rattle.ipl_model.specs.Plain.{state_of, newest_first}
 use Rattle.ipl_model.proofs.ChangeLemmas.{standing, with_writes-append, on_err}

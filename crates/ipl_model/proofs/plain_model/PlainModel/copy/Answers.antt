@@ -1,7 +1,7 @@
 use Rattle.std.proofs.Common.{◌≡◌, map, ◌∙◌, ap}
 use Rattle.std.specs.FinMap.{empty}
-use Rattle.ipl_rules.specs.State as rules
-use Rattle.ipl_rules.specs.Slots.{opened}
+use Rattle.ipl_model.specs.State as rules
+use Rattle.ipl_model.specs.Slots.{opened}
 use Rattle.ipl_model.specs.Plain.{state_of, newest_first, slot_of}
 use Rattle.ipl_model.proofs.plain_model.PlainModel.copy.Goals as goal
 

@@ -1,9 +1,9 @@
 use Rattle.std.proofs.Common.{◌==◌, ◌&&◌, not, ◌∙◌, ap, sym, List, ℕ, map}
 use Rattle.std.specs.Prelude.{find}
 use Rattle.std.specs.Option.{option_map}
-use Rattle.ipl_rules.specs.State.{Session}
+use Rattle.ipl_model.specs.State.{Session}
 use Rattle.ipl_model.specs.Plain.{state_of, slot_of, keeps_from}
-use Rattle.ipl_rules.proofs.SlotLemmas.{entries-opened}
+use Rattle.ipl_model.proofs.RuleSlotLemmas.{entries-opened}
 use Rattle.ipl_model.proofs.plain_model.PlainModel.holder.Goals as goal
 
 pub returns : goal.returns

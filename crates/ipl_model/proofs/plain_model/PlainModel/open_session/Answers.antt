@@ -1,6 +1,6 @@
 use Rattle.std.proofs.Common.{◌<◌, length, ◌∙◌, arith}
 use Rattle.std.specs.FinMap.{empty, insert}
-use Rattle.ipl_rules.specs.State.{with_writes}
+use Rattle.ipl_model.specs.State.{with_writes}
 use Rattle.ipl_model.specs.Plain.{state_of, newest_first}
 use Rattle.ipl_model.proofs.ChangeLemmas.{opens, standing}
 use Rattle.ipl_model.proofs.plain_model.PlainModel.open_session.Goals as goal

@@ -1,7 +1,7 @@
 use Rattle.std.proofs.Common.{◌∷◌, ◌/◌, nat_lt, ℕ, List, Option, Some, ◌∙◌, ap}
 use Rattle.ipl_base.specs.declared.limits.TheConstants.{PAGE_LEN, SLOTS, VALUE_LEN}
-use Rattle.ipl_rules.specs.State as rules
-use Rattle.ipl_rules.specs.Marks.{marks_of, fill_with}
+use Rattle.ipl_model.specs.State as rules
+use Rattle.ipl_model.specs.Marks.{marks_of, fill_with}
 use Rattle.ipl_model.specs.declared.plain_model.log.Write as plain
 use Rattle.ipl_model.specs.Plain.{state_of, newest_first, records_of}
 use Rattle.ipl_model.proofs.MarkLemmas.{of_is}

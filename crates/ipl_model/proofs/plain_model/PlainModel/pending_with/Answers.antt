@@ -1,9 +1,9 @@
 use Rattle.std.proofs.Common.{◌∷◌, [], List, ◌∙◌, ap, sym, map}
 use Rattle.std.specs.List.{flat_map}
-use Rattle.ipl_rules.specs.State as rules
+use Rattle.ipl_model.specs.State as rules
 use Rattle.ipl_model.specs.declared.plain_model.log.Write as plain
 use Rattle.ipl_model.specs.Plain.{state_of, newest_first, slot_of}
-use Rattle.ipl_rules.proofs.SlotLemmas.{entries-opened}
+use Rattle.ipl_model.proofs.RuleSlotLemmas.{entries-opened}
 use Rattle.ipl_model.proofs.LogLemmas.{newest_first-append}
 use Rattle.ipl_model.proofs.plain_model.PlainModel.pending_with.Goals as goal
 

@@ -1,5 +1,5 @@
 use Rattle.std.proofs.Common.{◌≡◌, map}
-use Rattle.ipl_rules.specs.Operations.{rows_from}
+use Rattle.ipl_model.specs.Operations.{rows_from}
 use Rattle.ipl_model.specs.Step.{row_reply}
 use Rattle.ipl_model.specs.Plain.{state_of}
 use Rattle.ipl_model.proofs.plain_model.PlainModel.rows.Given as goal

@@ -1,6 +1,6 @@
 use Rattle.std.proofs.Common.{map, ◌∙◌, ap, sym}
 use Rattle.ipl_model.specs.Plain.{state_of, slot_of}
-use Rattle.ipl_rules.proofs.SlotLemmas.{opened_at}
+use Rattle.ipl_model.proofs.RuleSlotLemmas.{opened_at}
 use Rattle.ipl_model.proofs.SlotLemmas.{slot_read, past_slots}
 use Rattle.ipl_model.proofs.plain_model.PlainModel.session.Goals as goal
 

@@ -2,7 +2,7 @@ use Rattle.std.proofs.Common.{◌≡◌, ◌+◌, suc, map, length, ◌<◌, ◌
 use Rattle.std.specs.Option.{option_map}
 use Rattle.std.proofs.lemmas.List.{length-map}
 use Rattle.ipl_model.specs.Plain.{slot_of, keeps_from}
-use Rattle.ipl_rules.proofs.SlotLemmas.{first_here, first_later, first_from}
+use Rattle.ipl_model.proofs.RuleSlotLemmas.{first_here, first_later, first_from}
 use Rattle.ipl_model.proofs.SlotLemmas.{slot_read}
 use Rattle.ipl_model.proofs.plain_model.locks.holder.Goals as goal
 

@@ -1,6 +1,6 @@
 use Rattle.std.proofs.Common.{◌≡◌, ◌==◌, ◌&&◌, not, map, drop}
 use Rattle.std.specs.Prelude.{find}
-use Rattle.ipl_rules.specs.Slots.{open_from}
+use Rattle.ipl_model.specs.Slots.{open_from}
 use Rattle.ipl_model.specs.Plain.{slot_of, keeps_from}
 use Rattle.ipl_model.proofs.plain_model.locks.holder.Given as goal
 

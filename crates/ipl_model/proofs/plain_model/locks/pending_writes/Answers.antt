@@ -1,9 +1,9 @@
 use Rattle.std.proofs.Common.{◌≡◌, ◌<◌, ◌-◌, suc, ◌++◌, [], map, length, ◌∙◌, ap, sym, arith, List}
 use Rattle.std.specs.Option.{option_map_or}
 use Rattle.std.proofs.lemmas.List.{length-map}
-use Rattle.ipl_rules.specs.State as rules
+use Rattle.ipl_model.specs.State as rules
 use Rattle.ipl_model.specs.Plain.{slot_of}
-use Rattle.ipl_rules.proofs.SlotLemmas.{writes_next, writes_from}
+use Rattle.ipl_model.proofs.RuleSlotLemmas.{writes_next, writes_from}
 use Rattle.ipl_model.proofs.SlotLemmas.{slot_read}
 use Rattle.ipl_model.proofs.plain_model.locks.pending_writes.Goals as goal
 

@@ -1,6 +1,6 @@
 use Rattle.std.proofs.Common.{◌≡◌, ◌≤◌, map, drop, length}
 use Rattle.std.specs.List.{flat_map}
-use Rattle.ipl_rules.specs.Slots.{open_from}
+use Rattle.ipl_model.specs.Slots.{open_from}
 use Rattle.ipl_model.specs.Plain.{newest_first, slot_of}
 use Rattle.ipl_model.proofs.plain_model.locks.pending_writes.Given as goal
 

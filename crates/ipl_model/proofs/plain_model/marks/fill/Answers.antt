@@ -3,7 +3,7 @@ use Rattle.std.specs.List.{sum, range_with_len}
 use Rattle.std.proofs.lemmas.List.Sums.{sum-map}
 use Rattle.ipl_base.specs.declared.limits.TheConstants.{SLOTS}
 use Rattle.ipl_base.specs.Sizes.{size_in_page}
-use Rattle.ipl_rules.specs.Marks.{marks_of, values_at, marks_at, fill_of}
+use Rattle.ipl_model.specs.Marks.{marks_of, values_at, marks_at, fill_of}
 use Rattle.ipl_model.specs.Plain.{newest_first, records_of}
 use Rattle.ipl_model.proofs.plain_model.marks.fill.Goals as goal
 

@@ -1,6 +1,6 @@
 use Rattle.std.proofs.Common.{◌≡◌, ◌≤◌, ◌+◌, take}
 use Rattle.ipl_base.specs.declared.limits.TheConstants.{VALUE_LEN}
-use Rattle.ipl_rules.specs.Marks.{marks_of}
+use Rattle.ipl_model.specs.Marks.{marks_of}
 use Rattle.ipl_model.specs.Plain.{newest_first}
 use Rattle.ipl_model.proofs.plain_model.marks.mark_of.Given as goal
 

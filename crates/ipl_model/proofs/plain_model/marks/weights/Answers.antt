@@ -1,6 +1,6 @@
 use Rattle.std.proofs.Common.{◌+◌, take, sym, arith}
-use Rattle.ipl_rules.specs.Marks.{marks_of}
-use Rattle.ipl_rules.proofs.WeightLemmas.{weights_none, weights_most}
+use Rattle.ipl_model.specs.Marks.{marks_of}
+use Rattle.ipl_model.proofs.WeightLemmas.{weights_none, weights_most}
 use Rattle.ipl_model.specs.Plain.{newest_first}
 use Rattle.ipl_model.proofs.MarkLemmas.{log_weighs_more, log_weighs_same}
 use Rattle.ipl_model.proofs.plain_model.marks.weights.Goals.{then-write-unit, else-write-unit}

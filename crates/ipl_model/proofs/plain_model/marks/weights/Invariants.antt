@@ -1,5 +1,5 @@
 use Rattle.std.proofs.Common.{◌≡◌, take}
-use Rattle.ipl_rules.specs.Marks.{marks_of, weights}
+use Rattle.ipl_model.specs.Marks.{marks_of, weights}
 use Rattle.ipl_model.specs.Plain.{newest_first}
 use Rattle.ipl_model.proofs.plain_model.marks.weights.Given as goal
 

@@ -1,5 +1,5 @@
 use Rattle.std.proofs.Common.{◌≡◌, ◌≤◌, length, take}
-use Rattle.ipl_rules.specs.State.{written_names}
+use Rattle.ipl_model.specs.State.{written_names}
 use Rattle.ipl_model.specs.Plain.{newest_first}
 use Rattle.ipl_model.proofs.plain_model.scan.count_names.Given as goal
 

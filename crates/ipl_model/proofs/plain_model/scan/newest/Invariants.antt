@@ -1,5 +1,5 @@
 use Rattle.std.proofs.Common.{◌≡◌, take}
-use Rattle.ipl_rules.specs.State.{last_write}
+use Rattle.ipl_model.specs.State.{last_write}
 use Rattle.ipl_model.specs.Plain.{newest_first}
 use Rattle.ipl_model.proofs.plain_model.scan.newest.Given as goal
 

@@ -1,7 +1,7 @@
 use Rattle.std.proofs.Common.{◌≡◌, ◌∙◌, None, sym, ap, arith, Some, Err, refl}
 use Rattle.std.proofs.lemmas.Result.{err_from_is_err_and}
-use Rattle.ipl_rules.specs.Operations.{after_begin}
-use Rattle.ipl_rules.specs.Refusals.{refuses_begin}
+use Rattle.ipl_model.specs.Operations.{after_begin}
+use Rattle.ipl_model.specs.Refusals.{refuses_begin}
 use Rattle.record_locks.specs.Standing.{state_of}
 use Rattle.store_laws.specs.Keeps.{limits_of}
 use Rattle.ipl_store.specs.Calls.{early_fault, entry_fault}

@@ -1,14 +1,14 @@
 use Rattle.std.proofs.Common.{◌≡◌, ◌∙◌, ◌^◌, [], ◌∷◌, Bool, Some, None, Err, refl, sym, ap, subst}
 use Rattle.std.proofs.lemmas.Result.{err_from_is_err_and}
-use Rattle.ipl_rules.specs.Operations.{after_commit}
-use Rattle.ipl_rules.specs.Refusals.{refuses_end}
+use Rattle.ipl_model.specs.Operations.{after_commit}
+use Rattle.ipl_model.specs.Refusals.{refuses_end}
 use Rattle.record_locks.specs.Standing.{state_of}
 use Rattle.store_laws.specs.Keeps.{limits_of}
 use Rattle.store_laws.proofs.RefusalLemmas.{one_is_open}
 use Rattle.ipl_store.specs.Calls.{early_fault, entry_fault}
 use Rattle.ipl_store.proofs.CallLemmas.{early_unworn, let_in, turns_move, moved_calls, kept_holds, kept_framed, ended_asks, calls_refused}
-use Rattle.transactions.specs.Costs.{CommitAsks}
-use Rattle.transactions.proofs.CostLemmas.{empty_asks}
+use Rattle.ipl_store.specs.Costs.{CommitAsks}
+use Rattle.ipl_store.proofs.CostLemmas.{empty_asks}
 use Rattle.ipl_store.proofs.store.Store.commit.Goals as goal
 
 pub commit-done-requires-clause-open : goal.commit-done-requires-clause-open

@@ -1,13 +1,13 @@
 use Rattle.std.proofs.Common.{◌≡◌, ◌∙◌, ◌^◌, Bool, Some, None, Err, refl, sym, ap, subst}
 use Rattle.std.proofs.lemmas.Result.{err_from_is_err_and}
-use Rattle.ipl_rules.specs.Operations.{after_batch}
-use Rattle.ipl_rules.specs.Refusals.{refuses_batch}
+use Rattle.ipl_model.specs.Operations.{after_batch}
+use Rattle.ipl_model.specs.Refusals.{refuses_batch}
 use Rattle.record_locks.specs.Standing.{state_of}
 use Rattle.store_laws.specs.Keeps.{limits_of}
 use Rattle.ipl_store.specs.Calls.{early_fault, entry_fault}
 use Rattle.ipl_store.proofs.CallLemmas.{calls_refused, early_unworn, let_in, turns_move, moved_calls, kept_holds, kept_framed, ended_asks}
-use Rattle.transactions.specs.Costs.{CommitAsks}
-use Rattle.transactions.proofs.CostLemmas.{empty_asks}
+use Rattle.ipl_store.specs.Costs.{CommitAsks}
+use Rattle.ipl_store.proofs.CostLemmas.{empty_asks}
 use Rattle.ipl_store.proofs.store.Store.commit_all.Goals as goal
 
 pub commit-done-requires-clause-open : goal.commit-done-requires-clause-open

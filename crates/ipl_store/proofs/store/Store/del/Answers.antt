@@ -1,11 +1,11 @@
 use Rattle.std.proofs.Common.{◌≡◌, ◌∙◌, None, sym, ap, Some, Err, refl}
 use Rattle.std.proofs.lemmas.Result.{err_from_is_err_and}
 use Rattle.ipl_base.specs.Places.{home_of}
-use Rattle.ipl_rules.specs.Operations.{after_write}
+use Rattle.ipl_model.specs.Operations.{after_write}
 use Rattle.store_laws.specs.Keeps.{limits_of}
 use Rattle.store_laws.specs.Refusals.{sessions_refuse_del}
 use Rattle.page_frames.proofs.UseLemmas.{none_leaves}
-use Rattle.transactions.specs.Costs.{AsksToWrite}
+use Rattle.ipl_store.specs.Costs.{AsksToWrite}
 use Rattle.ipl_store.specs.Calls.{early_fault, entry_fault, tells_wear}
 use Rattle.ipl_store.proofs.CallLemmas.{calls_refused, early_unworn, let_in, writes_move, moved_calls, kept_holds, kept_for, ended_asks, ended_framed, ended_used}
 use Rattle.ipl_store.proofs.ShownLemmas.{write_asks_nothing}

@@ -1,6 +1,6 @@
 use Rattle.std.proofs.Common.{◌≡◌, ◌∙◌, None, Some, Err, sym, ap}
 use Rattle.std.proofs.lemmas.Result.{err_from_is_err_and}
-use Rattle.ipl_rules.specs.Refusals.{refuses_get}
+use Rattle.ipl_model.specs.Refusals.{refuses_get}
 use Rattle.record_locks.specs.Held.{SessionSlots, number_of}
 use Rattle.record_locks.specs.Standing.{state_of}
 use Rattle.store_laws.specs.Keeps.{limits_of}

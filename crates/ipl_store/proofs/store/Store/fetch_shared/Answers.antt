@@ -1,7 +1,7 @@
 use Rattle.std.proofs.Common.{◌≡◌, ◌∙◌, None, Some, Ok, Err, sym, ap}
 use Rattle.std.proofs.lemmas.Result.{err_from_is_err_and}
-use Rattle.ipl_rules.specs.Operations.{after_share}
-use Rattle.ipl_rules.specs.Refusals.{refuses_share}
+use Rattle.ipl_model.specs.Operations.{after_share}
+use Rattle.ipl_model.specs.Refusals.{refuses_share}
 use Rattle.record_locks.specs.Held.{SessionSlots, number_of}
 use Rattle.record_locks.specs.Locks as locks
 use Rattle.record_locks.specs.Standing.{state_of}

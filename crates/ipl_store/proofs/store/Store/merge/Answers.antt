@@ -1,6 +1,6 @@
 use Rattle.std.proofs.Common.{◌≡◌, ◌∙◌, Bool, Some, None, Err, OnOk, is_ok, slice_index, sym, ap, subst, refl}
 use Rattle.std.proofs.lemmas.Result.{err_from_is_err_and}
-use Rattle.ipl_rules.specs.Refusals.{refuses_merge}
+use Rattle.ipl_model.specs.Refusals.{refuses_merge}
 use Rattle.store_laws.specs.Keeps.{limits_of}
 use Rattle.unit_io.specs.Charts.{Charts}
 use Rattle.unit_io.specs.Costs.{Spends}

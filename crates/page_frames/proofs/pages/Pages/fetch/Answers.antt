@@ -5,7 +5,7 @@ use Rattle.chip_trait.specs.Told.{Told}
 use Rattle.ipl_meaning.specs.Tables.{Tables}
 use Rattle.unit_io.specs.Costs.{Costs, Spends}
 use Rattle.place_taking.specs.Spending.{is_worn_out}
-use Rattle.merge_laws.specs.Known.{Suits}
+use Rattle.selective_merge.specs.Known.{Suits}
 use Rattle.page_ops.specs.Frames.{empty_frame}
 use Rattle.buffer_pool.specs.Pools.{PoolView}
 use Rattle.store_laws.specs.Frames.{Frames, logs_of}

@@ -1,7 +1,7 @@
 use Rattle.std.proofs.Common.{◌≡◌, ℕ, ◌+◌, ◌-◌, ◌<◌, Bool, cond, Some, sym, ◌∙◌, ap, arith}
 use Rattle.std.specs.List.{find, range_with_len}
-use Rattle.ipl_rules.specs.State.{is_open}
-use Rattle.ipl_rules.proofs.BatchLemmas.{found_from}
+use Rattle.ipl_model.specs.State.{is_open}
+use Rattle.ipl_model.proofs.RuleBatchLemmas.{found_from}
 use Rattle.record_locks.specs.Standing.{state_of}
 use Rattle.record_locks.proofs.sessions.Sessions.least_open.Goals as goal
 

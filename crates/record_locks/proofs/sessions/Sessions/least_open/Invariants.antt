@@ -1,6 +1,6 @@
 use Rattle.std.proofs.Common.{◌≡◌, ◌-◌}
 use Rattle.std.specs.List.{find, range_with_len}
-use Rattle.ipl_rules.specs.State.{is_open}
+use Rattle.ipl_model.specs.State.{is_open}
 use Rattle.record_locks.specs.Standing.{state_of}
 use Rattle.record_locks.proofs.sessions.Sessions.least_open.Given as goal
 

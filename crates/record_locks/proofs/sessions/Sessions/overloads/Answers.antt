@@ -1,6 +1,6 @@
 use Rattle.std.proofs.Common.{◌≡◌, ◌+◌, ◌/◌, max, ℕ, ◌∙◌, ap, ap₂, arith}
-use Rattle.ipl_rules.specs.Marks.{with_mark, weight_of_mark, weights}
-use Rattle.ipl_rules.proofs.WeightLemmas.{weights_at}
+use Rattle.ipl_model.specs.Marks.{with_mark, weight_of_mark, weights}
+use Rattle.ipl_model.proofs.WeightLemmas.{weights_at}
 use Rattle.std.proofs.Math.Nat.{max_comm}
 use Rattle.record_locks.specs.Held.{marks_in}
 use Rattle.record_locks.proofs.SoundLemmas.{lighter}

@@ -1,6 +1,6 @@
 use Rattle.std.proofs.Common.{◌≤◌, ◌∙◌, ap, sym, subst, arith}
 use Rattle.std.specs.List.{sum_by}
-use Rattle.ipl_rules.specs.Marks.{weights}
+use Rattle.ipl_model.specs.Marks.{weights}
 use Rattle.record_locks.specs.Held.{SessionSlots, marks_in, slot_weight}
 use Rattle.record_locks.specs.Locks.{AreSoundSlots}
 use Rattle.record_locks.proofs.MarkLemmas.{slots_weigh}

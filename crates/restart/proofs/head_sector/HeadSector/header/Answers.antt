@@ -1,5 +1,5 @@
 use Rattle.std.proofs.Common.{◌∙◌, ap}
-use Rattle.opening_laws.specs.Chosen.{header_in}
+use Rattle.ipl_meaning.specs.Chosen.{header_in}
 use Rattle.restart.proofs.KeptLemmas.{header_kept}
 use Rattle.restart.proofs.head_sector.HeadSector.header.Goals as goal
 

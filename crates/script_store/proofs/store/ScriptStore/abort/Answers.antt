@@ -2,8 +2,8 @@ use Rattle.std.proofs.Common.{Result, arith, refl, sym, subst}
 use Rattle.ipl_model.specs.declared.command.Command.TheVariants as command
 use Rattle.ipl_model.specs.declared.reply.Reply.{Reply}
 use Rattle.ipl_model.specs.declared.reply.Reply.TheVariants as reply
-use Rattle.ipl_rules.specs.Refusals.{refuses_end}
-use Rattle.ipl_rules.specs.Operations.{after_abort}
+use Rattle.ipl_model.specs.Refusals.{refuses_end}
+use Rattle.ipl_model.specs.Operations.{after_abort}
 use Rattle.record_locks.specs.Standing.{state_of}
 use Rattle.store_trait.specs.declared.fault.Fault.{Fault}
 use Rattle.store_laws.specs.Keeps.{limits_of}

@@ -2,7 +2,7 @@ use Rattle.std.proofs.Common.{Result, arith, refl, sym, subst, None}
 use Rattle.ipl_model.specs.declared.command.Command.TheVariants as command
 use Rattle.ipl_model.specs.declared.reply.Reply.{Reply}
 use Rattle.ipl_model.specs.declared.reply.Reply.TheVariants as reply
-use Rattle.ipl_rules.specs.Operations.{after_write}
+use Rattle.ipl_model.specs.Operations.{after_write}
 use Rattle.store_trait.specs.declared.fault.Fault.{Fault}
 use Rattle.store_laws.specs.Keeps.{limits_of}
 use Rattle.store_laws.specs.Refusals.{sessions_refuse_del}

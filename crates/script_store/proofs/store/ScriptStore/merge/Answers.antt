@@ -2,7 +2,7 @@ use Rattle.std.proofs.Common.{Result, IfOk, ◌⊎◌, arith, refl, sym, subst}
 use Rattle.ipl_model.specs.declared.command.Command.TheVariants as command
 use Rattle.ipl_model.specs.declared.reply.Reply.{Reply}
 use Rattle.ipl_model.specs.declared.reply.Reply.TheVariants as reply
-use Rattle.ipl_rules.specs.Refusals.{refuses_merge}
+use Rattle.ipl_model.specs.Refusals.{refuses_merge}
 use Rattle.store_trait.specs.declared.fault.Fault.{Fault}
 use Rattle.store_laws.specs.Keeps.{limits_of}
 use Rattle.ipl_store.specs.Calls.{ends_worn_out}

@@ -1,5 +1,5 @@
 use Rattle.std.proofs.Common.{Bor, List, ℕ, option_map, sym, subst}
-use Rattle.ipl_rules.specs.Operations.{after_share}
+use Rattle.ipl_model.specs.Operations.{after_share}
 use Rattle.ipl_store.specs.Calls.{share_fault}
 use Rattle.ipl_store.specs.Shown.{IsSeen}
 use Rattle.script_store.proofs.SeeLemmas.{found_calls, failed_calls}

@@ -1,5 +1,5 @@
 use Rattle.std.proofs.Common.{take}
-use Rattle.ipl_rules.specs.Operations.{after_batch}
+use Rattle.ipl_model.specs.Operations.{after_batch}
 use Rattle.serial_view.specs.Running.{run_of, Follows}
 use Rattle.serial_view.proofs.running.Running.apply_all.Given as goal
 

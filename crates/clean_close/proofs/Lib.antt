@@ -1,5 +1,0 @@
-mod PayloadLemmas
-mod LayoutLemmas
-mod CleanLemmas
-mod MarkLemmas
-mod BarrierLemmas

@@ -1,0 +1,24 @@
+use Rattle.std.proofs.Common.{◌≡◌, ℕ, [], subst, arith}
+use Rattle.std.proofs.lemmas.Bool.Decides.{nat_tests}
+use Rattle.store_trait.proofs.OnwardLemmas.{unrisen_later}
+use Rattle.ipl_cli.specs.Ending.{AtStatus}
+use Rattle.ipl_cli.specs.Top.{RunsOpened, records_after}
+use Rattle.ipl_cli.specs.Chains.{RestsOn, no_records}
+use Rattle.ipl_cli.proofs.ChainLemmas.{run_rests, format_rests, format_keeps}
+use Rattle.ipl_cli.proofs.chains.format_and_run.Goals as goal
+
+pub returns : goal.returns
+returns g c = λ spares script asked on unrisen is.
+    let old = g.D.Chip.told c.args.desk.now in
+    let mid = g.D.Chip.told c.top.new.desk in
+    let new = g.D.Chip.told c.top-2.new.desk in
+    let first : c.top.result ≡ 0 = grind (arith, nat_tests, c.if-top-ne0.false) in
+    let second : c.top-2.result ≡ 0 = grind (arith, nat_tests, is) in
+    let lays = c.top.ensures.formats spares asked first in
+    let begun = format_rests old mid spares script on lays c.top.ensures.counts in
+    let done = run_rests mid new no_records script begun
+    (subst (λ (n : ℕ). AtStatus (RunsOpened mid new) n) second
+    (c.top-2.ensures.opened c.requires))
+    c.top-2.ensures.counts (unrisen_later old mid new c.top.ensures.counts.writes unrisen) in
+    subst (λ (q : ℕ). RestsOn (records_after q no_records script) [] new)
+    (format_keeps old mid spares script on lays c.top.ensures.counts) done

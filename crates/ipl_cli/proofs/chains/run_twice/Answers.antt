@@ -1,0 +1,22 @@
+use Rattle.std.proofs.Common.{◌≡◌, ℕ, [], subst, arith}
+use Rattle.std.proofs.lemmas.Bool.Decides.{nat_tests}
+use Rattle.store_trait.proofs.OnwardLemmas.{unrisen_later}
+use Rattle.ipl_cli.specs.Ending.{AtStatus}
+use Rattle.ipl_cli.specs.Top.{RunsOpened, records_after}
+use Rattle.ipl_cli.specs.Chains.{units_kept}
+use Rattle.ipl_cli.proofs.ChainLemmas.{run_rests, unrisen_first}
+use Rattle.ipl_cli.proofs.chains.run_twice.Goals as goal
+
+pub returns : goal.returns
+returns g c = λ m script on unrisen is.
+    let old = g.D.Chip.told c.args.desk.now in
+    let mid = g.D.Chip.told c.top.new.desk in
+    let new = g.D.Chip.told c.top-2.new.desk in
+    let first : c.top.result ≡ 0 = grind (arith, nat_tests, c.if-top-ne0.false) in
+    let second : c.top-2.result ≡ 0 = grind (arith, nat_tests, is) in
+    let begun = run_rests old mid m script on
+    (subst (λ (n : ℕ). AtStatus (RunsOpened old mid) n) first (c.top.ensures.opened c.requires))
+    c.top.ensures.counts (unrisen_first old mid new c.top-2.ensures.counts unrisen) in
+    run_rests mid new (records_after (units_kept old on.history) m script) [] begun
+    (subst (λ (n : ℕ). AtStatus (RunsOpened mid new) n) second (c.top-2.ensures.opened c.requires))
+    c.top-2.ensures.counts (unrisen_later old mid new c.top.ensures.counts.writes unrisen)

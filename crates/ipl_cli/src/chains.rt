@@ -1,0 +1,52 @@
+//! What `top` tells at the end of one run is what the next one asks for: shown from its clauses alone,
+//! for every desk. Only where no write failed, and both ended with 0. A chip has as many units as it says,
+//! and after a format all but the spare ones.
+ghost use Rattle.std.specs.Prelude.{◌≡◌, true, map, ℕ, List, [], Some};
+ghost use Rattle.std.specs.String.{string_bytes};
+ghost use Rattle.chip_trait.specs.Told.{Unrisen};
+ghost use Rattle.command_line.specs.Choice.{requested};
+ghost use Rattle.command_line.specs.declared.asked.Request.TheVariants.{Format};
+ghost use Rattle.ipl_model.specs.State.{Map};
+ghost use Rattle.ipl_cli.specs.Ending.{AsksOpened, units_beside};
+ghost use Rattle.ipl_cli.specs.Top.{records_after};
+ghost use Rattle.ipl_cli.specs.Chains.{RestsOn, IsFormattable, no_records, units_kept};
+
+use crate::top::top;
+use chip_trait::Desk;
+use std::alloc::Global;
+
+/// Runs the script, and then what is left of it, over a chip that is opened each time. The second run
+/// has its premise from what is told of the first.
+pub fn run_twice<D: Desk>(alloc: Global, words: &[String], desk: &mut D) -> bool
+    requires { AsksOpened (requested (map string_bytes words.now)) }
+    ensures { (m : Map) (script : List ℕ) (on : RestsOn m script (D.told desk.old))
+        → Unrisen (D.told desk.old) (D.told desk.new) → result ≡ true
+        → RestsOn (records_after (units_kept (D.told desk.old) on.history) m script) []
+        (D.told desk.new) }
+{
+    if top(alloc, words, desk) != 0 {
+        return false;
+    }
+    top(alloc, words, desk) == 0
+}
+
+/// Formats the chip, with any number of places to spare, and then opens it and runs the script.
+pub fn format_and_run<D: Desk>(
+    alloc: Global,
+    first: &[String],
+    second: &[String],
+    desk: &mut D,
+) -> bool
+    requires { AsksOpened (requested (map string_bytes second.now)) }
+    ensures { (spares : ℕ) (script : List ℕ)
+        → requested (map string_bytes first.now) ≡ Some (Format spares)
+        → IsFormattable script (D.told desk.old)
+        → Unrisen (D.told desk.old) (D.told desk.new) → result ≡ true
+        → RestsOn (records_after (units_beside (D.told desk.old).places spares) no_records script) []
+        (D.told desk.new) }
+{
+    if top(alloc, first, desk) != 0 {
+        return false;
+    }
+    top(alloc, second, desk) == 0
+}

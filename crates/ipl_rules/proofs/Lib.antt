@@ -1,9 +1,0 @@
-pub mod BatchLemmas
-pub mod ListLemmas
-pub mod SeenLemmas
-pub mod SlotLemmas
-pub mod SumLemmas
-pub mod MarkLemmas
-pub mod FillLemmas
-pub mod WeightLemmas
-pub mod RefusalLemmas

@@ -1,9 +1,0 @@
-pub mod Pages
-pub mod Packs
-pub mod Moved
-pub mod Merged
-pub mod Known
-pub mod Laws
-pub mod KnownLaws
-pub mod Faults
-pub mod FaultLaws

@@ -1,5 +1,0 @@
-use Rattle.opening_laws.proofs.FirstLemmas.{first_is_first, first_is_found, none_is_found, none_is_there}
-use Rattle.opening_laws.proofs.laws.first_laws.Goals as goal
-
-pub returns : goal.returns
-returns c = record { first = first_is_first; found = first_is_found; none = none_is_found; none_there = none_is_there }

@@ -1,5 +1,0 @@
-use Rattle.opening_laws.proofs.NumberLemmas.{greatest_is_above, greatest_is_found}
-use Rattle.opening_laws.proofs.laws.number_laws.Goals as goal
-
-pub returns : goal.returns
-returns c = record { above = greatest_is_above; found = greatest_is_found }

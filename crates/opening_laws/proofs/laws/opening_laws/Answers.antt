@@ -1,8 +1,0 @@
-use Rattle.opening_laws.proofs.ContentsLemmas.{whole_sectors_make_byte_charts}
-use Rattle.opening_laws.proofs.FormattedLemmas.{formatted_chips_have_no_fault}
-use Rattle.opening_laws.proofs.LaidLemmas.{laid_has_no_fault, laid_has_no_shape_fault, laid_is_fine_or_spent, laid_says_its_units}
-use Rattle.opening_laws.proofs.NoFaultLemmas.{no_fault_is_laid, no_fault_is_fresh, no_shape_fault_is_laid}
-use Rattle.opening_laws.proofs.laws.opening_laws.Goals as goal
-
-pub returns : goal.returns
-returns c = record { contents = whole_sectors_make_byte_charts; laid = no_fault_is_laid; fresh = no_fault_is_fresh; no_fault = laid_has_no_fault; fine_or_spent = laid_is_fine_or_spent; units = laid_says_its_units; formatted = formatted_chips_have_no_fault; shape = no_shape_fault_is_laid; no_shape_fault = laid_has_no_shape_fault }

@@ -1,9 +1,0 @@
-use Rattle.status_renewal.proofs.ChainLemmas.{images_rest, cuts_may_be_opened, cuts_of_either_may_be_opened}
-use Rattle.status_renewal.proofs.laws.chaining_laws.Goals as goal
-
-pub returns : goal.returns
-returns c = record {
-  images = images_rest;
-  cuts = cuts_may_be_opened;
-  either = cuts_of_either_may_be_opened;
-}

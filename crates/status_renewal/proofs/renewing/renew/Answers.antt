@@ -1,5 +1,0 @@
-use Rattle.std.proofs.lemmas.Bool.{false≢true}
-use Rattle.status_renewal.proofs.renewing.renew.Goals as goal
-
-pub renew_with-requires-clause-exact : goal.renew_with-requires-clause-exact
-renew_with-requires-clause-exact g c = λ no. absurd (false≢true no)

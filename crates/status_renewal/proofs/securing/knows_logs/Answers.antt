@@ -1,9 +1,0 @@
-use Rattle.std.proofs.Common.{◌∙◌, length, sym, arith}
-use Rattle.status_renewal.proofs.SecuringLemmas.{known_within}
-use Rattle.status_renewal.proofs.securing.knows_logs.Goals as goal
-
-pub returns-then-is_known : goal.returns-then-is_known
-returns-then-is_known c =
-    let it = c.args.directory.now in
-    sym (known_within it (length it.current) c.loop-unit.unit (omega arith)
-    (sym c.is_known.ensures ∙ c.if-is_known.true))

@@ -1,9 +1,0 @@
-pub mod Ready
-pub mod Chains
-pub mod Renewed
-pub mod Passes
-pub mod Renewals
-pub mod Recovers
-pub mod InPlace
-pub mod Leaving
-pub mod Securing

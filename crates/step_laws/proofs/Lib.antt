@@ -1,4 +1,0 @@
-pub mod StepLemmas
-pub mod TidyLemmas
-pub mod MapLemmas
-pub mod TablesLemmas

@@ -1,4 +1,0 @@
-pub mod Turns
-pub mod Costs
-pub mod Writing
-pub mod Adding

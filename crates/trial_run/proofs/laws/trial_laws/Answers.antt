@@ -1,9 +1,0 @@
-use Rattle.trial_run.proofs.CountLemmas.{counts_are_said}
-use Rattle.trial_run.proofs.ListLemmas.{records_are_listed}
-use Rattle.trial_run.proofs.laws.trial_laws.Goals as goal
-
-pub returns-clause-counts : goal.returns-clause-counts
-returns-clause-counts c = counts_are_said
-
-pub returns-clause-records : goal.returns-clause-records
-returns-clause-records c = records_are_listed

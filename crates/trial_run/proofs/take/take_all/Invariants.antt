@@ -1,4 +1,0 @@
-use Rattle.trial_run.proofs.take.take_all.Given as goal
-
-abbrev pub ghost-take_below : goal.ghost-take_below
-ghost-take_below g a = g.places
