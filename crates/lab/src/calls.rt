@@ -1,8 +1,8 @@
 //! Calls of a store over a desk's chip, one a line of a script, and what each answers.
-ghost use Rattle.std.specs.Prelude.{◌≡◌, IfOk};
+ghost use Rattle.std.specs.Prelude.{IfOk};
 ghost use Rattle.ipl_cli.specs.MemDesk.{desk_told};
 ghost use Rattle.ipl_store.specs.Calls.{IsSound};
-ghost use Rattle.lab.specs.Suits.{SuitsDesk};
+ghost use Rattle.lab.specs.Suits.{StaysSound, SuitsDesk};
 
 use crate::answers::{READ_FAILED, WRITE_FAILED, done_line, found_line, opened_line, say};
 use crate::words::{number, parted, words_of};
@@ -44,8 +44,7 @@ fn call_of(alloc: Global, line: &str) -> Result<Call> {
 /// Makes a call that lends nothing. One that lends isn't made.
 fn make(store: &mut Store, desk: &mut MemDesk, call: &Call) -> Result<(), StoreFault>
     requires sound { IsSound (desk_told desk.old).places store.old }
-    ensures sound { IsSound (desk_told desk.old).places store.new }
-    ensures places { (desk_told desk.new).places ≡ (desk_told desk.old).places }
+    ensures { StaysSound desk.old desk.new store.new }
 {
     match call {
         Call::Command(command) => make_command(store, desk, command),
@@ -59,8 +58,7 @@ fn make(store: &mut Store, desk: &mut MemDesk, call: &Call) -> Result<(), StoreF
 /// Does a command that lends nothing.
 fn make_command(store: &mut Store, desk: &mut MemDesk, command: &Command) -> Result<(), StoreFault>
     requires sound { IsSound (desk_told desk.old).places store.old }
-    ensures sound { IsSound (desk_told desk.old).places store.new }
-    ensures places { (desk_told desk.new).places ≡ (desk_told desk.old).places }
+    ensures { StaysSound desk.old desk.new store.new }
 {
     match command {
         Command::Begin(s) => store.begin(desk, *s),
@@ -77,8 +75,7 @@ fn make_command(store: &mut Store, desk: &mut MemDesk, command: &Command) -> Res
 /// Makes a call, and answers its line.
 fn answer(alloc: Global, store: &mut Store, desk: &mut MemDesk, call: &Call) -> Result<String>
     requires sound { IsSound (desk_told desk.old).places store.old }
-    ensures sound { IsSound (desk_told desk.old).places store.new }
-    ensures places { (desk_told desk.new).places ≡ (desk_told desk.old).places }
+    ensures { StaysSound desk.old desk.new store.new }
 {
     match call {
         Call::Command(Command::Get(s, n)) => found_line(alloc, store.get(desk, *s, *n)),

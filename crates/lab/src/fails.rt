@@ -49,83 +49,87 @@ fn calls_before(events: &[Event], number: usize) -> u64 {
     calls
 }
 
-/// A chip that the first `at` events left opens with the records that the model has.
-fn check_chip(
+/// A run of which each call of the chip fails in turn, and what was found so far.
+#[derive(Drop)]
+struct Failed<'a> {
     alloc: Global,
-    tried: &Tried<'_>,
-    verdict: &mut Verdict,
-    moment: &str,
-    chip: MemChip,
-    at: usize,
-) -> Result<()> {
-    let opened = looked(alloc, chip, tried.look)?;
-    tried.check_left(alloc, verdict, moment, &opened, at, Left::Whole)
+    tried: &'a Tried<'a>,
+    verdict: Verdict,
 }
 
-/// The call that does the event of this number fails, which isn't done then, or is.
-fn fail_event(
-    alloc: Global,
-    tried: &Tried<'_>,
-    verdict: &mut Verdict,
-    number: usize,
-    event: &Event,
-) -> Result<()> {
-    let call = calls_before(tried.events(), number);
-    let moment = format!(in alloc; "call {call}")?;
-    let ended = tried.start.run(alloc, Failing::Call(call))?;
-    let said = said_in(alloc, tried.events(), number)?;
-    let wanted = if tried.start.goes_on() {
-        calls_end(alloc, tried, &said, event)?
-    } else {
-        run_end(alloc, &said, event)?
-    };
-    let end = ended.text(alloc)?;
-    verdict.check(alloc, moment.as_str(), end.as_str(), wanted.as_str())?;
-    if number >= tried.unpromised() {
-        let left = copied(alloc, ended.desk.chip())?;
-        check_left(alloc, tried, verdict, moment.as_str(), left, number)?;
+impl Failed<'_> {
+    /// A chip that the first `at` events left opens with the records that the model has.
+    fn check_chip(&mut self, moment: &str, chip: MemChip, at: usize) -> Result<()> {
+        let opened = looked(self.alloc, chip, self.tried.look)?;
+        self.tried.check_left(
+            self.alloc,
+            &mut self.verdict,
+            moment,
+            &opened,
+            at,
+            Left::Whole,
+        )
     }
-    Ok(())
-}
 
-/// The chip that is left where the call fails that does the event of this number opens with the records
-/// that the model has.
-fn check_left(
-    alloc: Global,
-    tried: &Tried<'_>,
-    verdict: &mut Verdict,
-    moment: &str,
-    left: MemChip,
-    number: usize,
-) -> Result<()> {
-    if matches!(tried.events().get(number), Some(Event::Read(_, _))) {
-        // Behind a read that fails a run ends, and calls go on.
-        let goes_on = tried.start.goes_on();
-        let at = if goes_on {
-            tried.events().len()
+    /// The chip that is left where the call fails that does the event of this number opens with the
+    /// records that the model has.
+    fn check_left(&mut self, moment: &str, left: MemChip, number: usize) -> Result<()> {
+        let tried = self.tried;
+        if matches!(tried.events().get(number), Some(Event::Read(_, _))) {
+            // Behind a read that fails a run ends, and calls go on.
+            let goes_on = tried.start.goes_on();
+            let at = if goes_on {
+                tried.events().len()
+            } else {
+                number
+            };
+            return self.check_chip(moment, left, at);
+        }
+        self.check_chip(moment, left, number)?;
+        // A write that fails may be done all the same.
+        let at = number.saturating_add(1);
+        let done = tried.whole.image(self.alloc, at as u64, &[])?;
+        self.check_chip(moment, done, at)
+    }
+
+    /// The call that does the event of this number fails, which isn't done then, or is.
+    fn fail_event(&mut self, number: usize, event: &Event) -> Result<()> {
+        let (alloc, tried) = (self.alloc, self.tried);
+        let call = calls_before(tried.events(), number);
+        let moment = format!(in alloc; "call {call}")?;
+        let ended = tried.start.run(alloc, Failing::Call(call))?;
+        let said = said_in(alloc, tried.events(), number)?;
+        let wanted = if tried.start.goes_on() {
+            calls_end(alloc, tried, &said, event)?
         } else {
-            number
+            run_end(alloc, &said, event)?
         };
-        return check_chip(alloc, tried, verdict, moment, left, at);
+        let end = ended.text(alloc)?;
+        self.verdict
+            .check(alloc, moment.as_str(), end.as_str(), wanted.as_str())?;
+        if number >= tried.unpromised() {
+            let left = copied(alloc, ended.desk.chip())?;
+            self.check_left(moment.as_str(), left, number)?;
+        }
+        Ok(())
     }
-    check_chip(alloc, tried, verdict, moment, left, number)?;
-    // A write that fails may be done all the same.
-    let at = number.saturating_add(1);
-    let done = tried.whole.image(alloc, at as u64, &[])?;
-    check_chip(alloc, tried, verdict, moment, done, at)
 }
 
 /// Each call of the chip fails in turn, from the one on that does the event of this number.
 pub fn fails(alloc: Global, tried: &Tried<'_>, first: usize) -> Result<String> {
-    let mut verdict = Verdict::new();
-    tried.check_replies(alloc, &mut verdict)?;
+    let mut failed = Failed {
+        alloc,
+        tried,
+        verdict: Verdict::new(),
+    };
+    tried.check_replies(alloc, &mut failed.verdict)?;
     for (number, event) in tried.events().iter().enumerate().skip(first) {
-        if verdict.is_over() {
+        if failed.verdict.is_over() {
             break;
         }
         if !matches!(event, Event::Said(_)) {
-            fail_event(alloc, tried, &mut verdict, number, event)?;
+            failed.fail_event(number, event)?;
         }
     }
-    verdict.text(alloc)
+    failed.verdict.text(alloc)
 }

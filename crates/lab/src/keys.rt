@@ -1,8 +1,8 @@
 //! Calls on values by keys over a desk's chip, one a line of a script, and what each answers.
-ghost use Rattle.std.specs.Prelude.{◌≡◌, IfOk};
+ghost use Rattle.std.specs.Prelude.{IfOk};
 ghost use Rattle.ipl_cli.specs.MemDesk.{desk_told};
 ghost use Rattle.ipl_store.specs.Calls.{IsSound};
-ghost use Rattle.lab.specs.Suits.{SuitsDesk};
+ghost use Rattle.lab.specs.Suits.{StaysSound, SuitsDesk};
 
 use crate::answers::{bytes_line, key_line, say};
 use crate::sectors::bytes_of;
@@ -14,7 +14,7 @@ use std::alloc::Global;
 
 /// What a line calls: a session first, then a key, then a value.
 #[derive(Drop)]
-enum Call {
+enum KeyCall {
     Begin(u32),
     Get(u32, Vec<u8>),
     Put(u32, Vec<u8>, Vec<u8>),
@@ -25,48 +25,46 @@ enum Call {
 }
 
 /// The call of a line.
-fn call_of(alloc: Global, line: &str) -> Result<Call> {
+fn key_call_of(alloc: Global, line: &str) -> Result<KeyCall> {
     let (verb, rest) = parted(line);
     match (verb, words_of(alloc, rest)?.as_slice()) {
-        ("begin", [s]) => Ok(Call::Begin(number(*s)?)),
-        ("get", [s, key]) => Ok(Call::Get(number(*s)?, bytes_of(alloc, *key)?)),
-        ("put", [s, key, value]) => Ok(Call::Put(
+        ("begin", [s]) => Ok(KeyCall::Begin(number(*s)?)),
+        ("get", [s, key]) => Ok(KeyCall::Get(number(*s)?, bytes_of(alloc, *key)?)),
+        ("put", [s, key, value]) => Ok(KeyCall::Put(
             number(*s)?,
             bytes_of(alloc, *key)?,
             bytes_of(alloc, *value)?,
         )),
-        ("del", [s, key]) => Ok(Call::Del(number(*s)?, bytes_of(alloc, *key)?)),
-        ("commit", [s]) => Ok(Call::Commit(number(*s)?)),
-        ("abort", [s]) => Ok(Call::Abort(number(*s)?)),
-        ("close", []) => Ok(Call::Close),
+        ("del", [s, key]) => Ok(KeyCall::Del(number(*s)?, bytes_of(alloc, *key)?)),
+        ("commit", [s]) => Ok(KeyCall::Commit(number(*s)?)),
+        ("abort", [s]) => Ok(KeyCall::Abort(number(*s)?)),
+        ("close", []) => Ok(KeyCall::Close),
         _ => bail!("no call: {line}"),
     }
 }
 
 /// Makes a call that lends nothing. One that lends isn't made.
-fn make(keys: &mut Keys, desk: &mut MemDesk, call: &Call) -> Result<(), KeyFault>
+fn make(keys: &mut Keys, desk: &mut MemDesk, call: &KeyCall) -> Result<(), KeyFault>
     requires sound { IsSound (desk_told desk.old).places keys.old.store }
-    ensures sound { IsSound (desk_told desk.old).places keys.new.store }
-    ensures places { (desk_told desk.new).places ≡ (desk_told desk.old).places }
+    ensures { StaysSound desk.old desk.new keys.new.store }
 {
     match call {
-        Call::Begin(s) => keys.begin(desk, *s),
-        Call::Put(s, key, value) => keys.put(desk, *s, key, value),
-        Call::Del(s, key) => keys.del(desk, *s, key),
-        Call::Commit(s) => keys.commit(desk, *s),
-        Call::Abort(s) => keys.abort(desk, *s),
-        Call::Close => keys.close(desk),
-        Call::Get(_, _) => Ok(()),
+        KeyCall::Begin(s) => keys.begin(desk, *s),
+        KeyCall::Put(s, key, value) => keys.put(desk, *s, key, value),
+        KeyCall::Del(s, key) => keys.del(desk, *s, key),
+        KeyCall::Commit(s) => keys.commit(desk, *s),
+        KeyCall::Abort(s) => keys.abort(desk, *s),
+        KeyCall::Close => keys.close(desk),
+        KeyCall::Get(_, _) => Ok(()),
     }
 }
 
 /// Makes a call, and answers its line.
-fn answer(alloc: Global, keys: &mut Keys, desk: &mut MemDesk, call: &Call) -> Result<String>
+fn answer(alloc: Global, keys: &mut Keys, desk: &mut MemDesk, call: &KeyCall) -> Result<String>
     requires sound { IsSound (desk_told desk.old).places keys.old.store }
-    ensures sound { IsSound (desk_told desk.old).places keys.new.store }
-    ensures places { (desk_told desk.new).places ≡ (desk_told desk.old).places }
+    ensures { StaysSound desk.old desk.new keys.new.store }
 {
-    if let Call::Get(s, key) = call {
+    if let KeyCall::Get(s, key) = call {
         return match keys.get(desk, *s, key) {
             Ok(found) => bytes_line(alloc, found),
             Err(fault) => key_line(alloc, fault),
@@ -83,7 +81,7 @@ fn serve(alloc: Global, keys: &mut Keys, desk: &mut MemDesk, line: &str) -> Resu
     requires { SuitsDesk desk.old keys.old.store }
     ensures { SuitsDesk desk.new keys.new.store }
 {
-    let call = call_of(alloc, line)?;
+    let call = key_call_of(alloc, line)?;
     let answer = answer(alloc, keys, desk, &call)?;
     say(desk, answer.as_str())
 }

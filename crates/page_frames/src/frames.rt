@@ -14,7 +14,7 @@ use buffer_pool::Pool;
 use log_records::{Change, Record};
 
 /// Whether a page (0 to 14 of a unit) is in a frame.
-pub fn is_framed(pool: &Pool, unit: u32, page: u32) -> bool
+pub(crate) fn is_framed(pool: &Pool, unit: u32, page: u32) -> bool
     requires { page < 15 }
     ensures { IsTrue result ↔ IsSome (frames_of pool.now unit page) }
 {
@@ -22,7 +22,7 @@ pub fn is_framed(pool: &Pool, unit: u32, page: u32) -> bool
 }
 
 /// Whether a page (0 to 14 of a unit) is in a frame, with records that aren't on the chip yet.
-pub fn has_records(pool: &Pool, unit: u32, page: u32) -> bool
+pub(crate) fn has_records(pool: &Pool, unit: u32, page: u32) -> bool
     requires { page < 15 }
     ensures some { IsTrue result → IsSome (frames_of pool.now unit page) }
     ensures full { IsTrue result → logs_of (frames_of pool.now) unit page ≢ [] }

@@ -65,7 +65,6 @@ mod writing;
 pub use ends::{apply_names, drop_names};
 pub use filling::overfills;
 pub use frame_laws::{buffer_laws, room_laws};
-pub use frames::{has_records, is_framed};
 pub use pages::Pages;
 pub use puts::put_record;
 pub use record_laws::writing_laws;

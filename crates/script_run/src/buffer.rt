@@ -8,7 +8,7 @@ use std::marker::Model;
 
 /// The first 1,025 bytes of a line: they tell what it says, however long it is. A contract sees them as a list.
 #[derive(Drop)]
-pub struct LineBuffer {
+pub(crate) struct LineBuffer {
     bytes: ArrayVec<u8, 1025>,
 }
 
@@ -22,7 +22,7 @@ impl Model for LineBuffer {
 
 impl LineBuffer {
     /// No bytes.
-    pub fn new() -> LineBuffer
+    pub(crate) fn new() -> LineBuffer
         ensures { result ≡ [] }
     {
         LineBuffer {
@@ -31,21 +31,21 @@ impl LineBuffer {
     }
 
     /// The bytes that are kept, at most 1,025.
-    pub fn bytes(&self) -> &[u8]
+    pub(crate) fn bytes(&self) -> &[u8]
         ensures { result.now ≡ self.now }
     {
         self.bytes.as_slice()
     }
 
     /// Drops them.
-    pub fn clear(&mut self)
+    pub(crate) fn clear(&mut self)
         ensures { self.new ≡ [] }
     {
         self.bytes.clear();
     }
 
     /// Keeps one byte more, unless the line is too long already.
-    pub fn push(&mut self, byte: u8)
+    pub(crate) fn push(&mut self, byte: u8)
         ensures { self.new ≡ kept self.old byte }
     {
         if !self.bytes.is_full() {
@@ -54,7 +54,7 @@ impl LineBuffer {
     }
 
     /// Keeps more bytes, as many as there is room for.
-    pub fn extend(&mut self, bytes: &[u8])
+    pub(crate) fn extend(&mut self, bytes: &[u8])
         ensures { self.new ≡ fold kept self.old bytes.now }
     {
         let count = self.bytes.remaining_capacity().min(bytes.len());

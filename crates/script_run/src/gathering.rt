@@ -4,7 +4,8 @@ ghost use Rattle.ipl_model.specs.Grammar.{line_of, commands_in};
 ghost use Rattle.script_run.specs.Goes.{ReadsPiece};
 ghost use Rattle.script_run.specs.View.{GathersCommands, ReadsScript, IsReading, HasReadAll, ViewCause};
 
-use crate::{LineBuffer, ViewStop};
+use crate::ViewStop;
+use crate::buffer::LineBuffer;
 use chip_trait::Desk;
 use ipl_model::{Command, Line};
 use script_text::parse;

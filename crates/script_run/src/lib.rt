@@ -44,7 +44,6 @@ mod trial_work;
 mod view_stop;
 mod viewing;
 
-pub use buffer::LineBuffer;
 pub use fault::Stop;
 pub use laws::trial_laws;
 pub use run::run_script;

@@ -21,10 +21,6 @@ header_only o = of_kinds 1 3 o
 abbrev pub log_only : Option Sector → Option Sector
 log_only o = of_kinds 5 5 o
 
--- a commit sector
-abbrev pub commit_only : Option Sector → Option Sector
-commit_only o = of_kinds 6 6 o
-
 -- a commit sector or a mark
 abbrev pub status_only : Option Sector → Option Sector
 status_only o = of_kinds 6 7 o

@@ -11,7 +11,7 @@
 //! sectors and no commit sectors; and all other places have the bytes that they had (`Spares`). By
 //! `add_mark`: so is a mark added, of a clean close.
 //!
-//! Proved, by `read_head`, `read_log`, `read_commit`, `read_noted`, `read_page`, `page_laws`:
+//! Proved, by `read_head`, `read_log`, `read_noted`, `read_page`, `page_laws`:
 //! headers, log sectors, commit sectors, marks and pages are read exactly as the chip holds them; the
 //! first fault of a page in order; which reads were asked; and what the pieces of a page bring into
 //! sums (`AreTails`). By `known_tails`, `kept_tails`: with which of them it is programmed at another
@@ -41,9 +41,7 @@ pub use laws::page_laws;
 pub use page_reading::read_page;
 pub use pages::program_page;
 pub use places::{begin_unit, seal};
-pub use reading::{
-    Found, SectorRead, read_commit, read_found, read_head, read_log, read_noted, read_sector,
-};
+pub use reading::{Found, SectorRead, read_found, read_head, read_log, read_noted, read_sector};
 pub use sectors::program_log;
 pub use steps::step_laws;
 pub use tails::{kept_tails, known_tails};

@@ -10,7 +10,7 @@ ghost use Rattle.sector_format.specs.Decode.{IsDecoded, sector_read};
 ghost use Rattle.ipl_meaning.specs.Chart.{chart_of};
 ghost use Rattle.unit_io.specs.Accounts.{Accounts};
 ghost use Rattle.unit_io.specs.Reads.{Asked, OfContents, IsReadFault};
-ghost use Rattle.unit_io.specs.Kinds.{any_sector, of_kinds, header_only, log_only, commit_only, status_only, sector_named};
+ghost use Rattle.unit_io.specs.Kinds.{any_sector, of_kinds, header_only, log_only, status_only, sector_named};
 ghost use Rattle.unit_io.specs.Found.{checked};
 ghost use Rattle.unit_io.specs.Reading.{ReadsSector};
 ghost use Rattle.unit_io.specs.Spots.{IsOnChip};
@@ -149,17 +149,6 @@ pub fn read_log<C: Chip>(chip: &mut C, spot: Spot, into: &mut [u8; 512]) -> Sect
     ensures kind { IfOk result (λ o. IfSome o (λ found. found.0.kind ≡ 5)) }
 {
     read_of_kinds(chip, spot, Head::LOG, Head::LOG, into)
-}
-
-/// Reads a commit sector (0 to 255 of its place): its head and how many bytes of payload it uses, from byte 32 of the buffer
-/// on; `None` exactly where the sector doesn't check as a commit sector. After a fault the buffer holds anything.
-pub fn read_commit<C: Chip>(chip: &mut C, spot: Spot, into: &mut [u8; 512]) -> SectorRead
-    requires spot { IsOnChip (C.told chip.old) spot.place spot.sector }
-    ensures reads { ReadsSector commit_only spot.place spot.sector into.new result (C.told chip.old) (C.told chip.new) }
-    ensures bytes { OnOk result (OfContents (C.told chip.old) (λ x. into.new ≡ x spot.place spot.sector)) }
-    ensures kind { IfOk result (λ o. IfSome o (λ found. found.0.kind ≡ 6)) }
-{
-    read_of_kinds(chip, spot, Head::COMMIT, Head::COMMIT, into)
 }
 
 /// Reads a commit sector or a mark (0 to 255 of its place): its head and how many bytes of payload it uses, from byte 32 of

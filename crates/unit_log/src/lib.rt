@@ -17,5 +17,5 @@ mod reading;
 mod scratch;
 
 pub use live::{UnitHead, read_live, read_page_log};
-pub use pages::{mask_of, page_spots};
+pub use pages::mask_of;
 pub use scratch::{LogSector, Scratch};

@@ -72,7 +72,7 @@ fn add_listed(spots: &mut ArrayVec<Spot, LIVE_SECTORS>, overflow: &Overflow, uni
 }
 
 /// Where the log sectors of the unit stand that have a record of the page, by the tables.
-pub fn page_spots(
+pub(crate) fn page_spots(
     directory: &Directory,
     overflow: &Overflow,
     unit: u32,
