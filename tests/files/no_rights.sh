@@ -28,7 +28,10 @@ ends_here() {
 for mode in 000 444 222; do
     chmod $mode chip
     ends_here 3 "ipl: chip read failed" run file:5:chip
+    ends_here 3 "ipl: chip write failed" run file:5:chip --format
     ends_here 3 "ipl: chip write failed" format file:5:chip
+    ends_here 3 "ipl: chip write failed" trial file:5:chip --seed 7 --count 10
+    ends_here 0 "" serial file:5:chip
 done
 # To be checked a file has to be read alone.
 for mode in 000 222; do

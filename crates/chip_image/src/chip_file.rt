@@ -27,25 +27,27 @@ pub(crate) fn open_or_make<R: Files<File = File>>(
 ) -> Result<File, AttachFault>
     ensures { IfOk result IsApart }
 {
-    match File::options().read(true).write(writes).open(files, path) {
-        Ok(file) => take(files, file, path, places),
+    // To open a pipe or a device may wait for others, and may do something by itself.
+    match fs::metadata(files, path) {
+        Ok(found) if found.is_file() => take(files, path, places, writes),
         Err(fault) if fault.kind() == ErrorKind::NotFound => {
             make(files, alloc, path, places, blank)
         }
-        Err(_) => Err(AttachFault::NoFile),
+        _ => Err(AttachFault::NoFile),
     }
 }
 
 /// Takes a file that was there, of which all is sure to last that is read from now on.
 fn take<R: Files<File = File>>(
     files: &R,
-    file: File,
     path: &str,
     places: u32,
+    writes: bool,
 ) -> Result<File, AttachFault>
     ensures { IfOk result IsApart }
 {
-    let file = reserve(file)?;
+    let file = File::options().read(true).write(writes).open(files, path)?;
+    let file = reserve(file, writes)?;
     if file.metadata()?.len() != length_of(places) {
         return Err(AttachFault::NoFile);
     }
@@ -60,15 +62,24 @@ fn take<R: Files<File = File>>(
 }
 
 /// Keeps other runs out of an open file, and the file apart from the streams of the process.
-fn reserve(file: File) -> Result<File, AttachFault>
+fn reserve(file: File, writes: bool) -> Result<File, AttachFault>
     ensures { IfOk result IsApart }
 {
     // Where a standard stream is closed, the file has its number; a copy's number is 3 or more.
     let file = file.try_clone()?;
-    if file.as_raw_fd() < 3 || file.try_lock().is_err() {
+    if file.as_raw_fd() < 3 || !is_locked(&file, writes) {
         return Err(AttachFault::NoFile);
     }
     Ok(file)
+}
+
+/// Locks an open file, if no other run has it. Those that only read it share it.
+fn is_locked(file: &File, writes: bool) -> bool {
+    if writes {
+        file.try_lock().is_ok()
+    } else {
+        file.try_lock_shared().is_ok()
+    }
 }
 
 /// Makes the file of an erased chip, under another name until it is whole.
@@ -86,7 +97,7 @@ fn make<R: Files<File = File>>(
     let unfinished = unfinished.as_str();
     let folder = File::open(files, folder_of(path))?;
     remove_leftover(files, unfinished)?;
-    let file = reserve(File::create_new(files, unfinished)?)?;
+    let file = reserve(File::create_new(files, unfinished)?, true)?;
     // Another run may have taken it for a leftover before the lock, and made a file of its own.
     if !stands_at(files, &file, unfinished)? {
         return Err(AttachFault::NoFile);

@@ -60,10 +60,10 @@ impl FileChip {
     /// there is made: filled with bytes FF under the path with `.ipl-new` behind it, synced and
     /// renamed, and its folder is synced. A leftover of that name is replaced.
     ///
-    /// `NoFile`: another run has the file or is making it; it can't be opened for reading and
-    /// writing, has another length, or can't be synced; it can't be made, or the path is a link
-    /// that leads nowhere. A file that was there isn't written, and of one that can't be filled
-    /// nothing is left.
+    /// `NoFile`: another run has the file or is making it; it is a folder, a pipe or a device, can't
+    /// be opened for reading and writing, has another length, or can't be synced; it can't be made,
+    /// or the path is a link that leads nowhere. A file that was there isn't written, and of one
+    /// that can't be filled nothing is left.
     /// `OutOfMemory`: the bytes of an erased place or of the other name can't be had.
     pub fn attach<R: Files<File = File>>(
         files: &R,
@@ -79,7 +79,8 @@ impl FileChip {
     }
 
     /// The same, of which a file that is there is opened for reading alone: each write of the chip
-    /// fails then. One that may only be read can be had so.
+    /// fails then. One that may only be read can be had so, and the lock is shared with others that
+    /// have the file so.
     pub fn attach_to_read<R: Files<File = File>>(
         files: &R,
         alloc: Global,
