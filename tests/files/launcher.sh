@@ -75,8 +75,24 @@ wants "the program's replies come" [ "$(tr '\n' ' ' <said)" = "ok ok ok " ]
 wants "the binary alone is left" [ "$(ls $out)" = "$binary" ]
 (cd / && launches 0 "$work/bin/two") || exit 1
 wants "the second time nothing is built" [ ! -s noted ]
-sleep 0.1
+find repo -exec touch -d "1 hour ago" {} +
+touch -d "1 minute ago" "$out/$binary"
+mkdir -p repo/crates/low/must-fail repo/crates/low/out
+touch repo/crates/other/src/lib.rt repo/crates/low/must-fail/a.edit repo/crates/low/out/kept repo/README.md
+launches 0 ./one
+wants "what it isn't made of is none of its concern" [ ! -s noted ]
+echo fails >how
+for source in crates/low/src/lib.rt "crates/$crate/src/main.rt" crates.txt HANDLES; do
+    touch "repo/$source"
+    launches 125 ./one
+    wants "what is older than $source is built again" grep -q proving noted
+    touch -d "1 hour ago" "repo/$source"
+done
+launches 0 ./one
+echo builds >how
 touch repo/crates/low/src/lib.rt
 launches 0 ./one
-wants "what is older is built again" grep -q proving noted
-echo "no rt, a build that fails, three signals, a build through two links, and later runs"
+wants "the first crate is proved again" grep -q proving noted
+launches 0 ./one
+wants "and then no more" [ ! -s noted ]
+echo "no rt, a build that fails, three signals, a build through two links, later runs, and what is a source and what isn't"
