@@ -4,9 +4,8 @@ from __future__ import annotations
 from typing import Callable, Dict, Iterator, List, Set, Tuple
 
 from .layout import Layout, Spot
-from .sectors import (Kind, PAGES, Sector, log_records, marked_units, transaction_numbers,
-                      units_of)
-from .values import Fault, malformed, page_values
+from .sectors import Kind, Sector, log_records, marked_units, transaction_numbers, units_of
+from .values import Fault, Survey, malformed
 
 MOST_SPOTS_ELSEWHERE = 16
 MOST_OVERFLOW_PLACES = 2
@@ -98,18 +97,16 @@ def overflow_faults(layout: Layout) -> Iterator[Fault]:
         yield Fault(f"no spare {count}")
 
 
-def page_faults(layout: Layout) -> Iterator[Fault]:
-    for unit in sorted(layout.homes):
-        for page in range(PAGES):
-            read = page_values(layout, unit, page)
-            if isinstance(read, Fault):
-                yield read
+def page_faults(survey: Survey) -> Iterator[Fault]:
+    for unit in sorted(survey.units):
+        yield from survey.units[unit].faults
 
 
 FAULT_GROUPS: Tuple[Callable[[Layout], Iterator[Fault]], ...] = (
-    header_faults, commit_faults, log_faults, number_faults, overflow_faults, page_faults)
+    header_faults, commit_faults, log_faults, number_faults, overflow_faults)
 
 
-def faults(layout: Layout) -> List[Fault]:
+def faults(layout: Layout, survey: Survey) -> List[Fault]:
     """All that is wrong, in the order of telling: an opening tells the first."""
-    return [fault for group in FAULT_GROUPS for fault in group(layout)]
+    told = [fault for group in FAULT_GROUPS for fault in group(layout)]
+    return [*told, *page_faults(survey)]

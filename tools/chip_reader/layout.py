@@ -4,7 +4,7 @@ from __future__ import annotations
 from functools import cached_property
 from typing import Dict, FrozenSet, Iterator, List, NamedTuple, Optional, Set, Tuple
 
-from .sectors import (Chart, DataHeader, FIRST_LOG_SECTOR, Kind, MOST_PIECES, RESERVED_PLACES, SECTORS,
+from .sectors import (Chart, DataHeader, FIRST_LOG_SECTOR, Kind, MOST_PIECES, RESERVED_PLACES,
                       Sector, SectorClass, StatusHeader, data_header, erases_of, marked_units,
                       may_have_units, status_header, transaction_numbers, units_of)
 
@@ -24,19 +24,15 @@ class Layout:
     def __init__(self, chart: Chart) -> None:
         self.chart = chart
 
-    def at(self, spot: Spot) -> SectorClass:
-        return self.chart[spot.place][spot.sector]
-
-    def payload_at(self, spot: Spot) -> bytes:
-        """The payload of a sector that checks, else no bytes."""
-        sector = self.at(spot)
-        return sector.payload if isinstance(sector, Sector) else b""
+    @cached_property
+    def firsts(self) -> List[SectorClass]:
+        """Sector 0 of each place."""
+        return [self.chart.sectors(place, 0, 1)[0] for place in range(len(self.chart))]
 
     @cached_property
     def headers(self) -> Dict[int, Sector]:
         """The headers that check, by place."""
-        firsts = ((place, sectors[0]) for place, sectors in enumerate(self.chart))
-        return {place: first for place, first in firsts
+        return {place: first for place, first in enumerate(self.firsts)
                 if isinstance(first, Sector) and first.kind.is_header}
 
     def places_of(self, kind: Kind) -> List[int]:
@@ -101,7 +97,7 @@ class Layout:
     @cached_property
     def erases(self) -> List[int]:
         """How often each place was erased, as an opening takes it."""
-        return [erases_of(sectors[0]) for sectors in self.chart]
+        return [erases_of(first) for first in self.firsts]
 
     @cached_property
     def commits(self) -> Dict[Spot, Sector]:
@@ -149,8 +145,7 @@ class Layout:
 
     def checked(self, place: int, first: int) -> Iterator[Tuple[Spot, Sector]]:
         """The sectors of a place that check, from one on."""
-        for number in range(first, SECTORS):
-            sector = self.chart[place][number]
+        for number, sector in enumerate(self.chart.sectors(place, first), first):
             if isinstance(sector, Sector):
                 yield Spot(place, number), sector
 
@@ -190,8 +185,8 @@ class Layout:
         places = {spot.place for spot in self.live}
         return sorted(places.difference(self.homes.values()))
 
-    def base_spots(self, unit: int, page: int) -> List[Spot]:
-        """Where the base sectors of a page stand, by the unit's current header."""
+    def base_numbers(self, unit: int, page: int) -> range:
+        """Which sectors of its place the base sectors of a unit's page are, by the current header."""
         header = self.data_header(unit)
-        count = header.base_counts[page] if header else 0
-        return [Spot(self.homes[unit], 1 + MOST_PIECES * page + piece) for piece in range(count)]
+        first = 1 + MOST_PIECES * page
+        return range(first, first + (header.base_counts[page] if header else 0))

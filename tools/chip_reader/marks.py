@@ -3,12 +3,12 @@ from __future__ import annotations
 
 from dataclasses import dataclass
 from enum import Enum
-from typing import Iterable, Iterator, List, Optional, Set
+from typing import Dict, Iterable, Iterator, List, Optional, Set, Tuple
 
 from .faults import faults, greatest_found, missing_units
 from .layout import Layout, Spot
-from .sectors import Bad, Erased, Kind, PAGES, Sector, SectorClass, Strange
-from .values import Fault, records, sound_spots, unit_log
+from .sectors import Bad, Erased, Kind, Sector, Strange
+from .values import Fault, SectorSort, Survey, unit_log
 
 MOST_FAULTS = 12
 MOST_RANGES = 12
@@ -36,8 +36,11 @@ class Fill(Enum):
         self.words = words
 
 
-# The fill of a sector that checks: where it counts, and where it is left over.
-FILLS_BY_KIND = {
+# The fill of a sector: where it counts, and where it is left over.
+FILLS: Dict[SectorSort, Tuple[Fill, Fill]] = {
+    Erased: (Fill.ERASED, Fill.ERASED),
+    Bad: (Fill.TORN, Fill.TORN),
+    Strange: (Fill.STRANGE, Fill.STRANGE),
     Kind.DATA: (Fill.HEADER, Fill.OLD_HEADER),
     Kind.STATUS: (Fill.HEADER, Fill.OLD_HEADER),
     Kind.OVERFLOW: (Fill.HEADER, Fill.OLD_HEADER),
@@ -76,7 +79,7 @@ class ChipMarks:
 
 
 def counting_spots(layout: Layout) -> Set[Spot]:
-    """The sectors that count: what an opening or the reading of a page goes by."""
+    """The sectors that count but those of pages: what an opening goes by."""
     header_places = [*layout.homes.values(), *layout.overflow_places]
     if layout.status is not None:
         header_places.append(layout.status)
@@ -84,28 +87,17 @@ def counting_spots(layout: Layout) -> Set[Spot]:
     spots.update(layout.commits, layout.live)
     if layout.close_mark is not None:
         spots.add(layout.close_mark)
-    for unit in layout.homes:
-        for page in range(PAGES):
-            spots.update(sound_spots(layout, unit, page))
     return spots
 
 
-def fill_of(sector: SectorClass, counts: bool) -> Fill:
-    if isinstance(sector, Erased):
-        return Fill.ERASED
-    if isinstance(sector, Bad):
-        return Fill.TORN
-    if isinstance(sector, Strange):
-        return Fill.STRANGE
-    counting, left_over = FILLS_BY_KIND[sector.kind]
-    return counting if counts else left_over
-
-
-def fills_by_place(layout: Layout, found_faults: List[Fault]) -> List[List[Fill]]:
+def fills_by_place(layout: Layout, survey: Survey, found_faults: List[Fault]) -> List[List[Fill]]:
     """The fill of each sector of each place."""
-    fills = [[fill_of(sector, False) for sector in sectors] for sectors in layout.chart]
-    for spot in counting_spots(layout):
-        fills[spot.place][spot.sector] = fill_of(layout.at(spot), True)
+    fills = [[FILLS[sort][1] for sort in sorts] for sorts in survey.sorts]
+    for place, number in counting_spots(layout):
+        fills[place][number] = FILLS[survey.sorts[place][number]][0]
+    for unit, found in survey.units.items():
+        for number in found.sound:
+            fills[layout.homes[unit]][number] = Fill.BASE
     for fault in found_faults:
         if fault.spot is not None:
             fills[fault.spot.place][fault.spot.sector] = Fill.FAULT
@@ -114,7 +106,7 @@ def fills_by_place(layout: Layout, found_faults: List[Fault]) -> List[List[Fill]
 
 def kind_words(layout: Layout, place: int, fills: List[Fill]) -> str:
     """What a place is for, by its sector 0."""
-    first = layout.chart[place][0]
+    first = layout.firsts[place]
     if isinstance(first, Erased):
         is_free = all(fill == Fill.ERASED for fill in fills)
         return "erased" if is_free else "no header"
@@ -178,10 +170,13 @@ def log_line(layout: Layout) -> str:
     """How much log counts, and how many of its records are committed."""
     if not layout.live:
         return "no live log sector"
-    found = [record for unit in layout.logs for record in unit_log(layout, unit)]
-    committed = sum(record.transaction in layout.committed for record in found)
+    found = committed = 0
+    for unit in layout.logs:
+        for record in unit_log(layout, unit):
+            found += 1
+            committed += record.transaction in layout.committed
     sectors = counted(len(layout.live), "live log sector")
-    return f"{sectors} with {counted(len(found), 'record')}, {committed} of them committed"
+    return f"{sectors} with {counted(found, 'record')}, {committed} of them committed"
 
 
 def erase_line(layout: Layout) -> str:
@@ -199,11 +194,11 @@ def size_words(layout: Layout) -> str:
     return f"{places}, {units} and {counted(layout.spares, 'spare place')}"
 
 
-def summary(layout: Layout, found_faults: List[Fault]) -> List[str]:
+def summary(layout: Layout, survey: Survey, found_faults: List[Fault]) -> List[str]:
     """The lines over all: the size, what the chip stands for, its log, its numbers, its wear."""
     holds = "no records are listed, for its faults"
     if not found_faults:
-        holds = counted(len(records(layout)), "record")
+        holds = counted(survey.records, "record")
     numbers = counted(len(layout.committed), "committed number")
     lines = [f"chip of {size_words(layout)}: {holds}", f"{numbers}; {log_line(layout)}",
              f"greatest number found: {greatest_found(layout)}", erase_line(layout)]
@@ -221,8 +216,9 @@ def summary(layout: Layout, found_faults: List[Fault]) -> List[str]:
 
 
 def chip_marks(layout: Layout) -> ChipMarks:
-    found_faults = faults(layout)
-    fills = fills_by_place(layout, found_faults)
+    survey = Survey(layout)
+    found_faults = faults(layout, survey)
+    fills = fills_by_place(layout, survey, found_faults)
     places = [place_mark(layout, place, fills[place]) for place in range(len(fills))]
     fault_lines = at_most(MOST_FAULTS, (f"fault: {fault}" for fault in found_faults))
-    return ChipMarks(summary(layout, found_faults), fault_lines, places)
+    return ChipMarks(summary(layout, survey, found_faults), fault_lines, places)

@@ -5,7 +5,8 @@ import struct
 import zlib
 from dataclasses import dataclass
 from enum import IntEnum
-from typing import BinaryIO, Dict, FrozenSet, List, Optional, Sequence, Tuple, Union
+from functools import lru_cache
+from typing import BinaryIO, Dict, FrozenSet, List, NamedTuple, Optional, Sequence, Tuple, Union
 
 SECTOR_BYTES = 512
 SECTORS = 256
@@ -51,7 +52,7 @@ class Kind(IntEnum):
         return self <= Kind.OVERFLOW
 
 
-KINDS = frozenset(int(kind) for kind in Kind)
+KINDS = {int(kind): kind for kind in Kind}
 
 
 @dataclass(frozen=True)
@@ -71,8 +72,7 @@ class Strange:
     """A sector whose sum is right, and which breaks another rule."""
 
 
-@dataclass(frozen=True)
-class Sector:
+class Sector(NamedTuple):
     """A sector that checks, and what it says. Its payload is read by its own version."""
     kind: Kind
     version: int
@@ -84,12 +84,10 @@ class Sector:
 
 ERASED = Erased()
 SectorClass = Union[Erased, Bad, Strange, Sector]
-# By place and sector, what a chip holds.
-Chart = Sequence[Sequence[SectorClass]]
 
 
 class NotAChip(Exception):
-    """A file that has the length of no chip."""
+    """A file that has the length of no chip, or can't be read to its end."""
 
 
 def sum_of(sector: bytes) -> int:
@@ -106,10 +104,10 @@ def class_of(sector: bytes) -> SectorClass:
     if stored != computed:
         return Bad(stored, computed)
     is_known = marker == MARKER and kind in KINDS and FIRST_VERSION <= version <= LAST_VERSION
-    if not is_known or used > PIECE_BYTES or any(sector[HEAD.size + used:]):
+    end = HEAD.size + used
+    if not is_known or used > PIECE_BYTES or any(sector[end:]):
         return Strange()
-    return Sector(Kind(kind), version, unit, generation, serial,
-                  sector[HEAD.size:HEAD.size + used])
+    return Sector(KINDS[kind], version, unit, generation, serial, sector[HEAD.size:end])
 
 
 def count_places(length: int) -> int:
@@ -122,24 +120,31 @@ def count_places(length: int) -> int:
     return places
 
 
-def chart_of_place(contents: bytes) -> List[SectorClass]:
-    if contents == BLANK * SECTORS:
-        return [ERASED] * SECTORS
-    starts = range(0, PLACE_BYTES, SECTOR_BYTES)
-    return [class_of(contents[start:start + SECTOR_BYTES]) for start in starts]
+class Chart:
+    """What stands in each sector of a chip file. It is read when it is asked for, a place at a time,
+    since all that a large chip holds would take hundreds of megabytes."""
 
+    def __init__(self, file: BinaryIO) -> None:
+        self.file = file
+        self.places = count_places(file.seek(0, 2))
 
-def read_chart(file: BinaryIO) -> Chart:
-    """Reads a chip file from its beginning, a place at a time."""
-    places = count_places(file.seek(0, 2))
-    file.seek(0)
-    chart = []
-    for place in range(places):
-        contents = file.read(PLACE_BYTES)
-        if len(contents) < PLACE_BYTES:
+    def __len__(self) -> int:
+        return self.places
+
+    def sectors(self, place: int, first: int = 0, end: int = SECTORS) -> List[SectorClass]:
+        """The sectors of a place from one number up to another, which isn't among them."""
+        length = (end - first) * SECTOR_BYTES
+        try:
+            self.file.seek((place * SECTORS + first) * SECTOR_BYTES)
+            contents = self.file.read(length)
+        except OSError as error:
+            raise NotAChip(f"place {place}: {error.strerror or error}") from error
+        if len(contents) < length:
             raise NotAChip(f"the file ends within place {place}")
-        chart.append(chart_of_place(contents))
-    return chart
+        if contents == BLANK * (end - first):
+            return [ERASED] * (end - first)
+        starts = range(0, length, SECTOR_BYTES)
+        return [class_of(contents[start:start + SECTOR_BYTES]) for start in starts]
 
 
 @dataclass(frozen=True)
@@ -217,32 +222,31 @@ def most_value_bytes(version: int) -> int:
 
 def text_size(slots: Dict[int, bytes]) -> int:
     """How many bytes the text of a page takes with these values, as it is written now."""
-    return sum(3 + len(value) for value in slots.values())
+    return 3 * len(slots) + sum(map(len, slots.values()))
 
 
 def page_slots(text: bytes, version: int) -> Optional[Dict[int, bytes]]:
     """The records of a page's text by slot, or none where it is no page's text."""
     slots: Dict[int, bytes] = {}
-    at, least = 0, 0
+    at, least, end = 0, 0, len(text)
     head = 2 if version == FIRST_VERSION else 3
-    if len(text) > MOST_TEXT_BYTES:
+    most = most_value_bytes(version)
+    if end > MOST_TEXT_BYTES:
         return None
-    while at < len(text):
-        if len(text) < at + head:
+    while at < end:
+        start = at + head
+        if end < start:
             return None
-        slot, length = text[at], int.from_bytes(text[at + 1:at + head], "big")
-        value = text[at + head:at + head + length]
-        if not least <= slot < SLOTS or not length <= most_value_bytes(version):
+        slot, length = text[at], int.from_bytes(text[at + 1:start], "big")
+        at = start + length
+        if not least <= slot < SLOTS or length > most or end < at:
             return None
-        if len(value) < length:
-            return None
-        slots[slot] = value
-        at, least = at + head + length, slot + 1
+        slots[slot] = text[start:at]
+        least = slot + 1
     return slots
 
 
-@dataclass(frozen=True)
-class LogRecord:
+class LogRecord(NamedTuple):
     """A change of a slot by a transaction; without a value a delete."""
     page: int
     slot: int
@@ -269,7 +273,9 @@ def log_record_at(payload: bytes, at: int, version: int) -> Optional[Tuple[LogRe
     return LogRecord(page, slot, transaction, value if kind == PUT else None), start + length
 
 
-def log_records(sector: Sector) -> Optional[List[LogRecord]]:
+# Each is asked for several times: for faults, for its numbers, and for each unit's pages.
+@lru_cache(maxsize=None)
+def log_records(sector: Sector) -> Optional[Tuple[LogRecord, ...]]:
     """The records of a log sector in order, or none where its payload isn't in the grammar."""
     records = []
     at = 0
@@ -279,7 +285,7 @@ def log_records(sector: Sector) -> Optional[List[LogRecord]]:
             return None
         record, at = read
         records.append(record)
-    return records
+    return tuple(records)
 
 
 def transaction_numbers(payload: bytes) -> Optional[List[int]]:

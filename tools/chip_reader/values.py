@@ -2,11 +2,11 @@
 from __future__ import annotations
 
 from dataclasses import dataclass
-from typing import Dict, List, Optional, Tuple, Union
+from typing import Dict, Iterator, List, Optional, Tuple, Union
 
 from .layout import Layout, Spot
 from .sectors import (Bad, Kind, LogRecord, MOST_TEXT_BYTES, PAGES, PIECE_BYTES, SLOTS, Sector,
-                      log_records, page_slots, text_size)
+                      SectorClass, log_records, page_slots, text_size)
 
 Slots = Dict[int, bytes]
 
@@ -32,38 +32,20 @@ def damaged(spot: Spot, sector: Bad) -> Fault:
     return Fault(f"damaged {spot} {sums}", spot)
 
 
-def base_fault(layout: Layout, unit: int, spot: Spot, is_last: bool) -> Optional[Fault]:
-    """What is wrong with one base sector of a page, by itself."""
-    sector = layout.at(spot)
-    if isinstance(sector, Bad):
-        return damaged(spot, sector)
+def is_base(header: Sector, number: int, sector: SectorClass, is_last: bool) -> bool:
+    """Whether nothing is wrong with a base sector of a page by itself, by its unit's header."""
     if not isinstance(sector, Sector) or sector.kind != Kind.BASE:
-        return malformed(spot)
+        return False
     # Piece i of page p has serial 16 p + i, and stands in the sector of the next number.
-    header = layout.home_header(unit)
-    wanted = header.version, unit, header.generation, spot.sector - 1
+    wanted = header.version, header.unit, header.generation, number - 1
     is_its_own = (sector.version, sector.unit, sector.generation, sector.serial) == wanted
-    is_filled = len(sector.payload) > 0 if is_last else len(sector.payload) == PIECE_BYTES
-    return None if is_its_own and is_filled else malformed(spot)
+    length = len(sector.payload)
+    return is_its_own and (length > 0 if is_last else length == PIECE_BYTES)
 
 
-def sound_spots(layout: Layout, unit: int, page: int) -> List[Spot]:
-    """The base sectors of a page with which nothing is wrong by themselves."""
-    spots = layout.base_spots(unit, page)
-    return [spot for spot in spots if base_fault(layout, unit, spot, spot == spots[-1]) is None]
-
-
-def base_page(layout: Layout, unit: int, page: int) -> Union[Slots, Fault]:
-    """The values of a page without its log, or the first fault of its base sectors."""
-    spots = layout.base_spots(unit, page)
-    text = b""
-    for spot in spots:
-        fault = base_fault(layout, unit, spot, spot == spots[-1])
-        if fault:
-            return fault
-        text += layout.payload_at(spot)
-    slots = page_slots(text, layout.home_header(unit).version)
-    return malformed(spots[0]) if slots is None else slots
+def base_fault(spot: Spot, sector: SectorClass) -> Fault:
+    """What is wrong with a base sector with which something is."""
+    return damaged(spot, sector) if isinstance(sector, Bad) else malformed(spot)
 
 
 def unit_log(layout: Layout, unit: int) -> List[LogRecord]:
@@ -72,35 +54,90 @@ def unit_log(layout: Layout, unit: int) -> List[LogRecord]:
     return [record for sector in sectors for record in log_records(sector) or []]
 
 
-def page_values(layout: Layout, unit: int, page: int) -> Union[Slots, Fault]:
-    """The values of a page, its log applied, or its fault: that of its base sectors, or that of its
-    unit's header where a page has no room for the values."""
-    slots = base_page(layout, unit, page)
-    if isinstance(slots, Fault):
-        return slots
-    for record in unit_log(layout, unit):
-        if record.page == page and record.transaction in layout.committed:
-            slots.pop(record.slot, None)
-            if record.value is not None:
-                slots[record.slot] = record.value
-    is_full = text_size(slots) > MOST_TEXT_BYTES
-    return malformed(Spot(layout.homes[unit], 0)) if is_full else slots
+def base_slots(layout: Layout, unit: int, page: int, sectors: List[SectorClass],
+               sound: List[int]) -> Union[Slots, Fault]:
+    """The values of a page without its log, or the first fault of its base sectors, by the sectors of
+    its unit's place. The numbers of those with which nothing is wrong by themselves become sound."""
+    header, numbers = layout.home_header(unit), layout.base_numbers(unit, page)
+    wrong = [number for number in numbers
+             if not is_base(header, number, sectors[number], number == numbers[-1])]
+    sound.extend(number for number in numbers if number not in wrong)
+    if wrong:
+        return base_fault(Spot(layout.homes[unit], wrong[0]), sectors[wrong[0]])
+    text = b"".join(sectors[number].payload for number in numbers)
+    slots = page_slots(text, header.version)
+    return malformed(Spot(layout.homes[unit], numbers[0])) if slots is None else slots
 
 
-def unit_records(layout: Layout, unit: int) -> Dict[Tuple[int, int], bytes]:
-    """The values of a unit by page and slot, its log applied; its pages have no fault."""
-    values: Dict[Tuple[int, int], bytes] = {}
+def unit_pages(layout: Layout, unit: int, sectors: List[SectorClass],
+               sound: List[int]) -> Iterator[Union[Slots, Fault]]:
+    """The values of each page of a unit, its log applied, or its fault: that of its base sectors, or
+    that of its unit's header where a page has no room for the values."""
+    committed = [record for record in unit_log(layout, unit) if record.transaction in layout.committed]
     for page in range(PAGES):
-        slots = page_values(layout, unit, page)
-        assert not isinstance(slots, Fault)
-        values.update({(page, slot): value for slot, value in slots.items()})
-    return values
+        slots = base_slots(layout, unit, page, sectors, sound)
+        if isinstance(slots, Fault):
+            yield slots
+            continue
+        for record in committed:
+            if record.page == page:
+                slots.pop(record.slot, None)
+                if record.value is not None:
+                    slots[record.slot] = record.value
+        is_full = text_size(slots) > MOST_TEXT_BYTES
+        yield malformed(Spot(layout.homes[unit], 0)) if is_full else slots
 
 
-def records(layout: Layout) -> List[Tuple[int, bytes]]:
+@dataclass(frozen=True)
+class UnitSurvey:
+    """What the pages of a unit hold, without their values: the numbers of the base sectors that are
+    sound, the faults of pages, and how many records the others have."""
+    sound: List[int]
+    faults: List[Fault]
+    records: int
+
+
+# A kind, or of a sector that doesn't check what it is.
+SectorSort = Union[Kind, type]
+
+
+class Survey:
+    """What a pass over all places finds that is to be known of all of them: what each sector is, by
+    place, and what the pages of each unit hold that has a current place."""
+
+    def __init__(self, layout: Layout) -> None:
+        self.sorts: List[List[SectorSort]] = []
+        self.units: Dict[int, UnitSurvey] = {}
+        at_home = {place: unit for unit, place in layout.homes.items()}
+        for place in range(len(layout.chart)):
+            sectors = layout.chart.sectors(place)
+            self.sorts.append([sector.kind if isinstance(sector, Sector) else type(sector)
+                               for sector in sectors])
+            if place in at_home:
+                self.units[at_home[place]] = survey_of(layout, at_home[place], sectors)
+
+    @property
+    def records(self) -> int:
+        """How many records a chip without a fault has."""
+        return sum(unit.records for unit in self.units.values())
+
+
+def survey_of(layout: Layout, unit: int, sectors: List[SectorClass]) -> UnitSurvey:
+    sound: List[int] = []
+    faults, records = [], 0
+    for read in unit_pages(layout, unit, sectors, sound):
+        if isinstance(read, Fault):
+            faults.append(read)
+        else:
+            records += len(read)
+    return UnitSurvey(sound, faults, records)
+
+
+def records(layout: Layout) -> Iterator[Tuple[int, bytes]]:
     """The records of a chip without a fault, by rising name."""
-    named = []
     for unit in range(layout.units):
-        for (page, slot), value in unit_records(layout, unit).items():
-            named.append(((unit * PAGES + page) * SLOTS + slot, value))
-    return sorted(named)
+        sectors = layout.chart.sectors(layout.homes[unit])
+        for page, slots in enumerate(unit_pages(layout, unit, sectors, [])):
+            assert not isinstance(slots, Fault)
+            for slot in sorted(slots):
+                yield (unit * PAGES + page) * SLOTS + slot, slots[slot]
