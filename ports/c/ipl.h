@@ -108,7 +108,7 @@ struct ipl_request {
 
 /* ---- a part ------------------------------------------------------------------------------------
  *
- * `detail` has room for four numbers, or is NULL; no other pointer is, here and below. No store has
+ * `detail` has room for four numbers, or is NULL; no other pointer is, here and below, but where it is said. No store has
  * the part open.
  */
 /* Formats a part, with `spares` places (0 to 64) for those that wear out. All that it held is gone. */
@@ -157,7 +157,8 @@ int ipl_put(struct ipl *s, uint32_t session, uint32_t name, const void *value, u
 int ipl_del(struct ipl *s, uint32_t session, uint32_t name);
 /* IPL_OK: the session's writes last, all of them, and it is closed. */
 int ipl_commit(struct ipl *s, uint32_t session);
-/* Several sessions, 2 to 32, by one commit: a power cut leaves the writes of all or of none. */
+/* Several sessions, up to 32, by one commit: a power cut leaves the writes of all or of none. One is its
+ * ipl_commit; of none, where `sessions` may be NULL, nothing changes. */
 int ipl_commit_all(struct ipl *s, const uint32_t *sessions, uint32_t count);
 int ipl_abort(struct ipl *s, uint32_t session);
 /* Writes a unit anew, so that its next log sectors cost no merge. */
