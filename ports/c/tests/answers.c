@@ -1,0 +1,189 @@
+/* Each answer by itself, over two parts at once: how many units, frames and records there are, each fault of
+ * a get, batches of no session and of one. Of the part that isn't asked nothing changes. usage: answers */
+#include "../ipl.h"
+#include "part.h"
+#include <stdio.h>
+#include <stdlib.h>
+#include <string.h>
+
+enum { PLACES = 9, OTHER = 0, PART = 1, NAME = 5, PAGE_SLOTS = 64, TRIES = 100 };
+
+static struct ipl other, memory, *store = &memory;
+static const struct part_ills none, unread = {.fails[READ] = 65536},
+                              unwritten = {.fails[PROGRAM] = 65536}, lying = {.lies = 32768};
+
+static void must(int holds, const char *what) {
+    if (holds) return;
+    const uint32_t *d = ipl_detail(store);
+    fprintf(stderr, "answers: %s (%u %u %08x %08x)\n", what, d[0], d[1], d[2], d[3]);
+    exit(1);
+}
+
+static void opens(uint32_t frames) { must(ipl_open(store, PART, PLACES, frames) == IPL_OK, "an opening"); }
+
+static int gets(uint32_t name, uint32_t *len) {
+    uint8_t bytes[IPL_VALUE];
+    return ipl_get(store, 0, name, bytes, len);
+}
+
+/* Commits a byte at a name, or that there is none. */
+static void writes(struct ipl *s, uint32_t name, int there) {
+    static const uint8_t byte = 0x61;
+    must(ipl_begin(s, 0) == IPL_OK, "a begin");
+    must((there ? ipl_put(s, 0, name, &byte, 1) : ipl_del(s, 0, name)) == IPL_OK, "a write");
+    must(ipl_commit(s, 0) == IPL_OK, "a commit");
+}
+
+static int has(struct ipl *s, uint32_t name) {
+    uint8_t bytes[IPL_VALUE];
+    uint32_t len;
+    int answer = ipl_committed(s, name, bytes, &len);
+    must(answer == IPL_NOTHING || (answer == IPL_OK && len == 1 && bytes[0] == 0x61), "a record");
+    return answer == IPL_OK;
+}
+
+/* Each spare place is a unit less. The last format here has none to spare. */
+static void try_units(void) {
+    for (uint32_t spares = 3; spares-- > 0;) {
+        must(ipl_format(PART, PLACES, spares, NULL) == IPL_OK, "a format");
+        opens(2);
+        must(ipl_unit_count(store) == PLACES - 4 - spares, "four places and the spare ones are no units");
+        must(ipl_merge(store, PLACES - 5 - spares) == IPL_OK, "a merge of the last unit");
+        must(ipl_merge(store, PLACES - 4 - spares) == IPL_BAD_UNIT, "no unit behind it");
+        ipl_close(store);
+    }
+}
+
+/* All frames but one can be held. */
+static void try_frames(void) {
+    static const uint32_t asked[] = {2, 3, 16, 64};
+    for (size_t i = 0; i < sizeof asked / sizeof *asked; i++) {
+        uint32_t last = asked[i] - 1;
+        opens(asked[i]);
+        for (uint32_t page = 0; page < last; page++)
+            must(ipl_hold(store, page / 15, page % 15) == IPL_OK, "holds of all frames but one");
+        must(ipl_hold(store, last / 15, last % 15) == IPL_HOLDS_FULL, "and not of the last");
+        ipl_close(store);
+    }
+}
+
+static void counts(uint32_t wanted) {
+    uint32_t found = 7;
+    must(ipl_check(PART, PLACES, &found, NULL) == IPL_OK && found == wanted, "as many records as were put");
+}
+
+static void try_records(void) {
+    counts(0);
+    opens(4);
+    writes(store, NAME, 1);
+    ipl_close(store);
+    counts(1);
+    opens(4);
+    writes(store, 4799, 1);
+    writes(store, 960, 1);
+    ipl_close(store);
+    counts(3);
+    opens(4);
+    writes(store, 960, 0);
+    must(has(store, NAME) && has(store, 4799) && !has(store, 960), "the records");
+    ipl_close(store);
+    counts(2);
+}
+
+/* A get, a share and a get of what is committed have this answer, and no value. */
+static void all_answer(int wanted, const char *what) {
+    uint8_t bytes[IPL_VALUE];
+    uint32_t len = 7;
+    must(gets(NAME, &len) == wanted && len == 0, what);
+    len = 7;
+    must(ipl_share(store, 0, NAME, bytes, &len) == wanted && len == 0, what);
+    len = 7;
+    must(ipl_committed(store, NAME, bytes, &len) == wanted && len == 0, what);
+}
+
+/* A read that fails, and one that has other bytes: the store goes on. */
+static void try_reads(void) {
+    uint32_t damaged = 0, malformed = 0, len;
+    opens(4);
+    must(ipl_merge(store, 0) == IPL_OK, "a merge, so that the page has base sectors and no log");
+    for (int i = 0; i < TRIES && (damaged == 0 || malformed == 0); i++) {
+        /* No page is in a frame. */
+        must(ipl_reopen(store) == IPL_OK && ipl_begin(store, 0) == IPL_OK, "a reopen");
+        part_set_ills(PART, unread);
+        all_answer(IPL_READ_FAULT, "a read that fails");
+        part_set_ills(PART, lying);
+        int answer = gets(NAME, &len);
+        const uint32_t *d = ipl_detail(store);
+        part_set_ills(PART, none);
+        /* Half of the reads lie, and the sector that a lie shows may be the right one. */
+        must(answer == IPL_DAMAGED || answer == IPL_MALFORMED || answer == IPL_OK, "a read of other bytes");
+        if (answer != IPL_OK) must(d[0] < PLACES && len == 0, "a place, and no value");
+        if (answer == IPL_DAMAGED) must(d[1] == 1 && d[2] != d[3], "the sector of its page, and two sums");
+        if (answer == IPL_MALFORMED) must(d[1] <= 1 && d[2] == 0 && d[3] == 0, "that or the header, and no sums");
+        damaged += answer == IPL_DAMAGED;
+        malformed += answer == IPL_MALFORMED;
+        must(gets(NAME, &len) == IPL_OK && len == 1, "a store that goes on");
+    }
+    must(damaged != 0 && malformed != 0, "damage and another sector");
+    ipl_close(store);
+}
+
+/* A get that has to write a page out, which fails: the store is down until it is opened again. */
+static void try_down(void) {
+    static const uint8_t byte = 0x62;
+    uint32_t len;
+    opens(2);
+    must(ipl_begin(store, 0) == IPL_OK, "a begin");
+    for (uint32_t page = 1; page < 3; page++)
+        must(ipl_put(store, 0, page * PAGE_SLOTS, &byte, 1) == IPL_OK, "a put in each frame");
+    part_set_ills(PART, unwritten);
+    must(gets(NAME, &len) == IPL_STOPPED && len == 0, "a write that fails in a get");
+    part_set_ills(PART, none);
+    struct part_counts before = part_counts(PART), after;
+    all_answer(IPL_DOWN, "a store that is down");
+    after = part_counts(PART);
+    must(memcmp(&before, &after, sizeof before) == 0, "which asks the part nothing");
+    must(ipl_reopen(store) == IPL_OK && has(store, NAME) && !has(store, PAGE_SLOTS), "a reopen");
+    ipl_close(store);
+}
+
+/* A batch of no session changes nothing, and one of one session is its commit. */
+static void try_batches(void) {
+    static const uint8_t byte = 0x61;
+    uint32_t session = 0;
+    opens(4);
+    must(ipl_begin(store, 0) == IPL_OK && ipl_put(store, 0, 7, &byte, 1) == IPL_OK, "a put");
+    must(ipl_commit_all(store, NULL, 0) == IPL_OK && !has(store, 7), "a batch of none");
+    must(ipl_commit_all(store, &session, 1) == IPL_OK && has(store, 7), "a batch of one");
+    must(ipl_abort(store, 0) == IPL_NOT_OPEN, "its session is closed");
+    must(ipl_commit_all(store, &session, 1) == IPL_NOT_OPEN, "a batch of one that isn't open");
+    ipl_close(store);
+}
+
+int main(void) {
+    any_begin(1);
+    part_new(OTHER, PLACES);
+    part_new(PART, PLACES);
+    must(ipl_format(OTHER, PLACES, 0, NULL) == IPL_OK, "a format of the other part");
+    must(ipl_open(&other, OTHER, PLACES, 4) == IPL_OK, "an opening of the other part");
+    writes(&other, 8, 1);
+    struct part_counts before = part_counts(OTHER), after;
+    try_units();
+    try_frames();
+    try_records();
+    try_reads();
+    try_down();
+    try_batches();
+    after = part_counts(OTHER);
+    must(memcmp(&before, &after, sizeof before) == 0, "another part is asked nothing");
+    before = part_counts(PART);
+    writes(&other, 9, 1);
+    must(has(&other, 8) && has(&other, 9) && !has(&other, NAME), "what the other part holds");
+    after = part_counts(PART);
+    must(memcmp(&before, &after, sizeof before) == 0, "nor this one by the other's store");
+    ipl_close(&other);
+    part_free(OTHER);
+    part_free(PART);
+    printf("answers: units, frames, records, faults of a get and batches are as they must be, over two parts\n");
+    return 0;
+}
