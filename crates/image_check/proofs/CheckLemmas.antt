@@ -7,9 +7,11 @@ use Rattle.ipl_base.specs.declared.fault.ImageFault.{ImageFault}
 use Rattle.ipl_base.specs.declared.fault.ImageFault.TheVariants.{Chip}
 use Rattle.ipl_base.specs.Sizes.{size_of_values}
 use Rattle.ipl_base.proofs.FirstLemmas.{or_none, first_none, none_before}
+use Rattle.std.proofs.lemmas.Bool.{false≢true}
 use Rattle.chip_trait.specs.Story.{Contents}
 use Rattle.ipl_model.specs.State.{Map}
 use Rattle.ipl_format.specs.Page.{value_in}
+use Rattle.ipl_meaning.specs.Legible.{whole}
 use Rattle.ipl_meaning.specs.Chart.{Chart, chart_of}
 use Rattle.ipl_meaning.specs.Values.{Values, after_records}
 use Rattle.ipl_meaning.specs.Layout.{Shape, Layout, Laid, records_of}
@@ -80,13 +82,13 @@ module _ (x : Contents) (places : ℕ) (it : Layout) (laid : Laid places (chart_
         );
       }
 
-  pub pages_stand : (m : Map) × Stands places (chart_of x) m
+  pub pages_stand : (m : Map) × Stands places (chart_of x) (whole m)
   pages_stand = (
     all.map,
     record {
       layout = it;
       laid = laid;
-      says = record { pages = shows; nowhere_else = λ n high. all.none n high };
+      says = record { pages = λ u page low few reads. shows u page low few; rotten = λ u page base low few is reads. false≢true is; nowhere_else = λ n high. all.none n high };
     },
   )
 
@@ -99,7 +101,7 @@ checked_chips_stand x places bytes none =
 -- ---- a chip that stands
 
 module _ (x : Contents) (places : ℕ) (it : Layout) (laid : Laid places (chart_of x) it) (m : Map)
-    (stands : Stands places (chart_of x) m) where
+    (stands : Stands places (chart_of x) (whole m)) where
   alike : AreOneLayout it stands.layout
   alike = laid_once places (chart_of x) it stands.layout laid stands.laid
 
@@ -107,7 +109,7 @@ module _ (x : Contents) (places : ℕ) (it : Layout) (laid : Laid places (chart_
       → Shows (chart_of x) stands.layout.committed u (it.units u) page (page_in m u page)
   theirs u page low few =
       subst (λ (s : Shape). Shows (chart_of x) stands.layout.committed u s page (page_in m u page))
-      (sym (alike.units u low)) (stands.says.pages u page (omega (arith, low, alike.count)) few)
+      (sym (alike.units u low)) (stands.says.pages u page (omega (arith, low, alike.count)) few refl)
 
   shown : (u page : ℕ) → u < it.count → page < 15
       → Shows (chart_of x) it.committed u (it.units u) page (page_in m u page)

@@ -12,6 +12,7 @@ use Rattle.ipl_base.specs.declared.fault.ImageFault.{ImageFault}
 use Rattle.ipl_base.specs.declared.fault.ImageFault.TheVariants.{Geometry, NotFormatted, Missing, Chip, Spent, NoSpare}
 use Rattle.ipl_base.specs.Places.{IsGeometry}
 use Rattle.ipl_model.specs.State.{Map}
+use Rattle.ipl_meaning.specs.Legible.{whole}
 use Rattle.ipl_meaning.specs.Chart.{Chart, chart_of}
 use Rattle.ipl_meaning.specs.Layout.{Layout}
 use Rattle.ipl_meaning.specs.Mirrors.{Mirrors}
@@ -140,7 +141,7 @@ counted_cause old mid new e (Err y) exit counts cause =
 pub all_checked : (x : Contents) (places : ℕ) → IsByteChart places (chart_of x) → shape_fault (chart_of x) places ≡ None
     → pages_fault x (layout_in (chart_of x) places) ≡ None → (n : ℕ)
     → n ≡ records_below x (layout_in (chart_of x) places) (layout_in (chart_of x) places).count
-    → (m : Map) × Stands places (chart_of x) m × (n ≡ records_in (units_at (chart_of x) places) m)
+    → (m : Map) × Stands places (chart_of x) (whole m) × (n ≡ records_in (units_at (chart_of x) places) m)
 all_checked x places bytes shape pages n is =
     let c = chart_of x in
     let it = layout_in c places in

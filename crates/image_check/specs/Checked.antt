@@ -11,6 +11,7 @@ use Rattle.ipl_base.specs.declared.fault.ImageFault.TheVariants.{Geometry, NotFo
 use Rattle.chip_trait.specs.Story.{Contents}
 use Rattle.chip_trait.specs.Told.{Told, Rose}
 use Rattle.ipl_model.specs.State.{Map}
+use Rattle.ipl_meaning.specs.Legible.{whole}
 use Rattle.ipl_meaning.specs.Chart.{chart_of}
 use Rattle.ipl_meaning.specs.Layout.{Layout}
 use Rattle.ipl_meaning.specs.Stands.{Stands}
@@ -77,19 +78,19 @@ TellsRecords fault records result = MatchResult result
 -- the chip stands for no records, and this is its first fault
 pub record IsUnwell (x : Contents) (places : ℕ) (fault : ImageFault) : Type 0 where
   pub first : check_fault x places ≡ Some fault
-  pub stray : (m : Map) → ¬ Stands places (chart_of x) m
+  pub stray : (m : Map) → ¬ Stands places (chart_of x) (whole m)
 
 -- the records that a chip stands for are counted; or it stands for none, and the fault is the first there
 -- is, unless a read failed
 abbrev pub ChecksImage : Contents → ℕ → Result ℕ ImageFault → Type 0
 ChecksImage x places result = MatchResult result
-    (λ n. (m : Map) × Stands places (chart_of x) m × (n ≡ records_in (units_at (chart_of x) places) m))
+    (λ n. (m : Map) × Stands places (chart_of x) (whole m) × (n ≡ records_in (units_at (chart_of x) places) m))
     (λ fault. fault ≢ Chip ReadFault → IsUnwell x places fault)
 
 -- the same, unless memory was wanting
 abbrev pub Checks : Contents → ℕ → Result ℕ CheckFault → Type 0
 Checks x places result = MatchResult result
-    (λ n. (m : Map) × Stands places (chart_of x) m × (n ≡ records_in (units_at (chart_of x) places) m))
+    (λ n. (m : Map) × Stands places (chart_of x) (whole m) × (n ≡ records_in (units_at (chart_of x) places) m))
     (λ e. (fault : ImageFault) → e ≡ Image fault → fault ≢ Chip ReadFault → IsUnwell x places fault)
 
 -- ---- causes

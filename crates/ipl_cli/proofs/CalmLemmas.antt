@@ -6,6 +6,7 @@ use Rattle.ipl_base.specs.Places.{IsGeometry, IsSpared}
 use Rattle.ipl_base.specs.declared.fault.ChipFault.TheVariants.{ReadFault, Stopped, Damaged, Malformed, WornOut}
 use Rattle.ipl_base.specs.declared.fault.ImageFault.{ImageFault}
 use Rattle.ipl_base.specs.declared.fault.ImageFault.TheVariants as image
+use Rattle.ipl_meaning.specs.Legible.{whole}
 use Rattle.ipl_meaning.specs.Chart.{chart_of}
 use Rattle.ipl_meaning.specs.Faults.{greatest_found}
 use Rattle.restart.specs.RenewalChains.{starts_at}
@@ -29,7 +30,7 @@ module _ (old : Told) (consistent : IsConsistent old) where
       map = m;
       history = starts_at x;
       steady = steady_start x old consistent told;
-      rests = images_rest old.places m x stands;
+      rests = images_rest old.places (whole m) x stands;
       left = low;
     }))
     | inr high ↦ high

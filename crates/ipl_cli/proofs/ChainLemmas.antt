@@ -2,6 +2,7 @@
 use Rattle.std.proofs.Common.{ℕ, ◌≡◌, true, [], List, Some, Ok, refl, sym, ◌∙◌, ap, subst, arith}
 use Rattle.chip_trait.specs.Told.{Told, Unrisen, adds_all}
 use Rattle.ipl_model.specs.State.{Map}
+use Rattle.ipl_meaning.specs.Legible.{whole}
 use Rattle.ipl_meaning.specs.Rests.{StoryRests}
 use Rattle.restart.specs.Events.{format_events}
 use Rattle.ipl_cli.specs.Ending.{Ending, AtStatus, units_beside}
@@ -20,7 +21,7 @@ module _ (old new : Told) (m : Map) (script : List ℕ) (on : RestsOn m script o
   run_rests = record {
     history = adds_all ran.added on.history;
     steady = ran.steady unrisen;
-    rests = subst (λ (q : ℕ). StoryRests q (records_after (units_kept old on.history) m script)
+    rests = subst (λ (q : ℕ). StoryRests q (whole (records_after (units_kept old on.history) m script))
         (adds_all ran.added on.history)) (sym falls.places) (ran.ends unrisen);
     left = ran.left_is ∙ ap Some (ran.all refl).2;
   }
@@ -33,7 +34,7 @@ module _ (old new : Told) (spares : ℕ) (script : List ℕ) (on : IsFormattable
     history = adds_all laid.added
         (adds_all (format_events old.places (units_beside old.places spares)) on.history);
     steady = laid.steady on.steady;
-    rests = subst (λ (q : ℕ). StoryRests q no_records (adds_all laid.added
+    rests = subst (λ (q : ℕ). StoryRests q (whole no_records) (adds_all laid.added
         (adds_all (format_events old.places (units_beside old.places spares)) on.history)))
         (sym falls.places) laid.rests;
     left = laid.left_is ∙ on.left;

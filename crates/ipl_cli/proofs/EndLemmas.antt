@@ -22,6 +22,7 @@ use Rattle.ipl_model.specs.Grammar.{commands_of}
 use Rattle.ipl_model.specs.Run.{IsNear, joined as joined_text}
 use Rattle.ipl_model.proofs.RunLemmas.{reply_shows}
 use Rattle.ipl_format.specs.Sector.{sector_in}
+use Rattle.ipl_meaning.specs.Legible.{every, whole}
 use Rattle.ipl_meaning.specs.Chart.{chart_of}
 use Rattle.ipl_meaning.specs.Stands.{StandsIn}
 use Rattle.ipl_meaning.specs.Rests.{now, EachStands, EachStandsIn, StoryRests}
@@ -104,8 +105,8 @@ module _ (spares : ℕ) (old mid new : Told) (counts : Counts old mid)
   laid_out h done added history settled steady part all =
       let did = formats h in
       let exact : did.added ≡ events = did.done.exact in
-      let rested : StoryRests old.places empty (adds_all events h) = subst
-      (λ (s : Story). StoryRests old.places empty (adds_all s h)) exact did.done.rests in
+      let rested : StoryRests old.places (whole empty) (adds_all events h) = subst
+      (λ (s : Story). StoryRests old.places (whole empty) (adds_all s h)) exact did.done.rests in
       let good : (base : Story) → IsLawful base → IsLawful (events ++ base) =
       λ base lawful. subst (λ (s : Story). IsLawful (s ++ base)) exact
       (did.lawful base lawful) in
@@ -123,11 +124,11 @@ module _ (spares : ℕ) (old mid new : Told) (counts : Counts old mid)
         steady = λ held. steady (adds_all events h)
             (subst (λ (s : Story). IsSteady (adds_all s h) mid) exact (did.steady (λ is. cc) held));
         rests = elim part [
-          | inl none ↦ subst (λ (s : Story). StoryRests old.places empty
+          | inl none ↦ subst (λ (s : Story). StoryRests old.places (whole empty)
               (adds_all s (adds_all events h))) (sym none) rested
-          | inr (piece, prefix, one) ↦ subst (λ (s : Story). StoryRests old.places empty
+          | inr (piece, prefix, one) ↦ subst (λ (s : Story). StoryRests old.places (whole empty)
               (adds_all s (adds_all events h))) (sym one) (says_keep old.places
-              empty (adds_all events h) piece rested)
+              (whole empty) (adds_all events h) piece rested)
         ];
         count = elim part [
           | inl none ↦ subst (λ (s : Story).
@@ -173,7 +174,7 @@ module _ (spares : ℕ) (old mid new : Told) (counts : Counts old mid)
 -- what a store keeps at the end, the chip has
 pub record Kept (places : ℕ) (new : Told) (k : History) (s : State) : Type 0 where
   pub steady : IsSteady k new
-  pub rests : StoryRests places s.map k
+  pub rests : StoryRests places (whole s.map) k
 
 pub kept : (places : ℕ) (limits : Limits) (then : ScriptStore) (new : Told) (s : State)
     (k : History) → KeepsScript places limits then new k s → Kept places new k s
@@ -254,7 +255,7 @@ all_done (Err s) is = absurd cc
 
 module _ (marks : Bool) (places units : ℕ) (m : Map) (script : List ℕ) (h : History) (first : Story)
     (silent : pieces first ≡ [])
-    (each : AtEachMoment (λ e. EachStandsIn places units m (adds_all e h)) first)
+    (each : AtEachMoment (λ e. EachStandsIn places units (whole m) (adds_all e h)) first)
     (lawful : (base : Story) → IsLawful base → AreClean (AreMarked marks places h) base → IsLawful (first ++ base))
     (unused : WereUnused marks places h → AtEachMoment (λ e. MarksAreUnused places (adds_all e h)) first) where
   abbrev limits : Limits
@@ -268,7 +269,7 @@ module _ (marks : Bool) (places units : ℕ) (m : Map) (script : List ℕ) (h : 
   near_first = λ later e is x image.
       let quiet : pieces e ≡ [] = silent-part later e (ap pieces is ∙ silent) in
       subst (λ (bytes : List ℕ). StandsAbout places units m script bytes x) (sym (ap joined quiet))
-      (near_silent (λ s. StandsIn places units (chart_of x) s.map) limits (at_rest m) (commands_of script)
+      (near_silent (λ s. StandsIn places units (chart_of x) (whole s.map)) limits (at_rest m) (commands_of script)
       (each later e is x image))
 
   -- ---- they alone were done
@@ -276,9 +277,9 @@ module _ (marks : Bool) (places units : ℕ) (m : Map) (script : List ℕ) (h : 
   module _ (old new : Told) (history : new.history ≡ option_map (adds_all first) old.history)
       (left : new.beside.left ≡ Some script)
       (steady : Unrisen old new → IsSteady (adds_all first h) new)
-      (rests : Unrisen old new → StoryRests places m (adds_all first h)) where
+      (rests : Unrisen old new → StoryRests places (whole m) (adds_all first h)) where
     abbrev Resting : State → Type 0
-    Resting s = Unrisen old new → StoryRests places s.map (adds_all first h)
+    Resting s = Unrisen old new → StoryRests places (whole s.map) (adds_all first h)
 
     none_between : IsBetween Resting units m script (pieces first)
     none_between = subst (IsBetween Resting units m script) (sym silent) (between_none limits
@@ -298,9 +299,9 @@ module _ (marks : Bool) (places units : ℕ) (m : Map) (script : List ℕ) (h : 
       lawful = lawful;
       unused = unused;
       steady = steady;
-      rests = λ unrisen. subst (IsAbout (λ s. StoryRests places s.map (adds_all first h)) units m
+      rests = λ unrisen. subst (IsAbout (λ s. StoryRests places (whole s.map) (adds_all first h)) units m
           script) (sym (ap joined silent))
-          (near_silent (λ s. StoryRests places s.map (adds_all first h)) limits (at_rest m)
+          (near_silent (λ s. StoryRests places (whole s.map) (adds_all first h)) limits (at_rest m)
           (commands_of script) (rests unrisen));
       ends = ends;
       read = [];
@@ -360,18 +361,18 @@ module _ (marks : Bool) (places units : ℕ) (m : Map) (script : List ℕ) (h : 
       ]
 
       rests_near : IsAbout (R last) units m script (said leaves.added) → Unrisen old new
-          → IsAbout (λ s. StoryRests places s.map last) units m script (said leaves.added)
+          → IsAbout (λ s. StoryRests places (whole s.map) last) units m script (said leaves.added)
       rests_near near unrisen = elim near [
         | inl so ↦ inl (kept_last _ so unrisen).rests
         | inr so ↦ inr (kept_last _ so unrisen).rests
       ]
 
-      ends_last : EndsBy (ending_of result) (λ s. Unrisen old new → StoryRests places s.map last)
+      ends_last : EndsBy (ending_of result) (λ s. Unrisen old new → StoryRests places (whole s.map) last)
           units m script (pieces leaves.added)
-      ends_last = ends_by (λ s. Unrisen old new → StoryRests places s.map last) units m script
+      ends_last = ends_by (λ s. Unrisen old new → StoryRests places (whole s.map) last) units m script
           (pieces leaves.added) result
           (ends_weaker limits (at_rest m) result (commands_of script) (pieces leaves.added) (R last)
-          (λ s. Unrisen old new → StoryRests places s.map last)
+          (λ s. Unrisen old new → StoryRests places (whole s.map) last)
           (λ s so unrisen. (kept_last s so unrisen).rests) leaves.ends)
 
       runs_by : (read unread : List ℕ) → script ≡ read ++ unread → new.beside.left ≡ Some unread
@@ -394,13 +395,13 @@ module _ (marks : Bool) (places units : ℕ) (m : Map) (script : List ℕ) (h : 
             (leaves.unused.marks (unused_then were) later e split));
         steady = λ unrisen. subst (λ (k : History). IsSteady k new) all_history
             (steady_near leaves.rests unrisen);
-        rests = λ unrisen. subst (λ (k : History). IsAbout (λ s. StoryRests places s.map k) units m
+        rests = λ unrisen. subst (λ (k : History). IsAbout (λ s. StoryRests places (whole s.map) k) units m
             script (said (leaves.added ++ first))) all_history
-            (subst (IsAbout (λ s. StoryRests places s.map last) units m script) (sym all_said)
+            (subst (IsAbout (λ s. StoryRests places (whole s.map) last) units m script) (sym all_said)
             (rests_near leaves.rests unrisen));
         ends = subst (λ (k : History). EndsBy (ending_of result) (λ s. Unrisen old new → StoryRests
-            places s.map k) units m script (pieces (leaves.added ++ first))) all_history
-            (subst (EndsBy (ending_of result) (λ s. Unrisen old new → StoryRests places s.map last)
+            places (whole s.map) k) units m script (pieces (leaves.added ++ first))) all_history
+            (subst (EndsBy (ending_of result) (λ s. Unrisen old new → StoryRests places (whole s.map) last)
             units m script) (sym all_pieces) ends_last);
         read = read;
         unread = unread;
@@ -449,34 +450,34 @@ module _ {marks : Bool} (old mid : Told) (store : ScriptStore) (s : StartsOpened
 
   -- it keeps the records on which the history rested
   pub opened_keeps : (m : Map) (h : History) (steady : IsSteady h old)
-      (rests : StoryRests old.places m h)
+      (rests : StoryRests old.places (whole m) h)
       → KeepsScript old.places (limits_of store.store.units) store mid
-      (adds_all (s.tries.steps m h steady rests).2.added h) (at_rest m)
+      (adds_all (s.tries.steps (whole m) h steady rests).2.added h) (at_rest m)
   opened_keeps m h steady rests =
       let made = s.running.sound.made in
-      let did = (s.tries.steps m h steady rests).2 in
+      let did = (s.tries.steps (whole m) h steady rests).2 in
       let k = adds_all did.added h in record {
-        kept = s.opens.keeps m k (held h.start h.story) steady.holds
-            (held_stands old.places m h rests.each) (did.steady tt) (did.ends tt).rests
+        kept = s.opens.keeps every m k (held h.start h.story) steady.holds
+            (held_stands old.places (whole m) h rests.each) (did.steady tt) (did.ends tt).rests
             (did.ends tt).tidy;
         few = omega (arith, made.units, made.geometry.1);
       }
 
   -- an opening leaves as many units at each moment
-  pub opened_each : (m : Map) (h : History) (steady : IsSteady h old) (rests : StoryRests old.places m h)
-      → AtEachMoment (λ e. EachStandsIn old.places store.store.units m (adds_all e h))
-      (s.tries.steps m h steady rests).2.added
+  pub opened_each : (m : Map) (h : History) (steady : IsSteady h old) (rests : StoryRests old.places (whole m) h)
+      → AtEachMoment (λ e. EachStandsIn old.places store.store.units (whole m) (adds_all e h))
+      (s.tries.steps (whole m) h steady rests).2.added
   opened_each m h steady rests =
-      let did = (s.tries.steps m h steady rests).2 in
-      subst (λ (n : ℕ). AtEachMoment (λ e. EachStandsIn old.places n m (adds_all e h)) did.added)
-      (sym (units_told h steady)) (moments_as_said old.places m h did.added rests did.each_moment)
+      let did = (s.tries.steps (whole m) h steady rests).2 in
+      subst (λ (n : ℕ). AtEachMoment (λ e. EachStandsIn old.places n (whole m) (adds_all e h)) did.added)
+      (sym (units_told h steady)) (moments_as_said old.places (whole m) h did.added rests did.each_moment)
 
   -- where nothing that was marked was used, nothing that is marked then was, nor what the store counts as clean
-  opened_unused : (h : History) (steady : IsSteady h old) (m : Map) (rests : StoryRests old.places m h)
+  opened_unused : (h : History) (steady : IsSteady h old) (m : Map) (rests : StoryRests old.places (whole m) h)
       → MarksAreUnused old.places h
-      → (script_keeping old.places).unused store (adds_all (s.tries.steps m h steady rests).2.added h)
+      → (script_keeping old.places).unused store (adds_all (s.tries.steps (whole m) h steady rests).2.added h)
   opened_unused h steady m rests were =
-      let (took, takes, did) = s.tries.steps m h steady rests in (
+      let (took, takes, did) = s.tries.steps (whole m) h steady rests in (
         did.marks tt [] did.added refl were,
         unused_carried (IsCountedClean took) (IsCountedClean (tables_in store.store.transactions.pages)) old.places
             did.added
@@ -490,7 +491,7 @@ module _ {marks : Bool} (old mid : Told) (store : ScriptStore) (s : StartsOpened
   pub opened_marks : (new : Told) → MarksBehind store mid new → MarksWhatWasErased old new
   opened_marks new behind h script steady left at m rests calm =
       let same = s.tries.accounts.counts.places in
-      let did = (s.tries.steps m h steady rests).2 in
+      let did = (s.tries.steps (whole m) h steady rests).2 in
       let k = adds_all did.added h in
       subst (λ (n : ℕ). MarksSince n h new) same
       (behind script (left_counts old mid s.tries.accounts.counts ∙ left) calm old h at
@@ -503,10 +504,10 @@ module _ {marks : Bool} (old mid : Told) (store : ScriptStore) (s : StartsOpened
     opened_so : (result : Result (Unit {0}) Stop)
         → RunsScript (script_keeping old.places) store mid result then new
         → (h : History) (script : List ℕ) → IsSteady h old → old.beside.left ≡ Some script
-        → (m : Map) → StoryRests old.places m h → WereUnused (not marks) old.places h
+        → (m : Map) → StoryRests old.places (whole m) h → WereUnused (not marks) old.places h
         → Runs marks old.places store.store.units m script h [] old new (ending_of result)
     opened_so (Ok u) run h script steady left m rests besides =
-        let (took, takes, did) = s.tries.steps m h steady rests in
+        let (took, takes, did) = s.tries.steps (whole m) h steady rests in
         let taken = took_marked marks old took h steady takes in
         runs_ended marks old.places store.store.units m script h did.added did.does.silent
         (opened_each m h steady rests)
@@ -518,7 +519,7 @@ module _ {marks : Bool} (old mid : Told) (store : ScriptStore) (s : StartsOpened
         (run (limits_of store.store.units) (at_rest m) (adds_all did.added h) (opened_keeps m h
         steady rests) script (left_counts old mid s.tries.accounts.counts ∙ left))
     opened_so (Err e) run h script steady left m rests besides =
-        let (took, takes, did) = s.tries.steps m h steady rests in
+        let (took, takes, did) = s.tries.steps (whole m) h steady rests in
         let taken = took_marked marks old took h steady takes in
         runs_stopped marks old.places store.store.units m script h did.added did.does.silent
         (opened_each m h steady rests)
@@ -543,9 +544,9 @@ module _ {marks : Bool} (old mid : Told) (store : ScriptStore) (s : StartsOpened
 pub unopened_runs : {marks : Bool} (old new : Told) (end : End) → (n : IsNotOpened marks end old new)
     → RunsFrom marks old new (Err (Chip n.fault))
 unopened_runs {marks} old new end n = λ h script steady left m rests besides.
-    let (took, takes, did) = n.tries.steps m h steady rests in
+    let (took, takes, did) = n.tries.steps (whole m) h steady rests in
     none_failed marks old.places (units_at (now h) old.places) m script h did.added did.does.silent
-    (moments_as_said old.places m h did.added rests did.each_moment)
+    (moments_as_said old.places (whole m) h did.added rests did.each_moment)
     (λ base good marked. did.does.lawful.lawful base good (took_marked marks old took h steady takes base marked))
     (λ were later e split. did.marks tt later e split (were_unused marks old.places h were besides))
     old new did.history (left_counts old new n.tries.accounts.counts ∙ left) did.steady did.ends
@@ -569,10 +570,10 @@ module _ (old new : Told) (is : IsLeftAlone old new) where
   left_still : (script : List ℕ) → old.beside.left ≡ Some script → new.beside.left ≡ Some script
   left_still script left = ap (λ (t : Told). t.beside.left) is ∙ left
 
-  still_each : (places : ℕ) (m : Map) (h : History) → StoryRests places m h
-      → AtEachMoment (λ e. EachStandsIn places (units_at (now h) places) m (adds_all e h)) []
-  still_each places m h rests = moments_as_said places m h [] rests
-      (at_start (λ e. EachStands places m (adds_all e h)) rests.each)
+  still_each : (places : ℕ) (m : Map) (h : History) → StoryRests places (whole m) h
+      → AtEachMoment (λ e. EachStandsIn places (units_at (now h) places) (whole m) (adds_all e h)) []
+  still_each places m h rests = moments_as_said places (whole m) h [] rests
+      (at_start (λ e. EachStands places (whole m) (adds_all e h)) rests.each)
 
   pub untouched_runs : RunsOpened old new (Err OutOfMemory)
   untouched_runs = λ h script steady left m rests.
@@ -601,11 +602,11 @@ module _ (old mid new : Told) (f : WasFormatted old mid) where
   -- the story of a chip that was formatted rests on no records
   pub fresh_story : (h : History) → IsSteady h old
       → IsSteady (adds_all first h) mid
-      × StoryRests old.places empty (adds_all first h)
+      × StoryRests old.places (whole empty) (adds_all first h)
   fresh_story h steady =
       let did = f.formats h in (
         subst (λ (s : Story). IsSteady (adds_all s h) mid) did.done.exact (did.steady (λ is. cc) steady),
-        subst (λ (s : Story). StoryRests old.places empty (adds_all s h)) did.done.exact
+        subst (λ (s : Story). StoryRests old.places (whole empty) (adds_all s h)) did.done.exact
             did.done.rests,
       )
 
@@ -647,8 +648,8 @@ module _ (old mid new : Told) (f : WasFormatted old mid) where
         unused = r.unused;
         steady = λ unrisen. r.steady (earlier unrisen);
         rests = λ unrisen. r.rests (earlier unrisen);
-        ends = ends_state (λ s. Unrisen mid new → StoryRests old.places s.map last) (λ s. Unrisen old
-            new → StoryRests old.places s.map last) (units_on old.places) empty script
+        ends = ends_state (λ s. Unrisen mid new → StoryRests old.places (whole s.map) last) (λ s. Unrisen old
+            new → StoryRests old.places (whole s.map) last) (units_on old.places) empty script
             (pieces r.added)
             (λ s so unrisen. so (earlier unrisen)) ending r.ends;
         read = r.read;
@@ -671,7 +672,7 @@ module _ (old mid new : Told) (f : WasFormatted old mid) where
       (adds_all first h) [] mid new ending) f.counts.places
       (runs (adds_all first h) script fresh.0
       (left_counts old mid f.counts ∙ left) empty
-      (subst (λ (q : ℕ). StoryRests q empty (adds_all first h))
+      (subst (λ (q : ℕ). StoryRests q (whole empty) (adds_all first h))
       (sym f.counts.places) fresh.1)
       (subst (λ (q : ℕ). MarksAreUnused q (adds_all first h)) (sym f.counts.places)
       (format_unused old.places (units_on old.places) h old mid (f.formats h))))))

@@ -5,6 +5,7 @@ use Rattle.chip_trait.specs.Story.{Contents, held}
 use Rattle.chip_trait.specs.Told.{History, Told, IsConsistent, Unrisen, adds_all}
 use Rattle.ipl_base.specs.Places.{units_on}
 use Rattle.ipl_model.specs.State.{Map}
+use Rattle.ipl_meaning.specs.Legible.{whole}
 use Rattle.ipl_meaning.proofs.StoryLemmas.{held_stands}
 use Rattle.unit_io.specs.Leads.{IsSteady}
 use Rattle.restart.specs.Events.{format_events}
@@ -31,7 +32,7 @@ module _ (old new : Told) (consistent : IsConsistent old) where
     holds_records = record {
       contents = held last.start last.story;
       told = (r.steady unrisen).holds;
-      stands = held_stands old.places (records_after units m script) last (r.ends unrisen).each;
+      stands = held_stands old.places (whole (records_after units m script)) last (r.ends unrisen).each;
     }
 
   pub opened_records : AtStatus (RunsOpened old new) 0 → EndsWithRecords FromItsRecords old new
@@ -43,7 +44,7 @@ module _ (old new : Told) (consistent : IsConsistent old) where
       (subst (λ (n : ℕ). Runs true old.places n m script (starts_at x) [] old new (Ok tt))
       (sym from.units_are)
       (runs (starts_at x) script (steady_start x old consistent has.told) left m
-      (images_rest old.places m x has.stands))) unrisen
+      (images_rest old.places (whole m) x has.stands))) unrisen
 
   pub formatted_records : RunsFormatted old new (Ok tt) → EndsWithRecords FromNoRecords old new
   formatted_records runs units m script (none, many, has) left unrisen =

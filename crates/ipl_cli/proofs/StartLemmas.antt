@@ -16,6 +16,7 @@ use Rattle.ipl_base.specs.declared.fault.FormatFault.TheVariants as format
 use Rattle.ipl_base.specs.declared.fault.ImageFault.{ImageFault}
 use Rattle.ipl_base.specs.declared.fault.ImageFault.TheVariants as image
 use Rattle.ipl_model.specs.State.{Map, at_rest}
+use Rattle.ipl_meaning.specs.Legible.{whole}
 use Rattle.ipl_meaning.specs.Chart.{Chart, chart_of}
 use Rattle.ipl_meaning.specs.Stands.{Says, Stands}
 use Rattle.ipl_meaning.specs.Rests.{now, StoryRests}
@@ -125,7 +126,7 @@ size_first c places other = elim (cases_Bool (nat_le 5 places && nat_le places 1
 ]
 
 -- contents that stand for a map have no fault, unless their numbers are used up
-module _ (places : ℕ) (c : Chart) (m : Map) (stands : Stands places c m) where
+module _ (places : ℕ) (c : Chart) (m : Map) (stands : Stands places c (whole m)) where
   pub stands_well : (e : ImageFault) → first_fault c places ≡ Some e → e ≡ image.Spent
   stands_well e fault = elim (laid_is_fine_or_spent c places stands.layout stands.laid) [
     | inl none ↦ absurd (none_is_some (sym none ∙ fault))
@@ -143,8 +144,8 @@ module _ (t : Told) (sound : RestsWithNumbersLeft t) where
   sound_told : t.contents ≡ Some (held sound.history.start sound.history.story)
   sound_told = sound.steady.holds
 
-  sound_stands : Stands t.places (now sound.history) sound.map
-  sound_stands = held_stands t.places sound.map sound.history sound.rests.each
+  sound_stands : Stands t.places (now sound.history) (whole sound.map)
+  sound_stands = held_stands t.places (whole sound.map) sound.history sound.rests.each
 
   sound_fine : first_fault (now sound.history) t.places ≡ None
   sound_fine = stands_fine t.places (now sound.history) sound.map sound_stands
@@ -205,12 +206,12 @@ module _ {marks : Bool} (old new : Told) (end : End) (n : IsNotOpened marks end 
 
     -- what stands for a map says it as the opening finds it laid out
     says : (x : Contents) → old.contents ≡ Some x → (m : Map)
-        → first_fault (chart_of x) old.places ≡ None → Stands old.places (chart_of x) m
-        → Says old.places (chart_of x) (layout_in (chart_of x) old.places) m
+        → first_fault (chart_of x) old.places ≡ None → Stands old.places (chart_of x) (whole m)
+        → Says old.places (chart_of x) (layout_in (chart_of x) old.places) (whole m)
     says x told m none stands =
         let bytes = n.tries.bytes x told (λ failed. unfailed (ReadFault, failed, tt))
         (λ failed. unfailed (Stopped, failed, tt)) (inr none) in
-        layouts_say old.places (chart_of x) (layout_in (chart_of x) old.places) m
+        layouts_say old.places (chart_of x) (layout_in (chart_of x) old.places) (whole m)
         (no_fault_is_laid (chart_of x) old.places bytes none) stands
 
     sector_cause : StrayCause old
@@ -291,13 +292,13 @@ module _ {marks : Bool} (old mid : Told) (store : ScriptStore) (s : StartsOpened
         (Err e) then new
 
     -- it keeps the records on which a history rests
-    keeps_some : (m : Map) (h : History) → IsSteady h old → StoryRests old.places m h
+    keeps_some : (m : Map) (h : History) → IsSteady h old → StoryRests old.places (whole m) h
         → KeepsSome (script_keeping mid.places) (limits_of store.store.units) store mid
     keeps_some m h steady rests = subst (λ (n : ℕ).
         KeepsSome (script_keeping n) (limits_of store.store.units) store mid)
         (sym s.tries.accounts.counts.places) (record {
           state = at_rest m;
-          history = adds_all (s.tries.steps m h steady rests).2.added h;
+          history = adds_all (s.tries.steps (whole m) h steady rests).2.added h;
           holds = opened_keeps old mid store s m h steady rests;
         })
 
@@ -319,7 +320,7 @@ module _ {marks : Bool} (old mid : Told) (store : ScriptStore) (s : StartsOpened
 
     -- a fault of the store tells what it may, wherever a history rests on records
     abbrev Tells : Fault → Type 0
-    Tells f = (m : Map) (h : History) → IsSteady h old → StoryRests old.places m h
+    Tells f = (m : Map) (h : History) → IsSteady h old → StoryRests old.places (whole m) h
         → FaultTells (spares_on old.places (units_at (now h) old.places)) f
 
     tells_so : (f : Fault) → Completes (stop.Store f) → Tells f
@@ -331,7 +332,7 @@ module _ {marks : Bool} (old mid : Told) (store : ScriptStore) (s : StartsOpened
 
     -- so many places are worn
     worn_met : (n : ℕ) → IsWornCount mid.places n → Rose mid.worn_erases new.worn_erases
-        → ((m : Map) (h : History) → IsSteady h old → StoryRests old.places m h
+        → ((m : Map) (h : History) → IsSteady h old → StoryRests old.places (whole m) h
         → n ≡ 1 + spares_on old.places (units_at (now h) old.places)) → WearsOut old new
         → WornOutCause n old new
     worn_met n count rose exact wears = record {
@@ -524,7 +525,7 @@ module _ (old mid : Told) (f : WasFormatted old mid) where
         history = adds_all (format_events old.places (units_on old.places)) h;
         steady = story.0;
         rests = subst (λ (q : ℕ).
-            StoryRests q empty (adds_all (format_events old.places (units_on old.places)) h))
+            StoryRests q (whole empty) (adds_all (format_events old.places (units_on old.places)) h))
             (sym f.counts.places) story.1;
         left = subst (λ (q : ℕ). greatest_found
             (now (adds_all (format_events old.places (units_on old.places)) h)) q < 2 ^ 62)
@@ -566,7 +567,7 @@ module _ (old mid : Told) (f : WasFormatted old mid) where
           let story = fresh_story old mid mid f h steady in
           c.exact empty (adds_all (format_events old.places (units_on old.places)) h) story.0
           (subst (λ (q : ℕ).
-          StoryRests q empty (adds_all (format_events old.places (units_on old.places)) h))
+          StoryRests q (whole empty) (adds_all (format_events old.places (units_on old.places)) h))
           (sym f.counts.places) story.1)
           ∙ ap (λ (u : ℕ). 1 + spares_on mid.places u) (units_anew h)
           ∙ none_spare mid.places;

@@ -17,6 +17,7 @@ use Rattle.ipl_base.specs.declared.fault.FormatFault.TheVariants as format
 use Rattle.ipl_model.specs.State.{State, at_rest}
 use Rattle.ipl_model.specs.Grammar.{commands_of}
 use Rattle.ipl_format.specs.Sector.{sector_in}
+use Rattle.ipl_meaning.specs.Legible.{whole}
 use Rattle.ipl_meaning.specs.Chart.{chart_of}
 use Rattle.ipl_meaning.specs.FirstTables.{first_layout}
 use Rattle.ipl_meaning.specs.Stands.{StandsIn}
@@ -60,7 +61,7 @@ module _ (old new : Told) where
       → Survives old new
   opened_survives consistent status (ending, is, runs) x m script told stands left =
       let r = runs (starts_at x) script (steady_start x old consistent told) left m
-      (images_rest old.places m x stands) in
+      (images_rest old.places (whole m) x stands) in
       record {
         added = r.added;
         grew = r.history ∙ ap (option_map (adds_all r.added)) (sym (same_history old.history));
@@ -105,18 +106,18 @@ module _ (old new : Told) where
           let parts = length-append later (e ++ first) in
           let inner = length-append e first in
           let none = nil_from_length e (omega (arith, counted, parts, inner, few)) in
-          let whole = fits (omega (arith, counted, parts, inner, few)) in
+          let usable = fits (omega (arith, counted, parts, inner, few)) in
           let units = units_on old.places in
-          let kept = units_are_kept old.places whole in
-          let rests = format_rests old.places units whole kept x in
-          let number = rests_in_units old.places empty (record { start = x; story = first })
-          (first_layout units) rests (fresh_contents old.places units whole kept x).mirrors.laid in
-          let stands = subst (λ (n : ℕ). StandsIn old.places n (chart_of y) empty) number
+          let kept = units_are_kept old.places usable in
+          let rests = format_rests old.places units usable kept x in
+          let number = rests_in_units old.places (whole empty) (record { start = x; story = first })
+          (first_layout units) rests (fresh_contents old.places units usable kept x).mirrors.laid in
+          let stands = subst (λ (n : ℕ). StandsIn old.places n (chart_of y) (whole empty)) number
           (rests.each.1 y (subst
           (λ (s : Story). IsNoChanceImage (says sector_in) x (s ++ first) y)
           none image)) in
           subst (λ (s : Story). StandsAfterAnswered old.places (units_on old.places) empty script (said s) y) (sym none)
-          (near_silent (λ (s : State). StandsIn old.places (units_on old.places) (chart_of y) s.map)
+          (near_silent (λ (s : State). StandsIn old.places (units_on old.places) (chart_of y) (whole s.map))
           (limits_of (units_on old.places)) (at_rest empty) (commands_of script) stands);
     }
 

@@ -18,6 +18,7 @@ use Rattle.ipl_model.specs.State.{State, Limits, at_rest}
 use Rattle.ipl_model.specs.declared.command.Command.{Command}
 use Rattle.ipl_model.specs.Run.{joined as joined_text}
 use Rattle.ipl_format.specs.Sector.{sector_in}
+use Rattle.ipl_meaning.specs.Legible.{whole}
 use Rattle.ipl_meaning.specs.Rests.{now, EachStandsIn, StoryRests}
 use Rattle.ipl_meaning.specs.Chosen.{units_at}
 use Rattle.ipl_meaning.proofs.MomentLemmas.{moments_as_said}
@@ -63,7 +64,7 @@ behind places commands (line ∷ lines) x stands = stands
 
 module _ (places : ℕ) (commands : List Command) (h : History) (first : Story)
     (silent : pieces first ≡ [])
-    (each : AtEachMoment (λ e. EachStandsIn places (units_on places) empty (adds_all e h)) first)
+    (each : AtEachMoment (λ e. EachStandsIn places (units_on places) (whole empty) (adds_all e h)) first)
     (lawful : (base : Story) → IsLawful base → IsLawful (first ++ base)) where
   abbrev limits : Limits
   limits = limits_of (units_on places)
@@ -83,7 +84,7 @@ module _ (places : ℕ) (commands : List Command) (h : History) (first : Story)
       → new.history ≡ option_map (adds_all first) old.history
       → new.beside.left ≡ old.beside.left
       → (Unrisen old new → IsSteady (adds_all first h) new)
-      → (Unrisen old new → StoryRests places empty (adds_all first h))
+      → (Unrisen old new → StoryRests places (whole empty) (adds_all first h))
       → Trials places commands h [] old new (Err (Chip e))
   none_tried old new e history left steady rests = record {
     added = first;
@@ -144,10 +145,10 @@ module _ (places : ℕ) (commands : List Command) (h : History) (first : Story)
           (append_assoc f first h.story) image)))) leaves.each_moment
 
       abbrev Resting : State → Type 0
-      Resting s = Unrisen old new → StoryRests places s.map (adds_all (leaves.added ++ first) h)
+      Resting s = Unrisen old new → StoryRests places (whole s.map) (adds_all (leaves.added ++ first) h)
 
       rested : (s : State) → R last s → Resting s
-      rested s so = λ unrisen. subst (λ (k : History). StoryRests places s.map k) all_history
+      rested s so = λ unrisen. subst (λ (k : History). StoryRests places (whole s.map) k) all_history
           (kept_last s so unrisen).rests
 
       along : EndsInWork (script_keeping places) limits (at_rest empty) commands (adds_all first h)
@@ -218,7 +219,7 @@ module _ (places : ℕ) (commands : List Command) (h : History) (first : Story)
 -- of its places is spare
 abbrev TrialsOpened : ℕ → ℕ → Told → Told → Ending → Type 0
 TrialsOpened seed count old new ending = (h : History) → IsSteady h old
-    → StoryRests old.places empty h → units_at (now h) old.places ≡ units_on old.places
+    → StoryRests old.places (whole empty) h → units_at (now h) old.places ≡ units_on old.places
     → Trials old.places (commands_on old.places seed count) h [] old new ending
 
 module _ (old mid : Told) (store : ScriptStore) (s : StartsOpened false old store mid)
@@ -228,21 +229,21 @@ module _ (old mid : Told) (store : ScriptStore) (s : StartsOpened false old stor
       s.tries.accounts.counts
 
   -- the store keeps no records, with all units
-  keeps_none : (h : History) (steady : IsSteady h old) (rests : StoryRests old.places empty h)
+  keeps_none : (h : History) (steady : IsSteady h old) (rests : StoryRests old.places (whole empty) h)
       → store.store.units ≡ units_on old.places
       → KeepsScript old.places (limits_of (units_on old.places)) store mid
-      (adds_all (s.tries.steps empty h steady rests).2.added h) (at_rest empty)
+      (adds_all (s.tries.steps (whole empty) h steady rests).2.added h) (at_rest empty)
   keeps_none h steady rests many = subst (λ (u : ℕ). KeepsScript old.places (limits_of u) store mid
-      (adds_all (s.tries.steps empty h steady rests).2.added h) (at_rest empty)) many
+      (adds_all (s.tries.steps (whole empty) h steady rests).2.added h) (at_rest empty)) many
       (opened_keeps old mid store s empty h steady rests)
 
   -- an opening leaves all units at each moment
-  opened_all : (h : History) (steady : IsSteady h old) (rests : StoryRests old.places empty h)
+  opened_all : (h : History) (steady : IsSteady h old) (rests : StoryRests old.places (whole empty) h)
       → store.store.units ≡ units_on old.places
-      → AtEachMoment (λ e. EachStandsIn old.places (units_on old.places) empty (adds_all e h))
-      (s.tries.steps empty h steady rests).2.added
-  opened_all h steady rests many = subst (λ (n : ℕ). AtEachMoment (λ e. EachStandsIn old.places n empty
-      (adds_all e h)) (s.tries.steps empty h steady rests).2.added) many
+      → AtEachMoment (λ e. EachStandsIn old.places (units_on old.places) (whole empty) (adds_all e h))
+      (s.tries.steps (whole empty) h steady rests).2.added
+  opened_all h steady rests many = subst (λ (n : ℕ). AtEachMoment (λ e. EachStandsIn old.places n (whole empty)
+      (adds_all e h)) (s.tries.steps (whole empty) h steady rests).2.added) many
       (opened_each old mid store s empty h steady rests)
 
   abbrev Ran : Result (Unit {0}) Stop → ℕ → Type 0
@@ -250,11 +251,11 @@ module _ (old mid : Told) (store : ScriptStore) (s : StartsOpened false old stor
       mid result then new
 
   opened_so : (result : Result (Unit {0}) Stop) → Ran result (units_on old.places)
-      → (h : History) → IsSteady h old → StoryRests old.places empty h
+      → (h : History) → IsSteady h old → StoryRests old.places (whole empty) h
       → store.store.units ≡ units_on old.places
       → Trials old.places (commands_on old.places seed count) h [] old new (ending_of result)
   opened_so (Ok u) run h steady rests many =
-      let (took, takes, did) = s.tries.steps empty h steady rests in
+      let (took, takes, did) = s.tries.steps (whole empty) h steady rests in
       let taken = took_marked false old took h steady takes in
       tried_by old.places (commands_on old.places seed count) h did.added did.does.silent
       (opened_all h steady rests many)
@@ -266,7 +267,7 @@ module _ (old mid : Told) (store : ScriptStore) (s : StartsOpened false old stor
       (run (limits_of (units_on old.places)) (at_rest empty) (adds_all did.added h)
       (keeps_none h steady rests many))
   opened_so (Err e) run h steady rests many =
-      let (took, takes, did) = s.tries.steps empty h steady rests in
+      let (took, takes, did) = s.tries.steps (whole empty) h steady rests in
       let taken = took_marked false old took h steady takes in
       tried_by old.places (commands_on old.places seed count) h did.added did.does.silent
       (opened_all h steady rests many)
@@ -291,10 +292,10 @@ module _ (old mid : Told) (store : ScriptStore) (s : StartsOpened false old stor
 unopened_trial : (seed count : ℕ) (old new : Told) (end : End)
     → (n : IsNotOpened false end old new) → TrialsOpened seed count old new (Err (Chip n.fault))
 unopened_trial seed count old new end n = λ h steady rests all.
-    let (took, takes, did) = n.tries.steps empty h steady rests in
+    let (took, takes, did) = n.tries.steps (whole empty) h steady rests in
     none_tried old.places (commands_on old.places seed count) h did.added did.does.silent
-    (subst (λ (n : ℕ). AtEachMoment (λ e. EachStandsIn old.places n empty (adds_all e h)) did.added)
-    all (moments_as_said old.places empty h did.added rests did.each_moment))
+    (subst (λ (n : ℕ). AtEachMoment (λ e. EachStandsIn old.places n (whole empty) (adds_all e h)) did.added)
+    all (moments_as_said old.places (whole empty) h did.added rests did.each_moment))
     (λ base good. did.does.lawful.lawful base good
     (took_marked false old took h steady takes base (λ p q none. absurd none)))
     old new n.fault did.history (left_counts old new n.tries.accounts.counts) did.steady did.ends
@@ -337,8 +338,8 @@ module _ (old mid new : Told) (f : WasFormatted old mid) (seed count : ℕ) wher
     is_prefix = t.is_prefix;
     lawful = λ base good. t.lawful (first ++ base) (lawful_format old mid new f h base good);
     steady = λ unrisen. t.steady (earlier unrisen);
-    ends = ends_so (λ s. Unrisen mid new → StoryRests old.places s.map last) (λ s. Unrisen old new
-        → StoryRests old.places s.map last) old.places commands (pieces t.added)
+    ends = ends_so (λ s. Unrisen mid new → StoryRests old.places (whole s.map) last) (λ s. Unrisen old new
+        → StoryRests old.places (whole s.map) last) old.places commands (pieces t.added)
         (λ s so unrisen. so (earlier unrisen)) ending t.ends;
     left_is = t.left_is ∙ left_counts old mid f.counts;
     all = t.all;
@@ -354,7 +355,7 @@ module _ (old mid new : Told) (f : WasFormatted old mid) (seed count : ℕ) wher
       after_format h (subst (λ (q : ℕ). Trials q (commands_on q seed count) (adds_all first h) []
       mid new ending) f.counts.places
       (trials (adds_all first h) fresh.0
-      (subst (λ (q : ℕ). StoryRests q empty (adds_all first h)) (sym f.counts.places) fresh.1)
+      (subst (λ (q : ℕ). StoryRests q (whole empty) (adds_all first h)) (sym f.counts.places) fresh.1)
       (subst (λ (q : ℕ). units_at (now (adds_all first h)) q ≡ units_on q) (sym f.counts.places)
       (fresh_units old mid new f h))))
 

@@ -3,6 +3,7 @@ use Rattle.std.specs.Prelude.{◌≡◌, List, Some, ℕ}
 use Rattle.std.specs.FinMap.{empty}
 use Rattle.chip_trait.specs.Told.{History, Told}
 use Rattle.ipl_model.specs.State.{Map}
+use Rattle.ipl_meaning.specs.Legible.{whole}
 use Rattle.ipl_meaning.specs.Rests.{now, StoryRests}
 use Rattle.unit_io.specs.Leads.{IsSteady}
 use Rattle.ipl_meaning.specs.Chosen.{units_at}
@@ -12,7 +13,7 @@ use Rattle.ipl_meaning.specs.Chosen.{units_at}
 pub record RestsOn (m : Map) (script : List ℕ) (t : Told) : Type 0 where
   pub history : History
   pub steady : IsSteady history t
-  pub rests : StoryRests t.places m history
+  pub rests : StoryRests t.places (whole m) history
   pub left : t.beside.left ≡ Some script
 
 -- no write has failed, the chip tells what it holds, and this is left of the script

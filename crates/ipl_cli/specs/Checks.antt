@@ -8,6 +8,7 @@ use Rattle.ipl_base.specs.declared.fault.ChipFault.TheVariants.{ReadFault}
 use Rattle.ipl_base.specs.declared.fault.ImageFault.{ImageFault}
 use Rattle.ipl_base.specs.declared.fault.ImageFault.TheVariants as image
 use Rattle.ipl_model.specs.State.{Map}
+use Rattle.ipl_meaning.specs.Legible.{whole}
 use Rattle.ipl_meaning.specs.Chart.{chart_of}
 use Rattle.ipl_meaning.specs.Stands.{Stands}
 use Rattle.unit_io.specs.Reads.{OfContents}
@@ -23,7 +24,7 @@ records_line records = codes "records " ++ decimal records ++ 10 ∷ []
 
 -- where the chip tells what it holds, that stands for so many records
 abbrev pub HoldsAsMany : ℕ → Told → Type 0
-HoldsAsMany records old = OfContents old (λ x. (m : Map) × Stands old.places (chart_of x) m
+HoldsAsMany records old = OfContents old (λ x. (m : Map) × Stands old.places (chart_of x) (whole m)
     × (records ≡ records_in (units_at (chart_of x) old.places) m))
 
 -- The chip was read, and so many records were counted; and then this came of saying so.

@@ -4,6 +4,7 @@ use Rattle.chip_trait.specs.Told.{Told}
 use Rattle.command_line.specs.declared.asked.Request.TheVariants.{Format, Run, Serial, Check, Trial}
 use Rattle.ipl_model.specs.Grammar.{commands_of}
 use Rattle.ipl_model.specs.State.{Map}
+use Rattle.ipl_meaning.specs.Legible.{whole}
 use Rattle.ipl_meaning.specs.Rests.{StoryRests}
 use Rattle.script_store.specs.declared.store.ScriptStore.{ScriptStore}
 use Rattle.script_store.specs.Closes.{MarksSince}
@@ -42,7 +43,7 @@ DoesAsAsked (Some (Trial seed count frames)) old new =
 -- unit's place that was erased since, and not programmed, is marked.
 abbrev pub MarksWhatWasErased : Told → Told → Type 0
 MarksWhatWasErased old new = OverTold
-    (λ places script h. old.history ≡ Some h → (m : Map) → StoryRests places m h
+    (λ places script h. old.history ≡ Some h → (m : Map) → StoryRests places (whole m) h
     → restarts (commands_of script) ≡ false → MarksSince places h new) old
 
 -- what a close leaves of a chip that was opened

@@ -7,6 +7,7 @@ use Rattle.ipl_base.specs.declared.fault.FormatFault.{FormatFault}
 use Rattle.ipl_base.specs.declared.fault.FormatFault.TheVariants as format
 use Rattle.ipl_base.specs.declared.fault.ImageFault.{ImageFault}
 use Rattle.ipl_base.specs.declared.fault.ImageFault.TheVariants as image
+use Rattle.ipl_meaning.specs.Legible.{whole}
 use Rattle.ipl_meaning.specs.Tables.{Tables}
 use Rattle.ipl_meaning.specs.Rests.{now, StoryRests}
 use Rattle.ipl_model.specs.Grammar.{commands_of}
@@ -141,7 +142,7 @@ pub record RunsOver (ending : Ending) (before : ScriptStore) (old : Told) (then 
 -- rests, on as many units as it says. Where marks don't count, nothing that is marked was used.
 abbrev pub RunsFrom : Bool → Told → Told → Ending → Type 0
 RunsFrom marks old new ending = OverTold
-    (λ places script h. (m : Map) → StoryRests places m h → WereUnused (not marks) places h
+    (λ places script h. (m : Map) → StoryRests places (whole m) h → WereUnused (not marks) places h
     → Runs marks places (units_at (now h) places) m script h [] old new ending) old
 
 -- ---- a close behind a run

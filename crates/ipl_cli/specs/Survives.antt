@@ -11,9 +11,10 @@ use Rattle.ipl_model.specs.State.{Map, at_rest}
 use Rattle.ipl_model.specs.Grammar.{commands_of}
 use Rattle.ipl_model.specs.Run.{answered, map_after}
 use Rattle.ipl_format.specs.Sector.{sector_in}
+use Rattle.ipl_meaning.specs.Legible.{whole}
 use Rattle.ipl_meaning.specs.Chart.{chart_of}
-use Rattle.ipl_meaning.specs.Stands.{Stands, StandsIn}
 use Rattle.ipl_meaning.specs.Chosen.{units_at}
+use Rattle.ipl_meaning.specs.Stands.{Stands, StandsIn}
 use Rattle.restart.specs.Events.{format_events}
 use Rattle.store_laws.specs.Keeps.{limits_of}
 
@@ -23,8 +24,8 @@ abbrev pub StandsAfterAnswered : ℕ → ℕ → Map → List ℕ → List ℕ �
 StandsAfterAnswered places units m script bytes y =
     let limits = limits_of units in
     let r = answered limits (at_rest m) (commands_of script) bytes in
-    StandsIn places units (chart_of y) (map_after limits m script r)
-    ⊎ StandsIn places units (chart_of y) (map_after limits m script (suc r))
+    StandsIn places units (chart_of y) (whole (map_after limits m script r))
+    ⊎ StandsIn places units (chart_of y) (whole (map_after limits m script (suc r)))
 
 -- A run over a chip that held x, on as many units as that says. There are events by which what is told
 -- of its history grew, and which make of x what it holds at the end, unless a write failed. Wherever
@@ -41,7 +42,7 @@ pub record SurvivesFrom (m : Map) (script : List ℕ) (x : Contents) (old new : 
 -- so over every chip that tells what it holds, where that stands for records
 abbrev pub Survives : Told → Told → Type 0
 Survives old new = (x : Contents) (m : Map) (script : List ℕ) → old.contents ≡ Some x
-    → Stands old.places (chart_of x) m → old.beside.left ≡ Some script
+    → Stands old.places (chart_of x) (whole m) → old.beside.left ≡ Some script
     → SurvivesFrom m script x old new
 
 -- The same over a chip that is formatted first, with no place to spare, from the format's last barrier

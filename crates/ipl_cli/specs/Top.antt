@@ -16,6 +16,7 @@ use Rattle.ipl_model.specs.State.{State, Map, at_rest}
 use Rattle.ipl_model.specs.Grammar.{commands_of}
 use Rattle.ipl_model.specs.Run.{joined, lines, after_all, IsNear}
 use Rattle.ipl_format.specs.Sector.{sector_in}
+use Rattle.ipl_meaning.specs.Legible.{whole}
 use Rattle.ipl_meaning.specs.Chart.{chart_of}
 use Rattle.ipl_meaning.specs.Marks.{IsMarked, MarksAreUnused}
 use Rattle.ipl_meaning.specs.Stands.{Stands, StandsIn}
@@ -53,7 +54,7 @@ IsLaidWell old = OfContents old (λ x. first_fault (chart_of x) old.places ≡ N
 
 -- where the chip tells what it holds, that stands for no map
 abbrev pub IsStray : Told → Type 0
-IsStray old = OfContents old (λ x. (m : Map) → ¬ Stands old.places (chart_of x) m)
+IsStray old = OfContents old (λ x. (m : Map) → ¬ Stands old.places (chart_of x) (whole m))
 
 -- where the chip tells what it holds, a number of 2^63 or more is among that
 abbrev pub IsSpent : Told → Type 0
@@ -67,7 +68,7 @@ pub record HasFault (old : Told) (e : ImageFault) : Type 0 where
 
 -- where the chip tells what it holds, that stands for no map, or a number of 2^62 or more is among it
 abbrev pub IsUnfit : Told → Type 0
-IsUnfit old = OfContents old (λ x. (m : Map) → Stands old.places (chart_of x) m
+IsUnfit old = OfContents old (λ x. (m : Map) → Stands old.places (chart_of x) (whole m)
     → 2 ^ 62 ≤ greatest_found (chart_of x) old.places)
 
 -- the chip doesn't tell what it holds
@@ -91,7 +92,7 @@ pub record RestsWithNumbersLeft (t : Told) : Type 0 where
   pub map : Map
   pub history : History
   pub steady : IsSteady history t
-  pub rests : StoryRests t.places map history
+  pub rests : StoryRests t.places (whole map) history
   pub left : greatest_found (now history) t.places < 2 ^ 62
 
 -- ---- causes
@@ -128,7 +129,7 @@ pub record WornCause (n : ℕ) (old new : Told) : Type 0 where
 -- its status header lists and those that were found worn since.
 pub record WornOutCause (n : ℕ) (old new : Told) : Type 0 where
   pub count : IsWornCount old.places n
-  pub exact : (m : Map) (h : History) → IsSteady h old → StoryRests old.places m h
+  pub exact : (m : Map) (h : History) → IsSteady h old → StoryRests old.places (whole m) h
       → n ≡ 1 + spares_on old.places (units_at (now h) old.places)
   pub rose : Rose old.worn_erases new.worn_erases
   pub wears : WearsOut old new
@@ -255,7 +256,7 @@ IsAbout Q units m script bytes =
 -- the contents of a chip of so many places stand, in so many units, for the records of such a state
 abbrev pub StandsAbout : ℕ → ℕ → Map → List ℕ → List ℕ → Contents → Type 0
 StandsAbout places units m script bytes x =
-    IsAbout (λ s. StandsIn places units (chart_of x) s.map) units m script bytes
+    IsAbout (λ s. StandsIn places units (chart_of x) (whole s.map)) units m script bytes
 
 -- the first commands of the script were answered with these lines, each said whole; Q is so of the
 -- state after them
@@ -313,10 +314,10 @@ pub record Runs (marks : Bool) (places units : ℕ) (m : Map) (script : List ℕ
       → AtEachMoment (λ e. MarksAreUnused places (adds_all e (adds_all first h))) added
   pub steady : Unrisen old new → IsSteady (adds_all added (adds_all first h)) new
   pub rests : Unrisen old new
-      → IsAbout (λ s. StoryRests places s.map (adds_all added (adds_all first h))) units m script
+      → IsAbout (λ s. StoryRests places (whole s.map) (adds_all added (adds_all first h))) units m script
       (said added)
   pub ends : EndsBy ending
-      (λ s. Unrisen old new → StoryRests places s.map (adds_all added (adds_all first h)))
+      (λ s. Unrisen old new → StoryRests places (whole s.map) (adds_all added (adds_all first h)))
       units m script (pieces added)
   pub read : List ℕ
   pub unread : List ℕ
@@ -336,7 +337,7 @@ OverTold P old = (h : History) (script : List ℕ) → IsSteady h old
 -- units as the chip says. All events are in this, those of the opening too.
 abbrev pub RunsOpened : Told → Told → Ending → Type 0
 RunsOpened old new ending = OverTold
-    (λ places script h. (m : Map) → StoryRests places m h
+    (λ places script h. (m : Map) → StoryRests places (whole m) h
     → Runs true places (units_at (now h) places) m script h [] old new ending) old
 
 -- the chip was formatted with no place to spare, and the script was run from no records on
@@ -354,7 +355,7 @@ records_after units m script =
 pub record HoldsRecords (places : ℕ) (m : Map) (t : Told) : Type 0 where
   pub contents : Contents
   pub told : t.contents ≡ Some contents
-  pub stands : Stands places (chart_of contents) m
+  pub stands : Stands places (chart_of contents) (whole m)
 
 -- Over a chip that tells what it holds, and a script that is told: where no write failed, the chip
 -- holds the records after all commands at the end.
@@ -399,7 +400,7 @@ pub record IsLaidOut (places units : ℕ) (h : History) (old new : Told) (done :
   pub settled : new.settled ≡ old.settled
   pub steady : IsSteady h old
       → IsSteady (adds_all added (adds_all (format_events places units) h)) new
-  pub rests : StoryRests places empty (adds_all added (adds_all (format_events places units) h))
+  pub rests : StoryRests places (whole empty) (adds_all added (adds_all (format_events places units) h))
   pub count : units_at (now (adds_all added (adds_all (format_events places units) h))) places
       ≡ units
   pub unused : MarksAreUnused places (adds_all added (adds_all (format_events places units) h))

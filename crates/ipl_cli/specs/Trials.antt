@@ -13,6 +13,7 @@ use Rattle.ipl_model.specs.State.{State, at_rest}
 use Rattle.ipl_model.specs.declared.command.Command.{Command}
 use Rattle.ipl_model.specs.Run.{joined, after_all}
 use Rattle.ipl_format.specs.Sector.{sector_in}
+use Rattle.ipl_meaning.specs.Legible.{whole}
 use Rattle.ipl_meaning.specs.Chart.{chart_of}
 use Rattle.ipl_meaning.specs.Rests.{StoryRests}
 use Rattle.ipl_meaning.specs.Stands.{StandsIn}
@@ -43,13 +44,13 @@ summary places commands =
 abbrev pub ChipStandsAlong : ℕ → List Command → Contents → Type 0
 ChipStandsAlong places commands x = (done : List Command) × (later : List Command)
     × (commands ≡ done ++ later)
-    × StandsIn places (units_on places) (chart_of x) (state_after places done).map
+    × StandsIn places (units_on places) (chart_of x) (whole (state_after places done).map)
 
 -- and where a line was said, after all of them
 abbrev pub ChipStandsBehind : ℕ → List Command → List (List ℕ) → Contents → Type 0
 ChipStandsBehind places commands [] x = ChipStandsAlong places commands x
 ChipStandsBehind places commands (piece ∷ said) x =
-    StandsIn places (units_on places) (chart_of x) (state_after places commands).map
+    StandsIn places (units_on places) (chart_of x) (whole (state_after places commands).map)
 
 -- the first of the commands are done, and nothing was said; Q is so of the state after them
 pub record EndsAlong (Q : State → Type 0) (places : ℕ) (commands : List Command)
@@ -93,7 +94,7 @@ pub record Trials (places : ℕ) (commands : List Command) (h : History) (first 
   pub lawful : (base : Story) → IsLawful base → IsLawful (added ++ (first ++ base))
   pub steady : Unrisen old new → IsSteady (adds_all added (adds_all first h)) new
   pub ends : EndsTrial ending
-      (λ s. Unrisen old new → StoryRests places s.map (adds_all added (adds_all first h)))
+      (λ s. Unrisen old new → StoryRests places (whole s.map) (adds_all added (adds_all first h)))
       places commands (pieces added)
   pub left_is : new.beside.left ≡ old.beside.left
   pub all : ending ≡ Ok tt → (pieces added ≡ summary places commands)

@@ -8,6 +8,7 @@ use Rattle.ipl_base.specs.declared.fault.StoreFault.TheVariants as store
 use Rattle.ipl_model.specs.State.{Map, State, is_open}
 use Rattle.ipl_model.specs.Refusals.{refuses_end}
 use Rattle.ipl_model.specs.Operations.{after_write}
+use Rattle.ipl_meaning.specs.Legible.{whole, every}
 use Rattle.ipl_meaning.specs.Rests.{EachStandsEitherIn}
 use Rattle.record_locks.specs.Standing.{state_of}
 use Rattle.unit_io.specs.Steps.{Settled, EndsWith, Steps}
@@ -63,7 +64,7 @@ write_is_up : (a : Store) (refusal : Option Refusal) → early_fault (entry_faul
 write_is_up a refusal none = (let_in a refusal none).0
 
 module _ (s n : ℕ) (w : KeyWrite) (a b : Store) (before after : Told) (h : History) (state : State)
-    (k : KeyState) (keeps : KeepsStore before.places (limits_of a.units) (view_of a) before h state)
+    (k : KeyState) (keeps : KeepsStore before.places every (limits_of a.units) (view_of a) before h state)
     (has : HasKeyState a.units state k) where
   abbrev turn : KeyState → KeyState
   turn k = after_key_write k s w
@@ -80,8 +81,8 @@ module _ (s n : ℕ) (w : KeyWrite) (a b : Store) (before after : Told) (h : His
 
       put_ends : (fault : StoreFault) (r : Result Bool StoreFault) → (r ≡ Ok true → ⊥) → (later : History)
           → EndsWith r
-          (λ v l. KeepsStore before.places (limits_of a.units) (view_of b) after l (put_next s n bytes r state))
-          (λ l. KeepsStore before.places (limits_of a.units) (view_of b) after l state) later
+          (λ v l. KeepsStore before.places every (limits_of a.units) (view_of b) after l (put_next s n bytes r state))
+          (λ l. KeepsStore before.places every (limits_of a.units) (view_of b) after l state) later
           → KeepsKeys before.places b after later k
       put_ends fault (Ok true) never later kept = absurd (never refl)
       put_ends fault (Ok false) never later kept = keeps_keys before.places a b after later state k kept has
@@ -170,7 +171,7 @@ module _ (s : ℕ) (w : KeyWrite) (mid b : Store) (told after : Told) (h : Histo
   -- what is left from a key state with so many units on so many places
   abbrev WritesServe : ℕ → ℕ → Type 0
   WritesServe places units = (has : HasKeyState units state k)
-      → KeepsStore places (limits_of units) (view_of mid) told h state
+      → KeepsStore places every (limits_of units) (view_of mid) told h state
       → IsBucketWritten s (bucket_of units w.0) (pairs_after w (pairs_of has s (bucket_of units w.0))) mid told
       result b after
       → Steps (LeavesKeys places units k.map k.map) (tables_in mid.transactions.pages)
@@ -233,14 +234,14 @@ module _ (s : ℕ) (w : KeyWrite) (a b : Store) (before after : Told) (result : 
           → ((later : History) → EndsWith read AtRead AtEnd later → AtEnd later)
           → Reading read → Serving (Err fault) mid told h k
       ends_there read fault good less ends did = record {
-        steps = steps_weaker (EachStandsEitherIn before.places a.units keeps.state.map keeps.state.map)
+        steps = steps_weaker (EachStandsEitherIn before.places a.units (whole keeps.state.map) (whole keeps.state.map))
             (LeavesKeys before.places a.units k.map k.map) (tables_in a.transactions.pages) (tables_in mid.transactions.pages)
             (λ v later. KeepsKeys before.places mid told later (Turn k) × AnswersNothing k v)
             (λ v later. KeepsKeys before.places mid told later (Turn k) × AnswersNothing k v)
             (λ later. KeepsKeys before.places mid told later k) (λ later. KeepsKeys before.places mid told later k) h failed before told
             (leaves_keys before.places a.units keeps.state.map keeps.state.map k.map k.map keeps.has.keys keeps.has.keys)
             (λ v later is. is) (λ later is. is)
-            (steps_as (EachStandsEitherIn before.places a.units keeps.state.map keeps.state.map)
+            (steps_as (EachStandsEitherIn before.places a.units (whole keeps.state.map) (whole keeps.state.map))
             (tables_in a.transactions.pages) (tables_in mid.transactions.pages) AtRead AtEnd
             (λ v later. KeepsKeys before.places mid told later (Turn k) × AnswersNothing k v)
             (λ later. KeepsKeys before.places mid told later k) h read failed before told less
@@ -262,7 +263,7 @@ module _ (s : ℕ) (w : KeyWrite) (a b : Store) (before after : Told) (result : 
           (subst (λ (ps : Pairs). IsBucketWritten s name (pairs_after w ps) mid told result b after) same wrote) in
           record {
             steps = steps_then (List ℕ) (Unit {0}) KeyFault KeyFault
-                (EachStandsEitherIn before.places a.units keeps.state.map keeps.state.map)
+                (EachStandsEitherIn before.places a.units (whole keeps.state.map) (whole keeps.state.map))
                 (LeavesKeys before.places a.units k.map k.map) (LeavesKeys before.places a.units k.map k.map)
                 (tables_in a.transactions.pages) (tables_in mid.transactions.pages)
                 (tables_in b.transactions.pages) AtRead AtEnd

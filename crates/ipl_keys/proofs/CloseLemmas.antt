@@ -11,6 +11,7 @@ use Rattle.ipl_base.specs.declared.fault.Refusal.{Refusal}
 use Rattle.ipl_base.specs.declared.fault.StoreFault.{StoreFault}
 use Rattle.ipl_format.specs.Sector.{sector_in}
 use Rattle.ipl_model.specs.State.{Map, State}
+use Rattle.ipl_meaning.specs.Legible.{whole, every}
 use Rattle.ipl_meaning.specs.Rests.{EachStandsIn, StoryRests}
 use Rattle.ipl_meaning.specs.Tables.{Tables, IsCountedClean}
 use Rattle.ipl_meaning.proofs.CarriedLemmas.{unused_is_carried}
@@ -39,7 +40,7 @@ use Rattle.ipl_keys.proofs.SessionLemmas.{served}
 
 -- it was written, and the story rests; it wasn't only where a write failed
 rests_marked : (places : ℕ) (m : Map) (t : Tables) (written : Result (Unit {0}) ChipFault) (later : History)
-    → EndsWith written (λ v k. RestsMarked places m t k) NoOtherEnd later → StoryRests places m later
+    → EndsWith written (λ v k. RestsMarked places (whole m) t k) NoOtherEnd later → StoryRests places (whole m) later
 rests_marked places m t (Ok v) later marked = marked.rests
 rests_marked places m t (Err e) later none = absurd none
 
@@ -73,7 +74,7 @@ as_closes a b before after fault h k did = record {
 
 module _ (a between : Store) (before told : Told) (h : History) (state : State) (k : KeyState)
     (up : a.down ≡ false) (units : between.units ≡ a.units)
-    (keeps : KeepsStore before.places (limits_of a.units) (view_of a) before h state)
+    (keeps : KeepsStore before.places every (limits_of a.units) (view_of a) before h state)
     (has : HasKeyState a.units state k) where
   abbrev places : ℕ
   places = before.places
@@ -120,24 +121,24 @@ module _ (a between : Store) (before told : Told) (h : History) (state : State) 
     abbrev then : History
     then = adds_all ready.added h
 
-    kept : KeepsStore places (limits_of a.units) (view_of between) told then state
+    kept : KeepsStore places every (limits_of a.units) (view_of between) told then state
     kept = ready.ends tt
 
-    runs : IsUp places (view_of between) then state
+    runs : IsUp places every (view_of between) then state
     runs = kept.up serves.ends
 
-    way : Closes places state.map (tables_in between.transactions.pages) (tables_in c.transactions.pages)
+    way : Closes places (whole state.map) (tables_in between.transactions.pages) (tables_in c.transactions.pages)
         marked.written then told after
     way =
         let steps = subst (λ (n : ℕ). ClosesInSteps n (tables_in between.transactions.pages)
         (tables_in c.transactions.pages) told marked.written after) counts.places marked.steps in
-        steps state.map runs.shows.layout then kept.steady kept.rests
+        steps (whole state.map) runs.shows.layout then kept.steady kept.rests
         (record { mirrors = runs.shows.fits.mirrors; tidy = runs.tidy })
 
-    moments : AtEachMoment (λ e. EachStandsIn places a.units state.map (adds_all e then)) way.added
-    moments = subst (λ (n : ℕ). AtEachMoment (λ e. EachStandsIn places n state.map (adds_all e then)) way.added)
+    moments : AtEachMoment (λ e. EachStandsIn places a.units (whole state.map) (adds_all e then)) way.added
+    moments = subst (λ (n : ℕ). AtEachMoment (λ e. EachStandsIn places n (whole state.map) (adds_all e then)) way.added)
         (runs.shows.count ∙ units)
-        (moments_of_one places state.map then runs.shows.layout way.added runs.shows.fits.mirrors.laid
+        (moments_of_one places (whole state.map) then runs.shows.layout way.added runs.shows.fits.mirrors.laid
         way.each_moment)
 
     unused_then : Unused → CountsUnused (tables_in between.transactions.pages) then
@@ -150,17 +151,17 @@ module _ (a between : Store) (before told : Told) (h : History) (state : State) 
     less : Settles → Settled marked.written told after
     less = settled_marked marked.written r before told after marked.ends counts
 
-    many_marked : (rests : StoryRests places state.map (adds_all way.added then)) → rests.each.0 ≡ c.units
+    many_marked : (rests : StoryRests places (whole state.map) (adds_all way.added then)) → rests.each.0 ≡ c.units
     many_marked rests =
         let later = adds_all way.added then in
-        let is = at_end (λ e. EachStandsIn places a.units state.map (adds_all e then)) way.added moments
+        let is = at_end (λ e. EachStandsIn places a.units (whole state.map) (adds_all e then)) way.added moments
         (held later.start later.story) (held_is_image (says sector_in) later.start later.story) in
-        rests_in_units places state.map later is.stands.layout rests is.stands.laid ∙ is.count
+        rests_in_units places (whole state.map) later is.stands.layout rests is.stands.laid ∙ is.count
         ∙ sym (marked.units ∙ units)
 
     -- the store is down, and keeps the records
     down_keeps : Settles
-        → KeepsStore places (limits_of a.units) (view_of c) after (adds_all way.added then) state
+        → KeepsStore places every (limits_of a.units) (view_of c) after (adds_all way.added then) state
     down_keeps settled =
         let rests = rests_marked places state.map (tables_in c.transactions.pages) marked.written
         (adds_all way.added then) (way.ends (less settled)) in record {
@@ -172,7 +173,7 @@ module _ (a between : Store) (before told : Told) (h : History) (state : State) 
         }
 
     abbrev first : OutcomeWhere Unused Each (TidyWork counted clean (Unit {0})) (Unit {0})
-        (λ later. KeepsStore places (limits_of a.units) (view_of between) told later state) h before told
+        (λ later. KeepsStore places every (limits_of a.units) (view_of between) told later state) h before told
     first = record {
       added = ready.added;
       places = ready.places;
@@ -205,7 +206,7 @@ module _ (a between : Store) (before told : Told) (h : History) (state : State) 
     pub marked_closes : ClosesFor a before (handed r) c after h k
     marked_closes = outcome_then Each (TidyWork counted clean (Unit {0})) (TidyWork clean last Settles)
         (TidyWork counted last Settles) (Unit {0}) Settles
-        (λ later. KeepsStore places (limits_of a.units) (view_of between) told later state)
+        (λ later. KeepsStore places every (limits_of a.units) (view_of between) told later state)
         (λ later. KeepsKeys places c after later k) h before told after first tt second
         (λ x y one two. tidy_then counted clean last (Unit {0}) Settles x y one tt two)
 

@@ -9,6 +9,7 @@ use Rattle.ipl_base.specs.declared.fault.ImageFault.{ImageFault}
 use Rattle.ipl_base.specs.declared.fault.OpenFault.{OpenFault}
 use Rattle.ipl_base.specs.declared.fault.OpenFault.TheVariants.{Image, OutOfMemory}
 use Rattle.ipl_model.specs.State.{Map, at_rest}
+use Rattle.ipl_meaning.specs.Legible.{every, whole}
 use Rattle.ipl_meaning.specs.Rests.{now, EachStands, EachStandsIn, StoryRests}
 use Rattle.ipl_meaning.specs.Tables.{Tables}
 use Rattle.ipl_meaning.proofs.StoryLemmas.{held_stands}
@@ -26,18 +27,18 @@ use Rattle.ipl_keys.proofs.ServeLemmas.{leaves_keys}
 
 module _ (old new : Told) (units : ℕ) (records : Map) (m : KeyMap) (h : History)
     (suits : units ≡ units_at (now h) old.places) (steady : IsSteady h old)
-    (rests : StoryRests old.places records h) (has : HasKeys units records m) where
-  leaves : (k : History) → EachStandsIn old.places units records k
+    (rests : StoryRests old.places (whole records) h) (has : HasKeys units records m) where
+  leaves : (k : History) → EachStandsIn old.places units (whole records) k
       → LeavesKeys old.places units m m k
   leaves k each =
       leaves_keys old.places units records records m m has has k (λ x image. inl (each x image))
 
   -- at each moment there are as many units as the chip said
-  as_said : (added : Story) → AtEachMoment (λ e. EachStands old.places records (adds_all e h)) added
-      → AtEachMoment (λ e. EachStandsIn old.places units records (adds_all e h)) added
+  as_said : (added : Story) → AtEachMoment (λ e. EachStands old.places (whole records) (adds_all e h)) added
+      → AtEachMoment (λ e. EachStandsIn old.places units (whole records) (adds_all e h)) added
   as_said added each =
-      subst (λ (n : ℕ). AtEachMoment (λ e. EachStandsIn old.places n records (adds_all e h)) added)
-      (sym suits) (moments_as_said old.places records h added rests each)
+      subst (λ (n : ℕ). AtEachMoment (λ e. EachStandsIn old.places n (whole records) (adds_all e h)) added)
+      (sym suits) (moments_as_said old.places (whole records) h added rests each)
 
   -- the chip wasn't asked
   idle : (fault : OpenFault) → OpensFor old.places units m h old (Err fault) old
@@ -45,7 +46,7 @@ module _ (old new : Told) (units : ℕ) (records : Map) (m : KeyMap) (h : Histor
     added = [];
     history = same_history old.history;
     each_moment = λ later part is. leaves (adds_all part h) (as_said []
-        (at_start (λ e. EachStands old.places records (adds_all e h)) rests.each) later part is);
+        (at_start (λ e. EachStands old.places (whole records) (adds_all e h)) rests.each) later part is);
     keeps = tt;
   }
 
@@ -53,7 +54,7 @@ module _ (old new : Told) (units : ℕ) (records : Map) (m : KeyMap) (h : Histor
   failed : (e : ImageFault) (t : Tables) → Tries true old.places old (Err e) t new
       → OpensFor old.places units m h old (Err (Image e)) new
   failed e t tries =
-      let (first, takes, did) = tries.steps records h steady rests in record {
+      let (first, takes, did) = tries.steps (whole records) h steady rests in record {
         added = did.added;
         history = did.history;
         each_moment = λ later part is. leaves (adds_all part h)
@@ -64,7 +65,7 @@ module _ (old new : Told) (units : ℕ) (records : Map) (m : KeyMap) (h : Histor
   -- it was opened
   opened : (keys : Keys) → OpensAs old.places old (Ok keys.store) new → OpensFor old.places units m h old (Ok keys) new
   opened keys (sound, opens, tries) =
-      let (first, takes, did) = tries.steps records h steady rests in
+      let (first, takes, did) = tries.steps (whole records) h steady rests in
       let later = adds_all did.added h in
       let ends = did.ends tt in
       let store = keys.store in
@@ -77,8 +78,8 @@ module _ (old new : Told) (units : ℕ) (records : Map) (m : KeyMap) (h : Histor
         keeps = (
           record {
             state = at_rest records;
-            keeps = opens.keeps records later (held h.start h.story) steady.holds
-                (held_stands old.places records h rests.each) (did.steady tt) ends.rests ends.tidy;
+            keeps = opens.keeps every records later (held h.start h.story) steady.holds
+                (held_stands old.places (whole records) h rests.each) (did.steady tt) ends.rests ends.tidy;
             has = resting_states_have_keys store.units records m
                 (subst (λ (n : ℕ). HasKeys n records m) (sym alike) has);
           },

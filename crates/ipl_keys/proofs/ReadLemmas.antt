@@ -10,6 +10,7 @@ use Rattle.ipl_base.specs.declared.fault.StoreFault.{StoreFault}
 use Rattle.ipl_base.specs.declared.fault.StoreFault.TheVariants.{Refused}
 use Rattle.ipl_model.specs.State.{State, Limits, is_open}
 use Rattle.ipl_model.specs.Refusals.{refuses_get, refuses_end}
+use Rattle.ipl_meaning.specs.Legible.{whole, every}
 use Rattle.ipl_meaning.specs.Rests.{EachStandsEitherIn}
 use Rattle.record_locks.specs.Standing.{state_of}
 use Rattle.record_locks.proofs.SameLemmas.{alike}
@@ -142,7 +143,7 @@ entry_is_up store none = (let_in store None (ap (λ e. early_fault e None) none)
 
 -- a session that may end is open in each state that the sessions are of
 pub may_end_is_open : (a : Store) (before : Told) (h : History) (state : State) (s : ℕ)
-    → a.down ≡ false → KeepsStore before.places (limits_of a.units) (view_of a) before h state
+    → a.down ≡ false → KeepsStore before.places every (limits_of a.units) (view_of a) before h state
     → refuses_end (limits_of a.units) (state_of a.transactions.sessions) s ≡ None
     → is_open state s ≡ true
 may_end_is_open a before h state s up keeps none =
@@ -214,7 +215,7 @@ module _ {T U : Type 0} (s n : ℕ) (a b : Store) (before after : Told) (r : Res
 
 module _ (s n : ℕ) (a mid : Store) (before told : Told) (h : History) (state : State) (k : KeyState)
     (has : HasKeyState a.units state k) (up : a.down ≡ false) (alike : mid.units ≡ a.units)
-    (keeps : KeepsStore before.places (limits_of a.units) (view_of a) before h state) where
+    (keeps : KeepsStore before.places every (limits_of a.units) (view_of a) before h state) where
   -- what is seen is the bucket of the state
   seen_spells : (found : Option (List ℕ)) → IsSeen s n a before found
       → SpellsBucket (bytes_of found) (pairs_of has s n)
@@ -230,21 +231,21 @@ module _ (s n : ℕ) (a mid : Store) (before told : Told) (h : History) (state :
   looked r looks = leads_steps (λ st. st) a mid before told r h state up alike looks.leads keeps
 
   abbrev pub Read : List ℕ → History → Type 0
-  Read bytes later = KeepsStore before.places (limits_of a.units) (view_of mid) told later state
+  Read bytes later = KeepsStore before.places every (limits_of a.units) (view_of mid) told later state
       × SpellsBucket bytes (pairs_of has s n)
 
   abbrev pub Kept : History → Type 0
-  Kept later = KeepsStore before.places (limits_of a.units) (view_of mid) told later state
+  Kept later = KeepsStore before.places every (limits_of a.units) (view_of mid) told later state
 
   abbrev pub ReadSteps : Result (List ℕ) KeyFault → Type 0
-  ReadSteps read = Steps (EachStandsEitherIn before.places a.units state.map state.map)
+  ReadSteps read = Steps (EachStandsEitherIn before.places a.units (whole state.map) (whole state.map))
       (tables_in a.transactions.pages) (tables_in mid.transactions.pages) Read Kept h read before told
 
   as_read : (r : Result (Unit {0}) StoreFault) (read : Result (List ℕ) KeyFault)
       → (Settled read before told → Settled r before told)
       → ((later : History) → EndsWith r (λ v. Kept) Kept later → EndsWith read Read Kept later)
       → LooksAtName a before r mid told → ReadSteps read
-  as_read r read less ends looks = steps_as (EachStandsEitherIn before.places a.units state.map state.map)
+  as_read r read less ends looks = steps_as (EachStandsEitherIn before.places a.units (whole state.map) (whole state.map))
       (tables_in a.transactions.pages) (tables_in mid.transactions.pages) (λ v. Kept) Kept Read Kept h
       r read before told less ends (looked r looks)
 
@@ -298,11 +299,11 @@ module _ (s : ℕ) (bytes : List ℕ) (a b : Store) (before after : Told)
         let n = bucket_of a.units bytes in
         let t = tables_in a.transactions.pages in
         let after_t = tables_in b.transactions.pages in
-        steps_weaker (EachStandsEitherIn before.places a.units keeps.state.map keeps.state.map)
+        steps_weaker (EachStandsEitherIn before.places a.units (whole keeps.state.map) (whole keeps.state.map))
         (LeavesKeys before.places a.units k.map k.map) t after_t Then Then Else Else h r before after
         (leaves_keys before.places a.units keeps.state.map keeps.state.map k.map k.map keeps.has.keys keeps.has.keys)
         (λ v later is. is) (λ later is. is)
-        (steps_as (EachStandsEitherIn before.places a.units keeps.state.map keeps.state.map) t after_t
+        (steps_as (EachStandsEitherIn before.places a.units (whole keeps.state.map) (whole keeps.state.map)) t after_t
         (Read s n a b before after h keeps.state k keeps.has up calls.units keeps.keeps)
         (Kept s n a b before after h keeps.state k keeps.has up calls.units keeps.keeps)
         Then Else h read r before after less ends did)

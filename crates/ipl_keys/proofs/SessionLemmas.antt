@@ -1,4 +1,5 @@
 -- Sessions begin and end: what the store answered is handed on.
+use Rattle.ipl_meaning.specs.Legible.{every}
 use Rattle.std.proofs.Common.{◌≡◌, ℕ, false, Option, Some, None, Result, Ok, Err, refl, sym, subst}
 use Rattle.chip_trait.specs.Told.{History, Told}
 use Rattle.ipl_base.specs.declared.fault.StoreFault.{StoreFault}
@@ -35,7 +36,7 @@ module _ (next : State → State) (turn : KeyState → KeyState) (a b : Store) (
   pub call_serves : (early : Option StoreFault) (most : ℕ) (r : Result (Unit {0}) StoreFault)
       → (early ≡ None → a.down ≡ false)
       → Calls early next most a before r b after → (state : State)
-      → KeepsStore before.places (limits_of a.units) (view_of a) before h state
+      → KeepsStore before.places every (limits_of a.units) (view_of a) before h state
       → HasKeyState a.units state k
       → (a.down ≡ false → HasKeyState a.units (next state) (turn k))
       → ServesFor turn AnswersNothing a before (handed r) b after h k
@@ -59,7 +60,7 @@ pub hands_on_serves : (next : State → State) (turn : KeyState → KeyState) (a
     (early : Option StoreFault) (most : ℕ) (result : Result (Unit {0}) KeyFault)
     → (early ≡ None → a.down ≡ false)
     → ((h : History) (state : State) (k : KeyState) → a.down ≡ false
-    → KeepsStore before.places (limits_of a.units) (view_of a) before h state → HasKeyState a.units state k
+    → KeepsStore before.places every (limits_of a.units) (view_of a) before h state → HasKeyState a.units state k
     → HasKeyState a.units (next state) (turn k))
     → HandsOn (λ answer. Calls early next most a before answer b after) result
     → ServesKeys turn AnswersNothing a before result b after

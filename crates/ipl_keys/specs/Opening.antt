@@ -6,6 +6,7 @@ use Rattle.chip_trait.specs.Story.{Story}
 use Rattle.chip_trait.specs.Told.{History, Told, adds_all}
 use Rattle.ipl_base.specs.declared.fault.OpenFault.{OpenFault}
 use Rattle.ipl_model.specs.State.{Map}
+use Rattle.ipl_meaning.specs.Legible.{whole}
 use Rattle.ipl_meaning.specs.Rests.{now, StoryRests}
 use Rattle.ipl_meaning.specs.Chosen.{units_at}
 use Rattle.unit_io.specs.Leads.{IsSteady}
@@ -33,5 +34,5 @@ pub record OpensFor (places units : ℕ) (m : KeyMap) (h : History) (old : Told)
 -- over each story that rests on records that have keys, in as many units as the chip then says
 abbrev pub OpensKeys : Told → Result Keys OpenFault → Told → Type 0
 OpensKeys old result new = (units : ℕ) (records : Map) (m : KeyMap) (h : History)
-    → units ≡ units_at (now h) old.places → IsSteady h old → StoryRests old.places records h
+    → units ≡ units_at (now h) old.places → IsSteady h old → StoryRests old.places (whole records) h
     → HasKeys units records m → OpensFor old.places units m h old result new

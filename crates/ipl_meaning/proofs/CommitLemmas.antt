@@ -65,4 +65,4 @@ module _ (places : ℕ) (c : Chart) (it : Layout) (s : ℕ) (sector : Sector) (n
   }
 
 pub commit_sectors_add : CommitSectorsAdd
-commit_sectors_add places c it s sector numbers committed laid may = (added places c it s sector numbers committed laid may, pages_still c it.status s sector may.free places (with_committed it committed))
+commit_sectors_add places c it s sector numbers committed laid may = (added places c it s sector numbers committed laid may, pages_still c it.status s sector may.free places (with_committed it committed) (λ is. omega (arith, is, may.kind)))

@@ -1,6 +1,6 @@
 -- A formatted chip stands for the empty map.
 use Rattle.std.proofs.Common.{◌≡◌, ◌≢◌, ◌⊎◌, ℕ, ◌<◌, ◌≤◌, ◌+◌, ◌*◌, [], slice_index, Some, None, inl, inr, refl, sym, ◌∙◌, ap, arith, false}
-use Rattle.std.proofs.lemmas.Bool.{cases_eq, cases_lt, eq-eqb, ne_eqb, lt-ltb, le-ltb}
+use Rattle.std.proofs.lemmas.Bool.{cases_eq, cases_lt, eq-eqb, ne_eqb, lt-ltb, le-ltb, false≢true}
 use Rattle.std.proofs.lemmas.List.{get_or-replicate, get_or_past}
 use Rattle.std.proofs.lemmas.List.Elements.{All-replicate}
 use Rattle.std.specs.Ordering.{nat_cmp}
@@ -14,6 +14,7 @@ use Rattle.ipl_format.proofs.PageLemmas.{empty_pages_spell_nothing}
 use Rattle.ipl_meaning.proofs.SizeLemmas.{no_size}
 use Rattle.ipl_meaning.specs.Chart.{Chart, IsLive}
 use Rattle.ipl_meaning.specs.Layout.{Shape, IsUnit, Layout, Laid}
+use Rattle.ipl_meaning.specs.Legible.{whole}
 use Rattle.ipl_meaning.specs.Stands.{Shows, Says, page_in}
 use Rattle.ipl_meaning.specs.Formatted.{no_pieces, first_head, first_status, formatted}
 use Rattle.ipl_meaning.specs.FirstTables.{first_layout}
@@ -158,9 +159,10 @@ module _ (places units : ℕ) (least : 5 ≤ places) (most : places ≤ 1028) (k
   }
 
 -- its pages show no record
-pub formatted_pages_are_empty : (places units : ℕ) → 5 ≤ places → places ≤ 1028 → KeepsUnits places units → Says places (formatted units) (first_layout units) empty
+pub formatted_pages_are_empty : (places units : ℕ) → 5 ≤ places → places ≤ 1028 → KeepsUnits places units → Says places (formatted units) (first_layout units) (whole empty)
 formatted_pages_are_empty places units least most keeps = record {
-  pages = λ u page low few. shows places units least most keeps u page;
+  pages = λ u page low few reads. shows places units least most keeps u page;
+  rotten = λ u page base low few is reads. false≢true is;
   nowhere_else = λ n high. get-empty nat_cmp n;
 }
 

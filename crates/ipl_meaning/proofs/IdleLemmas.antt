@@ -111,11 +111,14 @@ module _ (w : ℕ → Bool) (c y : Chart) (same : SameOff w c y) where
         two = laid.two;
         in_overflow = laid.in_overflow;
       },
-      λ u page now low few was. let r = was.reads in record {
-        base = was.base;
-        reads = record { fits = r.fits; cut = r.cut; here = λ i within. same (it.units u).home _ (home_off u low) ∙ r.here i within };
-        says = was.says;
-        room = was.room;
+      record {
+        shown = λ u page now low few was. let r = was.reads in record {
+          base = was.base;
+          reads = record { fits = r.fits; cut = r.cut; here = λ i within. same (it.units u).home _ (home_off u low) ∙ r.here i within };
+          says = was.says;
+          room = was.room;
+        };
+        no_more = λ u page base low few r. (base, record { fits = r.fits; cut = r.cut; here = λ i within. sym (same (it.units u).home _ (home_off u low)) ∙ r.here i within });
       },
     )
 

@@ -41,6 +41,7 @@ pub mod MirrorLemmas
 pub mod FirstTableLemmas
 pub mod StoryLemmas
 pub mod AllowedLemmas
+pub mod RotLemmas
 pub mod PackLemmas
 pub mod WeightLemmas
 pub mod ApartLemmas

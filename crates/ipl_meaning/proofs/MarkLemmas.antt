@@ -42,7 +42,7 @@ marks_wait places c it s mark laid may = (
     two = laid.two;
     in_overflow = laid.in_overflow;
   },
-  pages_still c it.status s mark may.free places it,
+  pages_still c it.status s mark may.free places it (λ is. omega (arith, is, may.kind)),
 )
   where
     no_header : {A : Type 0} → s ≡ 0 → A

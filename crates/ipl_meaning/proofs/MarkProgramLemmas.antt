@@ -12,7 +12,7 @@ use Rattle.chip_trait.proofs.ImageLemmas.{held_is_named, image_if_closed, header
 use Rattle.chip_trait.proofs.ProgramLemmas.{part_in_quiet, headers_there, without, without_is_image, without_is_whole, there, as_with, as_without}
 use Rattle.chip_trait.proofs.ClosedLemmas.{held_program}
 use Rattle.chip_trait.proofs.LossLemmas.{put}
-use Rattle.ipl_model.specs.State.{Map}
+use Rattle.ipl_meaning.specs.Legible.{Legible}
 use Rattle.ipl_format.specs.Sector.{Sector, sector_in}
 use Rattle.ipl_format.specs.Record.{Record}
 use Rattle.ipl_format.proofs.SectorLemmas.{blank_says_nothing}
@@ -34,7 +34,7 @@ use Rattle.ipl_meaning.proofs.MarkStoryLemmas.{in_layout, marked_there, marked_p
 
 -- ---- a program
 
-module _ (places : ℕ) (m : Map) (h : History) (p s : ℕ) (bytes : List ℕ) (sector : Sector) (rests : StoryRests places m h)
+module _ (places : ℕ) (m : Legible) (h : History) (p s : ℕ) (bytes : List ℕ) (sector : Sector) (rests : StoryRests places m h)
     (untouched : IsUntouched h p s) (spelled : sector_in bytes ≡ Some sector) (x : Contents)
     (image : IsNoChanceImage (says sector_in) h.start (Program p s bytes ∷ h.story) x) where
   -- the image as it would be without the program
@@ -100,7 +100,7 @@ asides_keep_marks places m h p s bytes sector rests untouched spelled bare other
 -- ---- a log sector
 
 -- where nothing is lost at worn places
-module _ (places : ℕ) (m : Map) (h : History) (it : Layout) (u p s : ℕ) (bytes : List ℕ) (sector : Sector) (records : List Record)
+module _ (places : ℕ) (m : Legible) (h : History) (it : Layout) (u p s : ℕ) (bytes : List ℕ) (sector : Sector) (records : List Record)
     (rests : StoryRests places m h) (untouched : IsUntouched h p s) (spelled : sector_in bytes ≡ Some sector) (laid : Laid places (now h) it)
     (may : MayLog places (now h) it u p s sector records) (unused : MarksAreUnused places h)
     (x : Contents) (image : IsNoChanceImage (says sector_in) h.start (Program p s bytes ∷ h.story) x)
@@ -194,7 +194,7 @@ log_sectors_keep_marks places m h it u p s bytes sector records rests untouched 
 
 -- ---- where nothing else is open
 
-module _ (places : ℕ) (m : Map) (h : History) (it : Layout) (rests : StoryRests places m h) (closed : IsClosed h.story) (laid : Laid places (now h) it)
+module _ (places : ℕ) (m : Legible) (h : History) (it : Layout) (rests : StoryRests places m h) (closed : IsClosed h.story) (laid : Laid places (now h) it)
     (z : Contents) (image : IsNoChanceImage (says sector_in) h.start h.story z) where
   pub as_held : (q t : ℕ) → is_worn h.story q ≡ false → z q t ≡ held h.start h.story q t
   as_held q t lasting = image_if_closed h.start h.story z q t (closed q t) lasting image.image

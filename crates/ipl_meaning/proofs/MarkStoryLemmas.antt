@@ -10,7 +10,7 @@ use Rattle.chip_trait.specs.Told.{History}
 use Rattle.chip_trait.proofs.ImageLemmas.{held_is_named, image_before_barrier}
 use Rattle.chip_trait.proofs.ProgramLemmas.{part_in_quiet}
 use Rattle.chip_trait.proofs.LossLemmas.{put, put_headers, lossy, covers_worn, put_is_image, left_there}
-use Rattle.ipl_model.specs.State.{Map}
+use Rattle.ipl_meaning.specs.Legible.{Legible}
 use Rattle.ipl_format.specs.Sector.{Sector, sector_in}
 use Rattle.ipl_format.proofs.SectorLemmas.{blank_says_nothing}
 use Rattle.ipl_meaning.specs.Chart.{chart_of}
@@ -68,7 +68,7 @@ idle_events_keep_marks places h = (
 )
 
 -- idle places may lose what they have
-module _ (places : ℕ) (m : Map) (h : History) (rests : StoryRests places m h) (it : Layout) (laid : Laid places (now h) it) (w : ℕ → Bool)
+module _ (places : ℕ) (m : Legible) (h : History) (rests : StoryRests places m h) (it : Layout) (laid : Laid places (now h) it) (w : ℕ → Bool)
     (covers : (q : ℕ) → is_worn h.story q ≡ true → w q ≡ true) (all_idle : (q : ℕ) → w q ≡ true → IsIdle places (now h) it q) (x : Contents)
     (image : IsNoChanceImage (says sector_in) h.start h.story (put sector_in blank_says_nothing h.start h.story rests.quiet w covers x))
     (left : (q t : ℕ) (sector : Sector) → w q ≡ true → chart_of x q t ≡ Some sector → now h q t ≡ Some sector) where
@@ -93,7 +93,7 @@ module _ (places : ℕ) (m : Map) (h : History) (rests : StoryRests places m h) 
       (marked_there places x z kt q n u stands.laid low home unit_z (rw off refl) marked, off)
 
 -- this place and the worn ones are idle
-these_are_idle : (places : ℕ) (m : Map) (h : History) (it : Layout) (p : ℕ) → StoryRests places m h → Laid places (now h) it → IsIdle places (now h) it p
+these_are_idle : (places : ℕ) (m : Legible) (h : History) (it : Layout) (p : ℕ) → StoryRests places m h → Laid places (now h) it → IsIdle places (now h) it p
     → (q : ℕ) → (eqb p q || is_worn h.story q) ≡ true → IsIdle places (now h) it q
 these_are_idle places m h it p rests laid idle q on = elim (cases_Bool (eqb p q)) [
   | inl here ↦ rw (← eqb-true p q here) idle

@@ -1,19 +1,19 @@
 -- A chart is laid out in one way, and stands for one map.
-use Rattle.std.proofs.Common.{slice_index, ◌≡◌, ◌⊎◌, ℕ, zero, suc, ◌<◌, ◌+◌, ◌*◌, ◌/◌, ◌%◌, List, [], ◌∷◌, Some, inl, inr, refl, sym, ◌∙◌, ap, ap₂, subst, arith, Bool, true, false, IsTrue}
+use Rattle.std.proofs.Common.{slice_index, ◌≡◌, ◌⊎◌, ℕ, zero, suc, ◌<◌, ◌≤◌, ◌+◌, ◌*◌, ◌/◌, ◌%◌, List, [], ◌∷◌, Some, inl, inr, refl, sym, ◌∙◌, ap, ap₂, subst, arith, Bool, true, false, IsTrue}
 use Rattle.std.specs.List.{All, Contains}
-use Rattle.std.proofs.lemmas.Bool.{cases_lt}
+use Rattle.std.proofs.lemmas.Bool.{cases_lt, false≢true}
 use Rattle.std.proofs.lemmas.List.Elements.{All-contains}
 use Rattle.std.specs.FinMap.{get, same_map, nat_cmp-IsAntisymmetric}
 use Rattle.std.specs.Cmp.{nat_cmp_total}
 use Rattle.ipl_format.specs.Sector.{Sector}
-use Rattle.ipl_model.specs.State.{Map}
+use Rattle.ipl_meaning.specs.Legible.{Legible, whole, but}
 use Rattle.ipl_format.specs.Record.{Record}
 use Rattle.ipl_format.specs.Page.{Slots, value_in, page_text}
 use Rattle.ipl_meaning.specs.Chart.{Chart, IsChosen, IsDataHeader, IsStatusHeader}
 use Rattle.ipl_meaning.specs.Values.{Values, after_records}
 use Rattle.ipl_meaning.specs.Layout.{Shape, Entry, IsBelow, AllRise, IsEntry, IsLog, IsUnit, IsStatus, Layout, Laid, ReadsWell, base_sector, records_of}
-use Rattle.ipl_meaning.specs.Stands.{Shows, Stands, page_in}
-use Rattle.ipl_meaning.specs.Laws.{StandsOnce, LaidOnce}
+use Rattle.ipl_meaning.specs.Stands.{Shows, Says, Stands, page_in}
+use Rattle.ipl_meaning.specs.Laws.{StandsOnce, ChartsAgree, FewerPagesStand, WholeIsEvery, LaidOnce}
 use Rattle.ipl_format.proofs.RecordLemmas.{logs_spell_once}
 use Rattle.ipl_format.proofs.HeaderOnceLemmas.{data_headers_spell_once, status_headers_spell_once}
 use Rattle.ipl_format.proofs.PageLemmas.{pages_spell_once, pieces_say_once}
@@ -186,28 +186,50 @@ shows_once c committed other u it page now after same one two slot low =
 by_page : (n : ℕ) → n ≡ 960 * (n / 960) + 64 * ((n / 64) % 15) + n % 64
 by_page n = omega arith
 
-module _ (places : ℕ) (c : Chart) (m after : Map) (one : Stands places c m) (other : Stands places c after) where
+-- two of one chart agree on each page of which both are said
+module _ (places : ℕ) (c : Chart) (m after : Legible) (one : Stands places c m) (other : Stands places c after) where
   counts : one.layout.count ≡ other.layout.count
   counts = same_count places c one.layout other.layout one.laid other.laid
 
-  same_within : (n : ℕ) → n < 960 * one.layout.count → get m n ≡ get after n
-  same_within n low =
-      let u = n / 960 in
-      let page = (n / 64) % 15 in
-      let within : u < one.layout.count = omega (arith, low) in
-      let few : page < 15 = omega arith in
-      let less : n % 64 < 64 = omega arith in
-      let mine : Shows c one.layout.committed u (other.layout.units u) page (page_in m u page) = rw (same_shape places c one.layout other.layout one.laid other.laid u within) at (one.says.pages u page within few) in
-      ap (λ (k : ℕ). get m k) (by_page n)
-      ∙ shows_once c one.layout.committed other.layout.committed u (other.layout.units u) page (page_in m u page) (page_in after u page)
-      (same_committed places c one.layout other.layout one.laid other.laid) mine (other.says.pages u page (omega (arith, within, counts)) few) (n % 64) less
-      ∙ ap (λ (k : ℕ). get after k) (sym (by_page n))
+  same_page : (u page slot : ℕ) → u < one.layout.count → page < 15 → slot < 64 → m.pages.reads u page ≡ true → after.pages.reads u page ≡ true
+      → page_in m.map u page slot ≡ page_in after.map u page slot
+  same_page u page slot within few less here there =
+      let mine : Shows c one.layout.committed u (other.layout.units u) page (page_in m.map u page) = rw (same_shape places c one.layout other.layout one.laid other.laid u within) at (one.says.pages u page within few here) in
+      shows_once c one.layout.committed other.layout.committed u (other.layout.units u) page (page_in m.map u page) (page_in after.map u page)
+      (same_committed places c one.layout other.layout one.laid other.laid) mine (other.says.pages u page (omega (arith, within, counts)) few there) slot less
 
-  same_value : (n : ℕ) → get m n ≡ get after n
-  same_value n = elim (cases_lt n (960 * one.layout.count)) [
-    | inl low ↦ same_within n low
-    | inr high ↦ one.says.nowhere_else n high ∙ sym (other.says.nowhere_else n (omega (arith, high, counts)))
+  past_the_last : (n : ℕ) → 960 * one.layout.count ≤ n → get m.map n ≡ get after.map n
+  past_the_last n high = one.says.nowhere_else n high ∙ sym (other.says.nowhere_else n (omega (arith, high, counts)))
+
+  same_name : (u page slot : ℕ) → page < 15 → slot < 64 → m.pages.reads u page ≡ true → after.pages.reads u page ≡ true
+      → page_in m.map u page slot ≡ page_in after.map u page slot
+  same_name u page slot few less here there = elim (cases_lt u one.layout.count) [
+    | inl low ↦ same_page u page slot low few less here there
+    | inr high ↦ past_the_last (960 * u + 64 * page + slot) (omega (arith, high))
   ]
 
+pub charts_agree : ChartsAgree
+charts_agree places c m n one other u page slot few less here there = same_name places c m n one other u page slot few less here there
+
 pub stands_once : StandsOnce
-stands_once places c m n one other = same_map nat_cmp_total nat_cmp-IsAntisymmetric m n (same_value places c m n one other)
+stands_once places c m n one other = same_map nat_cmp_total nat_cmp-IsAntisymmetric m n (λ k.
+    ap (λ (j : ℕ). get m j) (by_page k)
+    ∙ same_name places c (whole m) (whole n) one other (k / 960) ((k / 64) % 15) (k % 64) (omega arith) (omega arith) refl refl
+    ∙ ap (λ (j : ℕ). get n j) (sym (by_page k)))
+
+pub fewer_pages_say : (places : ℕ) (c : Chart) (it : Layout) (m : Legible) (reads : ℕ → ℕ → Bool) → ((u page : ℕ) → reads u page ≡ true → m.pages.reads u page ≡ true)
+    → Says places c it m → Says places c it (but reads m)
+fewer_pages_say places c it m reads fewer is = record { pages = λ u page low few here. is.pages u page low few (fewer u page here); rotten = is.rotten; nowhere_else = is.nowhere_else }
+
+pub fewer_pages_stand : FewerPagesStand
+fewer_pages_stand places c m reads fewer one = record {
+  layout = one.layout;
+  laid = one.laid;
+  says = fewer_pages_say places c one.layout m reads fewer one.says;
+}
+
+pub whole_is_every : WholeIsEvery
+whole_is_every places c it m = (
+  λ is. record { pages = λ u page low few. is.pages u page low few refl; nowhere_else = is.nowhere_else },
+  λ is. record { pages = λ u page low few here. is.pages u page low few; rotten = λ u page base low few on reads. false≢true on; nowhere_else = is.nowhere_else },
+)

@@ -83,12 +83,17 @@ outside_does_not_count places c it y laid same = (
     two = laid.two;
     in_overflow = laid.in_overflow;
   },
-  λ u page now low few was. let r = was.reads in let unit = laid.each u low in
-      let most : slice_index (it.units u).pieces page ≤ 16 = All-get_or IsCount (it.units u).pieces page 0 (omega (arith, few, unit.counts.fifteen)) unit.counts.each in
-      record {
-        base = was.base;
-        reads = record { fits = r.fits; cut = r.cut; here = λ i within. same (it.units u).home _ unit.chosen.within (omega (arith, few, within, most)) ∙ r.here i within };
-        says = was.says;
-        room = was.room;
-      },
+  record {
+    shown = λ u page now low few was. let r = was.reads in let unit = laid.each u low in
+        let most : slice_index (it.units u).pieces page ≤ 16 = All-get_or IsCount (it.units u).pieces page 0 (omega (arith, few, unit.counts.fifteen)) unit.counts.each in
+        record {
+          base = was.base;
+          reads = record { fits = r.fits; cut = r.cut; here = λ i within. same (it.units u).home _ unit.chosen.within (omega (arith, few, within, most)) ∙ r.here i within };
+          says = was.says;
+          room = was.room;
+        };
+    no_more = λ u page base low few r. let unit = laid.each u low in
+        let most : slice_index (it.units u).pieces page ≤ 16 = All-get_or IsCount (it.units u).pieces page 0 (omega (arith, few, unit.counts.fifteen)) unit.counts.each in
+        (base, record { fits = r.fits; cut = r.cut; here = λ i within. sym (same (it.units u).home _ unit.chosen.within (omega (arith, few, within, most))) ∙ r.here i within });
+  },
 )

@@ -5,8 +5,9 @@ use Rattle.std.proofs.lemmas.List.Elements.{All-weaker}
 use Rattle.chip_trait.specs.Chart.{with_sector}
 use Rattle.ipl_format.specs.Sector.{Sector}
 use Rattle.ipl_meaning.specs.Chart.{Chart, IsChosen, IsDataHeader, IsOverflow, IsLive}
+use Rattle.ipl_format.specs.Page.{Slots}
 use Rattle.ipl_meaning.specs.Values.{Values}
-use Rattle.ipl_meaning.specs.Layout.{Shape, Entry, IsEntry, IsLog, IsUnit, IsCommitSector, IsCommitted, IsStatus, IsMark, AreMarks, Layout}
+use Rattle.ipl_meaning.specs.Layout.{Shape, Entry, IsEntry, IsLog, IsUnit, IsCommitSector, IsCommitted, IsStatus, IsMark, AreMarks, Layout, ReadsWell}
 use Rattle.ipl_meaning.specs.Stands.{Shows}
 use Rattle.ipl_meaning.specs.Steps.{KeepsPages}
 
@@ -45,9 +46,23 @@ module _ (c : Chart) (p s : ℕ) (sector : Sector) (free : c p s ≡ None) where
     | inr elsewhere ↦ rw elsewhere was
   ]
 
-  -- the pages are shown as before
-  pub pages_still : (places : ℕ) (it : Layout) → KeepsPages places c it y it
-  pages_still places it u page now low few was = shows_more c y kept it.committed u (it.units u) page now was
+  -- a page reads well where it did so before
+  pub reads_before : sector.kind ≢ 4 → (u : ℕ) (it : Shape) (page : ℕ) (base : Slots) → ReadsWell y u it page base → ReadsWell c u it page base
+  reads_before other u it page base is = record {
+    fits = is.fits;
+    cut = is.cut;
+    here = λ i within. elim (new_or_old it.home _ _ (is.here i within)) [
+      | inl new ↦ absurd (other (ap (λ (x : Sector). x.kind) new.2))
+      | inr old ↦ old
+    ];
+  }
+
+  -- the pages are shown as before, and no more read well
+  pub pages_still : (places : ℕ) (it : Layout) → sector.kind ≢ 4 → KeepsPages places c it y it
+  pages_still places it other = record {
+    shown = λ u page now low few was. shows_more c y kept it.committed u (it.units u) page now was;
+    no_more = λ u page base low few is. (base, reads_before other u (it.units u) page base is);
+  }
 
   -- a header that counts goes on counting where the new sector is no header of the kind
   pub chosen_still : (places : ℕ) (Fits : Sector → Type 0) (home : ℕ) (head : Sector) → (s ≡ 0 → ¬ Fits sector) → IsChosen c places Fits home head → IsChosen y places Fits home head

@@ -1,7 +1,7 @@
 -- What keeps the pages keeps the map, and what a chart stands for after each step.
 use Rattle.std.proofs.Common.{◌≡◌, ◌≤◌, ◌*◌, ℕ, refl, ◌∙◌, subst}
 use Rattle.chip_trait.specs.Chart.{with_sector}
-use Rattle.ipl_model.specs.State.{Map}
+use Rattle.ipl_meaning.specs.Legible.{Legible}
 use Rattle.ipl_meaning.specs.Chart.{Chart}
 use Rattle.ipl_meaning.specs.Layout.{Layout, Laid}
 use Rattle.ipl_meaning.specs.Stands.{Says, StandsIn, StandsBeside}
@@ -17,19 +17,27 @@ use Rattle.ipl_meaning.proofs.SwitchLemmas.{headers_switch, merges_keep_pages, s
 
 pub kept_pages_keep_the_map : KeptPagesKeepTheMap
 kept_pages_keep_the_map places c y it new m keeps count says = record {
-  pages = λ u page low few. let was = rw count at low in keeps u page _ was few (says.pages u page was few);
+  pages = λ u page low few reads. let was = rw count at low in keeps.shown u page _ was few (says.pages u page was few reads);
+  rotten = λ u page base low few is reads. let was = rw count at low in let before = keeps.no_more u page base was few reads in says.rotten u page before.0 was few is before.1;
   nowhere_else = λ n high. says.nowhere_else n (subst (λ (k : ℕ). 960 * k ≤ n) count high);
 }
 
+-- what keeps the pages, and then keeps them again
+pub pages_then : (places : ℕ) (c y z : Chart) (it jt kt : Layout) → jt.count ≡ it.count → KeepsPages places c it y jt → KeepsPages places y jt z kt → KeepsPages places c it z kt
+pages_then places c y z it jt kt count one two = record {
+  shown = λ u page now low few shows. let there = rw (← count) at low in two.shown u page now there few (one.shown u page now low few shows);
+  no_more = λ u page base low few reads. let there = rw (← count) at low in let was = two.no_more u page base there few reads in one.no_more u page was.0 low few was.1;
+}
+
 -- a chart that is laid out, with as many units, and shows its pages as the one before did, stands for the same map
-pub stands_by : (places : ℕ) (m : Map) (c y : Chart) (it new : Layout) → Laid places y new × KeepsPages places c it y new → new.count ≡ it.count → Says places c it m → StandsIn places it.count y m
+pub stands_by : (places : ℕ) (m : Legible) (c y : Chart) (it new : Layout) → Laid places y new × KeepsPages places c it y new → new.count ≡ it.count → Says places c it m → StandsIn places it.count y m
 stands_by places m c y it new (laid, keeps) count says = record {
   stands = record { layout = new; laid = laid; says = kept_pages_keep_the_map places c y it new m keeps count says };
   count = count;
 }
 
 -- in as many units as another that is laid out in so many
-pub beside : (places : ℕ) (m : Map) (c y : Chart) (it : Layout) → Laid places c it → StandsIn places it.count y m → StandsBeside places c y m
+pub beside : (places : ℕ) (m : Legible) (c y : Chart) (it : Layout) → Laid places c it → StandsIn places it.count y m → StandsBeside places c y m
 beside places m c y it laid is = record { stands = is.stands; alike = λ other too. is.count ∙ same_count places c it other laid too }
 
 pub stands_after_idle : StandsAfterIdle

@@ -19,11 +19,11 @@ use Rattle.ipl_format.proofs.SectorLemmas.{blank_says_nothing}
 use Rattle.ipl_meaning.specs.Chart.{Chart, chart_of}
 use Rattle.ipl_meaning.specs.Layout.{Entry, Layout, Laid}
 use Rattle.ipl_meaning.specs.Stands.{StandsIn}
-use Rattle.ipl_model.specs.State.{Map}
+use Rattle.ipl_meaning.specs.Legible.{Legible, whole}
 use Rattle.ipl_meaning.specs.Rests.{now, EachStands, EachStandsIn, EachStandsEither, EachStandsEitherIn, WornAreIdle, StoryRests}
 use Rattle.ipl_meaning.specs.Steps.{IsPart, KeepsPages, IsIdle, MayLog, with_log, entry_at}
-use Rattle.ipl_meaning.specs.StoryLaws.{QuietImagesAreParts, HeldStands, RestsOnce, ChipsRestOnce, ClosedRests, BarriersRest, BarriersKeepEither, ReadsKeep, SaysKeep, WornsKeep, ErasesKeep, LogSectorsKeep, AsidesKeep, ProgramsLead, OneIsEither, EitherIsKept, MomentsKeepUnits}
-use Rattle.ipl_meaning.proofs.OnceLemmas.{same_count, stands_once}
+use Rattle.ipl_meaning.specs.StoryLaws.{QuietImagesAreParts, HeldStands, RestsOnce, StoriesAgree, FewerPagesRest, ChipsRestOnce, ClosedRests, BarriersRest, BarriersKeepEither, ReadsKeep, SaysKeep, WornsKeep, ErasesKeep, LogSectorsKeep, AsidesKeep, ProgramsLead, OneIsEither, EitherIsKept, MomentsKeepUnits}
+use Rattle.ipl_meaning.proofs.OnceLemmas.{same_count, stands_once, charts_agree, fewer_pages_say}
 use Rattle.ipl_meaning.proofs.StandsLemmas.{stands_by}
 use Rattle.ipl_meaning.proofs.IdleLemmas.{idle_places_do_not_count, bare_is_idle, bare_comes_to_nothing}
 use Rattle.ipl_meaning.proofs.WaitLemmas.{log_sectors_wait}
@@ -46,11 +46,11 @@ quiet_images_are_parts h x quiet image whole = record {
 }
 
 -- what stands in so many units does in as many
-in_units : (places : ℕ) {few many : ℕ} {y : Chart} {n : Map} → few ≡ many → StandsIn places few y n → StandsIn places many y n
+in_units : (places : ℕ) {few many : ℕ} {y : Chart} {n : Legible} → few ≡ many → StandsIn places few y n → StandsIn places many y n
 in_units places same is = record { stands = is.stands; count = is.count ∙ same }
 
 -- where idle places may lose what they have, a chart stands for the same map
-loses_keep : (places units : ℕ) (m : Map) (h : History) (quiet : IsQuiet h.start h.story) (w : ℕ → Bool) (it : Layout) → Laid places (now h) it → ((q : ℕ) → w q ≡ true → IsIdle places (now h) it q)
+loses_keep : (places units : ℕ) (m : Legible) (h : History) (quiet : IsQuiet h.start h.story) (w : ℕ → Bool) (it : Layout) → Laid places (now h) it → ((q : ℕ) → w q ≡ true → IsIdle places (now h) it q)
     → Loses sector_in blank_says_nothing h.start h.story quiet (λ c. StandsIn places units c m) w
 loses_keep places units m h quiet w it laid idle c y part headers same left is =
     let stands = is.stands in
@@ -59,20 +59,33 @@ loses_keep places units m h quiet w it laid idle c y part headers same left is =
     (stands_by places m c y stands.layout stands.layout (losses_do_not_count places (now h) c y it stands.layout w laid stands.laid whole idle same left) refl stands.says)
 
 -- what is held stands in as many units as all images
-held_in : (places : ℕ) (m : Map) (h : History) (each : EachStands places m h) → StandsIn places each.0 (now h) m
+held_in : (places : ℕ) (m : Legible) (h : History) (each : EachStands places m h) → StandsIn places each.0 (now h) m
 held_in places m h each = each.1 (held h.start h.story) (held_is_image _ h.start h.story)
 
 pub held_stands : HeldStands
 held_stands places m h each = (held_in places m h each).stands
 
 -- in as many as each layout of it has
-pub rests_in_units : (places : ℕ) (m : Map) (h : History) (it : Layout) (rests : StoryRests places m h) → Laid places (now h) it → rests.each.0 ≡ it.count
+pub rests_in_units : (places : ℕ) (m : Legible) (h : History) (it : Layout) (rests : StoryRests places m h) → Laid places (now h) it → rests.each.0 ≡ it.count
 rests_in_units places m h it rests laid =
     let is = held_in places m h rests.each in
     sym is.count ∙ same_count places (now h) is.stands.layout it is.stands.laid laid
 
 pub rests_once : RestsOnce
-rests_once places m n h one other = stands_once places (now h) m n (held_stands places m h one.each) (held_stands places n h other.each)
+rests_once places m n h one other = stands_once places (now h) m n (held_stands places (whole m) h one.each) (held_stands places (whole n) h other.each)
+
+pub stories_agree : StoriesAgree
+stories_agree places m n h one other = charts_agree places (now h) m n (held_stands places m h one.each) (held_stands places n h other.each)
+
+pub fewer_pages_rest : FewerPagesRest
+fewer_pages_rest places m reads h fewer rests = record {
+  quiet = rests.quiet;
+  each = (
+    rests.each.0,
+    λ x image. let is = rests.each.1 x image in record { stands = record { layout = is.stands.layout; laid = is.stands.laid; says = fewer_pages_say places (chart_of x) is.stands.layout m reads fewer is.stands.says }; count = is.count },
+  );
+  worn = rests.worn;
+}
 
 pub chips_rest_once : ChipsRestOnce
 chips_rest_once m n t one other =
@@ -198,7 +211,7 @@ module _ (places : ℕ) (h : History) (it : Layout) (laid : Laid places (now h) 
   programmed_worn = rw (held_program sector_in h.start h.story p s bytes sector spelled) worn_then
 
 -- what holds of whole images of a program holds of all
-by_whole : (places units : ℕ) (m : Map) (h : History) (p s : ℕ) (bytes : List ℕ) (sector : Sector) → sector_in bytes ≡ Some sector → (quiet : IsQuiet h.start (Program p s bytes ∷ h.story))
+by_whole : (places units : ℕ) (m : Legible) (h : History) (p s : ℕ) (bytes : List ℕ) (sector : Sector) → sector_in bytes ≡ Some sector → (quiet : IsQuiet h.start (Program p s bytes ∷ h.story))
     → (jt : Layout) → Laid places (with_sector (now h) p s sector) jt → WornAreIdle places (Program p s bytes ∷ h.story) (now (adds (Program p s bytes) h))
     → EachWholeMeans sector_in (λ c. StandsIn places units c m) h.start (Program p s bytes ∷ h.story) → EachStands places m (adds (Program p s bytes) h)
 by_whole places units m h p s bytes sector spelled quiet jt then worn all =
@@ -291,7 +304,7 @@ lost_event start e story = record { image = λ p s. inl (named e p s); chance = 
     named (Said piece) p s = held_is_named start story p s
 
 -- two numbers of units in which one chart stands are one
-module _ (places : ℕ) (m n : Map) where
+module _ (places : ℕ) (m n : Legible) where
   abbrev Either : ℕ → Chart → Type 0
   Either units c = StandsIn places units c m ⊎ StandsIn places units c n
 
@@ -331,7 +344,7 @@ moments_keep_units places m n h it added laid each later e eq =
     (at_end (Found places m n h it laid) e earlier).1
 
 -- where each leaves one map, too
-pub moments_of_one : (places : ℕ) (m : Map) (h : History) (it : Layout) (added : Story) → Laid places (now h) it
+pub moments_of_one : (places : ℕ) (m : Legible) (h : History) (it : Layout) (added : Story) → Laid places (now h) it
     → AtEachMoment (λ e. EachStands places m (adds_all e h)) added → AtEachMoment (λ e. EachStandsIn places it.count m (adds_all e h)) added
 moments_of_one places m h it added laid each later e eq x image =
     let found = moments_keep_units places m m h it added laid (λ rest f is. one_is_either places m m (adds_all f h) (each rest f is)) later e eq x image in

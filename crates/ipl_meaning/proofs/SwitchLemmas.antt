@@ -63,24 +63,33 @@ module _ (places : ℕ) (c : Chart) (it : Layout) (u p : ℕ) (fresh : Shape) (l
   }
 
 pub headers_switch : HeadersSwitch
-headers_switch places c it u p fresh laid may = (switched places c it u p fresh laid may, pages_still c p 0 fresh.head may.free places (with_unit it u fresh))
+headers_switch places c it u p fresh laid may = (switched places c it u p fresh laid may, pages_still c p 0 fresh.head may.free places (with_unit it u fresh) (λ is. omega (arith, may.fits.0, is)))
 
 -- a place that shows the unit's pages may become its home
 pub same_units_keep_pages : SameUnitsKeepPages
-same_units_keep_pages places c it u fresh same v page now low few shows = elim (cases_eq v u) [
-  | inl is ↦ rw (is, eq-eqb u u refl) (same page now few (rw is at shows))
-  | inr apart ↦ rw (ne_eqb v u apart) shows
-]
+same_units_keep_pages places c it u fresh same = record {
+  shown = λ v page now low few shows. elim (cases_eq v u) [
+    | inl is ↦ rw (is, eq-eqb u u refl) (same.shown page now few (rw is at shows))
+    | inr apart ↦ rw (ne_eqb v u apart) shows
+  ];
+  no_more = λ v page base low few reads. elim (cases_eq v u) [
+    | inl is ↦ rw is (same.no_more page base few (rw (is, eq-eqb u u refl) at reads))
+    | inr apart ↦ (base, rw (ne_eqb v u apart) at reads)
+  ];
+}
 
 -- a merged unit says what it said
 pub merges_keep_pages : MergesKeepPages
-merges_keep_pages c it u fresh merged page now few was =
-    let (new, reads, same) = merged.pages page was.base few was.reads in record {
-      base = new;
-      reads = reads;
-      room = was.room;
-      says = λ slot less. was.says slot less ∙ sym (same slot less) ∙ sym (waiting it.committed page slot (records_of fresh.log) (value_in new slot) merged.waits);
-    }
+merges_keep_pages c it u fresh merged = record {
+  shown = λ page now few was.
+      let (new, reads, same) = merged.pages page was.base few was.reads in record {
+        base = new;
+        reads = reads;
+        room = was.room;
+        says = λ slot less. was.says slot less ∙ sym (same slot less) ∙ sym (waiting it.committed page slot (records_of fresh.log) (value_in new slot) merged.waits);
+      };
+  no_more = λ page base few reads. merged.all page few;
+}
 
 -- ---- Status headers
 module _ (places : ℕ) (c : Chart) (it : Layout) (p : ℕ) (head : Sector) (committed : ℕ → Bool) (laid : Laid places c it) (may : MaySwitch places it.count c p head committed) where
@@ -104,7 +113,7 @@ module _ (places : ℕ) (c : Chart) (it : Layout) (p : ℕ) (head : Sector) (com
   }
 
 pub status_headers_switch : StatusHeadersSwitch
-status_headers_switch places c it p head committed laid may = (renewed places c it p head committed laid may, pages_still c p 0 head may.free places (with_status it p head committed))
+status_headers_switch places c it p head committed laid may = (renewed places c it p head committed laid may, pages_still c p 0 head may.free places (with_status it p head committed) (λ is. omega (arith, may.fits, is)))
 
 -- records are applied alike where their numbers are committed alike
 pub same_applied : (committed other : ℕ → Bool) (page slot : ℕ) (records : List Record) (value : Option (List ℕ)) → All (λ r. other r.tid ≡ committed r.tid) records → after_records committed page slot records value ≡ after_records other page slot records value
@@ -115,11 +124,14 @@ same_applied committed other page slot (r ∷ records) value same =
     rw alike (same_applied committed other page slot records _ (λ k d low. same (suc k) d (omega arith)))
 
 pub kept_numbers_keep_pages : KeptNumbersKeepPages
-kept_numbers_keep_pages places c it p head committed keeps u page now low few was = record {
-  base = was.base;
-  reads = was.reads;
-  room = was.room;
-  says = λ slot less. was.says slot less ∙ same_applied it.committed committed page slot (records_of (it.units u).log) (value_in was.base slot) (keeps u low);
+kept_numbers_keep_pages places c it p head committed keeps = record {
+  shown = λ u page now low few was. record {
+    base = was.base;
+    reads = was.reads;
+    room = was.room;
+    says = λ slot less. was.says slot less ∙ same_applied it.committed committed page slot (records_of (it.units u).log) (value_in was.base slot) (keeps u low);
+  };
+  no_more = λ u page base low few reads. (base, reads);
 }
 
 -- ---- Overflow headers
@@ -163,4 +175,4 @@ module _ (places : ℕ) (c : Chart) (it : Layout) (p : ℕ) (head : Sector) (lai
   }
 
 pub overflow_headers_wait : OverflowHeadersWait
-overflow_headers_wait places c it p head laid may = (put_up places c it p head laid may, pages_still c p 0 head may.free places it)
+overflow_headers_wait places c it p head laid may = (put_up places c it p head laid may, pages_still c p 0 head may.free places it (λ is. omega (arith, may.kind, is)))

@@ -10,12 +10,12 @@ use Rattle.ipl_format.specs.Sector.{Sector}
 use Rattle.ipl_format.specs.Record.{Record}
 use Rattle.ipl_format.specs.Page.{value_in}
 use Rattle.ipl_meaning.specs.Chart.{Chart, IsDataHeader, IsStatusHeader}
-use Rattle.ipl_meaning.specs.Values.{counts_for, after_records}
+use Rattle.ipl_meaning.specs.Values.{Values, counts_for, after_records}
 use Rattle.ipl_meaning.specs.Layout.{Shape, Entry, IsEntry, IsHomeOrListed, IsInOverflow, IsBelow, IsUnit, Layout, Laid, records_of}
 use Rattle.ipl_meaning.specs.Stands.{Shows}
 use Rattle.ipl_meaning.specs.Steps.{with_log, grown, KeepsPages, MayLog}
 use Rattle.ipl_meaning.specs.Laws.{LogSectorsWait}
-use Rattle.ipl_meaning.proofs.PutLemmas.{new_or_old, here, kept, chosen_still, entries_still, live_before, live_back, unit_still, status_still, marks_still, shows_more}
+use Rattle.ipl_meaning.proofs.PutLemmas.{new_or_old, here, kept, chosen_still, entries_still, live_before, live_back, unit_still, status_still, marks_still, shows_more, reads_before}
 
 not_and : (a b : Bool) → b ≡ false → (a && b) ≡ false
 not_and true b none = none
@@ -124,8 +124,8 @@ module _ (places : ℕ) (c : Chart) (it : Layout) (u p s : ℕ) (sector : Sector
     in_overflow = in_overflow;
   }
 
-  pages_still : KeepsPages places c it after jt
-  pages_still v page now low few shows =
+  shown_still : (v page : ℕ) (now : Values) → Shows c it.committed v (it.units v) page now → Shows after jt.committed v (jt.units v) page now
+  shown_still v page now shows =
       let there = shows_more c after (kept c p s sector may.free) it.committed v (it.units v) page now shows in
       elim (cases_eq v u) [
         | inl same ↦ rw (same, eq-eqb u u refl) (
@@ -141,6 +141,20 @@ module _ (places : ℕ) (c : Chart) (it : Layout) (u p s : ℕ) (sector : Sector
             })
         | inr apart ↦ rw (ne_eqb v u apart) there
       ]
+
+  pages_still : KeepsPages places c it after jt
+  pages_still = record {
+    shown = λ v page now low few shows. shown_still v page now shows;
+    no_more = λ v page base low few reads. elim (cases_eq v u) [
+      | inl same ↦ (
+        base,
+        rw same (
+            let there = rw (same, eq-eqb u u refl) at reads in
+            reads_before c p s sector may.free (λ is. omega (arith, is, may.kind)) u was page base (record { fits = there.fits; cut = there.cut; here = there.here })),
+      )
+      | inr apart ↦ (base, reads_before c p s sector may.free (λ is. omega (arith, is, may.kind)) v (it.units v) page base (rw (ne_eqb v u apart) at reads))
+    ];
+  }
 
 pub log_sectors_wait : LogSectorsWait
 log_sectors_wait places c it u p s sector records laid may = (laid_still places c it u p s sector records laid may, pages_still places c it u p s sector records laid may)

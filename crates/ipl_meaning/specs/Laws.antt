@@ -1,24 +1,49 @@
 -- Laws of what stands.
-use Rattle.std.specs.Prelude.{ℕ, ◌≡◌, ◌<◌, ◌≤◌, Some, Bool, true, List, Contains}
-use Rattle.std.specs.FinMap.{empty}
-use Rattle.ipl_base.specs.declared.limits.TheConstants.{LEAST_PLACES, MOST_PLACES}
+use Rattle.std.specs.Prelude.{ℕ, ◌≡◌, ◌≢◌, ◌⊎◌, ◌↔◌, ◌<◌, ◌≤◌, ◌*◌, None, Some, Bool, true, List, Contains}
+use Rattle.std.specs.FinMap.{empty, get}
+use Rattle.ipl_base.specs.declared.limits.TheConstants.{LEAST_PLACES, MOST_PLACES, PAGES, SLOTS, UNIT_NAMES, FIRST_LOG_SECTOR, PAGE_SECTORS}
 use Rattle.chip_trait.specs.Chart.{with_sector}
 use Rattle.ipl_model.specs.State.{Map}
+use Rattle.ipl_meaning.specs.Legible.{Legibility, Legible, of, whole, every, but, with_rotten, IsToldApart}
 use Rattle.ipl_format.specs.Sector.{Sector}
 use Rattle.ipl_format.specs.Record.{Record}
+use Rattle.ipl_format.specs.Page.{Slots}
+use Rattle.ipl_format.specs.Place.{base_sector_of}
 use Rattle.ipl_meaning.specs.Chart.{Chart}
-use Rattle.ipl_meaning.specs.Layout.{Entry, Shape, Layout, Laid}
+use Rattle.ipl_meaning.specs.Layout.{Entry, Shape, Layout, Laid, ReadsWell}
 use Rattle.ipl_meaning.specs.Masks.{of_page}
 use Rattle.ipl_meaning.specs.Allowed.{IsAllowed}
 use Rattle.ipl_meaning.specs.Values.{Values}
-use Rattle.ipl_meaning.specs.Stands.{Shows, Says, Stands}
+use Rattle.ipl_meaning.specs.Stands.{Shows, Says, Stands, page_in}
 use Rattle.ipl_meaning.specs.Formatted.{formatted}
 use Rattle.ipl_base.specs.Places.{KeepsUnits}
 use Rattle.ipl_meaning.specs.Steps.{IsPart, SameBut, SameOff, LeftAt, SameWithin, KeepsPages, with_unit, with_log, with_status, with_committed, entry_at, IsIdle, ComesToNothing, MayLog, MayCommit, MayMark, MaySeal, IsSameUnit, IsMerged, MaySwitch, KeepsNumbers, MayOpenOverflow}
 
 -- a chart stands for one map at most
 abbrev pub StandsOnce : Type 0
-StandsOnce = (places : ℕ) (c : Chart) (m n : Map) → Stands places c m → Stands places c n → m ≡ n
+StandsOnce = (places : ℕ) (c : Chart) (m n : Map) → Stands places c (whole m) → Stands places c (whole n) → m ≡ n
+
+-- two of one chart agree on the names of each page of which both are said
+abbrev pub AgreeWhereBoth : Legible → Legible → Type 0
+AgreeWhereBoth m n = (u page slot : ℕ) → page < PAGES → slot < SLOTS → m.pages.reads u page ≡ true → n.pages.reads u page ≡ true
+    → page_in m.map u page slot ≡ page_in n.map u page slot
+
+abbrev pub ChartsAgree : Type 0
+ChartsAgree = (places : ℕ) (c : Chart) (m n : Legible) → Stands places c m → Stands places c n → AgreeWhereBoth m n
+
+-- what is said of some pages is said of fewer
+abbrev pub FewerPagesStand : Type 0
+FewerPagesStand =
+    (places : ℕ) (c : Chart) (m : Legible) (reads : ℕ → ℕ → Bool) → ((u page : ℕ) → reads u page ≡ true → m.pages.reads u page ≡ true)
+    → Stands places c m → Stands places c (but reads m)
+
+-- what it was to say a map of every page, and is
+pub record SaysEvery (places : ℕ) (c : Chart) (it : Layout) (m : Map) : Type 0 where
+  pub pages : (u page : ℕ) → u < it.count → page < PAGES → Shows c it.committed u (it.units u) page (page_in m u page)
+  pub nowhere_else : (n : ℕ) → UNIT_NAMES * it.count ≤ n → get m n ≡ None
+
+abbrev pub WholeIsEvery : Type 0
+WholeIsEvery = (places : ℕ) (c : Chart) (it : Layout) (m : Map) → Says places c it (whole m) ↔ SaysEvery places c it m
 
 -- two layouts with the same status place and committed numbers, and the same units
 pub record AreOneLayout (it other : Layout) : Type 0 where
@@ -35,7 +60,7 @@ LaidOnce = (places : ℕ) (c : Chart) (it other : Layout) → Laid places c it �
 
 -- what keeps the pages, and the number of units, keeps the map
 abbrev pub KeptPagesKeepTheMap : Type 0
-KeptPagesKeepTheMap = (places : ℕ) (c y : Chart) (it new : Layout) (m : Map) → KeepsPages places c it y new
+KeptPagesKeepTheMap = (places : ℕ) (c y : Chart) (it new : Layout) (m : Legible) → KeepsPages places c it y new
     → new.count ≡ it.count → Says places c it m → Says places y new m
 
 -- the unit with those of its log sectors alone that have a record of the page
@@ -139,4 +164,25 @@ OverflowHeadersWait =
 -- a formatted chip stands for the empty map
 abbrev pub FormattedChipsAreEmpty : Type 0
 FormattedChipsAreEmpty = (places units : ℕ) → LEAST_PLACES ≤ places → places ≤ MOST_PLACES → KeepsUnits places units
-    → Stands places (formatted units) empty
+    → Stands places (formatted units) (whole empty)
+
+-- the other chart may differ in the base sectors of one page of the unit alone
+pub record SameButPage (it : Layout) (u page : ℕ) (c y : Chart) : Type 0 where
+  pub apart : (p s : ℕ) → (p ≡ (it.units u).home → (s ≡ 0) ⊎ (FIRST_LOG_SECTOR ≤ s)) → y p s ≡ c p s
+  pub others : (q i : ℕ) → q ≢ page → i < PAGE_SECTORS
+      → y (it.units u).home (base_sector_of q i) ≡ c (it.units u).home (base_sector_of q i)
+
+-- rot of one page takes nothing from the others: the same records are said of them
+abbrev pub RotCostsAPage : Type 0
+RotCostsAPage =
+    (places : ℕ) (c y : Chart) (it : Layout) (m : Legible) (u page : ℕ) → Laid places c it → u < it.count → SameButPage it u page c y
+    → ((base : Slots) → ¬ ReadsWell y u (it.units u) page base)
+    → Says places c it m → Laid places y it × Says places y it (of (with_rotten m.pages u page) m.map)
+
+-- and where the pages were told apart, they are
+abbrev pub RotTellsApart : Type 0
+RotTellsApart = (pages : Legibility) (u page : ℕ) → IsToldApart pages → IsToldApart (with_rotten pages u page)
+
+-- so are they where every page reads
+abbrev pub EveryIsToldApart : Type 0
+EveryIsToldApart = IsToldApart every

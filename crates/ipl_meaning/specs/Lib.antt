@@ -19,6 +19,7 @@ pub mod Chart
 pub mod Values
 pub mod Layout
 pub mod Masks
+pub mod Legible
 pub mod Stands
 pub mod Allowed
 pub mod Rests

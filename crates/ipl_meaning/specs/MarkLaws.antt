@@ -5,7 +5,7 @@ use Rattle.chip_trait.specs.Story.{held}
 use Rattle.chip_trait.specs.Image.{IsClosed}
 use Rattle.chip_trait.specs.Chart.{with_sector}
 use Rattle.chip_trait.specs.Told.{History, adds}
-use Rattle.ipl_model.specs.State.{Map}
+use Rattle.ipl_meaning.specs.Legible.{Legible}
 use Rattle.ipl_format.specs.Sector.{Sector, sector_in}
 use Rattle.ipl_format.specs.Mark.{has_unit}
 use Rattle.ipl_format.specs.Record.{Record}
@@ -31,13 +31,13 @@ IdleEventsKeepMarks = (places : ℕ) (h : History)
 -- so does an erase of an idle place
 abbrev pub ErasesKeepMarks : Type 0
 ErasesKeepMarks =
-    (places : ℕ) (m : Map) (h : History) (it : Layout) (p : ℕ) → StoryRests places m h → Laid places (now h) it → p < places
+    (places : ℕ) (m : Legible) (h : History) (it : Layout) (p : ℕ) → StoryRests places m h → Laid places (now h) it → p < places
     → IsIdle places (now h) it p → KeepsMarks places h (adds (Erase p) h)
 
 -- and one that finds its place worn
 abbrev pub WornsKeepMarks : Type 0
 WornsKeepMarks =
-    (places : ℕ) (m : Map) (h : History) (it : Layout) (p : ℕ) → StoryRests places m h → Laid places (now h) it
+    (places : ℕ) (m : Legible) (h : History) (it : Layout) (p : ℕ) → StoryRests places m h → Laid places (now h) it
     → IsIdle places (now h) it p → KeepsMarks places h (adds (Worn p) h)
 
 -- ---- programs
@@ -45,20 +45,20 @@ WornsKeepMarks =
 -- so does a program of another sector than the header, in a place without one
 abbrev pub AsidesKeepMarks : Type 0
 AsidesKeepMarks =
-    (places : ℕ) (m : Map) (h : History) (p s : ℕ) (bytes : List ℕ) (sector : Sector) → StoryRests places m h → IsUntouched h p s
+    (places : ℕ) (m : Legible) (h : History) (p s : ℕ) (bytes : List ℕ) (sector : Sector) → StoryRests places m h → IsUntouched h p s
     → sector_in bytes ≡ Some sector → now h p 0 ≡ None → s ≢ 0 → KeepsMarks places h (adds (Program p s bytes) h)
 
 -- and that of a log sector that may join its unit's
 abbrev pub LogSectorsKeepMarks : Type 0
 LogSectorsKeepMarks =
-    (places : ℕ) (m : Map) (h : History) (it : Layout) (u p s : ℕ) (bytes : List ℕ) (sector : Sector) (records : List Record)
+    (places : ℕ) (m : Legible) (h : History) (it : Layout) (u p s : ℕ) (bytes : List ℕ) (sector : Sector) (records : List Record)
     → StoryRests places m h → IsUntouched h p s → sector_in bytes ≡ Some sector → Laid places (now h) it
     → MayLog places (now h) it u p s sector records → KeepsMarks places h (adds (Program p s bytes) h)
 
 -- and where nothing else is open, one after which no more is marked
 abbrev pub ProgramsKeepMarks : Type 0
 ProgramsKeepMarks =
-    (places : ℕ) (m : Map) (h : History) (p s : ℕ) (bytes : List ℕ) (sector : Sector) → StoryRests places m h
+    (places : ℕ) (m : Legible) (h : History) (p s : ℕ) (bytes : List ℕ) (sector : Sector) → StoryRests places m h
     → IsClosed h.story → IsUntouched h p s → sector_in bytes ≡ Some sector
     → WornAreIdle places h.story (with_sector (now h) p s sector) → MarksNoMore places (now h) (with_sector (now h) p s sector) p
     → KeepsMarks places h (adds (Program p s bytes) h)
@@ -101,7 +101,7 @@ MarksWhatIsKnown t mark = (u : ℕ) → u < length t.places.current
 -- agree, what they count as clean is unused and the mark's serial is new.
 abbrev pub ClosesKeepMarks : Type 0
 ClosesKeepMarks =
-    (places : ℕ) (m : Map) (h : History) (it : Layout) (t : Tables) (s : ℕ) (bytes : List ℕ) (mark : Sector)
+    (places : ℕ) (m : Legible) (h : History) (it : Layout) (t : Tables) (s : ℕ) (bytes : List ℕ) (mark : Sector)
     → StoryRests places m h → IsClosed h.story → Agrees places h it t → AreUnused (IsCountedClean t) h.story
     → MayMark (now h) it s mark → t.next ≤ mark.serial → MarksWhatIsKnown t mark → IsUntouched h it.status s → sector_in bytes ≡ Some mark
     → KeepsMarks places h (adds (Program it.status s bytes) h)

@@ -36,11 +36,12 @@ pub record IsPart (part whole : Chart) : Type 0 where
   pub each : IsPartOf part whole
   pub headers : (p : ℕ) → part p 0 ≡ whole p 0
 
--- each page that the one chart shows, laid out so, the other shows with the same values
-abbrev pub KeepsPages : ℕ → Chart → Layout → Chart → Layout → Type 0
-KeepsPages places c it y new = (u page : ℕ) (now : Values) → u < it.count
-    → page < PAGES
-    → Shows c it.committed u (it.units u) page now → Shows y new.committed u (new.units u) page now
+-- each page that the one chart shows, laid out so, the other shows with the same values; and what reads well there did so before
+pub record KeepsPages (places : ℕ) (c : Chart) (it : Layout) (y : Chart) (new : Layout) : Type 0 where
+  pub shown : (u page : ℕ) (now : Values) → u < it.count → page < PAGES
+      → Shows c it.committed u (it.units u) page now → Shows y new.committed u (new.units u) page now
+  pub no_more : (u page : ℕ) (base : Slots) → u < it.count → page < PAGES → ReadsWell y u (new.units u) page base
+      → (was : Slots) × ReadsWell c u (it.units u) page was
 
 -- ---- two layouts
 
@@ -175,9 +176,11 @@ pub record MaySeal (places : ℕ) (c : Chart) (it : Layout) (u p : ℕ) (fresh :
   pub gathered : All (λ e. e.place ≡ p) fresh.log
 
 -- the new place shows the unit's pages as the old one does
-abbrev pub IsSameUnit : Chart → Layout → ℕ → Shape → Type 0
-IsSameUnit c it u fresh = (page : ℕ) (now : Values) → page < PAGES → Shows c it.committed u (it.units u) page now
-    → Shows c it.committed u fresh page now
+pub record IsSameUnit (c : Chart) (it : Layout) (u : ℕ) (fresh : Shape) : Type 0 where
+  pub shown : (page : ℕ) (now : Values) → page < PAGES → Shows c it.committed u (it.units u) page now
+      → Shows c it.committed u fresh page now
+  pub no_more : (page : ℕ) (base : Slots) → page < PAGES → ReadsWell c u fresh page base
+      → (was : Slots) × ReadsWell c u (it.units u) page was
 
 -- the slots have the values that the log's committed records make of the base
 abbrev pub IsApplied : (ℕ → Bool) → List Entry → ℕ → Slots → Slots → Type 0
@@ -188,6 +191,8 @@ IsApplied committed log page base new = (slot : ℕ) → slot < SLOTS
 pub record IsMerged (c : Chart) (it : Layout) (u : ℕ) (fresh : Shape) : Type 0 where
   pub pages : (page : ℕ) (base : Slots) → page < PAGES → ReadsWell c u (it.units u) page base
       → (new : Slots) × ReadsWell c u fresh page new × IsApplied it.committed (it.units u).log page base new
+  -- each page was read
+  pub all : (page : ℕ) → page < PAGES → (base : Slots) × ReadsWell c u (it.units u) page base
   pub waits : AllWait it.committed (records_of fresh.log)
 
 -- ---- status headers

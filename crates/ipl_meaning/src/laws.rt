@@ -1,7 +1,7 @@
 //! The laws of what the sectors of a chip mean.
-ghost use Rattle.ipl_meaning.specs.Laws.{StandsOnce, LaidOnce, AllowedSectorsSuffice, KeptPagesKeepTheMap, IdlePlacesDoNotCount, LossesDoNotCount, OutsideDoesNotCount, LogSectorsWait, CommitSectorsAdd, MarksWait, HeadersSwitch, MergesKeepPages, SameUnitsKeepPages, StatusHeadersSwitch, KeptNumbersKeepPages, OverflowHeadersWait, FormattedChipsAreEmpty};
+ghost use Rattle.ipl_meaning.specs.Laws.{StandsOnce, ChartsAgree, FewerPagesStand, WholeIsEvery, RotCostsAPage, RotTellsApart, EveryIsToldApart, LaidOnce, AllowedSectorsSuffice, KeptPagesKeepTheMap, IdlePlacesDoNotCount, LossesDoNotCount, OutsideDoesNotCount, LogSectorsWait, CommitSectorsAdd, MarksWait, HeadersSwitch, MergesKeepPages, SameUnitsKeepPages, StatusHeadersSwitch, KeptNumbersKeepPages, OverflowHeadersWait, FormattedChipsAreEmpty};
 ghost use Rattle.ipl_meaning.specs.StandingLaws.{StandsAfterIdle, StandsAfterLogs, StandsAfterCommits, StandsAfterMarks, StandsAfterHeaders, StandsAfterMerges, StandsAfterRenewals, StandsAfterOverflows};
-ghost use Rattle.ipl_meaning.specs.StoryLaws.{QuietImagesAreParts, HeldStands, RestsOnce, ChipsRestOnce, ClosedRests, BarriersRest, BarriersKeepEither, ReadsKeep, SaysKeep, WornsKeep, ErasesKeep, LogSectorsKeep, AsidesKeep, ProgramsLead, OneIsEither, EitherIsKept, MomentsKeepUnits, WornByLayout, IdleAfterCommits, IdleAfterMarks, IdleAfterHeaders, IdleAfterRenewals, IdleAfterOverflows};
+ghost use Rattle.ipl_meaning.specs.StoryLaws.{QuietImagesAreParts, HeldStands, RestsOnce, StoriesAgree, FewerPagesRest, ChipsRestOnce, ClosedRests, BarriersRest, BarriersKeepEither, ReadsKeep, SaysKeep, WornsKeep, ErasesKeep, LogSectorsKeep, AsidesKeep, ProgramsLead, OneIsEither, EitherIsKept, MomentsKeepUnits, WornByLayout, IdleAfterCommits, IdleAfterMarks, IdleAfterHeaders, IdleAfterRenewals, IdleAfterOverflows};
 ghost use Rattle.ipl_meaning.specs.RecordLaws.{TheLastGivesTheValue, MergesCarryTheLast, CommitsApplyTheLast, PacksAreTheList, PacksFit, FewAreCarried, TextsHaveSizes, ShortValuesHaveRoom};
 ghost use Rattle.ipl_meaning.specs.CounterLaws.{NewGenerationsWakeNothing, NewSerialsAreGreatest, NewNumbersWait, NewSerialsPassTheStatus, LogSectorsKeepTheCounter, CommitSectorsKeepTheCounter, HeadersKeepTheCounter, BarePlacesKeepTheCounter};
 ghost use Rattle.ipl_meaning.specs.TableLaws.{FreePlacesAreIdle, LogSectorsMayGoHome, LogSectorsMayGoElsewhere, CommitSectorsMayGo, MarksMayGo, HeadersMayGo, StatusHeadersMayGo, OverflowHeadersMayGo, FirstTablesMirror};
@@ -19,11 +19,24 @@ pub fn meaning_laws()
     ensures allowed { AllowedSectorsSuffice }
 {}
 
+/// What is said of some pages of a chart is one thing, and is said of fewer; of every page it is what a map says; and rot of
+/// one page takes nothing from the others.
+pub fn legible_laws()
+    ensures agree { ChartsAgree }
+    ensures fewer { FewerPagesStand }
+    ensures whole { WholeIsEvery }
+    ensures every_apart { EveryIsToldApart }
+    ensures rot { RotCostsAPage }
+    ensures rot_apart { RotTellsApart }
+{}
+
 /// When a story rests on a map, and on one alone.
 pub fn resting_laws()
     ensures parts { QuietImagesAreParts }
     ensures held { HeldStands }
     ensures once { RestsOnce }
+    ensures agree { StoriesAgree }
+    ensures fewer { FewerPagesRest }
     ensures chips_once { ChipsRestOnce }
     ensures closed { ClosedRests }
     ensures barriers { BarriersRest }

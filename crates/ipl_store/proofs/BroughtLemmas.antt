@@ -4,6 +4,7 @@ use Rattle.chip_trait.specs.Told.{Told}
 use Rattle.ipl_base.specs.declared.fault.ChipFault.{ChipFault}
 use Rattle.ipl_base.specs.declared.fault.StoreFault.{StoreFault}
 use Rattle.ipl_model.specs.State.{State}
+use Rattle.ipl_meaning.specs.Legible.{every, whole}
 use Rattle.ipl_meaning.specs.Chart.{chart_of}
 use Rattle.ipl_meaning.specs.Stands.{Says}
 use Rattle.number_set.specs.Numbers.{among}
@@ -90,8 +91,8 @@ module _ (old mid : Transactions) (before between : Told) (n : ℕ)
       (subst (λ (k : ℕ). MemoryFits k (chart_of y) on.layout (memory_in mid) state) sized
       (subst (λ (slots : SessionSlots). MemoryFits before.places (chart_of y) on.layout
       (memory_of (tables_in mid.pages) (frames_in mid.pages) slots) state) (sym same) on.fits))
-      (subst (λ (k : ℕ). Says k (chart_of y) on.layout state.map) sized
-      (says_next before.places (chart_of x) (chart_of y) layout on.layout state state on.shows says))
+      (subst (λ (k : ℕ). Says k (chart_of y) on.layout (whole state.map)) sized
+      (says_next before.places every (chart_of x) (chart_of y) layout on.layout state state on.shows says))
 
 then_tells : (old mid : Transactions) (before between : Told) (n : ℕ)
     (did : Upholds {T = Unit {0}} n old.pages before (Ok tt) mid.pages between)

@@ -13,6 +13,7 @@ use Rattle.buffer_pool.specs.Holding.{KeepsPins}
 use Rattle.buffer_pool.specs.Uses.{IsUsedLast}
 use Rattle.store_trait.specs.Keeping.{LAST_NUMBER}
 use Rattle.chip_trait.specs.Story.{Contents}
+use Rattle.ipl_meaning.specs.Legible.{Legibility, every}
 use Rattle.ipl_meaning.specs.Chart.{Chart}
 use Rattle.ipl_meaning.specs.Layout.{Layout}
 use Rattle.ipl_meaning.specs.Tables.{Places, Tables}
@@ -268,7 +269,7 @@ blamed_so x it (Err e) was is result ends a b same blamed =
 -- work that is complete, where store and contents show a state
 shown_complete : (store : Store) (before : Told) (done : Result (Unit {0}) ChipFault)
     → CompletesFor store.transactions done before
-    → OfContents before (λ x. (state : State) → ShowsState before.places (view_of store) state x
+    → OfContents before (λ x. (state : State) → ShowsState before.places every (view_of store) state x
     → FailsByChipAlone done)
 shown_complete store before done complete x told state shown =
     complete x told shown.layout state shown.fits shown.says
@@ -552,9 +553,9 @@ ended_costs old new t kept before after done result rest ends costs =
 -- ---- a call that keeps each state, and then one in memory
 
 -- what leaves the map leaves one of two
-kept_either : (next : State → State) (places : ℕ) (state : State) (k : History)
-    → TurnsMapOf (λ same. same) places state k → TurnsMapOf next places state k
-kept_either next places state k each = (
+kept_either : (next : State → State) (places : ℕ) (pages : Legibility) (state : State) (k : History)
+    → TurnsMapOf (λ same. same) places pages state k → TurnsMapOf next places pages state k
+kept_either next places pages state k each = (
   each.0,
   λ x image. elim (each.1 x image) [
     | inl is ↦ inl is
@@ -576,7 +577,7 @@ calls_joined early next most old mid t before after none up first did drawn = re
         (TurnsMapOf (λ state. state)) (TurnsMapOf next) (TurnsMapOf next) next
         (memory_of_store old) (memory_of_store mid)
         (memory_of_store (record mid { transactions = t })) tt (Ok tt) before after after
-        (kept_either next) (λ places state k is. is) first.counts
+        (kept_either next) (λ places pages state k is. is) first.counts
         (first.serves refl).leads (second.serves refl).leads;
     ends = up;
     counted = second.sound.count up;

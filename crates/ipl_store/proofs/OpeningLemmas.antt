@@ -10,10 +10,11 @@ use Rattle.ipl_base.specs.Places.{KeepsUnits}
 use Rattle.ipl_base.specs.declared.fault.ChipFault.{ChipFault}
 use Rattle.ipl_model.specs.Operations.{after_restart}
 use Rattle.ipl_model.specs.State.{Map, at_rest}
+use Rattle.ipl_meaning.specs.Legible.{Legibility, Legible, of}
 use Rattle.ipl_meaning.specs.Agrees.{IsTidy}
 use Rattle.ipl_meaning.specs.Chart.{Chart, chart_of}
 use Rattle.ipl_meaning.specs.Laws.{AreOneLayout}
-use Rattle.ipl_meaning.specs.Layout.{Layout, Shape, Laid}
+use Rattle.ipl_meaning.specs.Layout.{Layout, Shape, Laid, ReadsWell}
 use Rattle.ipl_meaning.specs.Mirrors.{Mirrors}
 use Rattle.ipl_meaning.specs.Rests.{now, StoryRests}
 use Rattle.ipl_meaning.specs.Stands.{Shows, Says, Stands}
@@ -83,7 +84,7 @@ module _ (marks : Bool) (places : ℕ) (t : Tables) (old new : Told)
     (tells : RecoversTold places old (Ok tt) t new)
     (steps : RecoversInSteps marks places old (Ok tt) t new)
     (holds : HoldsOpened places t) where
-  opened_says : (m : Map) (x y : Contents) → old.contents ≡ Some x
+  opened_says : (m : Legible) (x y : Contents) → old.contents ≡ Some x
       → Stands places (chart_of x) m → new.contents ≡ Some y
       → (it : Layout) × Mirrors places (chart_of y) it t × Says places (chart_of y) it m
   opened_says m x y told stands then =
@@ -118,10 +119,18 @@ module _ (marks : Bool) (places : ℕ) (t : Tables) (old new : Told)
                   count = is.count ∙ sym one.count;
                   mirrors = is.mirrors;
                   none_lost = holds.known.none_lost;
-                  pages = λ u page values low few shows. is.pages u page values
-                      (rw one.count at low) few
-                      (shows_as (chart_of x) it (layout_in (chart_of x) places) u page values one
-                      low shows);
+                  pages = record {
+                    shown = λ u page values low few shows. is.pages.shown u page values
+                        (rw one.count at low) few
+                        (shows_as (chart_of x) it (layout_in (chart_of x) places) u page values one
+                        low shows);
+                    no_more = λ u page base low few reads.
+                        let was = is.pages.no_more u page base (rw one.count at low) few reads in (
+                          was.0,
+                          subst (λ (shape : Shape). ReadsWell (chart_of x) u shape page was.0)
+                              (sym (one.units u low)) was.1,
+                        );
+                  };
                 },
           )
 
@@ -130,7 +139,7 @@ module _ (marks : Bool) (places : ℕ) (t : Tables) (old new : Told)
       opens all same = subst (λ (n : ℕ). Charts (λ c y. (it : Layout) → Laid n c it
           → IsReopened n c it y t) old new) (sym suits ∙ same) reopened
 
-      preserved : (m : Map) (h : History) → IsSteady h old → StoryRests places m h
+      preserved : (m : Legible) (h : History) → IsSteady h old → StoryRests places m h
           → Preserves {T = Unit {0}} {E = ChipFault} places m before.tables t h (Ok tt) old new
       preserved m h steady rests =
           let (first, takes, did) = steps m h steady rests in record {
@@ -152,7 +161,7 @@ module _ (marks : Bool) (places : ℕ) (t : Tables) (old new : Told)
             ends = λ done. (did.ends tt).rests;
           }
 
-      keeps : (all : ℕ) (m : Map) (it : Layout) (h : History) → old.places ≡ all → IsSteady h old
+      keeps : (all : ℕ) (m : Legible) (it : Layout) (h : History) → old.places ≡ all → IsSteady h old
           → StoryRests all m h → Laid all (now h) it
           → Preserves {T = Unit {0}} {E = ChipFault} all m before.tables t h (Ok tt) old new
       keeps all m it h same steady rests laid =
@@ -170,11 +179,11 @@ module _ (marks : Bool) (places units : ℕ) (t : Tables) (old new : Told)
       sym many ∙ is.mirrors.directory.units ∙ is.count
 
   -- over contents that stood for a map
-  pub opened_shows : (m : Map) (x y : Contents) → old.contents ≡ Some x
-      → Stands places (chart_of x) m → new.contents ≡ Some y
-      → ShowsState places (opened_with units t (replicate 32 None)) (at_rest m) y
-  opened_shows m x y told stands then =
-      let (it, mirrors, says) = opened_says marks places t old new tells steps holds m x y told stands then
+  pub opened_shows : (pages : Legibility) (m : Map) (x y : Contents) → old.contents ≡ Some x
+      → Stands places (chart_of x) (of pages m) → new.contents ≡ Some y
+      → ShowsState places pages (opened_with units t (replicate 32 None)) (at_rest m) y
+  opened_shows pages m x y told stands then =
+      let (it, mirrors, says) = opened_says marks places t old new tells steps holds (of pages m) x y told stands then
       in record {
         layout = it;
         count = sym mirrors.directory.units ∙ many;
@@ -191,16 +200,16 @@ module _ (marks : Bool) (places units : ℕ) (t : Tables) (old new : Told)
       none_open (empty_slots_are_at_rest empty)
 
   -- and over a history then that rests on it
-  pub opened_keeps : (m : Map) (k : History) (x : Contents) → old.contents ≡ Some x
-      → Stands places (chart_of x) m → IsSteady k new → StoryRests places m k
+  pub opened_keeps : (pages : Legibility) (m : Map) (k : History) (x : Contents) → old.contents ≡ Some x
+      → Stands places (chart_of x) (of pages m) → IsSteady k new → StoryRests places (of pages m) k
       → IsTidy k t
-      → KeepsStore places (limits_of units) (opened_with units t (replicate 32 None)) new k
+      → KeepsStore places pages (limits_of units) (opened_with units t (replicate 32 None)) new k
       (at_rest m)
-  opened_keeps m k x told stands =
-      opened_stores_keep places units t (replicate 32 None) new k m holds.known.none_lost
+  opened_keeps pages m k x told stands =
+      opened_stores_keep places units pages t (replicate 32 None) new k m holds.known.none_lost
       holds.active none_open (empty_slots_are_at_rest m)
       (λ y then.
-      let (it, mirrors, says) = opened_says marks places t old new tells steps holds m x y told stands then
+      let (it, mirrors, says) = opened_says marks places t old new tells steps holds (of pages m) x y told stands then
       in (it, sym mirrors.directory.units ∙ many, mirrors, says))
 
 -- ---- as its fields have it
@@ -272,13 +281,13 @@ module _ (places : ℕ) (store : Store) (made : IsMade places store) (fresh : Is
             lists = has.lists;
           },
         );
-    shows = λ m x told stands y then.
-        subst (λ (v : View). ShowsState places v (at_rest m) y) (fresh_view store fresh)
-        (opened_shows marks places store.units t old new tells steps holds many m x y told stands then);
-    keeps = λ m k x told stands steady rests tidy.
-        subst (λ (v : View). KeepsStore places (limits_of store.units) v new k (at_rest m))
+    shows = λ pages m x told stands y then.
+        subst (λ (v : View). ShowsState places pages v (at_rest m) y) (fresh_view store fresh)
+        (opened_shows marks places store.units t old new tells steps holds many pages m x y told stands then);
+    keeps = λ pages m k x told stands steady rests tidy.
+        subst (λ (v : View). KeepsStore places pages (limits_of store.units) v new k (at_rest m))
         (fresh_view store fresh)
-        (opened_keeps marks places store.units t old new tells steps holds many m k x told stands steady
+        (opened_keeps marks places store.units t old new tells steps holds many pages m k x told stands steady
         rests tidy);
     number = number;
     left = left;

@@ -17,6 +17,7 @@ use Rattle.ipl_model.specs.State.{State, Limits, holder_for_write}
 use Rattle.record_locks.specs.Held.{SessionSlots, marks_in}
 use Rattle.record_locks.specs.Locks.{pending_full}
 use Rattle.record_locks.specs.Standing.{state_of}
+use Rattle.ipl_meaning.specs.Legible.{Legibility, IsToldApart}
 use Rattle.ipl_meaning.specs.Chart.{chart_of}
 use Rattle.ipl_meaning.specs.Tables.{Tables}
 use Rattle.unit_io.specs.Reads.{OfContents}
@@ -26,7 +27,7 @@ use Rattle.store_laws.specs.Room.{overfills_at}
 use Rattle.store_laws.specs.Advances.{memory_of}
 use Rattle.store_laws.specs.Keeps.{ShowsState, limits_of}
 use Rattle.store_laws.specs.Refusals.{sessions_refuse_put}
-use Rattle.store_laws.proofs.ViewLemmas.{frames_tell_full}
+use Rattle.store_laws.proofs.ViewLemmas.{shown_is_said, frames_tell_full}
 use Rattle.ipl_store.specs.declared.store.Store.{Store}
 use Rattle.ipl_store.specs.Calls.{view_of, counter_of, early_fault}
 use Rattle.ipl_store.specs.Puts.{is_page_full, found_room, put_fault, BringsPageOf}
@@ -95,9 +96,9 @@ pub full_told : (n : ℕ) (bytes : List ℕ) (old : Store) (before : Told) (t : 
     (frames : Frames) (f : PageFrame) (after : Told)
     → BringsPageOf n old before t frames f after → (full : Bool)
     → overfills_at (marks_in old.transactions.sessions) n bytes f.values ≡ full
-    → OfContents before (λ x. (state : State) → ShowsState before.places (view_of old) state x
+    → OfContents before (λ x. (pages : Legibility) (state : State) → IsToldApart pages → ShowsState before.places pages (view_of old) state x
     → overfills state n bytes ≡ full)
-full_told n bytes old before t frames f after did full is x told state shown =
+full_told n bytes old before t frames f after did full is x told pages state apart shown =
     let home = home_of n in
     let slots = old.transactions.sessions in
     let (y, held, had) = (did.keeps slots).fits before.places refl tt x told in
@@ -105,5 +106,7 @@ full_told n bytes old before t frames f after did full is x told state shown =
     let (low, few) = on.fits.framed.within home.unit home.page f did.there in
     frames_tell_full before.places (chart_of x) (chart_of y) shown.layout state.map
     (memory_of t frames slots) state n bytes f on
-    (shown.says.pages home.unit home.page (omega (arith, low, on.shows.count)) few) did.there
+    (shown.says.pages home.unit home.page (omega (arith, low, on.shows.count)) few
+    (shown_is_said before.places pages (chart_of x) (chart_of y) shown.layout state.map (memory_of t frames slots) state
+    home.unit home.page f apart shown.says on did.there)) did.there
     ∙ is

@@ -8,6 +8,7 @@ use Rattle.ipl_base.specs.declared.fault.StoreFault.{StoreFault}
 use Rattle.ipl_base.specs.Places.{home_of}
 use Rattle.ipl_model.specs.State.{State, see}
 use Rattle.ipl_format.specs.Record.{Change}
+use Rattle.ipl_meaning.specs.Legible.{every}
 use Rattle.ipl_meaning.specs.Chart.{chart_of}
 use Rattle.ipl_meaning.specs.Tables.{Tables}
 use Rattle.unit_io.specs.Costs.{Spends}
@@ -40,13 +41,13 @@ name_of_home n = omega arith
 
 -- where all pages show the state, that of the name does
 pub name_shown : (places : ℕ) (store : View) (state : State) (n : ℕ) (x : Contents)
-    → ShowsState places store state x → ShowsName places store state n x
+    → ShowsState places every store state x → ShowsName places store state n x
 name_shown places store state n x shown = record {
   layout = shown.layout;
   count = shown.count;
   fits = shown.fits;
   shows = λ low. shown.says.pages (home_of n).unit (home_of n).page
-      (omega (arith, low, shown.count)) (omega arith);
+      (omega (arith, low, shown.count)) (omega arith) refl;
 }
 
 pub shown_frames_tell : {T E : Type 0} (v : T) (n : ℕ) (store : View) (t : Tables)

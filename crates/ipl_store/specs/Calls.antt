@@ -12,6 +12,7 @@ use Rattle.ipl_base.specs.declared.fault.StoreFault.{StoreFault}
 use Rattle.ipl_base.specs.declared.fault.StoreFault.TheVariants.{Down, Spent, Refused, Chip}
 use Rattle.ipl_model.specs.State.{State, Limits}
 use Rattle.ipl_model.specs.Refusals.{Test, first_of, bad_session, bad_name, refuses_get, refuses_share}
+use Rattle.ipl_meaning.specs.Legible.{every}
 use Rattle.ipl_meaning.specs.Chart.{chart_of}
 use Rattle.ipl_meaning.specs.Layout.{Layout}
 use Rattle.unit_io.specs.Reads.{OfContents}
@@ -190,7 +191,7 @@ pub record Serves {T : Type 0} (next : State → State) (most : ℕ) (old : Stor
   pub least : counter_of old ≤ counter_of new
   pub drawn : counter_of new ≤ counter_of old + most
   pub complete : OfContents before (λ x. (state : State)
-      → ShowsState before.places (view_of old) state x
+      → ShowsState before.places every (view_of old) state x
       → IfErr result IsOfTheChip)
   pub faults : BlamesPages old before result new
 

@@ -10,6 +10,7 @@ use Rattle.ipl_base.specs.declared.limits.TheConstants.{SESSIONS}
 use Rattle.ipl_base.specs.Places.{IsGeometry, KeepsUnits}
 use Rattle.ipl_model.specs.Operations.{after_restart}
 use Rattle.ipl_model.specs.State.{Map, at_rest}
+use Rattle.ipl_meaning.specs.Legible.{Legibility, of}
 use Rattle.ipl_meaning.specs.Agrees.{IsTidy}
 use Rattle.std.specs.FinMap.{empty}
 use Rattle.ipl_meaning.specs.Chart.{Chart, chart_of}
@@ -49,18 +50,18 @@ pub record FitsAnew (places : ℕ) (store : Store) (y : Chart) : Type 0 where
 
 -- A store of which a chip was opened. It has as many units as its status header says, and over a chip
 -- that tells what it holds its memory fits that, whatever the pages say. Where the
--- contents before stood for a map, its memory and the contents then show that map; and it keeps it over
--- each history then that rests on it, and leaves clean what the tables count as clean.
+-- contents before stood for records of some pages, its memory and the contents then show these; and it keeps them
+-- over each history then that rests on them, and leaves clean what the tables count as clean.
 pub record OpensStore (places : ℕ) (old : Told) (store : Store) (new : Told) : Type 0 where
   pub fresh : IsJustOpened store
   pub units : OfContents old (λ x. store.units ≡ units_at (chart_of x) places)
   pub anew : Charts (λ c y. FitsAnew places store y) old new
-  pub shows : (m : Map) → OfContents old (λ x. Stands places (chart_of x) m
-      → OfContents new (ShowsState places (view_of store) (at_rest m)))
-  pub keeps : (m : Map) (k : History) → OfContents old (λ x. Stands places (chart_of x) m
-      → IsSteady k new → StoryRests places m k
+  pub shows : (pages : Legibility) (m : Map) → OfContents old (λ x. Stands places (chart_of x) (of pages m)
+      → OfContents new (ShowsState places pages (view_of store) (at_rest m)))
+  pub keeps : (pages : Legibility) (m : Map) (k : History) → OfContents old (λ x. Stands places (chart_of x) (of pages m)
+      → IsSteady k new → StoryRests places (of pages m) k
       → IsTidy k (tables_in store.transactions.pages)
-      → KeepsStore places (limits_of store.units) (view_of store) new k (at_rest m))
+      → KeepsStore places pages (limits_of store.units) (view_of store) new k (at_rest m))
   pub number : OfContents old (λ x. counter_of store
       ≤ greatest_found (chart_of x) places + 1 + 2 ^ 14)
   pub left : counter_of store ≤ 2 ^ 63 + 2 ^ 14

@@ -12,6 +12,7 @@ use Rattle.ipl_model.specs.Marks.{overfills}
 use Rattle.ipl_model.specs.Operations.{after_write}
 use Rattle.ipl_model.specs.State.{State}
 use Rattle.record_locks.specs.Held.{marks_in}
+use Rattle.ipl_meaning.specs.Legible.{Legibility, IsToldApart}
 use Rattle.ipl_meaning.specs.Tables.{Tables}
 use Rattle.unit_io.specs.Reads.{OfContents}
 use Rattle.store_laws.specs.Frames.{PageFrame, Frames}
@@ -67,8 +68,8 @@ put_next s n bytes (Err fault) state = after_write state s (n, Some bytes)
 -- The page had room exactly where it has in each state that memory and contents show: by what is
 -- committed there, and by what all open sessions wrote.
 abbrev pub TellsRoom : ℕ → List ℕ → Store → Told → Result Bool StoreFault → Type 0
-TellsRoom n bytes old before found = IfOk found (λ room. OfContents before (λ x. (state : State)
-    → ShowsState before.places (view_of old) state x → overfills state n bytes ≡ not room))
+TellsRoom n bytes old before found = IfOk found (λ room. OfContents before (λ x. (pages : Legibility) (state : State)
+    → IsToldApart pages → ShowsState before.places pages (view_of old) state x → overfills state n bytes ≡ not room))
 
 -- ---- what was done
 

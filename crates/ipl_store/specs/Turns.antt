@@ -6,6 +6,7 @@ use Rattle.ipl_base.specs.Places.{home_of}
 use Rattle.ipl_format.specs.Record.{Change}
 use Rattle.ipl_model.specs.State.{State}
 use Rattle.record_locks.specs.Held.{marks_in, numbers_in, written_by}
+use Rattle.ipl_meaning.specs.Legible.{whole}
 use Rattle.ipl_meaning.specs.Chart.{chart_of}
 use Rattle.ipl_meaning.specs.Layout.{Layout}
 use Rattle.ipl_meaning.specs.Stands.{Says}
@@ -54,7 +55,7 @@ MayTake it n change = IfSome change (λ bytes. (f : PageFrame)
 abbrev pub CompletesFor : {T : Type 0} → Transactions → Result T ChipFault → Told → Type 0
 CompletesFor it result told = OfContents told (λ x. (layout : Layout) (state : State)
     → MemoryFits told.places (chart_of x) layout (memory_in it) state
-    → Says told.places (chart_of x) layout state.map → FailsByChipAlone result)
+    → Says told.places (chart_of x) layout (whole state.map) → FailsByChipAlone result)
 
 -- Where nothing is asked of what the pages say, it fails by a page that didn't read well or had no room
 -- for its values, or where a call of the chip failed.

@@ -8,6 +8,7 @@ use Rattle.ipl_base.specs.declared.fault.ChipFault.TheVariants.{ReadFault, Stopp
 use Rattle.ipl_base.specs.declared.limits.TheConstants.{PAGE_LEN}
 use Rattle.ipl_model.specs.State.{State}
 use Rattle.record_locks.specs.Held.{SessionSlots}
+use Rattle.ipl_meaning.specs.Legible.{every, whole}
 use Rattle.ipl_meaning.specs.Chart.{Chart, chart_of}
 use Rattle.ipl_meaning.specs.Layout.{Layout}
 use Rattle.ipl_meaning.specs.Stands.{Shows, Says, page_in}
@@ -36,10 +37,10 @@ use Rattle.page_frames.specs.Complete.{FailsByChip, CompletesLoad}
 -- where a state is stood for, each unit may be merged
 all_mergeable : (places : ℕ) (c : Chart) (it : Layout) (t : Tables) (frames : Frames)
     (slots : SessionSlots) (state : State) (u : ℕ)
-    → MemoryFits places c it (memory_of t frames slots) state → Says places c it state.map
+    → MemoryFits places c it (memory_of t frames slots) state → Says places c it (whole state.map)
     → u < it.count → IsMergeable c it.committed t (it.units u) u
 all_mergeable places c it t frames slots state u fits says low =
-    said_units_are_mergeable places c it state.map t u says low
+    said_units_are_mergeable places c it (whole state.map) t u says low (λ page few. refl)
     (merges_are_small places c it t frames slots state u fits low)
 
 pub merge_completes : {T : Type 0} (u : ℕ) (pages : Pages) (result : Result T ChipFault)
@@ -98,7 +99,7 @@ pub loaded_completes : {T : Type 0} (u page : ℕ) (pages : Pages) (result : Res
 loaded_completes u page pages result told low few complete x there slots it state fits says =
     let below : u < it.count = omega (arith, low, fits.mirrors.directory.units) in
     let values = page_in state.map u page in
-    let shows = says.pages u page below few in
+    let shows = says.pages u page below few refl in
     complete x there it values fits.mirrors shows
     (loaded_pages_fit told.places (chart_of x) it (tables_in pages) (frames_in pages) slots state u page
     values fits below few shows)
@@ -117,5 +118,5 @@ completes_then first between result old mid sized keeps complete x there slots i
     complete y now slots on.layout state
     (subst (λ (n : ℕ). MemoryFits n (chart_of y) on.layout
     (memory_of (tables_in between) (frames_in between) slots) state) (sym sized) on.fits)
-    (subst (λ (n : ℕ). Says n (chart_of y) on.layout state.map) (sym sized)
-    (says_next old.places (chart_of x) (chart_of y) it on.layout state state on.shows says))
+    (subst (λ (n : ℕ). Says n (chart_of y) on.layout (whole state.map)) (sym sized)
+    (says_next old.places every (chart_of x) (chart_of y) it on.layout state state on.shows says))

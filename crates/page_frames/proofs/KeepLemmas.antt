@@ -7,6 +7,7 @@ use Rattle.ipl_base.specs.declared.fault.ChipFault.{ChipFault}
 use Rattle.ipl_base.specs.declared.fault.ChipFault.TheVariants.{Stopped}
 use Rattle.ipl_format.specs.Record.{Record}
 use Rattle.ipl_model.specs.State.{State}
+use Rattle.ipl_meaning.specs.Legible.{of}
 use Rattle.ipl_meaning.specs.Chart.{Chart, chart_of}
 use Rattle.ipl_meaning.specs.Layout.{Layout}
 use Rattle.ipl_meaning.specs.Mirrors.{Mirrors, NoneIsLost}
@@ -87,8 +88,11 @@ out_fits places c y it t after frames slots state u page f payload fits there ou
       shows = record {
         count = turned.count;
         pages = λ v q low few shows.
-            logged.pages v q (page_in state.map v q) (rw (← turned.count) at low) few
-            (turned.pages v q (page_in state.map v q) low few shows);
+            logged.pages.shown v q (page_in state.map v q) (rw (← turned.count) at low) few
+            (turned.pages.shown v q (page_in state.map v q) low few shows);
+        no_more = λ v q base low few reads.
+            let was = logged.pages.no_more v q base (rw (← turned.count) at low) few reads in
+            turned.pages.no_more v q was.0 low few was.1;
         nowhere_else = λ name high none. none;
       };
     }
@@ -136,9 +140,9 @@ writings_keep_states t after frames u page f payload old new (Ok v) there spelle
                 (payload_of_frame old.places (chart_of x) it t frames slots state u page f payload
                 fits there spelled)),
           ));
-      steps = λ places h it state same steady story.
+      steps = λ places pages h it state same steady story.
           (subst (λ (n : ℕ). WritesOutInSteps n payload t after old (Ok v) new) same steps)
-          state.map it f.log h steady story.rests
+          (of pages state.map) it f.log h steady story.rests
           (record { mirrors = story.fits.mirrors; tidy = story.tidy })
           (payload_of_frame places (now h) it t frames slots state u page f payload story.fits there
           spelled);
@@ -149,9 +153,9 @@ writings_keep_states t after frames u page f payload old new (Err e) there spell
           unwritten_fits t after frames e old new slots places settled same
           (subst (λ (n : ℕ). Charts (TurnsTables n t after) old new) same
           (tells (soft after.places t u e old new cause settled)));
-      steps = λ places h it state same steady story.
+      steps = λ places pages h it state same steady story.
           (subst (λ (n : ℕ). WritesOutInSteps n payload t after old (Err e) new) same steps)
-          state.map it f.log h steady story.rests
+          (of pages state.map) it f.log h steady story.rests
           (record { mirrors = story.fits.mirrors; tidy = story.tidy })
           (payload_of_frame places (now h) it t frames slots state u page f payload story.fits there
           spelled);

@@ -11,7 +11,7 @@ use Rattle.ipl_base.specs.declared.spot.Spot.{Spot}
 use Rattle.ipl_format.specs.Record.{Record, SpellsLog}
 use Rattle.ipl_format.specs.Sector.{Sector}
 use Rattle.ipl_format.proofs.RecordLemmas.{logs_spell_once}
-use Rattle.ipl_model.specs.State.{Map}
+use Rattle.ipl_meaning.specs.Legible.{Legible}
 use Rattle.ipl_meaning.specs.Chart.{Chart}
 use Rattle.ipl_meaning.specs.Found.{MentionsBelow}
 use Rattle.ipl_meaning.specs.Layout.{Entry, Layout, Laid}
@@ -179,7 +179,7 @@ module _ (places : ℕ) (c : Chart) (it : Layout) (t : Tables) (u : ℕ) (at : S
 -- what a program of a log sector leaves that joins its unit's
 abbrev pub JoinsLog : ℕ → ℕ → ℕ → Sector → Told → Result (Unit {0}) ChipFault → Told → Type 0
 JoinsLog places p s sector old result new =
-    (m : Map) (it : Layout) (h : History) (u : ℕ) (records : List Record)
+    (m : Legible) (it : Layout) (h : History) (u : ℕ) (records : List Record)
     → IsSteady h old → StoryRests places m h → Laid places (now h) it
     → MayLog places (now h) it u p s sector records → IsUntouched h p s
     → KeepsMap places m (Programs p (IsSpot s)) (λ done. Gains p s sector) h old result new

@@ -5,6 +5,7 @@ use Rattle.chip_trait.specs.Told.{Told}
 use Rattle.ipl_base.specs.declared.fault.ChipFault.{ChipFault}
 use Rattle.ipl_model.specs.State.{State}
 use Rattle.record_locks.specs.Held.{SessionSlots}
+use Rattle.ipl_meaning.specs.Legible.{whole}
 use Rattle.ipl_meaning.specs.Chart.{chart_of}
 use Rattle.ipl_meaning.specs.Layout.{Layout}
 use Rattle.ipl_meaning.specs.Mirrors.{Mirrors}
@@ -26,7 +27,7 @@ abbrev pub FailsByChip : {T : Type 0} → Pages → Result T ChipFault → Told 
 FailsByChip pages result told = OfContents told (λ x. (slots : SessionSlots) (it : Layout) (state : State)
     → MemoryFits told.places (chart_of x) it
     (memory_of (tables_in pages) (frames_in pages) slots) state
-    → Says told.places (chart_of x) it state.map → FailsByChipAlone result)
+    → Says told.places (chart_of x) it (whole state.map) → FailsByChipAlone result)
 
 -- where the tables mirror what the chip holds, and the page shows some values for which, with what is
 -- pending there, it has room, it fails only where a call of the chip failed

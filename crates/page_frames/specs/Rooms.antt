@@ -3,7 +3,7 @@ use Rattle.std.specs.Prelude.{ℕ, ◌≡◌, ◌⊎◌, Result}
 use Rattle.chip_trait.specs.Told.{History, Told}
 use Rattle.ipl_base.specs.declared.fault.ChipFault.{ChipFault}
 use Rattle.ipl_base.specs.declared.spot.Spot.{Spot}
-use Rattle.ipl_model.specs.State.{Map}
+use Rattle.ipl_meaning.specs.Legible.{Legible}
 use Rattle.ipl_meaning.specs.Agrees.{IsTidy, Agrees}
 use Rattle.ipl_meaning.specs.Chart.{Chart}
 use Rattle.ipl_meaning.specs.Layout.{Layout}
@@ -43,7 +43,7 @@ FindsRoom places u t after old result new =
     ChartsThroughout (MakesLogRoom places u t after) (TurnsTables places t after) result old new
 
 -- the story rests on the map, there is room, and what is counted as clean is
-pub record RestsWithLogRoom (places : ℕ) (m : Map) (c : Chart) (it : Layout) (t : Tables) (u : ℕ)
+pub record RestsWithLogRoom (places : ℕ) (m : Legible) (c : Chart) (it : Layout) (t : Tables) (u : ℕ)
     (after : Tables) (at : Spot) (k : History) : Type 0 where
   pub rests : StoryRests places m k
   pub room : HasLogRoom places c (now k) it t u after at
@@ -53,7 +53,7 @@ pub record RestsWithLogRoom (places : ℕ) (m : Map) (c : Chart) (it : Layout) (
 -- there is room.
 abbrev pub FindsRoomInSteps : ℕ → ℕ → Tables → Tables → Told → Result Spot ChipFault → Told
     → Type 0
-FindsRoomInSteps places u t after old result new = (m : Map) (it : Layout) (h : History)
+FindsRoomInSteps places u t after old result new = (m : Legible) (it : Layout) (h : History)
     → IsSteady h old → StoryRests places m h → Agrees places h it t
     → Steps (EachStands places m) t after
     (λ at k. RestsWithLogRoom places m (now h) it t u after at k) (λ k. StoryRests places m k)

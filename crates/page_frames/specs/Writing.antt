@@ -6,7 +6,7 @@ use Rattle.ipl_base.specs.declared.fault.ChipFault.{ChipFault}
 use Rattle.ipl_base.specs.declared.spot.Spot.{Spot}
 use Rattle.ipl_format.specs.Record.{Record}
 use Rattle.ipl_format.specs.Sector.{Sector}
-use Rattle.ipl_model.specs.State.{Map}
+use Rattle.ipl_meaning.specs.Legible.{Legible}
 use Rattle.ipl_meaning.specs.Agrees.{Agrees}
 use Rattle.ipl_meaning.specs.Chart.{Chart}
 use Rattle.ipl_meaning.specs.Layout.{Layout}
@@ -82,7 +82,7 @@ WritesLog places u at payload t after c y = (it : Layout) (records : List Record
 abbrev pub WritesLogInSteps : ℕ → ℕ → Spot → Versioned → Tables → Tables
     → Told → Result (Unit {0}) ChipFault → Told → Type 0
 WritesLogInSteps places u at payload t after old result new =
-    (m : Map) (it : Layout) (records : List Record) (h : History)
+    (m : Legible) (it : Layout) (records : List Record) (h : History)
     → IsSteady h old → StoryRests places m h → Agrees places h it t
     → IsToLog places (now h) it t payload records
     → Steps (EachStands places m) t after (λ done k. StoryRests places m k) NoOtherEnd
@@ -118,6 +118,6 @@ WritesOut places u payload t after old result new = ChartsThroughout
 abbrev pub WritesOutInSteps : ℕ → Versioned → Tables → Tables
     → Told → Result (Unit {0}) ChipFault → Told → Type 0
 WritesOutInSteps places payload t after old result new =
-    (m : Map) (it : Layout) (records : List Record) (h : History)
+    (m : Legible) (it : Layout) (records : List Record) (h : History)
     → IsSteady h old → StoryRests places m h → Agrees places h it t
     → IsPayloadOf t payload records → Preserves places m t after h result old new

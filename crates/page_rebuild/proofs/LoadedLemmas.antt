@@ -1,12 +1,12 @@
 -- What a frame has that was loaded.
-use Rattle.std.proofs.Common.{◌≡◌, ◌<◌, ◌≤◌, ℕ, suc, Bool, List, [], ◌∷◌, ◌++◌, length, map, slice_index, Option, Some, None, inl, inr, refl, sym, ◌∙◌, ap, ap₂, subst, arith}
+use Rattle.std.proofs.Common.{true, ◌≡◌, ◌<◌, ◌≤◌, ℕ, suc, Bool, List, [], ◌∷◌, ◌++◌, length, map, slice_index, Option, Some, None, inl, inr, refl, sym, ◌∙◌, ap, ap₂, subst, arith}
 use Rattle.std.specs.Prelude.{◌↔◌, if◌then◌else◌}
 use Rattle.std.specs.List.{All}
 use Rattle.std.specs.Option.{option_or}
 use Rattle.std.proofs.lemmas.Bool.{cases_lt, lt-ltb, le-ltb}
 use Rattle.std.proofs.lemmas.List.Elements.{All-filter}
 use Rattle.chip_trait.specs.Story.{Contents}
-use Rattle.ipl_model.specs.State.{Map}
+use Rattle.ipl_meaning.specs.Legible.{Legible}
 use Rattle.ipl_base.specs.declared.limits.TheConstants.{PAGE_LEN}
 use Rattle.ipl_base.specs.declared.fault.ChipFault.{ChipFault}
 use Rattle.ipl_base.specs.declared.fault.ChipFault.TheVariants.{Malformed}
@@ -325,14 +325,14 @@ module _ {u place page : ℕ} {c : Chart} {it : Layout} {status : StatusTable} {
           (omega (arith, room, fill_is x active same))
 
 -- whatever map the chart stands for, the frame has that map's page
-pub page_of_map : {places u page : ℕ} {c : Chart} {it : Layout} {m : Map} {active : ℕ → Bool}
+pub page_of_map : {places u page : ℕ} {c : Chart} {it : Layout} {m : Legible} {active : ℕ → Bool}
     {f : FrameView} → Laid places c it → u < it.count → page < 15 → Stands places c m
-    → IsLoaded c it active u page f → HasPageOf m u page f
-page_of_map {places} {u} {page} {c} {it} {m} {active} {f} laid low few stands is = λ slot less.
+    → m.pages.reads u page ≡ true → IsLoaded c it active u page f → HasPageOf m.map u page f
+page_of_map {places} {u} {page} {c} {it} {m} {active} {f} laid low few stands reads is = λ slot less.
     let one = laid_once places c it stands.layout laid stands.laid in
     let unit = stands.layout.units u in
     let theirs = rw one.count at low in
     let mine : Shows c it.committed u unit page (values_in f) =
     subst (λ (s : Shape). Shows c it.committed u s page (values_in f)) (one.units u low) is.shows in
-    shows_once c it.committed stands.layout.committed u unit page (values_in f) (page_in m u page)
-    one.committed mine (stands.says.pages u page theirs few) slot less
+    shows_once c it.committed stands.layout.committed u unit page (values_in f) (page_in m.map u page)
+    one.committed mine (stands.says.pages u page theirs few reads) slot less

@@ -2,7 +2,7 @@
 use Rattle.std.specs.Prelude.{Result}
 use Rattle.chip_trait.specs.Told.{History, Told}
 use Rattle.ipl_base.specs.declared.fault.ChipFault.{ChipFault}
-use Rattle.ipl_model.specs.State.{Map}
+use Rattle.ipl_meaning.specs.Legible.{Legible}
 use Rattle.ipl_meaning.specs.Layout.{Layout}
 use Rattle.ipl_meaning.specs.Rests.{StoryRests}
 use Rattle.ipl_meaning.specs.Tables.{Tables}
@@ -13,6 +13,6 @@ use Rattle.unit_io.specs.Steps.{KeepsTables}
 -- whatever map the story rests on, and whatever tables agree with the chip: it rests and they agree
 -- still
 abbrev pub KeepsWhatRests : Result (Unit {0}) ChipFault → Told → Told → Type 0
-KeepsWhatRests result old new = (m : Map) (it : Layout) (t : Tables) (h : History)
+KeepsWhatRests result old new = (m : Legible) (it : Layout) (t : Tables) (h : History)
     → IsSteady h old → StoryRests old.places m h → Agrees old.places h it t
     → KeepsTables old.places m it t h result old new

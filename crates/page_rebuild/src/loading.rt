@@ -1,7 +1,7 @@
 //! A page is read, and its unit's log.
-ghost use Rattle.std.specs.Prelude.{◌≡◌, ◌≤◌, ◌<◌, length, slice_index, OnOk, OnErr};
+ghost use Rattle.std.specs.Prelude.{◌≡◌, ◌≤◌, ◌<◌, length, slice_index, true, OnOk, OnErr};
 ghost use Rattle.ipl_base.specs.declared.limits.TheConstants.{LIVE_SECTORS};
-ghost use Rattle.ipl_model.specs.State.{Map};
+ghost use Rattle.ipl_meaning.specs.Legible.{Legible};
 ghost use Rattle.ipl_format.specs.Page.{empty_page};
 ghost use Rattle.ipl_meaning.specs.Chart.{chart_of};
 ghost use Rattle.ipl_meaning.specs.Stands.{Stands};
@@ -144,8 +144,8 @@ pub fn load<C: Chip>(
     ensures fault { OfTables (C.told chip.old) directory.now overflow.now status.now
         (λ x it. TellsChipFault (load_fault x it (among active.now) unit page) result) }
     ensures stands { OnOk result (OfTables (C.told chip.old) directory.now overflow.now status.now
-        (λ x it. (m : Map) → Stands (C.told chip.old).places (chart_of x) m
-        → HasPageOf m unit page frame.new)) }
+        (λ x it. (m : Legible) → Stands (C.told chip.old).places (chart_of x) m
+        → m.pages.reads unit page ≡ true → HasPageOf m.map unit page frame.new)) }
     ensures empty { OnErr result (frame.new ≡ empty_frame) }
 
     // What it reads, and why it fails.

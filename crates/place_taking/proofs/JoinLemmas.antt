@@ -11,7 +11,7 @@ use Rattle.chip_trait.specs.Story.{Story}
 use Rattle.chip_trait.specs.Told.{History, Told, Counts, adds_all}
 use Rattle.ipl_base.specs.declared.limits.TheConstants.{SECTORS, FIRST_LOG_SECTOR}
 use Rattle.ipl_base.specs.declared.fault.ChipFault.{ChipFault}
-use Rattle.ipl_model.specs.State.{Map}
+use Rattle.ipl_meaning.specs.Legible.{Legible}
 use Rattle.ipl_meaning.specs.Layout.{Layout}
 use Rattle.ipl_meaning.specs.Rests.{EachStands}
 use Rattle.ipl_meaning.specs.Tables.{counted_written, Places, IsFree, Tables, IsCountedClean}
@@ -272,7 +272,7 @@ tidy_writes before after d p from done Settles added moved did = record {
 -- ---- what counts as clean
 
 -- it stands at a place in use
-pub counted_used : (places : ℕ) (m : Map) (it : Layout) (h : History) (t : Tables)
+pub counted_used : (places : ℕ) (m : Legible) (it : Layout) (h : History) (t : Tables)
     → RestsAgreeing places m it t h → (q s : ℕ) → IsCountedClean t q s → ¬ IsFree t.places q
 counted_used places m it h t here q s counted free =
     counted_elsewhere places m it h t q here free q s counted refl
@@ -328,7 +328,7 @@ taken_then T E Each Then Ends d p from Spot t after h result old mid new free be
         unrisen
 
 -- it couldn't be taken: the tables are as they were, but for the directory
-pub untaken : (T F : Type 0) (d after : Places) (m : Map) (it : Layout) (t : Tables) (h : History)
+pub untaken : (T F : Type 0) (d after : Places) (m : Legible) (it : Layout) (t : Tables) (h : History)
     (e : ChipFault) (f : F) (old new : Told) → IsSteady h old → t.places ≡ d
     → RestsAgreeing old.places m it t h → IsAsideFrom d after → TakesPlace d old (Err e) after new
     → Outcome (EachStands old.places m) (TidyWork (IsCountedClean t)

@@ -17,7 +17,7 @@ use Rattle.ipl_base.specs.declared.fault.ChipFault.{ChipFault}
 use Rattle.ipl_base.specs.declared.fault.ChipFault.TheVariants.{WornOut}
 use Rattle.ipl_base.specs.Places.{spares_on}
 use Rattle.ipl_format.specs.Header.{IsLower}
-use Rattle.ipl_model.specs.State.{Map}
+use Rattle.ipl_meaning.specs.Legible.{Legible}
 use Rattle.ipl_meaning.specs.Chart.{Chart}
 use Rattle.ipl_meaning.specs.Layout.{Layout, Laid}
 use Rattle.ipl_meaning.specs.Rests.{now, EachStands, StoryRests}
@@ -59,7 +59,7 @@ given_back d p free =
 
 -- ---- a free place
 
-module _ (places : ℕ) (m : Map) (it : Layout) (h : History) (t : Tables) (p : ℕ)
+module _ (places : ℕ) (m : Legible) (it : Layout) (h : History) (t : Tables) (p : ℕ)
     (here : RestsAgreeing places m it t h) (free : IsFree t.places p) where
   pub idle : IsIdle places (now h) it p
   idle = free_places_are_idle places (now h) it t p here.agrees.mirrors free
@@ -262,7 +262,7 @@ module _ (d : Places) (p : ℕ) (next : IsNextFree d p) where
       erased = tt;
     }
 
-    broken_leads : (m : Map) (it : Layout) (h : History) → IsSteady h old → StoryRests old.places m h
+    broken_leads : (m : Legible) (it : Layout) (h : History) → IsSteady h old → StoryRests old.places m h
         → Laid old.places (now h) it → IsIdle old.places (now h) it p
         → Leads {T = Wear} {E = ChipFault} (EachStands old.places m) (λ ok. Clears p false)
         (RestsWith old.places m (Begun p) h) h old (Err e) new
@@ -314,7 +314,7 @@ module _ (d : Places) (p : ℕ) (next : IsNextFree d p) where
 
 module _ (d between : Places) (p : ℕ) (old mid : Told) (within : p < old.places)
     (finds : FindsNextWorn d old p between mid) (ready : IsReadyToTake d) where
-  worn_leads : (m : Map) (it : Layout) (t : Tables) (h : History) → IsSteady h old
+  worn_leads : (m : Legible) (it : Layout) (t : Tables) (h : History) → IsSteady h old
       → (same : t.places ≡ d) → RestsAgreeing old.places m it t h
       → Leads {T = Wear} {E = ChipFault} (EachStands old.places m) (λ ok. Clears p false)
       (RestsWith old.places m (Begun p) h) h old (Ok IsWorn) mid

@@ -4,7 +4,7 @@ use Rattle.chip_trait.specs.Story.{Story}
 use Rattle.chip_trait.specs.Told.{History, Told, Rose}
 use Rattle.ipl_base.specs.declared.fault.ChipFault.{ChipFault}
 use Rattle.ipl_base.specs.declared.fault.ChipFault.TheVariants.{Stopped, WornOut}
-use Rattle.ipl_model.specs.State.{Map}
+use Rattle.ipl_meaning.specs.Legible.{Legible}
 use Rattle.ipl_meaning.specs.Chart.{Chart}
 use Rattle.ipl_meaning.specs.Layout.{Layout}
 use Rattle.ipl_meaning.specs.Rests.{now, EachStands}
@@ -88,7 +88,7 @@ with_places t places = record {
 }
 
 -- the story rests on the map, the tables agree with this directory, and the place was cleared
-pub record RestsTaken (places : ℕ) (m : Map) (it : Layout) (t : Tables) (after : Places) (c : Chart)
+pub record RestsTaken (places : ℕ) (m : Legible) (it : Layout) (t : Tables) (after : Places) (c : Chart)
     (place : ℕ) (k : History) : Type 0 where
   pub stands : RestsAgreeing places m it (with_places t after) k
   pub cleared : IsCleared place c (now k)
@@ -96,7 +96,7 @@ pub record RestsTaken (places : ℕ) (m : Map) (it : Layout) (t : Tables) (after
 -- At each moment a power cut leaves the map. Where no write failed, the story rests on it and the
 -- tables agree, with the directory then.
 abbrev pub TakesPlace : Places → Told → Result ℕ ChipFault → Places → Told → Type 0
-TakesPlace before old result after new = (m : Map) (it : Layout) (t : Tables) (h : History)
+TakesPlace before old result after new = (m : Legible) (it : Layout) (t : Tables) (h : History)
     → IsSteady h old → t.places ≡ before → RestsAgreeing old.places m it t h
     → Outcome (EachStands old.places m) (ClearsNext before result) (Settled result old new)
     (EndsWith result (RestsTaken old.places m it t after (now h))

@@ -5,7 +5,7 @@ use Rattle.chip_trait.specs.Lawful.{settled}
 use Rattle.chip_trait.specs.Story.{Story}
 use Rattle.chip_trait.specs.Told.{History, Told, Counts, adds, adds_all}
 use Rattle.ipl_base.specs.declared.fault.ChipFault.{ChipFault}
-use Rattle.ipl_model.specs.State.{Map}
+use Rattle.ipl_meaning.specs.Legible.{Legible}
 use Rattle.ipl_meaning.specs.Agrees.{Agrees}
 use Rattle.ipl_meaning.specs.Layout.{Layout}
 use Rattle.ipl_meaning.specs.Rests.{EachStands, StoryRests}
@@ -46,7 +46,7 @@ abbrev HasWaited : History → Unit {0} → History → Type 0
 HasWaited h v k = k ≡ adds Barrier h
 
 -- it waited, or it stopped
-waited_outcome : {Sound : Type 0} (places : ℕ) (m : Map) (t : Tables) (h : History) (old new : Told)
+waited_outcome : {Sound : Type 0} (places : ℕ) (m : Legible) (t : Tables) (h : History) (old new : Told)
     (result : Result (Unit {0}) ChipFault)
     → IsSteady h old → StoryRests places m h → Waited result old new → IfErr result (λ fault. IsStopped fault old new)
     → OutcomeWhere Sound (EachStands places m) (Idles t (Settled result old new)) (Settled result old new)
@@ -90,7 +90,7 @@ settled_later (Err e) old mid new counts settled =
     failures_settle (Unit {0}) (Unit {0}) (Unit {0}) (Unit {0}) tt tt old mid new counts settled
 
 module _ (places : ℕ) (t after : Tables) (result : Result (Unit {0}) ChipFault) (old mid new : Told) (counts : Counts old mid)
-    (m : Map) (h : History) where
+    (m : Legible) (h : History) where
   abbrev Settles : Type 0
   Settles = Settled result old new
 

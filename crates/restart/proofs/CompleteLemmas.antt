@@ -8,7 +8,7 @@ use Rattle.ipl_base.specs.Calls.{IsFailedCall}
 use Rattle.ipl_base.specs.declared.fault.ImageFault.{ImageFault}
 use Rattle.ipl_base.specs.declared.fault.ImageFault.TheVariants.{Chip}
 use Rattle.ipl_format.specs.Record.{Record}
-use Rattle.ipl_model.specs.State.{Map}
+use Rattle.ipl_meaning.specs.Legible.{Legible}
 use Rattle.ipl_meaning.specs.Chart.{Chart, chart_of}
 use Rattle.ipl_meaning.specs.Last.{carried, carried_count}
 use Rattle.ipl_meaning.specs.Layout.{Shape, Layout, records_of}
@@ -37,7 +37,7 @@ mergeable_then places n c it t kept old mid was low active all =
     let same : was.now.units n ≡ it.units n = was.passed.same n low (inl (omega arith)) in record {
       pages = λ page below.
           let (now, shows) = may.pages page below in
-          (now, was.pages n page now low below shows);
+          (now, was.pages.shown n page now low below shows);
       few = subst (λ (a : List ℕ). carried_count (among a) (was.now.units n).log ≤ 12) (sym active)
           (subst (λ (s : Shape). carried_count (among t.active) s.log ≤ 12) (sym same) may.few);
     }
@@ -72,10 +72,10 @@ pub carried_none : (records : List Record) → carried (among []) records ≡ []
 carried_none [] = refl
 carried_none (r ∷ records) = carried_none records
 
-pub all_mergeable : (places : ℕ) (c : Chart) (it : Layout) (m : Map) (t : Tables)
-    → Says places c it m → t.active ≡ [] → AreMergeable c it t
-all_mergeable places c it m t says none u low =
-    said_units_are_mergeable places c it m t u says low
+pub all_mergeable : (places : ℕ) (c : Chart) (it : Layout) (m : Legible) (t : Tables)
+    → Says places c it m → ((u page : ℕ) → u < it.count → page < 15 → m.pages.reads u page ≡ true) → t.active ≡ [] → AreMergeable c it t
+all_mergeable places c it m t says all none u low =
+    said_units_are_mergeable places c it m t u says low (λ page few. all u page low few)
     (subst (λ (a : List ℕ). carried_count (among a) (it.units u).log ≤ 12) (sym none)
     (rw (carried_none (records_of (it.units u).log)) (omega arith)))
 

@@ -114,7 +114,10 @@ module _ (places : ℕ) (x : Contents) (it : Layout) (t : Tables)
         told = is;
         now = it;
         mirrors = mirrors;
-        pages = λ u page now low few shows. shows;
+        pages = record {
+          shown = λ u page now low few shows. shows;
+          no_more = λ u page base low few reads. (base, reads);
+        };
         passed = record {
           count = refl;
           same = λ u low either. refl;

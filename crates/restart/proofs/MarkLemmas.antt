@@ -10,7 +10,7 @@ use Rattle.ipl_base.specs.declared.fault.ChipFault.{ChipFault}
 use Rattle.ipl_format.specs.Sector.{Sector, sector_in}
 use Rattle.ipl_format.specs.Mark.{SpellsMark, has_unit}
 use Rattle.ipl_format.proofs.SectorLemmas.{blank_says_nothing}
-use Rattle.ipl_model.specs.State.{Map}
+use Rattle.ipl_meaning.specs.Legible.{Legible}
 use Rattle.ipl_meaning.specs.Agrees.{Agrees}
 use Rattle.ipl_meaning.specs.Chart.{chart_of}
 use Rattle.ipl_meaning.specs.Layout.{Shape, Layout, Laid}
@@ -54,7 +54,7 @@ known_is_marked t payload has u low = (
 abbrev pub mark_of : Tables → List ℕ → Sector
 mark_of t payload = mark_sector t.status.generation t.next payload
 
-module _ (places : ℕ) (m : Map) (h : History) (it : Layout) (t : Tables) (payload : List ℕ)
+module _ (places : ℕ) (m : Legible) (h : History) (it : Layout) (t : Tables) (payload : List ℕ)
     (least : 1 ≤ t.status.first) (room : t.status.first < 256) (agrees : Agrees places h it t)
     (spelled : SpellsMark (length t.places.current) payload) (has : HasWhatIsKnown t payload) where
   may_mark : MayMark (now h) it t.status.first (mark_of t payload)

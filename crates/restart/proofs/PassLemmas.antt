@@ -7,11 +7,11 @@ use Rattle.chip_trait.specs.Told.{Told}
 use Rattle.ipl_base.specs.declared.fault.ChipFault.{ChipFault}
 use Rattle.ipl_base.specs.declared.fault.ChipFault.TheVariants.{Stopped}
 use Rattle.ipl_format.specs.Record.{Record}
+use Rattle.ipl_meaning.proofs.StandsLemmas.{pages_then}
 use Rattle.ipl_meaning.specs.Chart.{Chart, chart_of}
 use Rattle.ipl_meaning.specs.Layout.{Shape, Layout, records_of}
 use Rattle.ipl_meaning.specs.Mirrors.{Mirrors}
-use Rattle.ipl_meaning.specs.Stands.{Shows}
-use Rattle.ipl_meaning.specs.Steps.{AllWait, with_unit}
+use Rattle.ipl_meaning.specs.Steps.{AllWait, KeepsPages, with_unit}
 use Rattle.ipl_meaning.specs.Tables.{Tables, StatusTable}
 use Rattle.selective_merge.specs.Merged.{IsMergedUnit, merged_shape}
 use Rattle.selective_merge.specs.Packs.{packs_of, entries_from}
@@ -44,9 +44,10 @@ module _ (places : ℕ) (c : Chart) (it : Layout) (t : Tables) where
     told = is;
     now = it;
     mirrors = mirrors;
-    pages = λ u page now low few. subst
-        (λ (y : Chart). Shows y it.committed u (it.units u) page now
-        → Shows (chart_of x) it.committed u (it.units u) page now) (sym at) (λ shows. shows);
+    pages = subst (λ (y : Chart). KeepsPages places y it (chart_of x) it) (sym at) (record {
+      shown = λ u page now low few shows. shows;
+      no_more = λ u page base low few reads. (base, reads);
+    });
     passed = record {
       count = refl;
       same = λ u low either. refl;
@@ -172,9 +173,7 @@ module _ (places : ℕ) (c : Chart) (it : Layout) (t : Tables) where
           told = told_y;
           now = now_is;
           mirrors = unit.mirrors;
-          pages = λ u page values within few shows. unit.keeps u page values
-              (omega (arith, within, was.passed.count)) few
-              (was.pages u page values within few shows);
+          pages = pages_then places c (chart_of was.contents) (chart_of y) it was.now now_is was.passed.count was.pages unit.keeps;
           passed = record {
             count = was.passed.count;
             same = λ u within either. unit_elsewhere was.now n u shape (apart u either full)
@@ -235,9 +234,7 @@ module _ (places : ℕ) (c : Chart) (it : Layout) (t : Tables) where
             units = n;
             now = was.now;
             mirrors = (still was.now was.mirrors).0;
-            pages = λ u page values low few shows. (still was.now was.mirrors).1 u page values
-                (omega (arith, low, was.passed.count)) few
-                (was.pages u page values low few shows);
+            pages = pages_then places c (chart_of was.contents) (chart_of y) it was.now was.now was.passed.count was.pages (still was.now was.mirrors).1;
             passed = was.passed;
             committed = was.committed;
           },

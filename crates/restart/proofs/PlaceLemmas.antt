@@ -6,7 +6,8 @@ use Rattle.std.proofs.lemmas.List.{length-set, set_past}
 use Rattle.chip_trait.specs.Lawful.{Clean, age}
 use Rattle.chip_trait.specs.Told.{History, Told}
 use Rattle.ipl_format.specs.Sector.{Sector}
-use Rattle.ipl_model.specs.State.{Map}
+use Rattle.ipl_meaning.proofs.StandsLemmas.{pages_then}
+use Rattle.ipl_meaning.specs.Legible.{Legible}
 use Rattle.ipl_meaning.specs.Chart.{Chart, chart_of}
 use Rattle.ipl_meaning.specs.Layout.{Layout}
 use Rattle.ipl_meaning.specs.Mirrors.{Mirrors, NoneIsLost}
@@ -115,7 +116,7 @@ module _ (takes : UsesTake) (gives_back : DisusesGiveBack) (places p : ℕ) (d :
     may_keep : MayKeep (taken t p) kept
     may_keep = record { below = may.may.below; waits = may.may.waits }
 
-    pub ready : (h k : History) (m : Map) → Mirrors places (now h) it t
+    pub ready : (h k : History) (m : Legible) → Mirrors places (now h) it t
         → RestsAgreeing places m it (taken t p) k → IsCleared p (now h) (now k)
         → ((s : ℕ) → age k.story p s ≡ Clean) → IsReadyToSwitch places k it (taken t p) m p kept
     ready h k m mirrors there cleared clean = record {
@@ -205,8 +206,7 @@ module _ (takes : UsesTake) (gives_back : DisusesGiveBack) (places p : ℕ) (d :
           is_head = done.is_head;
           mirrors = done.mirrors;
           unmarked = done.unmarked;
-          pages = λ keeps u page values low few shows. done.pages keeps u page values low few
-              (still_shown it t has may c y mirrors cleared u page values low few shows);
+          pages = λ keeps. pages_then places c y z it it _ refl (still_shown it t has may c y mirrors cleared) (done.pages keeps);
         })
 
     -- what was free before is free then, but for the place, and so is the old one

@@ -2,7 +2,7 @@
 use Rattle.std.proofs.Common.{◌≡◌, ◌⊎◌, ◌<◌, ◌≤◌, ◌+◌, ℕ, true, List, length, Result, Ok, Err, is_ok, inl, inr, refl, sym, ◌∙◌, ap, subst, arith}
 use Rattle.chip_trait.specs.Told.{History, Told, Counts, adds_all}
 use Rattle.ipl_base.specs.declared.fault.ChipFault.{ChipFault}
-use Rattle.ipl_model.specs.State.{Map}
+use Rattle.ipl_meaning.specs.Legible.{Legible}
 use Rattle.ipl_meaning.specs.Agrees.{Agrees}
 use Rattle.ipl_meaning.specs.Layout.{Layout}
 use Rattle.ipl_meaning.specs.Rests.{now, EachStands, StoryRests}
@@ -37,7 +37,7 @@ module _ (takes : UsesTake) (gives_back : DisusesGiveBack) (p : ℕ) (first betw
   within : p < old.places
   within = let less = from.next.within in omega (arith, less, sized_then)
 
-  module _ (m : Map) (it : Layout) (t : Tables) (h : History) (steady : IsSteady h old)
+  module _ (m : Legible) (it : Layout) (t : Tables) (h : History) (steady : IsSteady h old)
       (has : HasTables t first status next) (rests : StoryRests old.places m h)
       (agrees : Agrees old.places h it t) (may : MayRenew it t kept) where
     -- the tables with them set aside

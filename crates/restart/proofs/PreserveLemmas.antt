@@ -3,7 +3,7 @@ use Rattle.std.proofs.Common.{◌≡◌, ℕ, List, Some, Result, Ok, Err, sym, 
 use Rattle.chip_trait.specs.Story.{Contents, held}
 use Rattle.chip_trait.specs.Told.{History, Told, Counts, adds_all}
 use Rattle.ipl_base.specs.declared.fault.ChipFault.{ChipFault}
-use Rattle.ipl_model.specs.State.{Map}
+use Rattle.ipl_meaning.specs.Legible.{Legible}
 use Rattle.ipl_meaning.proofs.CarriedLemmas.{tidy_is_carried}
 use Rattle.ipl_meaning.specs.Agrees.{IsTidy, Agrees}
 use Rattle.ipl_meaning.specs.Chart.{chart_of}
@@ -40,14 +40,14 @@ agrees_of places h told x it t steady is mirrors tidy =
 
 -- ---- single calls
 
-rests_at_end : (places : ℕ) (m : Map) (k : History) (result : Result (Unit {0}) ChipFault)
+rests_at_end : (places : ℕ) (m : Legible) (k : History) (result : Result (Unit {0}) ChipFault)
     → StoryRests places m k
     → EndsWith result (λ v k. StoryRests places m k) (λ k. StoryRests places m k) k
 rests_at_end places m k (Ok v) rests = rests
 rests_at_end places m k (Err e) rests = rests
 
 -- reads of any sectors
-pub reads_preserve : (At : ℕ → ℕ → Type 0) (places : ℕ) (m : Map) (h : History) (t : Tables)
+pub reads_preserve : (At : ℕ → ℕ → Type 0) (places : ℕ) (m : Legible) (h : History) (t : Tables)
     (result : Result (Unit {0}) ChipFault) (old new : Told) → IsSteady h old
     → StoryRests places m h → ReadsAt At old new → Preserves places m t t h result old new
 reads_preserve At places m h t result old new steady rests did =
@@ -59,7 +59,7 @@ reads_preserve At places m h t result old new steady rests did =
     (rests_at_end places m (adds_all did.added h) result
     (at_rests At places m h did.added did.each rests))
 
-ends_less : (places : ℕ) (m : Map) (result : Result (Unit {0}) ChipFault)
+ends_less : (places : ℕ) (m : Legible) (result : Result (Unit {0}) ChipFault)
     (Then : Unit {0} → History → Type 0) (Else : History → Type 0)
     → ((v : Unit {0}) (k : History) → Then v k → StoryRests places m k)
     → ((k : History) → Else k → StoryRests places m k)
@@ -69,7 +69,7 @@ ends_less places m (Ok v) Then Else done other k is = done v k is
 ends_less places m (Err e) Then Else done other k is = other k is
 
 -- a call that says more
-pub steps_preserve : (places : ℕ) (m : Map) (h : History) (t after : Tables)
+pub steps_preserve : (places : ℕ) (m : Legible) (h : History) (t after : Tables)
     (Then : Unit {0} → History → Type 0) (Else : History → Type 0)
     (result : Result (Unit {0}) ChipFault) (old new : Told)
     → ((v : Unit {0}) (k : History) → Then v k → StoryRests places m k)
@@ -88,7 +88,7 @@ steps_preserve places m h t after Then Else result old new done other did =
 -- ---- one after the other
 
 -- one call that was done, and then another
-pub preserves_then : (places : ℕ) (m : Map) (h : History) (it : Layout) (t between after : Tables)
+pub preserves_then : (places : ℕ) (m : Legible) (h : History) (it : Layout) (t between after : Tables)
     (old mid new : Told) (result : Result (Unit {0}) ChipFault) → Counts old mid
     → Agrees places h it t → Preserves {T = Unit {0}} {E = ChipFault} places m t between h (Ok tt) old mid
     → ((k : History) → IsSteady k mid → StoryRests places m k → IsTidy k between
@@ -104,7 +104,7 @@ preserves_then places m h it t between after old mid new result counts agrees fi
     (tidy_is_carried places h it t between first.added agrees (first.does.clean tt)))
 
 -- reads, and then another call
-pub read_then : (At : ℕ → ℕ → Type 0) (places : ℕ) (m : Map) (h : History) (it : Layout)
+pub read_then : (At : ℕ → ℕ → Type 0) (places : ℕ) (m : Legible) (h : History) (it : Layout)
     (t after : Tables) (old mid new : Told) (result : Result (Unit {0}) ChipFault)
     → IsSteady h old → StoryRests places m h
     → Agrees places h it t → ReadsAt At old mid
@@ -119,7 +119,7 @@ read_then At places m h it t after old mid new result steady rests agrees reads 
     (reads.contents ∙ steady.holds) agrees.mirrors tidy))
 
 -- a part of a pass, and then another call
-pub passed_then : (places : ℕ) (m : Map) (h : History) (it : Layout) (t between after : Tables)
+pub passed_then : (places : ℕ) (m : Legible) (h : History) (it : Layout) (t between after : Tables)
     (old mid new : Told) (result : Result (Unit {0}) ChipFault) (n : ℕ) (kept : List ℕ)
     → Counts old mid → IsSteady h old → Agrees places h it t
     → ((x : Contents) → old.contents ≡ Some x → Mirrors places (chart_of x) it t

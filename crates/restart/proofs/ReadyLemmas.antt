@@ -3,7 +3,7 @@ use Rattle.std.proofs.Common.{◌≡◌, inl, inr, ℕ, ◌<◌, Bool, true, fal
 use Rattle.std.proofs.lemmas.List.Elements.{Contains-get_or}
 use Rattle.ipl_format.specs.Page.{value_in}
 use Rattle.ipl_meaning.specs.Chart.{Chart}
-use Rattle.ipl_meaning.specs.Layout.{Shape, Layout, records_of}
+use Rattle.ipl_meaning.specs.Layout.{Shape, Layout, ReadsWell, records_of}
 use Rattle.ipl_meaning.specs.Mirrors.{Mirrors}
 use Rattle.ipl_meaning.specs.Stands.{Shows, page_in}
 use Rattle.ipl_meaning.specs.Tables.{Tables}
@@ -28,12 +28,14 @@ shows_for c committed other u page shape now same was = record {
 pub layouts_say : LayoutsSay
 layouts_say places c it m laid stands =
     let one = laid_once places c stands.layout it stands.laid laid in record {
-      pages = λ u page low few. subst
-          (λ (shape : Shape). Shows c it.committed u shape page (page_in m u page))
+      pages = λ u page low few reads. subst
+          (λ (shape : Shape). Shows c it.committed u shape page (page_in m.map u page))
           (one.units u (omega (arith, low, one.count)))
           (shows_for c stands.layout.committed it.committed u page (stands.layout.units u)
-          (page_in m u page) one.committed
-          (stands.says.pages u page (omega (arith, low, one.count)) few));
+          (page_in m.map u page) one.committed
+          (stands.says.pages u page (omega (arith, low, one.count)) few reads));
+      rotten = λ u page base low few is reads. stands.says.rotten u page base (omega (arith, low, one.count)) few is
+          (subst (λ (shape : Shape). ReadsWell c u shape page base) (sym (one.units u (omega (arith, low, one.count)))) reads);
       nowhere_else = λ n high. stands.says.nowhere_else n (omega (arith, high, one.count));
     }
 

@@ -8,7 +8,7 @@ use Rattle.ipl_base.specs.declared.fault.ChipFault.{ChipFault}
 use Rattle.ipl_base.specs.declared.fault.ChipFault.TheVariants.{ReadFault, Stopped, Damaged, Malformed, WornOut}
 use Rattle.ipl_base.specs.declared.fault.ImageFault.{ImageFault}
 use Rattle.ipl_base.specs.declared.fault.ImageFault.TheVariants.{Geometry, NotFormatted, Missing, Chip, Spent, NoSpare}
-use Rattle.ipl_model.specs.State.{Map}
+use Rattle.ipl_meaning.specs.Legible.{Legible}
 use Rattle.ipl_meaning.specs.Agrees.{Agrees}
 use Rattle.ipl_meaning.specs.Chart.{Chart, chart_of}
 use Rattle.ipl_meaning.specs.Layout.{Laid}
@@ -231,7 +231,7 @@ module _ (marks : Bool) (places : ℕ) (t : Tables) (old mid settled : Told) (re
     (takes : TakesMarks marks places old t)
     (opens : (x : Contents) → old.contents ≡ Some x → AreOpened places (chart_of x) t
     × Mirrors places (chart_of x) (layout_in (chart_of x) places) t) where
-  module _ (m : Map) (h : History) (steady : IsSteady h old) (rests : StoryRests places m h) where
+  module _ (m : Legible) (h : History) (steady : IsSteady h old) (rests : StoryRests places m h) where
     both : AreOpened places (now h) t × Mirrors places (now h) (layout_in (now h) places) t
     both = opens (held h.start h.story) steady.holds
 

@@ -1,5 +1,5 @@
 -- All units passed, and a new status place with the numbers that are kept.
-use Rattle.std.proofs.Common.{◌≡◌, ◌≤◌, ◌∙◌, ℕ, Bool, IsTrue, List, length, Result, Ok, Err, OnOk, IfErr, MatchResult, inl, inr, refl, sym, ap, subst, arith}
+use Rattle.std.proofs.Common.{◌≡◌, ◌≤◌, ◌∙◌, ℕ, Bool, IsTrue, List, length, Result, Ok, Err, OnOk, IfErr, MatchResult, inl, inr, refl, sym, ap, subst}
 use Rattle.chip_trait.specs.Told.{Told}
 use Rattle.ipl_base.specs.declared.fault.ChipFault.{ChipFault}
 use Rattle.ipl_format.specs.Header.{erases_said}
@@ -9,6 +9,7 @@ use Rattle.ipl_meaning.specs.Steps.{with_status}
 use Rattle.ipl_meaning.specs.Tables.{Places, StatusTable, Tables}
 use Rattle.number_set.specs.Numbers.{among}
 use Rattle.ipl_meaning.proofs.PayloadLemmas.{spelled_status_passes}
+use Rattle.ipl_meaning.proofs.StandsLemmas.{pages_then}
 use Rattle.place_taking.specs.Homes.{KeepsHomes}
 use Rattle.place_taking.specs.Takes.{IsAsideFrom}
 use Rattle.place_taking.proofs.HomeLemmas.{homes_same}
@@ -51,9 +52,7 @@ module _ (places : ℕ) (c : Chart) (it : Layout) (t : Tables) (kept : List ℕ)
           record {
             now = with_status was.now status.place switched.head (among kept);
             mirrors = switched.mirrors;
-            pages = λ u page values low few shows. switched.pages may_renew.keeps u page values
-                (omega (arith, low, was.passed.count)) few
-                (was.pages u page values low few shows);
+            pages = pages_then places c (chart_of was.contents) (chart_of y) it was.now _ was.passed.count was.pages (switched.pages may_renew.keeps);
             passed = record {
               count = was.passed.count;
               same = λ u low either. was.passed.same u low either;
@@ -93,9 +92,7 @@ module _ (places : ℕ) (c : Chart) (it : Layout) (t : Tables) (kept : List ℕ)
             units = it.count;
             now = was.now;
             mirrors = (stays was.now was.mirrors).0;
-            pages = λ u page values low few shows. (stays was.now was.mirrors).1 u page values
-                (omega (arith, low, was.passed.count)) few
-                (was.pages u page values low few shows);
+            pages = pages_then places c (chart_of was.contents) (chart_of y) it was.now was.now was.passed.count was.pages (stays was.now was.mirrors).1;
             passed = was.passed;
             committed = was.committed;
           },

@@ -8,7 +8,7 @@ use Rattle.chip_trait.specs.Image.{is_worn}
 use Rattle.chip_trait.specs.Story.{Story, held}
 use Rattle.chip_trait.specs.Told.{History, Told, adds}
 use Rattle.ipl_base.specs.declared.fault.ChipFault.{ChipFault}
-use Rattle.ipl_model.specs.State.{Map}
+use Rattle.ipl_meaning.specs.Legible.{Legible}
 use Rattle.ipl_meaning.specs.Agrees.{IsTidy}
 use Rattle.ipl_meaning.specs.Chart.{Chart}
 use Rattle.ipl_meaning.specs.Rests.{EachStands, StoryRests}
@@ -149,7 +149,7 @@ none_marked it u low = elim (cases_lt u (length it.written)) [
 -- ---- what is sure behind a barrier
 
 -- a marked sector is untouched then: it is blank, and its place is a unit's, so that it isn't worn
-pub tidy_behind : (places : ℕ) (m : Map) (h : History) (t : Tables) → StoryRests places m h
+pub tidy_behind : (places : ℕ) (m : Legible) (h : History) (t : Tables) → StoryRests places m h
     → CountsMarked places (held h.start h.story) t → IsTidy (adds Barrier h) t
 tidy_behind places m h t rests marked p s counted =
     let is = marked p s counted in (
@@ -216,7 +216,7 @@ wait_costs it result old new =
 
 -- ---- over a story that rests on a map
 
-module _ (places : ℕ) (m : Map) (h : History) (t : Tables) (old new : Told)
+module _ (places : ℕ) (m : Legible) (h : History) (t : Tables) (old new : Told)
     (steady : IsSteady h old) (rests : StoryRests places m h)
     (marked : CountsMarked places (held h.start h.story) t) where
   abbrev Tidy : Bool → Story → Type 0

@@ -7,7 +7,7 @@ use Rattle.chip_trait.specs.Told.{History, Told}
 use Rattle.ipl_base.specs.declared.limits.TheConstants.{SECTORS, FIRST_LOG_SECTOR}
 use Rattle.ipl_base.specs.declared.fault.ChipFault.{ChipFault}
 use Rattle.ipl_format.specs.Sector.{Sector, sector_in}
-use Rattle.ipl_model.specs.State.{Map}
+use Rattle.ipl_meaning.specs.Legible.{Legible}
 use Rattle.ipl_meaning.specs.Agrees.{Agrees}
 use Rattle.ipl_meaning.specs.Chart.{chart_of}
 use Rattle.ipl_meaning.specs.Layout.{Layout, Laid}
@@ -37,7 +37,7 @@ MarksUnits places t x = (it : Layout) → Laid places (chart_of x) it → (u : �
     → MarksUnit places t x u (it.units u).home
 
 -- the story rests on the map, and exactly that is marked
-pub record RestsMarked (places : ℕ) (m : Map) (t : Tables) (k : History) : Type 0 where
+pub record RestsMarked (places : ℕ) (m : Legible) (t : Tables) (k : History) : Type 0 where
   pub rests : StoryRests places m k
   pub marks : MarksWhatCounts places t (held k.start k.story)
   pub units : MarksUnits places t (held k.start k.story)
@@ -48,7 +48,7 @@ CountsUnused t h = AreUnused (IsCountedClean t) h.story
 
 -- At each moment a power cut leaves the map; and marks are kept, where what the tables count as clean is unused. Done, the story
 -- rests on the map, and exactly that is marked. It fails only where a write failed.
-abbrev pub Closes : ℕ → Map → Tables → Tables → Result (Unit {0}) ChipFault → History → Told → Told → Type 0
+abbrev pub Closes : ℕ → Legible → Tables → Tables → Result (Unit {0}) ChipFault → History → Told → Told → Type 0
 Closes places m t after result h old new =
     OutcomeWhere (CountsUnused t h) (EachStands places m)
     (TidyWork (IsCountedClean t) (IsCountedClean after) (Settled result old new)) (Settled result old new)
@@ -56,12 +56,12 @@ Closes places m t after result h old new =
 
 -- over a story that rests on a map and with which the tables agree
 abbrev pub ClosesInSteps : ℕ → Tables → Tables → Told → Result (Unit {0}) ChipFault → Told → Type 0
-ClosesInSteps places t after old result new = (m : Map) (it : Layout) (h : History)
+ClosesInSteps places t after old result new = (m : Legible) (it : Layout) (h : History)
     → IsSteady h old → StoryRests places m h → Agrees places h it t → Closes places m t after result h old new
 
 -- and in which nothing is open
 abbrev pub ClosesClosed : ℕ → Tables → Tables → Told → Result (Unit {0}) ChipFault → Told → Type 0
-ClosesClosed places t after old result new = (m : Map) (it : Layout) (h : History)
+ClosesClosed places t after old result new = (m : Legible) (it : Layout) (h : History)
     → IsSteady h old → StoryRests places m h → IsClosed h.story → Agrees places h it t → Closes places m t after result h old new
 
 -- the last two events are the program of a mark and a barrier

@@ -6,7 +6,7 @@ use Rattle.chip_trait.specs.Told.{History, Told, Rose}
 use Rattle.ipl_base.specs.declared.fault.ChipFault.{ChipFault}
 use Rattle.ipl_base.specs.Calls.{IsFailedCall}
 use Rattle.ipl_base.specs.declared.fault.ChipFault.TheVariants.{ReadFault, Stopped, Damaged, Malformed, WornOut}
-use Rattle.ipl_model.specs.State.{Map}
+use Rattle.ipl_meaning.specs.Legible.{Legible}
 use Rattle.ipl_meaning.specs.Agrees.{Agrees}
 use Rattle.ipl_meaning.specs.Chart.{Chart, chart_of}
 use Rattle.ipl_meaning.specs.Layout.{Entry, Shape, Layout, HasNoMark, records_of}
@@ -159,7 +159,7 @@ RenewsTold places t after old result new =
 -- over a story that rests on a map and with which the tables agree: it keeps the map, however it
 -- ends
 abbrev pub KeepsInSteps : ℕ → Tables → Tables → Told → Result (Unit {0}) ChipFault → Told → Type 0
-KeepsInSteps places t after old result new = (m : Map) (it : Layout) (h : History)
+KeepsInSteps places t after old result new = (m : Legible) (it : Layout) (h : History)
     → IsSteady h old → StoryRests places m h → Agrees places h it t
     → Preserves places m t after h result old new
 

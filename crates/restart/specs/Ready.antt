@@ -1,7 +1,7 @@
 -- What a switch to kept numbers asks for.
 use Rattle.std.specs.Prelude.{ℕ, List}
 use Rattle.chip_trait.specs.Told.{History}
-use Rattle.ipl_model.specs.State.{Map}
+use Rattle.ipl_meaning.specs.Legible.{Legible}
 use Rattle.ipl_meaning.specs.Chart.{Chart}
 use Rattle.ipl_meaning.specs.Layout.{Layout, Laid}
 use Rattle.ipl_meaning.specs.Mirrors.{Mirrors}
@@ -13,12 +13,12 @@ use Rattle.restart.specs.Keeps.{KeepsBelow}
 
 -- a chart that stands for a map says it in the way it is laid out
 abbrev pub LayoutsSay : Type 0
-LayoutsSay = (places : ℕ) (c : Chart) (it : Layout) (m : Map)
+LayoutsSay = (places : ℕ) (c : Chart) (it : Layout) (m : Legible)
     → Laid places c it → Stands places c m → Says places c it m
 
 -- so does the chart of a story that rests on it
 abbrev pub RestingLayoutsSay : Type 0
-RestingLayoutsSay = (places : ℕ) (h : History) (it : Layout) (m : Map)
+RestingLayoutsSay = (places : ℕ) (h : History) (it : Layout) (m : Legible)
     → StoryRests places m h → Laid places (now h) it → Says places (now h) it m
 
 -- numbers that are kept were drawn, and none is of an open session

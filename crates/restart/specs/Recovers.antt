@@ -9,6 +9,7 @@ use Rattle.ipl_base.specs.declared.fault.ChipFault.TheVariants.{ReadFault, Stopp
 use Rattle.ipl_base.specs.declared.fault.ImageFault.{ImageFault}
 use Rattle.ipl_base.specs.declared.fault.ImageFault.TheVariants.{Geometry, NotFormatted, Missing, Chip, Spent, NoSpare}
 use Rattle.ipl_model.specs.State.{Map}
+use Rattle.ipl_meaning.specs.Legible.{Legible, whole}
 use Rattle.ipl_meaning.specs.Agrees.{IsTidy}
 use Rattle.ipl_meaning.specs.Chart.{Chart, chart_of}
 use Rattle.ipl_meaning.specs.Layout.{Layout, Laid, HasNoMark}
@@ -96,7 +97,7 @@ LooksAtFaults places old result new = OfContents old (λ x. (e : ImageFault)
 abbrev pub CompletesOpening : ℕ → Result (Unit {0}) ImageFault → Told → Type 0
 CompletesOpening places result told = OfContents told (λ x. (m : Map)
     → first_fault (chart_of x) places ≡ None
-    → Says places (chart_of x) (layout_in (chart_of x) places) m
+    → Says places (chart_of x) (layout_in (chart_of x) places) (whole m)
     → IfErr result FailsByCallAlone)
 
 -- ---- how often it reads
@@ -175,7 +176,7 @@ pub record TidiesOpening (marks : Bool) (places : ℕ) (old : Told)
 -- ---- what a power cut leaves
 
 -- the story rests on the map, and what the tables count as clean is blank and untouched
-pub record RestsTidily (places : ℕ) (m : Map) (after : Tables) (k : History) : Type 0 where
+pub record RestsTidily (places : ℕ) (m : Legible) (after : Tables) (k : History) : Type 0 where
   pub rests : StoryRests places m k
   pub tidy : IsTidy k after
 
@@ -184,7 +185,7 @@ pub record RestsTidily (places : ℕ) (m : Map) (after : Tables) (k : History) :
 -- counted so by marks at first; and done, what the tables count as clean is clean after such events,
 -- and in any case blank and untouched.
 abbrev pub RecoversInSteps : Bool → ℕ → Told → Result (Unit {0}) ImageFault → Tables → Told → Type 0
-RecoversInSteps marks places old result after new = (m : Map) (h : History)
+RecoversInSteps marks places old result after new = (m : Legible) (h : History)
     → IsSteady h old → StoryRests places m h
     → (first : Tables) × TakesMarks marks places old first
     × Outcome (EachStands places m)

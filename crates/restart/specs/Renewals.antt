@@ -2,7 +2,7 @@
 use Rattle.std.specs.Prelude.{ℕ, ◌≡◌, ◌⊎◌, ◌↔◌, ◌<◌, IsTrue, List, All, Result}
 use Rattle.chip_trait.specs.Told.{History, Told}
 use Rattle.ipl_base.specs.declared.fault.ChipFault.{ChipFault}
-use Rattle.ipl_model.specs.State.{Map}
+use Rattle.ipl_meaning.specs.Legible.{Legible}
 use Rattle.ipl_meaning.specs.Agrees.{IsTidy, Agrees}
 use Rattle.ipl_meaning.specs.Chart.{Chart}
 use Rattle.ipl_meaning.specs.Last.{carried}
@@ -19,14 +19,14 @@ use Rattle.restart.specs.Passes.{ArePassed, HasStopped, HasRenewed, RenewsTold, 
 -- ---- a story that rests on a map
 
 -- it rests on the map, the status was renewed, and the tables agree
-pub record RestsRenewed (places : ℕ) (m : Map) (c : Chart) (it : Layout) (t after : Tables)
+pub record RestsRenewed (places : ℕ) (m : Legible) (c : Chart) (it : Layout) (t after : Tables)
     (k : History) : Type 0 where
   pub rests : StoryRests places m k
   pub renewed : HasRenewed places c it t after (now k)
   pub tidy : IsTidy k after
 
 -- it rests on the map, some units were merged, and the tables agree
-pub record RestsStopped (places : ℕ) (m : Map) (c : Chart) (it : Layout) (t after : Tables)
+pub record RestsStopped (places : ℕ) (m : Legible) (c : Chart) (it : Layout) (t after : Tables)
     (k : History) : Type 0 where
   pub rests : StoryRests places m k
   pub stopped : HasStopped places c it t after (now k)
@@ -53,7 +53,7 @@ ExactNumbersKeep = (it new : Layout)
 -- over a story that rests on a map, a renewal says of the story what it says of the contents
 abbrev pub RenewalsRest : Type 0
 RenewalsRest =
-    (places : ℕ) (m : Map) (it : Layout) (h : History) (t after : Tables) (old new : Told)
+    (places : ℕ) (m : Legible) (it : Layout) (h : History) (t after : Tables) (old new : Told)
     (result : Result (Unit {0}) ChipFault)
     → IsSteady h old → StoryRests places m h → Agrees places h it t
     → RenewsTold places t after old result new → KeepsInSteps places t after old result new

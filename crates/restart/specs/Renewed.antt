@@ -3,7 +3,7 @@ use Rattle.std.specs.Prelude.{ℕ, ◌≡◌, ◌⊎◌, ◌<◌, ◌≤◌, ◌
 use Rattle.chip_trait.specs.Told.{History, Told}
 use Rattle.ipl_base.specs.declared.fault.ChipFault.{ChipFault}
 use Rattle.ipl_base.specs.declared.fault.ChipFault.TheVariants.{Stopped}
-use Rattle.ipl_model.specs.State.{Map}
+use Rattle.ipl_meaning.specs.Legible.{Legible}
 use Rattle.ipl_meaning.specs.Agrees.{Agrees}
 use Rattle.ipl_meaning.specs.Chart.{Chart}
 use Rattle.ipl_meaning.specs.Layout.{Layout}
@@ -114,7 +114,7 @@ Renews places directory status next kept after new drawn c y = (it : Layout) (t 
 abbrev pub RenewsInSteps : ℕ → Places → StatusTable → ℕ → List ℕ → Places → StatusTable → ℕ
     → Result (Unit {0}) ChipFault → Told → Told → Type 0
 RenewsInSteps places directory status next kept after new drawn result old told =
-    (m : Map) (it : Layout) (t : Tables) (h : History)
+    (m : Legible) (it : Layout) (t : Tables) (h : History)
     → IsSteady h old → HasTables t directory status next
     → StoryRests places m h → Agrees places h it t → MayRenew it t kept
     → Steps (EachStands places m) t (with_tables t after new drawn)

@@ -18,6 +18,7 @@ use Rattle.ipl_format.specs.Sector.{sector_in}
 use Rattle.ipl_model.specs.declared.command.Command.TheVariants as command
 use Rattle.ipl_model.specs.declared.reply.Reply.TheVariants as reply
 use Rattle.ipl_model.specs.Step.{Stepped, step}
+use Rattle.ipl_meaning.specs.Legible.{every, whole}
 use Rattle.ipl_meaning.specs.Chart.{chart_of}
 use Rattle.ipl_meaning.specs.Stands.{StandsIn}
 use Rattle.ipl_meaning.specs.Tables.{IsCountedClean}
@@ -52,13 +53,13 @@ abort_keeps limits state s = by_refusal (refuses_end limits state s)
 
 module _ (a : ScriptStore) (told : Told) where
   abbrev nothing_left : (limits : Limits) (state : State) (h : History) → KeepsScript told.places limits a told h state
-      → WorkLeaves (script_keeping told.places) (λ x. StandsIn told.places limits.units (chart_of x) state.map) a h a
+      → WorkLeaves (script_keeping told.places) (λ x. StandsIn told.places limits.units (chart_of x) (whole state.map)) a h a
       told told true
   nothing_left limits state h keeps = record {
     added = [];
     history = same_history told.history;
-    each_moment = at_start (Leaves (says sector_in) (λ x. StandsIn told.places limits.units (chart_of x) state.map) h)
-        (keeps_each told.places limits (view_of a.store) told h state keeps.kept);
+    each_moment = at_start (Leaves (says sector_in) (λ x. StandsIn told.places limits.units (chart_of x) (whole state.map)) h)
+        (keeps_each told.places every limits (view_of a.store) told h state keeps.kept);
     silent = refl;
     only = tt;
     lawful = lawful_none (IsCountedClean (view_of a.store).memory.tables);
@@ -93,11 +94,11 @@ module _ (a m b : ScriptStore) (told : Told) (s : ℕ) (so_far : Aborts a told m
       let last = (step limits first.now (command.Abort s)).0 in
       let same : last.map ≡ state.map = abort_keeps limits first.now s ∙ first.records in record {
         leaves = leaves_then (script_keeping told.places)
-            (λ x. StandsIn told.places limits.units (chart_of x) state.map) a m b h told told told true first.leaves
+            (λ x. StandsIn told.places limits.units (chart_of x) (whole state.map)) a m b h told told told true first.leaves
             (leaves_weaker (script_keeping told.places)
-            (λ x. StandsIn told.places limits.units (chart_of x) first.now.map
-            ⊎ StandsIn told.places limits.units (chart_of x) last.map)
-            (λ x. StandsIn told.places limits.units (chart_of x) state.map) m b (adds_all first.leaves.added h)
+            (λ x. StandsIn told.places limits.units (chart_of x) (whole first.now.map)
+            ⊎ StandsIn told.places limits.units (chart_of x) (whole last.map))
+            (λ x. StandsIn told.places limits.units (chart_of x) (whole state.map)) m b (adds_all first.leaves.added h)
             told told true (λ x. either limits state first.now.map last.map first.records same x) did.leaves);
         now = last;
         records = same;
@@ -106,10 +107,10 @@ module _ (a m b : ScriptStore) (told : Told) (s : ℕ) (so_far : Aborts a told m
       }
     where
       either : (limits : Limits) (state : State) (m n : Map) → m ≡ state.map → n ≡ state.map → (x : Contents)
-          → StandsIn told.places limits.units (chart_of x) m ⊎ StandsIn told.places limits.units (chart_of x) n
-          → StandsIn told.places limits.units (chart_of x) state.map
-      either limits state m n one other x (inl is) = subst (StandsIn told.places limits.units (chart_of x)) one is
-      either limits state m n one other x (inr is) = subst (StandsIn told.places limits.units (chart_of x)) other is
+          → StandsIn told.places limits.units (chart_of x) (whole m) ⊎ StandsIn told.places limits.units (chart_of x) (whole n)
+          → StandsIn told.places limits.units (chart_of x) (whole state.map)
+      either limits state m n one other x (inl is) = subst (λ (r : Map). StandsIn told.places limits.units (chart_of x) (whole r)) one is
+      either limits state m n one other x (inr is) = subst (λ (r : Map). StandsIn told.places limits.units (chart_of x) (whole r)) other is
 
   done_more : DoesCommand (command.Abort s) m told (Ok reply.Ok) b told → counter_of b.store ≤ counter_of m.store
       → Aborts a told b

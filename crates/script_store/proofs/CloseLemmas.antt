@@ -14,6 +14,7 @@ use Rattle.ipl_base.specs.declared.fault.StoreFault.TheVariants as store
 use Rattle.ipl_model.specs.State.{State, Limits}
 use Rattle.ipl_model.specs.declared.command.Command.TheVariants as command
 use Rattle.ipl_model.specs.declared.reply.Reply.TheVariants as reply
+use Rattle.ipl_meaning.specs.Legible.{whole}
 use Rattle.ipl_meaning.specs.Chart.{chart_of}
 use Rattle.ipl_meaning.specs.Stands.{StandsIn}
 use Rattle.ipl_meaning.specs.Tables.{Places}
@@ -134,7 +135,7 @@ module _ (m : ScriptStore) (between : Store) (before told : Told) (runs : IsRunn
         let ready = ready_works v served limits state h keeps in
         let k = adds_all ready.leaves.added h in
         let more = marked_leaves limits state k ready.ends.0 in
-        let P : Contents → Type 0 = λ x. StandsIn before.places limits.units (chart_of x) state.map in
+        let P : Contents → Type 0 = λ x. StandsIn before.places limits.units (chart_of x) (whole state.map) in
         by_written written accounts.cause (adds_all more.leaves.added k)
         (leaves_then (script_keeping before.places) P m (over between) (shut c) h before told after (is_ok written)
         (leaves_weaker (script_keeping before.places) (λ x. P x ⊎ P x) P m (over between) h before told true
@@ -144,15 +145,15 @@ module _ (m : ScriptStore) (between : Store) (before told : Told) (runs : IsRunn
         (λ settled. record { kept = more.keeps settled; few = omega (arith, keeps.few, same, units) })
       where
         either : (state : State) (limits : Limits) (x : Contents)
-            → StandsIn before.places limits.units (chart_of x) state.map
-            ⊎ StandsIn before.places limits.units (chart_of x) state.map
-            → StandsIn before.places limits.units (chart_of x) state.map
+            → StandsIn before.places limits.units (chart_of x) (whole state.map)
+            ⊎ StandsIn before.places limits.units (chart_of x) (whole state.map)
+            → StandsIn before.places limits.units (chart_of x) (whole state.map)
         either state limits x (inl is) = is
         either state limits x (inr is) = is
 
         by_written : (w : Result (Unit {0}) ChipFault) → IfErr w (λ e. IsStopped e told after) → (k : History)
             → (leaves : WorkLeaves (script_keeping before.places)
-            (λ x. StandsIn before.places limits.units (chart_of x) state.map) m h (shut c) before after (is_ok w))
+            (λ x. StandsIn before.places limits.units (chart_of x) (whole state.map)) m h (shut c) before after (is_ok w))
             → k ≡ adds_all leaves.added h
             → (Settled w told after → KeepsScript before.places limits (shut c) after k state)
             → KeepsBehind (script_keeping before.places) limits state m h (marked w) (shut c) before after

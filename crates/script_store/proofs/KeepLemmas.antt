@@ -1,4 +1,5 @@
 -- How the store of a script keeps a state, from how the store of records does.
+use Rattle.ipl_meaning.specs.Legible.{every}
 use Rattle.std.proofs.Common.{ℕ, ◌≡◌, ◌≤◌, ◌<◌, ◌+◌, ◌^◌, max, arith, Bool, true, false, ◌∷◌, [], Option, List, Result, MatchResult, Ok, Err, is_ok, if◌then◌else◌, sym, ap, subst}
 use Rattle.std.specs.FinMap.{get}
 use Rattle.std.proofs.lemmas.Bool.{true≢false, false≢true}
@@ -94,7 +95,7 @@ tidy_so places a b old new result answer same did = tidy_answered StoreFault pla
 module _ (places : ℕ) (a b : ScriptStore) (old new : Told) (up : a.store.down ≡ false)
     (units : b.store.units ≡ a.store.units) where
   abbrev pub leaves_so : (P : Contents → Type 0) (h : History) (done : Bool)
-      → WorkLeaves (store_keeping places) P (view_of a.store) h (view_of b.store) old new done
+      → WorkLeaves (store_keeping places every) P (view_of a.store) h (view_of b.store) old new done
       → WorkLeaves (script_keeping places) P a h b old new done
   leaves_so P h done leaves = record {
     added = leaves.added;
@@ -118,7 +119,7 @@ module _ (places : ℕ) (a b : ScriptStore) (old new : Told) (up : a.store.down 
   few_so n few = subst (λ (k : ℕ). k + n < 2 ^ 63) (counted_up a up) few
 
   pub works_so : (c : Command) (result : Result Reply Fault)
-      → Works (store_keeping places) c (view_of a.store) old result (view_of b.store) new
+      → Works (store_keeping places every) c (view_of a.store) old result (view_of b.store) new
       → Works (script_keeping places) c a old result b new
   works_so c result works limits state h keeps =
       let did = works limits state h keeps.kept in record {
@@ -126,16 +127,16 @@ module _ (places : ℕ) (a b : ScriptStore) (old new : Told) (up : a.store.down 
         ends = by_end result (adds_all did.leaves.added h) did.ends;
         drawn = drawn_so WORK_DRAWS did.drawn;
         excuse = IfErr-weaker result
-            (Excuses (store_keeping places) WORK_DRAWS (view_of a.store) old new)
+            (Excuses (store_keeping places every) WORK_DRAWS (view_of a.store) old new)
             (Excuses (script_keeping places) WORK_DRAWS a old new)
             (λ fault excuse few. excuse (few_so WORK_DRAWS few)) did.excuse;
         tells = did.tells;
       }
     where
       by_end : (r : Result Reply Fault) (k : History) → MatchResult r
-          (λ reply. KeepsStore places limits (view_of b.store) new k (step limits state c).0
+          (λ reply. KeepsStore places every limits (view_of b.store) new k (step limits state c).0
           × ((step limits state c).1 ≡ reply ∷ []))
-          (λ fault. Stays (store_keeping places) limits (view_of b.store) old new k state)
+          (λ fault. Stays (store_keeping places every) limits (view_of b.store) old new k state)
           → MatchResult r
           (λ reply. KeepsScript places limits b new k (step limits state c).0
           × ((step limits state c).1 ≡ reply ∷ []))
@@ -145,7 +146,7 @@ module _ (places : ℕ) (a b : ScriptStore) (old new : Told) (up : a.store.down 
           λ unrisen. record { kept = stays unrisen; few = few_still keeps.few }
 
   pub looks_up_so : (n : ℕ) (result : Result (Option (List ℕ)) Fault)
-      → LooksUp (store_keeping places) n (view_of a.store) old result (view_of b.store) new
+      → LooksUp (store_keeping places every) n (view_of a.store) old result (view_of b.store) new
       → LooksUp (script_keeping places) n a old result b new
   looks_up_so n result looks limits state h keeps low =
       let did = looks limits state h keeps.kept low in record {
@@ -153,16 +154,16 @@ module _ (places : ℕ) (a b : ScriptStore) (old new : Told) (up : a.store.down 
         ends = by_end result (adds_all did.leaves.added h) did.ends;
         drawn = drawn_so LOOK_UP_DRAWS did.drawn;
         excuse = IfErr-weaker result
-            (Excuses (store_keeping places) LOOK_UP_DRAWS (view_of a.store) old new)
+            (Excuses (store_keeping places every) LOOK_UP_DRAWS (view_of a.store) old new)
             (Excuses (script_keeping places) LOOK_UP_DRAWS a old new)
             (λ fault excuse few. excuse (few_so LOOK_UP_DRAWS few)) did.excuse;
         tells = did.tells;
       }
     where
       by_end : (r : Result (Option (List ℕ)) Fault) (k : History) → MatchResult r
-          (λ found. KeepsStore places limits (view_of b.store) new k state
+          (λ found. KeepsStore places every limits (view_of b.store) new k state
           × (found ≡ get state.map n))
-          (λ fault. Stays (store_keeping places) limits (view_of b.store) old new k state)
+          (λ fault. Stays (store_keeping places every) limits (view_of b.store) old new k state)
           → MatchResult r
           (λ found. KeepsScript places limits b new k state × (found ≡ get state.map n))
           (λ fault. Stays (script_keeping places) limits b old new k state)

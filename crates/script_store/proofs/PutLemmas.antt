@@ -14,6 +14,8 @@ use Rattle.unit_io.specs.Steps.{Tidies}
 use Rattle.store_trait.specs.declared.fault.Fault.{Fault}
 use Rattle.store_trait.specs.declared.fault.Fault.TheVariants.{Spent}
 use Rattle.store_trait.specs.Keeping.{WORK_DRAWS, Works, Learns, StillRecalls}
+use Rattle.ipl_meaning.proofs.RotLemmas.{every_is_told_apart}
+use Rattle.ipl_meaning.specs.Legible.{every}
 use Rattle.store_laws.specs.Keeps.{limits_of, store_keeping}
 use Rattle.store_laws.specs.Refusals.{sessions_refuse_put}
 use Rattle.store_laws.proofs.PutLemmas.{full_puts_are_work, written_puts_are_work, failed_puts_leave_the_map}
@@ -75,15 +77,15 @@ module _ (s n : ℕ) (bytes : List ℕ) (a b : ScriptStore) (before after : Told
     -- its page was brought, and found full, or written
     put_work : (room : Bool) → By (Ok room)
         → counter_of b.store ≤ counter_of a.store + WORK_DRAWS
-        → Works (store_keeping before.places) c (view_of a.store) before (Ok (put_reply room))
+        → Works (store_keeping before.places every) c (view_of a.store) before (Ok (put_reply room))
         (view_of b.store) after
-    put_work true did few = written_puts_are_work s n bytes (view_of a.store) (view_of b.store)
-        did.tables did.frames did.frame before did.mid after units runs.up
+    put_work true did few = written_puts_are_work every s n bytes (view_of a.store) (view_of b.store)
+        did.tables did.frames did.frame before did.mid after every_is_told_apart units runs.up
         did.brings.counts did.brings.keeps did.brings.there free did.room did.leads
-        (λ h state keeps. few)
-    put_work false did few = full_puts_are_work s n bytes (view_of a.store) (view_of b.store)
-        did.frame before after units runs.up did.sessions did.brings.keeps
-        did.brings.there free did.full (λ h state keeps. few)
+        (λ pages h state keeps. few)
+    put_work false did few = full_puts_are_work every s n bytes (view_of a.store) (view_of b.store)
+        did.frame before after every_is_told_apart units runs.up did.sessions did.brings.keeps
+        did.brings.there free did.full (λ pages h state keeps. few)
 
     put_served : (found : Result Bool StoreFault) → Served found → By found
         → IsSound before.places b.store

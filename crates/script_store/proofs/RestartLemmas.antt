@@ -13,6 +13,8 @@ use Rattle.ipl_model.specs.State.{Map, State}
 use Rattle.ipl_model.specs.declared.command.Command.TheVariants as command
 use Rattle.ipl_model.specs.declared.reply.Reply.{Reply}
 use Rattle.ipl_model.specs.declared.reply.Reply.TheVariants as reply
+use Rattle.ipl_meaning.specs.Legible.{every, whole}
+use Rattle.ipl_meaning.specs.Legible.{whole}
 use Rattle.ipl_meaning.specs.Chart.{Chart, chart_of}
 use Rattle.ipl_meaning.specs.Found.{IsAbove}
 use Rattle.ipl_meaning.specs.Layout.{Layout, Laid}
@@ -90,7 +92,7 @@ module _ (a b : ScriptStore) (old new : Told) (up : a.store.down ≡ false)
   }
 
   pub works_down : (fault : Fault)
-      → Works (store_keeping old.places) command.Restart (view_of a.store) old (Err fault) left new
+      → Works (store_keeping old.places every) command.Restart (view_of a.store) old (Err fault) left new
       → Works (script_keeping old.places) command.Restart a old (Err fault) b new
   works_down fault works limits state h keeps =
       let did = works limits state h keeps.kept in record {
@@ -238,7 +240,7 @@ module _ (a b : ScriptStore) (before after : Told) (runs : IsRunning before.plac
 
   -- a chip on which the store kept a state says as many units as it had
   as_many : (state : State) (h : History)
-      → KeepsStore before.places (limits_of first.units) first before h state
+      → KeepsStore before.places every (limits_of first.units) first before h state
       → units_at (chart_of (held h.start h.story)) before.places ≡ a.store.units
   as_many state h keeps =
       let shown = (keeps.up runs.up).shows in
@@ -251,10 +253,10 @@ module _ (a b : ScriptStore) (before after : Told) (runs : IsRunning before.plac
       → DoesCommand command.Restart a before (Ok reply.Ok) b after
   opened_does opens tries leads = record {
     works = λ limits state h keeps.
-        let kept = at_limits before.places limits first before h state keeps.kept in
+        let kept = at_limits before.places every limits first before h state keeps.kept in
         let units = opens.units _ kept.steady.holds ∙ as_many state h kept in
         works_so before.places a b before after runs.up units command.Restart (Ok reply.Ok)
-        (leads_are_work command.Restart (λ state. after_restart state) first last (Ok reply.Ok)
+        (leads_are_work every command.Restart (λ state. after_restart state) first last (Ok reply.Ok)
         before after units runs.up
         (answers_advance (TurnsMapOf (λ state. after_restart state)) (λ state. after_restart state)
         first.memory last.memory (Ok tt) (Ok reply.Ok) before after refl leads)
@@ -285,7 +287,7 @@ module _ (a b : ScriptStore) (before after : Told) (runs : IsRunning before.plac
       found = let left = opens.left in let most = counted_few b in omega (arith, left, most)
 
       few : DrawsFew WORK_DRAWS first before last
-      few h state keeps =
+      few pages h state keeps =
           let x = held h.start h.story in
           let told = keeps.steady.holds in
           let shown = (keeps.up runs.up).shows in
@@ -297,7 +299,7 @@ module _ (a b : ScriptStore) (before after : Told) (runs : IsRunning before.plac
       → Tries false before.places before (Err e) t after → DoesCommand command.Restart a before (Err (Image e)) b after
   failed_does e down units tries = record {
     works = works_down a b before after runs.up units down (Image e)
-        (faults_that_leave_down command.Restart first
+        (faults_that_leave_down every command.Restart first
         (left a b before after runs.up units down) (Image e) before after units
         runs.up refl
         (λ h it state steady story. preserved state.map h steady story.rests)
@@ -325,11 +327,11 @@ module _ (a b : ScriptStore) (before after : Told) (runs : IsRunning before.plac
       none_drawn : next_number b ≡ 0
       none_drawn = ap (λ (is : Bool). if is then 0 else counter_of b.store) down
 
-      preserved : (m : Map) (h : History) → IsSteady h before → StoryRests before.places m h
-          → Preserves {T = Reply} before.places m first.memory.tables
+      preserved : (m : Map) (h : History) → IsSteady h before → StoryRests before.places (whole m) h
+          → Preserves {T = Reply} before.places (whole m) first.memory.tables
           (none_clean (counter_of a.store)) h (Err (Image e)) before after
       preserved m h steady rests =
-          let (took, takes, did) = tries.steps m h steady rests in record {
+          let (took, takes, did) = tries.steps (whole m) h steady rests in record {
             added = did.added;
             places = did.places;
             history = did.history;
@@ -348,7 +350,7 @@ module _ (a b : ScriptStore) (before after : Told) (runs : IsRunning before.plac
             ends = did.ends;
           }
 
-      excused : IsExcused WORK_DRAWS first before after (Image e)
+      excused : IsExcused every WORK_DRAWS first before after (Image e)
       excused h state keeps = (
         λ low. rose_for t.places e before after tries.accounts.cause (fails low),
         image_tells before.places a.store.units t.places e before after tries.all
@@ -362,7 +364,7 @@ module _ (a b : ScriptStore) (before after : Told) (runs : IsRunning before.plac
           told : before.contents ≡ Some x
           told = keeps.steady.holds
 
-          shown : ShowsState before.places first state x
+          shown : ShowsState before.places every first state x
           shown = (keeps.up runs.up).shows
 
           laid : Laid before.places (chart_of x) shown.layout
@@ -385,7 +387,7 @@ module _ (a b : ScriptStore) (before after : Told) (runs : IsRunning before.plac
               let in_it = no_fault_is_laid (chart_of x) before.places bytes none in
               tries.complete x told state.map none
               (layouts_say before.places (chart_of x) (layout_in (chart_of x) before.places)
-              state.map in_it (record { layout = shown.layout; laid = laid; says = shown.says }))
+              (whole state.map) in_it (record { layout = shown.layout; laid = laid; says = shown.says }))
 
   -- a restart
   pub restart_does : (result : Result (Unit {0}) ImageFault)

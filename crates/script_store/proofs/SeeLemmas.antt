@@ -13,6 +13,7 @@ use Rattle.ipl_model.specs.State.{State, Limits, see}
 use Rattle.ipl_model.specs.declared.command.Command.TheVariants as command
 use Rattle.ipl_model.specs.declared.reply.Reply.TheVariants as reply
 use Rattle.ipl_model.specs.Step.{found_reply}
+use Rattle.ipl_meaning.specs.Legible.{every}
 use Rattle.ipl_meaning.specs.Tables.{Places}
 use Rattle.unit_io.specs.Reads.{OfContents}
 use Rattle.unit_io.specs.Steps.{Tidies}
@@ -117,7 +118,7 @@ pub seen_replies : (s n : ℕ) (old : Store) (before : Told)
     (result : Result (Option (List ℕ)) StoreFault)
     → IfOk result (λ found. IsSeen s n old before found)
     → IfOk result (λ found. (state : State) → OfContents before (λ x.
-    ShowsState before.places (view_of old) state x
+    ShowsState before.places every (view_of old) state x
     → found_reply (see state s n) ∷ [] ≡ found_reply found ∷ []))
 seen_replies s n old before (Ok found) seen = λ state x told shown.
     ap (λ (value : Option (List ℕ)). found_reply value ∷ [])
@@ -133,8 +134,8 @@ either_way (inr a) = a
 -- a power cut leaves the records, of which the next ones are the same
 abbrev leaves_same : (places : ℕ) (P : Contents → Type 0) (first last : View) (h : History)
     (old new : Told) (done : Bool)
-    → WorkLeaves (store_keeping places) (λ x. P x ⊎ P x) first h last old new done
-    → WorkLeaves (store_keeping places) P first h last old new done
+    → WorkLeaves (store_keeping places every) (λ x. P x ⊎ P x) first h last old new done
+    → WorkLeaves (store_keeping places every) P first h last old new done
 leaves_same places P first last h old new done leaves = record {
   added = leaves.added;
   history = leaves.history;
@@ -166,7 +167,7 @@ module _ (n : ℕ) (a b : ScriptStore) (before after : Told) (runs : IsRunning b
   spent_finds : LAST_NUMBER < counter_of a.store → Finds n a before (Err Spent) a before
   spent_finds late = record {
     looks_up = looks_up_so before.places a a before before runs.up refl n (Err Spent)
-        (idle_faults_look_up n first before late);
+        (idle_faults_look_up every n first before late);
     tidy = tidy_same (script_keeping before.places) a before before false refl;
     draws = draws_few before.places LOOK_UP_DRAWS _ a a runs.up (omega arith) (λ is. late);
     running = tt;
@@ -214,20 +215,20 @@ module _ (n : ℕ) (a b : ScriptStore) (before after : Told) (runs : IsRunning b
         few : counter_of b.store ≤ counter_of a.store + LOOK_UP_DRAWS
         few = let drawn = did.drawn in omega (arith, drawn)
 
-        works : Works (store_keeping before.places) command.Syntax first before (Ok reply.Syntax)
+        works : Works (store_keeping before.places every) command.Syntax first before (Ok reply.Syntax)
             last after
-        works = leads_are_work command.Syntax (λ state. state) first last (Ok reply.Syntax) before after
+        works = leads_are_work every command.Syntax (λ state. state) first last (Ok reply.Syntax) before after
             units runs.up
             (answers_advance (TurnsMapOf (λ state. state)) (λ state. state) first.memory
             last.memory (Ok found) (Ok reply.Syntax) before after refl did.leads)
             (λ h state keeps. refl)
-            (λ h state keeps. let drawn = did.drawn in omega (arith, drawn)) tt
+            (λ pages h state keeps. let drawn = did.drawn in omega (arith, drawn)) tt
 
-        looks : LooksUp (store_keeping before.places) n first before (Ok found) last after
+        looks : LooksUp (store_keeping before.places every) n first before (Ok found) last after
         looks limits state h keeps low =
             let did_work = works limits state h keeps in
-            let here = is_at first before h state runs.up
-            (at_limits before.places limits first before h state keeps) in record {
+            let here = is_at every first before h state runs.up
+            (at_limits before.places every limits first before h state keeps) in record {
               leaves = leaves_same before.places _ first last h before after true did_work.leaves;
               ends = (
                 did_work.ends.0,
@@ -271,25 +272,25 @@ module _ (n : ℕ) (a b : ScriptStore) (before after : Told) (runs : IsRunning b
         few : counter_of b.store ≤ counter_of a.store + LOOK_UP_DRAWS
         few = let drawn = did.drawn in omega (arith, drawn)
 
-        works : Works (store_keeping before.places) command.Syntax first before (Err (Chip e)) last
+        works : Works (store_keeping before.places every) command.Syntax first before (Err (Chip e)) last
             after
-        works = leads_are_work command.Syntax (λ state. state) first last (Err (Chip e)) before after
+        works = leads_are_work every command.Syntax (λ state. state) first last (Err (Chip e)) before after
             units runs.up
             (answers_advance (TurnsMapOf (λ state. state)) (λ state. state) first.memory
             last.memory (Err (store.Chip e)) (Err (Chip e)) before after refl did.leads)
             (λ h state keeps. refl)
-            (λ h state keeps. let drawn = did.drawn in omega (arith, drawn))
+            (λ pages h state keeps. let drawn = did.drawn in omega (arith, drawn))
             (λ h state keeps. (
               λ low. chip_rose d e before after
                   (did.complete _ keeps.steady.holds state (keeps.up runs.up).shows) cause,
               chip_tells before.places a.store.units d e before after are cause,
             ))
 
-        looks : LooksUp (store_keeping before.places) n first before (Err (Chip e)) last after
+        looks : LooksUp (store_keeping before.places every) n first before (Err (Chip e)) last after
         looks limits state h keeps low =
             let did_work = works limits state h keeps in
-            let here = is_at first before h state runs.up
-            (at_limits before.places limits first before h state keeps) in record {
+            let here = is_at every first before h state runs.up
+            (at_limits before.places every limits first before h state keeps) in record {
               leaves = leaves_same before.places _ first last h before after false did_work.leaves;
               ends = did_work.ends;
               drawn = few;

@@ -7,6 +7,7 @@ use Rattle.chip_trait.specs.Told.{History, Told, adds_all}
 use Rattle.ipl_model.specs.State.{Map, State, Limits}
 use Rattle.ipl_model.specs.declared.command.Command.TheVariants as command
 use Rattle.ipl_model.specs.declared.reply.Reply.{Reply}
+use Rattle.ipl_meaning.specs.Legible.{whole}
 use Rattle.ipl_meaning.specs.Chart.{chart_of}
 use Rattle.ipl_meaning.specs.Rests.{StoryRests}
 use Rattle.ipl_meaning.specs.Stands.{StandsIn}
@@ -33,7 +34,7 @@ shut store = record { store = record store { down = true } }
 pub shut_keeps : (places : ℕ) (limits : Limits) (s : ScriptStore) (t : Told) (h : History) (now state : State)
     → now.map ≡ state.map → KeepsScript places limits s t h now → KeepsScript places limits (shut s.store) t h state
 shut_keeps places limits s t h now state same keeps =
-    let rests = subst (λ (m : Map). (rests : StoryRests places m h) × (rests.each.0 ≡ s.store.units)) same
+    let rests = subst (λ (m : Map). (rests : StoryRests places (whole m) h) × (rests.each.0 ≡ s.store.units)) same
     (keeps.kept.rests, keeps.kept.many) in record {
       kept = record {
         limits_are = keeps.kept.limits_are;
@@ -66,9 +67,9 @@ module _ (m mid : ScriptStore) (before after : Told) (fault : Fault) (up : m.sto
     (does : DoesCommand command.Syntax m before (Err fault) mid after) where
   -- what it would have left is what was
   either : (limits : Limits) (state : State) (x : Contents)
-      → StandsIn before.places limits.units (chart_of x) state.map
-      ⊎ StandsIn before.places limits.units (chart_of x) state.map
-      → StandsIn before.places limits.units (chart_of x) state.map
+      → StandsIn before.places limits.units (chart_of x) (whole state.map)
+      ⊎ StandsIn before.places limits.units (chart_of x) (whole state.map)
+      → StandsIn before.places limits.units (chart_of x) (whole state.map)
   either limits state x (inl is) = is
   either limits state x (inr is) = is
 
@@ -77,7 +78,7 @@ module _ (m mid : ScriptStore) (before after : Told) (fault : Fault) (up : m.sto
       → KeepsBehind (script_keeping before.places) limits state m h (Err fault) (shut mid.store) before after
   failed_keeps limits state h keeps =
       let did = does.works limits state h keeps in
-      let P : Contents → Type 0 = λ x. StandsIn before.places limits.units (chart_of x) state.map in record {
+      let P : Contents → Type 0 = λ x. StandsIn before.places limits.units (chart_of x) (whole state.map) in record {
         leaves = leaves_failed (script_keeping before.places) P m mid (shut mid.store) h before after
             (leaves_weaker (script_keeping before.places) (λ x. P x ⊎ P x) P m mid h before after false
             (either limits state) did.leaves);
@@ -127,12 +128,12 @@ module _ (a m : ScriptStore) (c : Store) (before after : Told) (result : Result 
       let first = aborted.keeps limits state h keeps in
       let k = adds_all first.leaves.added h in
       let more = did.keeps limits first.now k first.keeps in
-      let P : Contents → Type 0 = λ x. StandsIn before.places limits.units (chart_of x) state.map in record {
+      let P : Contents → Type 0 = λ x. StandsIn before.places limits.units (chart_of x) (whole state.map) in record {
         leaves = leaves_then (script_keeping before.places) P a m (shut c) h before before after (is_ok result)
             first.leaves
             (leaves_weaker (script_keeping before.places)
-            (λ x. StandsIn before.places limits.units (chart_of x) first.now.map) P m (shut c) k before after
-            (is_ok result) (λ x. subst (StandsIn before.places limits.units (chart_of x)) first.records) more.leaves);
+            (λ x. StandsIn before.places limits.units (chart_of x) (whole first.now.map)) P m (shut c) k before after
+            (is_ok result) (λ x. subst (λ (r : Map). StandsIn before.places limits.units (chart_of x) (whole r)) first.records) more.leaves);
         ends = by_end result (adds_all more.leaves.added k) (adds_all (more.leaves.added ++ first.leaves.added) h)
             first.now first.records (added_then more.leaves.added first.leaves.added h) more.ends;
         drawn = omega arith;

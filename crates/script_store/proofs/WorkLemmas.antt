@@ -17,6 +17,7 @@ use Rattle.ipl_model.specs.declared.command.Command.TheVariants as command
 use Rattle.ipl_model.specs.declared.reply.Reply.{Reply}
 use Rattle.ipl_model.specs.declared.reply.Reply.TheVariants as reply
 use Rattle.ipl_model.specs.Step.{Stepped, accepted, step}
+use Rattle.ipl_meaning.specs.Legible.{every}
 use Rattle.ipl_meaning.specs.Tables.{Places}
 use Rattle.unit_directory.specs.Free.{spares_of}
 use Rattle.unit_io.specs.Reads.{OfContents}
@@ -174,7 +175,7 @@ module _ (c : Command) (a : ScriptStore) (told : Told) (runs : IsRunning told.pl
   pub spent_does : LAST_NUMBER < counter_of a.store → DoesCommand c a told (Err Spent) a told
   spent_does late = record {
     works = works_so told.places a a told told runs.up refl c (Err Spent)
-        (idle_faults_are_work c (view_of a.store) told late);
+        (idle_faults_are_work every c (view_of a.store) told late);
     tidy = tidy_same (script_keeping told.places) a told told false refl;
     draws = draws_few told.places WORK_DRAWS _ a a runs.up (omega arith) (λ is. late);
     running = tt;
@@ -189,13 +190,13 @@ module _ (c : Command) (a : ScriptStore) (told : Told) (runs : IsRunning told.pl
       → DoesCommand c a told (Ok (reply.Refused r)) a told
   refused_does r is = record {
     works = works_so told.places a a told told runs.up refl c (Ok (reply.Refused r))
-        (leads_are_work c (λ state. (step (limits_of a.store.units) state c).0) (view_of a.store)
+        (leads_are_work every c (λ state. (step (limits_of a.store.units) state c).0) (view_of a.store)
         (view_of a.store) (Ok (reply.Refused r)) told told refl runs.up
         (refusals_lead a.store.units c r (view_of a.store).memory told is)
         (λ h state keeps. says_it (step (limits_of a.store.units) state c) _
         (ap (λ (y : Stepped). y.1) (refusals_answer (limits_of a.store.units)
         a.store.transactions.sessions state c r (keeps.up runs.up).sessions is)))
-        (λ h state keeps. omega arith) tt);
+        (λ pages h state keeps. omega arith) tt);
     tidy = tidy_same (script_keeping told.places) a told told true refl;
     draws = draws_few told.places WORK_DRAWS _ a a runs.up (omega arith)
         (λ spent. absurd (cc spent));
@@ -214,14 +215,14 @@ module _ (a : ScriptStore) (told : Told) (runs : IsRunning told.places a) where
   pub syntax_does : DoesCommand command.Syntax a told (Ok reply.Syntax) a told
   syntax_does = record {
     works = works_so told.places a a told told runs.up refl command.Syntax (Ok reply.Syntax)
-        (leads_are_work command.Syntax (λ state. state) same same (Ok reply.Syntax) told told
+        (leads_are_work every command.Syntax (λ state. state) same same (Ok reply.Syntax) told told
         refl runs.up
         (answers_are_alike (λ state. state) same.memory same.memory
         (Ok tt) (Ok reply.Syntax) told told refl
         (memory_leads (λ state. state) same.memory same.memory told
         (λ places c it state settled fits. fits) (λ places c it state fits. refl)
         (λ p s counted. counted)))
-        (λ h state keeps. refl) (λ h state keeps. omega arith) tt);
+        (λ h state keeps. refl) (λ pages h state keeps. omega arith) tt);
     tidy = tidy_same (script_keeping told.places) a told told true refl;
     draws = draws_few told.places WORK_DRAWS _ a a runs.up (omega arith)
         (λ spent. absurd (cc spent));
@@ -246,7 +247,7 @@ module _ {T : Type 0} (say : T → Reply) (c : Command) (next : State → State)
 
   -- what the store found is the model's reply, and what it keeps then the next state
   abbrev IsWork : T → Type 0
-  IsWork found = Works (store_keeping before.places) c first before (Ok (say found)) last after
+  IsWork found = Works (store_keeping before.places every) c first before (Ok (say found)) last after
 
   -- the model's step leaves the next state's map
   abbrev StepsToMap : Type 0
@@ -284,11 +285,11 @@ module _ {T : Type 0} (say : T → Reply) (c : Command) (next : State → State)
       → (counts : Counts before after) → DoesCommand c a before (Err (Chip e)) b after
   failed_does steps e did cause sound tidy learns counts = record {
     works = works_so before.places a b before after runs.up units c (Err (Chip e))
-        (leads_are_work c next first last (Err (Chip e)) before after
+        (leads_are_work every c next first last (Err (Chip e)) before after
         units runs.up (answers_advance (TurnsMapOf next) next first.memory
         last.memory (Err (store.Chip e)) (Err (Chip e)) before after refl did.leads)
         (λ h state keeps. steps state (keeps.up runs.up).sessions)
-        (λ h state keeps. few_drawn did.drawn)
+        (λ pages h state keeps. few_drawn did.drawn)
         (λ h state keeps. (
           λ low. chip_rose d e before after
               (did.complete _ keeps.steady.holds state (keeps.up runs.up).shows) cause,
@@ -357,7 +358,7 @@ module _ {T : Type 0} (say : T → Reply) (c : Command) (next : State → State)
   -- what the store found is the model's reply
   abbrev Replies : T → Type 0
   Replies found = (state : State) → OfContents before (λ x.
-      ShowsState before.places (view_of a.store) state x
+      ShowsState before.places every (view_of a.store) state x
       → (accepted state c).1 ≡ say found ∷ [])
 
   pub accepted_work : (result : Result T StoreFault)
@@ -365,14 +366,14 @@ module _ {T : Type 0} (say : T → Reply) (c : Command) (next : State → State)
       → IfOk result (IsWork say c next most a b before after runs few units)
   accepted_work (Err fault) did replies = tt
   accepted_work (Ok found) did replies =
-      leads_are_work c next (view_of a.store) (view_of b.store) (Ok (say found)) before after
+      leads_are_work every c next (view_of a.store) (view_of b.store) (Ok (say found)) before after
       units runs.up (answers_advance (TurnsMapOf next) next
       (view_of a.store).memory (view_of b.store).memory (Ok found) (Ok (say found)) before after
       refl did.leads)
       (λ h state keeps. steps_on state (keeps.up runs.up).sessions
       ∙ both_are (accepted state c) (next state) (say found ∷ []) (nexts state)
       (replies state _ keeps.steady.holds (keeps.up runs.up).shows))
-      (λ h state keeps. few_drawn say c next most a b before after runs few units did.drawn) tt
+      (λ pages h state keeps. few_drawn say c next most a b before after runs few units did.drawn) tt
 
 -- ---- a call
 
@@ -429,7 +430,7 @@ module _ {T : Type 0} (say : T → Reply) (c : Command) (refusal : Option Refusa
     (roomy : (state : State) → finds_full state c ≡ false)
     (nexts : (state : State) → (accepted state c).0 ≡ next state)
     (replies : IfOk result (λ found. (state : State)
-    → OfContents before (λ x. ShowsState before.places (view_of a.store) state x
+    → OfContents before (λ x. ShowsState before.places every (view_of a.store) state x
     → (accepted state c).1 ≡ say found ∷ []))) where
   pub by_call : (entry : Option StoreFault) → IsEntry a entry
       → Calls (early_fault entry refusal) next most a.store before result b.store after

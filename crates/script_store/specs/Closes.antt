@@ -7,6 +7,7 @@ use Rattle.ipl_base.specs.declared.limits.TheConstants.{SECTORS, FIRST_LOG_SECTO
 use Rattle.ipl_base.specs.declared.fault.StoreFault.{StoreFault}
 use Rattle.ipl_base.specs.declared.fault.StoreFault.TheVariants as store
 use Rattle.ipl_model.specs.State.{State, Limits}
+use Rattle.ipl_meaning.specs.Legible.{whole}
 use Rattle.ipl_meaning.specs.Chart.{chart_of}
 use Rattle.ipl_meaning.specs.Layout.{Layout, Laid}
 use Rattle.ipl_meaning.specs.Marks.{IsMarked}
@@ -31,7 +32,7 @@ use Rattle.script_store.specs.Worn.{KnowsWorn}
 pub record KeepsRecords (limits : Limits) (state : State) (before : ScriptStore) (h : History) (then : ScriptStore)
     (told : Told) : Type 0 where
   pub leaves : WorkLeaves (script_keeping told.places)
-      (λ x. StandsIn told.places limits.units (chart_of x) state.map) before h then told told true
+      (λ x. StandsIn told.places limits.units (chart_of x) (whole state.map)) before h then told told true
   pub now : State
   pub records : now.map ≡ state.map
   pub keeps : KeepsScript told.places limits then told (adds_all leaves.added h) now

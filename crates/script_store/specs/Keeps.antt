@@ -11,6 +11,7 @@ use Rattle.ipl_model.specs.declared.command.Command.{Command}
 use Rattle.ipl_model.specs.declared.reply.Reply.{Reply}
 use Rattle.ipl_model.specs.declared.reply.Reply.TheVariants as reply
 use Rattle.ipl_format.specs.Sector.{sector_in}
+use Rattle.ipl_meaning.specs.Legible.{whole, every}
 use Rattle.ipl_meaning.specs.Chart.{chart_of}
 use Rattle.ipl_meaning.specs.Stands.{StandsIn}
 use Rattle.ipl_meaning.specs.Marks.{MarksAreUnused}
@@ -35,7 +36,7 @@ pub record IsRunning (places : ℕ) (s : ScriptStore) : Type 0 where
 -- it keeps the state over a chip of so many places, with at most 1,024 units
 pub record KeepsScript (places : ℕ) (limits : Limits) (s : ScriptStore) (t : Told) (h : History)
     (state : State) : Type 0 where
-  pub kept : KeepsStore places limits (view_of s.store) t h state
+  pub kept : KeepsStore places every limits (view_of s.store) t h state
   pub few : s.store.units ≤ 1024
 
 -- the next number that it draws; a store that is down draws none
@@ -47,7 +48,7 @@ pub script_still : (places : ℕ) (limits : Limits) (s : ScriptStore) (old new :
     (state : State) → (still : Still old new) → KeepsScript places limits s old h state
     → KeepsScript places limits s new (adds_all (sayings still.pieces) h) state
 script_still places limits s old new h state still keeps = record {
-  kept = keeps_still places limits (view_of s.store) old new h state still keeps.kept;
+  kept = keeps_still places every limits (view_of s.store) old new h state still keeps.kept;
   few = keeps.few;
 }
 
@@ -55,7 +56,7 @@ script_still places limits s old new h state still keeps = record {
 abbrev pub script_keeping : ℕ → Keeping ScriptStore
 script_keeping places = record {
   checks = says sector_in;
-  stands = λ limits x m. StandsIn places limits.units (chart_of x) m;
+  stands = λ limits x m. StandsIn places limits.units (chart_of x) (whole m);
   holds = KeepsScript places;
   suits = IsRunning places;
   clean = λ s p sector. IsCountedClean (view_of s.store).memory.tables p sector;
@@ -69,7 +70,7 @@ script_keeping places = record {
   recalls = RecallsErased;
   tells = λ limits fault. FaultTells (spares_on places limits.units) fault;
   each = λ limits s t h state keeps.
-      keeps_each places limits (view_of s.store) t h state keeps.kept;
+      keeps_each places every limits (view_of s.store) t h state keeps.kept;
   still = script_still places;
   known_still = worn_still;
   unused_marked = λ s h unused. unused.0;

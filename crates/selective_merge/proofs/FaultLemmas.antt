@@ -224,8 +224,8 @@ mergeable_units_have_no_fault x t it u may =
     (λ page low. let (now, shows) = may.pages page low in page_shown x t it u page now shows)
 
 pub said_units_are_mergeable : SaidUnitsAreMergeable
-said_units_are_mergeable places c it m t u says low few = record {
-  pages = λ page below. (page_in m u page, says.pages u page low below);
+said_units_are_mergeable places c it m t u says low all few = record {
+  pages = λ page below. (page_in m.map u page, says.pages u page low below (all page below));
   few = few;
 }
 

@@ -8,7 +8,7 @@ use Rattle.chip_trait.specs.Image.{is_worn}
 use Rattle.log_records.specs.View.{Versioned}
 use Rattle.ipl_base.specs.declared.fault.ChipFault.{ChipFault}
 use Rattle.ipl_format.proofs.SectorLemmas.{blank_says_nothing}
-use Rattle.ipl_model.specs.State.{Map}
+use Rattle.ipl_meaning.specs.Legible.{Legible}
 use Rattle.ipl_meaning.specs.Chart.{Chart}
 use Rattle.ipl_meaning.specs.Rests.{now, StoryRests}
 use Rattle.unit_io.specs.Charts.{Charts, IsCleared}
@@ -97,7 +97,7 @@ filled_by from p g serial pieces payloads c d e cleared gains = record {
 -- ---- what the calls leave
 
 module _ (places : ℕ) (from : Source) (p g serial u : ℕ) (payloads : List Versioned)
-    (unit_is : u ≡ from.unit) (m : Map) (h : History) (old : Told) (steady : IsSteady h old)
+    (unit_is : u ≡ from.unit) (m : Legible) (h : History) (old : Told) (steady : IsSteady h old)
     (rests : StoryRests places m h) (clean : IsCleanPlace p h) where
   bare : now h p 0 ≡ None
   bare = clean_bare h p 0 (clean 0)

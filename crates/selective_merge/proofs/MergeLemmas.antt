@@ -5,7 +5,7 @@ use Rattle.std.specs.List.{All, Contains}
 use Rattle.std.proofs.lemmas.List.Elements.{All-contains, All-weaker}
 use Rattle.chip_trait.specs.Chart.{with_sector}
 use Rattle.ipl_base.specs.declared.limits.TheConstants.{VERSION}
-use Rattle.ipl_model.specs.State.{Map}
+use Rattle.ipl_meaning.specs.Legible.{Legible}
 use Rattle.ipl_format.specs.Sector.{Sector}
 use Rattle.ipl_format.specs.Record.{Record, IsRecord, SpellsLog}
 use Rattle.ipl_format.specs.Page.{Slots, value_in}
@@ -24,7 +24,7 @@ use Rattle.ipl_meaning.proofs.LastLemmas.{merges_carry_the_last}
 use Rattle.ipl_meaning.proofs.MergeFollowLemmas.{tables_follow_merges}
 use Rattle.ipl_meaning.proofs.MirrorLemmas.{headers_may_go}
 use Rattle.ipl_meaning.proofs.OnceLemmas.{reads_once}
-use Rattle.ipl_meaning.proofs.StandsLemmas.{stands_by, beside}
+use Rattle.ipl_meaning.proofs.StandsLemmas.{stands_by, beside, pages_then}
 use Rattle.ipl_meaning.proofs.SwitchLemmas.{headers_switch, merges_keep_pages, same_units_keep_pages, same_applied}
 use Rattle.unit_io.proofs.HeldLemmas.{held_pages_read_well}
 use Rattle.selective_merge.specs.Laws.{FilledPlacesAreReady, StandsAfterFilling, TablesFollowFilling, MergesKeepTheLast}
@@ -162,6 +162,22 @@ module _ (places : ℕ) (c y : Chart) (it : Layout) (t : Tables) (u p : ℕ) (he
             (λ k d less. sym (same_numbers (get_or (records_of (it.units u).log) k d).tid))),
       )
 
+  -- each page was read
+  all_read : (page : ℕ) → page < 15 → (base : Slots) × ReadsWell y u (it.units u) page base
+  all_read page low =
+      let of = may.filled.moved.of page low in
+      let home : (it.units u).home ≢ p = may.mirrors.directory.not_home p may.free u may.low in
+      let held : ReadsWell c u (it.units u) page of.base =
+      (held_pages_read_well c u (it.units u) page of.base).0 (record {
+        fits = of.held.fits;
+        cut = of.held.cut;
+        here = λ i few.
+            sym (may.filled.cleared.others (it.units u).home _ home) ∙ of.held.here i few;
+      }) in (
+        of.base,
+        record { fits = held.fits; cut = held.cut; here = λ i few. full.same_but (it.units u).home _ home ∙ held.here i few },
+      )
+
   active_wait : (tid : ℕ) → Contains t.active tid → it.committed tid ≡ false
   active_wait tid is =
       All-contains (λ (k : ℕ). it.committed k ≡ false) t.active tid may.mirrors.numbers.waits is
@@ -173,7 +189,7 @@ module _ (places : ℕ) (c y : Chart) (it : Layout) (t : Tables) (u p : ℕ) (he
       (λ k d low. active_wait _ (among_contains t.active _ (carried k d low).1))
 
   merged : IsMerged y it u fresh
-  merged = record { pages = merged_pages; waits = waits }
+  merged = record { pages = merged_pages; all = all_read; waits = waits }
 
   -- ---- with the header
 
@@ -187,12 +203,11 @@ module _ (places : ℕ) (c y : Chart) (it : Layout) (t : Tables) (u p : ℕ) (he
       (headers_may_go places y it t_taken u p fresh mirrors_taken may.low ready)
 
   keeps : KeepsPages places c it (with_sector y p 0 head) (with_unit it u fresh)
-  keeps v page now low few shows =
-      switched.1 v page now low few
-      (same_units_keep_pages places y it u fresh (merges_keep_pages y it u fresh merged)
-      v page now low few (kept v page now low few shows))
+  keeps = pages_then places c y (with_sector y p 0 head) it it (with_unit it u fresh) refl kept
+      (pages_then places y y (with_sector y p 0 head) it (with_unit it u fresh) (with_unit it u fresh) refl
+      (same_units_keep_pages places y it u fresh (merges_keep_pages y it u fresh merged)) switched.1)
 
-  stands_then : (m : Map) → Says places c it m → StandsBeside places y (with_sector y p 0 head) m
+  stands_then : (m : Legible) → Says places c it m → StandsBeside places y (with_sector y p 0 head) m
   stands_then m says =
       beside places m y (with_sector y p 0 head) it mirrors_taken.laid
       (stands_by places m c (with_sector y p 0 head) it (with_unit it u fresh)

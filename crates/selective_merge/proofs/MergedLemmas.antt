@@ -13,7 +13,7 @@ use Rattle.ipl_base.specs.declared.limits.TheConstants.{VERSION}
 use Rattle.ipl_base.specs.declared.fault.ChipFault.{ChipFault}
 use Rattle.ipl_format.specs.Record.{Record, IsRecord}
 use Rattle.ipl_format.specs.Sector.{Sector}
-use Rattle.ipl_model.specs.State.{Map}
+use Rattle.ipl_meaning.specs.Legible.{Legible}
 use Rattle.ipl_meaning.specs.Chart.{Chart}
 use Rattle.ipl_meaning.specs.Layout.{Layout, records_of}
 use Rattle.ipl_meaning.specs.Mirrors.{Mirrors}
@@ -234,7 +234,7 @@ merged_before places it t worn u after c z in_turn is =
 
 -- ---- what is left
 
-module _ (places : ℕ) (m : Map) (it : Layout) (t : Tables) (worn : List ℕ) (u p g serial n : ℕ)
+module _ (places : ℕ) (m : Legible) (it : Layout) (t : Tables) (worn : List ℕ) (u p g serial n : ℕ)
     (h : History) (old new : Told) (here : RestsAgreeing places m it t h)
     (in_turn : AreNext t.places worn) (free : IsFree (set_aside t worn).places p) where
   abbrev between : Tables

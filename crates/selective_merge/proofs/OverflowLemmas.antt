@@ -13,7 +13,7 @@ use Rattle.ipl_base.specs.declared.limits.TheConstants.{VERSION}
 use Rattle.ipl_format.proofs.HeaderOnceLemmas.{overflow_headers_say_erases}
 use Rattle.ipl_format.specs.Sector.{Sector}
 use Rattle.unit_layout.specs.Header.{SpellsOverflow}
-use Rattle.ipl_model.specs.State.{Map}
+use Rattle.ipl_meaning.specs.Legible.{Legible}
 use Rattle.ipl_meaning.specs.Chart.{Chart, chart_of}
 use Rattle.ipl_meaning.specs.Found.{MentionsBelow}
 use Rattle.ipl_meaning.specs.Layout.{Layout, Laid}
@@ -30,7 +30,7 @@ use Rattle.ipl_meaning.proofs.IdleLemmas.{idle_places_do_not_count}
 use Rattle.ipl_meaning.proofs.MarkLemmas.{overflows_mark_no_more}
 use Rattle.ipl_meaning.proofs.MirrorLemmas.{free_places_are_idle, overflow_headers_may_go}
 use Rattle.ipl_meaning.proofs.OverflowFollowLemmas.{tables_follow_overflows}
-use Rattle.ipl_meaning.proofs.StandsLemmas.{stands_after_overflows}
+use Rattle.ipl_meaning.proofs.StandsLemmas.{stands_after_overflows, pages_then}
 use Rattle.ipl_meaning.proofs.StoryLemmas.{held_stands, either_is_kept}
 use Rattle.ipl_meaning.proofs.SwitchLemmas.{overflow_headers_wait}
 use Rattle.ipl_meaning.proofs.WornLemmas.{worn_by_layout, idle_after_overflows}
@@ -118,7 +118,7 @@ sector_here c p s sector = rw (eq-eqb p p refl, eq-eqb s s refl) refl
 
 -- what the seal says
 abbrev pub HeaderSays : ℕ → ℕ → Sector → Told → Result (Unit {0}) ChipFault → Told → Type 0
-HeaderSays places p head old result new = (m n : Map) (h : History) → IsSteady h old
+HeaderSays places p head old result new = (m n : Legible) (h : History) → IsSteady h old
     → StoryRests places m h → age h.story p 0 ≡ Clean
     → StandsBeside places (now h) (with_sector (now h) p 0 head) n
     → WornAreIdle places h.story (with_sector (now h) p 0 head)
@@ -175,8 +175,7 @@ opened_mirrors places p units erases g c z it t mirrors free within new two is =
     let kept = (cleared_kept places p c is.bare it t mirrors free is.cleared).1 in (
       rw then.gains (tables_follow_overflows places is.bare it (taken t p) p (g + 1) then.head bare may
           within (taken_is_used t p) two (omega (arith, new)) mentions is.cleared.bare),
-      rw then.gains (λ u page values low few shows.
-          waits.1 u page values low few (kept u page values low few shows)),
+      rw then.gains (pages_then places c is.bare (with_sector is.bare p 0 then.head) it it it refl kept waits.1),
     )
 
 -- and the header says what the tables count
@@ -206,7 +205,7 @@ opened_counted t p next q n (small, inr (inl (first, has, above))) =
 opened_counted t p next q n (small, inr (inr status)) = inl (small, inr (inr status))
 
 -- what a power cut leaves
-module _ (p units erases g : ℕ) (m : Map) (it : Layout) (t : Tables) (after : Places) (h : History)
+module _ (p units erases g : ℕ) (m : Legible) (it : Layout) (t : Tables) (after : Places) (h : History)
     (old mid new : Told) (free : IsFree t.places p) (steady : IsSteady h old)
     (here : RestsAgreeing old.places m it t h) (takes : TakesPlace t.places old (Ok p) after mid)
     (counts : Counts old mid) (result : Result (Unit {0}) ChipFault)
@@ -242,7 +241,7 @@ module _ (p units erases g : ℕ) (m : Map) (it : Layout) (t : Tables) (after : 
       each (Err e) = tt
 
 -- the place was opened
-pub opened_steps : (p units erases g : ℕ) (m : Map) (it : Layout) (t then : Tables) (worn : List ℕ)
+pub opened_steps : (p units erases g : ℕ) (m : Legible) (it : Layout) (t then : Tables) (worn : List ℕ)
     (after : Places) (h : History) (old mid new : Told) → AreNext t.places worn
     → IsFree (set_aside t worn).places p → (steady : IsSteady h old)
     → RestsAgreeing old.places m it t h → TakesPlace t.places old (Ok p) after mid → Counts old mid
@@ -293,7 +292,7 @@ opened_steps p units erases g m it t then worn after h old mid new in_turn free 
     }
 
 -- it wasn't: a write failed
-pub open_failed : (p units erases g : ℕ) (m : Map) (it : Layout) (t then : Tables) (after : Places)
+pub open_failed : (p units erases g : ℕ) (m : Legible) (it : Layout) (t then : Tables) (after : Places)
     (h : History) (old mid new : Told) → IsFree t.places p → (steady : IsSteady h old)
     → RestsAgreeing old.places m it t h → TakesPlace t.places old (Ok p) after mid → Counts old mid
     → (T : Type 0) (e f : ChipFault) → IsStopped e mid new

@@ -4,7 +4,7 @@ use Rattle.chip_trait.specs.Lawful.{Clean, age}
 use Rattle.chip_trait.specs.Told.{History, Told, Counts, adds_all}
 use Rattle.ipl_base.specs.declared.limits.TheConstants.{VERSION}
 use Rattle.ipl_base.specs.declared.fault.ChipFault.{ChipFault}
-use Rattle.ipl_model.specs.State.{Map}
+use Rattle.ipl_meaning.specs.Legible.{Legible}
 use Rattle.ipl_format.specs.Page.{Slots, IsPage}
 use Rattle.ipl_meaning.specs.Chart.{Chart, chart_of}
 use Rattle.ipl_meaning.specs.Rests.{now, StoryRests}
@@ -27,7 +27,7 @@ use Rattle.selective_merge.proofs.ThroughoutLemmas.{SoFar, so_far_none, keeps_wr
 
 -- what a program of a page says
 abbrev pub ProgramsPage : ℕ → ℕ → ℕ → ℕ → ℕ → Slots → Told → Result ℕ ChipFault → Told → Type 0
-ProgramsPage places p u g page slots old result new = (m : Map) (h : History)
+ProgramsPage places p u g page slots old result new = (m : Legible) (h : History)
     → IsSteady h old → StoryRests places m h → now h p 0 ≡ None
     → ((s : ℕ) → IsPieceSpot page 16 s → age h.story p s ≡ Clean)
     → KeepsMap places m (Programs p (IsPieceSpot page 16)) (λ n. HasPageSectors p u g page slots n)
@@ -115,7 +115,7 @@ module _ (places : ℕ) (from : Source) (p g page : ℕ) where
 
 -- ---- all pages
 
-module _ (places : ℕ) (from : Source) (p g : ℕ) (m : Map) (h : History) where
+module _ (places : ℕ) (from : Source) (p g : ℕ) (m : Legible) (h : History) where
   -- after k pages
   abbrev pub MovedSoFar : ℕ → List ℕ → Told → Told → Type 0
   MovedSoFar k pieces old t =

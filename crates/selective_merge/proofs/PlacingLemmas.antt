@@ -47,7 +47,7 @@ room_same : (places : ℕ) (c : Chart) (it : Layout) (t : Tables) (u : ℕ) → 
 room_same places c it t u mirrors = record {
   layout = it;
   mirrors = mirrors;
-  keeps = λ v page now low few shows. shows;
+  keeps = record { shown = λ v page now low few shows. shows; no_more = λ v page base low few reads. (base, reads) };
   how = inl refl;
 }
 

@@ -4,7 +4,7 @@ use Rattle.chip_trait.specs.Story.{Story, Contents, held}
 use Rattle.chip_trait.specs.Lawful.{Clean, age}
 use Rattle.chip_trait.specs.Told.{History, Told}
 use Rattle.ipl_base.specs.declared.fault.ChipFault.{ChipFault}
-use Rattle.ipl_model.specs.State.{Map}
+use Rattle.ipl_meaning.specs.Legible.{Legible}
 use Rattle.ipl_meaning.specs.Chart.{Chart}
 use Rattle.ipl_meaning.specs.Rests.{now, StoryRests}
 use Rattle.unit_io.specs.Leads.{IsSteady}
@@ -46,7 +46,7 @@ pub of_now : (P : Contents → Type 0) (h : History) (t : Told) → IsSteady h t
     → OfContents t P → P (held h.start h.story)
 of_now P h t steady of = of (held h.start h.story) steady.holds
 
-module _ (At : ℕ → ℕ → Type 0) (places : ℕ) (m : Map) (h : History) (old new : Told)
+module _ (At : ℕ → ℕ → Type 0) (places : ℕ) (m : Legible) (h : History) (old new : Told)
     (steady : IsSteady h old) (rests : StoryRests places m h) (did : ReadsAt At old new) where
   -- reads that were done: the chart is the same, and this is so of it
   pub so_far_read : (p : ℕ) (P : Chart → Type 0) → P (now h)

@@ -7,12 +7,12 @@ use Rattle.chip_trait.specs.Told.{History, Told, Counts, adds_all}
 use Rattle.log_records.specs.View.{Versioned}
 use Rattle.selective_merge.specs.Packs.{payload_of}
 use Rattle.ipl_base.specs.declared.fault.ChipFault.{ChipFault}
-use Rattle.ipl_model.specs.State.{Map}
+use Rattle.ipl_meaning.specs.Legible.{Legible}
 use Rattle.ipl_base.specs.declared.limits.TheConstants.{VERSION}
 use Rattle.ipl_format.proofs.HeaderOnceLemmas.{data_headers_say_erases}
 use Rattle.ipl_format.specs.Sector.{Sector}
 use Rattle.ipl_meaning.specs.Chart.{Chart}
-use Rattle.ipl_meaning.specs.Layout.{Layout, Laid, Shape, records_of}
+use Rattle.ipl_meaning.specs.Layout.{Layout, Laid, Shape, ReadsWell, records_of}
 use Rattle.ipl_meaning.specs.Marks.{MarksNoMore}
 use Rattle.ipl_meaning.specs.Rests.{now, EachStands, EachStandsEither, WornAreIdle, StoryRests}
 use Rattle.ipl_meaning.specs.Stands.{Shows, Says, Stands, StandsBeside, page_in}
@@ -65,7 +65,7 @@ unit_head header head kind version serial spells =
 pub sealed_keeps : (places p units erases u g : ℕ) (pieces : List ℕ) (carried : ℕ) (head : Sector)
     (old : Told) (result : Result (Unit {0}) ChipFault) (new : Told)
     → IsUnitHead units u g pieces carried erases head
-    → ((m n : Map) (h : History) → IsSteady h old → StoryRests places m h
+    → ((m n : Legible) (h : History) → IsSteady h old → StoryRests places m h
     → age h.story p 0 ≡ Clean → StandsBeside places (now h) (with_sector (now h) p 0 head) n
     → WornAreIdle places h.story (with_sector (now h) p 0 head)
     → MarksNoMore places (now h) (with_sector (now h) p 0 head) p
@@ -92,16 +92,16 @@ sealed_tells p units erases u g pieces carried head old (Err e) new is tells = t
 -- ---- what a map says of the layout in hand
 
 -- the map that a chart stands for is what its layout says
-pub says_of : (places : ℕ) (c : Chart) (it : Layout) (m : Map) → Laid places c it
+pub says_of : (places : ℕ) (c : Chart) (it : Layout) (m : Legible) → Laid places c it
     → Stands places c m → Says places c it m
 says_of places c it m laid stands =
     let one = laid_once places c it stands.layout laid stands.laid in record {
-      pages = λ u page low few.
+      pages = λ u page low few reads.
           let theirs = rw one.count at low in
-          let there = stands.says.pages u page theirs few in
+          let there = stands.says.pages u page theirs few reads in
           let units : stands.layout.units u ≡ it.units u = sym (one.units u low) in
-          let here : Shows c stands.layout.committed u (it.units u) page (page_in m u page) =
-          subst (λ (s : Shape). Shows c stands.layout.committed u s page (page_in m u page))
+          let here : Shows c stands.layout.committed u (it.units u) page (page_in m.map u page) =
+          subst (λ (s : Shape). Shows c stands.layout.committed u s page (page_in m.map u page))
           units there in record {
             base = here.base;
             reads = here.reads;
@@ -110,6 +110,11 @@ says_of places c it m laid stands =
                 ∙ sym (same_applied it.committed stands.layout.committed page slot
                 (records_of (it.units u).log) _ (λ k d within. sym (one.committed _)));
           };
+      rotten = λ u page base low few is reads.
+          let theirs = rw one.count at low in
+          let units : stands.layout.units u ≡ it.units u = sym (one.units u low) in
+          stands.says.rotten u page base theirs few is
+          (subst (λ (s : Shape). ReadsWell c u s page base) (sym units) reads);
       nowhere_else = λ n high.
           stands.says.nowhere_else n (subst (λ (k : ℕ). 960 * k ≤ n) one.count high);
     }
@@ -118,7 +123,7 @@ says_of places c it m laid stands =
 
 -- with the header of a unit that was written to a clean place, nothing counts at worn ones still
 worn_after_filling : (places : ℕ) (c : Chart) (it : Layout) (t : Tables) (u p : ℕ) (head : Sector)
-    (pieces : List ℕ) (serial : ℕ) (m : Map) (k : History)
+    (pieces : List ℕ) (serial : ℕ) (m : Legible) (k : History)
     → MayMerge places c (now k) it t u p head pieces serial → StoryRests places m k
     → age k.story p 0 ≡ Clean → WornAreIdle places k.story (with_sector (now k) p 0 head)
 worn_after_filling places c it t u p head pieces serial m k may rests clean =
@@ -199,7 +204,7 @@ module _ (places units erases p g serial carried : ℕ) (from : Source) (payload
   abbrev Was : Layout → Tables → ℕ → Chart → Type 0
   Was it t u c = IsToMerge places c it t u p g serial from payloads × ((s : ℕ) → c p s ≡ None)
 
-  pub unit_written : (m : Map) (it : Layout) (t : Tables) (u : ℕ) (h : History) (old mid new : Told)
+  pub unit_written : (m : Legible) (it : Layout) (t : Tables) (u : ℕ) (h : History) (old mid new : Told)
       (result : Result (Unit {0}) ChipFault) → HasCounts (taken t p) p units erases
       → IsToMerge places (now h) it t u p g serial from payloads → StoryRests places m h
       → IsCleanPlace p h → Counts old mid
@@ -275,7 +280,7 @@ module _ (places units erases p g serial carried : ℕ) (from : Source) (payload
       each (Err e) = tt
 
 -- the place wasn't filled
-pub fill_failed : (places p g serial : ℕ) (from : Source) (payloads : List Versioned) (m : Map)
+pub fill_failed : (places p g serial : ℕ) (from : Source) (payloads : List Versioned) (m : Legible)
     (it : Layout) (t : Tables) (u : ℕ) (h : History) (old new : Told) (e f : ChipFault)
     → KeepsThroughout {T = List ℕ} places m (Programs p (IsFilledSpot (length payloads)))
     (λ pieces. GainsUnit from p g serial pieces payloads) (IsAside p) h (Err e) old new

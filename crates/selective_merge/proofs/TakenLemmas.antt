@@ -4,7 +4,7 @@ use Rattle.chip_trait.specs.Told.{History, Told, Counts, adds_all}
 use Rattle.log_records.specs.View.{Versioned}
 use Rattle.ipl_base.specs.declared.fault.ChipFault.{ChipFault}
 use Rattle.ipl_base.specs.declared.fault.ChipFault.TheVariants.{ReadFault, Stopped, Damaged, Malformed, WornOut}
-use Rattle.ipl_model.specs.State.{Map}
+use Rattle.ipl_meaning.specs.Legible.{Legible}
 use Rattle.ipl_meaning.specs.Agrees.{Agrees}
 use Rattle.ipl_meaning.specs.Chart.{Chart, chart_of}
 use Rattle.ipl_meaning.specs.Layout.{Layout}
@@ -146,7 +146,7 @@ abbrev pub untaken_tables : Tables → Places → ℕ → Tables
 untaken_tables t d next = with_next (with_places t d) next
 
 -- they agree as they did
-pub steps_not : {T : Type 0} (Then : T → History → Type 0) (d : Places) (m : Map) (it : Layout)
+pub steps_not : {T : Type 0} (Then : T → History → Type 0) (d : Places) (m : Legible) (it : Layout)
     (t after : Tables) (next : ℕ) (h : History) (e f : ChipFault) (old new : Told)
     → IsAsideFrom t.places d → after ≡ untaken_tables t d next → t.next ≤ next → IsSteady h old
     → StoryRests old.places m h → Agrees old.places h it t → TakesPlace t.places old (Err e) d new
@@ -180,7 +180,7 @@ told_not places t after d next old new aside is more tells x told =
       λ it mirrors. rw (same, is, aside.places_is) (
         next_drawn places (chart_of x) it (set_aside t aside.worn) next
             (aside_mirrors places (chart_of x) it t aside.worn mirrors aside.in_turn) more,
-        λ v page now low few shows. shows,
+        record { shown = λ v page now low few shows. shows; no_more = λ v page base low few reads. (base, reads) },
       ),
     )
 
@@ -195,7 +195,7 @@ has_counts t d p units erases is units_are erases_are = record {
   erases_are = sym (erases_are ∙ ap (λ (e : Places). slice_index e.erases p) is);
 }
 
-module _ (t : Tables) (after : Places) (p : ℕ) (m : Map) (it : Layout) (h : History)
+module _ (t : Tables) (after : Places) (p : ℕ) (m : Legible) (it : Layout) (h : History)
     (old mid : Told) (steady : IsSteady h old) (here : RestsAgreeing old.places m it t h)
     (takes : TakesPlace t.places old (Ok p) after mid) where
   -- it was cleared
@@ -262,7 +262,7 @@ module _ (places : ℕ) (it : Layout) (t : Tables) (u p g serial : ℕ) (from : 
 -- what a power cut leaves
 module _ (units erases : ℕ) (it : Layout) (t between : Tables) (after : Places) (u p g serial : ℕ)
     (from : Source) (payloads : List Versioned) (all : HasCounts (taken between p) p units erases)
-    (m : Map) (h : History) (old mid new : Told) (free : IsFree t.places p)
+    (m : Legible) (h : History) (old mid new : Told) (free : IsFree t.places p)
     (steady : IsSteady h old) (here : RestsAgreeing old.places m it t h)
     (takes : TakesPlace t.places old (Ok p) after mid) (counts : Counts old mid)
     (what : IsToMerge old.places (now h) it between u p g serial from payloads) where

@@ -6,7 +6,7 @@ use Rattle.chip_trait.specs.declared.event.Event.TheVariants.{Read, Program, Era
 use Rattle.chip_trait.specs.Story.{Story}
 use Rattle.chip_trait.specs.Told.{History, Told, Counts, adds_all}
 use Rattle.ipl_base.specs.declared.fault.ChipFault.{ChipFault}
-use Rattle.ipl_model.specs.State.{Map}
+use Rattle.ipl_meaning.specs.Legible.{Legible}
 use Rattle.ipl_meaning.specs.Chart.{Chart, chart_of}
 use Rattle.ipl_meaning.specs.Rests.{now, EachStands, StoryRests}
 use Rattle.unit_io.specs.Charts.{Charts}
@@ -33,11 +33,11 @@ settled_later (Err e) old mid new counts unrisen = omega (arith, counts.writes, 
 
 -- ---- what is so after some calls that were done
 
-abbrev pub SoFar : ℕ → Map → (Story → Type 0) → (Chart → Chart → Type 0) → History → Told → Told → Type 0
+abbrev pub SoFar : ℕ → Legible → (Story → Type 0) → (Chart → Chart → Type 0) → History → Told → Told → Type 0
 SoFar places m Does F h old t =
     Outcome (EachStands places m) Does (Unit {0}) (λ k. StoryRests places m k × F (now h) (now k)) h old t
 
-module _ (places : ℕ) (m : Map) (h : History) where
+module _ (places : ℕ) (m : Legible) (h : History) where
   pub so_far_none : (Does : Story → Type 0) (F : Chart → Chart → Type 0) (t : Told)
       → IsSteady h t → StoryRests places m h → Does [] → F (now h) (now h)
       → SoFar places m Does F h t t

@@ -4,7 +4,7 @@ use Rattle.chip_trait.specs.Story.{Contents, held}
 use Rattle.chip_trait.specs.Told.{History, Told, adds_all}
 use Rattle.ipl_base.specs.declared.fault.ChipFault.{ChipFault}
 use Rattle.ipl_format.specs.Record.{Record}
-use Rattle.ipl_model.specs.State.{Map}
+use Rattle.ipl_meaning.specs.Legible.{Legible}
 use Rattle.ipl_meaning.specs.Agrees.{Agrees}
 use Rattle.ipl_meaning.specs.Chart.{Chart, chart_of}
 use Rattle.ipl_meaning.specs.Layout.{Shape, Layout}
@@ -34,7 +34,7 @@ source_is home t it u log is = rw (is.place, is.version, is.unit, is.generation,
 
 -- ---- a call that failed, where only reads were made
 
-pub read_failed : {T : Type 0} (At : ℕ → ℕ → Type 0) (places : ℕ) (m : Map) (it : Layout)
+pub read_failed : {T : Type 0} (At : ℕ → ℕ → Type 0) (places : ℕ) (m : Legible) (it : Layout)
     (t : Tables) (Then : T → History → Type 0) (h : History) (e : ChipFault) (old new : Told)
     → IsSteady h old → StoryRests places m h → Agrees places h it t → ReadsAt At old new
     → Steps (EachStands places m) t t Then (λ k. RestsAgreeing places m it t k) h (Err e) old new
@@ -44,7 +44,7 @@ read_failed {T} At places m it t Then h e old new steady rests agrees did =
 -- ---- a call behind reads
 
 -- whatever it leaves of histories at which all is as before
-pub steps_behind : {T : Type 0} (At : ℕ → ℕ → Type 0) (places : ℕ) (m : Map) (it : Layout)
+pub steps_behind : {T : Type 0} (At : ℕ → ℕ → Type 0) (places : ℕ) (m : Legible) (it : Layout)
     (t after : Tables) (Then : Chart → T → History → Type 0) (Else : History → Type 0)
     (h : History) (old mid new : Told) (result : Result T ChipFault)
     → IsSteady h old → StoryRests places m h → Agrees places h it t → ReadsAt At old mid
@@ -91,7 +91,7 @@ merge_unread T At places u t e old new did m it h steady rests agrees =
 pub told_unread : (At : ℕ → ℕ → Type 0) (places : ℕ) (t : Tables) (old new : Told)
     → ReadsAt At old new → Charts (StaysMirrored places t t) old new
 told_unread At places t old new did x told =
-    (x, did.contents ∙ told, λ it mirrors. (mirrors, λ v page now low few shows. shows))
+    (x, did.contents ∙ told, λ it mirrors. (mirrors, record { shown = λ v page now low few shows. shows; no_more = λ v page base low few reads. (base, reads) }))
 
 -- what was read of the unit is what is merged
 module _ (u : ℕ) (home : HomeHeader) (log : List Record) (t after : Tables) (old new : Told)

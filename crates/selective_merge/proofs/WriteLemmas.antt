@@ -8,7 +8,7 @@ use Rattle.chip_trait.specs.Told.{History, Told, adds_all}
 use Rattle.log_records.specs.View.{Versioned}
 use Rattle.ipl_base.specs.declared.fault.ChipFault.{ChipFault}
 use Rattle.ipl_format.specs.Sector.{Sector}
-use Rattle.ipl_model.specs.State.{Map}
+use Rattle.ipl_meaning.specs.Legible.{Legible}
 use Rattle.ipl_meaning.specs.Chart.{Chart}
 use Rattle.ipl_meaning.specs.Rests.{now, EachStands, StoryRests}
 use Rattle.unit_io.specs.Charts.{Gains}
@@ -62,7 +62,7 @@ logs_aside p u g serial payloads k c y logs = record {
   others = λ q s apart. logs.others q s (λ same. absurd (apart same));
 }
 
-module _ (places p u g serial : ℕ) (payloads : List Versioned) (m : Map) (h : History) where
+module _ (places p u g serial : ℕ) (payloads : List Versioned) (m : Legible) (h : History) where
   pub keeps_none : (t : Told) → IsSteady h t → StoryRests places m h
       → KeepsLogs places p u g serial payloads 0 m h t (Ok tt) t
   keeps_none t steady rests =

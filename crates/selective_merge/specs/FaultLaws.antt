@@ -1,8 +1,8 @@
 -- Laws of what is wrong with a unit that is to be merged.
-use Rattle.std.specs.Prelude.{ℕ, ◌≡◌, ◌<◌, ◌≤◌, None}
-use Rattle.ipl_base.specs.declared.limits.TheConstants.{CARRIED_SECTORS}
+use Rattle.std.specs.Prelude.{ℕ, ◌≡◌, ◌<◌, ◌≤◌, None, true}
+use Rattle.ipl_base.specs.declared.limits.TheConstants.{CARRIED_SECTORS, PAGES}
 use Rattle.chip_trait.specs.Story.{Contents}
-use Rattle.ipl_model.specs.State.{Map}
+use Rattle.ipl_meaning.specs.Legible.{Legible}
 use Rattle.ipl_meaning.specs.Chart.{Chart, chart_of}
 use Rattle.ipl_meaning.specs.Last.{carried_count}
 use Rattle.ipl_meaning.specs.Layout.{Shape, Layout}
@@ -24,8 +24,8 @@ FaultsAreOfThePlace = (x y : Contents) (t : Tables) (it : Shape) (u : ℕ)
 
 -- where the pages say a map, each unit's pages show values
 abbrev pub SaidUnitsAreMergeable : Type 0
-SaidUnitsAreMergeable = (places : ℕ) (c : Chart) (it : Layout) (m : Map) (t : Tables) (u : ℕ)
-    → Says places c it m → u < it.count → carried_count (among t.active) (it.units u).log ≤ CARRIED_SECTORS
+SaidUnitsAreMergeable = (places : ℕ) (c : Chart) (it : Layout) (m : Legible) (t : Tables) (u : ℕ)
+    → Says places c it m → u < it.count → ((page : ℕ) → page < PAGES → m.pages.reads u page ≡ true) → carried_count (among t.active) (it.units u).log ≤ CARRIED_SECTORS
     → IsMergeable c it.committed t (it.units u) u
 
 -- where few log sectors would be carried and the tables have the committed numbers of the layout, it

@@ -2,7 +2,7 @@
 use Rattle.std.specs.Prelude.{ℕ, ◌≡◌, ◌≤◌, ◌+◌, List, [], length, slice_set, None}
 use Rattle.ipl_base.specs.declared.limits.TheConstants.{LOG_SECTORS, CARRIED_SECTORS}
 use Rattle.chip_trait.specs.Chart.{with_sector}
-use Rattle.ipl_model.specs.State.{Map}
+use Rattle.ipl_meaning.specs.Legible.{Legible}
 use Rattle.ipl_format.specs.Sector.{Sector}
 use Rattle.ipl_meaning.specs.Chart.{Chart}
 use Rattle.ipl_meaning.specs.Last.{last_that}
@@ -29,7 +29,7 @@ FilledPlacesAreReady =
 abbrev pub StandsAfterFilling : Type 0
 StandsAfterFilling =
     (places : ℕ) (c y : Chart) (it : Layout) (t : Tables) (u p : ℕ)
-    (head : Sector) (pieces : List ℕ) (serial : ℕ) (m : Map)
+    (head : Sector) (pieces : List ℕ) (serial : ℕ) (m : Legible)
     → MayMerge places c y it t u p head pieces serial → Says places c it m
     → StandsBeside places y (with_sector y p 0 head) m
 

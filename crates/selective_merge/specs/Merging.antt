@@ -4,7 +4,7 @@ use Rattle.ipl_base.specs.declared.limits.TheConstants.{CARRIED_SECTORS}
 use Rattle.chip_trait.specs.Told.{History, Told}
 use Rattle.ipl_base.specs.declared.fault.ChipFault.{ChipFault}
 use Rattle.ipl_base.specs.declared.fault.ChipFault.TheVariants.{Malformed, ReadFault}
-use Rattle.ipl_model.specs.State.{Map}
+use Rattle.ipl_meaning.specs.Legible.{Legible}
 use Rattle.ipl_meaning.specs.Agrees.{IsTidy, Agrees}
 use Rattle.ipl_meaning.specs.Chart.{Chart, chart_of}
 use Rattle.ipl_meaning.specs.Last.{carried_count}
@@ -76,7 +76,7 @@ CompletesMerge places t u result told = OfContents told (λ x. (it : Layout)
 -- ---- what a power cut leaves
 
 -- the story rests on the map, the unit was merged, and the tables agree
-pub record RestsMerged (places : ℕ) (m : Map) (c : Chart) (it : Layout) (t : Tables) (u : ℕ)
+pub record RestsMerged (places : ℕ) (m : Legible) (c : Chart) (it : Layout) (t : Tables) (u : ℕ)
     (after : Tables) (k : History) : Type 0 where
   pub rests : StoryRests places m k
   pub unit : IsMergedUnit places c (now k) it t u after
@@ -84,7 +84,7 @@ pub record RestsMerged (places : ℕ) (m : Map) (c : Chart) (it : Layout) (t : T
 
 -- At each moment a power cut leaves the map. Where no write failed the story rests on it: done, the
 -- unit was merged; and not done, the tables agree on the same layout.
-abbrev pub StepsMerging : {T : Type 0} → ℕ → Map → Layout → Tables → ℕ → Tables
+abbrev pub StepsMerging : {T : Type 0} → ℕ → Legible → Layout → Tables → ℕ → Tables
     → History → Result T ChipFault → Told → Told → Type 0
 StepsMerging places m it t u after h result old new =
     Steps (EachStands places m) t after
@@ -94,14 +94,14 @@ StepsMerging places m it t u after h result old new =
 -- whatever map and layout it began with
 abbrev pub MergesInSteps : {T : Type 0} → ℕ → ℕ → Tables → Tables
     → Told → Result T ChipFault → Told → Type 0
-MergesInSteps places u t after old result new = (m : Map) (it : Layout) (h : History)
+MergesInSteps places u t after old result new = (m : Legible) (it : Layout) (h : History)
     → IsSteady h old → StoryRests places m h → Agrees places h it t
     → StepsMerging places m it t u after h result old new
 
 -- where this is what was read of the unit
 abbrev pub MergesFromInSteps : ℕ → ℕ → Source → Tables → Tables
     → Told → Result (Unit {0}) ChipFault → Told → Type 0
-MergesFromInSteps places u from t after old result new = (m : Map) (it : Layout) (h : History)
+MergesFromInSteps places u from t after old result new = (m : Legible) (it : Layout) (h : History)
     → IsSteady h old → StoryRests places m h → Agrees places h it t
     → from ≡ source_of t (it.units u) u
     → StepsMerging places m it t u after h result old new

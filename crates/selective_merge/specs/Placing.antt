@@ -5,7 +5,7 @@ use Rattle.ipl_base.specs.declared.fault.ChipFault.{ChipFault}
 use Rattle.ipl_base.specs.declared.spot.Spot.{Spot}
 use Rattle.ipl_format.specs.Header.{SpellsOverflowHeader, erases_said}
 use Rattle.ipl_format.specs.Sector.{Sector}
-use Rattle.ipl_model.specs.State.{Map}
+use Rattle.ipl_meaning.specs.Legible.{Legible}
 use Rattle.ipl_meaning.specs.Agrees.{IsTidy, Agrees}
 use Rattle.ipl_meaning.specs.Chart.{Chart}
 use Rattle.ipl_meaning.specs.Last.{carried_count}
@@ -41,7 +41,7 @@ pub record HasOverflowHeader (p units erases generation : ℕ) (c y : Chart) : T
 
 -- a clean place, opened
 abbrev pub OpensPlace : ℕ → ℕ → ℕ → ℕ → ℕ → Told → Result (Unit {0}) ChipFault → Told → Type 0
-OpensPlace places p units erases generation old result new = (m : Map) (it : Layout) (h : History)
+OpensPlace places p units erases generation old result new = (m : Legible) (it : Layout) (h : History)
     → IsSteady h old → StoryRests places m h → Laid places (now h) it → IsCleanPlace p h
     → KeepsMap places m (Programs p (IsSpot 0)) (λ done. HasOverflowHeader p units erases generation) h old result new
 
@@ -57,7 +57,7 @@ OpensOverflow places t after p c y = (it : Layout) → Mirrors places c it t
 
 -- the story rests on the map, the tables agree, each page is shown still, and the header of the place
 -- says its erases
-pub record RestsOpened (places : ℕ) (m : Map) (c : Chart) (it : Layout) (after : Tables) (p : ℕ)
+pub record RestsOpened (places : ℕ) (m : Legible) (c : Chart) (it : Layout) (after : Tables) (p : ℕ)
     (k : History) : Type 0 where
   pub rests : StoryRests places m k
   pub agrees : Agrees places k it after
@@ -65,7 +65,7 @@ pub record RestsOpened (places : ℕ) (m : Map) (c : Chart) (it : Layout) (after
   pub says : SaysErases after p (now k)
 
 abbrev pub OpensInSteps : ℕ → Tables → Tables → Told → Result Spot ChipFault → Told → Type 0
-OpensInSteps places t after old result new = (m : Map) (it : Layout) (h : History)
+OpensInSteps places t after old result new = (m : Legible) (it : Layout) (h : History)
     → IsSteady h old → StoryRests places m h → Agrees places h it t
     → Steps (EachStands places m) t after
     (λ spot k. RestsOpened places m (now h) it after spot.place k)
@@ -116,7 +116,7 @@ MakesRoom Is places u t after spot c y = (it : Layout) → Mirrors places c it t
 -- the story rests on the map, there is such room, and what is counted as clean is
 pub record RestsWithRoom
     (Is : ℕ → Chart → Chart → Layout → Tables → ℕ → Tables → ℕ → ℕ → Type 0)
-    (places : ℕ) (m : Map) (c : Chart) (it : Layout) (t : Tables) (u : ℕ) (after : Tables)
+    (places : ℕ) (m : Legible) (c : Chart) (it : Layout) (t : Tables) (u : ℕ) (after : Tables)
     (spot : Spot) (k : History) : Type 0 where
   pub rests : StoryRests places m k
   pub room : Is places c (now k) it t u after spot.place spot.sector
@@ -127,7 +127,7 @@ pub record RestsWithRoom
 abbrev pub MakesRoomInSteps :
     (ℕ → Chart → Chart → Layout → Tables → ℕ → Tables → ℕ → ℕ → Type 0)
     → ℕ → ℕ → Tables → Tables → Told → Result Spot ChipFault → Told → Type 0
-MakesRoomInSteps Is places u t after old result new = (m : Map) (it : Layout) (h : History)
+MakesRoomInSteps Is places u t after old result new = (m : Legible) (it : Layout) (h : History)
     → IsSteady h old → StoryRests places m h → Agrees places h it t
     → Steps (EachStands places m) t after
     (λ spot k. RestsWithRoom Is places m (now h) it t u after spot k)

@@ -4,7 +4,7 @@ use Rattle.chip_trait.specs.Story.{Story}
 use Rattle.chip_trait.specs.Told.{History, Told}
 use Rattle.ipl_base.specs.declared.fault.ChipFault.{ChipFault}
 use Rattle.ipl_base.specs.declared.fault.ChipFault.TheVariants.{Stopped}
-use Rattle.ipl_model.specs.State.{Map}
+use Rattle.ipl_meaning.specs.Legible.{Legible}
 use Rattle.ipl_meaning.specs.Chart.{Chart}
 use Rattle.ipl_meaning.specs.Rests.{now, EachStands, StoryRests}
 use Rattle.unit_io.specs.Charts.{Charts}
@@ -12,13 +12,13 @@ use Rattle.unit_io.specs.Leads.{RestsWith}
 use Rattle.unit_io.specs.Steps.{Settled, EndsWith, Outcome}
 
 -- The story rests on the map, and G holds of the chart at the history before and of the chart then.
-abbrev pub RestsBy : ℕ → Map → (Chart → Chart → Type 0) → History → History → Type 0
+abbrev pub RestsBy : ℕ → Legible → (Chart → Chart → Type 0) → History → History → Type 0
 RestsBy places m G h k = StoryRests places m k × G (now h) (now k)
 
 -- What a call leaves that keeps the map. Whatever a power cut leaves at any moment of it stands for
 -- the map. Where no write failed, the story rests on it: done, with F of the answer and of the
 -- charts before and after; and not done, with G of these charts.
-abbrev pub KeepsThroughout : {T E : Type 0} → ℕ → Map → (Bool → Story → Type 0)
+abbrev pub KeepsThroughout : {T E : Type 0} → ℕ → Legible → (Bool → Story → Type 0)
     → (T → Chart → Chart → Type 0) → (Chart → Chart → Type 0)
     → History → Result T E → Told → Told → Type 0
 KeepsThroughout places m Does F G h result old new =

@@ -11,7 +11,7 @@ use Rattle.ipl_base.specs.declared.fault.ChipFault.{ChipFault}
 use Rattle.ipl_format.specs.Page.{Slots, IsPage, page_text, value_in}
 use Rattle.ipl_format.specs.Record.{Record}
 use Rattle.ipl_format.specs.Sector.{Sector}
-use Rattle.ipl_model.specs.State.{Map}
+use Rattle.ipl_meaning.specs.Legible.{Legible}
 use Rattle.ipl_meaning.specs.Chart.{Chart}
 use Rattle.ipl_meaning.specs.Layout.{Layout}
 use Rattle.ipl_meaning.specs.Marks.{MarksNoMore}
@@ -72,7 +72,7 @@ pub record MakesAnew (committed : ℕ → Bool) (records : List Record) (page : 
 
 -- one page, moved to a place without a header
 abbrev pub MovesOnePage : ℕ → Source → ℕ → ℕ → ℕ → Told → Result ℕ ChipFault → Told → Type 0
-MovesOnePage places from p generation page old result new = (m : Map) (h : History)
+MovesOnePage places from p generation page old result new = (m : Legible) (h : History)
     → IsSteady h old → StoryRests places m h → now h p 0 ≡ None
     → ((s : ℕ) → IsPieceSpot page PAGE_SECTORS s → age h.story p s ≡ Clean)
     → KeepsThroughout places m (Programs p (IsPieceSpot page PAGE_SECTORS))
@@ -80,7 +80,7 @@ MovesOnePage places from p generation page old result new = (m : Map) (h : Histo
 
 -- all pages
 abbrev pub MovesPages : ℕ → Source → ℕ → ℕ → Told → Result (List ℕ) ChipFault → Told → Type 0
-MovesPages places from p generation old result new = (m : Map) (h : History)
+MovesPages places from p generation old result new = (m : Legible) (h : History)
     → IsSteady h old → StoryRests places m h → now h p 0 ≡ None
     → ((s : ℕ) → IsBaseSpotBelow PAGES s → age h.story p s ≡ Clean)
     → KeepsThroughout places m (Programs p (IsBaseSpotBelow PAGES))
@@ -90,12 +90,12 @@ MovesPages places from p generation old result new = (m : Map) (h : History)
 
 -- a log sector, in a place without a header
 abbrev pub WritesToBare : ℕ → ℕ → ℕ → Sector → Told → Result (Unit {0}) ChipFault → Told → Type 0
-WritesToBare places p s sector old result new = (m : Map) (h : History)
+WritesToBare places p s sector old result new = (m : Legible) (h : History)
     → IsSteady h old → StoryRests places m h → now h p 0 ≡ None → s ≢ 0 → IsUntouched h p s
     → KeepsMap places m (Programs p (IsSpot s)) (λ done. Gains p s sector) h old result new
 
 -- the first n log sectors with these payloads
-abbrev pub KeepsLogs : ℕ → ℕ → ℕ → ℕ → ℕ → List Versioned → ℕ → Map
+abbrev pub KeepsLogs : ℕ → ℕ → ℕ → ℕ → ℕ → List Versioned → ℕ → Legible
     → History → Told → Result (Unit {0}) ChipFault → Told → Type 0
 KeepsLogs places p u generation serial payloads n m h old result new =
     KeepsMap places m (Programs p (IsLogSpotBelow n))
@@ -104,7 +104,7 @@ KeepsLogs places p u generation serial payloads n m h old result new =
 -- all of them
 abbrev pub WritesLogs : ℕ → ℕ → ℕ → ℕ → ℕ → List Versioned
     → Told → Result (Unit {0}) ChipFault → Told → Type 0
-WritesLogs places p u generation serial payloads old result new = (m : Map) (h : History)
+WritesLogs places p u generation serial payloads old result new = (m : Legible) (h : History)
     → IsSteady h old → StoryRests places m h → now h p 0 ≡ None
     → ((s : ℕ) → IsLogSpotBelow (length payloads) s → age h.story p s ≡ Clean)
     → KeepsLogs places p u generation serial payloads (length payloads) m h old result new
@@ -133,7 +133,7 @@ pub record GainsUnit (from : Source) (p generation serial : ℕ) (pieces : List 
 -- a clean place, filled
 abbrev pub FillsPlace : ℕ → Source → ℕ → ℕ → ℕ → List Versioned
     → Told → Result (List ℕ) ChipFault → Told → Type 0
-FillsPlace places from p generation serial payloads old result new = (m : Map) (h : History)
+FillsPlace places from p generation serial payloads old result new = (m : Legible) (h : History)
     → IsSteady h old → StoryRests places m h → IsCleanPlace p h
     → KeepsThroughout places m (Programs p (IsFilledSpot (length payloads)))
     (λ pieces. GainsUnit from p generation serial pieces payloads) (IsAside p) h result old new
@@ -147,7 +147,7 @@ IsSealed p units erases u generation pieces carried c y =
 -- marked
 abbrev pub SealsUnit : ℕ → ℕ → ℕ → ℕ → ℕ → ℕ → List ℕ → ℕ
     → Told → Result (Unit {0}) ChipFault → Told → Type 0
-SealsUnit places p units erases u generation pieces carried old result new = (m : Map) (h : History)
+SealsUnit places p units erases u generation pieces carried old result new = (m : Legible) (h : History)
     → IsSteady h old → StoryRests places m h → age h.story p 0 ≡ Clean
     → ((head : Sector) → IsUnitHead units u generation pieces carried erases head
     → StandsBeside places (now h) (with_sector (now h) p 0 head) m
@@ -161,7 +161,7 @@ SealsUnit places p units erases u generation pieces carried old result new = (m 
 abbrev pub WritesUnit : ℕ → ℕ → ℕ → Source → ℕ → ℕ → ℕ → List Versioned
     → Told → Result (Unit {0}) ChipFault → Told → Type 0
 WritesUnit places units erases from p generation serial payloads old result new =
-    (m : Map) (it : Layout) (t : Tables) (u : ℕ) (h : History)
+    (m : Legible) (it : Layout) (t : Tables) (u : ℕ) (h : History)
     → IsSteady h old → StoryRests places m h → IsCleanPlace p h
     → HasCounts (taken t p) p units erases → IsToMerge places (now h) it t u p generation serial from payloads
     → KeepsThroughout places m (Programs p (IsUnitSpot (length payloads)))

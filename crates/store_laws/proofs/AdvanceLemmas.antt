@@ -5,6 +5,7 @@ use Rattle.chip_trait.specs.Told.{History, Told, Counts, adds_all}
 use Rattle.ipl_model.specs.State.{Map, State}
 use Rattle.ipl_meaning.proofs.CarriedLemmas.{tidy_is_carried}
 use Rattle.ipl_meaning.specs.Chart.{Chart, chart_of}
+use Rattle.ipl_meaning.specs.Legible.{Legibility, of}
 use Rattle.ipl_meaning.specs.Layout.{Layout}
 use Rattle.ipl_meaning.specs.Rests.{now, EachStands, EachStandsEither, StoryRests}
 use Rattle.ipl_meaning.specs.Tables.{IsCountedClean}
@@ -26,6 +27,7 @@ shows_same places c it m n same =
     (record {
       count = refl;
       pages = λ u page low few shows. shows;
+      no_more = λ u page base low few reads. (base, reads);
       nowhere_else = λ name high none. none;
     })
 
@@ -37,6 +39,10 @@ shows_then places c y z it new last k m n one two = record {
   pages = λ u page low few shows.
       let then = rw (← one.count) at low in
       two.pages u page then few (one.pages u page low few shows);
+  no_more = λ u page base low few reads.
+      let then = rw (← one.count) at low in
+      let was = two.no_more u page base then few reads in
+      one.no_more u page was.0 low few was.1;
   nowhere_else = λ name high none.
       let then : 960 * new.count ≤ name = omega (arith, high, one.count) in
       two.nowhere_else name then (one.nowhere_else name high none);
@@ -45,24 +51,24 @@ shows_then places c y z it new last k m n one two = record {
 -- ---- reads
 
 -- the map is the same at either end
-same_end : {T E : Type 0} (result : Result T E) (places : ℕ) (next : State → State)
+same_end : {T E : Type 0} (result : Result T E) (places : ℕ) (pages : Legibility) (next : State → State)
     (state : State) (k : History) → (next state).map ≡ state.map
-    → StoryRests places state.map k
-    → EndsWith result (λ v k. StoryRests places (next state).map k)
-    (λ k. StoryRests places state.map k) k
-same_end (Ok v) places next state k map rests =
-    subst (λ (m : Map). StoryRests places m k) (sym map) rests
-same_end (Err e) places next state k map rests = rests
+    → StoryRests places (of pages state.map) k
+    → EndsWith result (λ v k. StoryRests places (of pages (next state).map) k)
+    (λ k. StoryRests places (of pages state.map) k) k
+same_end (Ok v) places pages next state k map rests =
+    subst (λ (m : Map). StoryRests places (of pages m) k) (sym map) rests
+same_end (Err e) places pages next state k map rests = rests
 
 same_map : {T E : Type 0} (result : Result T E) (next : State → State) (state : State)
     → (next state).map ≡ state.map → (state_then result next state).map ≡ state.map
 same_map (Ok v) next state map = map
 same_map (Err e) next state map = refl
 
-pub reads_advance : {T E : Type 0} (Each : ℕ → State → History → Type 0) (At : ℕ → ℕ → Type 0)
+pub reads_advance : {T E : Type 0} (Each : ℕ → Legibility → State → History → Type 0) (At : ℕ → ℕ → Type 0)
     (next : State → State) (before : Memory) (old : Told) (result : Result T E) (after : Memory)
-    (new : Told) → ((places : ℕ) (state : State) (k : History) → EachStands places state.map k
-    → Each places state k) → ReadsInto At next before old result after new
+    (new : Told) → ((places : ℕ) (pages : Legibility) (state : State) (k : History) → EachStands places (of pages state.map) k
+    → Each places pages state k) → ReadsInto At next before old result after new
     → Advances Each next before old result after new
 reads_advance Each At next before old result after new each did = record {
   fits = λ places same settled x told. (
@@ -75,25 +81,25 @@ reads_advance Each At next before old result after new each did = record {
           (same_map result next state (did.map places (chart_of x) it state fits));
     },
   );
-  steps = λ places h it state same steady story.
+  steps = λ places pages h it state same steady story.
       let reads = did.reads in
       let Tidy = TidyWork (IsCountedClean before.tables) (IsCountedClean after.tables)
       (Settled result old new) in
-      let end = same_end result places next state (adds_all reads.added h)
+      let end = same_end result places pages next state (adds_all reads.added h)
       (did.map places (now h) it state story.fits)
-      (at_rests At places state.map h reads.added reads.each story.rests) in
+      (at_rests At places (of pages state.map) h reads.added reads.each story.rests) in
       let tidy = tidy_reads At (IsCountedClean before.tables) (Settled result old new) old new
       reads in
-      outcome_weaker (EachStands places state.map) (Each places state) Tidy Tidy
+      outcome_weaker (EachStands places (of pages state.map)) (Each places pages state) Tidy Tidy
       (Settled result old new) (Settled result old new)
-      (EndsWith result (λ v k. StoryRests places (next state).map k)
-      (λ k. StoryRests places state.map k))
-      (EndsWith result (λ v k. StoryRests places (next state).map k)
-      (λ k. StoryRests places state.map k)) h old new (each places state) (λ a is. is) (λ z. z)
+      (EndsWith result (λ v k. StoryRests places (of pages (next state).map) k)
+      (λ k. StoryRests places (of pages state.map) k))
+      (EndsWith result (λ v k. StoryRests places (of pages (next state).map) k)
+      (λ k. StoryRests places (of pages state.map) k)) h old new (each places pages state) (λ a is. is) (λ z. z)
       (λ _ k is. is)
-      (outcome_reads At places state.map Tidy (Settled result old new)
-      (EndsWith result (λ v k. StoryRests places (next state).map k)
-      (λ k. StoryRests places state.map k)) h old new steady story.rests reads
+      (outcome_reads At places (of pages state.map) Tidy (Settled result old new)
+      (EndsWith result (λ v k. StoryRests places (of pages (next state).map) k)
+      (λ k. StoryRests places (of pages state.map) k)) h old new steady story.rests reads
       (record {
         silent = tidy.silent;
         lawful = tidy.lawful;
@@ -108,11 +114,11 @@ pub same_held : (x y : Contents) (t : Told) → t.contents ≡ Some x → t.cont
 same_held x y t one two = let both : Some x ≡ Some y = sym one ∙ two in cc both
 
 -- one call that keeps each state and was done, and then another call
-pub calls_advance : {T U E F : Type 0} (First Second Each : ℕ → State → History → Type 0)
+pub calls_advance : {T U E F : Type 0} (First Second Each : ℕ → Legibility → State → History → Type 0)
     (next : State → State) (before between after : Memory) (v : T) (result : Result U F)
     (old mid new : Told)
-    → ((places : ℕ) (state : State) (k : History) → First places state k → Each places state k)
-    → ((places : ℕ) (state : State) (k : History) → Second places state k → Each places state k)
+    → ((places : ℕ) (pages : Legibility) (state : State) (k : History) → First places pages state k → Each places pages state k)
+    → ((places : ℕ) (pages : Legibility) (state : State) (k : History) → Second places pages state k → Each places pages state k)
     → Counts old mid
     → Advances {T = T} {E = E} First (λ state. state) before old (Ok v) between mid
     → Advances Second next between mid result after new
@@ -135,8 +141,8 @@ calls_advance {T = T} {U = U} {E = E} {F = F} First Second Each next before betw
                       at_first.shows at_last.shows;
                 },
           );
-      steps = λ places h it state same steady story.
-          let did = first.steps places h it state same steady story in
+      steps = λ places pages h it state same steady story.
+          let did = first.steps places pages h it state same steady story in
           let k = adds_all did.added h in
           let then_steady : IsSteady k mid = did.steady tt in
           let x = held h.start h.story in
@@ -144,45 +150,45 @@ calls_advance {T = T} {U = U} {E = E} {F = F} First Second Each next before betw
           let fitted = had it state story.fits in
           let is : y ≡ held k.start k.story = same_held y (held k.start k.story) mid there
           then_steady.holds in
-          let then_story : MemoryFitsStory places k fitted.layout between state = record {
+          let then_story : MemoryFitsStory places pages k fitted.layout between state = record {
             fits = subst (λ (z : Contents). MemoryFits places (chart_of z) fitted.layout between state)
                 is fitted.fits;
             tidy = tidy_is_carried places h it before.tables between.tables did.added
                 (record { mirrors = story.fits.mirrors; tidy = story.tidy }) (did.does.clean tt);
             rests = did.ends tt;
           } in
-          steps_then T U E F (First places state) (Second places state)
-          (Each places state) before.tables
-          between.tables after.tables (λ v k. StoryRests places state.map k)
-          (λ k. StoryRests places state.map k) (λ v k. StoryRests places (next state).map k)
-          (λ k. StoryRests places state.map k) h v result old mid new (one places state)
-          (two places state) counts did
-          (second.steps places k fitted.layout state (counts.places ∙ same) then_steady then_story);
+          steps_then T U E F (First places pages state) (Second places pages state)
+          (Each places pages state) before.tables
+          between.tables after.tables (λ v k. StoryRests places (of pages state.map) k)
+          (λ k. StoryRests places (of pages state.map) k) (λ v k. StoryRests places (of pages (next state).map) k)
+          (λ k. StoryRests places (of pages state.map) k) h v result old mid new (one places pages state)
+          (two places pages state) counts did
+          (second.steps places pages k fitted.layout state (counts.places ∙ same) then_steady then_story);
     }
 
 -- ---- one call, said otherwise
 
 -- a call that failed, where nothing else is done then: whatever the next state would be
-pub failures_advance : {T U E F : Type 0} (First Each : ℕ → State → History → Type 0)
+pub failures_advance : {T U E F : Type 0} (First Each : ℕ → Legibility → State → History → Type 0)
     (before after : Memory) (next other : State → State) (e : E) (f : F) (old new : Told)
-    → ((places : ℕ) (state : State) (k : History) → First places state k → Each places state k)
+    → ((places : ℕ) (pages : Legibility) (state : State) (k : History) → First places pages state k → Each places pages state k)
     → Advances {T = T} First next before old (Err e) after new
     → Advances {T = U} Each other before old (Err f) after new
 failures_advance {U = U} {F = F} First Each before after next other e f old new each did = record {
   fits = did.fits;
-  steps = λ places h it state same steady story.
-      outcome_weaker (First places state) (Each places state)
+  steps = λ places pages h it state same steady story.
+      outcome_weaker (First places pages state) (Each places pages state)
       (TidyWork (IsCountedClean before.tables) (IsCountedClean after.tables)
       (Settled {T = U} {E = F} (Err f) old new))
       (TidyWork (IsCountedClean before.tables) (IsCountedClean after.tables)
       (Settled {T = U} {E = F} (Err f) old new))
       (Settled {T = U} {E = F} (Err f) old new) (Settled {T = U} {E = F} (Err f) old new)
-      (StoryRests places state.map) (StoryRests places state.map) h old new (each places state)
-      (λ a is. is) (λ z. z) (λ _ k is. is) (did.steps places h it state same steady story);
+      (StoryRests places (of pages state.map)) (StoryRests places (of pages state.map)) h old new (each places pages state)
+      (λ a is. is) (λ z. z) (λ _ k is. is) (did.steps places pages h it state same steady story);
 }
 
 -- another answer, where the call was done as well
-pub answers_advance : {T U E F : Type 0} (Each : ℕ → State → History → Type 0)
+pub answers_advance : {T U E F : Type 0} (Each : ℕ → Legibility → State → History → Type 0)
     (next : State → State) (before after : Memory) (result : Result T E) (other : Result U F)
     (old new : Told) → is_ok result ≡ is_ok other
     → Advances Each next before old result after new
@@ -209,11 +215,11 @@ next_states_advance next other before after result old new alike did = record {
             (then_alike result next other state (alike places (chart_of x) it state fits))
             (had it state fits),
       );
-  steps = λ places h it state same steady story.
-      subst (λ (s : State). Steps (EachStandsEither places state.map s.map) before.tables
-      after.tables (λ v k. StoryRests places s.map k) (λ k. StoryRests places state.map k) h result
+  steps = λ places pages h it state same steady story.
+      subst (λ (s : State). Steps (EachStandsEither places (of pages state.map) (of pages s.map)) before.tables
+      after.tables (λ v k. StoryRests places (of pages s.map) k) (λ k. StoryRests places (of pages state.map) k) h result
       old new) (alike places (now h) it state story.fits)
-      (did.steps places h it state same steady story);
+      (did.steps places pages h it state same steady story);
 }
   where
     then_alike : {T E : Type 0} (result : Result T E) (next other : State → State) (state : State)

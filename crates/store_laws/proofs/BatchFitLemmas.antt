@@ -90,7 +90,7 @@ frames_over places c y it active rest frames keeps alike framed = record {
   each = λ u page f is.
       let (low, few) = framed.within u page f is in
       let was = framed.each u page f is in record {
-        shows = keeps u page f.values low few was.shows;
+        shows = keeps.shown u page f.values low few was.shows;
         changes = λ slot less.
             was.changes slot less
             ∙ ap (λ (test : ℕ → Bool). pending_of (last_that (counts_for test page slot)
@@ -111,7 +111,7 @@ batches_fit places c y it t later frames after slots state ss committed fits are
       none_lost = none_lost;
       pending = pending_with_numbers it.count new (logs_of after) (without_sessions (number_of slots) ss)
           (number_of closed) (rules.after_batch state ss) numbers waits.pending;
-      filled = room_kept it.count c y new new (rules.after_batch state ss) (rules.after_batch state ss) keeps
+      filled = room_kept it.count c y new new (rules.after_batch state ss) (rules.after_batch state ss) keeps.shown
           (λ n. omega arith) waits.filled;
       active = listed_active closed;
       framed = frames_over places c y new (is_active waits.tables) (λ n. is_among n (numbers_in closed)) after keeps

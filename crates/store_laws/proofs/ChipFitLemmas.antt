@@ -72,7 +72,7 @@ log_sectors_fit places c y it t after frames slots state u page f e fits there i
       mirrors = mirrors;
       none_lost = none_lost;
       pending = pending places c y it t frames slots state u page f e fits there its keeps;
-      filled = room_kept it.count c y it (with_log it u e) state state keeps (λ n. omega arith) fits.filled;
+      filled = room_kept it.count c y it (with_log it u e) state state keeps.shown (λ n. omega arith) fits.filled;
       active = still_active (number_of slots) t after active fits.active;
       framed = frames_still it.count y (with_log it u e) t after later active
           (framed places c y it t frames slots state u page f e fits there its keeps);
@@ -99,7 +99,7 @@ same_or_merged_fit places c y it new t after frames slots state fits same alike 
           fits.pending (sessions_are_sound slots state fits.sessions).0 fits.active alike kept
           (waits_for new (number_of slots) after still mirrors.numbers.waits));
       filled = subst (λ (n : ℕ). PagesHaveRoom n y new state) count
-          (room_kept it.count c y it new state state keeps (λ n. omega arith) fits.filled);
+          (room_kept it.count c y it new state state keeps.shown (λ n. omega arith) fits.filled);
       active = still;
       framed = subst (λ (n : ℕ). AreFramesOf n y new (is_active after) frames) count
           (frames_still it.count y new t after frames active (record {

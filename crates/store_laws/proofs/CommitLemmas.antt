@@ -42,6 +42,7 @@ use Rattle.store_laws.specs.Refusals.{AreOpenSessions}
 use Rattle.store_laws.specs.SessionLaws.{with_numbers_of}
 use Rattle.store_laws.specs.Laws.{NamesOutSuffice, NumbersLead, FailedNumbersLead}
 use Rattle.store_laws.proofs.BatchLemmas.{all_written, numbers_hold, applied_in_turn}
+use Rattle.ipl_meaning.specs.Legible.{Legibility, of}
 
 -- ---- all that a session wrote is on the chip
 
@@ -166,9 +167,9 @@ module _ (ss : List ℕ) (before : Memory) (opened : AreOpenSessions before.slot
     join_all = join_so committed (numbers_join it.committed tids)
 
     -- the pages say the map after it
-    says_added : Says places c it state.map
-        → Says places c (layout_added it tids) (after_batch state ss).map
-    says_added = batches_say_writes places c it (logs_of before.frames) (number_of before.slots)
+    says_added : (pages : Legibility) → Says places c it (of pages state.map)
+        → Says places c (layout_added it tids) (of pages (after_batch state ss).map)
+    says_added pages = batches_say_writes places pages c it (logs_of before.frames) (number_of before.slots)
         state ss committed fits.pending fits.filled one_writer join_all
 
     -- and those that showed the map show it
@@ -177,9 +178,10 @@ module _ (ss : List ℕ) (before : Memory) (opened : AreOpenSessions before.slot
     shows_added y added = record {
       count = refl;
       pages = λ u page low few shows.
-          added.pages u page _ low few
+          added.pages.shown u page _ low few
           (batch_shows it.count c it (logs_of before.frames) (number_of before.slots) state ss
           committed fits.pending fits.filled one_writer join_all u page low few shows);
+      no_more = added.pages.no_more;
       nowhere_else = λ name high none.
           batches_keep state ss name (λ s there. fits.pending.nowhere_else s name high) ∙ none;
     }
@@ -200,22 +202,22 @@ module _ (ss : List ℕ) (before : Memory) (opened : AreOpenSessions before.slot
   -- over a story
   adds_in_steps : (result : Result (Unit {0}) ChipFault) (old new : Told)
       → AddsNumbersInSteps old.places t.status t.next tids result old new
-      → (places : ℕ) (h : History) (it : Layout) (state : State) → old.places ≡ places
-      → IsSteady h old → MemoryFitsStory places h it before state
-      → Steps (EachStandsEither places state.map (after_batch state ss).map) t with_them
-      (λ v k. StoryRests places (after_batch state ss).map k) NoOtherEnd h result old new
-  adds_in_steps result old new adds places h it state same steady story =
+      → (places : ℕ) (pages : Legibility) (h : History) (it : Layout) (state : State) → old.places ≡ places
+      → IsSteady h old → MemoryFitsStory places pages h it before state
+      → Steps (EachStandsEither places (of pages state.map) (of pages (after_batch state ss).map)) t with_them
+      (λ v k. StoryRests places (of pages (after_batch state ss).map) k) NoOtherEnd h result old new
+  adds_in_steps result old new adds places pages h it state same steady story =
       let fits = story.fits in
-      let agreeing : RestsAgreeing places state.map it t h = record {
+      let agreeing : RestsAgreeing places (of pages state.map) it t h = record {
         rests = story.rests;
         agrees = record { mirrors = fits.mirrors; tidy = story.tidy };
       } in
       subst (λ (n : ℕ). AddsNumbersInSteps n t.status t.next tids result old new) same adds
-      h it t state.map (after_batch state ss).map steady
+      h it t (of pages state.map) (of pages (after_batch state ss).map) steady
       (record { status_is = refl; next_is = refl })
       (have_numbers places (now h) it state fits) agreeing
-      (says_added places (now h) it state fits
-      (resting_pages_say places h it state.map story.rests fits.mirrors.laid))
+      (says_added places (now h) it state fits pages
+      (resting_pages_say places h it (of pages state.map) story.rests fits.mirrors.laid))
 
 -- ---- the numbers are added
 
@@ -229,16 +231,16 @@ numbers_lead ss before later old new opened out adds steps settles locked = reco
         λ it state fits. fits_added ss before opened out places (chart_of x) it state fits
             (chart_of y) later settles locked added,
       );
-  steps = λ places h it state same steady story.
-      adds_in_steps ss before opened out (Ok tt) old new steps places h it state same steady story;
+  steps = λ places pages h it state same steady story.
+      adds_in_steps ss before opened out (Ok tt) old new steps places pages h it state same steady story;
 }
 
 pub failed_numbers_lead : FailedNumbersLead
 failed_numbers_lead ss before after e f old new opened out steps stopped = record {
   fits = λ places same unrisen. absurd (omega (arith, stopped.1, unrisen));
-  steps = λ places h it state same steady story.
-      let m = state.map in
-      let n = (after_batch state ss).map in
+  steps = λ places pages h it state same steady story.
+      let m = of pages state.map in
+      let n = of pages (after_batch state ss).map in
       let t = before.tables in
       let Soft = Settled {T = Unit {0}} {E = ChipFault} (Err f) old new in
       outcome_weaker (EachStandsEither places m n) (EachStandsEither places m n)
@@ -250,6 +252,6 @@ failed_numbers_lead ss before after e f old new opened out steps stopped = recor
         lawful = is.lawful;
         clean = λ unrisen. absurd (omega (arith, stopped.1, unrisen));
       }) (λ z. z) (λ _ k is. absurd is)
-      (adds_in_steps ss before opened out (Err e) old new steps places h it state same steady
+      (adds_in_steps ss before opened out (Err e) old new steps places pages h it state same steady
       story);
 }

@@ -11,6 +11,7 @@ use Rattle.ipl_model.specs.State.{Limits}
 use Rattle.ipl_model.specs.declared.reply.Reply.{Reply}
 use Rattle.ipl_format.specs.Sector.{sector_in}
 use Rattle.ipl_meaning.specs.Chart.{chart_of}
+use Rattle.ipl_meaning.specs.Legible.{Legibility, of}
 use Rattle.ipl_meaning.specs.Rests.{EachStandsIn, StoryRests}
 use Rattle.ipl_meaning.proofs.StoryLemmas.{moments_of_one, rests_in_units}
 use Rattle.unit_io.specs.StepLaws.{Preserves}
@@ -25,12 +26,12 @@ use Rattle.store_laws.proofs.KeepLemmas.{IsAt, is_at, work_leaves, at_limits}
 -- ---- a store whose chip was opened
 
 pub opened_stores_keep : OpenedStoresKeep
-opened_stores_keep places units t slots told h m none_lost none closed sessions shown steady rests tidy =
+opened_stores_keep places units pages t slots told h m none_lost none closed sessions shown steady rests tidy =
     let (it, count, mirrors, says) = shown (held h.start h.story) steady.holds in record {
       limits_are = refl;
       steady = steady;
       rests = rests;
-      many = rests_in_units places m h it rests mirrors.laid ∙ count;
+      many = rests_in_units places (of pages m) h it rests mirrors.laid ∙ count;
       up = λ runs. record {
         sessions = sessions;
         shows = record {
@@ -47,9 +48,9 @@ opened_stores_keep places units t slots told h m none_lost none closed sessions 
 -- ---- faults
 
 -- nothing was left
-abbrev nothing_leaves : (P : Contents → Type 0) (store : View) (h : History) (told : Told)
-    → Leaves (says sector_in) P h [] → WorkLeaves (store_keeping told.places) P store h store told told false
-nothing_leaves P store h told each = record {
+abbrev nothing_leaves : (pages : Legibility) (P : Contents → Type 0) (store : View) (h : History) (told : Told)
+    → Leaves (says sector_in) P h [] → WorkLeaves (store_keeping told.places pages) P store h store told told false
+nothing_leaves pages P store h told each = record {
   added = [];
   history = same_history told.history;
   each_moment = at_start (Leaves (says sector_in) P h) each;
@@ -57,13 +58,13 @@ nothing_leaves P store h told each = record {
   only = tt;
   lawful = record { lawful = λ base lawful clean. lawful };
   clean = λ done. absurd (cc done);
-  unused = unused_none (store_keeping told.places) store h false;
+  unused = unused_none (store_keeping told.places pages) store h false;
 }
 
 pub idle_faults_are_work : IdleFaultsAreWork
-idle_faults_are_work c store told late limits state h keeps = record {
-  leaves = nothing_leaves _ store h told
-      (λ x image. inl (keeps_each told.places limits store told h state keeps x image));
+idle_faults_are_work pages c store told late limits state h keeps = record {
+  leaves = nothing_leaves pages _ store h told
+      (λ x image. inl (keeps_each told.places pages limits store told h state keeps x image));
   ends = λ unrisen. keeps;
   drawn = omega arith;
   excuse = λ few. absurd (omega (arith, late, few));
@@ -71,8 +72,8 @@ idle_faults_are_work c store told late limits state h keeps = record {
 }
 
 pub idle_faults_look_up : IdleFaultsLookUp
-idle_faults_look_up n store told late limits state h keeps low = record {
-  leaves = nothing_leaves _ store h told (keeps_each told.places limits store told h state keeps);
+idle_faults_look_up pages n store told late limits state h keeps low = record {
+  leaves = nothing_leaves pages _ store h told (keeps_each told.places pages limits store told h state keeps);
   ends = λ unrisen. keeps;
   drawn = omega arith;
   excuse = λ few. absurd (omega (arith, late, few));
@@ -80,13 +81,13 @@ idle_faults_look_up n store told late limits state h keeps low = record {
 }
 
 pub faults_that_leave_down : FaultsThatLeaveDown
-faults_that_leave_down c before after fault old new units up down preserves drawn excused limits
+faults_that_leave_down pages c before after fault old new units up down preserves drawn excused limits
     state h keeps =
-    subst (λ (l : Limits). WorksFor (store_keeping old.places) l state c before h (Err fault) after old new)
+    subst (λ (l : Limits). WorksFor (store_keeping old.places pages) l state c before h (Err fault) after old new)
     (sym keeps.limits_are) (record {
-      leaves = work_leaves {T = Reply} {E = Fault} (KeepsMapOf old.places state)
-          (λ v k. StoryRests old.places state.map k)
-          (λ k. StoryRests old.places state.map k) before after h state (Err fault) old new _ here way
+      leaves = work_leaves {T = Reply} {E = Fault} pages (KeepsMapOf old.places pages state)
+          (λ v k. StoryRests old.places (of pages state.map) k)
+          (λ k. StoryRests old.places (of pages state.map) k) before after h state (Err fault) old new _ here way
           (λ later e split x image. inl (moments later e split x image));
       ends = λ unrisen. record {
         limits_are = ap limits_of (sym units);
@@ -94,10 +95,10 @@ faults_that_leave_down c before after fault old new units up down preserves draw
         rests = way.ends unrisen;
         many =
             let k = adds_all way.added h in
-            let is = at_end (λ e. EachStandsIn old.places before.units state.map (adds_all e h))
+            let is = at_end (λ e. EachStandsIn old.places before.units (of pages state.map) (adds_all e h))
             way.added moments (held k.start k.story)
             (held_is_image (says sector_in) k.start k.story) in
-            rests_in_units old.places state.map k is.stands.layout (way.ends unrisen) is.stands.laid
+            rests_in_units old.places (of pages state.map) k is.stands.layout (way.ends unrisen) is.stands.laid
             ∙ is.count ∙ sym units;
         up = λ runs. absurd (let clash : true ≡ false = sym down ∙ runs in cc clash);
       };
@@ -106,18 +107,18 @@ faults_that_leave_down c before after fault old new units up down preserves draw
       tells = (excused h state own).1;
     })
   where
-    own : KeepsStore old.places (limits_of before.units) before old h state
-    own = at_limits old.places limits before old h state keeps
+    own : KeepsStore old.places pages (limits_of before.units) before old h state
+    own = at_limits old.places pages limits before old h state keeps
 
-    here : IsAt before old state h
-    here = is_at before old h state up own
+    here : IsAt pages before old state h
+    here = is_at pages before old h state up own
 
-    way : Preserves {T = Reply} old.places state.map before.memory.tables
+    way : Preserves {T = Reply} old.places (of pages state.map) before.memory.tables
         after.memory.tables h (Err fault) old new
     way = preserves h here.shown.layout state here.steady here.story
 
-    moments : AtEachMoment (λ e. EachStandsIn old.places before.units state.map (adds_all e h)) way.added
-    moments = subst (λ (units : ℕ). AtEachMoment (λ e. EachStandsIn old.places units state.map
+    moments : AtEachMoment (λ e. EachStandsIn old.places before.units (of pages state.map) (adds_all e h)) way.added
+    moments = subst (λ (units : ℕ). AtEachMoment (λ e. EachStandsIn old.places units (of pages state.map)
         (adds_all e h)) way.added) here.shown.count
-        (moments_of_one old.places state.map h here.shown.layout way.added
+        (moments_of_one old.places (of pages state.map) h here.shown.layout way.added
         here.shown.fits.mirrors.laid way.each_moment)

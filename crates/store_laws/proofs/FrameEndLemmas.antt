@@ -109,7 +109,7 @@ pub commits_keep_frames : CommitsKeepFrames
 commits_keep_frames places c y it logs numbers state active rest after s tid u page values pending has filled one tells
     later mine out joins keeps low few framed =
     record {
-      shows = keeps u page (λ slot. seen_by tid (values slot) (pending slot)) low few
+      shows = keeps.shown u page (λ slot. seen_by tid (values slot) (pending slot)) low few
           (applied_shows it.count c it logs numbers state s tid after has filled mine out joins u page low few
           values (λ slot. seen_by tid (values slot) (pending slot)) says framed.shows);
       changes = λ slot less.

@@ -141,7 +141,7 @@ pub log_sectors_keep_frames : LogSectorsKeepFrames
 log_sectors_keep_frames places c y it logs numbers state active u page v q e values pending has its keeps low few
     framed =
     record {
-      shows = keeps v q values low few framed.shows;
+      shows = keeps.shown v q values low few framed.shows;
       changes = λ slot less.
           framed.changes slot less
           ∙ ap pending_of (sym (last_same it.count it logs numbers state u page e has its active v q slot));
@@ -149,7 +149,7 @@ log_sectors_keep_frames places c y it logs numbers state active u page v q e val
 
 pub other_steps_keep_frames : OtherStepsKeepFrames
 other_steps_keep_frames places c y it new logs active v q values pending alike keeps low few framed = record {
-  shows = keeps v q values low few framed.shows;
+  shows = keeps.shown v q values low few framed.shows;
   changes = λ slot less.
       framed.changes slot less
       ∙ ap pending_of (sym (last_carried active q slot (it.units v) (new.units v) (logs v q) alike));

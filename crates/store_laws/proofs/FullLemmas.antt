@@ -112,7 +112,7 @@ written_pages_fit places c it t frames slots state n fits says marked =
     let few : home.page < PAGES = omega arith in
     let values = page_in state.map home.unit home.page in
     let shown = shown_fill it.count c it state home.unit home.page values fits.filled low few
-    (says.pages home.unit home.page low few) in
+    (says.pages home.unit home.page low few refl) in
     le_trans (fewer (fills_same _ _ _ values (λ slot less. ap (get state.map) (one_name n slot less))
     (λ slot less. ap (marks state) (one_name n slot less)))) shown
   where

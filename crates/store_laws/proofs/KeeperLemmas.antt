@@ -5,6 +5,7 @@ use Rattle.ipl_base.specs.declared.fault.ChipFault.{ChipFault}
 use Rattle.ipl_model.specs.State.{Map, State}
 use Rattle.record_locks.specs.Held.{SessionSlots, number_of}
 use Rattle.ipl_meaning.specs.Chart.{Chart, chart_of}
+use Rattle.ipl_meaning.specs.Legible.{of}
 use Rattle.ipl_meaning.specs.Layout.{Layout}
 use Rattle.ipl_meaning.specs.Mirrors.{Mirrors}
 use Rattle.ipl_meaning.specs.Stands.{page_in}
@@ -41,7 +42,8 @@ pub kept_shows : (places : ℕ) (c y : Chart) (it new : Layout) (m : Map) → ne
     → KeepsPages places c it y new → ShowsNext places c it m y new m
 kept_shows places c y it new m count keeps = record {
   count = count;
-  pages = λ u page low few shows. keeps u page (page_in m u page) low few shows;
+  pages = λ u page low few shows. keeps.shown u page (page_in m u page) low few shows;
+  no_more = keeps.no_more;
   nowhere_else = λ name high none. none;
 }
 
@@ -55,7 +57,7 @@ pub nothing_keeps_states : NothingKeepsStates
 nothing_keeps_states t frames old slots =
     let memory = memory_of t frames slots in
     reads_advance KeepsMapOf Nowhere (λ state. state) memory old (Ok tt) memory old
-    (λ places state k is. is) (record {
+    (λ places pages state k is. is) (record {
       reads = at_none Nowhere old;
       fits = λ places same x told it state fits. fits;
       map = λ places c it state fits. refl;
@@ -72,7 +74,7 @@ pub keepers_then : {T U E F : Type 0} (t between after : Tables) (frames middle 
 keepers_then t between after frames middle later v result old mid new counts first second slots =
     calls_advance KeepsMapOf KeepsMapOf KeepsMapOf (λ state. state) (memory_of t frames slots)
     (memory_of between middle slots) (memory_of after later slots) v result old mid new
-    (λ places state k is. is) (λ places state k is. is) counts
+    (λ places pages state k is. is) (λ places pages state k is. is) counts
     (first slots) (second slots)
 
 pub keepers_are_joined : KeepersAreJoined
@@ -85,7 +87,7 @@ pub keepers_fail : {T U E F : Type 0} (t after : Tables) (frames later : Frames)
     → KeepsState {T = U} t frames old (Err f) after later new
 keepers_fail t after frames later e f old new did slots =
     failures_advance KeepsMapOf KeepsMapOf (memory_of t frames slots) (memory_of after later slots)
-    (λ state. state) (λ state. state) e f old new (λ places state k is. is) (did slots)
+    (λ state. state) (λ state. state) e f old new (λ places pages state k is. is) (did slots)
 
 pub failed_keepers_keep : FailedKeepersKeep
 failed_keepers_keep = keepers_fail
@@ -108,7 +110,7 @@ pub reads_keep_states : {T E : Type 0} (At : ℕ → ℕ → Type 0) (t : Tables
 reads_keep_states At t frames result old new did slots =
     let memory = memory_of t frames slots in
     reads_advance KeepsMapOf At (λ state. state) memory old result memory new
-    (λ places state k is. is) (record {
+    (λ places pages state k is. is) (record {
       reads = did;
       fits = λ places same x told it state fits.
           still_fits result memory places (chart_of x) it state fits;
@@ -128,7 +130,7 @@ pub loads_keep_states : (At : ℕ → ℕ → Type 0) (t : Tables) (frames : Fra
     (with_frame_at frames u page (Some f)) new
 loads_keep_states At t frames u page f old new did low few none empty read slots =
     reads_advance KeepsMapOf At (λ state. state) (memory_of t frames slots) old (Ok tt)
-    (memory_of t (with_frame_at frames u page (Some f)) slots) new (λ places state k is. is)
+    (memory_of t (with_frame_at frames u page (Some f)) slots) new (λ places pages state k is. is)
     (record {
       reads = did;
       fits = λ places same x told it state fits.
@@ -146,7 +148,7 @@ loads_anywhere_keep_states = loads_keep_states Anywhere
 pub evictions_keep_states : EvictionsKeepStates
 evictions_keep_states t frames u page f old there empty slots =
     reads_advance KeepsMapOf Nowhere (λ state. state) (memory_of t frames slots) old (Ok tt)
-    (memory_of t (with_frame_at frames u page None) slots) old (λ places state k is. is) (record {
+    (memory_of t (with_frame_at frames u page None) slots) old (λ places pages state k is. is) (record {
       reads = at_none Nowhere old;
       fits = λ places same x told it state fits.
           evictions_fit places (chart_of x) it t frames slots state u page f fits there empty;
@@ -171,7 +173,7 @@ turned_fits places c y it t after frames slots state fits on =
           on.alike on.kept
           (waits_for on.layout (number_of slots) after still on.mirrors.numbers.waits));
       filled = subst (λ (n : ℕ). PagesHaveRoom n y on.layout state) (sym on.count)
-          (room_kept it.count c y it on.layout state state on.pages (λ n. omega arith) fits.filled);
+          (room_kept it.count c y it on.layout state state on.pages.shown (λ n. omega arith) fits.filled);
       active = still;
       framed = subst (λ (n : ℕ). AreFramesOf n y on.layout (is_active after) frames) (sym on.count)
           (frames_still it.count y on.layout t after frames on.active (record {
@@ -202,8 +204,8 @@ table_calls_keep_states t after frames result old new turns preserves slots = re
                   on.count on.pages;
             },
       );
-  steps = λ places h it state same steady story.
-      preserves places state.map it h same steady story.rests
+  steps = λ places pages h it state same steady story.
+      preserves places (of pages state.map) it h same steady story.rests
       (record { mirrors = story.fits.mirrors; tidy = story.tidy });
 }
   where
@@ -231,6 +233,6 @@ log_sectors_keep_states t after frames u page f old new there logged preserves s
                   state.map refl is.pages;
             },
       );
-  steps = λ places h it state same steady story.
-      preserves places h it slots state same steady story;
+  steps = λ places pages h it state same steady story.
+      preserves places pages h it slots state same steady story;
 }

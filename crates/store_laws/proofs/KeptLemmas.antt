@@ -19,24 +19,25 @@ use Rattle.store_laws.specs.Fits.{AreSessionsOf}
 use Rattle.store_laws.specs.Advances.{KeepsState}
 use Rattle.store_laws.specs.Keeps.{View, limits_of, ShowsState, KeepsStore, TellsName, KeptFramesTell}
 use Rattle.store_laws.proofs.RefusalLemmas.{accepted_are_done}
-use Rattle.store_laws.proofs.ViewLemmas.{frames_tell_state}
+use Rattle.store_laws.proofs.ViewLemmas.{shown_is_said, frames_tell_state}
+use Rattle.ipl_meaning.specs.Legible.{Legibility, IsToldApart}
 
 -- ---- what it has
 
-pub kept_limits : (places : ℕ) (limits : Limits) (store : View) (t : Told) (h : History) (state : State)
-    → KeepsStore places limits store t h state → limits ≡ limits_of store.units
-kept_limits places limits store t h state keeps = keeps.limits_are
+pub kept_limits : (places : ℕ) (pages : Legibility) (limits : Limits) (store : View) (t : Told) (h : History) (state : State)
+    → KeepsStore places pages limits store t h state → limits ≡ limits_of store.units
+kept_limits places pages limits store t h state keeps = keeps.limits_are
 
-pub kept_sessions : (places : ℕ) (limits : Limits) (store : View) (t : Told) (h : History) (state : State)
-    → store.down ≡ false → KeepsStore places limits store t h state
+pub kept_sessions : (places : ℕ) (pages : Legibility) (limits : Limits) (store : View) (t : Told) (h : History) (state : State)
+    → store.down ≡ false → KeepsStore places pages limits store t h state
     → AreSessionsOf store.memory.slots state
-kept_sessions places limits store t h state up keeps = (keeps.up up).sessions
+kept_sessions places pages limits store t h state up keeps = (keeps.up up).sessions
 
 -- a layout in which the memory fits, and the pages say the map
-pub kept_shown : (places : ℕ) (limits : Limits) (store : View) (t : Told) (h : History) (state : State)
-    → store.down ≡ false → KeepsStore places limits store t h state
-    → ShowsState places store state (held h.start h.story)
-kept_shown places limits store t h state up keeps = (keeps.up up).shows
+pub kept_shown : (places : ℕ) (pages : Legibility) (limits : Limits) (store : View) (t : Told) (h : History) (state : State)
+    → store.down ≡ false → KeepsStore places pages limits store t h state
+    → ShowsState places pages store state (held h.start h.story)
+kept_shown places pages limits store t h state up keeps = (keeps.up up).shows
 
 -- ---- what frames tell of it
 
@@ -48,25 +49,27 @@ name_of_home : (n : ℕ) → name_at (home_of n).unit (home_of n).page (home_of 
 name_of_home n = omega arith
 
 -- whatever the call answered
-pub kept_frames_tell_on : {T E : Type 0} (v : T) (n : ℕ) (store : View) (t : Tables)
+pub kept_frames_tell_on : {T E : Type 0} (pages : Legibility) (v : T) (n : ℕ) (store : View) (t : Tables)
     (later : Frames) (f : PageFrame) (h : History) (state : State) (old new : Told)
-    → store.down ≡ false
+    → IsToldApart pages → store.down ≡ false
     → KeepsState {T = T} {E = E} store.memory.tables store.memory.frames old (Ok v) t later new
     → later (home_of n).unit (home_of n).page ≡ Some f
-    → KeepsStore old.places (limits_of store.units) store old h state
+    → KeepsStore old.places pages (limits_of store.units) store old h state
     → TellsName store.memory.slots state n f
-kept_frames_tell_on v n store t later f h state old new up keeper there keeps =
+kept_frames_tell_on pages v n store t later f h state old new apart up keeper there keeps =
     let places = old.places in
     let home = home_of n in
     let x = held h.start h.story in
-    let shown = kept_shown places (limits_of store.units) store old h state up keeps in
+    let shown = kept_shown places pages (limits_of store.units) store old h state up keeps in
     let (y, told_then, had) = (keeper store.memory.slots).fits places refl tt x
     keeps.steady.holds in
     let on = had shown.layout state shown.fits in
     let (low, few) = on.fits.framed.within home.unit home.page f there in
     let tells = frames_tell_state places (chart_of x) (chart_of y) shown.layout state.map
     (record { tables = t; frames = later; slots = store.memory.slots }) state home.unit home.page
-    home.slot f on (shown.says.pages home.unit home.page (rw on.shows.count at low) few) there
+    home.slot f on (shown.says.pages home.unit home.page (rw on.shows.count at low) few
+    (shown_is_said places pages (chart_of x) (chart_of y) shown.layout state.map (record { tables = t; frames = later; slots = store.memory.slots })
+    state home.unit home.page f apart shown.says on there)) there
     (omega arith) in
     let same = name_of_home n in record {
       committed = tells.committed ∙ ap (get state.map) same;
@@ -74,7 +77,7 @@ kept_frames_tell_on v n store t later f h state old new up keeper there keeps =
     }
 
 pub kept_frames_tell : KeptFramesTell
-kept_frames_tell = kept_frames_tell_on tt
+kept_frames_tell pages = kept_frames_tell_on pages tt
 
 -- ---- replies
 

@@ -6,6 +6,7 @@ use Rattle.ipl_model.specs.State.{State}
 use Rattle.ipl_model.specs.Operations.{after_restart}
 use Rattle.ipl_meaning.specs.Chart.{chart_of}
 use Rattle.ipl_meaning.specs.Tables.{Tables}
+use Rattle.ipl_meaning.specs.Legible.{Legibility, of}
 use Rattle.ipl_meaning.specs.Rests.{EachStands, StoryRests}
 use Rattle.ipl_meaning.proofs.StoryLemmas.{one_is_either}
 use Rattle.unit_io.proofs.ReadsAtLemmas.{at_none}
@@ -18,9 +19,9 @@ use Rattle.store_laws.proofs.KeeperLemmas.{Nowhere, kept_shows}
 use Rattle.store_laws.proofs.StepLemmas.{steps_weaker}
 
 -- what leaves the map leaves one of two
-pub either_map : (next : State → State) (places : ℕ) (state : State) (k : History)
-    → KeepsMapOf places state k → TurnsMapOf next places state k
-either_map next places state k each = one_is_either places state.map (next state).map k each
+pub either_map : (next : State → State) (places : ℕ) (pages : Legibility) (state : State) (k : History)
+    → KeepsMapOf places pages state k → TurnsMapOf next places pages state k
+either_map next places pages state k each = one_is_either places (of pages state.map) (of pages (next state).map) k each
 
 pub memory_leads : MemoryLeads
 memory_leads next before after old fits map clean =
@@ -40,12 +41,12 @@ pub keepers_lead_still : {T E : Type 0} (before : Memory) (after : Tables) (late
     → LeadsTo (λ state. state) before old result (memory_of after later before.slots) new
 keepers_lead_still before after later result old new did = record {
   fits = (did before.slots).fits;
-  steps = λ places h it state same steady story.
-      let Rests = StoryRests places state.map in
-      steps_weaker (KeepsMapOf places state) (TurnsMapOf (λ state. state) places state)
+  steps = λ places pages h it state same steady story.
+      let Rests = StoryRests places (of pages state.map) in
+      steps_weaker (KeepsMapOf places pages state) (TurnsMapOf (λ state. state) places pages state)
       before.tables after (λ v k. Rests k) (λ v k. Rests k) Rests Rests h result old new
-      (either_map (λ state. state) places state) (λ v k is. is) (λ k is. is)
-      ((did before.slots).steps places h it state same steady story);
+      (either_map (λ state. state) places pages state) (λ v k is. is) (λ k is. is)
+      ((did before.slots).steps places pages h it state same steady story);
 }
 
 pub keepers_lead : KeepersLead
@@ -62,7 +63,7 @@ pub keepers_lead_on : {T U E F : Type 0} (next : State → State) (before : Memo
 keepers_lead_on next before between middle after v result old mid new counts first second =
     calls_advance KeepsMapOf (TurnsMapOf next) (TurnsMapOf next) next before
     (memory_of between middle before.slots) after v result old mid new (either_map next)
-    (λ places state k is. is) counts (first before.slots) second
+    (λ places pages state k is. is) counts (first before.slots) second
 
 pub keepers_then_lead : KeepersThenLead
 keepers_then_lead next before between middle after = keepers_lead_on next before between middle
@@ -106,11 +107,11 @@ restarts_lead before t slots old new none closed sessions opens preserves = reco
                   is.pages;
             },
       );
-  steps = λ places h it state same steady story.
-      let Rests = StoryRests places state.map in
-      steps_weaker {T = Unit {0}} {E = ChipFault} (EachStands places state.map)
-      (TurnsMapOf (λ state. after_restart state) places state) before.tables t (λ v k. Rests k)
+  steps = λ places pages h it state same steady story.
+      let Rests = StoryRests places (of pages state.map) in
+      steps_weaker {T = Unit {0}} {E = ChipFault} (EachStands places (of pages state.map))
+      (TurnsMapOf (λ state. after_restart state) places pages state) before.tables t (λ v k. Rests k)
       (λ v k. Rests k) Rests Rests h (Ok tt) old new
-      (either_map (λ state. after_restart state) places state) (λ v k is. is) (λ k is. is)
-      (preserves places state.map it h same steady story.rests story.fits.mirrors.laid);
+      (either_map (λ state. after_restart state) places pages state) (λ v k is. is) (λ k is. is)
+      (preserves places (of pages state.map) it h same steady story.rests story.fits.mirrors.laid);
 }

@@ -9,7 +9,7 @@ use Rattle.chip_trait.specs.declared.event.Event.TheVariants.{Barrier}
 use Rattle.chip_trait.specs.Story.{Story, after}
 use Rattle.chip_trait.specs.Told.{History, Told, Counts, Appends, adds, adds_all}
 use Rattle.ipl_base.specs.declared.fault.ChipFault.{ChipFault}
-use Rattle.ipl_model.specs.State.{Map}
+use Rattle.ipl_meaning.specs.Legible.{Legible}
 use Rattle.ipl_meaning.specs.Chart.{Chart}
 use Rattle.ipl_meaning.specs.Layout.{Layout}
 use Rattle.ipl_meaning.specs.Rests.{EachStandsEither, StoryRests}
@@ -82,7 +82,7 @@ tidy_barrier before = record {
   clean = λ _ base clean p s counted. rw (clean p s counted) refl;
 }
 
-module _ (places : ℕ) (m n : Map) (h : History) (it : Layout) (t : Tables) (old mid : Told)
+module _ (places : ℕ) (m n : Legible) (h : History) (it : Layout) (t : Tables) (old mid : Told)
     (steady : IsSteady h old) (agreeing : RestsAgreeing places m it t h) where
   abbrev Each : History → Type 0
   Each = EachStandsEither places m n

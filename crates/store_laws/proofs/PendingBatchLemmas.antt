@@ -126,10 +126,11 @@ batch_shows units c it logs numbers state (s ∷ ss) after has filled one join u
     (turn_shows units it logs numbers state s tid between has mine out joins c filled u page low few shows)
 
 pub batches_say_writes : BatchesSayWrites
-batches_say_writes places c it logs numbers state ss after has filled one join says = record {
-  pages = λ u page low few.
+batches_say_writes places pages c it logs numbers state ss after has filled one join says = record {
+  pages = λ u page low few reads.
       batch_shows it.count c it logs numbers state ss after has filled one join u page low few
-      (says.pages u page low few);
+      (says.pages u page low few reads);
+  rotten = says.rotten;
   nowhere_else = λ n high. batches_keep state ss n (λ t there. has.nowhere_else t n high) ∙ says.nowhere_else n high;
 }
 

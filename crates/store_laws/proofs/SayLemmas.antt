@@ -135,10 +135,11 @@ room_committed units c it logs numbers state s tid after has filled mine out joi
     (filled u page slot low few less (le_trans marked (removed_most state.sessions s (name_at u page slot))))
 
 pub commits_say_writes : CommitsSayWrites
-commits_say_writes places c it logs numbers state s tid after has filled mine out joins says = record {
-  pages = λ u page low few.
+commits_say_writes places pages c it logs numbers state s tid after has filled mine out joins says = record {
+  pages = λ u page low few reads.
       commit_shows it.count c it logs numbers state s tid after has filled mine out joins u page low few
-      (says.pages u page low few);
+      (says.pages u page low few reads);
+  rotten = says.rotten;
   nowhere_else = λ n high.
       get-with_writes (writes_of state s) state.map n
       ∙ ap (λ (o : Option Change). option_map_or (λ change. change) o (get state.map n)) (has.nowhere_else s n high)

@@ -127,7 +127,7 @@ empty_commits_lead ss before old opened none locked =
     (λ n. ap (λ (tids : List ℕ). if list_any (λ tid. n == tid) tids then true else it.committed n)
     (sym (no_numbers before.slots ss each)))
     (none_applied before.slots ss before.frames each) locked fits.mirrors (omega arith)
-    fits.none_lost (λ u page now low few shows. shows))
+    fits.none_lost (record { shown = λ u page now low few shows. shows; no_more = λ u page base low few reads. (base, reads) }))
     (λ places c it state fits. empty_commits_keep state ss
     (λ s n there. wrote_none before.slots state s fits.sessions (each s there) n))
     (λ p k counted. counted)

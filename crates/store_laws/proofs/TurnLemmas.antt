@@ -87,7 +87,7 @@ turn_frame : (places : ℕ) (c : Chart) (it : Layout) (logs : Logs) (numbers : S
 turn_frame places c it logs numbers state active rest after s tid u page values pending has filled one tells later mine
     out (inl joins) low few framed =
     commits_keep_frames places c c it logs numbers state active rest after s tid u page values pending has filled one
-    tells later mine out joins (λ u page now low few shows. shows) low few framed
+    tells later mine out joins (record { shown = λ u page now low few shows. shows; no_more = λ u page base low few reads. (base, reads) }) low few framed
 turn_frame places c it logs numbers state active rest after s tid u page values pending has filled one tells later mine
     out (inr (none, same)) low few framed =
     subst (λ (f : ℕ → Bool). IsFrameOf c (with_committed it f) logs rest u page

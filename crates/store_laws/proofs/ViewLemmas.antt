@@ -1,10 +1,16 @@
 -- Frames of memory as the frames of pending writes.
-use Rattle.std.proofs.Common.{◌≡◌, ℕ, refl, ap}
+use Rattle.std.proofs.Common.{◌≡◌, ℕ, inl, inr, Some, true, refl, ap}
 use Rattle.ipl_base.specs.Places.{home_of}
 use Rattle.ipl_format.specs.Page.{Slots, value_in}
+use Rattle.ipl_model.specs.State.{Map, State}
+use Rattle.ipl_meaning.specs.Chart.{Chart}
+use Rattle.ipl_meaning.specs.Layout.{Layout}
+use Rattle.ipl_meaning.specs.Legible.{Legibility, of, IsToldApart}
+use Rattle.ipl_meaning.specs.Stands.{Says}
 use Rattle.record_locks.specs.Held.{number_of}
 use Rattle.page_ops.specs.Frames.{FrameView, values_in}
-use Rattle.store_laws.specs.Frames.{logs_of}
+use Rattle.store_laws.specs.Frames.{PageFrame, logs_of}
+use Rattle.store_laws.specs.Advances.{Memory, FitsOn}
 use Rattle.store_laws.specs.Fits.{is_active}
 use Rattle.store_laws.proofs.FitLemmas.{sessions_are_sound}
 use Rattle.store_laws.proofs.FrameLemmas.{frames_tell}
@@ -35,6 +41,20 @@ changed_frames_are_written r a b log page pending = record {
 }
 
 -- ---- what a frame tells
+
+-- what is in a frame after it reads well, so it did before, and is one of the pages of whose names it was said
+pub shown_is_said : (places : ℕ) (pages : Legibility) (c y : Chart) (it : Layout) (m : Map) (memory : Memory) (state : State)
+    (u page : ℕ) (f : PageFrame) → IsToldApart pages → Says places c it (of pages m) → FitsOn places c it m y memory state
+    → memory.frames u page ≡ Some f → pages.reads u page ≡ true
+shown_is_said places pages c y it m memory state u page f apart says on there =
+    let (low, few) = on.fits.framed.within u page f there in
+    let shows = (on.fits.framed.each u page f there).shows in
+    let was = rw on.shows.count at low in
+    let before = on.shows.no_more u page shows.base was few shows.reads in
+    elim (apart u page) [
+      | inl reads ↦ reads
+      | inr rotten ↦ absurd (says.rotten u page before.0 was few rotten before.1)
+    ]
 
 pub frames_tell_state : FramesTellState
 frames_tell_state places c y it m memory state u page slot f on shows there less =

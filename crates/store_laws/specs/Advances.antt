@@ -4,9 +4,11 @@ use Rattle.std.specs.FinMap.{get}
 use Rattle.ipl_base.specs.declared.limits.TheConstants.{PAGES, UNIT_NAMES}
 use Rattle.chip_trait.specs.Told.{History, Told}
 use Rattle.ipl_model.specs.State.{Map, State}
+use Rattle.ipl_format.specs.Page.{Slots}
 use Rattle.record_locks.specs.Held.{SessionSlots}
 use Rattle.ipl_meaning.specs.Chart.{Chart, chart_of}
-use Rattle.ipl_meaning.specs.Layout.{Layout, records_of}
+use Rattle.ipl_meaning.specs.Layout.{Layout, ReadsWell, records_of}
+use Rattle.ipl_meaning.specs.Legible.{Legibility, of}
 use Rattle.ipl_meaning.specs.Stands.{Shows, page_in}
 use Rattle.ipl_meaning.specs.Rests.{EachStands, EachStandsEither, StoryRests}
 use Rattle.ipl_meaning.specs.Tables.{Tables, IsCountedClean}
@@ -37,20 +39,23 @@ abbrev pub MemoryFits : ℕ → Chart → Layout → Memory → State → Type 0
 MemoryFits places c it memory state = Fits places c it memory.tables memory.frames memory.slots state
 
 -- it and a chip's story stand for the state
-abbrev pub MemoryFitsStory : ℕ → History → Layout → Memory → State → Type 0
-MemoryFitsStory places h it memory state =
-    FitsStory places h it memory.tables memory.frames memory.slots state
+abbrev pub MemoryFitsStory : ℕ → Legibility → History → Layout → Memory → State → Type 0
+MemoryFitsStory places pages h it memory state =
+    FitsStory places pages h it memory.tables memory.frames memory.slots state
 
 -- ---- pages
 
 -- There are as many units as before. Each page that the one chart shows as the one map has it, the
--- other chart shows as the other map has it. No name past the last page gets a record.
+-- other chart shows as the other map has it, and what reads well there did so before. No name past the last page gets a
+-- record.
 pub record ShowsNext (places : ℕ) (c : Chart) (it : Layout) (m : Map) (y : Chart) (new : Layout)
     (n : Map) : Type 0 where
   pub count : new.count ≡ it.count
   pub pages : (u page : ℕ) → u < it.count → page < PAGES
       → Shows c it.committed u (it.units u) page (page_in m u page)
       → Shows y new.committed u (new.units u) page (page_in n u page)
+  pub no_more : (u page : ℕ) (base : Slots) → u < it.count → page < PAGES → ReadsWell y u (new.units u) page base
+      → (was : Slots) × ReadsWell c u (it.units u) page was
   pub nowhere_else : (name : ℕ) → UNIT_NAMES * it.count ≤ name → get m name ≡ None
       → get n name ≡ None
 
@@ -71,27 +76,27 @@ state_then (Err e) next state = state
 
 -- What a call leaves of a store's memory and its chip. Where the chip tells what it holds, and no
 -- write failed, the memory fits the state then. Over each history that leaves that, and rests on the
--- map of a state that the memory fits, Each holds at each moment, and the history then rests on the
--- map then, unless a write failed.
-pub record Advances {T E : Type 0} (Each : ℕ → State → History → Type 0) (next : State → State)
+-- records of some pages of a state that the memory fits, Each holds at each moment, and the history
+-- then rests on those of the state then, of the same pages, unless a write failed.
+pub record Advances {T E : Type 0} (Each : ℕ → Legibility → State → History → Type 0) (next : State → State)
     (before : Memory) (old : Told) (result : Result T E) (after : Memory) (new : Told)
     : Type 0 where
   pub fits : (places : ℕ) → old.places ≡ places → Settled result old new
       → Charts (λ c y. (it : Layout) (state : State) → MemoryFits places c it before state
       → FitsOn places c it state.map y after (state_then result next state)) old new
-  pub steps : (places : ℕ) (h : History) (it : Layout) (state : State) → old.places ≡ places
-      → IsSteady h old → MemoryFitsStory places h it before state
-      → Steps (Each places state) before.tables after.tables
-      (λ v k. StoryRests places (next state).map k) (λ k. StoryRests places state.map k)
+  pub steps : (places : ℕ) (pages : Legibility) (h : History) (it : Layout) (state : State) → old.places ≡ places
+      → IsSteady h old → MemoryFitsStory places pages h it before state
+      → Steps (Each places pages state) before.tables after.tables
+      (λ v k. StoryRests places (of pages (next state).map) k) (λ k. StoryRests places (of pages state.map) k)
       h result old new
 
 -- at a moment of a call that keeps each state, a power cut leaves the map
-abbrev pub KeepsMapOf : ℕ → State → History → Type 0
-KeepsMapOf places state h = EachStands places state.map h
+abbrev pub KeepsMapOf : ℕ → Legibility → State → History → Type 0
+KeepsMapOf places pages state h = EachStands places (of pages state.map) h
 
 -- at a moment of a call that leads to a next state, it leaves the old map or the new one
-abbrev pub TurnsMapOf : (State → State) → ℕ → State → History → Type 0
-TurnsMapOf next places state h = EachStandsEither places state.map (next state).map h
+abbrev pub TurnsMapOf : (State → State) → ℕ → Legibility → State → History → Type 0
+TurnsMapOf next places pages state h = EachStandsEither places (of pages state.map) (of pages (next state).map) h
 
 -- A call that keeps each state, however it ends, and doesn't know the sessions.
 abbrev pub KeepsState : {T E : Type 0} → Tables → Frames → Told → Result T E → Tables → Frames

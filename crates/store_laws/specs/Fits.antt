@@ -10,6 +10,7 @@ use Rattle.record_locks.specs.Locks.{OneWriter, FewPending, IsSized}
 use Rattle.record_locks.specs.Names.{SameNames, SameMarks}
 use Rattle.ipl_meaning.specs.Chart.{Chart, chart_of}
 use Rattle.ipl_meaning.specs.Layout.{Layout}
+use Rattle.ipl_meaning.specs.Legible.{Legibility, of}
 use Rattle.ipl_meaning.specs.Stands.{Says}
 use Rattle.ipl_meaning.specs.Rests.{now, StoryRests}
 use Rattle.ipl_meaning.specs.Tables.{Tables, IsCountedClean}
@@ -73,16 +74,16 @@ pub record Fits (places : ℕ) (c : Chart) (it : Layout) (t : Tables) (frames : 
   pub framed : AreFramesOf it.count c it (is_active t) frames
   pub sessions : AreSessionsOf slots state
 
--- and the chip's story rests on the map, with what is counted as clean being clean
-pub record FitsStory (places : ℕ) (h : History) (it : Layout) (t : Tables) (frames : Frames) (slots : SessionSlots)
+-- and the chip's story rests on the records of these pages, with what is counted as clean being clean
+pub record FitsStory (places : ℕ) (pages : Legibility) (h : History) (it : Layout) (t : Tables) (frames : Frames) (slots : SessionSlots)
     (state : State) : Type 0 where
   pub fits : Fits places (now h) it t frames slots state
   pub tidy : IsTidy h t
-  pub rests : StoryRests places state.map h
+  pub rests : StoryRests places (of pages state.map) h
 
--- where a chip tells its contents and no story: the pages show the map, and what is counted as clean is blank
-pub record FitsContents (places : ℕ) (x : Contents) (it : Layout) (t : Tables) (frames : Frames) (slots : SessionSlots)
+-- where a chip tells its contents and no story: these pages show the map, and what is counted as clean is blank
+pub record FitsContents (places : ℕ) (pages : Legibility) (x : Contents) (it : Layout) (t : Tables) (frames : Frames) (slots : SessionSlots)
     (state : State) : Type 0 where
   pub fits : Fits places (chart_of x) it t frames slots state
-  pub says : Says places (chart_of x) it state.map
+  pub says : Says places (chart_of x) it (of pages state.map)
   pub blanks : (p s : ℕ) → IsCountedClean t p s → x p s ≡ blank

@@ -10,6 +10,7 @@ use Rattle.ipl_model.specs.State.{Map, State, at_rest}
 use Rattle.ipl_format.specs.Record.{Record}
 use Rattle.record_locks.specs.Held.{SessionSlots, marks_in, number_of}
 use Rattle.ipl_meaning.specs.Chart.{Chart}
+use Rattle.ipl_meaning.specs.Legible.{Legibility, Legible, whole, IsToldApart}
 use Rattle.ipl_meaning.specs.Layout.{Layout, Laid, records_of}
 use Rattle.ipl_meaning.specs.Last.{carried_count, last_that}
 use Rattle.ipl_meaning.specs.Stands.{Says, Shows, page_in}
@@ -58,7 +59,7 @@ SessionsAreSound = (slots : SessionSlots) (state : State) → AreSessionsOf slot
 abbrev pub WrittenPagesFit : Type 0
 WrittenPagesFit =
     (places : ℕ) (c : Chart) (it : Layout) (t : Tables) (frames : Frames) (slots : SessionSlots) (state : State) (n : ℕ)
-    → Fits places c it t frames slots state → Says places c it state.map → 0 < marks state n
+    → Fits places c it t frames slots state → Says places c it (whole state.map) → 0 < marks state n
     → PageFits state (n / SLOTS)
 
 -- where these are the records of its page, the sessions' marks tell whether a put is refused since the page is full
@@ -108,30 +109,30 @@ MergesAreSmall =
 
 -- where the story rests on a map the pages say it
 abbrev pub RestingPagesSay : Type 0
-RestingPagesSay = (places : ℕ) (h : History) (it : Layout) (m : Map) → StoryRests places m h
+RestingPagesSay = (places : ℕ) (h : History) (it : Layout) (m : Legible) → StoryRests places m h
     → Laid places (now h) it → Says places (now h) it m
 
 -- and two stories that rest on one map keep all pages between any layouts of theirs that have as many units
 abbrev pub RestingPagesKeep : Type 0
 RestingPagesKeep =
-    (places : ℕ) (m : Map) (h k : History) (it new : Layout) → StoryRests places m h → StoryRests places m k
+    (places : ℕ) (m : Map) (h k : History) (it new : Layout) → StoryRests places (whole m) h → StoryRests places (whole m) k
     → Laid places (now h) it → Laid places (now k) new → new.count ≡ it.count
     → KeepsPages places (now h) it (now k) new
 
--- each frame tells the records of its page, and what each session sees of them
+-- where each page reads or is known not to, each frame tells the records of its page, and what each session sees of them
 abbrev pub FittingFramesTell : Type 0
 FittingFramesTell =
-    (places : ℕ) (h : History) (it : Layout) (t : Tables) (frames : Frames) (slots : SessionSlots) (state : State)
+    (places : ℕ) (pages : Legibility) (h : History) (it : Layout) (t : Tables) (frames : Frames) (slots : SessionSlots) (state : State)
     (u page slot : ℕ) (f : PageFrame)
-    → FitsStory places h it t frames slots state → frames u page ≡ Some f → slot < SLOTS
+    → IsToldApart pages → FitsStory places pages h it t frames slots state → frames u page ≡ Some f → slot < SLOTS
     → TellsSlot (number_of slots) state u page slot f.values f.pending
 
 -- so it does where the chip tells its contents and no story
 abbrev pub FittingContentsTell : Type 0
 FittingContentsTell =
-    (places : ℕ) (x : Contents) (it : Layout) (t : Tables) (frames : Frames) (slots : SessionSlots) (state : State)
+    (places : ℕ) (pages : Legibility) (x : Contents) (it : Layout) (t : Tables) (frames : Frames) (slots : SessionSlots) (state : State)
     (u page slot : ℕ) (f : PageFrame)
-    → FitsContents places x it t frames slots state → frames u page ≡ Some f → slot < SLOTS
+    → IsToldApart pages → FitsContents places pages x it t frames slots state → frames u page ≡ Some f → slot < SLOTS
     → TellsSlot (number_of slots) state u page slot f.values f.pending
 
 -- ---- that there is one

@@ -22,6 +22,7 @@ use Rattle.record_locks.specs.Held.{SessionSlots, number_of}
 use Rattle.ipl_meaning.specs.Chart.{chart_of}
 use Rattle.ipl_meaning.specs.Layout.{Layout, Laid}
 use Rattle.ipl_meaning.specs.Marks.{AreUnused, MarksAreUnused}
+use Rattle.ipl_meaning.specs.Legible.{Legibility, Legible, of, IsToldApart}
 use Rattle.ipl_meaning.specs.Stands.{Says, StandsIn}
 use Rattle.ipl_meaning.specs.Rests.{EachStandsIn, StoryRests}
 use Rattle.ipl_meaning.specs.Tables.{Tables, IsCountedClean}
@@ -53,30 +54,30 @@ pub record View : Type 0 where
 abbrev pub limits_of : ℕ → Limits
 limits_of units = record { sessions = SESSIONS; names = UNIT_NAMES * units; units = units }
 
--- the memory fits what the chip of so many places holds, which is laid out in as many units, and the pages
+-- the memory fits what the chip of so many places holds, which is laid out in as many units, and these pages
 -- say the map
-pub record ShowsState (places : ℕ) (store : View) (state : State) (x : Contents) : Type 0 where
+pub record ShowsState (places : ℕ) (pages : Legibility) (store : View) (state : State) (x : Contents) : Type 0 where
   pub layout : Layout
   pub count : layout.count ≡ store.units
   pub fits : MemoryFits places (chart_of x) layout store.memory state
-  pub says : Says places (chart_of x) layout state.map
+  pub says : Says places (chart_of x) layout (of pages state.map)
 
 -- What a store keeps that isn't down. The sessions are the state's; what the chip holds shows the
 -- state; and what is counted as clean is clean after the story.
-pub record IsUp (places : ℕ) (store : View) (h : History) (state : State) : Type 0 where
+pub record IsUp (places : ℕ) (pages : Legibility) (store : View) (h : History) (state : State) : Type 0 where
   pub sessions : AreSessionsOf store.memory.slots state
-  pub shows : ShowsState places store state (held h.start h.story)
+  pub shows : ShowsState places pages store state (held h.start h.story)
   pub tidy : IsTidy h store.memory.tables
 
 -- The chip holds what the history leaves, and no write has failed; the story rests on the state's
--- map, in as many units as the store has; and a store that isn't down keeps the rest.
-pub record KeepsStore (places : ℕ) (limits : Limits) (store : View) (t : Told) (h : History)
+-- records of these pages, in as many units as the store has; and a store that isn't down keeps the rest.
+pub record KeepsStore (places : ℕ) (pages : Legibility) (limits : Limits) (store : View) (t : Told) (h : History)
     (state : State) : Type 0 where
   pub limits_are : limits ≡ limits_of store.units
   pub steady : IsSteady h t
-  pub rests : StoryRests places state.map h
+  pub rests : StoryRests places (of pages state.map) h
   pub many : rests.each.0 ≡ store.units
-  pub up : store.down ≡ false → IsUp places store h state
+  pub up : store.down ≡ false → IsUp places pages store h state
 
 -- the store of a chip that was opened: no page is in a frame
 abbrev pub opened_with : ℕ → Tables → SessionSlots → View
@@ -176,7 +177,7 @@ cause_longer places Spent first old new last before cause after = tt
 -- ---- what is said and what is read of a script
 
 -- a story that rests goes on resting, whatever is said
-said_rests : (places : ℕ) (m : Map) (pieces : List (List ℕ)) (h : History) → StoryRests places m h
+said_rests : (places : ℕ) (m : Legible) (pieces : List (List ℕ)) (h : History) → StoryRests places m h
     → StoryRests places m (adds_all (sayings pieces) h)
 said_rests places m [] h rests = rests
 said_rests places m (piece ∷ pieces) h rests =
@@ -195,7 +196,7 @@ said_held start [] story = refl
 said_held start (piece ∷ pieces) story = said_held start pieces story
 
 -- in as many units
-said_many : (places : ℕ) (m : Map) (pieces : List (List ℕ)) (h : History)
+said_many : (places : ℕ) (m : Legible) (pieces : List (List ℕ)) (h : History)
     → (rests : StoryRests places m h)
     → (said_rests places m pieces h rests).each.0 ≡ rests.each.0
 said_many places m pieces h rests =
@@ -206,31 +207,31 @@ said_many places m pieces h rests =
     (sym (said_held h.start pieces h.story)) stands.laid)
     ∙ sym (rests_in_units places m h stands.layout rests stands.laid)
 
-pub keeps_still : (places : ℕ) (limits : Limits) (store : View) (old new : Told) (h : History)
-    (state : State) → (still : Still old new) → KeepsStore places limits store old h state
-    → KeepsStore places limits store new (adds_all (sayings still.pieces) h) state
-keeps_still places limits store old new h state still keeps = record {
+pub keeps_still : (places : ℕ) (pages : Legibility) (limits : Limits) (store : View) (old new : Told) (h : History)
+    (state : State) → (still : Still old new) → KeepsStore places pages limits store old h state
+    → KeepsStore places pages limits store new (adds_all (sayings still.pieces) h) state
+keeps_still places pages limits store old new h state still keeps = record {
   limits_are = keeps.limits_are;
   steady = record {
     holds = still.contents ∙ keeps.steady.holds
         ∙ ap Some (sym (said_held h.start still.pieces h.story));
     settled = still.settled ∙ keeps.steady.settled;
   };
-  rests = said_rests places state.map still.pieces h keeps.rests;
-  many = said_many places state.map still.pieces h keeps.rests ∙ keeps.many;
+  rests = said_rests places (of pages state.map) still.pieces h keeps.rests;
+  many = said_many places (of pages state.map) still.pieces h keeps.rests ∙ keeps.many;
   up = λ runs.
       let was = keeps.up runs in record {
         sessions = was.sessions;
-        shows = subst (ShowsState places store state) (sym (said_held h.start still.pieces h.story)) was.shows;
+        shows = subst (ShowsState places pages store state) (sym (said_held h.start still.pieces h.story)) was.shows;
         tidy = said_tidy store.memory.tables still.pieces h was.tidy;
       };
 }
 
-pub keeps_each : (places : ℕ) (limits : Limits) (store : View) (t : Told) (h : History) (state : State)
-    → KeepsStore places limits store t h state
-    → Leaves (says sector_in) (λ x. StandsIn places limits.units (chart_of x) state.map) h []
-keeps_each places limits store t h state keeps =
-    subst (λ (units : ℕ). EachStandsIn places units state.map h)
+pub keeps_each : (places : ℕ) (pages : Legibility) (limits : Limits) (store : View) (t : Told) (h : History) (state : State)
+    → KeepsStore places pages limits store t h state
+    → Leaves (says sector_in) (λ x. StandsIn places limits.units (chart_of x) (of pages state.map)) h []
+keeps_each places pages limits store t h state keeps =
+    subst (λ (units : ℕ). EachStandsIn places units (of pages state.map) h)
     (keeps.many ∙ sym (ap (λ (l : Limits). l.units) keeps.limits_are)) keeps.rests.each.1
 
 -- nothing that is marked was used, in whatever a power cut leaves of this history, but by chance; nor what the store counts
@@ -248,13 +249,13 @@ said_unused places store h piece unused = (
 
 -- ---- the seam
 
--- Such a store over a chip of so many places, as a run knows it. It says nothing of worn places and of
+-- Such a store over a chip of so many places, as a run knows it that is told of the records of these pages. It says nothing of worn places and of
 -- what was erased, which a store knows whether or not it keeps a state.
-abbrev pub store_keeping : ℕ → Keeping View
-store_keeping places = record {
+abbrev pub store_keeping : ℕ → Legibility → Keeping View
+store_keeping places pages = record {
   checks = says sector_in;
-  stands = λ limits x m. StandsIn places limits.units (chart_of x) m;
-  holds = KeepsStore places;
+  stands = λ limits x m. StandsIn places limits.units (chart_of x) (of pages m);
+  holds = KeepsStore places pages;
   suits = λ store. store.down ≡ false;
   clean = λ store p s. IsCountedClean store.memory.tables p s;
   marked = MarksAreUnused places;
@@ -266,8 +267,8 @@ store_keeping places = record {
   wears = λ entry fault t. Unit {0};
   recalls = λ entry store t. Unit {0};
   tells = λ limits fault. FaultTells (spares_on places limits.units) fault;
-  each = keeps_each places;
-  still = keeps_still places;
+  each = keeps_each places pages;
+  still = keeps_still places pages;
   known_still = λ entry store old new still known. tt;
   unused_marked = λ store h unused. unused.0;
   unused_said = said_unused places;
@@ -277,27 +278,27 @@ store_keeping places = record {
 
 -- a store whose chip was opened keeps the state at rest of the map that the chip stands for
 abbrev pub OpenedStoresKeep : Type 0
-OpenedStoresKeep = (places units : ℕ) (t : Tables) (slots : SessionSlots) (told : Told) (h : History) (m : Map)
+OpenedStoresKeep = (places units : ℕ) (pages : Legibility) (t : Tables) (slots : SessionSlots) (told : Told) (h : History) (m : Map)
     → NoneIsLost places t → t.active ≡ [] → ((s : ℕ) → number_of slots s ≡ None)
     → AreSessionsOf slots (at_rest m)
     → OfContents told (λ x. (it : Layout) × (it.count ≡ units) × Mirrors places (chart_of x) it t
-    × Says places (chart_of x) it m)
-    → IsSteady h told → StoryRests places m h → IsTidy h t
-    → KeepsStore places (limits_of units) (opened_with units t slots) told h (at_rest m)
+    × Says places (chart_of x) it (of pages m))
+    → IsSteady h told → StoryRests places (of pages m) h → IsTidy h t
+    → KeepsStore places pages (limits_of units) (opened_with units t slots) told h (at_rest m)
 
 -- A fault of a call has its excuse, where the store keeps a state, and says no other number of worn
 -- places than one more than are spare.
-abbrev pub IsExcused : ℕ → View → Told → Told → Fault → Type 0
-IsExcused n store old new fault = (h : History) (state : State)
-    → KeepsStore old.places (limits_of store.units) store old h state
-    → Excuses (store_keeping old.places) n store old new fault
+abbrev pub IsExcused : Legibility → ℕ → View → Told → Told → Fault → Type 0
+IsExcused pages n store old new fault = (h : History) (state : State)
+    → KeepsStore old.places pages (limits_of store.units) store old h state
+    → Excuses (store_keeping old.places pages) n store old new fault
     × FaultTells (spares_on old.places store.units) fault
 
 -- Few numbers were drawn, where the store keeps a state: a chip that tells nothing may have any when
 -- it is opened again.
 abbrev pub DrawsFew : ℕ → View → Told → View → Type 0
-DrawsFew n before old after = (h : History) (state : State)
-    → KeepsStore old.places (limits_of before.units) before old h state
+DrawsFew n before old after = (pages : Legibility) (h : History) (state : State)
+    → KeepsStore old.places pages (limits_of before.units) before old h state
     → after.memory.tables.next ≤ before.memory.tables.next + n
 
 -- the model's step is to this state, with this reply; where the call failed, to its map at least
@@ -309,16 +310,16 @@ StepsAs limits state c next (Err fault) = (step limits state c).0.map ≡ next.m
 -- store keeps a state, is the work of the command, where few numbers were drawn and a fault has its
 -- excuse.
 abbrev pub LeadsAreWork : Type 0
-LeadsAreWork = (c : Command) (next : State → State) (before after : View)
+LeadsAreWork = (pages : Legibility) (c : Command) (next : State → State) (before after : View)
     (result : Result Reply Fault) (old new : Told)
     → after.units ≡ before.units
     → before.down ≡ false → LeadsTo next before.memory old result after.memory new
     → ((h : History) (state : State)
-    → KeepsStore old.places (limits_of before.units) before old h state
+    → KeepsStore old.places pages (limits_of before.units) before old h state
     → StepsAs (limits_of before.units) state c (next state) result)
     → DrawsFew WORK_DRAWS before old after
-    → IfErr result (IsExcused WORK_DRAWS before old new)
-    → Works (store_keeping old.places) c before old result after new
+    → IfErr result (IsExcused pages WORK_DRAWS before old new)
+    → Works (store_keeping old.places pages) c before old result after new
 
 -- what the frame of its page tells of a name: the record, and what each session sees
 pub record TellsName (slots : SessionSlots) (state : State) (n : ℕ) (f : PageFrame) : Type 0 where
@@ -326,54 +327,54 @@ pub record TellsName (slots : SessionSlots) (state : State) (n : ℕ) (f : PageF
   pub seen : (s tid : ℕ) → number_of slots s ≡ Some tid
       → seen_by tid (f.values (home_of n).slot) (f.pending (home_of n).slot) ≡ see state s n
 
--- after a call that keeps each state and was done
+-- after a call that keeps each state and was done, where each page reads or is known not to
 abbrev pub KeptFramesTell : Type 0
-KeptFramesTell = (n : ℕ) (store : View) (t : Tables) (later : Frames) (f : PageFrame) (h : History)
-    (state : State) (old new : Told) → store.down ≡ false
+KeptFramesTell = (pages : Legibility) (n : ℕ) (store : View) (t : Tables) (later : Frames) (f : PageFrame) (h : History)
+    (state : State) (old new : Told) → IsToldApart pages → store.down ≡ false
     → KeepsState {T = Unit {0}} {E = ChipFault} store.memory.tables store.memory.frames old (Ok tt)
     t later new
     → later (home_of n).unit (home_of n).page ≡ Some f
-    → KeepsStore old.places (limits_of store.units) store old h state
+    → KeepsStore old.places pages (limits_of store.units) store old h state
     → TellsName store.memory.slots state n f
 
 -- What a call leaves that keeps each state, and answers a record of its map, looks the record up,
 -- likewise.
 abbrev pub KeepersLookUp : Type 0
-KeepersLookUp = (n : ℕ) (before after : View) (result : Result (Option (List ℕ)) Fault)
+KeepersLookUp = (pages : Legibility) (n : ℕ) (before after : View) (result : Result (Option (List ℕ)) Fault)
     (old new : Told)
     → after.units ≡ before.units
     → before.down ≡ false → after.memory.slots ≡ before.memory.slots
     → KeepsState before.memory.tables before.memory.frames old result after.memory.tables
     after.memory.frames new
     → IfOk result (λ found. (h : History) (state : State)
-    → KeepsStore old.places (limits_of before.units) before old h state
+    → KeepsStore old.places pages (limits_of before.units) before old h state
     → n < UNIT_NAMES * before.units → found ≡ get state.map n)
     → after.memory.tables.next ≤ before.memory.tables.next + LOOK_UP_DRAWS
-    → IfErr result (IsExcused LOOK_UP_DRAWS before old new)
-    → LooksUp (store_keeping old.places) n before old result after new
+    → IfErr result (IsExcused pages LOOK_UP_DRAWS before old new)
+    → LooksUp (store_keeping old.places pages) n before old result after new
 
 -- ---- faults
 
 -- a fault before anything was done: the numbers are used up
 abbrev pub IdleFaultsAreWork : Type 0
-IdleFaultsAreWork = (c : Command) (store : View) (told : Told)
-    → LAST_NUMBER < store.memory.tables.next → Works (store_keeping told.places) c store told (Err Spent) store told
+IdleFaultsAreWork = (pages : Legibility) (c : Command) (store : View) (told : Told)
+    → LAST_NUMBER < store.memory.tables.next → Works (store_keeping told.places pages) c store told (Err Spent) store told
 
 abbrev pub IdleFaultsLookUp : Type 0
-IdleFaultsLookUp = (n : ℕ) (store : View) (told : Told)
+IdleFaultsLookUp = (pages : Legibility) (n : ℕ) (store : View) (told : Told)
     → LAST_NUMBER < store.memory.tables.next
-    → LooksUp (store_keeping told.places) n store told (Err Spent) store told
+    → LooksUp (store_keeping told.places pages) n store told (Err Spent) store told
 
 -- a fault that leaves the store down, where the call kept the map on which the story rested, drew
 -- few numbers and has its excuse
 abbrev pub FaultsThatLeaveDown : Type 0
-FaultsThatLeaveDown = (c : Command) (before after : View) (fault : Fault) (old new : Told)
+FaultsThatLeaveDown = (pages : Legibility) (c : Command) (before after : View) (fault : Fault) (old new : Told)
     → after.units ≡ before.units
     → before.down ≡ false → after.down ≡ true
     → ((h : History) (it : Layout) (state : State) → IsSteady h old
-    → MemoryFitsStory old.places h it before.memory state
-    → Preserves {T = Reply} old.places state.map before.memory.tables after.memory.tables h
+    → MemoryFitsStory old.places pages h it before.memory state
+    → Preserves {T = Reply} old.places (of pages state.map) before.memory.tables after.memory.tables h
     (Err fault) old new)
     → after.memory.tables.next ≤ before.memory.tables.next + WORK_DRAWS
-    → IsExcused WORK_DRAWS before old new fault
-    → Works (store_keeping old.places) c before old (Err fault) after new
+    → IsExcused pages WORK_DRAWS before old new fault
+    → Works (store_keeping old.places pages) c before old (Err fault) after new

@@ -13,6 +13,7 @@ use Rattle.record_locks.specs.Held.{SessionSlots, marks_in, number_of, written_o
 use Rattle.record_locks.specs.Held.{after_batch as slots_after}
 use Rattle.ipl_meaning.specs.Chart.{Chart, chart_of}
 use Rattle.ipl_meaning.specs.Layout.{Entry, Layout, Laid}
+use Rattle.ipl_meaning.specs.Legible.{Legibility, Legible, of}
 use Rattle.ipl_meaning.specs.Rests.{now, StoryRests}
 use Rattle.ipl_meaning.specs.Tables.{Tables, IsCountedClean}
 use Rattle.ipl_meaning.specs.Mirrors.{Mirrors, NoneIsLost}
@@ -97,9 +98,9 @@ LogSectorsKeepStates = (t after : Tables) (frames : Frames) (u page : ℕ) (f : 
     → ((places : ℕ) → old.places ≡ places → Charts (λ c y. (it : Layout) (slots : SessionSlots)
     (state : State) → Fits places c it t frames slots state
     → StandsInLog places c it t u f.log y after) old new)
-    → ((places : ℕ) (h : History) (it : Layout) (slots : SessionSlots) (state : State)
-    → old.places ≡ places → IsSteady h old → FitsStory places h it t frames slots state
-    → Preserves {T = Unit {0}} {E = ChipFault} places state.map t after h (Ok tt) old new)
+    → ((places : ℕ) (pages : Legibility) (h : History) (it : Layout) (slots : SessionSlots) (state : State)
+    → old.places ≡ places → IsSteady h old → FitsStory places pages h it t frames slots state
+    → Preserves {T = Unit {0}} {E = ChipFault} places (of pages state.map) t after h (Ok tt) old new)
     → KeepsState {T = Unit {0}} {E = ChipFault} t frames old (Ok tt) after
     (with_frame_at frames u page (Some (with_frame_log f []))) new
 
@@ -110,7 +111,7 @@ TableCallsKeepStates = (t after : Tables) (frames : Frames) (result : Result (Un
     (old new : Told)
     → ((places : ℕ) → old.places ≡ places → Settled result old new
     → Charts (TurnsTables places t after) old new)
-    → ((places : ℕ) (m : Map) (it : Layout) (h : History) → old.places ≡ places → IsSteady h old
+    → ((places : ℕ) (m : Legible) (it : Layout) (h : History) → old.places ≡ places → IsSteady h old
     → StoryRests places m h → Agrees places h it t → Preserves places m t after h result old new)
     → KeepsState t frames old result after frames new
 
@@ -189,7 +190,7 @@ RestartsLead = (before : Memory) (t : Tables) (slots : SessionSlots) (old new : 
     → ((s : ℕ) → number_of slots s ≡ None) → ((m : Map) → AreSessionsOf slots (at_rest m))
     → ((places : ℕ) → old.places ≡ places → Charts (λ c y. (it : Layout) → Laid places c it
     → IsReopened places c it y t) old new)
-    → ((places : ℕ) (m : Map) (it : Layout) (h : History) → old.places ≡ places → IsSteady h old
+    → ((places : ℕ) (m : Legible) (it : Layout) (h : History) → old.places ≡ places → IsSteady h old
     → StoryRests places m h → Laid places (now h) it
     → Preserves {T = Unit {0}} {E = ChipFault} places m before.tables t h (Ok tt) old new)
     → LeadsTo {T = Unit {0}} {E = ChipFault} (λ state. after_restart state) before old (Ok tt)

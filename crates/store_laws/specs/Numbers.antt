@@ -3,9 +3,9 @@ use Rattle.std.specs.Prelude.{ℕ, ◌≡◌, ◌+◌, [], List, All, Contains, 
 use Rattle.chip_trait.specs.Told.{History, Told}
 use Rattle.ipl_base.specs.Places.{home_of}
 use Rattle.ipl_base.specs.declared.fault.ChipFault.{ChipFault}
-use Rattle.ipl_model.specs.State.{Map}
 use Rattle.record_locks.specs.Held.{SessionSlots, numbers_in}
 use Rattle.ipl_meaning.specs.Chart.{Chart}
+use Rattle.ipl_meaning.specs.Legible.{Legible}
 use Rattle.ipl_meaning.specs.Layout.{Layout}
 use Rattle.ipl_meaning.specs.Stands.{Says}
 use Rattle.ipl_meaning.specs.Rests.{now, EachStandsEither, StoryRests}
@@ -47,7 +47,7 @@ AddsNumbers places status next tids c y = (it : Layout) (t : Tables) → Mirrors
 abbrev pub AddsNumbersInSteps : ℕ → StatusTable → ℕ → List ℕ → Result (Unit {0}) ChipFault → Told → Told
     → Type 0
 AddsNumbersInSteps places status next tids result old new =
-    (h : History) (it : Layout) (t : Tables) (m n : Map) → IsSteady h old
+    (h : History) (it : Layout) (t : Tables) (m n : Legible) → IsSteady h old
     → HasStatus t status next → All (Contains t.active) tids → RestsAgreeing places m it t h
     → Says places (now h) (layout_added it tids) n
     → Steps (EachStandsEither places m n) t

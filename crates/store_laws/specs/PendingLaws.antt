@@ -7,6 +7,7 @@ use Rattle.ipl_model.specs.State.{State}
 use Rattle.ipl_model.specs.Operations.{after_begin, after_share, after_write, after_commit, after_batch, after_abort, after_restart}
 use Rattle.ipl_format.specs.Record.{Record, IsRecord}
 use Rattle.ipl_meaning.specs.Chart.{Chart}
+use Rattle.ipl_meaning.specs.Legible.{Legibility, of}
 use Rattle.ipl_meaning.specs.Layout.{Entry, Shape, Layout, records_of}
 use Rattle.ipl_meaning.specs.Last.{carried, weight_of, is_number}
 use Rattle.ipl_meaning.specs.Stands.{Says}
@@ -121,12 +122,12 @@ CommitsKeepPending =
 -- and with its number the pages say what its writes make of the map, for which they have room
 abbrev pub CommitsSayWrites : Type 0
 CommitsSayWrites =
-    (places : ℕ) (c : Chart) (it : Layout) (logs : Logs) (numbers : SessionNumbers) (state : State) (s tid : ℕ)
+    (places : ℕ) (pages : Legibility) (c : Chart) (it : Layout) (logs : Logs) (numbers : SessionNumbers) (state : State) (s tid : ℕ)
     (after : ℕ → Bool)
     → HasPending it.count it logs numbers state → PagesHaveRoom it.count c it state
     → numbers s ≡ Some tid → IsWrittenOut logs tid
-    → NumberJoins it.committed tid after → Says places c it state.map
-    → Says places c (with_committed it after) (after_commit state s).map
+    → NumberJoins it.committed tid after → Says places c it (of pages state.map)
+    → Says places c (with_committed it after) (of pages (after_commit state s).map)
 
 -- ---- several sessions are committed together
 
@@ -163,11 +164,11 @@ BatchesKeepPending =
 -- and the pages say what the writes, one session after the other, make of the map
 abbrev pub BatchesSayWrites : Type 0
 BatchesSayWrites =
-    (places : ℕ) (c : Chart) (it : Layout) (logs : Logs) (numbers : SessionNumbers) (state : State) (ss : List ℕ)
+    (places : ℕ) (pages : Legibility) (c : Chart) (it : Layout) (logs : Logs) (numbers : SessionNumbers) (state : State) (ss : List ℕ)
     (after : ℕ → Bool)
     → HasPending it.count it logs numbers state → PagesHaveRoom it.count c it state
-    → StateHasOneWriter state → JoinInTurn numbers logs state ss it.committed after → Says places c it state.map
-    → Says places c (with_committed it after) (after_batch state ss).map
+    → StateHasOneWriter state → JoinInTurn numbers logs state ss it.committed after → Says places c it (of pages state.map)
+    → Says places c (with_committed it after) (of pages (after_batch state ss).map)
 
 -- ---- an abort, and a restart
 

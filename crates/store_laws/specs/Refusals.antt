@@ -19,6 +19,7 @@ use Rattle.ipl_model.specs.Step.{Stepped, refusal_of, accepted, step}
 use Rattle.record_locks.specs.Held.{SessionSlots, marks_in, number_of}
 use Rattle.record_locks.specs.Locks as locks
 use Rattle.record_locks.specs.Standing.{state_of}
+use Rattle.ipl_meaning.specs.Legible.{Legibility, IsToldApart}
 use Rattle.ipl_meaning.specs.Tables.{Tables}
 use Rattle.unit_io.specs.Reads.{OfContents}
 use Rattle.store_laws.specs.Frames.{PageFrame, Frames}
@@ -117,13 +118,13 @@ AcceptedAreDone = (limits : Limits) (slots : SessionSlots) (state : State) (c : 
 -- A put that they don't refuse, where a call that keeps each state brought its page into a frame: what
 -- the frame has tells whether it is refused, wherever the contents that are told show the state.
 abbrev pub PutsAnswer : Type 0
-PutsAnswer = (s n : ℕ) (bytes : List ℕ) (store : View) (t : Tables) (later : Frames) (f : PageFrame)
+PutsAnswer = (pages : Legibility) (s n : ℕ) (bytes : List ℕ) (store : View) (t : Tables) (later : Frames) (f : PageFrame)
     (old new : Told)
     → KeepsState {T = Unit {0}} {E = ChipFault} store.memory.tables store.memory.frames old (Ok tt)
     t later new
     → later (home_of n).unit (home_of n).page ≡ Some f
     → sessions_refuse_put (limits_of store.units) store.memory.slots s n bytes ≡ None
-    → OfContents old (λ x. (state : State) → ShowsState old.places store state x
+    → IsToldApart pages → OfContents old (λ x. (state : State) → ShowsState old.places pages store state x
     → step (limits_of store.units) state (command.Put s n bytes)
     ≡ (if overfills_at (marks_in store.memory.slots) n bytes f.values
     then (state, reply.Refused PageFull ∷ [])
@@ -131,8 +132,8 @@ PutsAnswer = (s n : ℕ) (bytes : List ℕ) (store : View) (t : Tables) (later :
 
 -- So a call that brought the page and found it full is the work of the put.
 abbrev pub FullPutsAreWork : Type 0
-FullPutsAreWork = (s n : ℕ) (bytes : List ℕ) (before after : View) (f : PageFrame) (old new : Told)
-    → after.units ≡ before.units
+FullPutsAreWork = (pages : Legibility) (s n : ℕ) (bytes : List ℕ) (before after : View) (f : PageFrame) (old new : Told)
+    → IsToldApart pages → after.units ≡ before.units
     → before.down ≡ false → after.memory.slots ≡ before.memory.slots
     → KeepsState {T = Unit {0}} {E = ChipFault} before.memory.tables before.memory.frames old (Ok tt)
     after.memory.tables after.memory.frames new
@@ -140,13 +141,13 @@ FullPutsAreWork = (s n : ℕ) (bytes : List ℕ) (before after : View) (f : Page
     → sessions_refuse_put (limits_of before.units) before.memory.slots s n bytes ≡ None
     → overfills_at (marks_in before.memory.slots) n bytes f.values ≡ true
     → DrawsFew WORK_DRAWS before old after
-    → Works (store_keeping old.places) (command.Put s n bytes) before old (Ok (reply.Refused PageFull)) after new
+    → Works (store_keeping old.places pages) (command.Put s n bytes) before old (Ok (reply.Refused PageFull)) after new
 
 -- And so is one that brought it, found room, and then wrote.
 abbrev pub WrittenPutsAreWork : Type 0
-WrittenPutsAreWork = (s n : ℕ) (bytes : List ℕ) (before after : View) (t : Tables) (later : Frames)
+WrittenPutsAreWork = (pages : Legibility) (s n : ℕ) (bytes : List ℕ) (before after : View) (t : Tables) (later : Frames)
     (f : PageFrame) (old mid new : Told)
-    → after.units ≡ before.units
+    → IsToldApart pages → after.units ≡ before.units
     → before.down ≡ false → Counts old mid
     → KeepsState {T = Unit {0}} {E = ChipFault} before.memory.tables before.memory.frames old (Ok tt)
     t later mid
@@ -156,7 +157,7 @@ WrittenPutsAreWork = (s n : ℕ) (bytes : List ℕ) (before after : View) (t : T
     → LeadsTo {T = Unit {0}} {E = ChipFault} (λ state. after_write state s (n, Some bytes))
     (memory_of t later before.memory.slots) mid (Ok tt) after.memory new
     → DrawsFew WORK_DRAWS before old after
-    → Works (store_keeping old.places) (command.Put s n bytes) before old (Ok reply.Ok) after new
+    → Works (store_keeping old.places pages) (command.Put s n bytes) before old (Ok reply.Ok) after new
 
 -- One that failed left the map, whatever it would have been answered.
 abbrev pub FailedPutsLeaveTheMap : Type 0

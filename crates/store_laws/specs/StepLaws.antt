@@ -9,6 +9,7 @@ use Rattle.ipl_model.specs.Operations as rules
 use Rattle.record_locks.specs.Held.{SessionSlots, number_of, numbers_in, writer_numbers, marks_in, after_begin, after_share, after_write, after_end, after_batch}
 use Rattle.ipl_format.specs.Record.{Record, IsRecord}
 use Rattle.ipl_meaning.specs.Chart.{Chart}
+use Rattle.ipl_meaning.specs.Legible.{every, whole}
 use Rattle.ipl_meaning.specs.Layout.{Entry, Shape, Layout, records_of}
 use Rattle.ipl_meaning.specs.Last.{carried}
 use Rattle.ipl_meaning.specs.Rests.{StoryRests}
@@ -131,13 +132,13 @@ OtherStepsFit =
 abbrev pub RenewalsFit : Type 0
 RenewalsFit =
     (places : ℕ) (h k : History) (it new : Layout) (t after : Tables) (frames : Frames) (slots : SessionSlots) (state : State)
-    → FitsStory places h it t frames slots state → new.count ≡ it.count
+    → FitsStory places every h it t frames slots state → new.count ≡ it.count
     → ((u : ℕ) → u < it.count
     → IsSameOrMerged (is_active t) (it.units u) (new.units u))
     → ((u : ℕ) → u < it.count
     → All (λ r. new.committed r.tid ≡ it.committed r.tid) (records_of (new.units u).log))
-    → StoryRests places state.map k → Agrees places k new after → NoneIsLost places after → after.active ≡ t.active
-    → FitsStory places k new after frames slots state
+    → StoryRests places (whole state.map) k → Agrees places k new after → NoneIsLost places after → after.active ≡ t.active
+    → FitsStory places every k new after frames slots state
 
 -- these sessions are open, and none is named twice
 pub record AreOpen (slots : SessionSlots) (ss : List ℕ) : Type 0 where

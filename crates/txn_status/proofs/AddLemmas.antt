@@ -10,7 +10,7 @@ use Rattle.ipl_base.specs.declared.fault.ChipFault.{ChipFault}
 use Rattle.ipl_format.specs.Sector.{Sector}
 use Rattle.ipl_format.specs.Commit.{SpellsCommit, IsLong}
 use Rattle.ipl_format.proofs.PayloadLemmas.{commits_spell_once}
-use Rattle.ipl_model.specs.State.{Map}
+use Rattle.ipl_meaning.specs.Legible.{Legible}
 use Rattle.ipl_meaning.specs.Chart.{Chart}
 use Rattle.ipl_meaning.specs.Layout.{Layout}
 use Rattle.ipl_meaning.specs.Stands.{Says, StandsBeside}
@@ -146,7 +146,7 @@ module _ (places : ℕ) (c : Chart) (it : Layout) (t : Tables) (numbers active :
         may_commit).1;
   }
 
-  pub stands_added : (n : Map) → Says places c (with_committed it committed) n → StandsBeside places c y n
+  pub stands_added : (n : Legible) → Says places c (with_committed it committed) n → StandsBeside places c y n
   stands_added n says = stands_after_commits places c it n t.status.first sector numbers committed
       mirrors.laid may_commit says
 

@@ -11,7 +11,7 @@ use Rattle.ipl_format.proofs.HeaderOnceLemmas.{status_headers_say_erases}
 use Rattle.sector_format.specs.declared.sector.Head.{Head}
 use Rattle.sector_format.specs.Decode.{sector_of}
 use Rattle.sector_format.specs.Written.{written_head}
-use Rattle.ipl_model.specs.State.{Map}
+use Rattle.ipl_meaning.specs.Legible.{Legible}
 use Rattle.ipl_meaning.specs.Chart.{Chart, chart_of}
 use Rattle.ipl_meaning.specs.Rests.{now, EachStands, EachStandsEither, StoryRests}
 use Rattle.ipl_meaning.proofs.StoryLemmas.{either_is_kept}
@@ -48,7 +48,7 @@ written_is head places generation header retired payload is spells =
     })
 
 -- a header that switches a map to itself keeps it
-pub header_keeps : (places : ℕ) (m : Map) (h : History) (p units erases : ℕ) (retired : List ℕ)
+pub header_keeps : (places : ℕ) (m : Legible) (h : History) (p units erases : ℕ) (retired : List ℕ)
     (generation : ℕ) (head : Sector) → IsStatusHead places units erases retired generation head
     → (old : Told) (result : Result (Unit {0}) ChipFault) (new : Told)
     → SwitchesMap places m m (Programs p (IsSpot 0)) (λ done. Gains p 0 head) h old result new
@@ -107,7 +107,7 @@ parts_more p generation serial numbers i c y z so gains = record {
       ∙ so.others q s (λ at least most. apart at least (omega (arith, most)));
 }
 
-pub keeps_none : (places p generation serial : ℕ) (numbers : List ℕ) (m : Map) (h : History)
+pub keeps_none : (places p generation serial : ℕ) (numbers : List ℕ) (m : Legible) (h : History)
     (t : Told) → IsSteady h t → StoryRests places m h
     → KeepsParts places p generation serial numbers 0 m h t (Ok tt) t
 keeps_none places p generation serial numbers m h t steady rests =
@@ -117,7 +117,7 @@ keeps_none places p generation serial numbers m h t steady rests =
     (rests, parts_none p generation serial numbers (now h))
 
 -- one part more
-pub keeps_more : (places p generation serial : ℕ) (numbers : List ℕ) (m : Map) (h : History)
+pub keeps_more : (places p generation serial : ℕ) (numbers : List ℕ) (m : Legible) (h : History)
     (total i : ℕ) → i < total → now h p 0 ≡ None
     → ((s : ℕ) → IsPartSpot total s → age h.story p s ≡ Clean)
     → (old mid new : Told) (result : Result (Unit {0}) ChipFault)
@@ -152,7 +152,7 @@ keeps_more places p generation serial numbers m h total i few bare clean old mid
     ))
 
 -- one part failed
-pub keeps_failed : (places p generation serial : ℕ) (numbers : List ℕ) (m : Map) (h : History)
+pub keeps_failed : (places p generation serial : ℕ) (numbers : List ℕ) (m : Legible) (h : History)
     (i total : ℕ) (e f : ChipFault) (old new : Told) → i ≤ total
     → KeepsParts places p generation serial numbers i m h old (Err e) new
     → KeepsParts places p generation serial numbers total m h old (Err f) new

@@ -5,7 +5,7 @@ use Rattle.chip_trait.specs.Chart.{with_sector}
 use Rattle.chip_trait.specs.Told.{History, Told, adds}
 use Rattle.ipl_base.specs.declared.fault.ChipFault.{ChipFault}
 use Rattle.ipl_format.specs.Sector.{Sector, sector_in}
-use Rattle.ipl_model.specs.State.{Map}
+use Rattle.ipl_meaning.specs.Legible.{Legible}
 use Rattle.ipl_meaning.specs.Chart.{Chart}
 use Rattle.ipl_meaning.specs.Layout.{Layout}
 use Rattle.ipl_meaning.specs.Marks.{AreUnused, KeepsMarks}
@@ -30,7 +30,7 @@ use Rattle.txn_status.specs.Marking.{mark_sector, IsReadyToMark, MarksInSteps}
 use Rattle.unit_io.specs.Writing.{LeadsMark}
 
 module _ (places : ℕ) (status : StatusTable) (next : ℕ) (payload : List ℕ) (least : 1 ≤ status.first)
-    (room : status.first < 256) (h : History) (it : Layout) (t : Tables) (m : Map)
+    (room : status.first < 256) (h : History) (it : Layout) (t : Tables) (m : Legible)
     (has : HasStatus t status next)
     (ready : IsReadyToMark places h it t m (mark_sector status.generation next payload)) where
   abbrev mark : Sector

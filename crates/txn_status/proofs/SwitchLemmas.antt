@@ -10,7 +10,7 @@ use Rattle.chip_trait.specs.Story.{Story}
 use Rattle.ipl_format.specs.Sector.{Sector}
 use Rattle.ipl_format.specs.Commit.{SpellsCommit, IsLong}
 use Rattle.ipl_format.proofs.PayloadLemmas.{commits_spell_once}
-use Rattle.ipl_model.specs.State.{Map}
+use Rattle.ipl_meaning.specs.Legible.{Legible}
 use Rattle.ipl_meaning.specs.Chart.{Chart}
 use Rattle.ipl_meaning.specs.Layout.{Layout, Laid, IsStatus, HasNoMark}
 use Rattle.ipl_meaning.specs.Rests.{WornAreIdle}
@@ -26,7 +26,7 @@ use Rattle.ipl_meaning.proofs.IdleLemmas.{idle_places_do_not_count}
 use Rattle.ipl_meaning.proofs.IdleFollowLemmas.{tables_follow_idle_places}
 use Rattle.ipl_meaning.proofs.RenewalFollowLemmas.{tables_follow_renewals}
 use Rattle.ipl_meaning.proofs.SwitchLemmas.{status_headers_switch, kept_numbers_keep_pages}
-use Rattle.ipl_meaning.proofs.StandsLemmas.{kept_pages_keep_the_map, stands_after_renewals}
+use Rattle.ipl_meaning.proofs.StandsLemmas.{kept_pages_keep_the_map, pages_then, stands_after_renewals}
 use Rattle.ipl_meaning.proofs.WornLemmas.{worn_by_layout, idle_after_renewals}
 use Rattle.ipl_meaning.proofs.MarkLemmas.{renewals_mark_no_more}
 use Rattle.number_set.specs.Numbers.{among}
@@ -299,14 +299,13 @@ module _ (places : ℕ) (c y : Chart) (it : Layout) (t : Tables) (p : ℕ) (kept
           is.mirrors.directory.units switched.renewed is.is_head;
       mirrors = mirrors_then;
       unmarked = no_mark_then;
-      pages = λ keeps u page now low in_unit shows.
-          (status_headers_switch places y it p head (among kept) kept_still.0 may_switch).1 u page
-          now low in_unit
-          (kept_numbers_keep_pages places y it p head (among kept) keeps u page now low in_unit
-          (kept_still.1 u page now low in_unit shows));
+      pages = λ keeps. pages_then places c y (with_sector y p 0 head) it it (with_status it p head (among kept)) refl kept_still.1
+          (pages_then places y y (with_sector y p 0 head) it (with_status it p head (among kept)) (with_status it p head (among kept)) refl
+          (kept_numbers_keep_pages places y it p head (among kept) keeps)
+          (status_headers_switch places y it p head (among kept) kept_still.0 may_switch).1);
     }
 
-  pub stands_then : (m : Map) → Says places c it m → KeepsNumbers it (among kept)
+  pub stands_then : (m : Legible) → Says places c it m → KeepsNumbers it (among kept)
       → StandsBeside places y (with_sector y p 0 head) m
   stands_then m says keeps = stands_after_renewals places y it m p head (among kept) kept_still.0
       (kept_pages_keep_the_map places c y it it m kept_still.1 refl says) may_switch keeps

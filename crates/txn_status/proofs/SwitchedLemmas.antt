@@ -9,7 +9,7 @@ use Rattle.chip_trait.specs.Told.{History, Told, adds_all}
 use Rattle.chip_trait.proofs.AgeLemmas.{clean_lasting}
 use Rattle.ipl_base.specs.declared.fault.ChipFault.{ChipFault}
 use Rattle.ipl_format.specs.Sector.{Sector}
-use Rattle.ipl_model.specs.State.{Map}
+use Rattle.ipl_meaning.specs.Legible.{Legible}
 use Rattle.ipl_meaning.specs.Chart.{Chart, chart_of}
 use Rattle.ipl_meaning.specs.Layout.{Layout}
 use Rattle.ipl_meaning.specs.Steps.{with_status}
@@ -105,7 +105,7 @@ of_header places t p units erases retired next head fits drawn is =
 module _ (places units erases : ℕ) (retired : List ℕ) (status : StatusTable) (next p : ℕ) (kept : List ℕ)
     (within : p < places)
     (each : AreLong kept) (most : length kept ≤ 3840) (old mid new : Told) (h : History)
-    (it : Layout) (t after : Tables) (m : Map) (steady : IsSteady h old)
+    (it : Layout) (t after : Tables) (m : Legible) (steady : IsSteady h old)
     (has : HasStatus t status next) (fits : FitsHeader t p units erases retired)
     (ready : IsReadyToSwitch places h it t m p kept) (switched : IsSwitched t after p next kept) where
   abbrev Holds : Unit {0} → History → Type 0

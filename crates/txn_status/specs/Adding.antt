@@ -3,7 +3,7 @@ use Rattle.std.specs.Prelude.{ℕ, ◌≡◌, ◌<◌, ◌+◌, List, All, AllPa
 use Rattle.chip_trait.specs.Image.{IsClosed}
 use Rattle.chip_trait.specs.Told.{History, Told}
 use Rattle.ipl_base.specs.declared.fault.ChipFault.{ChipFault}
-use Rattle.ipl_model.specs.State.{Map}
+use Rattle.ipl_meaning.specs.Legible.{Legible}
 use Rattle.ipl_meaning.specs.Chart.{Chart}
 use Rattle.ipl_meaning.specs.Layout.{Layout}
 use Rattle.ipl_meaning.specs.Stands.{Says}
@@ -63,7 +63,7 @@ Adds places status next numbers c y = (it : Layout) (t : Tables) (active : List 
 -- ---- what a power cut leaves
 
 -- the tables agree with a chip whose story rests on a map, and nothing is open
-pub record IsReadyToAdd (places : ℕ) (h : History) (it : Layout) (t : Tables) (m n : Map)
+pub record IsReadyToAdd (places : ℕ) (h : History) (it : Layout) (t : Tables) (m n : Legible)
     (numbers active : List ℕ) : Type 0 where
   pub rests : StoryRests places m h
   pub closed : IsClosed h.story
@@ -74,7 +74,7 @@ pub record IsReadyToAdd (places : ℕ) (h : History) (it : Layout) (t : Tables) 
 
 -- At each moment a power cut leaves the old map or the new one; done, the story rests on the new
 -- one, and the tables with the numbers agree. It fails only where a write failed.
-abbrev pub StepsAdding : ℕ → Layout → Tables → Map → Map → List ℕ → ℕ → List ℕ
+abbrev pub StepsAdding : ℕ → Layout → Tables → Legible → Legible → List ℕ → ℕ → List ℕ
     → History → Result (Unit {0}) ChipFault → Told → Told → Type 0
 StepsAdding places it t m n numbers next active h result old new =
     Steps (EachStandsEither places m n) t (with_added t numbers next active)
@@ -86,6 +86,6 @@ StepsAdding places it t m n numbers next active h result old new =
 abbrev pub AddsInSteps : ℕ → StatusTable → ℕ → List ℕ → Result (Unit {0}) ChipFault
     → Told → Told → Type 0
 AddsInSteps places status next numbers result old new =
-    (h : History) (it : Layout) (t : Tables) (m n : Map) (active : List ℕ)
+    (h : History) (it : Layout) (t : Tables) (m n : Legible) (active : List ℕ)
     → IsSteady h old → HasStatus t status next → IsReadyToAdd places h it t m n numbers active
     → StepsAdding places it t m n numbers (1 + next) active h result old new

@@ -6,7 +6,7 @@ use Rattle.ipl_base.specs.declared.fault.ChipFault.{ChipFault}
 use Rattle.ipl_base.specs.declared.limits.TheConstants.{VERSION}
 use Rattle.ipl_format.specs.Mark.{SpellsMark}
 use Rattle.ipl_format.specs.Sector.{Sector}
-use Rattle.ipl_model.specs.State.{Map}
+use Rattle.ipl_meaning.specs.Legible.{Legible}
 use Rattle.ipl_meaning.specs.Layout.{Layout}
 use Rattle.ipl_meaning.specs.Stands.{Says}
 use Rattle.ipl_meaning.specs.Rests.{now, EachStands, StoryRests}
@@ -32,7 +32,7 @@ mark_sector generation serial payload = record {
 
 -- the tables agree with a chip whose story rests on a map, nothing is open, and the mark has
 -- exactly the units of which something is known
-pub record IsReadyToMark (places : ℕ) (h : History) (it : Layout) (t : Tables) (m : Map)
+pub record IsReadyToMark (places : ℕ) (h : History) (it : Layout) (t : Tables) (m : Legible)
     (mark : Sector) : Type 0 where
   pub rests : StoryRests places m h
   pub closed : IsClosed h.story
@@ -44,7 +44,7 @@ pub record IsReadyToMark (places : ℕ) (h : History) (it : Layout) (t : Tables)
 -- At each moment a power cut leaves the map, and marks are kept, where what the tables count as clean is
 -- unused. Done, the story rests on the map, and the mark and a barrier were added. It fails only where a
 -- write failed.
-abbrev pub StepsMarking : ℕ → Map → Tables → ℕ → ℕ → Sector → History → Result (Unit {0}) ChipFault
+abbrev pub StepsMarking : ℕ → Legible → Tables → ℕ → ℕ → Sector → History → Result (Unit {0}) ChipFault
     → Told → Told → Type 0
 StepsMarking places m t p s mark h result old new =
     OutcomeWhere (AreUnused (IsCountedClean t) h.story) (EachStands places m) (Programs p (IsSpot s) (is_ok result)) (Settled result old new)
@@ -55,6 +55,6 @@ abbrev pub MarksInSteps : ℕ → StatusTable → ℕ → List ℕ → Result (U
     → Told → Told → Type 0
 MarksInSteps places status next payload result old new =
     let mark = mark_sector status.generation next payload in
-    (h : History) (it : Layout) (t : Tables) (m : Map)
+    (h : History) (it : Layout) (t : Tables) (m : Legible)
     → IsSteady h old → HasStatus t status next → IsReadyToMark places h it t m mark
     → StepsMarking places m t status.place status.first mark h result old new

@@ -5,7 +5,7 @@ use Rattle.chip_trait.specs.Told.{History, Told}
 use Rattle.ipl_base.specs.declared.fault.ChipFault.{ChipFault}
 use Rattle.ipl_format.specs.Header.{SpellsStatusHeader, erases_said}
 use Rattle.ipl_format.specs.Sector.{Sector}
-use Rattle.ipl_model.specs.State.{Map}
+use Rattle.ipl_meaning.specs.Legible.{Legible}
 use Rattle.ipl_meaning.specs.Chart.{Chart}
 use Rattle.ipl_meaning.specs.Layout.{Layout, HasNoMark}
 use Rattle.ipl_meaning.specs.Stands.{Says}
@@ -115,7 +115,7 @@ Switches places units erases retired status next p kept c y = (it : Layout) (t a
 
 -- the tables agree with a chip whose story rests on a map, each sector of the place is clean, and the
 -- place may take these numbers
-pub record IsReadyToSwitch (places : ℕ) (h : History) (it : Layout) (t : Tables) (m : Map)
+pub record IsReadyToSwitch (places : ℕ) (h : History) (it : Layout) (t : Tables) (m : Legible)
     (p : ℕ) (kept : List ℕ) : Type 0 where
   pub rests : StoryRests places m h
   pub agrees : Agrees places h it t
@@ -127,7 +127,7 @@ pub record IsReadyToSwitch (places : ℕ) (h : History) (it : Layout) (t : Table
 
 -- the story rests on the same map, the header says how often its place was erased and which places are
 -- retired, and the tables with the new status agree
-pub record RestsSwitched (places : ℕ) (m : Map) (it : Layout) (after : Tables)
+pub record RestsSwitched (places : ℕ) (m : Legible) (it : Layout) (after : Tables)
     (p generation : ℕ) (kept : List ℕ) (k : History) : Type 0 where
   pub head : Sector
   pub is_head : IsStatusHead places it.count (slice_index after.places.erases p) after.places.retired
@@ -137,7 +137,7 @@ pub record RestsSwitched (places : ℕ) (m : Map) (it : Layout) (after : Tables)
 -- At each moment a power cut leaves the map, and done, the story rests on it and the tables with
 -- the new status agree. Sectors of the place are programmed, each once. It fails only where a write
 -- failed.
-abbrev pub StepsSwitching : ℕ → Layout → Tables → Map → ℕ → ℕ → List ℕ
+abbrev pub StepsSwitching : ℕ → Layout → Tables → Legible → ℕ → ℕ → List ℕ
     → History → Result (Unit {0}) ChipFault → Told → Told → Type 0
 StepsSwitching places it after m p generation kept h result old new =
     Outcome (EachStands places m) (Programs p (IsStatusSpot (parts_of kept)) (is_ok result))
@@ -149,7 +149,7 @@ StepsSwitching places it after m p generation kept h result old new =
 abbrev pub SwitchesInSteps : ℕ → ℕ → ℕ → List ℕ → StatusTable → ℕ → ℕ → List ℕ
     → Result (Unit {0}) ChipFault → Told → Told → Type 0
 SwitchesInSteps places units erases retired status next p kept result old new =
-    (h : History) (it : Layout) (t after : Tables) (m : Map)
+    (h : History) (it : Layout) (t after : Tables) (m : Legible)
     → IsSteady h old → HasStatus t status next → FitsHeader t p units erases retired
     → IsReadyToSwitch places h it t m p kept
     → IsSwitched t after p next kept

@@ -6,7 +6,7 @@ use Rattle.chip_trait.specs.Chart.{with_sector}
 use Rattle.chip_trait.specs.Told.{History, Told}
 use Rattle.ipl_base.specs.declared.fault.ChipFault.{ChipFault}
 use Rattle.ipl_format.specs.Sector.{Sector}
-use Rattle.ipl_model.specs.State.{Map}
+use Rattle.ipl_meaning.specs.Legible.{Legible}
 use Rattle.ipl_meaning.specs.Chart.{Chart}
 use Rattle.ipl_meaning.specs.Stands.{StandsBeside}
 use Rattle.ipl_meaning.specs.Rests.{now, WornAreIdle, StoryRests}
@@ -32,7 +32,7 @@ pub record WritesOneSector (p s kind : ℕ) (result : Result (Unit {0}) ChipFaul
 -- ---- what a power cut leaves
 
 -- the first n parts of the numbers, in such a place
-abbrev pub KeepsParts : ℕ → ℕ → ℕ → ℕ → List ℕ → ℕ → Map
+abbrev pub KeepsParts : ℕ → ℕ → ℕ → ℕ → List ℕ → ℕ → Legible
     → History → Told → Result (Unit {0}) ChipFault → Told → Type 0
 KeepsParts places p generation serial numbers n m h old result new =
     KeepsMap places m (Programs p (IsPartSpot n))
@@ -41,7 +41,7 @@ KeepsParts places p generation serial numbers n m h old result new =
 -- all parts of them
 abbrev pub LeadsParts : ℕ → ℕ → ℕ → ℕ → List ℕ
     → Told → Result (Unit {0}) ChipFault → Told → Type 0
-LeadsParts places p generation serial numbers old result new = (m : Map) (h : History)
+LeadsParts places p generation serial numbers old result new = (m : Legible) (h : History)
     → IsSteady h old → StoryRests places m h → now h p 0 ≡ None
     → ((s : ℕ) → IsPartSpot (parts_of numbers) s → age h.story p s ≡ Clean)
     → KeepsParts places p generation serial numbers (parts_of numbers) m h old result new
@@ -52,7 +52,7 @@ IsHeaded places p units erases retired generation c y =
     (head : Sector) × IsStatusHead places units erases retired generation head × Gains p 0 head c y
 
 -- with a status header the map stands still, worn places are idle, and no more is marked
-pub record StandsHeaded (places p : ℕ) (m : Map) (h : History) (head : Sector) : Type 0 where
+pub record StandsHeaded (places p : ℕ) (m : Legible) (h : History) (head : Sector) : Type 0 where
   pub stands : StandsBeside places (now h) (with_sector (now h) p 0 head) m
   pub worn : WornAreIdle places h.story (with_sector (now h) p 0 head)
   pub no_more : MarksNoMore places (now h) (with_sector (now h) p 0 head) p
@@ -60,7 +60,7 @@ pub record StandsHeaded (places p : ℕ) (m : Map) (h : History) (head : Sector)
 -- a status header, where that is so
 abbrev pub LeadsHeader : ℕ → ℕ → ℕ → ℕ → List ℕ → ℕ
     → Told → Result (Unit {0}) ChipFault → Told → Type 0
-LeadsHeader places p units erases retired generation old result new = (m : Map) (h : History)
+LeadsHeader places p units erases retired generation old result new = (m : Legible) (h : History)
     → IsSteady h old → StoryRests places m h → age h.story p 0 ≡ Clean
     → ((head : Sector) → IsStatusHead places units erases retired generation head
     → StandsHeaded places p m h head)

@@ -2,7 +2,7 @@
 use Rattle.std.proofs.Common.{◌≡◌, ℕ, Result, Ok, Err, MatchResult, is_ok}
 use Rattle.chip_trait.specs.Told.{History, Told, Counts, adds_all}
 use Rattle.ipl_base.specs.declared.fault.ChipFault.{ChipFault}
-use Rattle.ipl_model.specs.State.{Map}
+use Rattle.ipl_meaning.specs.Legible.{Legible}
 use Rattle.ipl_meaning.specs.Rests.{EachStands, StoryRests}
 use Rattle.ipl_meaning.specs.Layout.{Layout}
 use Rattle.ipl_meaning.specs.Tables.{Tables, IsCountedClean}
@@ -17,7 +17,7 @@ use Rattle.unit_io.proofs.StepLemmas.{outcome_none, outcome_then, outcome_weaker
 use Rattle.unit_io.proofs.StepTidyLemmas.{tidy_none, tidy_reads, tidy_then, tidy_weaker, tidy_programs}
 
 -- it rests, however a call ended
-rests_at_end : (places : ℕ) (m : Map) (k : History) (result : Result (Unit {0}) ChipFault) → StoryRests places m k → EndsWith result (λ v k. StoryRests places m k) (λ k. StoryRests places m k) k
+rests_at_end : (places : ℕ) (m : Legible) (k : History) (result : Result (Unit {0}) ChipFault) → StoryRests places m k → EndsWith result (λ v k. StoryRests places m k) (λ k. StoryRests places m k) k
 rests_at_end places m k (Ok v) rests = rests
 rests_at_end places m k (Err e) rests = rests
 
@@ -36,7 +36,7 @@ reads_keep place places m t h result old new steady rests did =
     (tidy_reads At (IsCountedClean t) (Settled result old new) old new did) (rests_at_end places m (adds_all did.added h) result (at_rests At places m h did.added did.each rests))
 
 -- whatever sectors they are of, and whatever is answered
-pub reads_keep_tables : {T : Type 0} (At : ℕ → ℕ → Type 0) (places : ℕ) (m : Map) (it : Layout)
+pub reads_keep_tables : {T : Type 0} (At : ℕ → ℕ → Type 0) (places : ℕ) (m : Legible) (it : Layout)
     (t : Tables) (h : History) (result : Result T ChipFault) (old new : Told)
     → IsSteady h old → StoryRests places m h → Agrees places h it t
     → ReadsAt At old new → KeepsTables places m it t h result old new

@@ -10,7 +10,7 @@ use Rattle.chip_trait.specs.Chart.{with_sector}
 use Rattle.chip_trait.specs.Told.{History, Told, adds_all}
 use Rattle.ipl_base.specs.declared.fault.ChipFault.{ChipFault}
 use Rattle.ipl_base.specs.declared.limits.TheConstants.{VERSION}
-use Rattle.ipl_model.specs.State.{Map}
+use Rattle.ipl_meaning.specs.Legible.{Legible}
 use Rattle.ipl_format.specs.Sector.{Sector}
 use Rattle.ipl_format.specs.Page.{Slots, IsCutInto, page_text, piece_of}
 use Rattle.ipl_format.specs.Place.{base_sector_of}
@@ -66,17 +66,17 @@ charts_more p u g page text n first mid new before gains x told =
 -- ---- stories
 
 -- what is asked of a place, and of a page's spots there
-pub record IsOpenFor (places p page : ℕ) (m : Map) (h : History) : Type 0 where
+pub record IsOpenFor (places p page : ℕ) (m : Legible) (h : History) : Type 0 where
   pub rests : StoryRests places m h
   pub bare : now h p 0 ≡ None
   pub clean : (s : ℕ) → IsPieceSpot page 16 s → age h.story p s ≡ Clean
 
 -- what the call for one piece says of each map and history
 abbrev pub PieceSays : (places p u g page : ℕ) (text : List ℕ) (n : ℕ) (old : Told) (result : Result (Unit {0}) ChipFault) (new : Told) → Type 0
-PieceSays places p u g page text n old result new = (m : Map) (h : History) → IsSteady h old → StoryRests places m h → now h p 0 ≡ None → age h.story p (base_sector_of page n) ≡ Clean
+PieceSays places p u g page text n old result new = (m : Legible) (h : History) → IsSteady h old → StoryRests places m h → now h p 0 ≡ None → age h.story p (base_sector_of page n) ≡ Clean
     → KeepsMap places m (Programs p (IsSpot (base_sector_of page n))) (λ done. Gains p (base_sector_of page n) (base_sector VERSION u g page n text)) h old result new
 
-module _ (places p u g page : ℕ) (text : List ℕ) (m : Map) (h : History) (first : Told) where
+module _ (places p u g page : ℕ) (text : List ℕ) (m : Legible) (h : History) (first : Told) where
   -- after n pieces
   abbrev pub Piled : ℕ → Told → Type 0
   Piled n t = KeepsMap {T = Unit {0}} {E = ChipFault} places m (Programs p (IsPieceSpot page n)) (λ done. HasPieces p u g page text n) h first (Ok tt) t
@@ -152,7 +152,7 @@ cut_piece text p e at within = elim (cases_lt (p * 480 + 480) (length text)) [
 ]
 
 -- the pieces of a page's text are the page
-pub page_leads : (places p u g page : ℕ) (text : List ℕ) (slots : Slots) → text ≡ page_text VERSION slots → (m : Map) (h : History) (old new : Told) (result : Result ℕ ChipFault) → IfOk result (λ n. IsCutInto text n)
+pub page_leads : (places p u g page : ℕ) (text : List ℕ) (slots : Slots) → text ≡ page_text VERSION slots → (m : Legible) (h : History) (old new : Told) (result : Result ℕ ChipFault) → IfOk result (λ n. IsCutInto text n)
     → KeepsMap places m (Programs p (IsPieceSpot page 16)) (λ n. HasPieces p u g page text n) h old result new
     → KeepsMap places m (Programs p (IsPieceSpot page 16)) (λ n. HasPageSectors p u g page slots n) h old result new
 page_leads places p u g page text slots is m h old new (Ok n) cut did = record {

@@ -11,7 +11,7 @@ use Rattle.chip_trait.specs.Told.{History, Told, Appends, Breaks, Halts, adds, a
 use Rattle.chip_trait.specs.Wears.{Wears, erase_event}
 use Rattle.ipl_base.specs.declared.fault.ChipFault.{ChipFault}
 use Rattle.ipl_base.specs.declared.fault.ChipFault.TheVariants.{Stopped}
-use Rattle.ipl_model.specs.State.{Map}
+use Rattle.ipl_meaning.specs.Legible.{Legible}
 use Rattle.ipl_format.proofs.SectorLemmas.{blank_says_nothing}
 use Rattle.ipl_meaning.specs.Chart.{chart_of}
 use Rattle.ipl_meaning.specs.Layout.{Layout, Laid}
@@ -32,7 +32,7 @@ erased_chart p x = record {
   others = λ q s apart. rw (ne_eqb p q (λ same. apart (sym same))) refl;
 }
 
-module _ (old : Told) (m : Map) (it : Layout) (h : History) (p : ℕ) (rests : StoryRests old.places m h) (laid : Laid old.places (now h) it) (within : p < old.places)
+module _ (old : Told) (m : Legible) (it : Layout) (h : History) (p : ℕ) (rests : StoryRests old.places m h) (laid : Laid old.places (now h) it) (within : p < old.places)
     (idle : IsIdle old.places (now h) it p) where
   -- the erase: what it added, where it was done
   Erased : Bool → Story → Type 0
@@ -118,7 +118,7 @@ pub wears_done : (p : ℕ) (wear : Wear) (old new : Told) → wear ≡ Done → 
 wears_done p wear old new is did = subst (λ (w : Wear). Appends (erase_event w p) old new) is did.appends
 
 -- the erase failed, or the barrier behind it, or both were done
-module _ (old : Told) (m : Map) (it : Layout) (h : History) (p : ℕ) (rests : StoryRests old.places m h) (laid : Laid old.places (now h) it) (within : p < old.places)
+module _ (old : Told) (m : Legible) (it : Layout) (h : History) (p : ℕ) (rests : StoryRests old.places m h) (laid : Laid old.places (now h) it) (within : p < old.places)
     (idle : IsIdle old.places (now h) it p) where
   pub begun_failed : (new : Told) (f : ChipFault) → IsSteady h old → Breaks (Erase p) old new
       → Leads {T = Wear} {E = ChipFault} (EachStands old.places m) (λ ok. Clears p false) (RestsWith old.places m (Begun p) h) h old (Err f) new

@@ -9,7 +9,7 @@ use Rattle.chip_trait.specs.declared.event.Event.TheVariants.{Read, Program, Era
 use Rattle.chip_trait.specs.Story.{Story, held}
 use Rattle.chip_trait.specs.Told.{History, Told, Counts, adds, adds_all}
 use Rattle.ipl_base.specs.declared.fault.ChipFault.{ChipFault}
-use Rattle.ipl_model.specs.State.{Map}
+use Rattle.ipl_meaning.specs.Legible.{Legible}
 use Rattle.ipl_meaning.specs.Layout.{Layout}
 use Rattle.ipl_meaning.specs.Rests.{now, StoryRests}
 use Rattle.ipl_meaning.specs.Tables.{Tables}
@@ -123,7 +123,7 @@ at_steady At old new h did steady = record {
   settled = did.settled ∙ steady.settled;
 }
 
-pub at_rests : (At : ℕ → ℕ → Type 0) (places : ℕ) (m : Map) (h : History) (added : Story) → All (IsReadAt At) added → StoryRests places m h → StoryRests places m (adds_all added h)
+pub at_rests : (At : ℕ → ℕ → Type 0) (places : ℕ) (m : Legible) (h : History) (added : Story) → All (IsReadAt At) added → StoryRests places m h → StoryRests places m (adds_all added h)
 at_rests At places m h [] each rests = rests
 at_rests At places m h (e ∷ added) each rests = go e (All-head (IsReadAt At) e added each) (at_rests At places m h added (All-tail (IsReadAt At) e added each) rests)
   where

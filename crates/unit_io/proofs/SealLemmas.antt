@@ -9,7 +9,7 @@ use Rattle.chip_trait.specs.Told.{History, Told, Breaks, Halts, adds, adds_all}
 use Rattle.chip_trait.proofs.ClosedLemmas.{held_program}
 use Rattle.ipl_base.specs.declared.fault.ChipFault.{ChipFault}
 use Rattle.ipl_base.specs.declared.fault.ChipFault.TheVariants.{Stopped}
-use Rattle.ipl_model.specs.State.{Map}
+use Rattle.ipl_meaning.specs.Legible.{Legible}
 use Rattle.ipl_format.specs.Sector.{Sector, sector_in}
 use Rattle.ipl_meaning.specs.Stands.{StandsBeside}
 use Rattle.ipl_meaning.specs.Rests.{now, IsUntouched, EachStands, EachStandsEither, WornAreIdle, StoryRests}
@@ -33,7 +33,7 @@ programs_after p Spot done then later earlier first second = programs_then p (λ
 programs_before : (p : ℕ) (Spot : ℕ → Type 0) (done then : Bool) (later earlier : Story) → Programs p Spot done earlier → Programs p (λ s. ⊥) then later → Programs p Spot then (later ++ earlier)
 programs_before p Spot done then later earlier first second = programs_then p Spot (λ s. ⊥) Spot done then later earlier (λ s is none. none) (λ s is. is) (λ s none. absurd none) first second
 
-module _ (Sound : Type 0) (old : Told) (m n : Map) (h : History) (p t : ℕ) (bytes : List ℕ) (head : Sector) (says : sector_in bytes ≡ Some head) (rests : StoryRests old.places m h)
+module _ (Sound : Type 0) (old : Told) (m n : Legible) (h : History) (p t : ℕ) (bytes : List ℕ) (head : Sector) (says : sector_in bytes ≡ Some head) (rests : StoryRests old.places m h)
     (fresh : IsUntouched h p t) (stands : StandsBeside old.places (now h) (with_sector (now h) p t head) n)
     (worn : WornAreIdle old.places h.story (with_sector (now h) p t head)) (marks : Sound → KeepsMarks old.places h (adds (Program p t bytes) h)) where
   Sealed : Unit {0} → History → Type 0
@@ -102,19 +102,19 @@ pub added_gains : (p s : ℕ) (sector : Sector) (h k : History) → IsSectorAdde
 added_gains p s sector h k added = rw (added.is) (held_program sector_in h.start h.story p s added.bytes sector added.spelled)
 
 -- where the new map is the old one, it is kept, whatever holds then
-pub switch_keeps : {T E : Type 0} {Sound : Type 0} (places : ℕ) (m : Map) (Does : Bool → Story → Type 0) (Then : T → History → Type 0) (h : History) (old : Told) (result : Result T E) (new : Told)
+pub switch_keeps : {T E : Type 0} {Sound : Type 0} (places : ℕ) (m : Legible) (Does : Bool → Story → Type 0) (Then : T → History → Type 0) (h : History) (old : Told) (result : Result T E) (new : Told)
     → LeadsWhere Sound (EachStandsEither places m m) Does Then h old result new → LeadsWhere Sound (EachStands places m) Does Then h old result new
 switch_keeps places m Does Then h old result new =
     leads_weaker (EachStandsEither places m m) (EachStands places m) Does Does Then Then h old result new
     (λ k either. either_is_kept places m k either) (λ done a is. is) (λ v k is. is)
 
 -- also with what charts say
-pub switch_is_kept : {T E : Type 0} (places : ℕ) (m : Map) (Does : Bool → Story → Type 0) (F : T → Chart → Chart → Type 0) (h : History) (old : Told) (result : Result T E) (new : Told)
+pub switch_is_kept : {T E : Type 0} (places : ℕ) (m : Legible) (Does : Bool → Story → Type 0) (F : T → Chart → Chart → Type 0) (h : History) (old : Told) (result : Result T E) (new : Told)
     → SwitchesMap places m m Does F h old result new → KeepsMap places m Does F h old result new
 switch_is_kept places m Does F h old result new = switch_keeps places m Does (RestsWith places m F h) h old result new
 
 -- the barrier before the header, and what is known of the story behind it
-pub settled_rests : (places : ℕ) (m : Map) (h : History) → StoryRests places m h → StoryRests places m (adds Barrier h)
+pub settled_rests : (places : ℕ) (m : Legible) (h : History) → StoryRests places m h → StoryRests places m (adds Barrier h)
 settled_rests places m h rests = barriers_rest places m h (held_stands places m h rests.each) rests.worn
 
 -- worn places are no more of them behind a barrier
@@ -125,7 +125,7 @@ worn_settled places story c worn it laid p is = worn it laid p (and_parts _ _ is
 pub steady_settled : (h : History) (old mid : Told) → IsSteady h old → Waited (Ok tt) old mid → IsSteady (adds Barrier h) mid
 steady_settled h old mid steady wait = steady_then Barrier h old mid steady wait
 
-module _ (places : ℕ) (m n : Map) (h : History) (p : ℕ) (head : Sector) (rests : StoryRests places m h) (old mid : Told) (steady : IsSteady h old) where
+module _ (places : ℕ) (m n : Legible) (h : History) (p : ℕ) (head : Sector) (rests : StoryRests places m h) (old mid : Told) (steady : IsSteady h old) where
   waits : (result : Result (Unit {0}) ChipFault) → Waited result old mid → Leads (EachStandsEither places m n) (Programs p (λ s. ⊥)) (λ done then. then ≡ adds Barrier h) h old result mid
   waits result wait = leads_waited (EachStandsEither places m n) (Programs p (λ s. ⊥)) h old mid steady (λ done then. then ≡ adds Barrier h) result wait
       (one_is_either places m n h rests.each) (one_is_either places m n (adds Barrier h) (settled_rests places m h rests).each) (programs_barrier p (λ s. ⊥) true) (programs_none p (λ s. ⊥) false) refl

@@ -8,7 +8,7 @@ use Rattle.chip_trait.specs.Told.{History, Told, adds}
 use Rattle.chip_trait.proofs.AgeLemmas.{clean_blank, clean_closed, clean_lasting}
 use Rattle.chip_trait.proofs.ClosedLemmas.{held_program}
 use Rattle.ipl_base.specs.declared.fault.ChipFault.{ChipFault}
-use Rattle.ipl_model.specs.State.{Map}
+use Rattle.ipl_meaning.specs.Legible.{Legible}
 use Rattle.ipl_format.specs.Sector.{Sector, sector_in}
 use Rattle.ipl_format.specs.Record.{Record}
 use Rattle.ipl_meaning.specs.Chart.{chart_of}
@@ -33,7 +33,7 @@ untouched h p s clean = (clean_blank h.start h.story p s clean, clean_closed h.s
 pub programmed_chart : (p s : ℕ) (bytes : List ℕ) (sector : Sector) (x : Contents) → sector_in bytes ≡ Some sector → Gains p s sector (chart_of x) (chart_of (after (Program p s bytes) x))
 programmed_chart p s bytes sector x says = held_program sector_in x [] p s bytes sector says
 
-module _ (p s : ℕ) (bytes : List ℕ) (sector : Sector) (says : sector_in bytes ≡ Some sector) (m : Map) (h : History) (old new : Told) (result : Result (Unit {0}) ChipFault)
+module _ (p s : ℕ) (bytes : List ℕ) (sector : Sector) (says : sector_in bytes ≡ Some sector) (m : Legible) (h : History) (old new : Told) (result : Result (Unit {0}) ChipFault)
     (steady : IsSteady h old) (did : Did (Program p s bytes) result old new) (rests : StoryRests old.places m h) (fresh : IsUntouched h p s) where
   -- where the story rests on the map after it too, and marks are kept
   kept : StoryRests old.places m (adds (Program p s bytes) h) → KeepsMarks old.places h (adds (Program p s bytes) h)
@@ -62,7 +62,7 @@ program_tells p s bytes sector old new (Ok v) says did = λ x told.
 program_tells p s bytes sector old new (Err e) says did = tt
 
 -- the same call, its spot and its sector named otherwise
-pub aside_renamed : (places p s t : ℕ) (sector other : Sector) (m : Map) (h : History) (old new : Told) (result : Result (Unit {0}) ChipFault) → s ≡ t → sector ≡ other
+pub aside_renamed : (places p s t : ℕ) (sector other : Sector) (m : Legible) (h : History) (old new : Told) (result : Result (Unit {0}) ChipFault) → s ≡ t → sector ≡ other
     → KeepsMap places m (Programs p (IsSpot s)) (λ done. Gains p s sector) h old result new
     → KeepsMap places m (Programs p (IsSpot t)) (λ done. Gains p t other) h old result new
 aside_renamed places p s t sector other m h old new result at is did = rw (← at, ← is) did

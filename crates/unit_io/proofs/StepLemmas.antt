@@ -8,7 +8,7 @@ use Rattle.chip_trait.specs.Moment.{AtEachMoment}
 use Rattle.chip_trait.specs.Told.{History, Told, adds_all}
 use Rattle.chip_trait.proofs.HistoryLemmas.{same_history}
 use Rattle.chip_trait.proofs.MomentLemmas.{at_start, at_next, at_both}
-use Rattle.ipl_model.specs.State.{Map}
+use Rattle.ipl_meaning.specs.Legible.{Legible}
 use Rattle.ipl_meaning.specs.Rests.{EachStands, StoryRests}
 use Rattle.ipl_meaning.specs.Marks.{KeepsMarks}
 use Rattle.unit_io.specs.Leads.{IsSteady}
@@ -120,7 +120,7 @@ writes_are_steps T Each Does Then Holds t after h old new (Err e) did stopped or
     failed_writes_are_steps T T Each Does Then Holds t after h old new e e did stopped (orderly false)
 
 -- reads keep what the story rests on at each moment
-at_moments : (At : ℕ → ℕ → Type 0) (places : ℕ) (m : Map) (h : History) (added : Story) → All (IsReadAt At) added → StoryRests places m h → AtEachMoment (λ e. EachStands places m (adds_all e h)) added
+at_moments : (At : ℕ → ℕ → Type 0) (places : ℕ) (m : Legible) (h : History) (added : Story) → All (IsReadAt At) added → StoryRests places m h → AtEachMoment (λ e. EachStands places m (adds_all e h)) added
 at_moments At places m h [] each rests = at_start (λ e. EachStands places m (adds_all e h)) rests.each
 at_moments At places m h (e ∷ added) each rests =
     at_next (λ f. EachStands places m (adds_all f h)) e added (at_moments At places m h added (All-tail (IsReadAt At) e added each) rests) ((at_rests At places m h (e ∷ added) each rests).each)

@@ -11,7 +11,7 @@ use Rattle.chip_trait.specs.Moment.{AtEachMoment}
 use Rattle.chip_trait.specs.Told.{History, Told, Appends, Breaks, Halts, Rose, adds, adds_all}
 use Rattle.ipl_base.specs.declared.fault.ChipFault.{ChipFault}
 use Rattle.ipl_base.specs.declared.fault.ChipFault.TheVariants.{Stopped}
-use Rattle.ipl_model.specs.State.{Map}
+use Rattle.ipl_meaning.specs.Legible.{Legible}
 use Rattle.ipl_format.specs.Sector.{Sector, sector_in}
 use Rattle.ipl_meaning.specs.Chart.{Chart}
 use Rattle.ipl_meaning.specs.Rests.{now, EachStands, EachStandsEither, StoryRests}
@@ -41,23 +41,23 @@ abbrev pub Leads : {T E : Type 0} → (History → Type 0) → (Bool → Story �
 Leads Each Does Then h old result new = LeadsWhere (Unit {0}) Each Does Then h old result new
 
 -- The story rests on the map, and F holds of the answer, of the chart at the history before and of the chart then.
-abbrev pub RestsWith : {T : Type 0} → ℕ → Map → (T → Chart → Chart → Type 0) → History → T → History → Type 0
+abbrev pub RestsWith : {T : Type 0} → ℕ → Legible → (T → Chart → Chart → Type 0) → History → T → History → Type 0
 RestsWith places m F h v then = StoryRests places m then × F v (now h) (now then)
 
 -- What a call leaves that keeps the map. Whatever a power cut leaves at any moment of it stands for the map; and done, the
 -- story rests on it, with F of the answer and of the charts before and after.
-abbrev pub KeepsMap : {T E : Type 0} → ℕ → Map → (Bool → Story → Type 0) → (T → Chart → Chart → Type 0)
+abbrev pub KeepsMap : {T E : Type 0} → ℕ → Legible → (Bool → Story → Type 0) → (T → Chart → Chart → Type 0)
     → History → Told → Result T E → Told → Type 0
 KeepsMap places m Does F h old result new = Leads (EachStands places m) Does (RestsWith places m F h) h old result new
 
 -- What a call leaves that switches the map. Whatever a power cut leaves at any moment of it stands for the old map or for the
 -- new one; and done, the story rests on the new one, with F of the answer and of the charts before and after.
-abbrev pub SwitchesMap : {T E : Type 0} → ℕ → Map → Map → (Bool → Story → Type 0) → (T → Chart → Chart → Type 0)
+abbrev pub SwitchesMap : {T E : Type 0} → ℕ → Legible → Legible → (Bool → Story → Type 0) → (T → Chart → Chart → Type 0)
     → History → Told → Result T E → Told → Type 0
 SwitchesMap places m n Does F h old result new =
     Leads (EachStandsEither places m n) Does (RestsWith places n F h) h old result new
 
-abbrev pub SwitchesMapWhere : {T E : Type 0} → Type 0 → ℕ → Map → Map → (Bool → Story → Type 0) → (T → Chart → Chart → Type 0)
+abbrev pub SwitchesMapWhere : {T E : Type 0} → Type 0 → ℕ → Legible → Legible → (Bool → Story → Type 0) → (T → Chart → Chart → Type 0)
     → History → Told → Result T E → Told → Type 0
 SwitchesMapWhere Sound places m n Does F h old result new =
     LeadsWhere Sound (EachStandsEither places m n) Does (RestsWith places n F h) h old result new
@@ -69,7 +69,7 @@ pub record IsSectorAdded (p s : ℕ) (sector : Sector) (h k : History) : Type 0 
   pub is : k ≡ adds Barrier (adds (Program p s bytes) h)
 
 -- the story rests on the map, with that sector added
-pub record RestsAdded (places : ℕ) (m : Map) (p s : ℕ) (sector : Sector) (h k : History) : Type 0 where
+pub record RestsAdded (places : ℕ) (m : Legible) (p s : ℕ) (sector : Sector) (h k : History) : Type 0 where
   pub rests : StoryRests places m k
   pub added : IsSectorAdded p s sector h k
 

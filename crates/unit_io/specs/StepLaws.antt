@@ -4,7 +4,7 @@ use Rattle.chip_trait.specs.Story.{Story, pieces}
 use Rattle.chip_trait.specs.Lawful.{AreClean, IsLawfulAfter, LeavesClean}
 use Rattle.chip_trait.specs.Told.{History, Told, Counts, adds_all}
 use Rattle.ipl_base.specs.declared.fault.ChipFault.{ChipFault}
-use Rattle.ipl_model.specs.State.{Map}
+use Rattle.ipl_meaning.specs.Legible.{Legible}
 use Rattle.ipl_meaning.specs.Layout.{Layout}
 use Rattle.ipl_meaning.specs.Rests.{EachStands, StoryRests}
 use Rattle.ipl_meaning.specs.Tables.{Tables, IsCountedClean}
@@ -65,7 +65,7 @@ FailedWritesAreSteps = (T U : Type 0) (Each : History → Type 0) (Does : Bool �
 
 -- what a call left that only reads
 abbrev pub ReadsAreOutcomes : Type 1
-ReadsAreOutcomes = (At : ℕ → ℕ → Type 0) (places : ℕ) (m : Map) (Does : Story → Type 0) (Settles : Type 0) (Then : History → Type 0) (h : History) (old new : Told)
+ReadsAreOutcomes = (At : ℕ → ℕ → Type 0) (places : ℕ) (m : Legible) (Does : Story → Type 0) (Settles : Type 0) (Then : History → Type 0) (h : History) (old new : Told)
     → IsSteady h old → StoryRests places m h → (did : ReadsAt At old new) → Does did.added → Then (adds_all did.added h)
     → Outcome (EachStands places m) Does Settles Then h old new
 
@@ -95,38 +95,38 @@ FailuresSettle = (T U E F : Type 0) (e : E) (f : F) (old mid new : Told) → Cou
 -- ---- calls that keep what a chip stands for
 
 -- a call that keeps a map, however it ends
-abbrev pub Preserves : {T E : Type 0} → ℕ → Map → Tables → Tables → History → Result T E → Told → Told → Type 0
+abbrev pub Preserves : {T E : Type 0} → ℕ → Legible → Tables → Tables → History → Result T E → Told → Told → Type 0
 Preserves places m t after h result old new = Steps (EachStands places m) t after (λ v k. StoryRests places m k) (λ k. StoryRests places m k) h result old new
 
 abbrev pub NothingKeeps : Type 0
-NothingKeeps = (places : ℕ) (m : Map) (t : Tables) (h : History) (old : Told) → IsSteady h old → StoryRests places m h → Preserves {T = Unit {0}} {E = ChipFault} places m t t h (Ok tt) old old
+NothingKeeps = (places : ℕ) (m : Legible) (t : Tables) (h : History) (old : Told) → IsSteady h old → StoryRests places m h → Preserves {T = Unit {0}} {E = ChipFault} places m t t h (Ok tt) old old
 
 -- reads of a place keep it and the tables, done or not: a read fault leaves what was there
 abbrev pub ReadsKeepTables : Type 0
-ReadsKeepTables = (place : ℕ) (places : ℕ) (m : Map) (it : Layout) (t : Tables) (h : History)
+ReadsKeepTables = (place : ℕ) (places : ℕ) (m : Legible) (it : Layout) (t : Tables) (h : History)
     (result : Result (Unit {0}) ChipFault) (old new : Told)
     → IsSteady h old → StoryRests places m h → Agrees places h it t
     → ReadsAt (λ p s. p ≡ place) old new → KeepsTables places m it t h result old new
 
 -- reads of a place keep it, done or not
 abbrev pub ReadsKeepPlace : Type 0
-ReadsKeepPlace = (place : ℕ) (places : ℕ) (m : Map) (t : Tables) (h : History) (result : Result (Unit {0}) ChipFault) (old new : Told) → IsSteady h old → StoryRests places m h → ReadsAt (λ p s. p ≡ place) old new
+ReadsKeepPlace = (place : ℕ) (places : ℕ) (m : Legible) (t : Tables) (h : History) (result : Result (Unit {0}) ChipFault) (old new : Told) → IsSteady h old → StoryRests places m h → ReadsAt (λ p s. p ≡ place) old new
     → Preserves places m t t h result old new
 
 -- one call that was done, and then another
 abbrev pub CallsKeep : Type 0
-CallsKeep = (places : ℕ) (m : Map) (t between after : Tables) (h : History) (result : Result (Unit {0}) ChipFault) (old mid new : Told) → Counts old mid
+CallsKeep = (places : ℕ) (m : Legible) (t between after : Tables) (h : History) (result : Result (Unit {0}) ChipFault) (old mid new : Told) → Counts old mid
     → (first : Preserves {T = Unit {0}} {E = ChipFault} places m t between h (Ok tt) old mid) → Preserves places m between after (adds_all first.added h) result mid new
     → Preserves places m t after h result old new
 
 -- a call that failed, where nothing else is done then
 abbrev pub FailuresKeep : Type 0
-FailuresKeep = (places : ℕ) (m : Map) (t after : Tables) (h : History) (e : ChipFault) (old new : Told)
+FailuresKeep = (places : ℕ) (m : Legible) (t after : Tables) (h : History) (e : ChipFault) (old new : Told)
     → Preserves {T = ℕ} {E = ChipFault} places m t after h (Err e) old new → Preserves {T = Unit {0}} {E = ChipFault} places m t after h (Err e) old new
 
 -- a call of unit_io that writes sectors which count as clean before, and no more then
 abbrev pub WritesKeep : Type 0
-WritesKeep = (places : ℕ) (m : Map) (t after : Tables) (p s : ℕ) (h : History) (result : Result (Unit {0}) ChipFault) (old new : Told)
+WritesKeep = (places : ℕ) (m : Legible) (t after : Tables) (p s : ℕ) (h : History) (result : Result (Unit {0}) ChipFault) (old new : Told)
     → Leads (EachStands places m) (Programs p (λ r. r ≡ s)) (λ v k. StoryRests places m k) h old result new → IfErr result (λ fault. IsStopped fault old new)
     → IsCountedClean t p s → ((q r : ℕ) → IsCountedClean after q r → IsCountedClean t q r × (q ≡ p → r ≢ s))
     → Preserves places m t after h result old new

@@ -5,7 +5,7 @@ use Rattle.chip_trait.specs.Story.{Story, pieces}
 use Rattle.chip_trait.specs.Moment.{AtEachMoment}
 use Rattle.chip_trait.specs.Lawful.{AreClean, IsLawfulAfter}
 use Rattle.chip_trait.specs.Told.{History, Told, Unrisen, adds_all}
-use Rattle.ipl_model.specs.State.{Map}
+use Rattle.ipl_meaning.specs.Legible.{Legible}
 use Rattle.ipl_meaning.specs.Layout.{Layout}
 use Rattle.ipl_meaning.specs.Rests.{EachStands, StoryRests}
 use Rattle.ipl_meaning.specs.Tables.{Tables, IsCountedClean}
@@ -69,12 +69,12 @@ Tidies t result after old new =
     Spends (TidyWork (IsCountedClean t) (IsCountedClean after) (Settled result old new)) old new
 
 -- the story rests on the map, and the tables agree
-pub record RestsAgreeing (places : ℕ) (m : Map) (it : Layout) (t : Tables) (k : History) : Type 0 where
+pub record RestsAgreeing (places : ℕ) (m : Legible) (it : Layout) (t : Tables) (k : History) : Type 0 where
   pub rests : StoryRests places m k
   pub agrees : Agrees places k it t
 
 -- What a call leaves that keeps a map and the tables, however it ends.
-abbrev pub KeepsTables : {T E : Type 0} → ℕ → Map → Layout → Tables → History → Result T E
+abbrev pub KeepsTables : {T E : Type 0} → ℕ → Legible → Layout → Tables → History → Result T E
     → Told → Told → Type 0
 KeepsTables places m it t h result old new =
     Steps (EachStands places m) t t (λ v k. RestsAgreeing places m it t k)

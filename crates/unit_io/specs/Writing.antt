@@ -8,7 +8,7 @@ use Rattle.chip_trait.specs.Told.{History, Told, adds}
 use Rattle.ipl_base.specs.declared.fault.ChipFault.{ChipFault}
 use Rattle.ipl_base.specs.declared.limits.TheConstants.{PAGE_SECTORS, PAYLOAD_LEN, VERSION}
 use Rattle.ipl_format.specs.Sector.{Sector, sector_in}
-use Rattle.ipl_model.specs.State.{Map}
+use Rattle.ipl_meaning.specs.Legible.{Legible}
 use Rattle.ipl_meaning.specs.Chart.{Chart}
 use Rattle.ipl_meaning.specs.Stands.{StandsBeside}
 use Rattle.ipl_meaning.specs.Rests.{now, IsUntouched, EachStands, WornAreIdle, StoryRests}
@@ -56,7 +56,7 @@ pub record AddsPage (Has : ℕ → Chart → Chart → Type 0) (p : ℕ) (result
 -- a sector in a place without a header: it keeps the map
 abbrev pub LeadsAside : ℕ → ℕ → ℕ → Sector
     → Told → Result (Unit {0}) ChipFault → Told → Type 0
-LeadsAside places p s sector old result new = (m : Map) (h : History)
+LeadsAside places p s sector old result new = (m : Legible) (h : History)
     → IsSteady h old → StoryRests places m h → now h p 0 ≡ None → s ≢ 0 → IsUntouched h p s
     → KeepsMap places m (Programs p (IsSpot s)) (λ done. Gains p s sector) h old result new
 
@@ -64,7 +64,7 @@ LeadsAside places p s sector old result new = (m : Map) (h : History)
 -- map to what stands with it
 abbrev pub LeadsCommit : ℕ → ℕ → ℕ → Sector
     → Told → Result (Unit {0}) ChipFault → Told → Type 0
-LeadsCommit places p s sector old result new = (m n : Map) (h : History)
+LeadsCommit places p s sector old result new = (m n : Legible) (h : History)
     → IsSteady h old → StoryRests places m h → IsClosed h.story → IsUntouched h p s
     → StandsBeside places (now h) (with_sector (now h) p s sector) n
     → WornAreIdle places h.story (with_sector (now h) p s sector)
@@ -75,7 +75,7 @@ LeadsCommit places p s sector old result new = (m n : Map) (h : History)
 -- where they are kept if what some tables count as clean is unused, on that condition
 abbrev pub LeadsMark : ℕ → ℕ → ℕ → Sector
     → Told → Result (Unit {0}) ChipFault → Told → Type 0
-LeadsMark places p s mark old result new = (t : Tables) (m : Map) (h : History)
+LeadsMark places p s mark old result new = (t : Tables) (m : Legible) (h : History)
     → IsSteady h old → StoryRests places m h → IsClosed h.story → IsUntouched h p s
     → StandsBeside places (now h) (with_sector (now h) p s mark) m
     → WornAreIdle places h.story (with_sector (now h) p s mark)

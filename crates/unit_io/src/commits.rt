@@ -4,7 +4,7 @@ ghost use Rattle.chip_trait.specs.declared.event.Event.TheVariants.{Program};
 ghost use Rattle.chip_trait.specs.Image.{IsClosed};
 ghost use Rattle.chip_trait.specs.Chart.{with_sector};
 ghost use Rattle.chip_trait.specs.Told.{Told, History, adds};
-ghost use Rattle.ipl_model.specs.State.{Map};
+ghost use Rattle.ipl_meaning.specs.Legible.{Legible};
 ghost use Rattle.ipl_format.specs.Sector.{IsKind, sector_in};
 ghost use Rattle.sector_format.specs.Decode.{sector_of};
 ghost use Rattle.ipl_meaning.specs.Stands.{StandsBeside};
@@ -84,7 +84,7 @@ fn add_sector<C: Chip>(chip: &mut C, spot: Spot, noted: &Noted<'_>) -> Result<()
     requires spot { IsOnChip (C.told chip.old) spot.place spot.sector }
     requires known { IsKind noted.now.kind }
     requires written { MayProgram noted.now }
-    ensures leads { (t : Tables) (m n : Map) (h : History) → IsSteady h (C.told chip.old)
+    ensures leads { (t : Tables) (m n : Legible) (h : History) → IsSteady h (C.told chip.old)
         → StoryRests (C.told chip.old).places m h → IsClosed h.story → IsUntouched h spot.place spot.sector
         → StandsBeside (C.told chip.old).places (now h) (with_sector (now h) spot.place spot.sector noted.now) n
         → WornAreIdle (C.told chip.old).places h.story (with_sector (now h) spot.place spot.sector noted.now)

@@ -3,7 +3,7 @@ ghost use Rattle.std.specs.Prelude.{◌≡◌, ◌<◌, ◌≤◌, ◌+◌, ◌*
 ghost use Rattle.ipl_base.specs.declared.limits.TheConstants.{PAGE_LEN, PAGE_SECTORS, PAYLOAD_LEN, VERSION};
 ghost use Rattle.chip_trait.specs.Lawful.{Clean, age};
 ghost use Rattle.chip_trait.specs.Told.{Told, History};
-ghost use Rattle.ipl_model.specs.State.{Map};
+ghost use Rattle.ipl_meaning.specs.Legible.{Legible};
 ghost use Rattle.crc_sum.specs.Crc.{tail_sum};
 ghost use Rattle.ipl_format.specs.Page.{IsCutInto, page_text, piece_of};
 ghost use Rattle.ipl_format.specs.Sector.{IsKind, filled, sector_in};
@@ -68,7 +68,7 @@ fn program_piece<C: Chip>(
     requires few { piece < PAGE_SECTORS }
     requires within { PAYLOAD_LEN * piece ≤ length text.now }
     requires tail { IfSome tail (λ sum. sum ≡ tail_sum (filled (piece_of text.now piece))) }
-    ensures aside { (m : Map) (h : History) → IsSteady h (C.told chip.old) → StoryRests (C.told chip.old).places m h
+    ensures aside { (m : Legible) (h : History) → IsSteady h (C.told chip.old) → StoryRests (C.told chip.old).places m h
         → now h place 0 ≡ None → age h.story place (base_sector_of page piece) ≡ Clean
         → KeepsMap (C.told chip.old).places m (Programs place (IsSpot (base_sector_of page piece)))
         (λ done. Gains place (base_sector_of page piece) (base_sector VERSION head.now.unit head.now.generation page piece text.now))
@@ -107,7 +107,7 @@ fn program_pieces<C: Chip>(
     requires page { IsPageOnChip (C.told chip.old) place page }
     requires fits { length text.now ≤ PAGE_LEN }
     requires tails { FitTails text.now tails.now }
-    ensures keeps { (m : Map) (h : History) → IsSteady h (C.told chip.old) → StoryRests (C.told chip.old).places m h
+    ensures keeps { (m : Legible) (h : History) → IsSteady h (C.told chip.old) → StoryRests (C.told chip.old).places m h
         → now h place 0 ≡ None → ((s : ℕ) → IsPieceSpot page PAGE_SECTORS s → age h.story place s ≡ Clean)
         → KeepsMap (C.told chip.old).places m (Programs place (IsPieceSpot page PAGE_SECTORS))
         (λ n. HasPieces place head.now.unit head.now.generation page text.now n) h (C.told chip.old) result (C.told chip.new) }
@@ -144,7 +144,7 @@ pub fn program_page<C: Chip>(
 ) -> Result<u32, ChipFault>
     requires page { IsPageOnChip (C.told chip.old) place page }
     requires tails { FitTails (page_text VERSION map.now) tails.now }
-    ensures keeps { (m : Map) (h : History) → IsSteady h (C.told chip.old) → StoryRests (C.told chip.old).places m h
+    ensures keeps { (m : Legible) (h : History) → IsSteady h (C.told chip.old) → StoryRests (C.told chip.old).places m h
         → now h place 0 ≡ None → ((s : ℕ) → IsPieceSpot page PAGE_SECTORS s → age h.story place s ≡ Clean)
         → KeepsMap (C.told chip.old).places m (Programs place (IsPieceSpot page PAGE_SECTORS))
         (λ n. HasPageSectors place head.now.unit head.now.generation page map.now n) h (C.told chip.old) result (C.told chip.new) }

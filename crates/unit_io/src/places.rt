@@ -4,7 +4,7 @@ ghost use Rattle.chip_trait.specs.Image.{IsClosed};
 ghost use Rattle.chip_trait.specs.Lawful.{Clean, age};
 ghost use Rattle.chip_trait.specs.Chart.{with_sector};
 ghost use Rattle.chip_trait.specs.Told.{Told, History};
-ghost use Rattle.ipl_model.specs.State.{Map};
+ghost use Rattle.ipl_meaning.specs.Legible.{Legible};
 ghost use Rattle.ipl_format.specs.Sector.{Sector, IsKind, sector_in};
 ghost use Rattle.sector_format.specs.Decode.{sector_of};
 ghost use Rattle.ipl_meaning.specs.Stands.{StandsBeside};
@@ -33,7 +33,7 @@ use sector_format::{Head, encode};
 pub fn begin_unit<C: Chip>(chip: &mut C, place: u32) -> Result<Wear, ChipFault>
     requires { place < (C.told chip.old).places }
     ensures erases { Erases place (C.told chip.old) result (C.told chip.new) }
-    ensures keeps { (m : Map) (it : Layout) (h : History) → IsSteady h (C.told chip.old) → StoryRests (C.told chip.old).places m h
+    ensures keeps { (m : Legible) (it : Layout) (h : History) → IsSteady h (C.told chip.old) → StoryRests (C.told chip.old).places m h
         → Laid (C.told chip.old).places (now h) it → IsIdle (C.told chip.old).places (now h) it place
         → Leads (EachStands (C.told chip.old).places m) (λ ok. Clears place (is_done result))
         (RestsWith (C.told chip.old).places m (Begun place) h) h (C.told chip.old) result (C.told chip.new) }
@@ -58,7 +58,7 @@ pub fn begin_unit<C: Chip>(chip: &mut C, place: u32) -> Result<Wear, ChipFault>
 /// Programs a header where nothing is open, and makes sure of it.
 fn add_header<C: Chip>(chip: &mut C, place: u32, bytes: &[u8; 512]) -> Result<(), ChipFault>
     requires { place < (C.told chip.old).places }
-    ensures leads { (m n : Map) (h : History) (said : Sector) → sector_in bytes.now ≡ Some said → IsSteady h (C.told chip.old)
+    ensures leads { (m n : Legible) (h : History) (said : Sector) → sector_in bytes.now ≡ Some said → IsSteady h (C.told chip.old)
         → StoryRests (C.told chip.old).places m h → IsClosed h.story → age h.story place 0 ≡ Clean
         → StandsBeside (C.told chip.old).places (now h) (with_sector (now h) place 0 said) n
         → WornAreIdle (C.told chip.old).places h.story (with_sector (now h) place 0 said)
@@ -87,7 +87,7 @@ pub fn seal<C: Chip>(chip: &mut C, place: u32, head: &Head, payload: &[u8]) -> R
     requires place { place < (C.told chip.old).places }
     requires known { IsKind head.now.kind }
     requires written { MayProgram (sector_of head.now payload.now) }
-    ensures leads { (m n : Map) (h : History) → IsSteady h (C.told chip.old)
+    ensures leads { (m n : Legible) (h : History) → IsSteady h (C.told chip.old)
         → StoryRests (C.told chip.old).places m h → age h.story place 0 ≡ Clean
         → StandsBeside (C.told chip.old).places (now h) (with_sector (now h) place 0 (sector_of head.now payload.now)) n
         → WornAreIdle (C.told chip.old).places h.story (with_sector (now h) place 0 (sector_of head.now payload.now))

@@ -2,7 +2,7 @@
 ghost use Rattle.std.specs.Prelude.{◌≡◌, ◌<◌, ℕ, List, Some, OnOk, is_ok};
 ghost use Rattle.ipl_base.specs.declared.limits.TheConstants.{VERSION};
 ghost use Rattle.chip_trait.specs.Told.{Told, History};
-ghost use Rattle.ipl_model.specs.State.{Map};
+ghost use Rattle.ipl_meaning.specs.Legible.{Legible};
 ghost use Rattle.ipl_format.specs.Sector.{Sector, sector_in};
 ghost use Rattle.ipl_format.specs.Record.{Record};
 ghost use Rattle.sector_format.specs.Decode.{sector_of};
@@ -59,7 +59,7 @@ pub fn program_log<C: Chip>(
     requires spot { IsOnChip (C.told chip.old) spot.place spot.sector }
     requires kind { head.now.kind ≡ 5 }
     requires version { head.now.version ≡ VERSION }
-    ensures keeps { (m : Map) (it : Layout) (h : History) (u : ℕ) (records : List Record) → IsSteady h (C.told chip.old)
+    ensures keeps { (m : Legible) (it : Layout) (h : History) (u : ℕ) (records : List Record) → IsSteady h (C.told chip.old)
         → StoryRests (C.told chip.old).places m h → Laid (C.told chip.old).places (now h) it
         → MayLog (C.told chip.old).places (now h) it u spot.place spot.sector (sector_of head.now payload.now.bytes) records
         → IsUntouched h spot.place spot.sector

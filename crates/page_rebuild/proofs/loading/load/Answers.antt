@@ -47,8 +47,8 @@ returns-clause-loads g c =
 
 pub returns-clause-stands : goal.returns-clause-stands
 returns-clause-stands g c =
-    ok_then c.rebuild.result (returns-clause-loads g c) (λ loads x told it t are m stands.
-    page_of_map are.mirrored.mirrors.laid (within are c.requires.unit) c.requires.page stands (loads x told it t are))
+    ok_then c.rebuild.result (returns-clause-loads g c) (λ loads x told it t are m stands reads.
+    page_of_map are.mirrored.mirrors.laid (within are c.requires.unit) c.requires.page stands reads (loads x told it t are))
 
 pub returns-clause-looks : goal.returns-clause-looks
 returns-clause-looks g c =

@@ -5,6 +5,7 @@ use Rattle.chip_trait.proofs.CountsLemmas.{counts_then}
 use Rattle.ipl_base.specs.declared.fault.ChipFault.{ChipFault}
 use Rattle.ipl_base.specs.declared.fault.ImageFault.TheVariants.{Chip}
 use Rattle.ipl_meaning.specs.Chart.{chart_of}
+use Rattle.ipl_meaning.specs.Legible.{whole}
 use Rattle.ipl_meaning.specs.TableSteps.{without_marks}
 use Rattle.selective_merge.specs.Known.{KnowsPlaces}
 use Rattle.ipl_meaning.specs.LaidOut.{layout_in}
@@ -317,7 +318,7 @@ returns-in_err-renew_with-clause-fails g c =
           c.in_err-renew_with.ensures.renews.fails.complete x
           (wait_contents (knows_logs c.read_tables.new.parts.directory) mid settled
           c.in_ok-secure_marks.ensures.waits ∙ reads.contents ∙ told) it parts.1
-          (all_mergeable old.places (chart_of x) it m t says (c.read_tables.ensures.active ∙ c.requires.active)));
+          (all_mergeable old.places (chart_of x) it (whole m) t says (λ u page low few. refl) (c.read_tables.ensures.active ∙ c.requires.active)));
       bytes = λ x told no_read no_stop why. c.in_ok-found.ensures.bytes x told;
     })
 

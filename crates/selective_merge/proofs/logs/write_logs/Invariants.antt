@@ -2,7 +2,7 @@ use Rattle.std.proofs.Common.{◌≡◌, ◌+◌, ℕ, true, List, None, Ok, len
 use Rattle.chip_trait.specs.Lawful.{Clean, age}
 use Rattle.chip_trait.specs.Told.{Told, History, Counts}
 use Rattle.log_records.specs.View.{Versioned}
-use Rattle.ipl_model.specs.State.{Map}
+use Rattle.ipl_meaning.specs.Legible.{Legible}
 use Rattle.ipl_meaning.specs.Rests.{now, StoryRests}
 use Rattle.unit_io.specs.Charts.{Charts, Spares}
 use Rattle.unit_io.specs.Costs.{ProgramsAt, Spends}
@@ -15,7 +15,7 @@ use Rattle.selective_merge.proofs.logs.write_logs.Given as goal
 -- what is so after some log sectors
 pub record AreWritten (first t : Told) (p u generation serial : ℕ) (payloads : List Versioned)
     (counter n : ℕ) : Type 0 where
-  pub keeps : (m : Map) (h : History) → IsSteady h first → StoryRests first.places m h
+  pub keeps : (m : Legible) (h : History) → IsSteady h first → StoryRests first.places m h
       → now h p 0 ≡ None
       → ((s : ℕ) → IsLogSpotBelow (length payloads) s → age h.story p s ≡ Clean)
       → KeepsLogs first.places p u generation serial payloads n m h first (Ok tt) t

@@ -1,7 +1,7 @@
 use Rattle.std.proofs.Common.{◌≡◌, ◌*◌, ℕ, true, List, None, length}
 use Rattle.chip_trait.specs.Lawful.{Clean, age}
 use Rattle.chip_trait.specs.Told.{Told, History, Counts}
-use Rattle.ipl_model.specs.State.{Map}
+use Rattle.ipl_meaning.specs.Legible.{Legible}
 use Rattle.ipl_meaning.specs.Rests.{now, StoryRests}
 use Rattle.ipl_base.specs.First.{first_below}
 use Rattle.unit_io.specs.Charts.{Charts, Spares}
@@ -19,7 +19,7 @@ use Rattle.selective_merge.proofs.pages.move_pages.Given as goal
 -- what is so after some pages
 pub record AreMoved (from : Source) (p generation : ℕ) (first t : Told) (k : ℕ)
     (pieces : List ℕ) : Type 0 where
-  pub moves : (m : Map) (h : History) → IsSteady h first → StoryRests first.places m h
+  pub moves : (m : Legible) (h : History) → IsSteady h first → StoryRests first.places m h
       → now h p 0 ≡ None
       → ((s : ℕ) → IsBaseSpotBelow 15 s → age h.story p s ≡ Clean)
       → MovedSoFar first.places from p generation m h k pieces first t

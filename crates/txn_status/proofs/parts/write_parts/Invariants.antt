@@ -1,7 +1,7 @@
 use Rattle.std.proofs.Common.{◌≡◌, ◌+◌, ℕ, true, List, None, Ok}
 use Rattle.chip_trait.specs.Lawful.{Clean, age}
 use Rattle.chip_trait.specs.Told.{Told, History, Counts}
-use Rattle.ipl_model.specs.State.{Map}
+use Rattle.ipl_meaning.specs.Legible.{Legible}
 use Rattle.ipl_meaning.specs.Rests.{now, StoryRests}
 use Rattle.unit_io.specs.Leads.{IsSteady}
 use Rattle.unit_io.specs.Costs.{ProgramsAt, Spends}
@@ -16,7 +16,7 @@ use Rattle.txn_status.proofs.parts.write_parts.Given as goal
 -- what is so after some parts
 pub record AreWritten (first t : Told) (place generation serial : ℕ) (numbers : List ℕ)
     (counter n : ℕ) : Type 0 where
-  pub keeps : (m : Map) (h : History) → IsSteady h first → StoryRests first.places m h
+  pub keeps : (m : Legible) (h : History) → IsSteady h first → StoryRests first.places m h
       → now h place 0 ≡ None
       → ((s : ℕ) → IsPartSpot (parts_of numbers) s → age h.story place s ≡ Clean)
       → KeepsParts first.places place generation serial numbers n m h first (Ok tt) t

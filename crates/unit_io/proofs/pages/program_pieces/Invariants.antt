@@ -1,6 +1,6 @@
 use Rattle.std.proofs.Common.{ℕ, List, true}
 use Rattle.chip_trait.specs.Told.{Told, History, Counts}
-use Rattle.ipl_model.specs.State.{Map}
+use Rattle.ipl_meaning.specs.Legible.{Legible}
 use Rattle.unit_io.specs.Leads.{IsSteady}
 use Rattle.unit_io.specs.Charts.{Charts, Spares, HasPieces}
 use Rattle.unit_io.specs.Plain.{AddsPlain}
@@ -12,7 +12,7 @@ use Rattle.unit_io.proofs.pages.program_pieces.Given as goal
 
 -- what is so after some pieces
 pub record IsPiled (first t : Told) (place unit generation page : ℕ) (text : List ℕ) (n : ℕ) : Type 0 where
-  pub keeps : (m : Map) (h : History) → IsSteady h first → IsOpenFor first.places place page m h → Piled first.places place unit generation page text m h first n t
+  pub keeps : (m : Legible) (h : History) → IsSteady h first → IsOpenFor first.places place page m h → Piled first.places place unit generation page text m h first n t
   pub tells : Charts (HasPieces place unit generation page text n) first t
   pub plain : AddsPlain first t
   pub spares : Spares place first t
