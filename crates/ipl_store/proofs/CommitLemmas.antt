@@ -11,6 +11,7 @@ use Rattle.ipl_meaning.specs.Tables.{Places, StatusTable, Tables, IsCountedClean
 use Rattle.ipl_meaning.specs.TableSteps.{after_commit as after_commit_of}
 use Rattle.selective_merge.specs.Known.{KnowsPlaces}
 use Rattle.selective_merge.proofs.KnownCleanLemmas.{commit_shrinks}
+use Rattle.place_taking.proofs.CountedLemmas.{keeps_counts}
 use Rattle.place_taking.specs.Spending.{tells_worn}
 use Rattle.place_taking.specs.Wear.{TellsOfWear}
 use Rattle.place_taking.proofs.HomeLemmas.{homes_equal}
@@ -128,7 +129,8 @@ numbers_added ss tids old new added before after order are may writers adds step
           (programs_leave_places (tables_in old.pages).places (tables_in new.pages).places stands.place 1 2
           6 before after (ap (λ (d : Places). d.retired) (rest.directory ∙ directory))
           (homes_equal (tables_in old.pages).places (tables_in new.pages).places
-          (rest.directory ∙ directory)) wrote.costs)
+          (rest.directory ∙ directory))
+          (keeps_counts (tables_in old.pages).places (tables_in new.pages).places (rest.directory ∙ directory)) wrote.costs)
           (λ done. header);
       order = record {
         ready = still_ready before.places old.pages new.pages (record {
@@ -181,7 +183,8 @@ numbers_not_added ss tids e old new before after order are may writers steps ses
           (failures_wear (tables_in old.pages) (tables_in new.pages) false before after
           (programs_leave_places (tables_in old.pages).places (tables_in new.pages).places
           old.pages.parts.status.place 1 2 6 before after (ap (λ (d : Places). d.retired) directory)
-          (homes_equal (tables_in old.pages).places (tables_in new.pages).places directory) wrote.costs));
+          (homes_equal (tables_in old.pages).places (tables_in new.pages).places directory)
+          (keeps_counts (tables_in old.pages).places (tables_in new.pages).places directory) wrote.costs));
       order = record {
         ready = still_ready before.places old.pages new.pages (record {
           places = directory;

@@ -6,6 +6,7 @@ use Rattle.ipl_meaning.specs.Tables.{Places}
 use Rattle.unit_io.specs.Costs.{Spends}
 use Rattle.unit_io.proofs.CostLemmas.{costs_none, costs_at_most, spends_none}
 use Rattle.place_taking.specs.Spending.{ErasesFor}
+use Rattle.place_taking.proofs.CountedLemmas.{keeps_counts}
 use Rattle.place_taking.proofs.SpendingLemmas.{none_found, retiring_of, retires_none, tries_none}
 
 pub refused_merges : (d : Places) (place : ℕ) (worn_out : Bool) (told : Told) → worn_out ≡ false
@@ -17,6 +18,7 @@ refused_merges d place worn_out told still =
             (omega arith) (omega arith) (λ kind has. has) (costs_none []));
         tries = tries_none d d [] (omega arith) refl;
         retires = retires_none d d worn_out [] refl still (λ p. none_found p [] (omega arith));
+        counted = keeps_counts d d refl;
       };
       erased = λ done. absurd (false≢true done);
     })

@@ -1,5 +1,5 @@
 -- What writing a page's records out leaves of worn places.
-use Rattle.std.proofs.Common.{◌≡◌, ◌≢◌, ◌==◌, ◌&&◌, ℕ, Bool, true, false, inl, inr, refl, ◌∙◌, ap, arith}
+use Rattle.std.proofs.Common.{◌≡◌, ◌≢◌, ◌==◌, ◌&&◌, ℕ, Bool, true, false, inl, inr, refl, ◌∙◌, ap, arith, subst, sym}
 use Rattle.std.proofs.lemmas.Bool.{cases_Bool, and_parts, eqb-true}
 use Rattle.chip_trait.specs.Told.{Told}
 use Rattle.ipl_format.specs.Sector.{Sector}
@@ -8,6 +8,8 @@ use Rattle.ipl_meaning.specs.Tables.{Places, StatusTable, Tables}
 use Rattle.unit_io.specs.Charts.{Charts, Gains}
 use Rattle.unit_io.specs.Costs.{ProgramsAt, Spends}
 use Rattle.unit_io.proofs.CostLemmas.{spends_weaker}
+use Rattle.place_taking.specs.Counts.{KeepsCounts}
+use Rattle.place_taking.proofs.CountedLemmas.{keeps_counts}
 use Rattle.place_taking.specs.Laws.{IsAlikeInWear, KeepsFirst}
 use Rattle.place_taking.specs.Homes.{LeavesPlaces}
 use Rattle.place_taking.specs.Spending.{ErasesFree, SparesUsed}
@@ -37,7 +39,7 @@ pub sectors_wear_nothing : (t after : Tables) (p s kind : ℕ) (sector : Sector)
     → Charts (Gains p s sector) old new → TellsOfWear t after true false old new
 sectors_wear_nothing t after p s kind sector old new behind alike programs gains =
     programs_wear_nothing t after true false old new alike
-    (programs_leave_places t.places after.places p 1 0 kind old new alike.retired alike.homes programs)
+    (programs_leave_places t.places after.places p 1 0 kind old new alike.retired alike.homes alike.counts programs)
     (λ done x told.
     let (y, there, gained) = gains x told in
     (y, there, firsts_stay t p s sector (chart_of x) (chart_of y) behind gained))
@@ -49,7 +51,8 @@ pub unwritten_wears : (t after : Tables) (p kind : ℕ) (old new : Told)
 unwritten_wears t after p kind old new same programs =
     failures_wear t after false old new
     (programs_leave_places t.places after.places p 1 0 kind old new
-    (ap (λ (d : Places). d.retired) same) (homes_equal t.places after.places same) programs)
+    (ap (λ (d : Places). d.retired) same) (homes_equal t.places after.places same)
+    (keeps_counts t.places after.places same) programs)
 
 -- ---- a log sector
 
@@ -63,6 +66,14 @@ log_retired : (t after : Tables) (u p s mask next : ℕ) → IsAfterLog t after 
 log_retired t after u p s mask next (inl (home, is)) = ap (λ (x : Tables). x.places.retired) is
 log_retired t after u p s mask next (inr (over, is)) = ap (λ (x : Tables). x.places.retired) is
 
+-- no place counts otherwise, and none that was free is taken
+log_counts : (t after : Tables) (u p s mask next : ℕ) → IsAfterLog t after u p s mask next
+    → KeepsCounts t.places after.places
+log_counts t after u p s mask next (inl (home, is)) =
+    subst (λ (x : Tables). KeepsCounts t.places x.places) (sym is) (record { counts = refl; free = λ q free. free })
+log_counts t after u p s mask next (inr (over, is)) =
+    subst (λ (x : Tables). KeepsCounts t.places x.places) (sym is) (record { counts = refl; free = λ q free. free })
+
 -- it was written to its spot
 pub logs_wear_nothing : (t after : Tables) (u p s mask next : ℕ) (sector : Sector) (old new : Told)
     → IsAfterLog t after u p s mask next → Spends (ProgramsAt p 1 0 5) old new
@@ -72,6 +83,7 @@ logs_wear_nothing t after u p s mask next sector old new is =
     (spot_behind t u p s (spot_of_log t after u p s mask next is)) (record {
       retired = log_retired t after u p s mask next is;
       homes = log_homes t after u p s mask next is;
+      counts = log_counts t after u p s mask next is;
       status = ap (λ (it : StatusTable). it.place) (log_status t after u p s mask next is);
     })
 

@@ -9,6 +9,7 @@ use Rattle.unit_io.specs.Costs.{Spends, erases, is_tried}
 use Rattle.unit_io.proofs.CostLemmas.{spends_then, tried_joined}
 use Rattle.place_taking.specs.Homes.{HomesAreUsed, KeepsHomes, ErasesKnown, LeavesPlaces}
 use Rattle.place_taking.specs.Spending.{ErasesFree, TriesInTurn}
+use Rattle.place_taking.proofs.CountedLemmas.{counted_then}
 use Rattle.place_taking.proofs.SpendingLemmas.{none_tried, retires_then}
 
 -- ---- tables alike
@@ -113,6 +114,7 @@ pub erases_leave : (before after : Places) (most_barriers : ℕ) (worn_out : Boo
 erases_leave before after most_barriers worn_out added used homes does = record {
   retires = does.retires;
   homes = known_in_turn before after added used homes does.tries;
+  counted = does.counted;
 }
 
 pub leaves_then : (first mid last : Places) (worn_out : Bool) (later earlier : Story)
@@ -121,6 +123,7 @@ pub leaves_then : (first mid last : Places) (worn_out : Bool) (later earlier : S
 leaves_then first mid last worn_out later earlier one two = record {
   retires = retires_then first mid last worn_out later earlier one.retires two.retires;
   homes = known_then first mid last later earlier one.homes two.homes;
+  counted = counted_then later earlier first mid last one.counted two.counted;
 }
 
 -- of chips, whatever they tell

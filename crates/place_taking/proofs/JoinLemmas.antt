@@ -25,9 +25,11 @@ use Rattle.unit_io.proofs.CostLemmas.{barriers_joined, erased_joined, spends_the
 use Rattle.unit_io.proofs.SpotLemmas.{silent_both}
 use Rattle.unit_io.specs.Steps.{Settled, Outcome, TidyWork, RestsAgreeing}
 use Rattle.unit_io.proofs.StepLemmas.{failures_settle, outcome_then, outcome_weaker}
+use Rattle.place_taking.specs.Counts.{KeepsCounts}
 use Rattle.place_taking.specs.Fills.{AreOf, FillsAt}
 use Rattle.place_taking.specs.Spending.{RetiringCosts, ErasesFree, ErasesFor, WritesFree, tells_worn}
 use Rattle.place_taking.specs.Takes.{ClearsNext, ErasesNext, IsAsideFrom, IsTakenFrom, TakesPlace, with_places}
+use Rattle.place_taking.proofs.CountedLemmas.{counted_none, counted_then}
 use Rattle.place_taking.proofs.SpendingLemmas.{or_right, retires_still, tries_still}
 use Rattle.place_taking.proofs.TurnLemmas.{counted_elsewhere}
 
@@ -166,12 +168,12 @@ filled_costs d then place a (Said piece ∷ later) earlier costs there are =
     }
 
 -- the costs of a call that takes the place and then fills it, whether all was done or not; nothing is
--- retired as it is filled
+-- retired as it is filled, and no count changes
 pub costs_of_filled : (d after then : Places) (place b : ℕ) (done worn_out : Bool)
-    (old mid new : Told) → then.retired ≡ after.retired → worn_out ≡ false
+    (old mid new : Told) → then.retired ≡ after.retired → KeepsCounts after then → worn_out ≡ false
     → Spends (ErasesNext d (Ok place) after) old mid → Spends (FillsAt place b) mid new
     → Spends (ErasesFor d then (1 + b) place done worn_out) old new
-costs_of_filled d after then place b done worn_out old mid new same still =
+costs_of_filled d after then place b done worn_out old mid new same counts still =
     spends_then (ErasesNext d (Ok place) after) (FillsAt place b)
     (ErasesFor d then (1 + b) place done worn_out) old mid new (λ later earlier first second.
     let costs = filled_costs d after place 1 later earlier first.erases.costs first.erased second.only in
@@ -186,6 +188,8 @@ costs_of_filled d after then place b done worn_out old mid new same still =
         tries = tries_still d after then later earlier none same first.erases.tries;
         retires = retires_still d after then worn_out later earlier none same still
             first.erases.retires;
+        counted = counted_then later earlier d after then first.erases.counted
+            (counted_none later after then none counts);
       };
       erased = λ is. erased_joined later earlier place
           ∙ or_right (is_erased later place) (is_erased earlier place) first.erased;
@@ -206,6 +210,7 @@ costs_of_untaken d after b e old new more =
       };
       tries = does.erases.tries;
       retires = does.erases.retires;
+      counted = does.erases.counted;
     })
 
 -- ---- which sectors: the place is taken, and then programmed below a sector

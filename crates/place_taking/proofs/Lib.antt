@@ -1,4 +1,5 @@
 pub mod SpendingLemmas
+pub mod CountedLemmas
 pub mod HomeLemmas
 pub mod TurnLemmas
 pub mod JoinLemmas

@@ -29,7 +29,7 @@ use Rattle.ipl_meaning.proofs.IdleFollowLemmas.{counted_apart, tables_follow_idl
 use Rattle.unit_directory.specs.Free.{IsNextFree, IsReadyToTake, spares_of, put_aside}
 use Rattle.unit_directory.specs.Laws.{SetsAside}
 use Rattle.unit_directory.proofs.RetiredLemmas.{inserted_has, inserted_keeps, inserted_from, length_inserted}
-use Rattle.unit_directory.proofs.AsideLemmas.{free_but, ready_places_stay}
+use Rattle.unit_directory.proofs.AsideLemmas.{free_but, free_still, ready_places_stay}
 use Rattle.unit_io.specs.Accounts.{Accounts}
 use Rattle.unit_io.specs.Charts.{Begun, IsCleared}
 use Rattle.unit_io.specs.Costs.{OutsideAre, Spends, barriers, erases, is_erased, is_tried, programs_outside}
@@ -43,9 +43,11 @@ use Rattle.unit_io.proofs.SpotLemmas.{clears_all, clears_erase, clears_none, cle
 use Rattle.unit_io.proofs.UnreadLemmas.{unread_then}
 use Rattle.unit_io.specs.Steps.{Settled, EndsWith, Outcome, RestsAgreeing}
 use Rattle.unit_io.proofs.StepLemmas.{failures_settle, outcome_then, outcome_weaker}
+use Rattle.place_taking.specs.Counts.{Counted, TakesNext}
 use Rattle.place_taking.specs.Spending.{ErasesFree, FindsOneMore, IsFreshFrom, RetiresWorn, SparesClean, SparesUsed, is_found_worn, tells_worn}
 use Rattle.place_taking.specs.Takes.{ClearsNext, ErasesNext, IsAsideFrom, IsNotTaken, IsTakenFrom, RestsTaken, TakesFree, TakesPlace, TellsTaking, with_places}
 use Rattle.place_taking.specs.Turns.{FindsNextWorn}
+use Rattle.place_taking.proofs.CountedLemmas.{counted_then, keeps_counts}
 use Rattle.place_taking.proofs.SpendingLemmas.{all_apart, found_later, found_earlier, found_either, or_either, or_left, retires_none, tried_either}
 
 -- ---- the directory
@@ -166,8 +168,8 @@ module _ (d : Places) (p : ℕ) (next : IsNextFree d p) where
   tried_once : (then : Places) (worn_out : Bool) (added : Story) → then.retired ≡ d.retired
       → erases added ≤ 1 → programs_outside added ≤ 0 → barriers added ≤ 1 → OutsideAre [] added
       → ((q : ℕ) → is_tried added q ≡ true → p ≡ q) → RetiresWorn d then worn_out added
-      → ErasesFree d then 1 worn_out added
-  tried_once then worn_out added same few none barred only here retires = record {
+      → Counted added d then → ErasesFree d then 1 worn_out added
+  tried_once then worn_out added same few none barred only here retires counted = record {
     costs = record {
       erased = omega (arith, few, ap (λ (l : List ℕ). length l) same);
       programmed = none;
@@ -181,6 +183,7 @@ module _ (d : Places) (p : ℕ) (next : IsNextFree d p) where
       tried = λ q is. inr (subst (IsNextFree d) (here q is) next);
     };
     retires = retires;
+    counted = counted;
   }
 
   -- ---- it was erased
@@ -194,12 +197,20 @@ module _ (d : Places) (p : ℕ) (next : IsNextFree d p) where
     erased : Appends (Erase p) old did.0
     erased = did.1
 
+    erased_counts : TakesNext d p (with_erased d p).erases then
+    erased_counts = record {
+      next = next;
+      counts_are = ap (λ (e : Places). e.erases) is;
+      others = λ q apart free. subst (λ (e : Places). IsFree e q) (sym is) (free_still d p q apart free);
+    }
+
     erased_costs : ErasesNext d (Ok p) then (Barrier ∷ Erase p ∷ [])
     erased_costs = record {
       erases = tried_once then false (Barrier ∷ Erase p ∷ []) (ap (λ (e : Places). e.retired) is)
           (omega arith) (omega arith) (omega arith) tt (same_place p)
           (retires_none d then false (Barrier ∷ Erase p ∷ []) (ap (λ (e : Places). e.retired) is) refl
-          (λ q found. false≢true found));
+          (λ q found. false≢true found))
+          (d, keeps_counts d d refl, inl erased_counts);
       erased = or_left (p == p) false (eq-eqb p p refl);
     }
 
@@ -254,11 +265,12 @@ module _ (d : Places) (p : ℕ) (next : IsNextFree d p) where
       (did : Erases p old (Err e) new) (stopped : IsStopped e old new) (counts : Counts old new) where
     broken_costs : (added : Story) → erases added ≤ 1 → programs_outside added ≤ 0
         → barriers added ≤ 1 → OutsideAre [] added → ((q : ℕ) → is_tried added q ≡ true → p ≡ q)
-        → ((q : ℕ) → is_found_worn added q ≡ true → ⊥) → ErasesNext d (Err e) then added
-    broken_costs added few none barred only here found = record {
+        → ((q : ℕ) → is_found_worn added q ≡ true → ⊥) → Counted added d then
+        → ErasesNext d (Err e) then added
+    broken_costs added few none barred only here found counted = record {
       erases = tried_once then (tells_worn e) added (ap (λ (b : Places). b.retired) is) few none barred
           only here (retires_none d then (tells_worn e) added (ap (λ (b : Places). b.retired) is)
-          (ap tells_worn stopped.0) found);
+          (ap tells_worn stopped.0) found) counted;
       erased = tt;
     }
 
@@ -300,9 +312,10 @@ module _ (d : Places) (p : ℕ) (next : IsNextFree d p) where
       spares = tt;
       costs = broken_spent (ErasesNext d (Err e) then) p e old new
           (broken_costs [] (omega arith) (omega arith) (omega arith) tt (λ q never. absurd (false≢true never))
-          (λ q never. false≢true never))
+          (λ q never. false≢true never) (keeps_counts d then is))
           (broken_costs (Erase p ∷ []) (omega arith) (omega arith) (omega arith) tt (same_place p)
-          (λ q never. false≢true never)) did;
+          (λ q never. false≢true never)
+          (d, keeps_counts d d refl, inr (next, keeps_counts d then is))) did;
       tidy = broken_spent (ClearsNext d (Err e)) p e old new
           (record { spares = clears_spare false [] (clears_none p); fresh = tt })
           (record { spares = clears_spare false (Erase p ∷ []) (clears_erase p); fresh = tt }) did;
@@ -348,7 +361,15 @@ module _ (d between : Places) (p : ℕ) (old mid : Told) (within : p < old.place
             each = λ q has. inl has;
             found = λ still. absurd (false≢true (sym still ∙ ap tells_worn tells));
             one_more = λ _. one_more;
-          });
+          }) (
+            d,
+            keeps_counts d d refl,
+            record {
+              next = finds.next;
+              counts_are = refl;
+              others = λ q apart free. free;
+            },
+          );
       erased = tt;
     }
 
@@ -447,6 +468,17 @@ module _ (d between : Places) (p : ℕ) (old mid : Told) (within : p < old.place
           };
     }
 
+    worn_counted : Counted (Worn p ∷ []) d (put_aside d p)
+    worn_counted = (
+      d,
+      keeps_counts d d refl,
+      record {
+        next = finds.next;
+        counts_are = refl;
+        others = λ q apart free. free_still d p q apart free;
+      },
+    )
+
     worn_free : (worn_out : Bool) (later : Story)
         → ErasesFree (put_aside d p) then 1 worn_out later
         → ErasesFree d then 1 worn_out (later ++ Worn p ∷ [])
@@ -477,6 +509,7 @@ module _ (d between : Places) (p : ℕ) (old mid : Told) (within : p < old.place
             ];
           };
           retires = worn_retires worn_out later does.retires;
+          counted = counted_then later (Worn p ∷ []) d (put_aside d p) then worn_counted does.counted;
         }
 
     worn_erases : (r : Result ℕ ChipFault) (later : Story) → ErasesNext (put_aside d p) r then later

@@ -13,9 +13,11 @@ use Rattle.unit_io.specs.Costs.{ProgramsAt, Spends, erases}
 use Rattle.unit_io.specs.ReadsAt.{ReadsAt}
 use Rattle.unit_io.proofs.CostLemmas.{costs_reads, programs_at_cost, spends_none, spends_weaker}
 use Rattle.place_taking.specs.Laws.{IsAlikeInWear, KeepsFirst, NothingWears, ProgramsWearNothing, SparedPlacesWear, WearsAreJoined, FailuresWear}
+use Rattle.place_taking.specs.Counts.{KeepsCounts}
 use Rattle.place_taking.specs.Homes.{KeepsHomes, LeavesPlaces}
 use Rattle.place_taking.specs.Spending.{SparesUsed}
 use Rattle.place_taking.specs.Wear.{ListsNoOther, TellsOfWear}
+use Rattle.place_taking.proofs.CountedLemmas.{counted_none, keeps_counts}
 use Rattle.place_taking.proofs.HomeLemmas.{homes_equal, known_untried, places_then}
 use Rattle.place_taking.proofs.SpendingLemmas.{none_found, retires_none}
 
@@ -24,30 +26,31 @@ use Rattle.place_taking.proofs.SpendingLemmas.{none_found, retires_none}
 -- events that try no erase retire nothing
 pub leaves_untried : (before after : Places) (worn_out : Bool) (added : Story)
     → after.retired ≡ before.retired → worn_out ≡ false → KeepsHomes before after
-    → erases added ≤ 0 → LeavesPlaces before after worn_out added
-leaves_untried before after worn_out added same still homes none = record {
+    → KeepsCounts before after → erases added ≤ 0 → LeavesPlaces before after worn_out added
+leaves_untried before after worn_out added same still homes counts none = record {
   retires = retires_none before after worn_out added same still (λ p. none_found p added none);
   homes = known_untried before after added homes none;
+  counted = counted_none added before after none counts;
 }
 
 -- so do reads
 pub reads_leave_places : (At : ℕ → ℕ → Type 0) (before after : Places) (old new : Told)
-    → after.retired ≡ before.retired → KeepsHomes before after → ReadsAt At old new
-    → Spends (LeavesPlaces before after false) old new
-reads_leave_places At before after old new same homes did = record {
+    → after.retired ≡ before.retired → KeepsHomes before after → KeepsCounts before after
+    → ReadsAt At old new → Spends (LeavesPlaces before after false) old new
+reads_leave_places At before after old new same homes counts did = record {
   added = did.added;
-  does = leaves_untried before after false did.added same refl homes
+  does = leaves_untried before after false did.added same refl homes counts
       (costs_reads At [] did.added did.each).erased;
   history = did.history;
 }
 
 -- and programs
 pub programs_leave_places : (before after : Places) (place n b kind : ℕ) (old new : Told)
-    → after.retired ≡ before.retired → KeepsHomes before after
+    → after.retired ≡ before.retired → KeepsHomes before after → KeepsCounts before after
     → Spends (ProgramsAt place n b kind) old new → Spends (LeavesPlaces before after false) old new
-programs_leave_places before after place n b kind old new same homes =
+programs_leave_places before after place n b kind old new same homes counts =
     spends_weaker (ProgramsAt place n b kind) (LeavesPlaces before after false) old new
-    (λ added are. leaves_untried before after false added same refl homes
+    (λ added are. leaves_untried before after false added same refl homes counts
     (programs_at_cost place n b kind added are).erased)
 
 -- ---- what the header of the status place lists
@@ -114,13 +117,15 @@ pub alike_tables : (t after : Tables) → after.places ≡ t.places
 alike_tables t after places status = record {
   retired = ap (λ (d : Places). d.retired) places;
   homes = homes_equal t.places after.places places;
+  counts = keeps_counts t.places after.places places;
   status = status;
 }
 
 pub nothing_wears : NothingWears
 nothing_wears t after done old alike = record {
   places = spends_none (LeavesPlaces t.places after.places false) old
-      (leaves_untried t.places after.places false [] alike.retired refl alike.homes (omega arith));
+      (leaves_untried t.places after.places false [] alike.retired refl alike.homes
+      alike.counts (omega arith));
   lists = λ _. charts_same t after old old alike.status refl;
 }
 
@@ -128,7 +133,8 @@ nothing_wears t after done old alike = record {
 pub reads_wear_at : (At : ℕ → ℕ → Type 0) (t after : Tables) (done : Bool) (old new : Told)
     → IsAlikeInWear t after → ReadsAt At old new → TellsOfWear t after done false old new
 reads_wear_at At t after done old new alike did = record {
-  places = reads_leave_places At t.places after.places old new alike.retired alike.homes did;
+  places = reads_leave_places At t.places after.places old new alike.retired alike.homes
+      alike.counts did;
   lists = λ _. charts_same t after old new alike.status did.contents;
 }
 

@@ -3,6 +3,7 @@ use Rattle.std.specs.Prelude.{ℕ, ◌≡◌, ◌<◌, ◌≤◌, Bool, false, l
 use Rattle.chip_trait.specs.Story.{Story}
 use Rattle.ipl_meaning.specs.Tables.{Places, IsFree, UNKNOWN_LOGS}
 use Rattle.unit_io.specs.Costs.{is_tried}
+use Rattle.place_taking.specs.Counts.{Counted}
 use Rattle.place_taking.specs.Spending.{RetiresWorn}
 
 -- nothing is known of the unit's log sectors
@@ -30,7 +31,9 @@ abbrev pub ErasesKnown : Places → Places → Story → Type 0
 ErasesKnown before after added = (u : ℕ) → u < length after.current → IsUnknown after u
     → StaysHome before after u × (is_tried added (slice_index before.current u) ≡ false)
 
--- What these events leave of places: which are retired, and that a unit whose place was erased is known.
+-- What these events leave of places: which are retired, that a unit whose place was erased is known, and that
+-- each erase is of the next free place then, and counted.
 pub record LeavesPlaces (before after : Places) (worn_out : Bool) (added : Story) : Type 0 where
   pub retires : RetiresWorn before after worn_out added
   pub homes : ErasesKnown before after added
+  pub counted : Counted added before after

@@ -1,3 +1,4 @@
+pub mod Counts
 pub mod Spending
 pub mod Homes
 pub mod Takes

@@ -9,6 +9,7 @@ use Rattle.ipl_base.specs.declared.fault.ChipFault.TheVariants.{ReadFault, Stopp
 use Rattle.ipl_meaning.specs.Mirrors.{AreApart}
 use Rattle.ipl_meaning.specs.Tables.{Places, IsFree}
 use Rattle.unit_directory.specs.Free.{IsNextFree, spares_of, aside, AreNext}
+use Rattle.place_taking.specs.Counts.{Counted}
 use Rattle.unit_io.specs.Costs.{OutsideAre, barriers, erases, is_erased, is_tried, programs_outside}
 
 -- ---- how much
@@ -74,13 +75,14 @@ pub record RetiresWorn (before after : Places) (worn_out : Bool) (added : Story)
 -- ---- all of it
 
 -- At most one erase is tried, and one more for each place that was retired, of the next free place in
--- its turn; what is found worn is retired; only what was erased before is programmed; and there are at
--- most so many barriers.
+-- its turn, where it is counted; what is found worn is retired; only what was erased before is programmed;
+-- and there are at most so many barriers.
 pub record ErasesFree (before after : Places) (most_barriers : ℕ) (worn_out : Bool)
     (added : Story) : Type 0 where
   pub costs : RetiringCosts before after 1 0 most_barriers [] added
   pub tries : TriesInTurn before after added
   pub retires : RetiresWorn before after worn_out added
+  pub counted : Counted added before after
 
 -- Done, this place was erased for what is written there.
 pub record ErasesFor (before after : Places) (most_barriers place : ℕ) (done worn_out : Bool)

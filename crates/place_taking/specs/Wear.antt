@@ -21,7 +21,8 @@ ListsNoOther t after c y = (p : ℕ) → IsListedRetired after y p
 
 -- What a call leaves of worn places, whatever the chip tells. What was retired is so still, and what is
 -- retired besides was found worn in it. A unit of which nothing is known then has the place that it had,
--- nothing was known of it, and no erase of that was tried. Done, over a chip that tells what it holds the
+-- nothing was known of it, and no erase of that was tried. Each erase is of the next free place then, the least worn
+-- one, and counted, and no count changes else. Done, over a chip that tells what it holds the
 -- header of the status place lists what it listed, or places that are retired.
 pub record TellsOfWear (t after : Tables) (done worn_out : Bool) (old new : Told) : Type 0 where
   pub places : Spends (LeavesPlaces t.places after.places worn_out) old new

@@ -2,6 +2,7 @@
 //! the law.
 ghost use Rattle.place_taking.specs.Laws.{
   NothingWears,
+  OthersCountAsBefore,
   ReadsWearNothing,
   ProgramsWearNothing,
   SparedPlacesWear,
@@ -10,7 +11,7 @@ ghost use Rattle.place_taking.specs.Laws.{
 };
 
 /// Calls that do nothing, read, program places in use behind their first sector, or write free places;
-/// one call after another; and one that failed.
+/// one call after another; and one that failed. A place that wasn't erased counts as it did.
 pub fn wear_laws()
     ensures none { NothingWears }
     ensures reads { ReadsWearNothing }
@@ -18,4 +19,5 @@ pub fn wear_laws()
     ensures spared { SparedPlacesWear }
     ensures both { WearsAreJoined }
     ensures failed { FailuresWear }
+    ensures counts { OthersCountAsBefore }
 {}

@@ -13,6 +13,8 @@ use Rattle.place_taking.specs.Takes.{ErasesNext}
 use Rattle.place_taking.proofs.JoinLemmas.{costs_of_untaken}
 use Rattle.place_taking.proofs.HomeLemmas.{erases_leave, homes_same, known_with, leaves_then}
 use Rattle.place_taking.proofs.SpendingLemmas.{retiring_at_most, retiring_of, retiring_then}
+use Rattle.place_taking.specs.Counts.{KeepsCounts}
+use Rattle.place_taking.proofs.CountedLemmas.{keeps_counts, counted_still}
 use Rattle.place_taking.proofs.WearLemmas.{leaves_untried}
 use Rattle.unit_io.specs.Costs.{Costs, Spends}
 use Rattle.unit_io.specs.ReadsAt.{ReadsAt}
@@ -25,7 +27,7 @@ none_erased : (d : Places) (worn_out : Bool) (added : Story) → worn_out ≡ fa
     → Costs 0 0 0 [] added → ErasesAtMost d d 0 worn_out added
 none_erased d worn_out added still costs = record {
   costs = retiring_of d d 0 0 0 [] added refl costs;
-  places = leaves_untried d d worn_out added refl still (homes_same d d refl refl) costs.erased;
+  places = leaves_untried d d worn_out added refl still (homes_same d d refl refl) (keeps_counts d d refl) costs.erased;
 }
 
 pub erases_none : (d : Places) (told : Told) → Spends (ErasesAtMost d d 0 false) told told
@@ -77,16 +79,16 @@ reads_then_erase At before after k worn_out old mid new reads did =
 
 -- barriers alone, at most so many
 pub waiting_alone : (before after : Places) (n waits : ℕ) (worn_out : Bool) (old new : Told)
-    → after.retired ≡ before.retired → worn_out ≡ false → KeepsHomes before after
+    → after.retired ≡ before.retired → worn_out ≡ false → KeepsHomes before after → KeepsCounts before after
     → Spends (Costs 0 0 waits []) old new
     → Spends (ErasesWaiting before after n waits worn_out) old new
-waiting_alone before after n waits worn_out old new same still homes =
+waiting_alone before after n waits worn_out old new same still homes counts =
     spends_weaker (Costs 0 0 waits []) (ErasesWaiting before after n waits worn_out) old new
     (λ added is. record {
       costs = retiring_at_most before after 0 n 0 0 waits (waits + 3 * n) [] [] added (omega arith)
           (omega arith) (omega arith) (λ kind has. has)
           (retiring_of before after 0 0 waits [] added same is);
-      places = leaves_untried before after worn_out added same still homes is.erased;
+      places = leaves_untried before after worn_out added same still homes counts is.erased;
     })
 
 -- and then another call
@@ -103,7 +105,7 @@ waiting_then before after n waits worn_out old mid new =
           (retiring_of before before 0 0 waits [] earlier refl one) two.costs);
       places = leaves_then before before after worn_out later earlier
           (leaves_untried before before false earlier refl refl (homes_same before before refl refl)
-          one.erased) two.places;
+          (keeps_counts before before refl) one.erased) two.places;
     })
 
 -- a unit of which nothing is known once no mark counts any more was unknown before
@@ -156,6 +158,8 @@ waiting_ended before after n waits old new =
         };
         homes = known_with before after (with_marks_ended after) added is.places.homes
             (homes_unmarked after);
+        counted = counted_still added before after (with_marks_ended after) is.places.counted
+            (record { counts = refl; free = λ p free. free });
       };
     })
 

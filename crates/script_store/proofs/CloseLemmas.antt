@@ -23,6 +23,7 @@ use Rattle.unit_io.specs.Costs.{Spends}
 use Rattle.unit_io.specs.Leads.{IsStopped}
 use Rattle.unit_io.proofs.CostLemmas.{spends_then}
 use Rattle.unit_io.specs.Steps.{Settled, Tidies}
+use Rattle.place_taking.proofs.CountedLemmas.{keeps_counts}
 use Rattle.place_taking.specs.Wear.{TellsOfWear}
 use Rattle.place_taking.proofs.HomeLemmas.{homes_equal}
 use Rattle.place_taking.proofs.WearLemmas.{programs_leave_places}
@@ -387,6 +388,7 @@ module _ (a m : ScriptStore) (c : Store) (before after : Told) (result : Result 
           c.transactions.pages.parts.directory _ 1 2 7 told after
           (ap (λ (d : Places). d.retired) same)
           (homes_equal between.transactions.pages.parts.directory c.transactions.pages.parts.directory same)
+          (keeps_counts between.transactions.pages.parts.directory c.transactions.pages.parts.directory same)
           marked.costs) entry
           (leaves_recall m (over between) before told false wears.places entry recalled)
 

@@ -10,6 +10,8 @@ use Rattle.ipl_meaning.specs.TableSteps.{IsMoved, with_next}
 use Rattle.overflow.specs.Laws.{DropsMove}
 use Rattle.overflow.specs.Lists.{IsSoundOverflow, after_drop, places_left, listed}
 use Rattle.unit_directory.specs.Directory.{no_masks}
+use Rattle.place_taking.specs.Counts.{KeepsCounts}
+use Rattle.place_taking.proofs.CountedLemmas.{keeps_counts_then, keeps_given_back}
 use Rattle.selective_merge.specs.Packs.{among}
 use Rattle.selective_merge.proofs.PacksLemmas.{among_contains, contains_among}
 use Rattle.selective_merge.specs.Moving.{places_moved, Frees, NoneIsLostBut, TellsUnit}
@@ -41,8 +43,30 @@ module _ (it : Places) (u p generation i : ℕ) (d : Places) (is : d ≡ places_
       }) is
       ∙ ap (λ (l : List ℕ). record (places_moved it u p generation i) { written = l }) logs
 
+  pub moved_counts : KeepsCounts it d
+  moved_counts = subst (KeepsCounts it) (sym is) (record {
+    counts = refl;
+    free = (keeps_given_back it (slice_index it.current u)).free;
+  })
+
   pub moved_all : (n : ℕ) → u < length it.current → i ≡ n → d ≡ places_moved it u p generation n
   moved_all n low same = is ∙ ap (places_moved it u p generation) same
+
+-- and what is free besides
+pub frees_counts : (before after : Places) (place : Option ℕ) → Frees before after place → KeepsCounts before after
+frees_counts before after place frees = record { counts = frees.erases; free = frees.still }
+
+-- the unit moved, two places are free besides, and masks were set
+pub home_counts : (it d first second after : Places) (u p generation used : ℕ) (one two : Option ℕ)
+    (masks : List ℕ) → d ≡ places_moved it u p generation used → Frees d first one → Frees first second two
+    → after ≡ with_masks second u masks → KeepsCounts it after
+home_counts it d first second after u p generation used one two masks home frees others is =
+    subst (KeepsCounts it) (sym is) (keeps_same (keeps_counts_then it first second
+    (keeps_counts_then it d first (moved_counts it u p generation used d home) (frees_counts d first one frees))
+    (frees_counts first second two others)))
+  where
+    keeps_same : KeepsCounts it second → KeepsCounts it (with_masks second u masks)
+    keeps_same keeps = record { counts = keeps.counts; free = keeps.free }
 
 -- ---- the tables
 

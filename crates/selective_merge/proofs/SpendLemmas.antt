@@ -15,6 +15,7 @@ use Rattle.unit_io.specs.ReadsAt.{IsCauseAt, IsReadAt, ReadsAt}
 use Rattle.unit_io.proofs.CostLemmas.{costs_none, costs_reads, erased_joined, nothing_at, spends_at_then, spends_none, spends_then, spends_weaker}
 use Rattle.place_taking.specs.Spending.{ErasesFree, ErasesFor, tells_worn}
 use Rattle.place_taking.specs.Takes.{ErasesNext}
+use Rattle.place_taking.proofs.CountedLemmas.{counted_none, counted_then, keeps_counts}
 use Rattle.place_taking.proofs.JoinLemmas.{costs_of_untaken}
 use Rattle.place_taking.proofs.SpendingLemmas.{none_found, or_left, retiring_at_most, retiring_of, retiring_then, retires_behind, retires_none, tries_behind, tries_none}
 use Rattle.selective_merge.specs.Homes.{MoveCause}
@@ -70,6 +71,8 @@ free_behind At before after worn_out later earlier reads does =
           (retiring_of before before 0 0 0 [] earlier refl (costs_reads At [] earlier reads)) does.costs;
       tries = tries_behind before after later earlier none does.tries;
       retires = retires_behind before after worn_out later earlier none does.retires;
+      counted = counted_then later earlier before before after
+          (counted_none earlier before before none (keeps_counts before before refl)) does.counted;
     }
 
 pub erases_free_behind : (At : ℕ → ℕ → Type 0) (before after : Places) (worn_out : Bool)
@@ -101,6 +104,7 @@ free_none before worn_out added still none costs = record {
       (omega arith) (λ kind has. has) (retiring_of before before 0 0 0 [] added refl costs);
   tries = tries_none before before added none refl;
   retires = retires_none before before worn_out added refl still (λ p. none_found p added none);
+  counted = counted_none added before before none (keeps_counts before before refl);
 }
 
 -- a fault of a read is no worn place

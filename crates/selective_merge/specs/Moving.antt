@@ -5,6 +5,7 @@ use Rattle.ipl_meaning.specs.Tables.{Places, IsFree, Tables, overflow_places}
 use Rattle.ipl_meaning.specs.TableSteps.{IsMoved}
 use Rattle.unit_directory.specs.Directory.{after_replace}
 use Rattle.unit_directory.specs.Free.{free_count, aside}
+use Rattle.place_taking.specs.Counts.{KeepsCounts}
 use Rattle.place_taking.specs.Homes.{KeepsHomes}
 use Rattle.place_taking.specs.Takes.{with_places}
 use Rattle.selective_merge.specs.Known.{KnowsPlaces}
@@ -84,7 +85,7 @@ pub record MayTakeHome (u p : ℕ) (t : Tables) : Type 0 where
 
 -- The unit stands at the place, which was taken, with a header of this generation and as many log sectors as were
 -- packed, which name the pages of these. Its old place is free, and so are overflow places that no list names any
--- more; no place is lost.
+-- more; no place is lost, and each counts as many erases as before.
 pub record MovesHome (u p generation : ℕ) (before after : Parts) : Type 0 where
   pub moved : AllPairs AreApart (overflow_places (tables_of before))
       → IsMoved (tables_of before) (tables_of after) u p (length before.scratch.packs.closed.items)
@@ -97,4 +98,5 @@ pub record MovesHome (u p generation : ℕ) (before after : Parts) : Type 0 wher
   pub free : ¬ IsFree before.directory (slice_index before.directory.current u)
       → free_count before.directory.in_use + 1 ≤ free_count after.directory.in_use
   pub retired : after.directory.retired ≡ before.directory.retired
+  pub counts : KeepsCounts before.directory after.directory
   pub counter : after.counter ≡ before.counter

@@ -14,6 +14,7 @@ use Rattle.unit_io.specs.Costs.{Spends}
 use Rattle.unit_io.specs.ReadsAt.{Anywhere}
 use Rattle.unit_io.proofs.CostLemmas.{spends_reads}
 use Rattle.unit_io.proofs.UnreadLemmas.{once_alone, once_then_unread}
+use Rattle.place_taking.proofs.CountedLemmas.{keeps_counts}
 use Rattle.place_taking.proofs.HomeLemmas.{homes_same}
 use Rattle.place_taking.specs.Spending.{tells_worn}
 use Rattle.restart.specs.Securing.{knows_logs, waits_for}
@@ -100,7 +101,7 @@ returns-in_err-found-clause-spends g c =
         erases = subst (λ (waits : ℕ). Spends (ErasesWaiting found after (length after.current + 1) waits
             (tells_wear fault)) old mid) (sym (no_waits after))
             (waiting_alone found after (length after.current + 1) 0 (tells_wear fault) old mid refl still
-            (homes_forgotten after) (spends_reads Anywhere [] old mid c.read_tables.ensures.looks.only.reads));
+            (homes_forgotten after) (record { counts = refl; free = λ p free. free }) (spends_reads Anywhere [] old mid c.read_tables.ensures.looks.only.reads));
         unmarked = λ off. unknown_logs found (none_known after);
         finds = λ is. absurd (false≢true (sym still ∙ is));
         units = λ is. absurd (false≢true (sym still ∙ is));
@@ -203,6 +204,7 @@ returns-in_err-secure_marks-clause-spends g c =
         found = found;
         erases = waiting_alone found found (length found.current + 1) (waits_for found)
             (tells_worn fault) old settled refl still (homes_same found found refl refl)
+            (keeps_counts found found refl)
             (reads_then_wait Anywhere (waits_for found) old mid settled c.read_tables.ensures.looks.only.reads
             (wait_costs found (Err fault) mid settled c.in_err-secure_marks.ensures.waits));
         unmarked = λ off. unknown_logs found (c.in_ok-found.ensures.found.unmarked off).unknown;

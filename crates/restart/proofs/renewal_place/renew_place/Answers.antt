@@ -8,6 +8,8 @@ use Rattle.ipl_base.specs.declared.fault.ChipFault.TheVariants.{Stopped}
 use Rattle.ipl_base.specs.declared.limits.TheConstants.{VERSION}
 use Rattle.ipl_format.specs.Header.{AreRetired}
 use Rattle.ipl_meaning.specs.Tables.{Places, StatusTable, with_use}
+use Rattle.place_taking.specs.Counts.{KeepsCounts}
+use Rattle.place_taking.proofs.CountedLemmas.{keeps_given_back}
 use Rattle.place_taking.specs.Spending.{ErasesFor, tells_worn}
 use Rattle.place_taking.specs.Takes.{IsTakenFrom, with_places}
 use Rattle.place_taking.proofs.JoinLemmas.{costs_of_filled, taken_was_free, taken_within, tidy_taken, tidy_untaken}
@@ -313,7 +315,8 @@ returns-in-Ok-clause-writes g c =
           (sym (ap (λ (s : StatusTable). s.place) c.in-Ok.ensures.moved.switched))
           (costs_of_filled c.args.directory.now c.take_place.new.directory c.give_back.new.self
           c.in_ok-place.place 2 true false old mid told
-          (ap (λ (e : Places). e.retired) c.give_back.ensures) refl c.in_ok-place.ensures.costs
+          (ap (λ (e : Places). e.retired) c.give_back.ensures)
+          (subst (KeepsCounts c.take_place.new.directory) (sym c.give_back.ensures) (keeps_given_back _ _)) refl c.in_ok-place.ensures.costs
           writes.costs);
       unread = unread_then old mid told c.in_ok-place.ensures.unread writes.unread;
       accounts = record {
@@ -421,7 +424,8 @@ returns-in-Err-clause-writes g c =
           c.switch.new.self.place (tells_worn fault) old told
           (costs_of_filled c.args.directory.now c.take_place.new.directory c.give_back-in-Err.new.self
           c.in_ok-place.place 2 false (tells_worn fault) old mid told
-          (ap (λ (e : Places). e.retired) c.give_back-in-Err.ensures) still
+          (ap (λ (e : Places). e.retired) c.give_back-in-Err.ensures)
+          (subst (KeepsCounts c.take_place.new.directory) (sym c.give_back-in-Err.ensures) (keeps_given_back _ _)) still
           c.in_ok-place.ensures.costs writes.costs);
       unread = unread_then old mid told c.in_ok-place.ensures.unread writes.unread;
       accounts = record {

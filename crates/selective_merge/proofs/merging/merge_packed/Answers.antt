@@ -14,6 +14,7 @@ use Rattle.unit_directory.specs.Free.{free_count}
 use Rattle.unit_io.specs.Charts.{Charts, IsCleared}
 use Rattle.place_taking.specs.Spending.{tells_worn}
 use Rattle.place_taking.specs.Takes.{IsTakenFrom, with_places}
+use Rattle.place_taking.proofs.CountedLemmas.{keeps_counts, keeps_counts_then, keeps_given_back}
 use Rattle.place_taking.proofs.JoinLemmas.{costs_of_filled, taken_was_free, taken_within, tidy_taken}
 use Rattle.overflow.specs.Lists.{spots_in}
 use Rattle.selective_merge.specs.Faults.{IsTheFault}
@@ -425,7 +426,8 @@ returns-in-Ok-clause-moves g c =
       );
       costs = for_unit t.places after.places p _ false old new moved_home.stands
           (costs_of_filled t.places c.take_place.new.directory after.places p 2 true false old mid new
-          moved_home.retired refl took.costs wrote.spends.costs);
+          moved_home.retired
+          moved_home.counts refl took.costs wrote.spends.costs);
     }
 
 pub returns-in-Err-clause-moves : goal.returns-in-Err-clause-moves
@@ -483,6 +485,10 @@ returns-in-Err-clause-moves g c =
           (costs_of_filled t.places c.take_place.new.directory then p 2 false worn_out old mid new
           (ap (λ (e : Places). e.retired) c.give_back.ensures
           ∙ ap (λ (w : Parts). w.directory.retired) c.in-Err.ensures.kept)
+          (keeps_counts_then c.take_place.new.directory (with_use c.take_place.new.directory p false) then
+          (keeps_given_back c.take_place.new.directory p)
+          (keeps_counts _ then (c.give_back.ensures
+          ∙ ap (λ (w : Parts). with_use w.directory p false) c.in-Err.ensures.kept)))
           (move_not_worn c.args.parts.now.scratch.home.place c.in-Err.fault mid new wrote.spends.accounts.cause)
           took.costs wrote.spends.costs);
     }

@@ -9,6 +9,7 @@ use Rattle.ipl_meaning.specs.TableSteps.{taken, with_next, with_overflow}
 use Rattle.unit_io.specs.Spots.{IsSpot}
 use Rattle.place_taking.specs.Spending.{tells_worn}
 use Rattle.place_taking.specs.Takes.{IsTakenFrom, with_places}
+use Rattle.place_taking.proofs.CountedLemmas.{keeps_counts, keeps_counts_then, keeps_given_back}
 use Rattle.place_taking.proofs.HomeLemmas.{homes_same, homes_then}
 use Rattle.place_taking.proofs.JoinLemmas.{costs_of_filled, fills_programs, taken_was_free, taken_within, tidy_taken}
 use Rattle.unit_directory.specs.Free.{aside}
@@ -137,7 +138,7 @@ returns-in-Ok-clause-costs g c =
     let then = c.take_place.new.directory in
     let p = c.in_ok-place.place in
     frees_for d then p true false old new
-    (costs_of_filled d then then p 2 true false old mid new refl refl
+    (costs_of_filled d then then p 2 true false old mid new refl (keeps_counts then then refl) refl
     c.in_ok-place.ensures.costs (fills_programs p 1 2 3 mid new c.in-Ok.ensures.costs))
 
 pub returns-in-Err-clause-costs : goal.returns-in-Err-clause-costs
@@ -152,6 +153,8 @@ returns-in-Err-clause-costs g c =
     frees_for d then p false worn_out old new
     (costs_of_filled d c.take_place.new.directory then p 2 false worn_out old mid new
     (ap (λ (e : Places). e.retired) c.give_back.ensures)
+    (keeps_counts_then c.take_place.new.directory (with_use c.take_place.new.directory p false) then
+    (keeps_given_back c.take_place.new.directory p) (keeps_counts _ then c.give_back.ensures))
     (ap tells_worn c.in-Err.ensures.accounts.cause.0)
     c.in_ok-place.ensures.costs (fills_programs p 1 2 3 mid new c.in-Err.ensures.costs))
 

@@ -2,7 +2,7 @@ use Rattle.std.proofs.Common.{length, refl, ◌∙◌, ap, arith, rules}
 use Rattle.ipl_meaning.specs.Tables.{with_masks}
 use Rattle.selective_merge.specs.Moving.{places_moved, tables_of}
 use Rattle.selective_merge.specs.Packing.{masks_of_payloads}
-use Rattle.selective_merge.proofs.MovingLemmas.{is_moved, none_lost, left_within, in_use_moved, frees_masked, unit_told}
+use Rattle.selective_merge.proofs.MovingLemmas.{is_moved, none_lost, left_within, home_counts, in_use_moved, frees_masked, unit_told}
 use Rattle.selective_merge.proofs.parts.move_unit.Goals as goal
 
 pub free_one-requires : goal.free_one-requires
@@ -78,6 +78,10 @@ returns c =
           _ c.requires.unit c.requires.place refl (omega arith) q less in_use none;
       free = search rules;
       retired = search rules;
+      counts = home_counts c.args.parts.now.directory c.move_home.new.directory c.free_one.new.directory
+          c.free_one-2.new.directory c.set_masks.new.self c.args.unit c.args.place c.args.generation
+          c.from-used.result _ _ c.masks_of-masks.result c.move_home.ensures c.free_one.ensures.frees
+          c.free_one-2.ensures.frees c.set_masks.ensures;
       counter = refl;
     }
 
