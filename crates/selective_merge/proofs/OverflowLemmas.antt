@@ -47,7 +47,7 @@ use Rattle.place_taking.specs.Takes.{ClearsNext, TakesPlace}
 use Rattle.place_taking.proofs.JoinLemmas.{counted_alike, counted_used, writes_taken}
 use Rattle.selective_merge.proofs.KnownLemmas.{taken_is_used}
 use Rattle.selective_merge.specs.Moving.{set_aside}
-use Rattle.selective_merge.specs.Placing.{HasOverflowHeader, OpensPlace, SaysErases, RestsOpened}
+use Rattle.selective_merge.specs.Placing.{HasOverflowHeader, OpensPlace, SaysCounts, RestsOpened}
 use Rattle.selective_merge.specs.Throughout.{KeepsThroughout}
 use Rattle.selective_merge.proofs.FillLemmas.{clean_bare, worn_apart}
 use Rattle.selective_merge.proofs.SealLemmas.{says_of}
@@ -178,15 +178,25 @@ opened_mirrors places p units erases g c z it t mirrors free within new two is =
       rw then.gains (pages_then places c is.bare (with_sector is.bare p 0 then.head) it it it refl kept waits.1),
     )
 
--- and the header says what the tables count
+-- and the header says what the tables count, and how many units they have
 pub opened_says : (p units erases g : ℕ) (c z : Chart) (t after : Tables) (next : ℕ)
     → HasCounts (taken t p) p units erases → after ≡ with_overflow (taken t p) p next
-    → WasOpened p units erases g c z → SaysErases after p z
+    → WasOpened p units erases g c z → SaysCounts after p z
 opened_says p units erases g c z t after next has is opened =
-    ap (λ (d : Chart). erases_said (d p 0)) opened.opened.gains
-    ∙ ap erases_said (sector_here opened.bare p 0 opened.opened.head)
-    ∙ opened.opened.says ∙ sym has.erases_are
-    ∙ sym (ap (λ (x : Tables). slice_index x.places.erases p) is)
+    let head = opened.opened.head in
+    let here : z p 0 ≡ Some head = ap (λ (d : Chart). d p 0) opened.opened.gains
+    ∙ sector_here opened.bare p 0 head in record {
+      erases = ap erases_said here ∙ opened.opened.says ∙ sym has.erases_are
+          ∙ sym (ap (λ (x : Tables). slice_index x.places.erases p) is);
+      units = (
+        head,
+        here,
+        opened.opened.kind,
+        subst (λ (n : ℕ). SpellsOverflowHeader head.version n head.payload)
+            (sym has.units_are ∙ sym (ap (λ (x : Tables). length x.places.current) is))
+            opened.opened.counts,
+      );
+    }
 
 opened_counted : (t : Tables) (p next : ℕ) (q n : ℕ)
     → IsCountedClean (with_overflow (taken t p) p next) q n

@@ -14,7 +14,7 @@ use Rattle.unit_directory.proofs.AsideLemmas.{next_places_are_aside}
 use Rattle.ipl_meaning.proofs.MirrorLemmas.{map_contains}
 use Rattle.selective_merge.specs.Merged.{IsMergedUnit, merged_layout, merged_shape}
 use Rattle.selective_merge.specs.Packs.{among}
-use Rattle.selective_merge.specs.Placing.{SaysErases, MayHaveMerged, IsElsewhere, IsPlaced}
+use Rattle.selective_merge.specs.Placing.{SaysCounts, SaysErases, MayHaveMerged, IsElsewhere, IsPlaced}
 use Rattle.selective_merge.specs.Spotting.{HasHomeSpot, IsHomeSpot, IsOverflowSpot, HasCleanSpot, IsLowest, MayOverflow, OpensNext}
 
 -- ---- what is to be had
@@ -109,13 +109,14 @@ elsewhere_clean places c it t u p s (spot, lowest) mirrors = record {
   };
   merged = λ never. absurd (never (spot.few, inl (p, s, spot.first, spot.within.1)));
   says = λ free. absurd (not_free_overflow places c it t p s mirrors spot.first free);
+  units = λ free apart. absurd (not_free_overflow places c it t p s mirrors spot.first free);
 }
 
 pub elsewhere_opened : (places : ℕ) (c y : Chart) (it : Layout) (t after : Tables)
     (u p s next : ℕ)
     → (length (spots_of t u) < 16) × (¬ HasCleanSpot t) × (length t.overflow.in_use < 2)
     → (s ≡ 1) × OpensNext t after p next
-    → Mirrors places y it after → KeepsPages places c it y it → SaysErases after p y
+    → Mirrors places y it after → KeepsPages places c it y it → SaysCounts after p y
     → IsElsewhere places c y it t u after p s
 elsewhere_opened places c y it t after u p s next (few, none, two) (one, opens) mirrors keeps says =
     record {
@@ -130,7 +131,8 @@ elsewhere_opened places c y it t after u p s next (few, none, two) (one, opens) 
         );
       };
       merged = λ never. absurd (never (few, inr two));
-      says = λ was. says;
+      says = λ was. says.erases;
+      units = λ was apart. says.units;
     }
 
 pub elsewhere_merged : (places : ℕ) (c y : Chart) (it : Layout) (t after : Tables) (u p s : ℕ)
@@ -141,6 +143,7 @@ elsewhere_merged places c y it t after u p s never spot is = record {
   overflow = λ may. absurd (never may);
   merged = λ _. (is, spot);
   says = λ free. merged_says places c y it t u after p s spot is;
+  units = λ free apart. absurd (apart spot.place);
 }
 
 -- ---- by the rules
@@ -157,6 +160,7 @@ placed_home places c it t u p s low spot mirrors = record {
     merged = λ none _ _. absurd (none spot.left);
   };
   says = λ free. absurd (not_free_home places c it t u p mirrors low spot.place free);
+  units = λ free apart. absurd (apart spot.place);
 }
 
 module _ (places : ℕ) (c y : Chart) (it : Layout) (t after : Tables) (u p s n : ℕ)
@@ -176,6 +180,7 @@ module _ (places : ℕ) (c y : Chart) (it : Layout) (t after : Tables) (u p s n 
       merged = λ _ more _. absurd (omega (arith, low, count, more));
     };
     says = λ free. merged_says places c y it t u after p s spot is;
+    units = λ free apart. absurd (apart spot.place);
   }
 
   pub placed_elsewhere : 7 < n → IsElsewhere places c y it t u after p s
@@ -189,4 +194,5 @@ module _ (places : ℕ) (c y : Chart) (it : Layout) (t after : Tables) (u p s n 
       merged = λ _ _ never. is.merged never;
     };
     says = is.says;
+    units = is.units;
   }

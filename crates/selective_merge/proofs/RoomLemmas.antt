@@ -15,7 +15,7 @@ use Rattle.unit_io.specs.Steps.{TidyWork, Steps, RestsAgreeing}
 use Rattle.unit_io.proofs.StepLemmas.{outcome_none, outcome_weaker}
 use Rattle.unit_io.proofs.StepTidyLemmas.{tidy_none}
 use Rattle.selective_merge.specs.Merging.{MergesUnit, StaysMirrored, RestsMerged}
-use Rattle.selective_merge.specs.Placing.{OpensOverflow, SaysErases, RestsOpened, OpensInSteps, IsMergedSpot, MakesRoom, RestsWithRoom, MakesRoomInSteps, PlacesLog}
+use Rattle.selective_merge.specs.Placing.{OpensOverflow, SaysCounts, RestsOpened, OpensInSteps, IsMergedSpot, MakesRoom, RestsWithRoom, MakesRoomInSteps, PlacesLog}
 use Rattle.selective_merge.specs.Spotting.{IsHomeSpot}
 use Rattle.selective_merge.specs.Throughout.{ChartsThroughout}
 use Rattle.selective_merge.proofs.CompleteLemmas.{fails_behind}
@@ -113,7 +113,7 @@ module _ (Is : RoomOf) (places u : ℕ) (t after : Tables) (old new : Told) wher
   pub makes_by_opening : (result : Result Spot ChipFault)
       → OpensInSteps places t after old result new
       → IfOk result (λ spot. (c y : Chart) (it : Layout) → Mirrors places y it after
-      → KeepsPages places c it y it → SaysErases after spot.place y
+      → KeepsPages places c it y it → SaysCounts after spot.place y
       → Is places c y it t u after spot.place spot.sector)
       → MakesRoomInSteps Is places u t after old result new
   makes_by_opening (Ok spot) says is m it h steady rests agrees =
@@ -132,7 +132,7 @@ module _ (Is : RoomOf) (places u : ℕ) (t after : Tables) (old new : Told) wher
       → ChartsThroughout (λ (spot : Spot). OpensOverflow places t after spot.place) (StaysMirrored places t after)
       result old new
       → IfOk result (λ spot. (c y : Chart) (it : Layout) → Mirrors places y it after
-      → KeepsPages places c it y it → SaysErases after spot.place y
+      → KeepsPages places c it y it → SaysCounts after spot.place y
       → Is places c y it t u after spot.place spot.sector)
       → ChartsThroughout (MakesRoom Is places u t after) (StaysMirrored places t after)
       result old new

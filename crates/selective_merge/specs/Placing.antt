@@ -1,5 +1,5 @@
 -- What the calls leave that make room for a log sector.
-use Rattle.std.specs.Prelude.{ℕ, ◌≡◌, ◌⊎◌, Some, Result, IfOk, slice_index}
+use Rattle.std.specs.Prelude.{ℕ, ◌≡◌, ◌≢◌, ◌⊎◌, Some, Result, IfOk, length, slice_index}
 use Rattle.chip_trait.specs.Told.{History, Told}
 use Rattle.ipl_base.specs.declared.fault.ChipFault.{ChipFault}
 use Rattle.ipl_base.specs.declared.spot.Spot.{Spot}
@@ -49,20 +49,30 @@ OpensPlace places p units erases generation old result new = (m : Legible) (it :
 abbrev pub SaysErases : Tables → ℕ → Chart → Type 0
 SaysErases t p c = erases_said (c p 0) ≡ slice_index t.places.erases p
 
--- the header of the place says its erases, and whatever layout the tables mirrored, they mirror it
--- still, and each page is shown still
+-- the place has the header of an overflow place, for as many units as the tables have
+abbrev pub SaysUnits : Tables → ℕ → Chart → Type 0
+SaysUnits t p c = (head : Sector) × (c p 0 ≡ Some head) × (head.kind ≡ 3)
+    × SpellsOverflowHeader head.version (length t.places.current) head.payload
+
+-- the header of a new overflow place says how often the tables have it erased, and how many units they have
+pub record SaysCounts (t : Tables) (p : ℕ) (c : Chart) : Type 0 where
+  pub erases : SaysErases t p c
+  pub units : SaysUnits t p c
+
+-- the header of the place says its erases and the units, and whatever layout the tables mirrored, they
+-- mirror it still, and each page is shown still
 abbrev pub OpensOverflow : ℕ → Tables → Tables → ℕ → Chart → Chart → Type 0
 OpensOverflow places t after p c y = (it : Layout) → Mirrors places c it t
-    → Mirrors places y it after × KeepsPages places c it y it × SaysErases after p y
+    → Mirrors places y it after × KeepsPages places c it y it × SaysCounts after p y
 
 -- the story rests on the map, the tables agree, each page is shown still, and the header of the place
--- says its erases
+-- says its erases and the units
 pub record RestsOpened (places : ℕ) (m : Legible) (c : Chart) (it : Layout) (after : Tables) (p : ℕ)
     (k : History) : Type 0 where
   pub rests : StoryRests places m k
   pub agrees : Agrees places k it after
   pub keeps : KeepsPages places c it (now k) it
-  pub says : SaysErases after p (now k)
+  pub says : SaysCounts after p (now k)
 
 abbrev pub OpensInSteps : ℕ → Tables → Tables → Told → Result Spot ChipFault → Told → Type 0
 OpensInSteps places t after old result new = (m : Legible) (it : Layout) (h : History)
@@ -89,7 +99,7 @@ pub record IsMergedSpot (places : ℕ) (c y : Chart) (it : Layout) (t : Tables) 
   pub spot : IsHomeSpot after u p s
 
 -- there is room elsewhere: in an overflow place, where a sector is to be had; else the unit was merged.
--- Where the place was free before, its header says its erases.
+-- Where the place was free before, its header says its erases, and that of an overflow place the units.
 pub record IsElsewhere (places : ℕ) (c y : Chart) (it : Layout) (t : Tables) (u : ℕ)
     (after : Tables) (p s : ℕ) : Type 0 where
   pub room : MayHaveMerged places c y it t u after
@@ -97,14 +107,17 @@ pub record IsElsewhere (places : ℕ) (c y : Chart) (it : Layout) (t : Tables) (
   pub merged : ¬ MayOverflow t u
       → IsMergedUnit places c y it t u after × IsHomeSpot after u p s
   pub says : IsFree t.places p → SaysErases after p y
+  pub units : IsFree t.places p → p ≢ slice_index after.places.current u → SaysUnits after p y
 
--- there is room, by the rules; and where the place was free before, its header says its erases
+-- there is room, by the rules; and where the place was free before, its header says its erases, and that of an
+-- overflow place the units
 pub record IsPlaced (places : ℕ) (c y : Chart) (it : Layout) (t : Tables) (u : ℕ)
     (after : Tables) (p s : ℕ) : Type 0 where
   pub room : MayHaveMerged places c y it t u after
   pub rules : FollowsRules (IsMergedUnit places c y it t u after)
       (carried_count (among t.active) (it.units u).log) t after u p s
   pub says : IsFree t.places p → SaysErases after p y
+  pub units : IsFree t.places p → p ≢ slice_index after.places.current u → SaysUnits after p y
 
 -- a call that makes room as this says, over what the chip holds
 abbrev pub MakesRoom :
