@@ -8,6 +8,7 @@ use Rattle.ipl_base.specs.declared.spot.Spot.{Spot}
 use Rattle.ipl_format.specs.Sector.{Sector}
 use Rattle.ipl_meaning.specs.Chart.{Chart, chart_of}
 use Rattle.overflow.specs.Lists.{pair_of, IsSpotWithin, AreWithin}
+use Rattle.unit_io.specs.Costs.{Spends}
 use Rattle.unit_io.specs.Kinds.{log_only}
 use Rattle.unit_io.specs.Reads.{OfContents}
 use Rattle.unit_io.specs.ReadsAt.{IsAt, ReadsAt}
@@ -16,6 +17,8 @@ use Rattle.unit_log.specs.declared.scratch.LogSector.{LogSector}
 use Rattle.unit_log.specs.Kept.{kept_if, with_found, gathered, CannotBeKept, HasUnfit}
 use Rattle.unit_log.specs.Live.{spots_from, Gathers}
 use Rattle.unit_log.specs.Looks.{IsListed, LooksAt}
+use Rattle.unit_log.specs.Often.{ReadsListed}
+use Rattle.unit_log.proofs.OftenLemmas.{ReadsBut, but_all, but_more, but_none}
 use Rattle.unit_log.proofs.LooksLemmas.{at_one, looks_failed, reads_then}
 
 -- what a call that gathers told, where it was done, and where it failed
@@ -59,6 +62,7 @@ pub record AreRead (At : ℕ → ℕ → Type 0) (u g : ℕ) (all left : List (�
   pub unfit : OfContents first (λ x.
       HasUnfit (chart_of x) u g left kept → HasUnfit (chart_of x) u g all before)
   pub reads : ReadsAt At first now
+  pub often : Spends (ReadsBut all left) first now
 
 module _ (At : ℕ → ℕ → Type 0) (u g : ℕ) where
   pub read_none : (all : List (ℕ × ℕ)) (kept : List LogSector) (t : Told)
@@ -67,6 +71,7 @@ module _ (At : ℕ → ℕ → Type 0) (u g : ℕ) where
     gathers = λ x here. refl;
     unfit = λ x here unfit. unfit;
     reads = at_none At t;
+    often = but_none all t;
   }
 
   module _ (all left rest : List (ℕ × ℕ)) (p s : ℕ) (before kept new : List LogSector)
@@ -74,11 +79,13 @@ module _ (At : ℕ → ℕ → Type 0) (u g : ℕ) where
       (so_far : AreRead At u g all left before kept first now) where
     -- one more
     pub read_more : Gathered now u g ((p, s) ∷ []) kept new
-        → ReadsAt (IsAt p s) now next → AreRead At u g all rest before new first next
-    read_more done reads = record {
+        → ReadsAt (IsAt p s) now next → Spends (ReadsListed ((p, s) ∷ [])) now next
+        → AreRead At u g all rest before new first next
+    read_more done reads often = record {
       gathers = λ x told. so_far.gathers x told ∙ at_new x told;
       unfit = λ x told unfit. so_far.unfit x told (unfit_now x told unfit);
       reads = reads_then (IsAt p s) At (at_one At p s here) first now next so_far.reads reads;
+      often = but_more all left rest p s first now next step so_far.often often;
     }
       where
         at_new : OfContents first (λ x. gathered (chart_of x) u g left kept ≡ gathered
@@ -110,6 +117,11 @@ module _ (At : ℕ → ℕ → Type 0) (u g : ℕ) where
     looks_fails fault other result is same looks =
         looks_failed (IsAt p s) At (at_one At p s here) fault other result first now next is same
         so_far.reads looks
+
+    -- however that ends
+    pub often_fails : Spends (ReadsListed ((p, s) ∷ [])) now next → Spends (ReadsListed all) first next
+    often_fails often = but_all all rest first next
+        (but_more all left rest p s first now next step so_far.often often)
 
   -- all of them
   pub read_all : (all left : List (ℕ × ℕ)) (before kept : List LogSector) (first now : Told)

@@ -1,5 +1,6 @@
 pub mod KeptLemmas
 pub mod LooksLemmas
+pub mod OftenLemmas
 pub mod GatherLemmas
 pub mod HeadLemmas
 pub mod FoundLemmas

@@ -1,4 +1,5 @@
 pub mod Kept
 pub mod Looks
+pub mod Often
 pub mod Live
 pub mod Paged

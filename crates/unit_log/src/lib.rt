@@ -4,7 +4,7 @@
 //! Proved, by `Scratch`, `read_live`: a unit's live log sectors, at most 15 at home and 16
 //! elsewhere: where the tables mirror the chip they are exactly the unit's log, in rising order of
 //! serial, and only a failed read ends it otherwise; it adds nothing but reads of the header, the
-//! log region and the listed spots.
+//! log region and the listed spots, of each at most as many as are listed.
 //!
 //! Proved, by `read_page_log`, `mask_of`: of these exactly the ones that have a record of a page, by
 //! the masks in the tables; besides the header no other sector is read, and none twice. Which pages

@@ -1,5 +1,5 @@
 //! The live log sectors of a unit.
-ghost use Rattle.std.specs.Prelude.{◌≡◌, ◌<◌, ◌≤◌, ◌+◌, ℕ, List, length, slice_index, Some, IsSomeAnd, IfOk, IfSome, OnOk, MatchResult, All};
+ghost use Rattle.std.specs.Prelude.{◌≡◌, ◌<◌, ◌≤◌, ◌+◌, [], ◌∷◌, ℕ, List, length, slice_index, Some, IsSomeAnd, IfOk, IfSome, OnOk, MatchResult, All};
 ghost use Rattle.ipl_base.specs.declared.limits.TheConstants.{PAGE_SECTORS, PAYLOAD_LEN};
 ghost use Rattle.chip_trait.specs.Told.{Told};
 ghost use Rattle.ipl_base.specs.declared.fault.ChipFault.TheVariants.{ReadFault};
@@ -11,8 +11,10 @@ ghost use Rattle.overflow.specs.Lists.{spots_in};
 ghost use Rattle.unit_io.specs.Kinds.{sector_named};
 ghost use Rattle.unit_io.specs.Reads.{OfContents};
 ghost use Rattle.unit_log.specs.Live.{HaveUnit, MatchesLayout, OfMirrored, HasHead, SaysHead, HasUnitHead};
+ghost use Rattle.unit_io.specs.Costs.{Spends};
 ghost use Rattle.unit_io.specs.ReadsAt.{IsAt};
 ghost use Rattle.unit_log.specs.Looks.{IsLogRead, LooksAt};
+ghost use Rattle.unit_log.specs.Often.{header_and_log, ReadsListed};
 ghost use Rattle.unit_log.specs.Paged.{page_spots, IsLiveOf, IsPageLogRead, AddsAtMost};
 
 use crate::pages::page_spots;
@@ -73,6 +75,7 @@ fn read_header<C: Chip>(chip: &mut C, place: u32, unit: u32) -> Result<UnitHead,
     ensures few { IfOk result (λ r. All (λ n. n ≤ PAGE_SECTORS) r.pieces) }
     ensures looks { LooksAt (IsAt place 0) result (C.told chip.old) (C.told chip.new) }
     ensures one { AddsAtMost 1 (C.told chip.old) (C.told chip.new) }
+    ensures often { Spends (ReadsListed ((place, 0) ∷ [])) (C.told chip.old) (C.told chip.new) }
 {
     let mut bytes = [0; 512];
     let found = read_head(chip, place, &mut bytes)?;
@@ -89,7 +92,8 @@ fn read_header<C: Chip>(chip: &mut C, place: u32, unit: u32) -> Result<UnitHead,
 /// Where the tables mirror what the chip holds, these are the log sectors of the unit, and it fails
 /// only where a read failed. Else it may find a sector malformed: sector 0 of the unit's place,
 /// where that is no header of the unit any more, or a log sector that is no list of records or has
-/// a serial that another one has.
+/// a serial that another one has. It reads the header and each log sector once, those elsewhere as
+/// often as the overflow lists name them.
 pub fn read_live<C: Chip>(
     chip: &mut C,
     directory: &Directory,
@@ -106,6 +110,9 @@ pub fn read_live<C: Chip>(
     ensures looks { LooksAt
         (IsLogRead (slice_index directory.now.current unit) (spots_in overflow.now unit))
         result (C.told chip.old) (C.told chip.new) }
+    ensures often { Spends (ReadsListed
+        (header_and_log (slice_index directory.now.current unit) (spots_in overflow.now unit)))
+        (C.told chip.old) (C.told chip.new) }
 {
     directory.facts();
     let place = directory.current(unit);

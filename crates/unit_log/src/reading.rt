@@ -7,8 +7,10 @@ ghost use Rattle.overflow.specs.Lists.{pair_of, AreWithin};
 ghost use Rattle.unit_io.specs.Kinds.{sector_named};
 ghost use Rattle.unit_log.specs.Kept.{kept_if, log_found, with_found, CannotBeKept};
 ghost use Rattle.unit_log.specs.Live.{HasLogEnd, spots_from, log_spots, Gathers};
+ghost use Rattle.unit_io.specs.Costs.{Spends};
 ghost use Rattle.unit_io.specs.ReadsAt.{IsAt};
 ghost use Rattle.unit_log.specs.Looks.{IsFrom, IsListed, IsLogRead, LooksAt};
+ghost use Rattle.unit_log.specs.Often.{ReadsListed};
 ghost use Rattle.unit_log.specs.Paged.{AddsAtMost};
 
 use crate::scratch::Scratch;
@@ -105,6 +107,7 @@ fn read_spot<C: Chip>(
     ensures looks { LooksAt (IsAt spot.place spot.sector) result
         (C.told chip.old) (C.told chip.new) }
     ensures one { AddsAtMost 1 (C.told chip.old) (C.told chip.new) }
+    ensures often { Spends (ReadsListed (pair_of spot ∷ [])) (C.told chip.old) (C.told chip.new) }
 {
     let mut bytes = [0; 512];
     let found = read_log(chip, spot, &mut bytes)?;
@@ -125,6 +128,7 @@ fn read_home<C: Chip>(
         scratch.old scratch.new result }
     ensures count { length scratch.new ≤ length scratch.old + 15 }
     ensures looks { LooksAt (IsFrom place 241) result (C.told chip.old) (C.told chip.new) }
+    ensures often { Spends (ReadsListed (spots_from place 241 15)) (C.told chip.old) (C.told chip.new) }
 {
     for sector in FIRST_LOG_SECTOR..end {
         read_spot(chip, owner, Spot { place, sector }, scratch)?;
@@ -146,6 +150,7 @@ pub(crate) fn read_listed<C: Chip>(
     ensures looks { LooksAt (IsListed (map pair_of spots.now)) result
         (C.told chip.old) (C.told chip.new) }
     ensures each { AddsAtMost (length spots.now) (C.told chip.old) (C.told chip.new) }
+    ensures often { Spends (ReadsListed (map pair_of spots.now)) (C.told chip.old) (C.told chip.new) }
 {
     for spot in spots {
         read_spot(chip, owner, *spot, scratch)?;
@@ -169,6 +174,8 @@ pub(crate) fn read_sectors<C: Chip>(
     ensures gathers { Gathers (C.told chip.old) owner.unit owner.generation
         (log_spots place end (map pair_of spots.now)) scratch.old scratch.new result }
     ensures looks { LooksAt (IsLogRead place (map pair_of spots.now)) result
+        (C.told chip.old) (C.told chip.new) }
+    ensures often { Spends (ReadsListed (log_spots place 256 (map pair_of spots.now)))
         (C.told chip.old) (C.told chip.new) }
 {
     read_home(chip, owner, place, end, scratch)?;

@@ -1,9 +1,10 @@
-use Rattle.std.proofs.Common.{refl, sym, ◌∙◌}
+use Rattle.std.proofs.Common.{Ok, Err, refl, sym, ◌∙◌}
 use Rattle.std.proofs.lemmas.Result.{err_from_is_err_and}
 use Rattle.ipl_meaning.specs.Chart.{chart_of}
 use Rattle.unit_log.proofs.HeadLemmas.{head_named, head_stands}
 use Rattle.unit_log.proofs.LooksLemmas.{looks_read, looks_missed}
 use Rattle.unit_log.proofs.CountLemmas.{most_read, most_missed}
+use Rattle.unit_log.proofs.OftenLemmas.{often_asked}
 use Rattle.unit_log.proofs.live.read_header.Goals as goal
 
 pub returns-in_err-found-clause-looks : goal.returns-in_err-found-clause-looks
@@ -60,4 +61,19 @@ returns-in-Some-clause-one g c =
 pub returns-in-None-clause-one : goal.returns-in-None-clause-one
 returns-in-None-clause-one g c =
     most_read c.args.place 0 (g.C.Chip.told c.args.chip.now)
+    (g.C.Chip.told c.read_head.new.chip) c.in_ok-found.ensures.reads.asks
+
+pub returns-in_err-found-clause-often : goal.returns-in_err-found-clause-often
+returns-in_err-found-clause-often g c =
+    often_asked {T = Unit {0}} c.args.place 0 (Err c.in_err-found.field-0.0) (g.C.Chip.told c.args.chip.now)
+    (g.C.Chip.told c.read_head.new.chip) c.in_err-found.ensures.reads.asks
+
+pub returns-in-Some-clause-often : goal.returns-in-Some-clause-often
+returns-in-Some-clause-often g c =
+    often_asked c.args.place 0 (Ok c.in_ok-found.found) (g.C.Chip.told c.args.chip.now)
+    (g.C.Chip.told c.read_head.new.chip) c.in_ok-found.ensures.reads.asks
+
+pub returns-in-None-clause-often : goal.returns-in-None-clause-often
+returns-in-None-clause-often g c =
+    often_asked c.args.place 0 (Ok c.in_ok-found.found) (g.C.Chip.told c.args.chip.now)
     (g.C.Chip.told c.read_head.new.chip) c.in_ok-found.ensures.reads.asks

@@ -1,4 +1,4 @@
-use Rattle.std.proofs.Common.{◌≡◌, map, slice_index, inl, inr, refl, sym, ◌∙◌, ap, subst, arith}
+use Rattle.std.proofs.Common.{◌≡◌, ℕ, List, [], ◌∷◌, map, slice_index, inl, inr, refl, sym, ◌∙◌, ap, subst, arith}
 use Rattle.std.proofs.lemmas.Result.{err_from_is_err_and}
 use Rattle.ipl_meaning.specs.Chart.{chart_of}
 use Rattle.overflow.specs.Lists.{pair_of, spots_in, AreWithin}
@@ -7,6 +7,10 @@ use Rattle.unit_log.specs.Kept.{gathered, HasUnfit}
 use Rattle.unit_log.specs.Live.{log_spots, HasUnitHead}
 use Rattle.unit_io.specs.ReadsAt.{IsAt}
 use Rattle.unit_log.specs.Looks.{IsLogRead}
+use Rattle.chip_trait.specs.Told.{Told}
+use Rattle.unit_io.specs.Costs.{Spends}
+use Rattle.unit_log.specs.Often.{header_and_log, ReadsListed}
+use Rattle.unit_log.proofs.OftenLemmas.{often_first, often_then}
 use Rattle.unit_log.proofs.LooksLemmas.{at_header, at_log, looks_failed, reads_then}
 use Rattle.unit_log.proofs.MirroredLemmas.{has_head, log_read, no_unfit}
 use Rattle.unit_log.proofs.live.read_live.Goals as goal
@@ -139,3 +143,39 @@ pub returns-clause-header : goal.returns-clause-header
 returns-clause-header g c = λ x told.
     subst (λ p. HasUnitHead (chart_of x) p c.args.unit c.in_ok-head.head) c.current-place.ensures.place
     (c.in_ok-head.ensures.header x told)
+
+-- ---- how often
+
+pub returns-in_err-head-clause-often : goal.returns-in_err-head-clause-often
+returns-in_err-head-clause-often g c =
+    let place = c.current-place.result in
+    let old = g.C.Chip.told c.args.chip.now in
+    let new = g.C.Chip.told c.read_header.new.chip in
+    let spots = spots_in c.args.overflow.now c.args.unit in
+    subst (λ (p : ℕ). Spends (ReadsListed (header_and_log p spots)) old new) c.current-place.ensures.place
+    (often_first ((place, 0) ∷ []) (log_spots place 256 spots) old new c.read_header.ensures.often)
+
+-- the header, and then the rest
+read_both : (place home : ℕ) (own spots : List (ℕ × ℕ)) (old mid new : Told) → place ≡ home → own ≡ spots
+    → Spends (ReadsListed ((place, 0) ∷ [])) old mid → Spends (ReadsListed (log_spots place 256 own)) mid new
+    → Spends (ReadsListed (header_and_log home spots)) old new
+read_both place home own spots old mid new here same first second =
+    subst (λ (p : ℕ). Spends (ReadsListed (header_and_log p spots)) old new) here
+    (subst (λ (l : List (ℕ × ℕ)). Spends (ReadsListed (header_and_log place l)) old new) same
+    (often_then ((place, 0) ∷ []) (log_spots place 256 own) old mid new first second))
+
+pub returns-in_err-read_sectors-clause-often : goal.returns-in_err-read_sectors-clause-often
+returns-in_err-read_sectors-clause-often g c =
+    read_both c.current-place.result (slice_index c.args.directory.now.current c.args.unit)
+    (map pair_of c.as_slice.result.now) (spots_in c.args.overflow.now c.args.unit) (g.C.Chip.told c.args.chip.now)
+    (g.C.Chip.told c.read_header.new.chip) (g.C.Chip.told c.read_sectors.new.chip) c.current-place.ensures.place
+    (ap (map pair_of) c.as_slice.ensures.value ∙ c.list-spots.ensures.spots) c.read_header.ensures.often
+    c.read_sectors.ensures.often
+
+pub returns-clause-often : goal.returns-clause-often
+returns-clause-often g c =
+    read_both c.current-place.result (slice_index c.args.directory.now.current c.args.unit)
+    (map pair_of c.as_slice.result.now) (spots_in c.args.overflow.now c.args.unit) (g.C.Chip.told c.args.chip.now)
+    (g.C.Chip.told c.read_header.new.chip) (g.C.Chip.told c.read_sectors.new.chip) c.current-place.ensures.place
+    (ap (map pair_of) c.as_slice.ensures.value ∙ c.list-spots.ensures.spots) c.read_header.ensures.often
+    c.read_sectors.ensures.often

@@ -4,7 +4,8 @@ use Rattle.ipl_base.specs.declared.spot.Spot.{Spot}
 use Rattle.overflow.specs.Lists.{pair_of}
 use Rattle.unit_log.specs.Looks.{IsListed}
 use Rattle.unit_log.proofs.CountLemmas.{most_none, most_then, most_wider}
-use Rattle.unit_log.proofs.GatherLemmas.{read_none, read_more, read_fails, looks_fails, rest_of, listed_step, is_listed, listed_within}
+use Rattle.unit_log.proofs.OftenLemmas.{but_all}
+use Rattle.unit_log.proofs.GatherLemmas.{read_none, read_more, read_fails, looks_fails, often_fails, rest_of, listed_step, is_listed, listed_within}
 use Rattle.unit_log.proofs.reading.read_listed.Goals as goal
 
 pub loop-spot-init : goal.loop-spot-init
@@ -32,7 +33,8 @@ loop-spot-preserved g c =
           (listed_step spots i (record { place = 0; sector = 0 }) c.loop-spot-test.true)
           (is_listed spots i (record { place = 0; sector = 0 }) c.loop-spot-test.true)
           so_far.read
-          c.in_ok-read_spot.ensures.gathers c.in_ok-read_spot.ensures.looks.reads;
+          c.in_ok-read_spot.ensures.gathers c.in_ok-read_spot.ensures.looks.reads
+          c.read_spot.ensures.often;
       added = most_then i 1 (g.C.Chip.told c.args.chip.now) (g.C.Chip.told c.loop-spot.chip)
           (g.C.Chip.told c.read_spot.new.chip) so_far.added c.read_spot.ensures.one;
       count = omega (arith, so_far.count, c.read_spot.ensures.count);
@@ -96,3 +98,22 @@ returns-in_err-read_spot-clause-each g c =
     (omega (arith, c.loop-spot-test.true))
     (most_then i 1 (g.C.Chip.told c.args.chip.now) (g.C.Chip.told c.loop-spot.chip)
     (g.C.Chip.told c.read_spot.new.chip) c.loop-spot.invariant.added c.read_spot.ensures.one)
+
+pub returns-in_err-read_spot-clause-often : goal.returns-in_err-read_spot-clause-often
+returns-in_err-read_spot-clause-often g c =
+    let spots = c.args.spots.now in
+    let i = c.loop-spot.spot-index in
+    let spot : Spot = get_or spots i (record { place = 0; sector = 0 }) in
+    often_fails (IsListed (map pair_of spots)) c.args.owner.unit c.args.owner.generation (map pair_of spots)
+    (rest_of spots i) (rest_of spots (i + 1)) spot.place spot.sector
+    c.args.scratch.now c.loop-spot.scratch c.read_spot.new.scratch (g.C.Chip.told c.args.chip.now)
+    (g.C.Chip.told c.loop-spot.chip) (g.C.Chip.told c.read_spot.new.chip)
+    (listed_step spots i (record { place = 0; sector = 0 }) c.loop-spot-test.true)
+    (is_listed spots i (record { place = 0; sector = 0 }) c.loop-spot-test.true)
+    c.loop-spot.invariant.read c.read_spot.ensures.often
+
+pub returns-clause-often : goal.returns-clause-often
+returns-clause-often g c =
+    let spots = c.args.spots.now in
+    but_all (map pair_of spots) (rest_of spots c.loop-spot.spot-index) (g.C.Chip.told c.args.chip.now)
+    (g.C.Chip.told c.loop-spot.chip) c.loop-spot.invariant.read.often

@@ -4,6 +4,7 @@ use Rattle.overflow.specs.Lists.{pair_of}
 use Rattle.unit_io.proofs.ReadsAtLemmas.{at_none, at_wider}
 use Rattle.unit_log.specs.Live.{spots_from}
 use Rattle.unit_log.specs.Looks.{IsFrom, IsListed, IsLogRead}
+use Rattle.unit_log.proofs.OftenLemmas.{often_first, often_then}
 use Rattle.unit_log.proofs.LooksLemmas.{at_home, at_listed, looks_failed, looks_then}
 use Rattle.unit_log.proofs.GatherLemmas.{gathers_failed, gathers_then}
 use Rattle.unit_log.proofs.reading.read_sectors.Goals as goal
@@ -59,3 +60,14 @@ returns-clause-looks g c =
     (g.C.Chip.told c.read_home.new.chip)
     (at_home c.args.place c.args.place spots spots refl refl) c.in_ok-read_home.ensures.looks.reads)
     c.read_listed.ensures.looks
+
+pub returns-in_err-read_home-clause-often : goal.returns-in_err-read_home-clause-often
+returns-in_err-read_home-clause-often g c =
+    often_first (spots_from c.args.place 241 15) (map pair_of c.args.spots.now) (g.C.Chip.told c.args.chip.now)
+    (g.C.Chip.told c.read_home.new.chip) c.read_home.ensures.often
+
+pub returns-clause-often : goal.returns-clause-often
+returns-clause-often g c =
+    often_then (spots_from c.args.place 241 15) (map pair_of c.args.spots.now) (g.C.Chip.told c.args.chip.now)
+    (g.C.Chip.told c.read_home.new.chip) (g.C.Chip.told c.read_listed.new.chip) c.read_home.ensures.often
+    c.read_listed.ensures.often

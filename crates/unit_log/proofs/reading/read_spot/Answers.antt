@@ -1,6 +1,8 @@
 use Rattle.std.proofs.lemmas.Result.{err_from_is_err_and}
 use Rattle.unit_log.proofs.LooksLemmas.{looks_read, looks_missed}
 use Rattle.unit_log.proofs.CountLemmas.{most_read, most_missed}
+use Rattle.std.proofs.Common.{Ok, Err}
+use Rattle.unit_log.proofs.OftenLemmas.{often_asked}
 use Rattle.unit_log.proofs.GatherLemmas.{spot_gathers, spot_missed}
 use Rattle.unit_log.proofs.reading.read_spot.Goals as goal
 
@@ -38,4 +40,14 @@ returns-in_err-found-clause-one g c =
 pub returns-clause-one : goal.returns-clause-one
 returns-clause-one g c =
     most_read c.args.spot.place c.args.spot.sector (g.C.Chip.told c.args.chip.now)
+    (g.C.Chip.told c.read_log.new.chip) c.in_ok-found.ensures.reads.asks
+
+pub returns-in_err-found-clause-often : goal.returns-in_err-found-clause-often
+returns-in_err-found-clause-often g c =
+    often_asked {T = Unit {0}} c.args.spot.place c.args.spot.sector (Err c.in_err-found.field-0.0) (g.C.Chip.told c.args.chip.now)
+    (g.C.Chip.told c.read_log.new.chip) c.in_err-found.ensures.reads.asks
+
+pub returns-clause-often : goal.returns-clause-often
+returns-clause-often g c =
+    often_asked c.args.spot.place c.args.spot.sector (Ok c.in_ok-found.found) (g.C.Chip.told c.args.chip.now)
     (g.C.Chip.told c.read_log.new.chip) c.in_ok-found.ensures.reads.asks
