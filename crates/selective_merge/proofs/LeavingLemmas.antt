@@ -1,5 +1,5 @@
 -- What calls leave of the tables, one after another.
-use Rattle.std.proofs.Common.{ℕ, List, true, false, slice_index, Result, Ok, Err, inr, arith, refl, subst}
+use Rattle.std.proofs.Common.{ℕ, List, ◌++◌, true, false, slice_index, Result, Ok, Err, inr, arith, refl, subst}
 use Rattle.std.specs.Prelude.{IfErr}
 use Rattle.chip_trait.specs.Told.{Told, Counts}
 use Rattle.chip_trait.proofs.CountsLemmas.{counts_none, counts_then}
@@ -10,6 +10,10 @@ use Rattle.ipl_meaning.specs.Tables.{Places, Tables}
 use Rattle.overflow.specs.Lists.{spots_in}
 use Rattle.unit_io.specs.Costs.{Spends}
 use Rattle.unit_io.specs.ReadsAt.{IsCauseAt, ReadsAt}
+use Rattle.unit_io.specs.Unread.{ReadsNothing}
+use Rattle.unit_io.proofs.UnreadLemmas.{unread_none}
+use Rattle.unit_log.specs.Often.{ReadsListed}
+use Rattle.unit_log.proofs.OftenLemmas.{often_then, often_unread}
 use Rattle.unit_log.specs.Looks.{IsLogRead}
 use Rattle.unit_io.proofs.TablesLemmas.{tables_none, tables_read}
 use Rattle.selective_merge.specs.Known.{KnowsPlaces}
@@ -79,29 +83,33 @@ leaves_unread {T} u t fault old new known reads cause = record {
   accounts = record { counts = reads.counts; cause = unread_cause u t fault old new cause };
 }
 
-pub moves_unread : (u : ℕ) (t : Tables) (fault : ChipFault) (old new : Told) → KnowsPlaces old.places t
-    → ReadsAt (InLog u t) old new → IsCauseAt (InLog u t) fault old new → MovesUnit u t t (Err fault) old new
-moves_unread u t fault old new known reads cause = record {
+pub moves_unread : (listed : List (ℕ × ℕ)) (u : ℕ) (t : Tables) (fault : ChipFault) (old new : Told)
+    → KnowsPlaces old.places t → ReadsAt (InLog u t) old new → Spends (ReadsListed listed) old new
+    → IsCauseAt (InLog u t) fault old new → MovesUnit listed u t t (Err fault) old new
+moves_unread listed u t fault old new known reads often cause = record {
   leaves = leaves_unread u t fault old new known reads cause;
   room = tt;
   free = omega arith;
   drawn = tt;
   costs = for_read (InLog u t) t.places (slice_index t.places.current u) (tells_worn fault) old new
       (read_not_worn (InLog u t) fault old new cause) reads;
+  reads = often;
 }
 
-pub finds_unread : (u : ℕ) (t : Tables) (fault : ChipFault) (old new : Told) → KnowsPlaces old.places t
-    → ReadsAt (InLog u t) old new → IsCauseAt (InLog u t) fault old new → FindsSpot u t t (Err fault) old new
-finds_unread u t fault old new known reads cause = record {
+pub finds_unread : (listed : List (ℕ × ℕ)) (u : ℕ) (t : Tables) (fault : ChipFault) (old new : Told)
+    → KnowsPlaces old.places t → ReadsAt (InLog u t) old new → Spends (ReadsListed listed) old new
+    → IsCauseAt (InLog u t) fault old new → FindsSpot listed u t t (Err fault) old new
+finds_unread listed u t fault old new known reads often cause = record {
   leaves = leaves_unread u t fault old new known reads cause;
   costs = frees_read (InLog u t) t.places (tells_worn fault) old new
       (read_not_worn (InLog u t) fault old new cause) reads;
+  reads = often;
 }
 
 -- the spot is there
-pub finds_there : (u : ℕ) (t : Tables) (spot : Spot) (told : Told) → KnowsPlaces told.places t
-    → FindsSpot u t t (Ok spot) told told
-finds_there u t spot told known = record {
+pub finds_there : (listed : List (ℕ × ℕ)) (u : ℕ) (t : Tables) (spot : Spot) (told : Told)
+    → KnowsPlaces told.places t → FindsSpot listed u t t (Ok spot) told told
+finds_there listed u t spot told known = record {
   leaves = record {
     holds = held_same told.places t known;
     draws = (omega arith, omega arith);
@@ -110,6 +118,7 @@ finds_there u t spot told known = record {
     accounts = record { counts = counts_none told; cause = tt };
   };
   costs = frees_none t.places told;
+  reads = often_unread listed told told (unread_none told);
 }
 
 -- ---- behind reads
@@ -130,29 +139,31 @@ leaves_behind At n u t after result old mid new reads leaves = record {
 }
 
 pub moves_behind : (At : ℕ → ℕ → Type 0) (u : ℕ) (t after : Tables) (result : Result (Unit {0}) ChipFault)
-    (old mid new : Told) → ReadsAt At old mid → MovesUnit u t after result mid new
-    → MovesUnit u t after result old new
-moves_behind At u t after result old mid new reads moves = record {
+    (old mid new : Told) (first then : List (ℕ × ℕ)) → ReadsAt At old mid → Spends (ReadsListed first) old mid
+    → MovesUnit then u t after result mid new → MovesUnit (first ++ then) u t after result old new
+moves_behind At u t after result old mid new first then reads often moves = record {
   leaves = leaves_behind At 13 u t after result old mid new reads moves.leaves;
   room = moves.room;
   free = moves.free;
   drawn = moves.drawn;
   costs = erases_for_behind At t.places after.places _ _ _ old mid new reads moves.costs;
+  reads = often_then first then old mid new often moves.reads;
 }
 
 pub finds_behind : (At : ℕ → ℕ → Type 0) (u : ℕ) (t after : Tables) (result : Result Spot ChipFault)
-    (old mid new : Told) → ReadsAt At old mid → FindsSpot u t after result mid new
-    → FindsSpot u t after result old new
-finds_behind At u t after result old mid new reads finds = record {
+    (old mid new : Told) (first then : List (ℕ × ℕ)) → ReadsAt At old mid → Spends (ReadsListed first) old mid
+    → FindsSpot then u t after result mid new → FindsSpot (first ++ then) u t after result old new
+finds_behind At u t after result old mid new first then reads often finds = record {
   leaves = leaves_behind At 13 u t after result old mid new reads finds.leaves;
   costs = erases_free_behind At t.places after.places (is_worn_out result) old mid new reads finds.costs;
+  reads = often_then first then old mid new often finds.reads;
 }
 
 -- ---- a spot by a merge, or in a new overflow place
 
-pub finds_merged : (u : ℕ) (t after : Tables) (v : Unit {0}) (spot : Spot) (old new : Told)
-    → MovesUnit u t after (Ok v) old new → FindsSpot u t after (Ok spot) old new
-finds_merged u t after v spot old new moves = record {
+pub finds_merged : (listed : List (ℕ × ℕ)) (u : ℕ) (t after : Tables) (v : Unit {0}) (spot : Spot) (old new : Told)
+    → MovesUnit listed u t after (Ok v) old new → FindsSpot listed u t after (Ok spot) old new
+finds_merged listed u t after v spot old new moves = record {
   leaves = record {
     holds = moves.leaves.holds;
     draws = moves.leaves.draws;
@@ -161,11 +172,12 @@ finds_merged u t after v spot old new moves = record {
     accounts = record { counts = moves.leaves.accounts.counts; cause = tt };
   };
   costs = frees_for t.places after.places (slice_index after.places.current u) true false old new moves.costs;
+  reads = moves.reads;
 }
 
-pub finds_unmerged : (u : ℕ) (t after : Tables) (fault : ChipFault) (old new : Told)
-    → MovesUnit u t after (Err fault) old new → FindsSpot u t after (Err fault) old new
-finds_unmerged u t after fault old new moves = record {
+pub finds_unmerged : (listed : List (ℕ × ℕ)) (u : ℕ) (t after : Tables) (fault : ChipFault) (old new : Told)
+    → MovesUnit listed u t after (Err fault) old new → FindsSpot listed u t after (Err fault) old new
+finds_unmerged listed u t after fault old new moves = record {
   leaves = record {
     holds = moves.leaves.holds;
     draws = moves.leaves.draws;
@@ -175,13 +187,14 @@ finds_unmerged u t after fault old new moves = record {
   };
   costs = frees_for t.places after.places (slice_index after.places.current u) false (tells_worn fault) old new
       moves.costs;
+  reads = moves.reads;
 }
 
-pub finds_opened : (u : ℕ) (t after : Tables) (result : Result Spot ChipFault) (old new : Told)
+pub finds_opened : (listed : List (ℕ × ℕ)) (u : ℕ) (t after : Tables) (result : Result Spot ChipFault) (old new : Told)
     → LeavesTables 1 (IsNotTaken after.places) t after result old new
-    → Spends (ErasesFree t.places after.places 3 (is_worn_out result)) old new
-    → FindsSpot u t after result old new
-finds_opened u t after result old new leaves costs = record {
+    → Spends (ErasesFree t.places after.places 3 (is_worn_out result)) old new → Spends ReadsNothing old new
+    → FindsSpot listed u t after result old new
+finds_opened listed u t after result old new leaves costs none = record {
   leaves = record {
     holds = leaves.holds;
     draws = (leaves.draws.0, omega (arith, leaves.draws.1));
@@ -194,4 +207,5 @@ finds_opened u t after result old new leaves costs = record {
     };
   };
   costs = costs;
+  reads = often_unread listed old new none;
 }

@@ -30,6 +30,7 @@ mod OverflowLemmas
 mod PlacingLemmas
 mod RoomLemmas
 mod SpendLemmas
+mod OftenLemmas
 mod LeavingLemmas
 mod FewLemmas
 mod UnitMergeLemmas

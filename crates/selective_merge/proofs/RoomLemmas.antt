@@ -1,5 +1,5 @@
 -- What the calls leave that make room.
-use Rattle.std.proofs.Common.{◌≡◌, ℕ, Some, Result, Ok, Err, IfOk, inl, ◌∙◌, subst}
+use Rattle.std.proofs.Common.{◌≡◌, ℕ, List, ◌++◌, Some, Result, Ok, Err, IfOk, inl, ◌∙◌, subst}
 use Rattle.chip_trait.specs.Story.{Contents, held}
 use Rattle.chip_trait.specs.Told.{History, Told}
 use Rattle.ipl_base.specs.declared.fault.ChipFault.{ChipFault}
@@ -10,7 +10,9 @@ use Rattle.ipl_meaning.specs.Mirrors.{Mirrors}
 use Rattle.ipl_meaning.specs.Rests.{now, EachStands}
 use Rattle.ipl_meaning.specs.Steps.{KeepsPages}
 use Rattle.ipl_meaning.specs.Tables.{Tables, IsCountedClean}
+use Rattle.unit_io.specs.Costs.{Spends}
 use Rattle.unit_io.specs.ReadsAt.{ReadsAt}
+use Rattle.unit_log.specs.Often.{ReadsListed}
 use Rattle.unit_io.specs.Steps.{TidyWork, Steps, RestsAgreeing}
 use Rattle.unit_io.proofs.StepLemmas.{outcome_none, outcome_weaker}
 use Rattle.unit_io.proofs.StepTidyLemmas.{tidy_none}
@@ -74,10 +76,10 @@ told_none Is places u t spot told is x there =
 -- ---- a merge
 
 -- the unit was merged
-pub merged_room : (u : ℕ) (t after : Tables) (spot : Spot) (old new : Told)
-    → IsHomeSpot after u spot.place spot.sector → MergesUnit u t after (Ok tt) old new
-    → PlacesLog IsMergedSpot u t after (Ok spot) old new
-merged_room u t after spot old new home merges = record {
+pub merged_room : (listed : List (ℕ × ℕ)) (u : ℕ) (t after : Tables) (spot : Spot) (old new : Told)
+    → IsHomeSpot after u spot.place spot.sector → MergesUnit listed u t after (Ok tt) old new
+    → PlacesLog IsMergedSpot listed u t after (Ok spot) old new
+merged_room listed u t after spot old new home merges = record {
   tells = λ x told.
       let (y, told_y, merged) = merges.tells x told in
       (y, told_y, λ it mirrors. record { merged = merged it mirrors; spot = home });
@@ -93,18 +95,19 @@ merged_room u t after spot old new home merges = record {
       }) (merges.steps m it h steady rests agrees);
   fault = λ x told it mirrors. tt;
   spot = inl home;
-  finds = finds_merged u t after tt spot old new merges.moves;
+  finds = finds_merged listed u t after tt spot old new merges.moves;
 }
 
 -- or wasn't
-pub unmerged_room : (u : ℕ) (t after : Tables) (fault : ChipFault) (old new : Told)
-    → MergesUnit u t after (Err fault) old new → PlacesLog IsMergedSpot u t after (Err fault) old new
-unmerged_room u t after fault old new merges = record {
+pub unmerged_room : (listed : List (ℕ × ℕ)) (u : ℕ) (t after : Tables) (fault : ChipFault) (old new : Told)
+    → MergesUnit listed u t after (Err fault) old new
+    → PlacesLog IsMergedSpot listed u t after (Err fault) old new
+unmerged_room listed u t after fault old new merges = record {
   tells = merges.tells;
   steps = λ m it h steady rests agrees. merges.steps m it h steady rests agrees;
   fault = λ x told it mirrors. merges.fault x told it mirrors;
   spot = tt;
-  finds = finds_unmerged u t after fault old new merges.moves;
+  finds = finds_unmerged listed u t after fault old new merges.moves;
 }
 
 -- ---- a new overflow place
@@ -199,14 +202,15 @@ module _ (One Two : RoomOf) (At : ℕ → ℕ → Type 0) (u : ℕ) (t after : T
       (y, told_y, λ it mirrors. gives x (chart_of y) it there mirrors (makes it mirrors))
   placed_told (Err e) gives tells = λ soft x there. tells soft x (did.contents ∙ there)
 
-  pub places_behind : (result : Result Spot ChipFault) → IfOk result Gives → PlacesLog One u t after result mid new
-      → PlacesLog Two u t after result old new
-  places_behind result gives says = record {
+  pub places_behind : (result : Result Spot ChipFault) (first then : List (ℕ × ℕ)) → IfOk result Gives
+      → Spends (ReadsListed first) old mid → PlacesLog One then u t after result mid new
+      → PlacesLog Two (first ++ then) u t after result old new
+  places_behind result first then gives often says = record {
     tells = placed_told result gives (subst (λ (q : ℕ). ChartsThroughout (MakesRoom One q u t after)
         (StaysMirrored q t after) result mid new) did.counts.places says.tells);
     steps = placed_behind result gives (subst (λ (q : ℕ). MakesRoomInSteps One q u t after mid result new)
         did.counts.places says.steps);
     fault = fails_behind t u old mid result did.counts.places did.contents says.fault;
     spot = says.spot;
-    finds = finds_behind At u t after result old mid new did says.finds;
+    finds = finds_behind At u t after result old mid new first then did often says.finds;
   }

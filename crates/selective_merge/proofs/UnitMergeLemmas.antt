@@ -1,5 +1,5 @@
 -- The merge of a unit, whole: of one that was read, of one that wasn't, and behind reads.
-use Rattle.std.proofs.Common.{◌≡◌, ◌<◌, ◌≤◌, ◌∙◌, ℕ, List, Option, Some, Result, Err, inl, length, slice_index, refl, sym, subst}
+use Rattle.std.proofs.Common.{◌≡◌, ◌<◌, ◌≤◌, ◌∙◌, ℕ, List, ◌++◌, Option, Some, Result, Err, inl, length, slice_index, refl, sym, subst}
 use Rattle.chip_trait.specs.Story.{Contents}
 use Rattle.chip_trait.specs.Told.{Told}
 use Rattle.ipl_base.specs.declared.fault.ChipFault.{ChipFault}
@@ -15,6 +15,11 @@ use Rattle.overflow.specs.Lists.{spots_in}
 use Rattle.unit_io.specs.Reads.{OfContents}
 use Rattle.unit_io.specs.ReadsAt.{IsCauseAt, ReadsAt}
 use Rattle.unit_io.proofs.ReadsAtLemmas.{at_none}
+use Rattle.unit_io.specs.Costs.{Spends}
+use Rattle.unit_io.proofs.UnreadLemmas.{unread_none}
+use Rattle.unit_log.specs.Often.{ReadsListed}
+use Rattle.unit_log.proofs.OftenLemmas.{often_first, often_unread}
+use Rattle.selective_merge.specs.Often.{all_of, base_of, log_of}
 use Rattle.unit_log.specs.Looks.{IsLogRead}
 use Rattle.selective_merge.specs.Faults.{pages_fault, TellsTheFault}
 use Rattle.selective_merge.specs.Known.{KnowsPlaces}
@@ -51,7 +56,7 @@ module _ (u : ℕ) (t : Tables) (home : HomeHeader) (log : List Record) (old : T
 
   -- too many log sectors would be carried
   pub merged_not : KnowsPlaces old.places t → CARRIED_SECTORS < length (packs_of t.active log)
-      → MergesUnit u t t (Err (Malformed home.place 0)) old old
+      → MergesUnit (base_of t u) u t t (Err (Malformed home.place 0)) old old
   merged_not known many =
       let result : Result (Unit {0}) ChipFault = Err (Malformed home.place 0) in
       let fault : TellsMergeFault old.places t u result old = λ x told it mirrors.
@@ -63,8 +68,8 @@ module _ (u : ℕ) (t : Tables) (home : HomeHeader) (log : List Record) (old : T
         few = carries_few result (too_many (Unit {0}) home.place _ many);
         fault = fault;
         complete = merge_completes old.places t u result old fault;
-        moves = moves_unread u t (Malformed home.place 0) old old known (at_none _ old)
-            (inl (learnt.stands.place, refl));
+        moves = moves_unread (base_of t u) u t (Malformed home.place 0) old old known (at_none _ old)
+            (often_unread (base_of t u) old old (unread_none old)) (inl (learnt.stands.place, refl));
       }
 
   -- what was packed was written, or wasn't
@@ -73,8 +78,8 @@ module _ (u : ℕ) (t : Tables) (home : HomeHeader) (log : List Record) (old : T
       → ChartsThroughout (λ done. MergesFrom old.places u (from_home home t.status.numbers log) t after)
       (StaysMirrored old.places t after) result old new
       → OfContents old (λ x. TellsTheFault (pages_fault x (from_home home t.status.numbers log)) result)
-      → length (packs_of t.active log) ≤ CARRIED_SECTORS → MovesUnit u t after result old new
-      → MergesUnit u t after result old new
+      → length (packs_of t.active log) ≤ CARRIED_SECTORS → MovesUnit (base_of t u) u t after result old new
+      → MergesUnit (base_of t u) u t after result old new
   merged_by after result new steps tells told_fault few moves =
       let fault : TellsMergeFault old.places t u result old = λ x told it mirrors.
       merge_told x t (it.units u) u home log result (is_home x it told mirrors)
@@ -94,8 +99,10 @@ pub merged_unlearnt : (u : ℕ) (t : Tables) (home : HomeHeader) (log : List Rec
     (old new : Told) → KnowsPlaces old.places t
     → ReadsAt (IsLogRead (slice_index t.places.current u) (spots_in t.overflow u)) old new
     → IsCauseAt (IsLogRead (slice_index t.places.current u) (spots_in t.overflow u)) fault old new
-    → LearnsHome t.places t.overflow u old (Err fault) home log → MergesUnit u t t (Err fault) old new
-merged_unlearnt u t home log fault old new known reads cause learns =
+    → LearnsHome t.places t.overflow u old (Err fault) home log
+    → Spends (ReadsListed (log_of t u)) old new
+    → MergesUnit (all_of t u) u t t (Err fault) old new
+merged_unlearnt u t home log fault old new known reads cause learns often =
     let At : ℕ → ℕ → Type 0 = IsLogRead (slice_index t.places.current u) (spots_in t.overflow u) in
     let result : Result (Unit {0}) ChipFault = Err fault in
     let told_fault : TellsMergeFault old.places t u result old = λ x told it mirrors.
@@ -107,15 +114,16 @@ merged_unlearnt u t home log fault old new known reads cause learns =
           (learns x told it t (record { mirrors = mirrors; directory_is = refl; overflow_is = refl }));
       fault = told_fault;
       complete = merge_completes old.places t u result old told_fault;
-      moves = moves_unread u t fault old new known reads cause;
+      moves = moves_unread (all_of t u) u t fault old new known reads
+          (often_first (log_of t u) (base_of t u) old new often) cause;
     }
 
 -- ---- behind reads
 
 pub merges_behind : (At : ℕ → ℕ → Type 0) (u : ℕ) (t after : Tables) (result : Result (Unit {0}) ChipFault)
-    (old mid new : Told) → ReadsAt At old mid → MergesUnit u t after result mid new
-    → MergesUnit u t after result old new
-merges_behind At u t after result old mid new reads merges = record {
+    (old mid new : Told) (first then : List (ℕ × ℕ)) → ReadsAt At old mid → Spends (ReadsListed first) old mid
+    → MergesUnit then u t after result mid new → MergesUnit (first ++ then) u t after result old new
+merges_behind At u t after result old mid new first then reads often merges = record {
   tells = told_behind At u t after old mid new result reads merges.tells;
   steps = merge_behind At u t after old mid new result reads merges.steps;
   few = λ x told. subst (λ (n : ℕ). (it : Layout) → Mirrors n (chart_of x) it t
@@ -125,5 +133,5 @@ merges_behind At u t after result old mid new reads merges = record {
       (reads.contents ∙ told);
   complete = λ x told. subst (λ (n : ℕ). CompletesMerge n t u result mid) reads.counts.places merges.complete x
       (reads.contents ∙ told);
-  moves = moves_behind At u t after result old mid new reads merges.moves;
+  moves = moves_behind At u t after result old mid new first then reads often merges.moves;
 }

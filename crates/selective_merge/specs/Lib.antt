@@ -12,6 +12,7 @@ pub mod Throughout
 pub mod Packing
 pub mod Homes
 pub mod Moving
+pub mod Often
 pub mod Writing
 pub mod Leaving
 pub mod Merging

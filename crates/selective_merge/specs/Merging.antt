@@ -1,5 +1,5 @@
 -- What a merge leaves.
-use Rattle.std.specs.Prelude.{ℕ, ◌≡◌, ◌<◌, ◌≤◌, ◌+◌, ◌^◌, ◌⊎◌, length, slice_index, Result, MatchResult, IfErr}
+use Rattle.std.specs.Prelude.{ℕ, ◌≡◌, ◌<◌, ◌≤◌, ◌+◌, ◌^◌, ◌⊎◌, List, length, slice_index, Result, MatchResult, IfErr}
 use Rattle.ipl_base.specs.declared.limits.TheConstants.{CARRIED_SECTORS}
 use Rattle.chip_trait.specs.Told.{History, Told}
 use Rattle.ipl_base.specs.declared.fault.ChipFault.{ChipFault}
@@ -111,8 +111,8 @@ MergesFromInSteps places u from t after old result new = (m : Legible) (it : Lay
 -- What a merge of the unit leaves, however it ends: what the chip holds then, and what a power cut leaves; that few
 -- log sectors are carried; why it fails over what the chip holds, which is only where a call of the chip failed,
 -- where the unit's pages show values and few log sectors would be carried; and what the tables have and what is
--- spent, whatever the chip tells.
-pub record MergesUnit (u : ℕ) (t after : Tables) (result : Result (Unit {0}) ChipFault) (old new : Told)
+-- spent, whatever the chip tells: each sector is read at most as often as it is listed.
+pub record MergesUnit (read : List (ℕ × ℕ)) (u : ℕ) (t after : Tables) (result : Result (Unit {0}) ChipFault) (old new : Told)
     : Type 0 where
   pub tells : ChartsThroughout (λ done. Merges old.places u t after) (StaysMirrored old.places t after)
       result old new
@@ -121,4 +121,4 @@ pub record MergesUnit (u : ℕ) (t after : Tables) (result : Result (Unit {0}) C
       → CarriesFew (slice_index t.places.current u) (carried_count (among t.active) (it.units u).log) result)
   pub fault : TellsMergeFault old.places t u result old
   pub complete : CompletesMerge old.places t u result old
-  pub moves : MovesUnit u t after result old new
+  pub moves : MovesUnit read u t after result old new

@@ -1,5 +1,5 @@
 -- What the calls leave that make room for a log sector.
-use Rattle.std.specs.Prelude.{ℕ, ◌≡◌, ◌≢◌, ◌⊎◌, Some, Result, IfOk, length, slice_index}
+use Rattle.std.specs.Prelude.{ℕ, ◌≡◌, ◌≢◌, ◌⊎◌, List, Some, Result, IfOk, length, slice_index}
 use Rattle.chip_trait.specs.Told.{History, Told}
 use Rattle.ipl_base.specs.declared.fault.ChipFault.{ChipFault}
 use Rattle.ipl_base.specs.declared.spot.Spot.{Spot}
@@ -148,12 +148,12 @@ MakesRoomInSteps Is places u t after old result new = (m : Legible) (it : Layout
 
 -- What a call leaves that makes room as this says for a log sector of the unit, however it ends: what the chip holds
 -- then, and what a power cut leaves; why it fails over what the chip holds; and where the log sector may go, what
--- the tables have and what is spent, whatever the chip tells.
+-- the tables have and what is spent, whatever the chip tells: each sector is read at most as often as it is listed.
 pub record PlacesLog (Is : ℕ → Chart → Chart → Layout → Tables → ℕ → Tables → ℕ → ℕ → Type 0)
-    (u : ℕ) (t after : Tables) (result : Result Spot ChipFault) (old new : Told) : Type 0 where
+    (read : List (ℕ × ℕ)) (u : ℕ) (t after : Tables) (result : Result Spot ChipFault) (old new : Told) : Type 0 where
   pub tells : ChartsThroughout (MakesRoom Is old.places u t after) (StaysMirrored old.places t after)
       result old new
   pub steps : MakesRoomInSteps Is old.places u t after old result new
   pub fault : FailsAsMerge old.places t u result old
   pub spot : IfOk result (λ spot. IsSpotFor after u spot.place spot.sector)
-  pub finds : FindsSpot u t after result old new
+  pub finds : FindsSpot read u t after result old new

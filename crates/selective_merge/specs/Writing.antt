@@ -26,6 +26,7 @@ use Rattle.unit_io.specs.Costs.{Spends}
 use Rattle.unit_io.specs.Leads.{IsSteady, KeepsMap}
 use Rattle.unit_io.specs.Spots.{Programs, IsSpot, IsPieceSpot}
 use Rattle.unit_io.specs.Tails.{FitTails}
+use Rattle.unit_log.specs.Often.{ReadsListed}
 use Rattle.page_ops.specs.Rebuilt.{with_records}
 use Rattle.selective_merge.specs.Merged.{IsUnitHead, IsToMerge, IsWritten}
 use Rattle.selective_merge.specs.Moved.{Source, IsRebased, MovesPage, HasMoved, IsAside}
@@ -44,14 +45,15 @@ pub record MayMove (places : ℕ) (from : HomeHeader) (p : ℕ) : Type 0 where
   pub place : p < places
   pub another : from.place ≢ p
 
--- What a call leaves that programs sectors of a place, whatever the chip tells: it spends this, and programs
--- spots of these alone. Done, all other places have the bytes that they had; and where it failed, this is its
+-- What a call leaves that programs sectors of a place, whatever the chip tells: it spends this, programs
+-- spots of these alone, and reads each sector at most as often as it is listed. Done, all other places have the bytes that they had; and where it failed, this is its
 -- cause.
 pub record WritesPlace {T : Type 0} (p : ℕ) (Costs : Story → Type 0) (Spot : ℕ → Type 0)
-    (Cause : ChipFault → Told → Told → Type 0) (result : Result T ChipFault) (old new : Told) : Type 0 where
+    (read : List (ℕ × ℕ)) (Cause : ChipFault → Told → Told → Type 0) (result : Result T ChipFault) (old new : Told) : Type 0 where
   pub spares : OnOk result (Spares p old new)
   pub costs : Spends Costs old new
   pub tidy : Spends (Programs p Spot (is_ok result)) old new
+  pub reads : Spends (ReadsListed read) old new
   pub accounts : Accounts Cause result old new
 
 -- so many numbers were drawn where it is done, and else at most so many

@@ -1,10 +1,13 @@
 //! What is read of a unit before it is merged.
 ghost use Rattle.std.specs.Prelude.{◌≡◌, ◌<◌, length, slice_index, OnOk};
 ghost use Rattle.overflow.specs.Lists.{spots_in};
+ghost use Rattle.unit_io.specs.Costs.{Spends};
+ghost use Rattle.unit_log.specs.Often.{ReadsListed};
 ghost use Rattle.unit_log.specs.Looks.{IsLogRead, LooksAt};
 ghost use Rattle.selective_merge.specs.Known.{Suits};
 ghost use Rattle.selective_merge.specs.Homes.{IsHomeBy, LearnsHome};
 ghost use Rattle.selective_merge.specs.Moving.{tables_of};
+ghost use Rattle.selective_merge.specs.Often.{log_of};
 
 use crate::Parts;
 use crate::home::HomeHeader;
@@ -48,6 +51,7 @@ pub(crate) fn learn<C: Chip>(chip: &mut C, parts: &mut Parts, unit: u32) -> Resu
     ensures same { tables_of parts.new ≡ tables_of parts.old }
     ensures looks { LooksAt (IsLogRead (slice_index parts.old.directory.current unit)
         (spots_in parts.old.overflow unit)) result (C.told chip.old) (C.told chip.new) }
+    ensures often { Spends (ReadsListed (log_of (tables_of parts.old) unit)) (C.told chip.old) (C.told chip.new) }
 {
     let place = parts.directory.current(unit);
     let scratch = &mut parts.scratch;

@@ -1,10 +1,11 @@
 //! The log sectors of a merge.
-ghost use Rattle.std.specs.Prelude.{◌≡◌, ◌<◌, ◌≤◌, ◌+◌, ◌^◌, length, is_ok, OnOk};
+ghost use Rattle.std.specs.Prelude.{◌≡◌, ◌<◌, ◌≤◌, ◌+◌, ◌^◌, [], length, is_ok, OnOk};
 ghost use Rattle.ipl_base.specs.declared.limits.TheConstants.{CARRIED_SECTORS};
 ghost use Rattle.unit_io.specs.Accounts.{Accounts};
 ghost use Rattle.unit_io.specs.Charts.{Charts, Spares, Gains};
 ghost use Rattle.unit_io.specs.Costs.{ProgramsAt, Spends};
 ghost use Rattle.unit_io.specs.Leads.{IsStopped};
+ghost use Rattle.unit_io.specs.Unread.{ReadsNothing};
 ghost use Rattle.unit_io.specs.Spots.{Programs, IsSpot};
 ghost use Rattle.selective_merge.specs.Packs.{log_sector, IsLogSpotBelow, HasLogs};
 ghost use Rattle.selective_merge.specs.Writing.{DrawsSerials, WritesToBare, WritesLogs, WritesPlace};
@@ -39,6 +40,7 @@ fn write_log<C: Chip>(
     ensures costs { Spends (ProgramsAt place 1 0 5) (C.told chip.old) (C.told chip.new) }
     ensures tidy { Spends (Programs place (IsSpot (241 + i)) (is_ok result))
         (C.told chip.old) (C.told chip.new) }
+    ensures unread { Spends ReadsNothing (C.told chip.old) (C.told chip.new) }
     ensures accounts { Accounts IsStopped result (C.told chip.old) (C.told chip.new) }
 {
     let log = Head::written(Head::LOG, head.unit, head.generation, counter.draw());
@@ -65,7 +67,7 @@ pub(crate) fn write_logs<C: Chip>(
         (length payloads.now)) (C.told chip.old) (C.told chip.new)) }
     ensures serials { DrawsSerials (length payloads.now) result counter.old counter.new }
     ensures spends { WritesPlace place (ProgramsAt place (length payloads.now) 0 5)
-        (IsLogSpotBelow (length payloads.now)) IsStopped result (C.told chip.old) (C.told chip.new) }
+        (IsLogSpotBelow (length payloads.now)) [] IsStopped result (C.told chip.old) (C.told chip.new) }
 {
     for i in 0..payloads.len() {
         write_log(chip, place, head, i as u32, &payloads[i], counter)?;

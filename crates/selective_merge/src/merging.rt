@@ -8,6 +8,7 @@ ghost use Rattle.selective_merge.specs.Homes.{IsHomeBy, IsLearnt};
 ghost use Rattle.selective_merge.specs.Leaving.{MovesUnit};
 ghost use Rattle.selective_merge.specs.Moving.{source_read, tables_of};
 ghost use Rattle.selective_merge.specs.Merging.{IsReadyToMerge, MergesFrom, MergesFromInSteps, MergesUnit, StaysMirrored};
+ghost use Rattle.selective_merge.specs.Often.{all_of, base_of};
 ghost use Rattle.selective_merge.specs.Throughout.{ChartsThroughout};
 
 use crate::Parts;
@@ -37,7 +38,7 @@ fn merge_packed<C: Chip>(chip: &mut C, parts: &mut Parts, unit: u32) -> Result<(
     ensures fault { OfContents (C.told chip.old) (λ x.
         TellsTheFault (pages_fault x (source_read parts.old)) result) }
     ensures few { length (packs_of parts.old.active parts.old.scratch.log) ≤ CARRIED_SECTORS }
-    ensures moves { MovesUnit unit (tables_of parts.old) (tables_of parts.new) result
+    ensures moves { MovesUnit (base_of (tables_of parts.old) unit) unit (tables_of parts.old) (tables_of parts.new) result
         (C.told chip.old) (C.told chip.new) }
 {
     known_laws();
@@ -69,8 +70,8 @@ pub(crate) fn merge_learnt<C: Chip>(
     requires ready { IsReadyToMerge (C.told chip.old).places (tables_of parts.old) unit }
     requires learnt { IsLearnt (tables_of parts.old) unit (C.told chip.old)
         parts.old.scratch.home parts.old.scratch.log }
-    ensures { MergesUnit unit (tables_of parts.old) (tables_of parts.new) result
-        (C.told chip.old) (C.told chip.new) }
+    ensures { MergesUnit (base_of (tables_of parts.old) unit) unit (tables_of parts.old) (tables_of parts.new)
+        result (C.told chip.old) (C.told chip.new) }
 {
     let scratch = &mut parts.scratch;
     if !pack_carried(&scratch.log, &parts.active, &mut scratch.packs) {
@@ -92,7 +93,8 @@ pub(crate) fn merge_learnt<C: Chip>(
 /// all as before but for the numbers that were drawn, at most 13, for one erase more of the place that
 /// was taken, where it was erased, and for places that were found worn, which are retired. It tries one
 /// erase more than places are retired, each of the least worn place that was free then, and programs
-/// nothing elsewhere.
+/// nothing elsewhere. Of the unit's place it reads each sector once at most, and elsewhere its log
+/// sectors, as often as the overflow lists name them.
 ///
 /// Done, it drew a generation and a serial for each log sector that it wrote.
 ///
@@ -105,8 +107,8 @@ pub(crate) fn merge_learnt<C: Chip>(
 /// places are worn.
 pub fn merge<C: Chip>(chip: &mut C, parts: &mut Parts, unit: u32) -> Result<(), ChipFault>
     requires { IsReadyToMerge (C.told chip.old).places (tables_of parts.old) unit }
-    ensures { MergesUnit unit (tables_of parts.old) (tables_of parts.new) result
-        (C.told chip.old) (C.told chip.new) }
+    ensures { MergesUnit (all_of (tables_of parts.old) unit) unit (tables_of parts.old) (tables_of parts.new)
+        result (C.told chip.old) (C.told chip.new) }
 {
     learn(chip, parts, unit)?;
     merge_learnt(chip, parts, unit)

@@ -4,6 +4,7 @@ ghost use Rattle.unit_io.specs.Accounts.{Accounts};
 ghost use Rattle.unit_io.specs.Charts.{Charts, Spares};
 ghost use Rattle.unit_io.specs.Costs.{ProgramsAt, Spends};
 ghost use Rattle.unit_io.specs.Leads.{IsStopped};
+ghost use Rattle.unit_io.specs.Unread.{ReadsNothing};
 ghost use Rattle.unit_io.specs.Spots.{Programs, IsSpot};
 ghost use Rattle.place_taking.specs.Spending.{ErasesFree, is_worn_out};
 ghost use Rattle.place_taking.specs.Takes.{IsNotTaken};
@@ -41,6 +42,7 @@ fn write_overflow<C: Chip>(
     ensures spares { OnOk result (Spares place (C.told chip.old) (C.told chip.new)) }
     ensures costs { Spends (ProgramsAt place 1 2 3) (C.told chip.old) (C.told chip.new) }
     ensures tidy { Spends (Programs place (IsSpot 0) (is_ok result)) (C.told chip.old) (C.told chip.new) }
+    ensures unread { Spends ReadsNothing (C.told chip.old) (C.told chip.new) }
     ensures accounts { Accounts IsStopped result (C.told chip.old) (C.told chip.new) }
 {
     let mut payload = [0; 8];
@@ -76,6 +78,7 @@ pub(crate) fn open_overflow<C: Chip>(chip: &mut C, parts: &mut Parts) -> Result<
         (tables_of parts.new) result (C.told chip.old) (C.told chip.new) }
     ensures costs { Spends (ErasesFree parts.old.directory parts.new.directory 3 (is_worn_out result))
         (C.told chip.old) (C.told chip.new) }
+    ensures unread { Spends ReadsNothing (C.told chip.old) (C.told chip.new) }
 {
     known_laws();
     let units = parts.directory.units();

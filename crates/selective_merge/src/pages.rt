@@ -12,6 +12,7 @@ ghost use Rattle.unit_io.specs.Tails.{FitTails};
 ghost use Rattle.page_ops.specs.Rebuilt.{with_records, AreComing, IsMaking};
 ghost use Rattle.selective_merge.specs.Faults.{page_fault_from, pages_fault, TellsTheFault};
 ghost use Rattle.selective_merge.specs.Pages.{IsBaseSpotBelow, IsFew};
+ghost use Rattle.selective_merge.specs.Often.{base_sectors, page_sectors};
 ghost use Rattle.selective_merge.specs.Packs.{among};
 ghost use Rattle.selective_merge.specs.Moved.{IsRebased, MovesPage, HasMoved, IsAside};
 ghost use Rattle.selective_merge.specs.Homes.{from_home, is_counted, MoveCause};
@@ -187,7 +188,7 @@ fn move_page<C: Chip>(
     ensures fault { OfContents (C.told chip.old) (λ x. TellsTheFault
         (page_fault_from x (from_home home.now status.now.numbers log.now) page) result) }
     ensures spends { WritesPlace place (ProgramsAt place PAGE_SECTORS 0 4)
-        (IsPieceSpot page PAGE_SECTORS) (MoveCause home.now.place) result
+        (IsPieceSpot page PAGE_SECTORS) (page_sectors home.now.place page) (MoveCause home.now.place) result
         (C.told chip.old) (C.told chip.new) }
 {
     let count = u32::from(home.pieces[page as usize]);
@@ -228,7 +229,7 @@ pub(crate) fn move_pages<C: Chip>(
     ensures fault { OfContents (C.told chip.old) (λ x. TellsTheFault
         (pages_fault x (from_home home.now status.now.numbers log.now)) result) }
     ensures spends { WritesPlace place (ProgramsAt place 240 0 4) (IsBaseSpotBelow 15)
-        (MoveCause home.now.place) result (C.told chip.old) (C.told chip.new) }
+        (base_sectors home.now.place) (MoveCause home.now.place) result (C.told chip.old) (C.told chip.new) }
 {
     let mut pieces = [0; PAGES as usize];
     let mut slots = PageMap::empty();

@@ -1,5 +1,5 @@
 //! A unit written to a clean place.
-ghost use Rattle.std.specs.Prelude.{◌≡◌, ◌<◌, ◌≤◌, ◌+◌, ◌^◌, length, slice_index, IfOk, OnOk};
+ghost use Rattle.std.specs.Prelude.{◌≡◌, ◌<◌, ◌≤◌, ◌+◌, ◌^◌, [], length, slice_index, IfOk, OnOk};
 ghost use Rattle.ipl_base.specs.declared.limits.TheConstants.{CARRIED_SECTORS, VERSION};
 ghost use Rattle.unit_io.specs.Charts.{Charts};
 ghost use Rattle.unit_io.specs.Costs.{ProgramsAt};
@@ -8,6 +8,7 @@ ghost use Rattle.unit_io.specs.Reads.{OfContents};
 ghost use Rattle.unit_io.specs.Spots.{IsSpot};
 ghost use Rattle.place_taking.specs.Fills.{FillsAt};
 ghost use Rattle.selective_merge.specs.Faults.{pages_fault, TellsTheFault};
+ghost use Rattle.selective_merge.specs.Often.{base_sectors};
 ghost use Rattle.selective_merge.specs.Pages.{IsFew};
 ghost use Rattle.selective_merge.specs.Moved.{IsAside};
 ghost use Rattle.selective_merge.specs.Homes.{from_home, MoveCause};
@@ -63,7 +64,8 @@ fn fill<C: Chip>(
     ensures serials { DrawsSerials (length scratch.now.packs.closed.items) result
         counter.old counter.new }
     ensures spends { WritesPlace place (FillsAt place 0)
-        (IsFilledSpot (length scratch.now.packs.closed.items)) (MoveCause scratch.now.home.place)
+        (IsFilledSpot (length scratch.now.packs.closed.items)) (base_sectors scratch.now.home.place)
+        (MoveCause scratch.now.home.place)
         result (C.told chip.old) (C.told chip.new) }
 {
     let pieces = move_pages(chip, &scratch.home, &scratch.log, status, place, head)?;
@@ -91,7 +93,7 @@ fn seal_unit<C: Chip>(
     ensures tells { OnOk result (Charts
         (IsSealed place header.now.units header.now.erases head.now.unit head.now.generation
         header.now.pieces header.now.carried) (C.told chip.old) (C.told chip.new)) }
-    ensures spends { WritesPlace place (ProgramsAt place 1 2 1) (IsSpot 0) IsStopped result
+    ensures spends { WritesPlace place (ProgramsAt place 1 2 1) (IsSpot 0) [] IsStopped result
         (C.told chip.old) (C.told chip.new) }
 {
     let mut payload = [0; 24];
@@ -127,7 +129,7 @@ pub(crate) fn write_unit<C: Chip>(
     ensures kept { parts.new ≡ drawn_up_to parts.old parts.new.counter }
     ensures spends { WritesPlace place (FillsAt place 2)
         (IsUnitSpot (length parts.old.scratch.packs.closed.items))
-        (MoveCause parts.old.scratch.home.place) result (C.told chip.old) (C.told chip.new) }
+        (base_sectors parts.old.scratch.home.place) (MoveCause parts.old.scratch.home.place) result (C.told chip.old) (C.told chip.new) }
 {
     let scratch = &parts.scratch;
     let unit = scratch.home.head.unit;

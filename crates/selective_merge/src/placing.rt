@@ -4,6 +4,7 @@ ghost use Rattle.unit_io.specs.ReadsAt.{ReadsAt};
 ghost use Rattle.selective_merge.specs.Homes.{IsLearnt};
 ghost use Rattle.selective_merge.specs.Merging.{CompletesMerge, IsReadyToMerge};
 ghost use Rattle.selective_merge.specs.Moving.{tables_of};
+ghost use Rattle.selective_merge.specs.Often.{all_of, base_of};
 ghost use Rattle.selective_merge.specs.Placing.{IsElsewhere, IsMergedSpot, IsPlaced, PlacesLog};
 ghost use Rattle.selective_merge.specs.Spotting.{HasHomeSpot};
 
@@ -20,8 +21,8 @@ fn merged_spot<C: Chip>(chip: &mut C, parts: &mut Parts, unit: u32) -> Result<Sp
     requires ready { IsReadyToMerge (C.told chip.old).places (tables_of parts.old) unit }
     requires learnt { IsLearnt (tables_of parts.old) unit (C.told chip.old)
         parts.old.scratch.home parts.old.scratch.log }
-    ensures { PlacesLog IsMergedSpot unit (tables_of parts.old) (tables_of parts.new) result
-        (C.told chip.old) (C.told chip.new) }
+    ensures { PlacesLog IsMergedSpot (base_of (tables_of parts.old) unit) unit (tables_of parts.old)
+        (tables_of parts.new) result (C.told chip.old) (C.told chip.new) }
 {
     merge_learnt(chip, parts, unit)?;
     match home_spot(parts, unit) {
@@ -36,8 +37,8 @@ fn elsewhere<C: Chip>(chip: &mut C, parts: &mut Parts, unit: u32) -> Result<Spot
     requires ready { IsReadyToMerge (C.told chip.old).places (tables_of parts.old) unit }
     requires learnt { IsLearnt (tables_of parts.old) unit (C.told chip.old)
         parts.old.scratch.home parts.old.scratch.log }
-    ensures { PlacesLog IsElsewhere unit (tables_of parts.old) (tables_of parts.new) result
-        (C.told chip.old) (C.told chip.new) }
+    ensures { PlacesLog IsElsewhere (base_of (tables_of parts.old) unit) unit (tables_of parts.old)
+        (tables_of parts.new) result (C.told chip.old) (C.told chip.new) }
 {
     match overflow_choice(parts, unit) {
         OverflowChoice::Clean(spot) => Ok(spot),
@@ -59,8 +60,8 @@ pub fn log_place<C: Chip>(chip: &mut C, parts: &mut Parts, unit: u32) -> Result<
     requires { IsReadyToMerge (C.told chip.old).places (tables_of parts.old) unit }
 
     // What the chip holds then, what a power cut leaves, why it fails, and what the tables have.
-    ensures room { PlacesLog IsPlaced unit (tables_of parts.old) (tables_of parts.new) result
-        (C.told chip.old) (C.told chip.new) }
+    ensures room { PlacesLog IsPlaced (all_of (tables_of parts.old) unit) unit (tables_of parts.old)
+        (tables_of parts.new) result (C.told chip.old) (C.told chip.new) }
 
     // Where the unit's pages show values and few log sectors would be carried, it fails only where a
     // call of the chip failed.

@@ -8,6 +8,8 @@ use Rattle.ipl_format.specs.Sector.{Sector}
 use Rattle.unit_io.specs.Charts.{Charts, Gains}
 use Rattle.unit_io.specs.Costs.{ProgramsAt}
 use Rattle.unit_io.proofs.CostLemmas.{nothing_at, spends_at_most, spends_at_then, spends_none}
+use Rattle.unit_io.proofs.UnreadLemmas.{unread_none, unread_then}
+use Rattle.unit_log.proofs.OftenLemmas.{often_unread}
 use Rattle.selective_merge.specs.Packs.{log_sector, IsLogSpotBelow, HasLogs, payload_of}
 use Rattle.selective_merge.specs.Writing.{KeepsLogs}
 use Rattle.selective_merge.proofs.ThroughoutLemmas.{charts_none, charts_then}
@@ -29,6 +31,7 @@ loop-i-init g c =
           (logs_none c.args.place head.unit head.generation c.args.counter.now payloads);
       costs = spends_none (ProgramsAt c.args.place 0 0 5) told (nothing_at c.args.place 0 0 5);
       tidy = tidy_none c.args.place (IsLogSpotBelow 0) true told;
+      unread = unread_none told;
       counts = counts_none told;
       spares = spares_none c.args.place told told refl;
       drawn = omega arith;
@@ -64,6 +67,7 @@ loop-i-preserved g c =
           (λ x y z one two. logs_more p head.unit head.generation serial payloads i x y z one two);
       costs = spends_at_then p i 1 0 0 5 old mid new so.costs says.costs;
       tidy = tidy_log_more p i true old mid new so.tidy says.tidy;
+      unread = unread_then old mid new so.unread says.unread;
       counts = counts_then old mid new so.counts says.accounts.counts;
       spares = spares_then p old mid new so.spares says.spares;
       drawn = omega (arith, so.drawn, says.drawn);
@@ -140,6 +144,7 @@ returns-in_err-write_log-clause-spends g c =
           (spends_at_then p i 1 0 0 5 old mid new so.costs says.costs);
       tidy = tidy_logs p (i + 1) n false false old new (omega (arith, low))
           (tidy_log_more p i false old mid new so.tidy says.tidy);
+      reads = often_unread [] old new (unread_then old mid new so.unread says.unread);
       accounts = record {
         counts = counts_then old mid new so.counts says.accounts.counts;
         cause = (stopped.0, omega (arith, stopped.1, so.counts.writes));
@@ -157,5 +162,6 @@ returns-clause-spends g c =
       spares = so.spares;
       costs = spends_at_most c.args.place i n 0 0 5 old new (omega (arith, done)) (omega arith) so.costs;
       tidy = tidy_logs c.args.place i n true true old new (omega (arith, done)) so.tidy;
+      reads = often_unread [] old new so.unread;
       accounts = record { counts = so.counts; cause = tt };
     }

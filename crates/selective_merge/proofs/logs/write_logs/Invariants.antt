@@ -8,6 +8,7 @@ use Rattle.unit_io.specs.Charts.{Charts, Spares}
 use Rattle.unit_io.specs.Costs.{ProgramsAt, Spends}
 use Rattle.unit_io.specs.Leads.{IsSteady}
 use Rattle.unit_io.specs.Spots.{Programs}
+use Rattle.unit_io.specs.Unread.{ReadsNothing}
 use Rattle.selective_merge.specs.Packs.{IsLogSpotBelow, HasLogs}
 use Rattle.selective_merge.specs.Writing.{KeepsLogs}
 use Rattle.selective_merge.proofs.logs.write_logs.Given as goal
@@ -22,6 +23,7 @@ pub record AreWritten (first t : Told) (p u generation serial : ℕ) (payloads :
   pub tells : Charts (HasLogs p u generation serial payloads n) first t
   pub costs : Spends (ProgramsAt p n 0 5) first t
   pub tidy : Spends (Programs p (IsLogSpotBelow n) true) first t
+  pub unread : Spends ReadsNothing first t
   pub counts : Counts first t
   pub spares : Spares p first t
   pub drawn : counter ≡ serial + n

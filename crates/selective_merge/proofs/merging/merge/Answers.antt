@@ -4,6 +4,7 @@ use Rattle.ipl_meaning.specs.Tables.{Tables}
 use Rattle.overflow.specs.Lists.{spots_in}
 use Rattle.unit_log.specs.Looks.{IsLogRead}
 use Rattle.selective_merge.specs.Merging.{MergesUnit}
+use Rattle.selective_merge.specs.Often.{all_of, base_of, log_of}
 use Rattle.selective_merge.specs.Moving.{tables_of}
 use Rattle.selective_merge.proofs.LearntLemmas.{learnt_behind}
 use Rattle.selective_merge.proofs.UnitMergeLemmas.{merged_unlearnt, merges_behind}
@@ -18,9 +19,9 @@ returns-in_err-learn g c =
     let read = c.in_err-learn.ensures in
     let fault = c.in_err-learn.field-0.0 in
     let e = err_from_is_err_and c.from_residual.result c.from_residual.ensures.1 in
-    rw (e.1 ∙ ap Err e.2) (subst (λ (after : Tables). MergesUnit c.args.unit t after (Err fault) old new)
+    rw (e.1 ∙ ap Err e.2) (subst (λ (after : Tables). MergesUnit (all_of t c.args.unit) c.args.unit t after (Err fault) old new)
     (sym read.same) (merged_unlearnt c.args.unit t scratch.home scratch.log fault old new c.requires.known
-    read.looks.reads read.looks.cause read.learns))
+    read.looks.reads read.looks.cause read.learns read.often))
 
 pub returns : goal.returns
 returns g c =
@@ -31,8 +32,9 @@ returns g c =
     let t = tables_of c.args.parts.now in
     let read = c.in_ok-learn.ensures in
     merges_behind (IsLogRead (slice_index t.places.current c.args.unit) (spots_in t.overflow c.args.unit))
-    c.args.unit t after c.merge_learnt.result old mid new read.looks.reads
-    (subst (λ (s : Tables). MergesUnit c.args.unit s after c.merge_learnt.result mid new) read.same
+    c.args.unit t after c.merge_learnt.result old mid new (log_of t c.args.unit)
+    (base_of t c.args.unit) read.looks.reads read.often
+    (subst (λ (s : Tables). MergesUnit (base_of s c.args.unit) c.args.unit s after c.merge_learnt.result mid new) read.same
     c.merge_learnt.ensures)
 
 pub merge_learnt-requires-clause-learnt : goal.merge_learnt-requires-clause-learnt

@@ -25,6 +25,9 @@ use Rattle.selective_merge.specs.declared.parts.Parts.{Parts}
 use Rattle.selective_merge.specs.Homes.{MoveCause}
 use Rattle.selective_merge.specs.Merging.{RestsMerged}
 use Rattle.selective_merge.specs.Moving.{source_read, tables_of, MayTakeHome, MovesHome, NoneIsLostBut, set_aside}
+use Rattle.unit_log.proofs.OftenLemmas.{often_unread}
+use Rattle.selective_merge.specs.Often.{base_of}
+use Rattle.selective_merge.proofs.OftenLemmas.{unit_often}
 use Rattle.selective_merge.specs.Packing.{masks_of_payloads}
 use Rattle.selective_merge.specs.Throughout.{ChartsThroughout}
 use Rattle.selective_merge.specs.Writing.{IsUnitSpot, TellsWritten}
@@ -428,6 +431,8 @@ returns-in-Ok-clause-moves g c =
           (costs_of_filled t.places c.take_place.new.directory after.places p 2 true false old mid new
           moved_home.retired
           moved_home.counts refl took.costs wrote.spends.costs);
+      reads = unit_often t u c.args.parts.now.scratch.home.place old mid new c.requires.stands.place took.unread
+          wrote.spends.reads;
     }
 
 pub returns-in-Err-clause-moves : goal.returns-in-Err-clause-moves
@@ -491,6 +496,8 @@ returns-in-Err-clause-moves g c =
           ∙ ap (λ (w : Parts). with_use w.directory p false) c.in-Err.ensures.kept)))
           (move_not_worn c.args.parts.now.scratch.home.place c.in-Err.fault mid new wrote.spends.accounts.cause)
           took.costs wrote.spends.costs);
+      reads = unit_often t u c.args.parts.now.scratch.home.place old mid new c.requires.stands.place took.unread
+          wrote.spends.reads;
     }
 
 -- ---- no place was taken
@@ -573,4 +580,5 @@ returns-in_err-place-clause-moves g c =
       );
       drawn = tt;
       costs = for_untaken t.places d _ fault fault old new refl took.costs;
+      reads = often_unread (base_of t u) old new took.unread;
     })

@@ -13,6 +13,7 @@ use Rattle.place_taking.proofs.CountedLemmas.{keeps_counts, keeps_counts_then, k
 use Rattle.place_taking.proofs.HomeLemmas.{homes_same, homes_then}
 use Rattle.place_taking.proofs.JoinLemmas.{costs_of_filled, fills_programs, taken_was_free, taken_within, tidy_taken}
 use Rattle.unit_directory.specs.Free.{aside}
+use Rattle.unit_io.proofs.UnreadLemmas.{unread_then}
 use Rattle.selective_merge.specs.Known.{KnowsPlaces}
 use Rattle.selective_merge.specs.Moving.{tables_of, set_aside}
 use Rattle.selective_merge.specs.Placing.{RestsOpened}
@@ -294,3 +295,15 @@ returns-in_err-place-clause-leaves g c =
           (g.C.Chip.told c.take_place.new.chip) refl took.tidy;
       accounts = record { counts = took.accounts.counts; cause = took.accounts.cause };
     })
+
+-- ---- nothing is read
+
+pub returns-in-Ok-clause-unread : goal.returns-in-Ok-clause-unread
+returns-in-Ok-clause-unread g c =
+    unread_then (g.C.Chip.told c.args.chip.now) (g.C.Chip.told c.take_place.new.chip)
+    (g.C.Chip.told c.write_overflow.new.chip) c.take_place.ensures.unread c.write_overflow.ensures.unread
+
+pub returns-in-Err-clause-unread : goal.returns-in-Err-clause-unread
+returns-in-Err-clause-unread g c =
+    unread_then (g.C.Chip.told c.args.chip.now) (g.C.Chip.told c.take_place.new.chip)
+    (g.C.Chip.told c.write_overflow.new.chip) c.take_place.ensures.unread c.write_overflow.ensures.unread

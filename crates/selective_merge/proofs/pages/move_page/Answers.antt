@@ -1,9 +1,14 @@
-use Rattle.std.proofs.Common.{ℕ, false, Ok, Err, inr, refl, ◌∙◌, ap, arith}
+use Rattle.std.proofs.Common.{◌≡◌, ◌≤◌, ℕ, List, slice_index, false, Ok, Err, inr, refl, ◌∙◌, ap, arith}
 use Rattle.std.proofs.lemmas.Result.{err_from_is_err_and}
 use Rattle.ipl_meaning.specs.Chart.{chart_of}
 use Rattle.chip_trait.specs.Told.{Told}
 use Rattle.chip_trait.proofs.CountsLemmas.{counts_then}
-use Rattle.unit_io.specs.Costs.{ProgramsAt}
+use Rattle.unit_io.specs.Costs.{ProgramsAt, Spends}
+use Rattle.unit_log.specs.Often.{ReadsListed}
+use Rattle.unit_log.proofs.OftenLemmas.{often_before}
+use Rattle.selective_merge.specs.Often.{page_sectors}
+use Rattle.selective_merge.specs.Pages.{IsFew}
+use Rattle.selective_merge.proofs.OftenLemmas.{page_often}
 use Rattle.unit_io.specs.ReadsAt.{ReadsAt}
 use Rattle.unit_io.proofs.CostLemmas.{spends_at_most}
 use Rattle.selective_merge.specs.Homes.{from_home, MoveCause}
@@ -114,14 +119,21 @@ returns-in_default-clause-fault g c = λ x told alone.
 
 -- ---- what is spent
 
+-- a page has few pieces
+few_pieces : (pieces : List ℕ) (page n : ℕ) → IsFew pieces → n ≡ slice_index pieces page → n ≤ 16
+few_pieces pieces page n few is =
+    let most : slice_index pieces page ≤ 16 = few page in omega (arith, most, is)
+
 -- nothing, where the page isn't moved
 unmoved : (At : ℕ → ℕ → Type 0) (place p page : ℕ) (fault : ChipFault) (old new : Told) → ReadsAt At old new
-    → MoveCause place fault old new
-    → WritesPlace {T = ℕ} p (ProgramsAt p 16 0 4) (IsPieceSpot page 16) (MoveCause place) (Err fault) old new
-unmoved At place p page fault old new reads cause = record {
+    → Spends (ReadsListed (page_sectors place page)) old new → MoveCause place fault old new
+    → WritesPlace {T = ℕ} p (ProgramsAt p 16 0 4) (IsPieceSpot page 16) (page_sectors place page) (MoveCause place)
+    (Err fault) old new
+unmoved At place p page fault old new reads often cause = record {
   spares = tt;
   costs = spends_at_most p 0 16 0 0 4 old new (omega arith) (omega arith) (spends_read At p 4 old new reads);
   tidy = tidy_read At p (IsPieceSpot page 16) false old new reads;
+  reads = often;
   accounts = record { counts = reads.counts; cause = cause };
 }
 
@@ -136,6 +148,9 @@ returns-in_err-read_page-clause-spends g c =
     rw (e.1 ∙ ap Err e.2) (unmoved _ home c.args.place c.args.page fault old new
     (page_asked_at {T = Unit {0}} home c.args.page c.from-count.result (Err fault) old new unread.asks
     unread.accounts.counts)
+    (page_often {T = Unit {0}} home c.args.page c.from-count.result (Err fault) old new
+    (few_pieces c.args.home.now.pieces c.args.page c.from-count.result c.requires.few c.from-count.ensures)
+    unread.asks)
     (page_unmoved home c.args.page fault old new c.requires.page unread.accounts.cause))
 
 pub returns-in_default-clause-spends : goal.returns-in_default-clause-spends
@@ -146,7 +161,10 @@ returns-in_default-clause-spends g c =
     let read = c.in_ok-read_page.ensures.reads in
     unmoved _ home c.args.place c.args.page (Malformed home 0) old new
     (page_asked_at {T = Unit {0}} home c.args.page c.from-count.result (Ok tt) old new read.asks
-    read.accounts.counts) (refl, inr refl)
+    read.accounts.counts)
+    (page_often {T = Unit {0}} home c.args.page c.from-count.result (Ok tt) old new
+    (few_pieces c.args.home.now.pieces c.args.page c.from-count.result c.requires.few c.from-count.ensures)
+    read.asks) (refl, inr refl)
 
 pub returns-clause-spends : goal.returns-clause-spends
 returns-clause-spends g c =
@@ -163,6 +181,10 @@ returns-clause-spends g c =
           wrote.adds.spares;
       costs = programs_behind _ p 16 4 old mid new reads wrote.writes.costs;
       tidy = tidy_behind _ p (IsPieceSpot c.args.page 16) _ old mid new reads wrote.writes.tidy;
+      reads = often_before (page_sectors home c.args.page) old mid new
+          (page_often {T = Unit {0}} home c.args.page c.from-count.result (Ok tt) old mid
+          (few_pieces c.args.home.now.pieces c.args.page c.from-count.result c.requires.few c.from-count.ensures)
+          read.asks) wrote.writes.unread;
       accounts = record {
         counts = counts_then old mid new read.accounts.counts wrote.writes.accounts.counts;
         cause = stopped_unmoved home c.program_page.result old mid new read.accounts.counts wrote.writes.accounts.cause;

@@ -4,6 +4,8 @@ use Rattle.std.proofs.lemmas.Result.{err_from_is_err_and}
 use Rattle.chip_trait.proofs.CountsLemmas.{counts_none, counts_then}
 use Rattle.unit_io.specs.Costs.{ProgramsAt}
 use Rattle.unit_io.proofs.CostLemmas.{nothing_at, spends_at_most, spends_at_then, spends_none}
+use Rattle.unit_log.proofs.OftenLemmas.{often_none}
+use Rattle.selective_merge.proofs.OftenLemmas.{pages_often, some_often}
 use Rattle.selective_merge.specs.Moved.{HasMoved, MovesPage, IsAside}
 use Rattle.selective_merge.specs.Homes.{from_home}
 use Rattle.selective_merge.specs.Writing.{MovesOnePage}
@@ -33,6 +35,7 @@ loop-page-init g c =
           (moved_none from c.args.place generation (replicate 15 0));
       costs = spends_none (ProgramsAt c.args.place 0 0 4) told (nothing_at c.args.place 0 0 4);
       tidy = tidy_none c.args.place (IsBaseSpotBelow 0) true told;
+      reads = often_none told;
       counts = counts_none told;
       sound = λ x _. refl;
       spares = spares_none c.args.place told told refl;
@@ -68,6 +71,7 @@ loop-page-preserved g c =
       costs = spends_at_most p (16 * k + 16) (16 * (k + 1)) 0 0 4 old new (omega arith) (omega arith)
           (spends_at_then p (16 * k) 16 0 0 4 old mid new so.costs says.spends.costs);
       tidy = tidy_page_more p k true old mid new so.tidy says.spends.tidy;
+      reads = pages_often c.args.home.now.place k old mid new so.reads says.spends.reads;
       counts = counts_then old mid new so.counts says.spends.accounts.counts;
       sound = λ x told.
           let (y, told_y, same) = so.spares x told in
@@ -159,6 +163,8 @@ returns-in_err-count-clause-spends g c =
           (spends_at_then p (16 * k) 16 0 0 4 old mid new so.costs says.costs);
       tidy = tidy_pages p (k + 1) 15 false false old new (omega (arith, low))
           (tidy_page_more p k false old mid new so.tidy says.tidy);
+      reads = some_often c.args.home.now.place ((k + 1) * 16) old new (omega (arith, low))
+          (pages_often c.args.home.now.place k old mid new so.reads says.reads);
       accounts = record {
         counts = counts_then old mid new so.counts says.accounts.counts;
         cause = later_unmoved {T = ℕ} c.args.home.now.place (Err fault) old mid new so.counts says.accounts.cause;
@@ -175,5 +181,6 @@ returns-clause-spends g c =
       spares = so.spares;
       costs = spends_at_most c.args.place (16 * k) 240 0 0 4 old new (omega (arith, done)) (omega arith) so.costs;
       tidy = tidy_pages c.args.place k 15 true true old new (omega (arith, done)) so.tidy;
+      reads = some_often c.args.home.now.place (k * 16) old new (omega (arith, done)) so.reads;
       accounts = record { counts = so.counts; cause = tt };
     }

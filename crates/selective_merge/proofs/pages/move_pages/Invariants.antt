@@ -10,6 +10,8 @@ use Rattle.selective_merge.specs.Faults.{page_fault_from}
 use Rattle.unit_io.specs.Costs.{ProgramsAt, Spends}
 use Rattle.unit_io.specs.Leads.{IsSteady}
 use Rattle.unit_io.specs.Spots.{Programs}
+use Rattle.unit_log.specs.Live.{spots_from}
+use Rattle.unit_log.specs.Often.{ReadsListed}
 use Rattle.selective_merge.specs.Moved.{Source, HasMoved}
 use Rattle.selective_merge.specs.Pages.{IsBaseSpotBelow, IsFew}
 use Rattle.selective_merge.specs.Homes.{from_home}
@@ -17,7 +19,7 @@ use Rattle.selective_merge.proofs.PageMoveLemmas.{MovedSoFar}
 use Rattle.selective_merge.proofs.pages.move_pages.Given as goal
 
 -- what is so after some pages
-pub record AreMoved (from : Source) (p generation : ℕ) (first t : Told) (k : ℕ)
+pub record AreMoved (from : Source) (home p generation : ℕ) (first t : Told) (k : ℕ)
     (pieces : List ℕ) : Type 0 where
   pub moves : (m : Legible) (h : History) → IsSteady h first → StoryRests first.places m h
       → now h p 0 ≡ None
@@ -26,6 +28,7 @@ pub record AreMoved (from : Source) (p generation : ℕ) (first t : Told) (k : �
   pub tells : Charts (HasMoved from p generation pieces k) first t
   pub costs : Spends (ProgramsAt p (16 * k) 0 4) first t
   pub tidy : Spends (Programs p (IsBaseSpotBelow k) true) first t
+  pub reads : Spends (ReadsListed (spots_from home 1 (k * 16))) first t
   pub counts : Counts first t
   pub sound : OfContents first (λ x. first_below (page_fault_from x from) k ≡ None)
   pub spares : Spares p first t
@@ -34,5 +37,5 @@ pub record AreMoved (from : Source) (p generation : ℕ) (first t : Told) (k : �
 
 abbrev pub invariant-loop-page : goal.invariant-loop-page
 invariant-loop-page g l =
-    AreMoved (from_home l.home l.status.numbers l.log) l.place l.head.generation
+    AreMoved (from_home l.home l.status.numbers l.log) l.home.place l.place l.head.generation
     (g.C.Chip.told l.fn.chip) (g.C.Chip.told l.chip) l.page l.pieces

@@ -9,6 +9,8 @@ use Rattle.place_taking.specs.Fills.{FillsAt}
 use Rattle.selective_merge.specs.Moved.{IsAside}
 use Rattle.selective_merge.specs.Homes.{from_home, MoveCause}
 use Rattle.selective_merge.specs.Throughout.{KeepsThroughout}
+use Rattle.selective_merge.specs.Often.{base_sectors}
+use Rattle.selective_merge.proofs.OftenLemmas.{reads_once}
 use Rattle.selective_merge.specs.Writing.{DrawsSerials, GainsUnit, IsFilledSpot, WritesLogs, WritesPlace}
 use Rattle.selective_merge.proofs.FillLemmas.{pages_failed, logged, logs_failed, filled_told}
 use Rattle.selective_merge.proofs.FaultLemmas.{fault_as, fault_stopped}
@@ -117,6 +119,7 @@ returns-in_err-pieces-clause-spends g c =
       spares = tt;
       costs = fills_programs p 240 0 4 old new says.costs;
       tidy = tidy_paged p (length c.args.scratch.now.packs.closed.items) old new says.tidy;
+      reads = says.reads;
       accounts = record { counts = says.accounts.counts; cause = says.accounts.cause };
     })
 
@@ -132,12 +135,14 @@ returns-in_err-write_logs-clause-spends g c =
     let e = err_from_is_err_and c.from_residual-in_err-write_logs.result
     c.from_residual-in_err-write_logs.ensures.1 in
     rw (e.1 ∙ ap Err e.2) (subst (λ (ps : List Versioned). WritesPlace {T = List ℕ} p (FillsAt p 0)
-    (IsFilledSpot (length ps)) (MoveCause c.args.scratch.now.home.place) (Err c.in_err-write_logs.field-0.0) old new)
+    (IsFilledSpot (length ps)) (base_sectors c.args.scratch.now.home.place)
+    (MoveCause c.args.scratch.now.home.place) (Err c.in_err-write_logs.field-0.0) old new)
     c.payloads.ensures.all (record {
       spares = tt;
       costs = fills_then p 0 0 old late new (fills_programs p 240 0 4 old late pages.costs)
           (fills_programs p n 0 5 late new logs.costs);
       tidy = tidy_logged p n false old late new pages.tidy logs.tidy;
+      reads = reads_once (base_sectors c.args.scratch.now.home.place) old late new pages.reads logs.reads;
       accounts = record {
         counts = counts_then old late new pages.accounts.counts logs.accounts.counts;
         cause = stopped_unmoved {T = Unit {0}} c.args.scratch.now.home.place (Err c.in_err-write_logs.field-0.0) old
@@ -155,11 +160,12 @@ returns-clause-spends g c =
     let pages = c.in_ok-pieces.ensures.spends in
     let logs = c.in_ok-write_logs.ensures.spends in
     subst (λ (ps : List Versioned). WritesPlace {T = List ℕ} p (FillsAt p 0) (IsFilledSpot (length ps))
-    (MoveCause c.args.scratch.now.home.place) (Ok c.in_ok-pieces.pieces) old new) c.payloads.ensures.all (record {
+    (base_sectors c.args.scratch.now.home.place) (MoveCause c.args.scratch.now.home.place) (Ok c.in_ok-pieces.pieces) old new) c.payloads.ensures.all (record {
       spares = spares_then p old late new pages.spares logs.spares;
       costs = fills_then p 0 0 old late new (fills_programs p 240 0 4 old late pages.costs)
           (fills_programs p n 0 5 late new logs.costs);
       tidy = tidy_logged p n true old late new pages.tidy logs.tidy;
+      reads = reads_once (base_sectors c.args.scratch.now.home.place) old late new pages.reads logs.reads;
       accounts = record {
         counts = counts_then old late new pages.accounts.counts logs.accounts.counts;
         cause = tt;

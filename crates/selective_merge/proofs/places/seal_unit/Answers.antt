@@ -1,4 +1,5 @@
-use Rattle.std.proofs.Common.{ℕ, subst}
+use Rattle.std.proofs.Common.{ℕ, [], subst}
+use Rattle.unit_log.proofs.OftenLemmas.{often_unread}
 use Rattle.sector_format.specs.Decode.{sector_of}
 use Rattle.unit_io.specs.Costs.{ProgramsAt, Spends}
 use Rattle.selective_merge.proofs.SealLemmas.{unit_head, sealed_keeps, sealed_tells}
@@ -32,5 +33,7 @@ returns-clause-spends g c = record {
   costs = subst (λ (kind : ℕ). Spends (ProgramsAt c.args.place 1 2 kind) (g.C.Chip.told c.args.chip.now)
       (g.C.Chip.told c.seal.new.chip)) c.requires.kind c.seal.ensures.writes.costs;
   tidy = c.seal.ensures.writes.tidy;
+  reads = often_unread [] (g.C.Chip.told c.args.chip.now) (g.C.Chip.told c.seal.new.chip)
+      c.seal.ensures.writes.unread;
   accounts = c.seal.ensures.writes.accounts;
 }

@@ -10,6 +10,8 @@ use Rattle.selective_merge.specs.Throughout.{ChartsThroughout}
 use Rattle.selective_merge.specs.Writing.{FillsPlace, GainsUnit, IsSealed, SealsUnit, TellsWritten}
 use Rattle.selective_merge.proofs.SealLemmas.{unit_written, written_told, fill_failed}
 use Rattle.selective_merge.specs.Faults.{pages_fault}
+use Rattle.selective_merge.specs.Often.{base_sectors}
+use Rattle.selective_merge.proofs.OftenLemmas.{reads_once}
 use Rattle.selective_merge.specs.Moved.{IsAside}
 use Rattle.selective_merge.proofs.FaultLemmas.{fault_as, tells_written}
 use Rattle.unit_io.proofs.SparesLemmas.{spares_behind}
@@ -96,6 +98,7 @@ returns-in_err-pieces-clause-spends g c =
       spares = tt;
       costs = fills_at_most p 0 2 old new (omega arith) says.costs;
       tidy = tidy_unsealed p (length c.args.parts.now.scratch.packs.closed.items) old new says.tidy;
+      reads = says.reads;
       accounts = record { counts = says.accounts.counts; cause = says.accounts.cause };
     })
 
@@ -112,6 +115,7 @@ returns-clause-spends g c =
       costs = fills_then p 0 2 old mid new filled.costs (fills_programs p 1 2 1 mid new sealed.costs);
       tidy = tidy_sealed p (length c.args.parts.now.scratch.packs.closed.items) (is_ok result) old mid new
           filled.tidy sealed.tidy;
+      reads = reads_once (base_sectors c.args.parts.now.scratch.home.place) old mid new filled.reads sealed.reads;
       accounts = record {
         counts = counts_then old mid new filled.accounts.counts sealed.accounts.counts;
         cause = stopped_unmoved c.args.parts.now.scratch.home.place result old mid new filled.accounts.counts

@@ -1,4 +1,6 @@
-use Rattle.std.proofs.Common.{inr}
+use Rattle.std.proofs.Common.{[], inr}
+use Rattle.unit_log.proofs.OftenLemmas.{often_none}
+use Rattle.selective_merge.specs.Often.{base_of}
 use Rattle.ipl_meaning.specs.Chart.{Chart}
 use Rattle.ipl_meaning.specs.Layout.{Layout}
 use Rattle.ipl_meaning.specs.Mirrors.{Mirrors}
@@ -23,7 +25,7 @@ returns-in-Clean g c =
       steps = makes_none IsElsewhere told.places c.args.unit t spot told clean;
       fault = λ x told it mirrors. tt;
       spot = inr c.in-Clean.ensures.0;
-      finds = finds_there c.args.unit t spot told c.requires.ready.known;
+      finds = finds_there _ c.args.unit t spot told c.requires.ready.known;
     }
 
 pub returns-in-NewPlace : goal.returns-in-NewPlace
@@ -44,7 +46,7 @@ returns-in-NewPlace g c =
           opens.leaves.accounts.cause;
       spot = if_ok _ _ result (λ spot opened. inr (new_spot t after u spot.place spot.sector _
           c.in-NewPlace.ensures.0 opened.0 opened.1)) opens.opened;
-      finds = finds_opened u t after result old new opens.leaves opens.costs;
+      finds = finds_opened _ u t after result old new opens.leaves opens.costs opens.unread;
     }
 
 pub returns-in-Nothing : goal.returns-in-Nothing
@@ -53,6 +55,6 @@ returns-in-Nothing g c =
     let t = tables_of c.args.parts.now in
     let after = tables_of c.merged_spot.new.parts in
     places_behind IsMergedSpot IsElsewhere Anywhere c.args.unit t after old old
-    (g.C.Chip.told c.merged_spot.new.chip) (at_none Anywhere old) c.merged_spot.result
+    (g.C.Chip.told c.merged_spot.new.chip) (at_none Anywhere old) c.merged_spot.result [] (base_of t c.args.unit)
     (all_ok _ c.merged_spot.result (λ spot x y it told mirrors is. elsewhere_merged old.places _ y it t after
-    c.args.unit spot.place spot.sector c.in-Nothing.ensures is.spot is.merged)) c.merged_spot.ensures
+    c.args.unit spot.place spot.sector c.in-Nothing.ensures is.spot is.merged)) (often_none old) c.merged_spot.ensures

@@ -7,6 +7,8 @@ use Rattle.ipl_meaning.specs.Tables.{Tables}
 use Rattle.overflow.specs.Lists.{spots_in}
 use Rattle.unit_log.specs.Looks.{IsLogRead}
 use Rattle.selective_merge.proofs.FaultLemmas.{fault_unread}
+use Rattle.unit_log.proofs.OftenLemmas.{often_first}
+use Rattle.selective_merge.specs.Often.{all_of, base_of, log_of}
 use Rattle.selective_merge.specs.Moving.{tables_of}
 use Rattle.selective_merge.specs.Placing.{IsElsewhere, IsMergedSpot, IsPlaced, PlacesLog}
 use Rattle.selective_merge.specs.Spotting.{HasHomeSpot}
@@ -30,7 +32,7 @@ returns-in-Some-clause-room g c =
       steps = makes_none IsPlaced told.places c.args.unit t spot told home;
       fault = λ x told it mirrors. tt;
       spot = inl c.in-Some.ensures.some;
-      finds = finds_there c.args.unit t spot told c.requires.known;
+      finds = finds_there _ c.args.unit t spot told c.requires.known;
     }
 
 pub returns-in_err-learn-clause-room : goal.returns-in_err-learn-clause-room
@@ -43,14 +45,15 @@ returns-in_err-learn-clause-room g c =
     let read = c.in_err-learn.ensures in
     let fault = c.in_err-learn.field-0.0 in
     let e = err_from_is_err_and c.from_residual.result c.from_residual.ensures.1 in
-    rw (e.1 ∙ ap Err e.2) (subst (λ (after : Tables). PlacesLog IsPlaced u t after (Err fault) old new)
+    rw (e.1 ∙ ap Err e.2) (subst (λ (after : Tables). PlacesLog IsPlaced (all_of t u) u t after (Err fault) old new)
     (sym read.same) (record {
       tells = λ soft. told_unread At old.places t old new read.looks.reads;
       steps = makes_unread IsPlaced At old.places u t fault old new read.looks.reads;
       fault = λ x told it mirrors. fault_unread _ fault
           (read.learns x told it t (record { mirrors = mirrors; directory_is = refl; overflow_is = refl }));
       spot = tt;
-      finds = finds_unread u t fault old new c.requires.known read.looks.reads read.looks.cause;
+      finds = finds_unread (all_of t u) u t fault old new c.requires.known read.looks.reads
+          (often_first (log_of t u) (base_of t u) old new read.often) read.looks.cause;
     }))
 
 pub returns-then-carried-le-MERGE_THRESHOLD-clause-room : goal.returns-then-carried-le-MERGE_THRESHOLD-clause-room
@@ -66,15 +69,15 @@ returns-then-carried-le-MERGE_THRESHOLD-clause-room g c =
     let full : ¬ HasHomeSpot t u = λ has. omega (arith, has, c.in_default.ensures.none) in
     let low : count.result ≤ 7 = omega (arith, c.if-carried-le-MERGE_THRESHOLD.true) in
     places_behind IsMergedSpot IsPlaced (IsLogRead (slice_index t.places.current u) (spots_in t.overflow u))
-    u t after old mid new read.looks.reads c.merged_spot.result
+    u t after old mid new read.looks.reads c.merged_spot.result (log_of t u) (base_of t u)
     (all_ok _ c.merged_spot.result (λ spot x y it told mirrors is. placed_few old.places _ y it t after u
     spot.place spot.sector count.result full
     (counted c.learn.new.parts.scratch.home (it.units u) u t.active c.learn.new.parts.scratch.log count.result
     (counted_by t (tables_of c.learn.new.parts) c.learn.new.parts.scratch.log count.result read.same
     count.ensures.count)
     (read.learns x told it t (record { mirrors = mirrors; directory_is = refl; overflow_is = refl })))
-    low is.spot is.merged))
-    (subst (λ (s : Tables). PlacesLog IsMergedSpot u s after c.merged_spot.result mid new) read.same
+    low is.spot is.merged)) read.often
+    (subst (λ (s : Tables). PlacesLog IsMergedSpot (base_of s u) u s after c.merged_spot.result mid new) read.same
     c.merged_spot.ensures)
 
 pub returns-clause-room : goal.returns-clause-room
@@ -90,15 +93,15 @@ returns-clause-room g c =
     let full : ¬ HasHomeSpot t u = λ has. omega (arith, has, c.in_default.ensures.none) in
     let high : 7 < count.result = omega (arith, c.if-carried-le-MERGE_THRESHOLD.false) in
     places_behind IsElsewhere IsPlaced (IsLogRead (slice_index t.places.current u) (spots_in t.overflow u))
-    u t after old mid new read.looks.reads c.elsewhere.result
+    u t after old mid new read.looks.reads c.elsewhere.result (log_of t u) (base_of t u)
     (all_ok _ c.elsewhere.result (λ spot x y it told mirrors is. placed_elsewhere old.places _ y it t after u
     spot.place spot.sector count.result full
     (counted c.learn.new.parts.scratch.home (it.units u) u t.active c.learn.new.parts.scratch.log count.result
     (counted_by t (tables_of c.learn.new.parts) c.learn.new.parts.scratch.log count.result read.same
     count.ensures.count)
     (read.learns x told it t (record { mirrors = mirrors; directory_is = refl; overflow_is = refl })))
-    high is))
-    (subst (λ (s : Tables). PlacesLog IsElsewhere u s after c.elsewhere.result mid new) read.same
+    high is)) read.often
+    (subst (λ (s : Tables). PlacesLog IsElsewhere (base_of s u) u s after c.elsewhere.result mid new) read.same
     c.elsewhere.ensures)
 
 pub returns-in_err-learn-clause-complete : goal.returns-in_err-learn-clause-complete
