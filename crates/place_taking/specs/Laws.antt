@@ -1,21 +1,15 @@
 -- How what calls leave of worn places is told and joined.
-use Rattle.std.specs.Prelude.{ℕ, ◌≡◌, Bool, true, false, slice_index}
-use Rattle.chip_trait.specs.Story.{Story}
+use Rattle.std.specs.Prelude.{◌≡◌, Bool, true, false}
 use Rattle.chip_trait.specs.Told.{Told}
 use Rattle.ipl_meaning.specs.Chart.{Chart}
-use Rattle.ipl_meaning.specs.Tables.{Places, Tables, IsFree}
+use Rattle.ipl_meaning.specs.Tables.{Tables, IsFree}
 use Rattle.unit_io.specs.Charts.{Charts}
-use Rattle.unit_io.specs.Costs.{Spends, is_erased}
+use Rattle.unit_io.specs.Costs.{Spends}
 use Rattle.unit_io.specs.ReadsAt.{Anywhere, ReadsAt}
-use Rattle.place_taking.specs.Counts.{Counted, KeepsCounts}
+use Rattle.place_taking.specs.Counts.{KeepsCounts}
 use Rattle.place_taking.specs.Homes.{KeepsHomes, LeavesPlaces}
 use Rattle.place_taking.specs.Spending.{SparesUsed}
 use Rattle.place_taking.specs.Wear.{TellsOfWear}
-
--- a place that wasn't erased among these events counts as it did
-abbrev pub OthersCountAsBefore : Type 0
-OthersCountAsBefore = (added : Story) (before after : Places) → Counted added before after → (p : ℕ)
-    → is_erased added p ≡ false → slice_index after.erases p ≡ slice_index before.erases p
 
 -- the same places are retired, each unit of which nothing is known stayed so, no count changed, what was free is so
 -- still, and the status has the same place

@@ -6,3 +6,4 @@ pub mod Fills
 pub mod Turns
 pub mod Wear
 pub mod Laws
+pub mod CountLaws

@@ -1,5 +1,4 @@
 use Rattle.unit_io.specs.ReadsAt.{Anywhere}
-use Rattle.place_taking.proofs.CountedLemmas.{others_count_as_before}
 use Rattle.place_taking.proofs.WearLemmas.{failures_wear, nothing_wears, programs_wear_nothing, reads_wear_at, spared_places_wear, wears_are_joined}
 use Rattle.place_taking.proofs.laws.wear_laws.Goals as goal
 
@@ -20,6 +19,3 @@ returns-clause-both c = wears_are_joined
 
 pub returns-clause-failed : goal.returns-clause-failed
 returns-clause-failed c = failures_wear
-
-pub returns-clause-counts : goal.returns-clause-counts
-returns-clause-counts c = others_count_as_before
