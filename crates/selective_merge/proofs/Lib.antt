@@ -31,6 +31,7 @@ mod PlacingLemmas
 mod RoomLemmas
 mod SpendLemmas
 mod OftenLemmas
+mod OnceLemmas
 mod LeavingLemmas
 mod FewLemmas
 mod UnitMergeLemmas

@@ -1,5 +1,5 @@
 -- Laws of merges.
-use Rattle.std.specs.Prelude.{ℕ, ◌≡◌, ◌≤◌, ◌+◌, List, [], length, slice_set, None}
+use Rattle.std.specs.Prelude.{ℕ, ◌≡◌, ◌<◌, ◌≤◌, ◌+◌, List, [], length, slice_set, None}
 use Rattle.ipl_base.specs.declared.limits.TheConstants.{LOG_SECTORS, CARRIED_SECTORS}
 use Rattle.chip_trait.specs.Chart.{with_sector}
 use Rattle.ipl_meaning.specs.Legible.{Legible}
@@ -13,6 +13,8 @@ use Rattle.ipl_meaning.specs.Steps.{KeepsPages, IsMerged}
 use Rattle.ipl_meaning.specs.Tables.{Tables}
 use Rattle.ipl_meaning.specs.TableSteps.{IsReady, with_next, taken, IsMoved, TellsShape}
 use Rattle.ipl_meaning.specs.Values.{counts_for}
+use Rattle.unit_log.specs.Often.{times}
+use Rattle.selective_merge.specs.Often.{all_of}
 use Rattle.selective_merge.specs.Packs.{among, masks_of_packs}
 use Rattle.selective_merge.specs.Merged.{MayMerge, packs_in, merged_shape, merged_layout}
 
@@ -65,3 +67,8 @@ PacksAreTold =
     → after.places.masks ≡ slice_set before.places.masks u (masks_of_packs LOG_SECTORS (packs_in t it))
     → after.overflow.masks ≡ slice_set before.overflow.masks u []
     → TellsShape before after u (merged_shape t it u p head pieces serial)
+
+-- where the tables mirror a chart, all that a merge reads of a unit is listed once: no sector is read twice
+abbrev pub MergesReadOnce : Type 0
+MergesReadOnce = (places : ℕ) (c : Chart) (it : Layout) (t : Tables) (u : ℕ) → Mirrors places c it t
+    → u < it.count → (p s : ℕ) → times (all_of t u) p s ≤ 1

@@ -1,5 +1,6 @@
 use Rattle.selective_merge.proofs.MergedMaskLemmas.{packs_are_told}
 use Rattle.selective_merge.proofs.MergeLemmas.{filled_places_are_ready, stands_after_filling, tables_follow_filling, merges_keep_the_last}
+use Rattle.selective_merge.proofs.OnceLemmas.{merges_read_once}
 use Rattle.selective_merge.proofs.laws.merge_laws.Goals as goal
 
 pub returns-clause-ready : goal.returns-clause-ready
@@ -16,3 +17,6 @@ returns-clause-last c = merges_keep_the_last
 
 pub returns-clause-told : goal.returns-clause-told
 returns-clause-told c = packs_are_told
+
+pub returns-clause-once : goal.returns-clause-once
+returns-clause-once c = merges_read_once
