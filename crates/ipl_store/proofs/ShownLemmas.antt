@@ -1,5 +1,6 @@
 -- What a store's frames tell of a name, after a call that kept each state.
-use Rattle.std.proofs.Common.{◌≡◌, ℕ, Bool, false, List, Option, Some, None, Result, Ok, Err, IsSome, OnOk, refl, sym, ◌∙◌, ap, subst, arith}
+use Rattle.std.proofs.Common.{◌≡◌, ℕ, Bool, false, List, Option, Some, None, Result, Ok, Err, IsSome, is_some, inl, inr, ◌⊎◌, OnOk, refl, sym, ◌∙◌, ap, subst, arith}
+use Rattle.std.proofs.lemmas.Bool.{cases_Bool, false≢true}
 use Rattle.std.specs.FinMap.{get}
 use Rattle.chip_trait.specs.Story.{Contents}
 use Rattle.chip_trait.specs.Told.{Told}
@@ -22,6 +23,7 @@ use Rattle.record_locks.specs.Held.{number_of}
 use Rattle.page_ops.specs.Pending.{seen_by}
 use Rattle.buffer_pool.specs.Uses.{IsUsedLast}
 use Rattle.buffer_pool.proofs.HoldingLemmas.{nothing_keeps, both_keep}
+use Rattle.page_frames.specs.Asks.{AsksForFrame, AsksToBring}
 use Rattle.page_frames.specs.Spending.{ErasesAndLogs}
 use Rattle.page_frames.specs.declared.pages.Pages.{Pages}
 use Rattle.page_frames.specs.Pages.{tables_in, frames_in, IsFramed, KeepsFramedFor}
@@ -171,7 +173,17 @@ pub asks_nothing : (u page : ℕ) (store : Store) (told : Told) → AsksLittle u
 asks_nothing u page store told = record {
   idle = λ framed. refl;
   free = λ room. nothing_spent told;
+  frame = inl refl;
 }
+
+-- a page that was brought in was in a frame, or one was made free for it
+pub brought_frame : (u page : ℕ) (worn_out : Bool) (old new : Pages) (before after : Told)
+    → AsksToBring u page worn_out old new before after → (after ≡ before) ⊎ AsksForFrame old before after
+brought_frame u page worn_out old new before after asks =
+    elim (cases_Bool (is_some (frames_in old u page))) [
+      | inl there ↦ inl (asks.idle there).1
+      | inr none ↦ inr (asks.frame (λ there. false≢true (sym none ∙ there)))
+    ]
 
 -- and so does a write
 pub write_asks_nothing : (n : ℕ) (change : Change) (worn_out : Bool) (pages : Pages) (told : Told)

@@ -21,6 +21,7 @@ use Rattle.store_laws.specs.Advances.{MemoryFits}
 use Rattle.record_locks.specs.Held.{number_of}
 use Rattle.store_laws.specs.Keeps.{View, TellsName}
 use Rattle.store_laws.specs.Refusals.{IsOpenSession}
+use Rattle.page_frames.specs.Asks.{AsksForFrame}
 use Rattle.page_frames.specs.Spending.{ErasesAndLogs}
 use Rattle.page_frames.specs.Pages.{frames_in, IsFramed, KeepsFramed, KeepsFramedFor, HasFreeFrame}
 use Rattle.ipl_store.specs.declared.store.Store.{Store}
@@ -118,10 +119,12 @@ IsUsedLastIn store u page = IsUsedLast store.transactions.pages.pool u page
 
 -- ---- what is asked of the chip for a page
 
--- nothing where it is in a frame, and only reads where a frame is free
+-- nothing where it is in a frame, only reads where a frame is free or the page that leaves one has no records in memory,
+-- and no erase where a log sector is clean for them at home
 pub record AsksLittle (u page : ℕ) (store : Store) (before after : Told) : Type 0 where
   pub idle : IsFramed store.transactions.pages u page → after ≡ before
   pub free : HasFreeFrame store.transactions.pages → Spends (Costs 0 0 0 []) before after
+  pub frame : (after ≡ before) ⊎ AsksForFrame store.transactions.pages before after
 
 -- for that of a name
 abbrev pub AsksFor : ℕ → Store → Told → Told → Type 0

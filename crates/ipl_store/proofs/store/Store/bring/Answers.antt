@@ -8,7 +8,7 @@ use Rattle.ipl_store.specs.Puts.{HasBrought}
 use Rattle.ipl_store.specs.Shown.{FramesName}
 use Rattle.ipl_store.proofs.CallLemmas.{pages_move, moved_calls, kept_holds, kept_for, done_ends, ended_costs, ended_used}
 use Rattle.ipl_store.proofs.BroughtLemmas.{has_brought}
-use Rattle.ipl_store.proofs.ShownLemmas.{names_told}
+use Rattle.ipl_store.proofs.ShownLemmas.{names_told, brought_frame}
 use Rattle.ipl_store.proofs.store.Store.bring.Goals as goal
 
 pub returns-clause-fetches : goal.returns-clause-fetches
@@ -60,6 +60,7 @@ returns-clause-asks g c =
       idle = λ framed. (asks.idle (subst (λ (h : Home). IsFramed pages h.unit h.page)
           (sym c.home-home.ensures.home) framed)).1;
       free = asks.free;
+      frame = brought_frame _ _ _ _ _ _ _ asks;
     }
 
 pub returns-clause-brought : goal.returns-clause-brought

@@ -1,6 +1,7 @@
 use Rattle.std.proofs.Common.{None, refl}
 use Rattle.ipl_store.proofs.CallLemmas.{pages_move, moved_calls, kept_holds, kept_for, ended_costs, ended_framed, ended_used}
 use Rattle.ipl_store.proofs.store.Store.bring_page.Goals as goal
+use Rattle.ipl_store.proofs.ShownLemmas.{brought_frame}
 
 pub returns-clause-calls : goal.returns-clause-calls
 returns-clause-calls g c =
@@ -38,6 +39,7 @@ pub returns-clause-asks : goal.returns-clause-asks
 returns-clause-asks g c = record {
   idle = λ framed. (c.bring-done.ensures.asks.idle framed).1;
   free = c.bring-done.ensures.asks.free;
+  frame = brought_frame _ _ _ _ _ _ _ c.bring-done.ensures.asks;
 }
 
 pub returns-clause-costs : goal.returns-clause-costs

@@ -38,7 +38,7 @@ returns-then-is_framed-clause-framed g c =
 pub returns-then-is_framed-clause-asks : goal.returns-then-is_framed-clause-asks
 returns-then-is_framed-clause-asks g c =
     used_asks c.args.unit c.args.page c.args.self.now c.use_page.new.pool
-    (g.C.Chip.told c.args.chip.now) c.use_page.ensures.uses
+    (g.C.Chip.told c.args.chip.now) (c.is_framed.ensures.0 c.if-is_framed.true) c.use_page.ensures.uses
 
 pub returns-clause-comes : goal.returns-clause-comes
 returns-clause-comes g c =

@@ -15,6 +15,7 @@ use Rattle.page_frames.specs.declared.pages.Pages.{Pages}
 use Rattle.page_frames.specs.Faulty.{FailsAsPage}
 use Rattle.page_frames.specs.Filling.{with_pool}
 use Rattle.page_frames.specs.Pages.{tables_in, KeepsFramed}
+use Rattle.page_frames.proofs.AskLemmas.{none_to_leave, frame_asks}
 use Rattle.page_frames.proofs.BringLemmas.{brings_fresh}
 use Rattle.page_frames.proofs.FetchLemmas.{fetched}
 use Rattle.page_frames.proofs.FramedLemmas.{brings_framed}
@@ -73,12 +74,15 @@ returns-clause-asks g c =
     let mid = g.C.Chip.told c.empty_victim.new.chip in
     let did = c.in_ok-empty_victim.ensures in record {
       free = λ free. subst (λ (t : Told). Spends (Costs 0 0 0 []) t (g.C.Chip.told c.fill.new.chip))
-          (did.asks.idle (free_is_chosen c.choose_victim-victim.result c.args.self.now.pool
-          c.choose_victim-victim.ensures free)).2 c.fill.ensures.costs;
+          (did.asks.idle (none_to_leave c.choose_victim-victim.result c.args.self.now
+          (free_is_chosen c.choose_victim-victim.result c.args.self.now.pool c.choose_victim-victim.ensures free))).2 c.fill.ensures.costs;
       costs = logs_then_reads c.args.self.now.parts.directory c.empty_victim.new.self.parts.directory
           c.fill.new.self.parts.directory (is_worn_out c.fill.result) told mid
           (g.C.Chip.told c.fill.new.chip) (ap (λ (t : Tables). t.places.retired) c.fill.ensures.tables)
           c.fill.ensures.unworn did.asks.costs c.fill.ensures.costs;
+      frame = frame_asks c.choose_victim-victim.result c.empty_victim.result c.args.self.now c.empty_victim.new.self
+          told mid (g.C.Chip.told c.fill.new.chip) c.choose_victim-victim.ensures c.empty_victim.ensures.asks
+          c.fill.ensures.costs;
     }
 
 pub returns-clause-exact : goal.returns-clause-exact
@@ -93,7 +97,8 @@ returns-clause-exact g c =
     (did.absent c.args.unit c.args.page c.requires.absent)
     (λ ready none. c.fill.ensures.fills it.between ready none it.takes) in
     λ free.
-    let same = did.asks.idle (free_is_chosen victim c.args.self.now.pool c.choose_victim-victim.ensures free)
+    let same = did.asks.idle (none_to_leave victim c.args.self.now
+    (free_is_chosen victim c.args.self.now.pool c.choose_victim-victim.ensures free))
     in
     subst (λ (told : Told). FailsAsPage (tables_in c.args.self.now) c.args.unit c.args.page
     c.fill.result told) same.2
@@ -118,7 +123,7 @@ returns-clause-framed g c =
         | inl there ↦ absurd (false≢true (subst IsSome c.requires.absent there))
         | inr free ↦
             let none = free_is_chosen victim c.args.self.now.pool c.choose_victim-victim.ensures free in
-            subst (λ (pages : Pages). KeepsFramed pages c.fill.new.self) (did.asks.idle none).1
+            subst (λ (pages : Pages). KeepsFramed pages c.fill.new.self) (did.asks.idle (none_to_leave victim c.args.self.now none)).1
             (subst (λ (p : PoolView). KeepsFramed (with_pool mid p) c.fill.new.self)
             (given_none victim mid.pool it.between none it.gives) keeps)
       ];
@@ -137,8 +142,8 @@ returns-in_err-empty_victim-clause-works g c =
 
 pub returns-in_err-empty_victim-clause-exact : goal.returns-in_err-empty_victim-clause-exact
 returns-in_err-empty_victim-clause-exact g c = λ free. absurd (false≢true
-    (c.in_err-empty_victim.ensures.asks.idle (free_is_chosen c.choose_victim-victim.result
-    c.args.self.now.pool c.choose_victim-victim.ensures free)).0)
+    (c.in_err-empty_victim.ensures.asks.idle (none_to_leave c.choose_victim-victim.result c.args.self.now
+    (free_is_chosen c.choose_victim-victim.result c.args.self.now.pool c.choose_victim-victim.ensures free))).0)
 
 pub returns-in_err-empty_victim-clause-framed : goal.returns-in_err-empty_victim-clause-framed
 returns-in_err-empty_victim-clause-framed g c =

@@ -55,7 +55,7 @@ returns-then-has_room-clause-framed g c =
 pub returns-then-has_room-clause-asks : goal.returns-then-has_room-clause-asks
 returns-then-has_room-clause-asks g c =
     fitting_asks c.args.unit (record_of c.args.logged.now) c.args.self.now c.use_page.new.pool
-    (g.C.Chip.told c.args.chip.now) c.use_page.ensures.uses
+    (g.C.Chip.told c.args.chip.now) (c.if-not-is_framed.ensures.0 refl) c.use_page.ensures.uses
 
 pub returns-then-has_room-clause-prepares : goal.returns-then-has_room-clause-prepares
 returns-then-has_room-clause-prepares g c =
