@@ -17,6 +17,7 @@ use Rattle.ipl_base.specs.declared.fault.FormatFault.TheVariants as format
 use Rattle.ipl_model.specs.State.{State, at_rest}
 use Rattle.ipl_model.specs.Grammar.{commands_of}
 use Rattle.ipl_format.specs.Sector.{sector_in}
+use Rattle.ipl_meaning.proofs.LaidLemmas.{laid_says_its_units}
 use Rattle.ipl_meaning.specs.Legible.{whole}
 use Rattle.ipl_meaning.specs.Chart.{chart_of}
 use Rattle.ipl_meaning.specs.FirstTables.{first_layout}
@@ -59,16 +60,18 @@ module _ (old new : Told) where
   -- a chip that tells what it holds may be taken as the start of a history
   pub opened_survives : IsConsistent old → (status : ℕ) → AtStatus (RunsOpened old new) status
       → Survives old new
-  opened_survives consistent status (ending, is, runs) x m script told stands left =
+  opened_survives consistent status (ending, is, runs) x units m script told stands left =
       let r = runs (starts_at x) script (steady_start x old consistent told) left m
-      (images_rest old.places (whole m) x stands) in
+      (images_rest old.places (whole m) x stands.stands) in
+      let number = laid_says_its_units (chart_of x) old.places stands.stands.layout stands.stands.laid ∙ stands.count in
       record {
         added = r.added;
         grew = r.history ∙ ap (option_map (adds_all r.added)) (sym (same_history old.history));
         holds = λ unrisen. (r.steady unrisen).holds
             ∙ ap (λ (s : Story). Some (held x s)) (append-nil r.added);
         cut = λ later e y split image.
-            r.each_moment later e split y (cut_by x y e (e ++ []) (append-nil e) image);
+            subst (λ (n : ℕ). StandsAfterAnswered old.places n m script (said e) y) number
+            (r.each_moment later e split y (cut_by x y e (e ++ []) (append-nil e) image));
       }
 
   abbrev first : Story

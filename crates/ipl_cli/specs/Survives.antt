@@ -13,8 +13,7 @@ use Rattle.ipl_model.specs.Run.{answered, map_after}
 use Rattle.ipl_format.specs.Sector.{sector_in}
 use Rattle.ipl_meaning.specs.Legible.{whole}
 use Rattle.ipl_meaning.specs.Chart.{chart_of}
-use Rattle.ipl_meaning.specs.Chosen.{units_at}
-use Rattle.ipl_meaning.specs.Stands.{Stands, StandsIn}
+use Rattle.ipl_meaning.specs.Stands.{StandsIn}
 use Rattle.restart.specs.Events.{format_events}
 use Rattle.store_laws.specs.Keeps.{limits_of}
 
@@ -27,23 +26,23 @@ StandsAfterAnswered places units m script bytes y =
     StandsIn places units (chart_of y) (whole (map_after limits m script r))
     ⊎ StandsIn places units (chart_of y) (whole (map_after limits m script (suc r)))
 
--- A run over a chip that held x, on as many units as that says. There are events by which what is told
+-- A run over a chip that held x, on so many units. There are events by which what is told
 -- of its history grew, and which make of x what it holds at the end, unless a write failed. Wherever
 -- among them the power is cut, within a chip operation too, what that leaves, but by chance, stands for
 -- the records after the commands whose replies were said by then, or after one more.
-pub record SurvivesFrom (m : Map) (script : List ℕ) (x : Contents) (old new : Told) : Type 0 where
+pub record SurvivesFrom (units : ℕ) (m : Map) (script : List ℕ) (x : Contents) (old new : Told) : Type 0 where
   pub added : Story
   pub grew : new.history ≡ option_map (adds_all added) old.history
   pub holds : Unrisen old new → new.contents ≡ Some (held x added)
   pub cut : (later e : Story) (y : Contents) → later ++ e ≡ added
       → IsNoChanceImage (says sector_in) x e y
-      → StandsAfterAnswered old.places (units_at (chart_of x) old.places) m script (said e) y
+      → StandsAfterAnswered old.places units m script (said e) y
 
--- so over every chip that tells what it holds, where that stands for records
+-- so over every chip that tells what it holds, where that stands for records in so many units
 abbrev pub Survives : Told → Told → Type 0
-Survives old new = (x : Contents) (m : Map) (script : List ℕ) → old.contents ≡ Some x
-    → Stands old.places (chart_of x) (whole m) → old.beside.left ≡ Some script
-    → SurvivesFrom m script x old new
+Survives old new = (x : Contents) (units : ℕ) (m : Map) (script : List ℕ) → old.contents ≡ Some x
+    → StandsIn old.places units (chart_of x) (whole m) → old.beside.left ≡ Some script
+    → SurvivesFrom units m script x old new
 
 -- The same over a chip that is formatted first, with no place to spare, from the format's last barrier
 -- on: whatever it held, from no records.
