@@ -18,7 +18,7 @@ use Rattle.command_line.specs.Ends.{fault_status}
 use Rattle.command_line.specs.declared.end.End.TheVariants.{Words, Chip, OutOfMemory, Script, Output, TooLong}
 use Rattle.ipl_cli.specs.Adds.{AddsLawful}
 use Rattle.ipl_cli.specs.Ending.{Ending, IsLeftAlone, but_noted}
-use Rattle.ipl_cli.specs.Checks.{records_line, HoldsAsMany, IsSaid, Counted, Unwell, CheckedCause, CheckLeaves}
+use Rattle.ipl_cli.specs.Checks.{records_line, HoldsAsMany, IsSaid, CountsRecords, Unwell, CheckedCause, CheckLeaves}
 use Rattle.ipl_cli.specs.Top.{IsStray, HoldsRecords, IsCalm, RequestCause, EndCause}
 use Rattle.ipl_cli.proofs.LawfulLemmas.{adds_said, adds_unsaid}
 
@@ -40,8 +40,8 @@ module _ (old mid : Told) (noted : Option (List ℕ)) where
   pub checked_cause : (e : ImageFault) → CheckedCause e old mid → CheckedCause e old (but_noted mid noted)
   checked_cause e c = record { cause = cause_noted e c.cause; unwell = c.unwell }
 
-  counted_noted : {Says : List ℕ → Told → Told → Type 0} → Counted Says old mid
-      → Counted Says old (but_noted mid noted)
+  counted_noted : {Says : List ℕ → Told → Told → Type 0} → CountsRecords Says old mid
+      → CountsRecords Says old (but_noted mid noted)
   counted_noted l = record {
     records = l.records;
     holds = l.holds;
@@ -143,7 +143,7 @@ module _ (old mid new : Told) (records : ℕ) (result : Result (Unit {0}) End) w
   checked_leaves = left_by result
     where
       counted : {Says : List ℕ → Told → Told → Type 0} → HoldsAsMany records old → OnlyReads old mid
-          → Says (records_line records) mid new → Counted Says old new
+          → Says (records_line records) mid new → CountsRecords Says old new
       counted holds reads says = record {
         records = records;
         holds = holds;

@@ -28,7 +28,7 @@ HoldsAsMany records old = OfContents old (λ x. (m : Map) × Stands old.places (
     × (records ≡ records_in (units_at (chart_of x) old.places) m))
 
 -- The chip was read, and so many records were counted; and then this came of saying so.
-pub record Counted (Says : List ℕ → Told → Told → Type 0) (old new : Told) : Type 0 where
+pub record CountsRecords (Says : List ℕ → Told → Told → Type 0) (old new : Told) : Type 0 where
   pub records : ℕ
   pub holds : HoldsAsMany records old
   pub read : Told
@@ -59,10 +59,10 @@ pub record CheckedCause (fault : ImageFault) (old new : Told) : Type 0 where
 
 -- what a check leaves
 abbrev pub CheckLeaves : Ending → Told → Told → Type 0
-CheckLeaves (Ok u) old new = Counted IsSaid old new
+CheckLeaves (Ok u) old new = CountsRecords IsSaid old new
 CheckLeaves (Err Words) old new = ⊥
 CheckLeaves (Err (Chip fault)) old new = Unwell fault old new
 CheckLeaves (Err OutOfMemory) old new = IsLeftAlone old new
 CheckLeaves (Err Script) old new = ⊥
-CheckLeaves (Err Output) old new = Counted FailsToSay old new
+CheckLeaves (Err Output) old new = CountsRecords FailsToSay old new
 CheckLeaves (Err TooLong) old new = ⊥

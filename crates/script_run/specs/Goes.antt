@@ -213,8 +213,8 @@ module _ {S : Type 0} (k : Keeping S) where
     pub leaves : RunLeaves k limits state commands before h R then old new (Err s)
 
   -- the next bytes of the source were taken, or it stopped in them
-  abbrev pub TakesNext : S → List ℕ → Told → Result ℕ Stop → S → List ℕ → Told → Type 0
-  TakesNext before line old result then later new = (limits : Limits) (state : State) (h : History)
+  abbrev pub TakesPiece : S → List ℕ → Told → Result ℕ Stop → S → List ℕ → Told → Type 0
+  TakesPiece before line old result then later new = (limits : Limits) (state : State) (h : History)
       → k.holds limits before old h state → (source : List ℕ) → old.beside.left ≡ Some source →
       MatchResult result
       (λ n. Took limits state line source before h n then later old new)

@@ -4,7 +4,7 @@ ghost use Rattle.std.specs.List.{position};
 ghost use Rattle.ipl_model.specs.Grammar.{is_line_feed};
 ghost use Rattle.store_trait.specs.Onward.{Further};
 ghost use Rattle.store_trait.specs.Keeping.{Draws, LeavesTidy, COMMAND_DRAWS, SCRIPT_DRAWS};
-ghost use Rattle.script_run.specs.Goes.{FitsDesk, Along, LearnsAlong, CompletesOver, DrawsPiece, ReadsPiece, EndsScript, TakesAlong, TakesNext, RunsScript};
+ghost use Rattle.script_run.specs.Goes.{FitsDesk, Along, LearnsAlong, CompletesOver, DrawsPiece, ReadsPiece, EndsScript, TakesAlong, TakesPiece, RunsScript};
 
 use crate::Stop;
 use crate::answer::answer_line;
@@ -74,7 +74,7 @@ fn take_next<S: Store, D: Desk>(
     ghost places: { ℕ }
     requires some { 0 < length piece.old }
     requires suits { FitsDesk (S.keeping places) places store.old (D.told desk.old) }
-    ensures takes { TakesNext (S.keeping places) store.old line.old (D.told desk.old) result store.new line.new
+    ensures takes { TakesPiece (S.keeping places) store.old line.old (D.told desk.old) result store.new line.new
         (D.told desk.new) }
     ensures along { Along (S.keeping places) Further (COMMAND_DRAWS * length piece.old) store.old
         (D.told desk.old) result store.new (D.told desk.new) }
