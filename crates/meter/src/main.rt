@@ -27,13 +27,20 @@ fn main(rt: HostRuntime) -> Result<()> {
     report(&rt, &mut chip)
 }
 
-/// Opens the chip, and takes lines until the input ends.
+/// Opens the chip, and takes lines until the input ends; at a line `shutdown` the store is closed in order, and opened again.
 fn keep<C: Chip>(rt: &HostRuntime, chip: &mut C) -> Result<()> {
     let mut meters = Meters::open(rt.alloc(), chip)?;
     let mut number = 0u64;
     for line in rt.lines(rt.alloc()) {
         number = number.saturating_add(1);
-        let taken = take(&mut meters, chip, line?.as_str());
+        let line = line?;
+        if line.as_str() == "shutdown" {
+            meters.close(chip)?;
+            println!(rt; "line {number}: shut down")?;
+            meters = Meters::open(rt.alloc(), chip)?;
+            continue;
+        }
+        let taken = take(&mut meters, chip, line.as_str());
         tell(rt, number, taken)?;
     }
     Ok(())

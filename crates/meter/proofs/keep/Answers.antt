@@ -8,3 +8,6 @@ loop-line-preserved g c = record { sound = c.take-taken.ensures }
 
 pub take-taken-requires : goal.take-taken-requires
 take-taken-requires g c = c.loop-line.invariant.sound
+
+pub close-requires : goal.close-requires
+close-requires g c = c.loop-line.invariant.sound
