@@ -102,13 +102,13 @@ module _ (places : ℕ) (from : Source) (p g serial u : ℕ) (payloads : List Ve
   bare : now h p 0 ≡ None
   bare = clean_bare h p 0 (clean 0)
 
-  pub pages_failed : (e f : ChipFault) (late : Told) → MovesPages places from p g old (Err e) late
+  pub pages_failed : (e f : ChipFault) (late : Told) → f ≡ e → MovesPages places from p g old (Err e) late
       → KeepsThroughout {T = List ℕ} places m (Programs p (IsFilledSpot (length payloads)))
       (λ pieces. GainsUnit from p g serial pieces payloads) (IsAside p) h (Err f) old late
-  pages_failed e f late says =
+  pages_failed e f late same says =
       keeps_failed places m h (Programs p (IsBaseSpotBelow 15))
       (Programs p (IsFilledSpot (length payloads))) (λ pieces. HasMoved from p g pieces 15)
-      (λ pieces. GainsUnit from p g serial pieces payloads) (IsAside p) (IsAside p) old late e f
+      (λ pieces. GainsUnit from p g serial pieces payloads) (IsAside p) (IsAside p) old late e f same
       (says m h steady rests bare (λ s spot. clean s)) (programs_pages p (length payloads))
       (λ c d is. is)
 
@@ -146,16 +146,16 @@ module _ (places : ℕ) (from : Source) (p g serial u : ℕ) (payloads : List Ve
             gains_unit from p g serial u pieces payloads c d e unit_is moved logs
         each (Err e) = tt
 
-    pub logs_failed : (e f : ChipFault) (new : Told)
+    pub logs_failed : (e f : ChipFault) (new : Told) → f ≡ e
         → WritesLogs places p u g serial payloads late (Err e) new → IsStopped e late new
         → KeepsThroughout {T = List ℕ} places m (Programs p (IsFilledSpot (length payloads)))
         (λ pieces. GainsUnit from p g serial pieces payloads) (IsAside p) h (Err f) old new
-    logs_failed e f new writes stopped =
+    logs_failed e f new same writes stopped =
         keeps_failed places m h (Programs p (IsFilledSpot (length payloads)))
         (Programs p (IsFilledSpot (length payloads)))
         (λ (done : Unit {0}). GainsUnit from p g serial pieces payloads)
         (λ pieces. GainsUnit from p g serial pieces payloads) (IsAside p) (IsAside p) old new
-        e f (logged new (Err e) writes stopped) (λ a is. is) (λ c d is. is)
+        e f same (logged new (Err e) writes stopped) (λ a is. is) (λ c d is. is)
 
 -- ---- what is told of the contents
 

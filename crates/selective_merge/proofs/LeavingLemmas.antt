@@ -15,7 +15,6 @@ use Rattle.unit_io.proofs.UnreadLemmas.{unread_none}
 use Rattle.unit_log.specs.Often.{ReadsListed}
 use Rattle.unit_log.proofs.OftenLemmas.{often_then, often_unread}
 use Rattle.unit_log.specs.Looks.{IsLogRead}
-use Rattle.unit_io.proofs.TablesLemmas.{tables_none, tables_read}
 use Rattle.selective_merge.specs.Known.{KnowsPlaces}
 use Rattle.place_taking.specs.Spending.{ErasesFree, is_worn_out, tells_worn}
 use Rattle.place_taking.specs.Takes.{IsNotTaken}
@@ -26,7 +25,7 @@ use Rattle.selective_merge.specs.Moving.{Holds}
 use Rattle.selective_merge.proofs.CompleteLemmas.{spared_behind}
 use Rattle.selective_merge.proofs.SpendLemmas.{erases_for_behind, erases_free_behind, for_read, frees_for, frees_none, frees_read, read_not_worn}
 use Rattle.selective_merge.proofs.TakenLemmas.{opened_cause}
-use Rattle.selective_merge.proofs.TidyLemmas.{tidies_behind}
+use Rattle.selective_merge.proofs.TidyLemmas.{tidies_behind, tidies_none, tidies_read}
 
 -- the cause of a merge of the unit by these tables, which are those then
 abbrev MergesNot : ℕ → Tables → Tables → ChipFault → Told → Told → Type 0
@@ -79,7 +78,7 @@ leaves_unread {T} u t fault old new known reads cause = record {
   holds = held_same old.places t known;
   draws = (omega arith, omega arith);
   spares = tt;
-  tidy = tables_read {T = T} {E = ChipFault} (InLog u t) t (Err fault) old new reads;
+  tidy = tidies_read (InLog u t) t old new reads;
   accounts = record { counts = reads.counts; cause = unread_cause u t fault old new cause };
 }
 
@@ -114,7 +113,7 @@ finds_there listed u t spot told known = record {
     holds = held_same told.places t known;
     draws = (omega arith, omega arith);
     spares = λ x is. (x, is, λ q s used. refl);
-    tidy = tables_none {T = Spot} {E = ChipFault} t (Ok spot) told;
+    tidy = tidies_none t told;
     accounts = record { counts = counts_none told; cause = tt };
   };
   costs = frees_none t.places told;
@@ -130,7 +129,7 @@ leaves_behind At n u t after result old mid new reads leaves = record {
   holds = subst (λ (q : ℕ). Holds q t after) reads.counts.places leaves.holds;
   draws = leaves.draws;
   spares = spared_behind t.places old mid new result reads.contents leaves.spares;
-  tidy = tidies_behind At t after result old mid new reads leaves.tidy;
+  tidy = tidies_behind At t after old mid new reads leaves.tidy;
   accounts = record {
     counts = counts_then old mid new reads.counts leaves.accounts.counts;
     cause = cause_behind after.places (slice_index t.places.current u) (spots_in t.overflow u) result old mid new

@@ -13,6 +13,7 @@ mod RecordTestLemmas
 mod LogLemmas
 mod KeptLemmas
 mod PageLemmas
+pub mod UnbrokenLemmas
 mod ThroughoutLemmas
 mod ReadLemmas
 mod MoveLemmas

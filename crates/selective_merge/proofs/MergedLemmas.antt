@@ -256,7 +256,7 @@ module _ (places : ℕ) (m : Legible) (it : Layout) (t : Tables) (worn : List �
   pub merged_steps : (after : Tables) → u < it.count → n ≡ length (packs_in t (it.units u))
       → IsMoved (with_next (taken between p) g) after u p n
       → TellsPacks between after u g (packs_in t (it.units u)) → serial + n ≤ after.next
-      → KeepsThroughout {T = Unit {0}} {E = ChipFault} places m (WritesFree t.places p (241 + n))
+      → KeepsThroughout {T = Unit {0}} places m (WritesFree t.places p (241 + n))
       (λ done c y. IsWritten places c y it between u p g serial) (IsUnsealed p) h (Ok tt) old new
       → StepsMerging {T = Unit {0}} places m it t u after h (Ok tt) old new
   merged_steps after low used moved tells more did = record {
@@ -292,13 +292,13 @@ module _ (places : ℕ) (m : Legible) (it : Layout) (t : Tables) (worn : List �
           ]
 
   -- it wasn't: the place was given back
-  pub merge_failed : (after : Tables) (erases : List ℕ) (next : ℕ) (e f : ChipFault)
+  pub merge_failed : (after : Tables) (erases : List ℕ) (next : ℕ) (e : ChipFault)
       → after ≡ recounted between erases next → length erases ≡ length between.places.erases
       → t.next ≤ next
       → KeepsThroughout {T = Unit {0}} places m (WritesFree t.places p (241 + n))
       (λ done c y. IsWritten places c y it between u p g serial) (IsUnsealed p) h (Err e) old new
-      → StepsMerging {T = Unit {0}} places m it t u after h (Err f) old new
-  merge_failed after erases next e f is sized more did = record {
+      → StepsMerging {T = Unit {0}} places m it t u after h (Err e) old new
+  merge_failed after erases next e is sized more did = record {
     added = did.added;
     places = did.places;
     history = did.history;
@@ -307,11 +307,11 @@ module _ (places : ℕ) (m : Legible) (it : Layout) (t : Tables) (worn : List �
     does = record {
       silent = did.does.spares.silent;
       lawful = record { lawful = λ base is clean. did.does.spares.lawful base is };
-      clean = λ unrisen. clean;
+      clean = λ unbroken. clean;
     };
     steady = did.steady;
-    ends = λ unrisen.
-        let ends = did.ends unrisen in record {
+    ends = λ unbroken.
+        let ends = did.ends unbroken in record {
           rests = ends.0;
           agrees = record {
             mirrors = (stays_mirrored places (now h) (now (adds_all did.added h)) it between after erases

@@ -322,10 +322,10 @@ open_failed p units erases g m it t then after h old mid new free steady here ta
       does = record {
         silent = did.does.spares.silent;
         lawful = record { lawful = λ base lawful clean. did.does.spares.lawful base lawful };
-        clean = λ unrisen. absurd (did.ends unrisen).1;
+        clean = λ unrisen. absurd (did.ends (inl unrisen)).1;
       };
-      steady = did.steady;
-      ends = λ unrisen. absurd (did.ends unrisen).1;
+      steady = λ unrisen. did.steady (inl unrisen);
+      ends = λ unrisen. absurd (did.ends (inl unrisen)).1;
     }
 
 -- what the chip tells once the place was taken and opened

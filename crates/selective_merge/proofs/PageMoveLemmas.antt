@@ -163,13 +163,13 @@ module _ (places : ℕ) (from : Source) (p g : ℕ) (m : Legible) (h : History) 
         next_page (λ n. HasMoved from p g (slice_set pieces k n) (k + 1)) new (Ok n) says
         (λ c d e moved page. moved_more from p g pieces k n c d e apart room few small moved page)
 
-    pub page_failed : {U : Type 0} (F : U → Chart → Chart → Type 0) (e f : ChipFault) (new : Told)
+    pub page_failed : {U : Type 0} (F : U → Chart → Chart → Type 0) (e f : ChipFault) (new : Told) → f ≡ e
         → MovesOnePage places from p g k mid (Err e) new
         → KeepsThroughout {T = U} places m (Programs p (IsBaseSpotBelow 15)) F (IsAside p)
         h (Err f) old new
-    page_failed F e f new says =
+    page_failed F e f new same says =
         keeps_failed places m h (Programs p (IsBaseSpotBelow (k + 1)))
         (Programs p (IsBaseSpotBelow 15)) (λ (n : ℕ) c y. Unit {0}) F (IsAside p) (IsAside p)
-        old new e f (next_page (λ n c y. Unit {0}) new (Err e) says tt)
+        old new e f same (next_page (λ n c y. Unit {0}) new (Err e) says tt)
         (λ a did. programs_wider p (IsBaseSpotBelow (k + 1)) (IsBaseSpotBelow 15) false false a
         (λ s is. (is.0, omega (arith, is.1, low))) did) (λ c d is. is)

@@ -13,10 +13,9 @@ use Rattle.unit_io.specs.ReadsAt.{ReadsAt}
 use Rattle.unit_io.specs.Spots.{Programs}
 use Rattle.unit_io.proofs.ReadsAtLemmas.{at_rests, at_now}
 use Rattle.unit_io.proofs.SpotLemmas.{programs_then}
-use Rattle.unit_io.specs.Steps.{Settled}
 use Rattle.unit_io.proofs.StepLemmas.{outcome_reads}
 use Rattle.unit_io.proofs.StepTidyLemmas.{tidy_reads}
-use Rattle.selective_merge.specs.Throughout.{RestsBy, KeepsThroughout}
+use Rattle.selective_merge.specs.Throughout.{Unbroken, RestsBy, KeepsThroughout}
 use Rattle.selective_merge.proofs.ThroughoutLemmas.{SoFar}
 
 -- reads program nothing
@@ -63,7 +62,7 @@ module _ (At : ℕ → ℕ → Type 0) (places : ℕ) (m : Legible) (h : History
       → Does false did.added → ((c : Chart) → G c c)
       → KeepsThroughout {T = T} places m Does F G h (Err e) old new
   keeps_unread Does F G e does same =
-      outcome_reads At places m (Does false) (Settled {T = Unit {0}} (Err e) old new)
+      outcome_reads At places m (Does false) (Unbroken {T = Unit {0}} (Err e) old new)
       (RestsBy places m G h) h old new steady rests did does (
         at_rests At places m h did.added did.each rests,
         subst (G (now h)) (sym (at_now At h did.added did.each)) (same (now h)),

@@ -13,7 +13,7 @@ use Rattle.ipl_meaning.specs.Tables.{Tables, IsCountedClean}
 use Rattle.unit_io.specs.Costs.{Spends}
 use Rattle.unit_io.specs.ReadsAt.{ReadsAt}
 use Rattle.unit_log.specs.Often.{ReadsListed}
-use Rattle.unit_io.specs.Steps.{TidyWork, Steps, RestsAgreeing}
+use Rattle.unit_io.specs.Steps.{Settled, TidyWork, Steps, RestsAgreeing}
 use Rattle.unit_io.proofs.StepLemmas.{outcome_none, outcome_weaker}
 use Rattle.unit_io.proofs.StepTidyLemmas.{tidy_none}
 use Rattle.selective_merge.specs.Merging.{MergesUnit, StaysMirrored, RestsMerged}
@@ -22,6 +22,8 @@ use Rattle.selective_merge.specs.Spotting.{IsHomeSpot}
 use Rattle.selective_merge.specs.Throughout.{ChartsThroughout}
 use Rattle.selective_merge.proofs.CompleteLemmas.{fails_behind}
 use Rattle.selective_merge.proofs.LeavingLemmas.{finds_behind, finds_merged, finds_unmerged}
+use Rattle.selective_merge.proofs.ThroughoutLemmas.{settled_later}
+use Rattle.selective_merge.proofs.UnbrokenLemmas.{steps_settled}
 use Rattle.selective_merge.proofs.WholeLemmas.{steps_behind, read_failed}
 
 -- what room there is, by the charts before and after, the tables before and after, and the spot
@@ -92,7 +94,9 @@ merged_room listed u t after spot old new home merges = record {
         rests = done.rests;
         room = record { merged = done.unit; spot = home };
         tidy = done.tidy;
-      }) (merges.steps m it h steady rests agrees);
+      }) (steps_settled (EachStands old.places m) t after
+      (λ (v : Unit {0}) k. RestsMerged old.places m (now h) it t u after k)
+      (λ k. RestsAgreeing old.places m it after k) h (Ok tt) old new (merges.steps m it h steady rests agrees));
   fault = λ x told it mirrors. tt;
   spot = inl home;
   finds = finds_merged listed u t after tt spot old new merges.moves;
@@ -104,7 +108,11 @@ pub unmerged_room : (listed : List (ℕ × ℕ)) (u : ℕ) (t after : Tables) (f
     → PlacesLog IsMergedSpot listed u t after (Err fault) old new
 unmerged_room listed u t after fault old new merges = record {
   tells = merges.tells;
-  steps = λ m it h steady rests agrees. merges.steps m it h steady rests agrees;
+  steps = λ m it h steady rests agrees.
+      steps_settled (EachStands old.places m) t after
+      (λ (v : Unit {0}) k. RestsMerged old.places m (now h) it t u after k)
+      (λ k. RestsAgreeing old.places m it after k) h (Err fault) old new
+      (merges.steps m it h steady rests agrees);
   fault = λ x told it mirrors. merges.fault x told it mirrors;
   spot = tt;
   finds = finds_unmerged listed u t after fault old new merges.moves;
@@ -155,9 +163,12 @@ pub makes_unread : (Is : RoomOf) (At : ℕ → ℕ → Type 0) (places u : ℕ) 
     (e : ChipFault) (old new : Told) → ReadsAt At old new
     → MakesRoomInSteps Is places u t t old (Err e) new
 makes_unread Is At places u t e old new did m it h steady rests agrees =
-    read_failed {T = Spot} At places m it t
+    steps_settled {T = Spot} (EachStands places m) t t
+    (λ spot k. RestsWithRoom Is places m (now h) it t u t spot k)
+    (λ k. RestsAgreeing places m it t k) h (Err e) old new
+    (read_failed {T = Spot} At places m it t
     (λ spot k. RestsWithRoom Is places m (now h) it t u t spot k) h e old new steady rests agrees
-    did
+    did)
 
 module _ (One Two : RoomOf) (At : ℕ → ℕ → Type 0) (u : ℕ) (t after : Tables) (old mid new : Told)
     (did : ReadsAt At old mid) where
@@ -182,15 +193,16 @@ module _ (One Two : RoomOf) (At : ℕ → ℕ → Type 0) (u : ℕ) (t after : T
             steady.holds agrees.mirrors done.room;
         tidy = done.tidy;
       })
-      (steps_behind At old.places m it t after
+      (steps_behind At old.places m it t after (Unit {0}) (Unit {0})
       (λ c spot k. RestsWithRoom One old.places m c it t u after spot k)
       (λ k. RestsAgreeing old.places m it after k) h old mid new (Ok spot) steady rests agrees did
-      (λ k steady_k rests_k agrees_k. says m it k steady_k rests_k agrees_k))
+      (λ is. is) (λ k steady_k rests_k agrees_k. says m it k steady_k rests_k agrees_k))
   placed_behind (Err e) gives says m it h steady rests agrees =
-      steps_behind At old.places m it t after
+      steps_behind At old.places m it t after (Settled {T = Spot} (Err e) mid new)
+      (Settled {T = Spot} (Err e) old new)
       (λ c spot k. RestsWithRoom One old.places m c it t u after spot k)
       (λ k. RestsAgreeing old.places m it after k) h old mid new (Err e) steady rests agrees did
-      (λ k steady_k rests_k agrees_k. says m it k steady_k rests_k agrees_k)
+      (settled_later {T = Spot} (Err e) old mid new did.counts) (λ k steady_k rests_k agrees_k. says m it k steady_k rests_k agrees_k)
 
   pub placed_told : (result : Result Spot ChipFault) → IfOk result Gives
       → ChartsThroughout (MakesRoom One old.places u t after) (StaysMirrored old.places t after)

@@ -208,7 +208,7 @@ module _ (places units erases p g serial carried : ℕ) (from : Source) (payload
       (result : Result (Unit {0}) ChipFault) → HasCounts (taken t p) p units erases
       → IsToMerge places (now h) it t u p g serial from payloads → StoryRests places m h
       → IsCleanPlace p h → Counts old mid
-      → KeepsThroughout {T = List ℕ} {E = ChipFault} places m
+      → KeepsThroughout {T = List ℕ} places m
       (Programs p (IsFilledSpot (length payloads)))
       (λ pieces. GainsUnit from p g serial pieces payloads) (IsAside p) h (Ok pieces) old mid
       → SealsUnit places p units erases from.unit g pieces carried mid result new
@@ -282,13 +282,13 @@ module _ (places units erases p g serial carried : ℕ) (from : Source) (payload
 -- the place wasn't filled
 pub fill_failed : (places p g serial : ℕ) (from : Source) (payloads : List Versioned) (m : Legible)
     (it : Layout) (t : Tables) (u : ℕ) (h : History) (old new : Told) (e f : ChipFault)
-    → KeepsThroughout {T = List ℕ} places m (Programs p (IsFilledSpot (length payloads)))
+    → f ≡ e → KeepsThroughout {T = List ℕ} places m (Programs p (IsFilledSpot (length payloads)))
     (λ pieces. GainsUnit from p g serial pieces payloads) (IsAside p) h (Err e) old new
     → KeepsThroughout {T = Unit {0}} places m (Programs p (IsUnitSpot (length payloads)))
     (λ done c y. IsWritten places c y it t u p g serial) (IsAside p) h (Err f) old new
-fill_failed places p g serial from payloads m it t u h old new e f did =
+fill_failed places p g serial from payloads m it t u h old new e f same did =
     keeps_failed places m h (Programs p (IsFilledSpot (length payloads)))
     (Programs p (IsUnitSpot (length payloads)))
     (λ pieces. GainsUnit from p g serial pieces payloads)
     (λ (done : Unit {0}) c y. IsWritten places c y it t u p g serial) (IsAside p) (IsAside p)
-    old new e f did (programs_unsealed p (length payloads)) (λ c d is. is)
+    old new e f same did (programs_unsealed p (length payloads)) (λ c d is. is)

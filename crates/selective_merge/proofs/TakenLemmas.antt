@@ -21,6 +21,7 @@ use Rattle.unit_io.specs.Leads.{IsSteady}
 use Rattle.unit_io.specs.Spots.{Programs}
 use Rattle.unit_io.specs.Steps.{Settled, TidyWork, Steps, RestsAgreeing}
 use Rattle.unit_io.proofs.StepLemmas.{outcome_weaker}
+use Rattle.unit_io.proofs.StepTidyLemmas.{tidy_weaker}
 use Rattle.place_taking.specs.Spending.{WritesFree}
 use Rattle.place_taking.specs.Takes.{ClearsNext, IsAsideFrom, IsNotTaken, RestsTaken, TakesPlace, with_places}
 use Rattle.place_taking.proofs.JoinLemmas.{untaken, writes_taken}
@@ -31,9 +32,10 @@ use Rattle.selective_merge.proofs.FaultLemmas.{fault_not_taken}
 use Rattle.selective_merge.specs.Homes.{MoveCause, MergeCause}
 use Rattle.selective_merge.specs.Merging.{StaysMirrored}
 use Rattle.selective_merge.specs.Moving.{set_aside}
-use Rattle.selective_merge.specs.Throughout.{KeepsThroughout, ChartsThroughout}
+use Rattle.selective_merge.specs.Throughout.{Unbroken, KeepsThroughout, ChartsThroughout, StepsThroughout}
 use Rattle.selective_merge.specs.Writing.{IsUnitSpot, WritesUnit, TellsWritten}
 use Rattle.selective_merge.proofs.FillLemmas.{unsealed}
+use Rattle.selective_merge.proofs.UnbrokenLemmas.{unbroken_settled, untaken_failed}
 use Rattle.selective_merge.proofs.ThroughoutLemmas.{SoFar, so_far_and, keeps_then, told_then}
 
 -- ---- the tables
@@ -169,6 +171,25 @@ steps_not {T} Then d m it t after next h e f old new aside is more steady rests 
       };
     }) (untaken T ChipFault t.places d m it t h e f old new steady refl
     (record { rests = rests; agrees = agrees }) aside takes))
+
+-- also where the place was asked for by a merge
+pub steps_not_throughout : {T : Type 0} (Then : T → History → Type 0) (d : Places) (m : Legible) (it : Layout)
+    (t after : Tables) (next : ℕ) (h : History) (e : ChipFault) (old new : Told)
+    → IsAsideFrom t.places d → after ≡ untaken_tables t d next → t.next ≤ next → IsSteady h old
+    → StoryRests old.places m h → Agrees old.places h it t → TakesPlace t.places old (Err e) d new
+    → IsNotTaken d e old new
+    → StepsThroughout (EachStands old.places m) t after Then (λ k. RestsAgreeing old.places m it after k) h
+    (Err e) old new
+steps_not_throughout {T} Then d m it t after next h e old new aside is more steady rests agrees takes cause =
+    let less = unbroken_settled e old new (untaken_failed d e old new cause) in
+    outcome_weaker (EachStands old.places m) (EachStands old.places m)
+    (TidyWork (IsCountedClean t) (IsCountedClean after) (Settled {T = T} (Err e) old new))
+    (TidyWork (IsCountedClean t) (IsCountedClean after) (Unbroken {T = T} (Err e) old new))
+    (Settled {T = T} (Err e) old new) (Unbroken {T = T} (Err e) old new)
+    (RestsAgreeing old.places m it after) (RestsAgreeing old.places m it after) h old new (λ k is. is)
+    (λ a. tidy_weaker (IsCountedClean t) (IsCountedClean after) (Settled {T = T} (Err e) old new)
+    (Unbroken {T = T} (Err e) old new) a less) less (λ settled k is. is)
+    (steps_not {T = T} Then d m it t after next h e e old new aside is more steady rests agrees takes)
 
 pub told_not : (places : ℕ) (t after : Tables) (d : Places) (next : ℕ) (old new : Told)
     → IsAsideFrom t.places d → after ≡ untaken_tables t d next → t.next ≤ next

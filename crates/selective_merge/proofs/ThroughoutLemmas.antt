@@ -16,7 +16,8 @@ use Rattle.unit_io.specs.ReadsAt.{IsReadAt, ReadsAt}
 use Rattle.unit_io.proofs.ReadsLemmas.{page_reads_of}
 use Rattle.unit_io.specs.Steps.{Settled, EndsWith, Outcome}
 use Rattle.unit_io.proofs.StepLemmas.{outcome_none, outcome_then, outcome_weaker, outcome_written}
-use Rattle.selective_merge.specs.Throughout.{RestsBy, KeepsThroughout, ChartsThroughout}
+use Rattle.selective_merge.specs.Throughout.{Unbroken, RestsBy, KeepsThroughout, ChartsThroughout}
+use Rattle.selective_merge.proofs.UnbrokenLemmas.{stopped_breaks, unbroken_later, unbroken_same}
 
 -- ---- ends
 
@@ -61,8 +62,18 @@ module _ (places : ℕ) (m : Legible) (h : History) where
       → KeepsMap places m Does F h old result new → IfErr result (λ fault. IsStopped fault old new)
       → KeepsThroughout places m Does F G h result old new
   keeps_written {T} Does F G old new result did stopped =
-      outcome_written T (EachStands places m) Does (RestsWith places m F h) (RestsBy places m G h)
-      h old new result did stopped
+      outcome_weaker (EachStands places m) (EachStands places m) (Does (is_ok result)) (Does (is_ok result))
+      (Settled result old new) (Unbroken result old new)
+      (EndsWith result (RestsWith places m F h) (RestsBy places m G h))
+      (EndsWith result (RestsWith places m F h) (RestsBy places m G h)) h old new (λ k is. is) (λ a is. is)
+      (settled result stopped) (λ unbroken k is. is)
+      (outcome_written T (EachStands places m) Does (RestsWith places m F h) (RestsBy places m G h)
+      h old new result did stopped)
+    where
+      settled : (r : Result T ChipFault) → IfErr r (λ fault. IsStopped fault old new)
+          → Unbroken r old new → Settled r old new
+      settled (Ok v) stopped unbroken = tt
+      settled (Err e) stopped unbroken = absurd (stopped_breaks e old new stopped unbroken)
 
   -- a call behind others
   pub keeps_then : {T : Type 0} (DoesFirst : Story → Type 0) (DoesNext DoesAll : Bool → Story → Type 0)
@@ -78,15 +89,15 @@ module _ (places : ℕ) (m : Legible) (h : History) where
       old mid new result first counts second both done left =
       let k = adds_all first.added h in
       let ended = outcome_then (EachStands places m) DoesFirst (DoesNext (is_ok result)) (DoesAll (is_ok result))
-      (Unit {0}) (Settled result mid new) (λ k. StoryRests places m k × ChartsFirst (now h) (now k))
+      (Unit {0}) (Unbroken result mid new) (λ k. StoryRests places m k × ChartsFirst (now h) (now k))
       (EndsWith result (RestsWith places m ChartsNext k) (RestsBy places m LeavesNext k)) h old mid new first tt second
       both in
       outcome_weaker (EachStands places m) (EachStands places m) (DoesAll (is_ok result))
-      (DoesAll (is_ok result)) (Settled result mid new) (Settled result old new)
+      (DoesAll (is_ok result)) (Unbroken result mid new) (Unbroken result old new)
       (EndsWith result (RestsWith places m ChartsNext k) (RestsBy places m LeavesNext k))
       (EndsWith result (RestsWith places m ChartsAll h) (RestsBy places m LeavesAll h)) h old new
-      (λ j is. is) (λ a is. is) (settled_later result old mid new counts)
-      (λ settled j. at_end (λ v. RestsWith places m ChartsNext k v j) (λ v. RestsWith places m ChartsAll h v j)
+      (λ j is. is) (λ a is. is) (unbroken_later result old mid new counts)
+      (λ unbroken j. at_end (λ v. RestsWith places m ChartsNext k v j) (λ v. RestsWith places m ChartsAll h v j)
       (RestsBy places m LeavesNext k j) (RestsBy places m LeavesAll h j) result (each_done result done k j (first.ends tt).1)
       (λ is. (is.0, left (now h) (now k) (now j) (first.ends tt).1 is.1))) ended
     where
@@ -100,15 +111,16 @@ module _ (places : ℕ) (m : Legible) (h : History) where
   -- a call that failed, where nothing else is done then
   pub keeps_failed : {T U : Type 0} (DoesFirst DoesNext : Bool → Story → Type 0)
       (ChartsFirst : T → Chart → Chart → Type 0) (ChartsNext : U → Chart → Chart → Type 0)
-      (LeavesFirst LeavesNext : Chart → Chart → Type 0) (old new : Told) (e f : ChipFault)
+      (LeavesFirst LeavesNext : Chart → Chart → Type 0) (old new : Told) (e f : ChipFault) → f ≡ e
       → KeepsThroughout {T = T} places m DoesFirst ChartsFirst LeavesFirst h (Err e) old new
       → ((a : Story) → DoesFirst false a → DoesNext false a) → ((c d : Chart) → LeavesFirst c d → LeavesNext c d)
       → KeepsThroughout {T = U} places m DoesNext ChartsNext LeavesNext h (Err f) old new
-  keeps_failed DoesFirst DoesNext ChartsFirst ChartsNext LeavesFirst LeavesNext old new e f did less left =
+  keeps_failed DoesFirst DoesNext ChartsFirst ChartsNext LeavesFirst LeavesNext old new e f same did less left =
       outcome_weaker (EachStands places m) (EachStands places m) (DoesFirst false) (DoesNext false)
-      (Settled {T = Unit {0}} (Err e) old new) (Settled {T = Unit {0}} (Err f) old new)
-      (RestsBy places m LeavesFirst h) (RestsBy places m LeavesNext h) h old new (λ k is. is) less (λ is. is)
-      (λ settled k is. (is.0, left (now h) (now k) is.1)) did
+      (Unbroken {T = Unit {0}} (Err e) old new) (Unbroken {T = Unit {0}} (Err f) old new)
+      (RestsBy places m LeavesFirst h) (RestsBy places m LeavesNext h) h old new (λ k is. is) less
+      (unbroken_same e f old new same)
+      (λ unbroken k is. (is.0, left (now h) (now k) is.1)) did
 
 -- ---- charts, one after another
 

@@ -1,5 +1,5 @@
 -- What the calls program and erase by the tables alone, one after another, whatever the chip tells.
-use Rattle.std.proofs.Common.{◌≡◌, ◌⊎◌, ◌<◌, ◌≤◌, ◌+◌, ℕ, Bool, true, false, List, length, Result, Ok, Err, inl, inr, refl, ◌∙◌, ap, arith}
+use Rattle.std.proofs.Common.{◌≡◌, ◌⊎◌, ◌<◌, ◌≤◌, ◌+◌, ℕ, Bool, true, false, List, length, Err, inl, inr, refl, ◌∙◌, ap, arith}
 use Rattle.chip_trait.specs.Told.{Told}
 use Rattle.ipl_base.specs.declared.fault.ChipFault.{ChipFault}
 use Rattle.ipl_meaning.specs.Tables.{Places, IsFree, Tables, IsCountedClean}
@@ -12,8 +12,8 @@ use Rattle.unit_io.proofs.SpotLemmas.{programs_none}
 use Rattle.unit_io.proofs.TidyLemmas.{tidy_then, tidy_wider}
 use Rattle.unit_directory.specs.Free.{AreNext}
 use Rattle.unit_directory.proofs.AsideLemmas.{next_places_are_aside}
-use Rattle.unit_io.specs.Steps.{Settled, Tidies, TidyWork}
-use Rattle.unit_io.proofs.TablesLemmas.{tables_read, tables_then}
+use Rattle.unit_io.specs.Steps.{TidyWork}
+use Rattle.unit_io.proofs.StepTidyLemmas.{tidy_none as nothing_tidy, tidy_reads, tidy_then as events_then}
 use Rattle.selective_merge.specs.Known.{KnowsPlaces}
 use Rattle.selective_merge.specs.Packs.{IsLogSpotBelow}
 use Rattle.selective_merge.specs.Pages.{IsBaseSpotBelow}
@@ -22,6 +22,7 @@ use Rattle.place_taking.specs.Spending.{WritesFree}
 use Rattle.place_taking.specs.Takes.{ClearsNext, IsAsideFrom, with_places}
 use Rattle.place_taking.proofs.JoinLemmas.{tidy_untaken, tidy_writes}
 use Rattle.selective_merge.specs.Moving.{set_aside}
+use Rattle.selective_merge.specs.Throughout.{TidiesThroughout}
 use Rattle.selective_merge.specs.Writing.{IsFilledSpot, IsUnitSpot}
 use Rattle.selective_merge.proofs.HeldLemmas.{known_aside, recounted}
 use Rattle.selective_merge.proofs.FillLemmas.{programs_filled, programs_unit, programs_pages, programs_unsealed}
@@ -124,26 +125,47 @@ tidy_unsealed p n old new =
 
 -- ---- the tables
 
+-- nothing was done
+pub tidies_none : (t : Tables) (told : Told) → TidiesThroughout t t told told
+tidies_none t told =
+    spends_none (TidyWork (IsCountedClean t) (IsCountedClean t) (Unit {0})) told
+    (nothing_tidy (IsCountedClean t) (Unit {0}))
+
+-- reads, done or not
+pub tidies_read : (At : ℕ → ℕ → Type 0) (t : Tables) (old new : Told) → ReadsAt At old new
+    → TidiesThroughout t t old new
+tidies_read At t old new did = record {
+  added = did.added;
+  does = tidy_reads At (IsCountedClean t) (Unit {0}) old new did;
+  history = did.history;
+}
+
+-- one call, and then another
+pub tidies_then : (t between after : Tables) (old mid new : Told) → TidiesThroughout t between old mid
+    → TidiesThroughout between after mid new → TidiesThroughout t after old new
+tidies_then t between after old mid new =
+    spends_then (TidyWork (IsCountedClean t) (IsCountedClean between) (Unit {0}))
+    (TidyWork (IsCountedClean between) (IsCountedClean after) (Unit {0}))
+    (TidyWork (IsCountedClean t) (IsCountedClean after) (Unit {0})) old mid new
+    (λ later earlier first second. events_then (IsCountedClean t) (IsCountedClean between)
+    (IsCountedClean after) (Unit {0}) (Unit {0}) earlier later first tt second)
+
 -- a call behind reads
-pub tidies_behind : {U F : Type 0} (At : ℕ → ℕ → Type 0) (t after : Tables) (result : Result U F)
-    (old mid new : Told) → ReadsAt At old mid → Tidies t result after mid new
-    → Tidies t result after old new
-tidies_behind At t after result old mid new did =
-    let done : Unit {0} = tt in
-    tables_then (Unit {0}) (Unit {0}) t t after done result old mid new did.counts
-    (tables_read {E = Unit {0}} At t (Ok done) old mid did)
+pub tidies_behind : (At : ℕ → ℕ → Type 0) (t after : Tables) (old mid new : Told) → ReadsAt At old mid
+    → TidiesThroughout t after mid new → TidiesThroughout t after old new
+tidies_behind At t after old mid new did =
+    tidies_then t t after old mid new (tidies_read At t old mid did)
 
 -- a free place that was written anew
-tidies_written : {U F : Type 0} (t after : Tables) (d : Places) (p from : ℕ) (done : Bool)
-    (result : Result U F) (old new : Told)
+tidies_written : (t after : Tables) (d : Places) (p from : ℕ) (done : Bool) (old new : Told)
     → ((q n : ℕ) → IsCountedClean after q n
     → (IsCountedClean t q n × (¬ IsFree d q)) ⊎ ((done ≡ true) × (q ≡ p) × (from ≤ n)))
-    → Spends (WritesFree d p from done) old new → Tidies t result after old new
-tidies_written t after d p from done result old new moved =
+    → Spends (WritesFree d p from done) old new → TidiesThroughout t after old new
+tidies_written t after d p from done old new moved =
     spends_weaker (WritesFree d p from done)
-    (TidyWork (IsCountedClean t) (IsCountedClean after) (Settled result old new)) old new
-    (λ added. tidy_writes (IsCountedClean t) (IsCountedClean after) d p from done
-    (Settled result old new) added (λ settled. moved))
+    (TidyWork (IsCountedClean t) (IsCountedClean after) (Unit {0})) old new
+    (λ added. tidy_writes (IsCountedClean t) (IsCountedClean after) d p from done (Unit {0}) added
+    (λ settled. moved))
 
 module _ (places : ℕ) (t : Tables) (known : KnowsPlaces places t) (worn : List ℕ)
     (in_turn : AreNext t.places worn) (p : ℕ) where
@@ -158,48 +180,47 @@ module _ (places : ℕ) (t : Tables) (known : KnowsPlaces places t) (worn : List
   ]
 
   -- a place that was free is an overflow place
-  pub opens_tidily : (T : Type 0) (after : Tables) (next : ℕ) (result : Result T ChipFault)
-      (old new : Told) → after ≡ with_overflow (taken (set_aside t worn) p) p next
-      → Spends (WritesFree t.places p 1 true) old new → Tidies t result after old new
-  opens_tidily T after next result old new is did =
-      rw is (tidies_written t (with_overflow (taken (set_aside t worn) p) p next) t.places p 1 true
-      result old new
+  pub opens_tidily : (after : Tables) (next : ℕ) (old new : Told)
+      → after ≡ with_overflow (taken (set_aside t worn) p) p next
+      → Spends (WritesFree t.places p 1 true) old new → TidiesThroughout t after old new
+  opens_tidily after next old new is did =
+      rw is (tidies_written t (with_overflow (taken (set_aside t worn) p) p next) t.places p 1 true old new
       (λ q n counted. as_from 1 q n
       (opened_clean places (set_aside t worn) known_then p next q n counted)) did)
 
   -- or the place of a unit
-  pub moves_tidily : (T : Type 0) (after : Tables) (u used next : ℕ) (result : Result T ChipFault)
-      (old new : Told) → u < length t.places.current → length t.places.written ≡ length t.places.current
+  pub moves_tidily : (after : Tables) (u used next : ℕ) (old new : Told)
+      → u < length t.places.current → length t.places.written ≡ length t.places.current
       → IsMoved (with_next (taken (set_aside t worn) p) next) after u p used
-      → Spends (WritesFree t.places p (241 + used) true) old new → Tidies t result after old new
-  moves_tidily T after u used next result old new low logs moved =
+      → Spends (WritesFree t.places p (241 + used) true) old new → TidiesThroughout t after old new
+  moves_tidily after u used next old new low logs moved =
       let facts = next_places_are_aside t.places worn in_turn in
       let many : length (set_aside t worn).places.current ≡ length t.places.current =
       ap (λ (l : List ℕ). length l) facts.current in
       let written : length (set_aside t worn).places.written ≡ length t.places.written =
       ap (λ (l : List ℕ). length l) facts.written in
-      tidies_written t after t.places p (241 + used) true result old new
+      tidies_written t after t.places p (241 + used) true old new
       (λ q n counted. as_from (241 + used) q n
       (merged_clean places (set_aside t worn) known_then after u p used next (omega (arith, low, many))
       (omega (arith, logs, many, written)) moved q n counted))
 
   -- or it was given back
-  pub gives_back_tidily : (T : Type 0) (after : Tables) (erases : List ℕ) (from next : ℕ)
-      (result : Result T ChipFault) (old new : Told) → after ≡ recounted (set_aside t worn) erases next
-      → Spends (WritesFree t.places p from false) old new → Tidies t result after old new
-  gives_back_tidily T after erases from next result old new is did =
-      rw is (tidies_written t (recounted (set_aside t worn) erases next) t.places p from false result old
-      new (λ q n counted.
+  pub gives_back_tidily : (after : Tables) (erases : List ℕ) (from next : ℕ) (old new : Told)
+      → after ≡ recounted (set_aside t worn) erases next
+      → Spends (WritesFree t.places p from false) old new → TidiesThroughout t after old new
+  gives_back_tidily after erases from next old new is did =
+      rw is (tidies_written t (recounted (set_aside t worn) erases next) t.places p from false old new
+      (λ q n counted.
       let was = counted_before places t known worn in_turn q n counted in
       inl (was, counted_in_use places t known q n was)) did)
 
 -- or none was taken
 pub untaken_tidily : (places : ℕ) (t : Tables) → KnowsPlaces places t → (d : Places)
-    → IsAsideFrom t.places d → (T : Type 0) (after : Tables) (next : ℕ) (e : ChipFault)
-    (result : Result T ChipFault) (old new : Told) → after ≡ with_next (with_places t d) next
-    → Spends (ClearsNext t.places (Err e)) old new → Tidies t result after old new
-untaken_tidily places t known d aside T after next e result old new is did =
-    gives_back_tidily places t known aside.worn aside.in_turn 0 T after (set_aside t aside.worn).places.erases
-    0 next result old new
+    → IsAsideFrom t.places d → (after : Tables) (next : ℕ) (e : ChipFault) (old new : Told)
+    → after ≡ with_next (with_places t d) next
+    → Spends (ClearsNext t.places (Err e)) old new → TidiesThroughout t after old new
+untaken_tidily places t known d aside after next e old new is did =
+    gives_back_tidily places t known aside.worn aside.in_turn 0 after (set_aside t aside.worn).places.erases
+    0 next old new
     (is ∙ ap (λ (b : Places). with_next (with_places t b) next) aside.places_is)
     (tidy_untaken t.places 0 0 e old new did)

@@ -15,8 +15,7 @@ use Rattle.unit_io.specs.Charts.{Charts}
 use Rattle.unit_io.specs.Leads.{IsSteady}
 use Rattle.unit_io.specs.ReadsAt.{ReadsAt}
 use Rattle.unit_io.proofs.ReadsAtLemmas.{at_rests, at_agrees, at_now}
-use Rattle.unit_io.specs.Steps.{Settled, EndsWith, TidyWork, Steps, RestsAgreeing}
-use Rattle.unit_io.proofs.MapLemmas.{reads_keep_tables}
+use Rattle.unit_io.specs.Steps.{EndsWith, Outcome, TidyWork, RestsAgreeing}
 use Rattle.unit_io.proofs.StepLemmas.{outcome_reads, outcome_then, outcome_weaker}
 use Rattle.unit_io.proofs.StepTidyLemmas.{tidy_reads, tidy_then, tidy_weaker}
 use Rattle.selective_merge.specs.Merged.{source_of}
@@ -24,8 +23,8 @@ use Rattle.selective_merge.specs.Moved.{Source}
 use Rattle.selective_merge.specs.declared.home.HomeHeader.{HomeHeader}
 use Rattle.selective_merge.specs.Homes.{from_home, IsHomeOf, LearnsHome}
 use Rattle.selective_merge.specs.Merging.{Merges, MergesFrom, StaysMirrored, RestsMerged, MergesInSteps, MergesFromInSteps}
-use Rattle.selective_merge.specs.Throughout.{ChartsThroughout}
-use Rattle.selective_merge.proofs.ThroughoutLemmas.{settled_later}
+use Rattle.selective_merge.specs.Throughout.{Unbroken, ChartsThroughout, StepsThroughout}
+use Rattle.selective_merge.proofs.UnbrokenLemmas.{unbroken_later}
 
 -- the unit that was read is the one that is merged
 pub source_is : (home : HomeHeader) (t : Tables) (it : Shape) (u : ℕ) (log : List Record)
@@ -37,21 +36,34 @@ source_is home t it u log is = rw (is.place, is.version, is.unit, is.generation,
 pub read_failed : {T : Type 0} (At : ℕ → ℕ → Type 0) (places : ℕ) (m : Legible) (it : Layout)
     (t : Tables) (Then : T → History → Type 0) (h : History) (e : ChipFault) (old new : Told)
     → IsSteady h old → StoryRests places m h → Agrees places h it t → ReadsAt At old new
-    → Steps (EachStands places m) t t Then (λ k. RestsAgreeing places m it t k) h (Err e) old new
+    → StepsThroughout (EachStands places m) t t Then (λ k. RestsAgreeing places m it t k) h (Err e) old new
 read_failed {T} At places m it t Then h e old new steady rests agrees did =
-    reads_keep_tables {T = T} At places m it t h (Err e) old new steady rests agrees did
+    let Settles = Unbroken {T = T} (Err e) old new in
+    outcome_reads At places m (TidyWork (IsCountedClean t) (IsCountedClean t) Settles) Settles
+    (RestsAgreeing places m it t) h old new steady rests did
+    (tidy_reads At (IsCountedClean t) Settles old new did) (record {
+      rests = at_rests At places m h did.added did.each rests;
+      agrees = at_agrees At places h it t did.added did.each agrees;
+    })
 
 -- ---- a call behind reads
 
--- whatever it leaves of histories at which all is as before
+-- what a call leaves of the tables, by when it settles
+abbrev StepsWhere : {T : Type 0} → Type 0 → (History → Type 0) → Tables → Tables → (T → History → Type 0)
+    → (History → Type 0) → History → Result T ChipFault → Told → Told → Type 0
+StepsWhere Settles Each t after Then Else h result old new =
+    Outcome Each (TidyWork (IsCountedClean t) (IsCountedClean after) Settles) Settles
+    (EndsWith result Then Else) h old new
+
+-- whatever it leaves of histories at which all is as before, and where it settled
 pub steps_behind : {T : Type 0} (At : ℕ → ℕ → Type 0) (places : ℕ) (m : Legible) (it : Layout)
-    (t after : Tables) (Then : Chart → T → History → Type 0) (Else : History → Type 0)
+    (t after : Tables) (A B : Type 0) (Then : Chart → T → History → Type 0) (Else : History → Type 0)
     (h : History) (old mid new : Told) (result : Result T ChipFault)
-    → IsSteady h old → StoryRests places m h → Agrees places h it t → ReadsAt At old mid
+    → IsSteady h old → StoryRests places m h → Agrees places h it t → ReadsAt At old mid → (B → A)
     → ((k : History) → IsSteady k mid → StoryRests places m k → Agrees places k it t
-    → Steps (EachStands places m) t after (Then (now k)) Else k result mid new)
-    → Steps (EachStands places m) t after (Then (now h)) Else h result old new
-steps_behind At places m it t after Then Else h old mid new result steady rests agrees did later =
+    → StepsWhere A (EachStands places m) t after (Then (now k)) Else k result mid new)
+    → StepsWhere B (EachStands places m) t after (Then (now h)) Else h result old new
+steps_behind At places m it t after A B Then Else h old mid new result steady rests agrees did less later =
     let Each : History → Type 0 = EachStands places m in
     let Clean : ℕ → ℕ → Type 0 = IsCountedClean t in
     let first = outcome_reads At places m (TidyWork Clean Clean (Unit {0})) (Unit {0})
@@ -62,22 +74,17 @@ steps_behind At places m it t after Then Else h old mid new result steady rests 
     ) in
     let k = adds_all first.added h in
     let there = first.ends tt in
-    let second = subst (λ (c : Chart). Steps Each t after (Then c) Else k result mid new) there.1.1
+    let second = subst (λ (c : Chart). StepsWhere A Each t after (Then c) Else k result mid new) there.1.1
     (later k (first.steady tt) there.0 there.1.0) in
     let both = outcome_then Each (TidyWork Clean Clean (Unit {0}))
-    (TidyWork Clean (IsCountedClean after) (Settled result mid new))
-    (TidyWork Clean (IsCountedClean after) (Settled result mid new)) (Unit {0})
-    (Settled result mid new) (λ k. StoryRests places m k × (Agrees places k it t × (now k ≡ now h)))
+    (TidyWork Clean (IsCountedClean after) A) (TidyWork Clean (IsCountedClean after) A) (Unit {0}) A
+    (λ k. StoryRests places m k × (Agrees places k it t × (now k ≡ now h)))
     (EndsWith result (Then (now h)) Else) h old mid new first tt second
-    (λ a b one two. tidy_then Clean Clean (IsCountedClean after) (Unit {0})
-    (Settled result mid new) a b one tt two) in
-    let less = settled_later result old mid new did.counts in
-    outcome_weaker Each Each (TidyWork Clean (IsCountedClean after) (Settled result mid new))
-    (TidyWork Clean (IsCountedClean after) (Settled result old new)) (Settled result mid new)
-    (Settled result old new) (EndsWith result (Then (now h)) Else)
+    (λ a b one two. tidy_then Clean Clean (IsCountedClean after) (Unit {0}) A a b one tt two) in
+    outcome_weaker Each Each (TidyWork Clean (IsCountedClean after) A)
+    (TidyWork Clean (IsCountedClean after) B) A B (EndsWith result (Then (now h)) Else)
     (EndsWith result (Then (now h)) Else) h old new (λ k is. is)
-    (λ a. tidy_weaker Clean (IsCountedClean after) (Settled result mid new)
-    (Settled result old new) a less) less (λ settled k is. is) both
+    (λ a. tidy_weaker Clean (IsCountedClean after) A B a less) less (λ settled k is. is) both
 
 -- ---- a merge behind reads
 
@@ -133,11 +140,12 @@ module _ (At : ℕ → ℕ → Type 0) (u : ℕ) (t after : Tables) (old mid new
   pub merge_behind : MergesInSteps mid.places u t after mid result new
       → MergesInSteps old.places u t after old result new
   merge_behind says m it h steady rests agrees =
-      steps_behind At old.places m it t after
+      steps_behind At old.places m it t after (Unbroken result mid new) (Unbroken result old new)
       (λ c done k. RestsMerged old.places m c it t u after k)
       (λ k. RestsAgreeing old.places m it after k) h old mid new result steady rests agrees did
+      (unbroken_later result old mid new did.counts)
       (subst (λ (n : ℕ). (k : History) → IsSteady k mid → StoryRests n m k → Agrees n k it t
-      → Steps (EachStands n m) t after (λ done j. RestsMerged n m (now k) it t u after j)
+      → StepsThroughout (EachStands n m) t after (λ done j. RestsMerged n m (now k) it t u after j)
       (λ j. RestsAgreeing n m it after j) k result mid new) did.counts.places
       (λ k steady_k rests_k agrees_k. says m it k steady_k rests_k agrees_k))
 

@@ -9,11 +9,11 @@ use Rattle.overflow.specs.Lists.{spots_in}
 use Rattle.unit_directory.specs.Free.{free_count}
 use Rattle.unit_io.specs.Accounts.{Accounts}
 use Rattle.unit_io.specs.Costs.{Spends}
-use Rattle.unit_io.specs.Steps.{Tidies}
 use Rattle.unit_log.specs.Often.{ReadsListed}
 use Rattle.place_taking.specs.Spending.{ErasesFor, ErasesFree, SparesUsed, is_worn_out}
 use Rattle.selective_merge.specs.Homes.{MergeCause}
 use Rattle.selective_merge.specs.Moving.{Holds}
+use Rattle.selective_merge.specs.Throughout.{TidiesThroughout}
 
 -- What a call leaves, however it ends: the tables know each place still, at most so many numbers were drawn,
 -- and what was counted as clean is erased and programmed as they say. Done, each place that was in use has
@@ -23,7 +23,7 @@ pub record LeavesTables {T : Type 0} (n : ℕ) (Cause : ChipFault → Told → T
   pub holds : Holds old.places t after
   pub draws : (t.next ≤ after.next) × (after.next ≤ t.next + n)
   pub spares : OnOk result (SparesUsed t.places old new)
-  pub tidy : Tidies t result after old new
+  pub tidy : TidiesThroughout t after old new
   pub accounts : Accounts Cause result old new
 
 -- What a merge of the unit leaves: besides, no place is lost to it, and each sector is read at most as often as it is

@@ -15,14 +15,14 @@ use Rattle.ipl_meaning.specs.Steps.{KeepsPages}
 use Rattle.ipl_meaning.specs.Tables.{Tables}
 use Rattle.unit_io.specs.Leads.{IsSteady}
 use Rattle.unit_io.specs.Reads.{OfContents}
-use Rattle.unit_io.specs.Steps.{Steps, RestsAgreeing}
+use Rattle.unit_io.specs.Steps.{RestsAgreeing}
 use Rattle.selective_merge.specs.Faults.{merge_fault, IsMergeable, IsTheFault, TellsTheFault, FailsByChipAlone}
 use Rattle.selective_merge.specs.Known.{KnowsPlaces}
 use Rattle.selective_merge.specs.Merged.{source_of, IsMergedUnit}
 use Rattle.selective_merge.specs.Moved.{Source}
 use Rattle.selective_merge.specs.Packs.{among}
 use Rattle.selective_merge.specs.Leaving.{MovesUnit}
-use Rattle.selective_merge.specs.Throughout.{ChartsThroughout}
+use Rattle.selective_merge.specs.Throughout.{ChartsThroughout, StepsThroughout}
 
 -- the tables know each place, the unit is one of theirs, and the numbers that a merge may draw are left
 pub record IsReadyToMerge (places : ℕ) (t : Tables) (u : ℕ) : Type 0 where
@@ -82,12 +82,13 @@ pub record RestsMerged (places : ℕ) (m : Legible) (c : Chart) (it : Layout) (t
   pub unit : IsMergedUnit places c (now k) it t u after
   pub tidy : IsTidy k after
 
--- At each moment a power cut leaves the map. Where no write failed the story rests on it: done, the
--- unit was merged; and not done, the tables agree on the same layout.
+-- At each moment a power cut leaves the map. Where no write failed the story rests on it, also where the
+-- merge failed for what the chip holds: done, the unit was merged; and not done, the tables agree on the
+-- same layout.
 abbrev pub StepsMerging : {T : Type 0} → ℕ → Legible → Layout → Tables → ℕ → Tables
     → History → Result T ChipFault → Told → Told → Type 0
 StepsMerging places m it t u after h result old new =
-    Steps (EachStands places m) t after
+    StepsThroughout (EachStands places m) t after
     (λ done k. RestsMerged places m (now h) it t u after k)
     (λ k. RestsAgreeing places m it after k) h result old new
 

@@ -37,7 +37,7 @@ use Rattle.selective_merge.proofs.MovingLemmas.{moved_from}
 use Rattle.selective_merge.proofs.HeldLemmas.{given_back, erases_then, as_many, as_many_aside, taken_but, held_aside, held_back, held_moved, home_used, known_aside, more_free, units_aside}
 use Rattle.selective_merge.proofs.MergedLemmas.{to_merge, many_packs, tells_packs, merged_before, merged_there, merged_steps, merge_failed, stays_mirrored}
 use Rattle.selective_merge.proofs.CompleteLemmas.{used_then}
-use Rattle.selective_merge.proofs.TakenLemmas.{WasWritten, aside_mirrors, has_counts, merged_not, moves_not, steps_not, told_not, unit_joined, unit_told, untaken_tables}
+use Rattle.selective_merge.proofs.TakenLemmas.{WasWritten, aside_mirrors, has_counts, merged_not, moves_not, steps_not_throughout, told_not, unit_joined, unit_told, untaken_tables}
 use Rattle.selective_merge.proofs.TidyLemmas.{moves_tidily, gives_back_tidily, untaken_tidily}
 use Rattle.selective_merge.proofs.merging.merge_packed.Goals as goal
 
@@ -267,7 +267,7 @@ returns-in-Err-clause-steps g c = λ m it h steady rests agrees source.
     refl c.requires.packed refl refl c.args.parts.now.scratch.packs.few in
     merge_failed places m it t worn u p drawn serial (length payloads) h old
     (g.C.Chip.told c.write_unit.new.chip) (record { rests = rests; agrees = agrees }) taken_so.in_turn
-    taken_so.next.free _ (erases_then between p) next c.in-Err.fault c.in-Err.fault is
+    taken_so.next.free _ (erases_then between p) next c.in-Err.fault is
     (as_many between p)
     (omega (
       arith,
@@ -403,8 +403,8 @@ returns-in-Ok-clause-moves g c =
           ),
         );
         spares = used_then t.places p old mid new (taken_was_free _ _ _ taken_so) took.spares wrote.spends.spares;
-        tidy = moves_tidily places t c.requires.ready.known worn taken_so.in_turn p (Unit {0}) after u used next
-            (Ok tt) old new c.requires.ready.unit c.facts.ensures.logs moved
+        tidy = moves_tidily places t c.requires.ready.known worn taken_so.in_turn p after u used next
+            old new c.requires.ready.unit c.facts.ensures.logs moved
             (tidy_taken t.places p (241 + used) (IsUnitSpot used) true true old mid new
             (taken_was_free _ _ _ taken_so) (λ s above spot. omega (arith, above, spot)) took.tidy wrote.spends.tidy);
         accounts = record {
@@ -466,8 +466,8 @@ returns-in-Err-clause-moves g c =
           omega (arith, c.draw-generation.ensures.next, wrote.serials.draws.1, c.args.parts.now.scratch.packs.few),
         );
         spares = tt;
-        tidy = gives_back_tidily places t c.requires.ready.known worn taken_so.in_turn p (Unit {0}) _
-            (erases_then between p) (241 + used) next (Err c.in-Err.fault) old new is
+        tidy = gives_back_tidily places t c.requires.ready.known worn taken_so.in_turn p _
+            (erases_then between p) (241 + used) next old new is
             (tidy_taken t.places p (241 + used) (IsUnitSpot used) false false old mid new
             (taken_was_free _ _ _ taken_so) (λ s above spot. omega (arith, above, spot)) took.tidy wrote.spends.tidy);
         accounts = record {
@@ -510,11 +510,12 @@ returns-in_err-place-clause-steps g c = λ m it h steady rests agrees source.
     let e = err_from_is_err_and c.from_residual.result c.from_residual.ensures.1 in
     let d = c.take_place.new.directory in
     let after = untaken_tables t d next in
-    rw e.1 (steps_not (λ (done : Unit {0}) k. RestsMerged old.places m (now h) it t c.args.unit after k) d m
-    it t after next h c.in_err-place.field-0.0 e.0 old (g.C.Chip.told c.take_place.new.chip)
+    rw (e.1 ∙ ap Err e.2) (steps_not_throughout
+    (λ (done : Unit {0}) k. RestsMerged old.places m (now h) it t c.args.unit after k) d m
+    it t after next h c.in_err-place.field-0.0 old (g.C.Chip.told c.take_place.new.chip)
     c.in_err-place.ensures.aside refl
     (omega (arith, c.draw-generation.ensures.drawn, c.draw-generation.ensures.next)) steady rests
-    agrees c.in_err-place.ensures.takes)
+    agrees c.in_err-place.ensures.takes c.in_err-place.ensures.accounts.cause)
 
 pub returns-in_err-place-clause-tells : goal.returns-in_err-place-clause-tells
 returns-in_err-place-clause-tells g c =
@@ -563,7 +564,7 @@ returns-in_err-place-clause-moves g c =
           omega (arith, c.draw-generation.ensures.next),
         );
         spares = tt;
-        tidy = untaken_tidily old.places t c.requires.ready.known d aside (Unit {0}) _ next fault (Err fault) old new refl
+        tidy = untaken_tidily old.places t c.requires.ready.known d aside _ next fault old new refl
             took.tidy;
         accounts = record {
           counts = took.accounts.counts;

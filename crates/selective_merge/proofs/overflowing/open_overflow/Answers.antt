@@ -1,4 +1,4 @@
-use Rattle.std.proofs.Common.{true, ◌≡◌, ◌+◌, ℕ, false, length, Ok, Err, inl, refl, sym, ◌∙◌, ap, subst, arith}
+use Rattle.std.proofs.Common.{true, ◌≡◌, ◌+◌, ℕ, false, length, Err, inl, refl, sym, ◌∙◌, ap, subst, arith}
 use Rattle.std.proofs.lemmas.Result.{err_from_is_err_and}
 use Rattle.chip_trait.proofs.CountsLemmas.{counts_then}
 use Rattle.ipl_base.specs.declared.spot.Spot.{Spot}
@@ -193,8 +193,8 @@ returns-in-Ok-clause-leaves g c =
         omega (arith, c.draw-generation.ensures.next),
       );
       spares = used_then t.places p old mid new (taken_was_free _ _ _ taken_so) took.spares wrote.spares;
-      tidy = opens_tidily places t c.requires.known worn taken_so.in_turn p Spot _ next
-          (Ok (record { place = p; sector = 1 })) old new after
+      tidy = opens_tidily places t c.requires.known worn taken_so.in_turn p _ next
+          old new after
           (tidy_taken t.places p 1 (IsSpot 0) true true old mid new (taken_was_free _ _ _ taken_so)
           (λ s above spot. omega (arith, above, spot)) took.tidy wrote.tidy);
       accounts = record {
@@ -225,8 +225,8 @@ returns-in-Err-clause-leaves g c =
         omega (arith, c.draw-generation.ensures.next),
       );
       spares = tt;
-      tidy = gives_back_tidily old.places t c.requires.known worn taken_so.in_turn p Spot _
-          (erases_then between p) 1 next (Err c.in-Err.fault) old new is
+      tidy = gives_back_tidily old.places t c.requires.known worn taken_so.in_turn p _
+          (erases_then between p) 1 next old new is
           (tidy_taken t.places p 1 (IsSpot 0) false false old mid new (taken_was_free _ _ _ taken_so)
           (λ s above spot. omega (arith, above, spot)) took.tidy wrote.tidy);
       accounts = record {
@@ -291,7 +291,7 @@ returns-in_err-place-clause-leaves g c =
       );
       spares = tt;
       tidy = untaken_tidily (g.C.Chip.told c.args.chip.now).places t c.requires.known c.take_place.new.directory
-          aside_so Spot _ next fault (Err fault) (g.C.Chip.told c.args.chip.now)
+          aside_so _ next fault (g.C.Chip.told c.args.chip.now)
           (g.C.Chip.told c.take_place.new.chip) refl took.tidy;
       accounts = record { counts = took.accounts.counts; cause = took.accounts.cause };
     })

@@ -97,7 +97,7 @@ returns-in_err-count-clause-moves g c = λ m h steady rests bare clean.
     let e = err_from_is_err_and c.from_residual.result c.from_residual.ensures.1 in
     rw e.1 (page_failed old.places from p generation m h old c.requires.may.another bare clean k low
     c.loop-page.pieces mid so.counts (so.moves m h steady rests bare clean)
-    (λ pieces. HasMoved from p generation pieces 15) fault e.0 new
+    (λ pieces. HasMoved from p generation pieces 15) fault e.0 new e.2
     (subst (λ (q : ℕ). MovesOnePage q from p generation k mid (Err fault) new) so.counts.places
     c.in_err-count.ensures.moves))
 

@@ -1,7 +1,6 @@
 use Rattle.std.proofs.Common.{false, true, List, length, ◌∙◌, ℕ, Ok, Err, ap, arith, subst}
 use Rattle.std.proofs.lemmas.Result.{err_from_is_err_and}
 use Rattle.chip_trait.proofs.CountsLemmas.{counts_then}
-use Rattle.ipl_base.specs.declared.fault.ChipFault.{ChipFault}
 use Rattle.log_records.specs.View.{Versioned}
 use Rattle.unit_io.specs.Charts.{Charts}
 use Rattle.unit_io.specs.Spots.{Programs}
@@ -28,7 +27,7 @@ returns-in_err-pieces-clause-fills g c = λ m h steady rests clean.
     let e = err_from_is_err_and c.from_residual.result c.from_residual.ensures.1 in
     rw e.1 (pages_failed old.places from c.args.place head.generation c.args.counter.now head.unit
     c.args.scratch.now.packs.closed.items c.requires.unit m h old steady rests clean c.in_err-pieces.field-0.0 e.0
-    (g.C.Chip.told c.move_pages.new.chip) c.in_err-pieces.ensures.moves)
+    (g.C.Chip.told c.move_pages.new.chip) e.2 c.in_err-pieces.ensures.moves)
 
 pub returns-in_err-write_logs-clause-fills : goal.returns-in_err-write_logs-clause-fills
 returns-in_err-write_logs-clause-fills g c = λ m h steady rests clean.
@@ -47,7 +46,7 @@ returns-in_err-write_logs-clause-fills g c = λ m h steady rests clean.
     (Err e.0) old new) c.payloads.ensures.all
     (logs_failed old.places from c.args.place head.generation c.args.counter.now head.unit
     c.payloads.result.now c.requires.unit m h old steady rests clean late pages.spends.accounts.counts
-    c.in_ok-pieces.pieces pages.moves fault e.0 new
+    c.in_ok-pieces.pieces pages.moves fault e.0 new e.2
     (subst (λ (q : ℕ). WritesLogs q c.args.place head.unit head.generation c.args.counter.now
     c.payloads.result.now late (Err fault) new) pages.spends.accounts.counts.places
     c.in_err-write_logs.ensures.writes) c.in_err-write_logs.ensures.spends.accounts.cause))
@@ -60,7 +59,7 @@ returns-clause-fills g c = λ m h steady rests clean.
     let from = from_home c.args.scratch.now.home c.args.status.now.numbers c.args.scratch.now.log in
     let head = c.args.head.now in
     let pages = c.in_ok-pieces.ensures in
-    subst (λ (ps : List Versioned). KeepsThroughout {E = ChipFault} old.places m
+    subst (λ (ps : List Versioned). KeepsThroughout old.places m
     (Programs c.args.place (IsFilledSpot (length ps)))
     (λ pieces. GainsUnit from c.args.place head.generation c.args.counter.now pieces ps) (IsAside c.args.place) h
     (Ok c.in_ok-pieces.pieces) old new) c.payloads.ensures.all

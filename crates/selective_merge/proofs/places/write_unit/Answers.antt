@@ -26,7 +26,7 @@ returns-in_err-pieces-clause-writes g c = λ m it t u h steady rests clean all w
     let e = err_from_is_err_and c.from_residual.result c.from_residual.ensures.1 in
     rw e.1 (fill_failed old.places c.args.place c.args.generation c.args.parts.now.counter from
     c.args.parts.now.scratch.packs.closed.items m it t u h old (g.C.Chip.told c.fill.new.chip) c.in_err-pieces.field-0.0
-    e.0 (c.in_err-pieces.ensures.fills m h steady rests clean))
+    e.0 e.2 (c.in_err-pieces.ensures.fills m h steady rests clean))
 
 pub returns-clause-writes : goal.returns-clause-writes
 returns-clause-writes g c = λ m it t u h steady rests clean all what.
