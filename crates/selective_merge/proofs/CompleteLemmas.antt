@@ -17,6 +17,8 @@ use Rattle.selective_merge.proofs.FaultLemmas.{tells_fault, mergeable_units_have
 use Rattle.selective_merge.specs.declared.home.HomeHeader.{HomeHeader}
 use Rattle.selective_merge.specs.Homes.{from_home, IsHomeOf}
 use Rattle.selective_merge.specs.Merging.{TellsMergeFault, FailsAsMerge, CompletesMerge}
+use Rattle.selective_merge.specs.Throughout.{UnlessCallsFailed}
+use Rattle.selective_merge.proofs.UnbrokenLemmas.{unless_then}
 use Rattle.selective_merge.proofs.WholeLemmas.{source_is}
 
 -- what was read of the unit is what it is merged from
@@ -72,9 +74,10 @@ used_then before p old mid new free first second x told =
 -- a call behind reads
 pub spared_behind : {T : Type 0} (before : Places) (old mid new : Told)
     (result : Result T ChipFault) → mid.contents ≡ old.contents
-    → OnOk result (SparesUsed before mid new) → OnOk result (SparesUsed before old new)
-spared_behind before old mid new (Ok v) same spares = λ x told. spares x (same ∙ told)
-spared_behind before old mid new (Err e) same spares = tt
+    → UnlessCallsFailed result (SparesUsed before mid new) → UnlessCallsFailed result (SparesUsed before old new)
+spared_behind before old mid new result same =
+    unless_then (SparesUsed before mid new) (SparesUsed before old new) result
+    (λ spares x told. spares x (same ∙ told))
 
 -- ---- the fault alone
 

@@ -1,5 +1,5 @@
 -- What calls leave of the tables, one after another.
-use Rattle.std.proofs.Common.{ℕ, List, ◌++◌, true, false, slice_index, Result, Ok, Err, inr, arith, refl, subst}
+use Rattle.std.proofs.Common.{ℕ, List, ◌++◌, true, false, slice_index, Result, Ok, Err, inr, arith, refl, ◌∙◌, subst}
 use Rattle.std.specs.Prelude.{IfErr}
 use Rattle.chip_trait.specs.Told.{Told, Counts}
 use Rattle.chip_trait.proofs.CountsLemmas.{counts_none, counts_then}
@@ -77,7 +77,7 @@ leaves_unread : {T : Type 0} (u : ℕ) (t : Tables) (fault : ChipFault) (old new
 leaves_unread {T} u t fault old new known reads cause = record {
   holds = held_same old.places t known;
   draws = (omega arith, omega arith);
-  spares = tt;
+  spares = λ held x is. (x, reads.contents ∙ is, λ q s used. refl);
   tidy = tidies_read (InLog u t) t old new reads;
   accounts = record { counts = reads.counts; cause = unread_cause u t fault old new cause };
 }
@@ -180,7 +180,7 @@ finds_unmerged listed u t after fault old new moves = record {
   leaves = record {
     holds = moves.leaves.holds;
     draws = moves.leaves.draws;
-    spares = tt;
+    spares = moves.leaves.spares;
     tidy = moves.leaves.tidy;
     accounts = record { counts = moves.leaves.accounts.counts; cause = moves.leaves.accounts.cause };
   };

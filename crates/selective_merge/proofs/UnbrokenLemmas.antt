@@ -1,5 +1,5 @@
 -- Calls of which no write failed, and what they leave that is said of calls without a counted write fault.
-use Rattle.std.proofs.Common.{◌≡◌, ◌⊎◌, Result, Ok, Err, inl, inr, sym, subst, arith}
+use Rattle.std.proofs.Common.{◌≡◌, ◌⊎◌, Result, Ok, Err, IfErr, OnOk, inl, inr, sym, subst, arith}
 use Rattle.chip_trait.specs.Told.{History, Told, Counts, Unrisen}
 use Rattle.ipl_base.specs.Calls.{IsFailedCall}
 use Rattle.ipl_base.specs.declared.fault.ChipFault.{ChipFault}
@@ -10,7 +10,7 @@ use Rattle.unit_io.specs.Steps.{Settled, EndsWith, TidyWork, Steps, Tidies}
 use Rattle.unit_io.proofs.CostLemmas.{spends_weaker}
 use Rattle.unit_io.proofs.StepLemmas.{outcome_weaker}
 use Rattle.unit_io.proofs.StepTidyLemmas.{tidy_weaker}
-use Rattle.selective_merge.specs.Throughout.{Unbroken, StepsThroughout, TidiesThroughout}
+use Rattle.selective_merge.specs.Throughout.{Unbroken, UnlessCallsFailed, StepsThroughout, TidiesThroughout}
 
 -- ---- ends
 
@@ -50,6 +50,26 @@ unbroken_later (Err e) old mid new counts (inr held) = inr held
 pub unbroken_same : (e f : ChipFault) (old new : Told) → f ≡ e → Unrisen old new ⊎ (¬ IsFailedCall f)
     → Unrisen old new ⊎ (¬ IsFailedCall e)
 unbroken_same e f old new same = subst (λ (x : ChipFault). Unrisen old new ⊎ (¬ IsFailedCall x)) same
+
+-- ---- what is so unless a call failed
+
+pub where_done : {T : Type 0} (P : Type 0) (result : Result T ChipFault) → UnlessCallsFailed result P
+    → OnOk result P
+where_done P (Ok v) holds = holds
+where_done P (Err e) holds = tt
+
+-- of a call that fails only where a write failed, what is so where it is done
+pub unless_stopped : {T : Type 0} (P : Type 0) (result : Result T ChipFault) (old new : Told)
+    → IfErr result (λ fault. IsStopped fault old new) → OnOk result P → UnlessCallsFailed result P
+unless_stopped P (Ok v) old new stopped holds = holds
+unless_stopped P (Err e) old new stopped holds =
+    λ held. absurd (held (subst IsFailedCall (sym stopped.0) tt))
+
+-- and what follows
+pub unless_then : {T : Type 0} (P Q : Type 0) (result : Result T ChipFault) → (P → Q)
+    → UnlessCallsFailed result P → UnlessCallsFailed result Q
+unless_then P Q (Ok v) then holds = then holds
+unless_then P Q (Err e) then holds = λ held. then (holds held)
 
 -- ---- what is left
 

@@ -13,16 +13,16 @@ use Rattle.unit_log.specs.Often.{ReadsListed}
 use Rattle.place_taking.specs.Spending.{ErasesFor, ErasesFree, SparesUsed, is_worn_out}
 use Rattle.selective_merge.specs.Homes.{MergeCause}
 use Rattle.selective_merge.specs.Moving.{Holds}
-use Rattle.selective_merge.specs.Throughout.{TidiesThroughout}
+use Rattle.selective_merge.specs.Throughout.{TidiesThroughout, UnlessCallsFailed}
 
 -- What a call leaves, however it ends: the tables know each place still, at most so many numbers were drawn,
--- and what was counted as clean is erased and programmed as they say. Done, each place that was in use has
--- the bytes that it had; and where it failed, this is its cause.
+-- and what was counted as clean is erased and programmed as they say. Unless a call of the chip failed, each
+-- place that was in use has the bytes that it had; and where it failed, this is its cause.
 pub record LeavesTables {T : Type 0} (n : ℕ) (Cause : ChipFault → Told → Told → Type 0) (t after : Tables)
     (result : Result T ChipFault) (old new : Told) : Type 0 where
   pub holds : Holds old.places t after
   pub draws : (t.next ≤ after.next) × (after.next ≤ t.next + n)
-  pub spares : OnOk result (SparesUsed t.places old new)
+  pub spares : UnlessCallsFailed result (SparesUsed t.places old new)
   pub tidy : TidiesThroughout t after old new
   pub accounts : Accounts Cause result old new
 

@@ -21,6 +21,10 @@ abbrev pub Unbroken : {T : Type 0} → Result T ChipFault → Told → Told → 
 Unbroken result old new =
     MatchResult result (λ _. Unit {0}) (λ fault. Unrisen old new ⊎ (¬ IsFailedCall fault))
 
+-- it is so, unless a call of the chip failed: done, and where it failed for what the chip holds
+abbrev pub UnlessCallsFailed : {T : Type 0} → Result T ChipFault → Type 0 → Type 0
+UnlessCallsFailed result P = MatchResult result (λ _. P) (λ fault. ¬ IsFailedCall fault → P)
+
 -- ---- a map
 
 -- The story rests on the map, and G holds of the chart at the history before and of the chart then.

@@ -32,7 +32,7 @@ use Rattle.selective_merge.specs.Merged.{IsUnitHead, IsToMerge, IsWritten}
 use Rattle.selective_merge.specs.Moved.{Source, IsRebased, MovesPage, HasMoved, IsAside}
 use Rattle.selective_merge.specs.Packs.{IsLogSpotBelow, HasLogs}
 use Rattle.selective_merge.specs.Pages.{IsBaseSpotBelow, IsFew}
-use Rattle.selective_merge.specs.Throughout.{KeepsThroughout}
+use Rattle.selective_merge.specs.Throughout.{UnlessCallsFailed, KeepsThroughout}
 use Rattle.selective_merge.specs.declared.home.HomeHeader.{HomeHeader}
 
 -- ---- a place that is written
@@ -46,11 +46,11 @@ pub record MayMove (places : ℕ) (from : HomeHeader) (p : ℕ) : Type 0 where
   pub another : from.place ≢ p
 
 -- What a call leaves that programs sectors of a place, whatever the chip tells: it spends this, programs
--- spots of these alone, and reads each sector at most as often as it is listed. Done, all other places have the bytes that they had; and where it failed, this is its
--- cause.
+-- spots of these alone, and reads each sector at most as often as it is listed. Unless a call of the chip failed, all
+-- other places have the bytes that they had; and where it failed, this is its cause.
 pub record WritesPlace {T : Type 0} (p : ℕ) (Costs : Story → Type 0) (Spot : ℕ → Type 0)
     (read : List (ℕ × ℕ)) (Cause : ChipFault → Told → Told → Type 0) (result : Result T ChipFault) (old new : Told) : Type 0 where
-  pub spares : OnOk result (Spares p old new)
+  pub spares : UnlessCallsFailed result (Spares p old new)
   pub costs : Spends Costs old new
   pub tidy : Spends (Programs p Spot (is_ok result)) old new
   pub reads : Spends (ReadsListed read) old new

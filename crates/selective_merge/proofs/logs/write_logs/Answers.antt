@@ -1,8 +1,9 @@
-use Rattle.std.proofs.Common.{◌≡◌, ◌<◌, ◌+◌, ℕ, true, false, [], length, Ok, Err, subst, arith, refl, ◌∙◌, ap}
+use Rattle.std.proofs.Common.{◌≡◌, ◌<◌, ◌+◌, ℕ, true, false, [], length, Ok, Err, subst, sym, arith, refl, ◌∙◌, ap}
 use Rattle.std.specs.Prelude.{slice_index_or}
 use Rattle.std.proofs.lemmas.List.{get_or_read}
 use Rattle.std.proofs.lemmas.Result.{err_from_is_err_and}
 use Rattle.chip_trait.proofs.CountsLemmas.{counts_none, counts_then}
+use Rattle.ipl_base.specs.Calls.{IsFailedCall}
 use Rattle.log_records.specs.View.{Versioned}
 use Rattle.ipl_format.specs.Sector.{Sector}
 use Rattle.unit_io.specs.Charts.{Charts, Gains}
@@ -139,7 +140,7 @@ returns-in_err-write_log-clause-spends g c =
     let low : i < n = omega arith in
     let e = err_from_is_err_and c.from_residual.result c.from_residual.ensures.1 in
     rw (e.1 ∙ ap Err e.2) (record {
-      spares = tt;
+      spares = λ held. absurd (held (subst IsFailedCall (sym stopped.0) tt));
       costs = spends_at_most p (i + 1) n 0 0 5 old new (omega (arith, low)) (omega arith)
           (spends_at_then p i 1 0 0 5 old mid new so.costs says.costs);
       tidy = tidy_logs p (i + 1) n false false old new (omega (arith, low))

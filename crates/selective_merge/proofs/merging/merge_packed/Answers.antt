@@ -38,6 +38,7 @@ use Rattle.selective_merge.proofs.HeldLemmas.{given_back, erases_then, as_many, 
 use Rattle.selective_merge.proofs.MergedLemmas.{to_merge, many_packs, tells_packs, merged_before, merged_there, merged_steps, merge_failed, stays_mirrored}
 use Rattle.selective_merge.proofs.CompleteLemmas.{used_then}
 use Rattle.selective_merge.proofs.TakenLemmas.{WasWritten, aside_mirrors, has_counts, merged_not, moves_not, steps_not_throughout, told_not, unit_joined, unit_told, untaken_tables}
+use Rattle.selective_merge.proofs.UnbrokenLemmas.{untaken_failed}
 use Rattle.selective_merge.proofs.TidyLemmas.{moves_tidily, gives_back_tidily, untaken_tidily}
 use Rattle.selective_merge.proofs.merging.merge_packed.Goals as goal
 
@@ -465,7 +466,8 @@ returns-in-Err-clause-moves g c =
           omega (arith, c.draw-generation.ensures.next, wrote.serials.draws.0),
           omega (arith, c.draw-generation.ensures.next, wrote.serials.draws.1, c.args.parts.now.scratch.packs.few),
         );
-        spares = tt;
+        spares = λ held. used_then t.places p old mid new (taken_was_free _ _ _ taken_so) took.spares
+            (wrote.spends.spares held);
         tidy = gives_back_tidily places t c.requires.ready.known worn taken_so.in_turn p _
             (erases_then between p) (241 + used) next old new is
             (tidy_taken t.places p (241 + used) (IsUnitSpot used) false false old mid new
@@ -563,7 +565,7 @@ returns-in_err-place-clause-moves g c =
           omega (arith, c.draw-generation.ensures.next),
           omega (arith, c.draw-generation.ensures.next),
         );
-        spares = tt;
+        spares = λ held. absurd (held (untaken_failed d fault old new took.accounts.cause));
         tidy = untaken_tidily old.places t c.requires.ready.known d aside _ next fault old new refl
             took.tidy;
         accounts = record {

@@ -1,6 +1,7 @@
 use Rattle.std.proofs.Common.{true, ◌≡◌, ◌+◌, ℕ, false, length, Err, inl, refl, sym, ◌∙◌, ap, subst, arith}
 use Rattle.std.proofs.lemmas.Result.{err_from_is_err_and}
 use Rattle.chip_trait.proofs.CountsLemmas.{counts_then}
+use Rattle.ipl_base.specs.Calls.{IsFailedCall}
 use Rattle.ipl_base.specs.declared.spot.Spot.{Spot}
 use Rattle.ipl_meaning.specs.Chart.{chart_of}
 use Rattle.ipl_meaning.specs.Rests.{now}
@@ -22,6 +23,7 @@ use Rattle.selective_merge.proofs.HeldLemmas.{given_back, erases_then, held_asid
 use Rattle.selective_merge.proofs.SpendLemmas.{frees_for, frees_untaken}
 use Rattle.selective_merge.proofs.OverflowLemmas.{opened_mirrors, opened_says, opened_steps, open_failed, taken_told, tables_same}
 use Rattle.selective_merge.proofs.TakenLemmas.{aside_mirrors, has_counts, steps_not, told_not, untaken_tables}
+use Rattle.selective_merge.proofs.UnbrokenLemmas.{untaken_failed}
 use Rattle.selective_merge.proofs.TidyLemmas.{opens_tidily, gives_back_tidily, untaken_tidily}
 use Rattle.selective_merge.proofs.overflowing.open_overflow.Goals as goal
 
@@ -224,7 +226,7 @@ returns-in-Err-clause-leaves g c =
         omega (arith, c.draw-generation.ensures.next),
         omega (arith, c.draw-generation.ensures.next),
       );
-      spares = tt;
+      spares = λ held. absurd (held (subst IsFailedCall (sym wrote.accounts.cause.0) tt));
       tidy = gives_back_tidily old.places t c.requires.known worn taken_so.in_turn p _
           (erases_then between p) 1 next old new is
           (tidy_taken t.places p 1 (IsSpot 0) false false old mid new (taken_was_free _ _ _ taken_so)
@@ -289,7 +291,8 @@ returns-in_err-place-clause-leaves g c =
         omega (arith, c.draw-generation.ensures.next),
         omega (arith, c.draw-generation.ensures.next),
       );
-      spares = tt;
+      spares = λ held. absurd (held (untaken_failed c.take_place.new.directory fault
+          (g.C.Chip.told c.args.chip.now) (g.C.Chip.told c.take_place.new.chip) took.accounts.cause));
       tidy = untaken_tidily (g.C.Chip.told c.args.chip.now).places t c.requires.known c.take_place.new.directory
           aside_so _ next fault (g.C.Chip.told c.args.chip.now)
           (g.C.Chip.told c.take_place.new.chip) refl took.tidy;

@@ -3,6 +3,7 @@ use Rattle.std.proofs.lemmas.Result.{err_from_is_err_and}
 use Rattle.ipl_meaning.specs.Chart.{chart_of}
 use Rattle.chip_trait.specs.Told.{Told}
 use Rattle.chip_trait.proofs.CountsLemmas.{counts_then}
+use Rattle.unit_io.specs.Charts.{Spares}
 use Rattle.unit_io.specs.Costs.{ProgramsAt, Spends}
 use Rattle.unit_log.specs.Often.{ReadsListed}
 use Rattle.unit_log.proofs.OftenLemmas.{often_before}
@@ -17,6 +18,7 @@ use Rattle.selective_merge.proofs.PlaceLemmas.{page_unmoved, stopped_unmoved}
 use Rattle.selective_merge.proofs.PageMoveLemmas.{page_unread, page_moves, page_tells}
 use Rattle.selective_merge.proofs.SpendLemmas.{spends_read, programs_behind}
 use Rattle.selective_merge.proofs.ThroughoutLemmas.{page_asked_at}
+use Rattle.selective_merge.proofs.UnbrokenLemmas.{unless_stopped}
 use Rattle.unit_io.proofs.SparesLemmas.{spares_none, spares_behind}
 use Rattle.selective_merge.specs.Faults.{page_fault_from}
 use Rattle.ipl_base.specs.declared.fault.ChipFault.{ChipFault}
@@ -130,7 +132,7 @@ unmoved : (At : ℕ → ℕ → Type 0) (place p page : ℕ) (fault : ChipFault)
     → WritesPlace {T = ℕ} p (ProgramsAt p 16 0 4) (IsPieceSpot page 16) (page_sectors place page) (MoveCause place)
     (Err fault) old new
 unmoved At place p page fault old new reads often cause = record {
-  spares = tt;
+  spares = λ held. spares_none p old new reads.contents;
   costs = spends_at_most p 0 16 0 0 4 old new (omega arith) (omega arith) (spends_read At p 4 old new reads);
   tidy = tidy_read At p (IsPieceSpot page 16) false old new reads;
   reads = often;
@@ -177,8 +179,9 @@ returns-clause-spends g c =
     let wrote = c.program_page.ensures in
     let reads = page_asked_at {T = Unit {0}} home c.args.page c.from-count.result (Ok tt) old mid read.asks
     read.accounts.counts in record {
-      spares = spares_behind p old mid new c.program_page.result (spares_none p old mid reads.contents)
-          wrote.adds.spares;
+      spares = unless_stopped (Spares p old new) c.program_page.result mid new wrote.writes.accounts.cause
+          (spares_behind p old mid new c.program_page.result (spares_none p old mid reads.contents)
+          wrote.adds.spares);
       costs = programs_behind _ p 16 4 old mid new reads wrote.writes.costs;
       tidy = tidy_behind _ p (IsPieceSpot c.args.page 16) _ old mid new reads wrote.writes.tidy;
       reads = often_before (page_sectors home c.args.page) old mid new

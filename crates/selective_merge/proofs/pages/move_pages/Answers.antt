@@ -158,7 +158,7 @@ returns-in_err-count-clause-spends g c =
     let low : k < 15 = omega arith in
     let e = err_from_is_err_and c.from_residual.result c.from_residual.ensures.1 in
     rw (e.1 ∙ ap Err e.2) (record {
-      spares = tt;
+      spares = λ held. spares_then p old mid new so.spares (says.spares held);
       costs = spends_at_most p (16 * k + 16) 240 0 0 4 old new (omega (arith, low)) (omega arith)
           (spends_at_then p (16 * k) 16 0 0 4 old mid new so.costs says.costs);
       tidy = tidy_pages p (k + 1) 15 false false old new (omega (arith, low))

@@ -115,7 +115,7 @@ returns-in_err-pieces-clause-spends g c =
     let says = c.in_err-pieces.ensures.spends in
     let e = err_from_is_err_and c.from_residual.result c.from_residual.ensures.1 in
     rw (e.1 ∙ ap Err e.2) (record {
-      spares = tt;
+      spares = says.spares;
       costs = fills_programs p 240 0 4 old new says.costs;
       tidy = tidy_paged p (length c.args.scratch.now.packs.closed.items) old new says.tidy;
       reads = says.reads;
@@ -137,7 +137,7 @@ returns-in_err-write_logs-clause-spends g c =
     (IsFilledSpot (length ps)) (base_sectors c.args.scratch.now.home.place)
     (MoveCause c.args.scratch.now.home.place) (Err c.in_err-write_logs.field-0.0) old new)
     c.payloads.ensures.all (record {
-      spares = tt;
+      spares = λ held. spares_then p old late new pages.spares (logs.spares held);
       costs = fills_then p 0 0 old late new (fills_programs p 240 0 4 old late pages.costs)
           (fills_programs p n 0 5 late new logs.costs);
       tidy = tidy_logged p n false old late new pages.tidy logs.tidy;

@@ -1,8 +1,10 @@
 use Rattle.std.proofs.Common.{ℕ, [], subst}
 use Rattle.unit_log.proofs.OftenLemmas.{often_unread}
 use Rattle.sector_format.specs.Decode.{sector_of}
+use Rattle.unit_io.specs.Charts.{Spares}
 use Rattle.unit_io.specs.Costs.{ProgramsAt, Spends}
 use Rattle.selective_merge.proofs.SealLemmas.{unit_head, sealed_keeps, sealed_tells}
+use Rattle.selective_merge.proofs.UnbrokenLemmas.{unless_stopped}
 use Rattle.selective_merge.proofs.places.seal_unit.Goals as goal
 
 pub returns-clause-seals : goal.returns-clause-seals
@@ -29,7 +31,9 @@ returns-clause-tells g c =
 
 pub returns-clause-spends : goal.returns-clause-spends
 returns-clause-spends g c = record {
-  spares = c.seal.ensures.spares;
+  spares = unless_stopped (Spares c.args.place (g.C.Chip.told c.args.chip.now) (g.C.Chip.told c.seal.new.chip))
+      c.seal.result (g.C.Chip.told c.args.chip.now) (g.C.Chip.told c.seal.new.chip)
+      c.seal.ensures.writes.accounts.cause c.seal.ensures.spares;
   costs = subst (λ (kind : ℕ). Spends (ProgramsAt c.args.place 1 2 kind) (g.C.Chip.told c.args.chip.now)
       (g.C.Chip.told c.seal.new.chip)) c.requires.kind c.seal.ensures.writes.costs;
   tidy = c.seal.ensures.writes.tidy;

@@ -5,7 +5,7 @@ use Rattle.chip_trait.proofs.CountsLemmas.{counts_then}
 use Rattle.place_taking.proofs.JoinLemmas.{fills_at_most, fills_programs, fills_then}
 use Rattle.selective_merge.specs.Moving.{source_read}
 use Rattle.sector_format.specs.declared.sector.Head.{Head}
-use Rattle.unit_io.specs.Charts.{Charts}
+use Rattle.unit_io.specs.Charts.{Charts, Spares}
 use Rattle.selective_merge.specs.Throughout.{ChartsThroughout}
 use Rattle.selective_merge.specs.Writing.{FillsPlace, GainsUnit, IsSealed, SealsUnit, TellsWritten}
 use Rattle.selective_merge.proofs.SealLemmas.{unit_written, written_told, fill_failed}
@@ -14,9 +14,10 @@ use Rattle.selective_merge.specs.Often.{base_sectors}
 use Rattle.selective_merge.proofs.OftenLemmas.{reads_once}
 use Rattle.selective_merge.specs.Moved.{IsAside}
 use Rattle.selective_merge.proofs.FaultLemmas.{fault_as, tells_written}
-use Rattle.unit_io.proofs.SparesLemmas.{spares_behind}
+use Rattle.unit_io.proofs.SparesLemmas.{spares_then}
 use Rattle.selective_merge.proofs.PlaceLemmas.{stopped_unmoved, where_done}
 use Rattle.selective_merge.proofs.TidyLemmas.{tidy_sealed, tidy_unsealed}
+use Rattle.selective_merge.proofs.UnbrokenLemmas.{unless_then}
 use Rattle.selective_merge.proofs.places.write_unit.Goals as goal
 
 pub returns-in_err-pieces-clause-writes : goal.returns-in_err-pieces-clause-writes
@@ -95,7 +96,7 @@ returns-in_err-pieces-clause-spends g c =
     let says = c.in_err-pieces.ensures.spends in
     let e = err_from_is_err_and c.from_residual.result c.from_residual.ensures.1 in
     rw (e.1 ∙ ap Err e.2) (record {
-      spares = tt;
+      spares = says.spares;
       costs = fills_at_most p 0 2 old new (omega arith) says.costs;
       tidy = tidy_unsealed p (length c.args.parts.now.scratch.packs.closed.items) old new says.tidy;
       reads = says.reads;
@@ -111,7 +112,8 @@ returns-clause-spends g c =
     let result = c.seal_unit.result in
     let filled = c.in_ok-pieces.ensures.spends in
     let sealed = c.seal_unit.ensures.spends in record {
-      spares = spares_behind p old mid new result filled.spares sealed.spares;
+      spares = unless_then (Spares p mid new) (Spares p old new) result
+          (spares_then p old mid new filled.spares) sealed.spares;
       costs = fills_then p 0 2 old mid new filled.costs (fills_programs p 1 2 1 mid new sealed.costs);
       tidy = tidy_sealed p (length c.args.parts.now.scratch.packs.closed.items) (is_ok result) old mid new
           filled.tidy sealed.tidy;
