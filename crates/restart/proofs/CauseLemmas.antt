@@ -4,6 +4,7 @@ use Rattle.chip_trait.specs.Told.{Told, Counts}
 use Rattle.chip_trait.proofs.CountsLemmas.{counts_then}
 use Rattle.ipl_base.specs.declared.fault.ChipFault.{ChipFault}
 use Rattle.ipl_base.specs.declared.fault.ChipFault.TheVariants.{ReadFault, Stopped, Damaged, Malformed, WornOut}
+use Rattle.ipl_base.specs.Calls.{IsFailedCall}
 use Rattle.ipl_meaning.specs.Tables.{Places}
 use Rattle.place_taking.specs.Spending.{tells_worn}
 use Rattle.place_taking.specs.Takes.{IsNotTaken}
@@ -11,6 +12,7 @@ use Rattle.selective_merge.specs.Homes.{MergeCause}
 use Rattle.unit_io.specs.Accounts.{Accounts}
 use Rattle.unit_io.specs.ReadsAt.{IsCauseAt}
 use Rattle.restart.specs.Passes.{RenewCause}
+use Rattle.restart.specs.Stuck.{IsHeldFault}
 
 pub read_cause : (At : ℕ → ℕ → Type 0) (after : Places) (fault : ChipFault) (old new : Told)
     → IsCauseAt At fault old new → RenewCause after fault old new
@@ -36,6 +38,32 @@ merge_cause after place spots Stopped old new cause = cause
 merge_cause after place spots (Damaged p s stored computed) old new cause = (cause.1, cause.2)
 merge_cause after place spots (Malformed p s) old new cause = tt
 merge_cause after place spots (WornOut n) old new cause = cause
+
+-- a merge fails with a fault of what the chip holds, where no call failed
+pub merge_held : (after : Places) (place : ℕ) (spots : List (ℕ × ℕ)) (fault : ChipFault) (old new : Told)
+    → ¬ IsFailedCall fault → MergeCause after place spots fault old new → IsHeldFault fault
+merge_held after place spots ReadFault old new unfailed cause = absurd (unfailed tt)
+merge_held after place spots Stopped old new unfailed cause = absurd (unfailed tt)
+merge_held after place spots (Damaged p s stored computed) old new unfailed cause = (cause.1, cause.2)
+merge_held after place spots (Malformed p s) old new unfailed cause = tt
+merge_held after place spots (WornOut n) old new unfailed cause = absurd (unfailed tt)
+
+-- which is why a renewal may fail
+pub held_cause : (after : Places) (fault : ChipFault) (old new : Told) → IsHeldFault fault
+    → RenewCause after fault old new
+held_cause after ReadFault old new is = absurd is
+held_cause after Stopped old new is = absurd is
+held_cause after (Damaged p s stored computed) old new is = is
+held_cause after (Malformed p s) old new is = tt
+held_cause after (WornOut n) old new is = absurd is
+
+-- and is no worn place
+pub held_not_worn : (fault : ChipFault) → IsHeldFault fault → tells_worn fault ≡ false
+held_not_worn ReadFault is = absurd is
+held_not_worn Stopped is = absurd is
+held_not_worn (Damaged p s stored computed) is = refl
+held_not_worn (Malformed p s) is = refl
+held_not_worn (WornOut n) is = absurd is
 
 -- a cause in a later part of the time
 pub later_cause : (after : Places) (fault : ChipFault) (old mid new : Told) → Counts old mid

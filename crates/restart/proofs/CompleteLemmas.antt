@@ -1,9 +1,9 @@
 -- A renewal and an opening of what reads well fail only where a call of the chip failed.
-use Rattle.std.proofs.Common.{◌≡◌, ℕ, ◌<◌, ◌≤◌, true, List, [], ◌∷◌, Some, None, Result, Ok, Err, IfErr, inl, inr, refl, sym, ◌∙◌, subst, arith}
-use Rattle.std.proofs.lemmas.Bool.{cases_Bool}
+use Rattle.std.proofs.Common.{◌≡◌, ℕ, ◌<◌, ◌≤◌, Bool, true, false, List, [], ◌∷◌, Some, None, Result, Ok, Err, IfErr, inl, inr, refl, sym, ◌∙◌, subst, arith}
+use Rattle.std.proofs.lemmas.Bool.{cases_Bool, false≢true}
 use Rattle.chip_trait.specs.Told.{Told}
 use Rattle.ipl_base.specs.declared.fault.ChipFault.{ChipFault}
-use Rattle.ipl_base.specs.declared.fault.ChipFault.TheVariants.{ReadFault}
+use Rattle.ipl_base.specs.declared.fault.ChipFault.TheVariants.{ReadFault, Stopped, Damaged, Malformed, WornOut}
 use Rattle.ipl_base.specs.Calls.{IsFailedCall}
 use Rattle.ipl_base.specs.declared.fault.ImageFault.{ImageFault}
 use Rattle.ipl_base.specs.declared.fault.ImageFault.TheVariants.{Chip}
@@ -11,48 +11,64 @@ use Rattle.ipl_format.specs.Record.{Record}
 use Rattle.ipl_meaning.specs.Legible.{Legible}
 use Rattle.ipl_meaning.specs.Chart.{Chart, chart_of}
 use Rattle.ipl_meaning.specs.Last.{carried, carried_count}
-use Rattle.ipl_meaning.specs.Layout.{Shape, Layout, records_of}
+use Rattle.ipl_meaning.specs.Layout.{Layout, records_of}
 use Rattle.ipl_meaning.specs.Stands.{Says}
 use Rattle.ipl_meaning.specs.Tables.{Places, Tables}
-use Rattle.selective_merge.specs.Faults.{IsMergeable, FailsByChipAlone}
+use Rattle.selective_merge.specs.Faults.{FailsByChipAlone}
 use Rattle.selective_merge.specs.Packs.{among}
-use Rattle.selective_merge.proofs.FaultLemmas.{said_units_are_mergeable}
+use Rattle.selective_merge.proofs.FaultLemmas.{mergeable_by, mergeable_units_have_no_fault, said_units_are_mergeable}
 use Rattle.ipl_meaning.specs.Faults.{first_fault, is_image}
 use Rattle.restart.specs.Looks.{HasCause}
-use Rattle.selective_merge.specs.Merging.{CompletesMerge}
 use Rattle.place_taking.specs.Takes.{IsNotTaken}
 use Rattle.unit_io.specs.Leads.{IsStopped}
-use Rattle.restart.specs.Passes.{HasPassed, AreMergeable}
+use Rattle.restart.specs.Passes.{AreMergeable, AreMergeableBut, CompletesRenewal, FailsAsRenewal, FitTogether, IsRenewalFault}
+use Rattle.restart.specs.Stuck.{HasFault}
+use Rattle.chip_trait.specs.Story.{Contents}
+use Rattle.ipl_meaning.specs.Mirrors.{Mirrors}
 use Rattle.restart.specs.Recovers.{FailsByCallAlone}
 
 -- ---- units
 
--- a unit that the pass hasn't come to may be merged still
-pub mergeable_then : (places n : ℕ) (c : Chart) (it : Layout) (t : Tables) (kept : List ℕ)
-    (old : Told) (mid : Tables) (was : HasPassed places n c it t kept old mid) → n < it.count
-    → mid.active ≡ t.active → AreMergeable c it t
-    → IsMergeable (chart_of was.contents) was.now.committed mid (was.now.units n) n
-mergeable_then places n c it t kept old mid was low active all =
-    let may = all n low in
-    let same : was.now.units n ≡ it.units n = was.passed.same n low (inl (omega arith)) in record {
-      pages = λ page below.
-          let (now, shows) = may.pages page below in
-          (now, was.pages.shown n page now low below shows);
-      few = subst (λ (a : List ℕ). carried_count (among a) (was.now.units n).log ≤ 12) (sym active)
-          (subst (λ (s : Shape). carried_count (among t.active) s.log ≤ 12) (sym same) may.few);
-    }
+-- what can't be otherwise is so
+failed_so : (e : ChipFault) → ¬ (¬ IsFailedCall e) → IsFailedCall e
+failed_so ReadFault is = tt
+failed_so Stopped is = tt
+failed_so (Damaged p s stored computed) is = absurd (is (λ failed. failed))
+failed_so (Malformed p s) is = absurd (is (λ failed. failed))
+failed_so (WornOut n) is = tt
 
--- so its merge is complete
-pub merge_is_complete : (places n : ℕ) (c : Chart) (it : Layout) (t : Tables) (kept : List ℕ)
-    (old mid : Told) (between : Tables) (result : Result (Unit {0}) ChipFault)
-    → n < it.count → between.active ≡ t.active → mid.places ≡ places
-    → mid.contents ≡ old.contents → HasPassed places n c it t kept old between
-    → AreMergeable c it t → CompletesMerge mid.places between n result mid
-    → FailsByChipAlone result
-merge_is_complete places n c it t kept old mid between result low active sized same was all says =
-    subst (λ (q : ℕ). CompletesMerge q between n result mid) sized says was.contents
-    (same ∙ was.told) was.now was.mirrors
-    (mergeable_then places n c it t kept old between was low active all)
+module _ (places : ℕ) (x : Contents) (it : Layout) (t : Tables) (mirrors : Mirrors places (chart_of x) it t)
+    (some : ℕ → Bool) (all : AreMergeableBut some (chart_of x) it t) (fit : FitTogether it some) where
+  -- what can't be merged is one of these
+  is_some : (u : ℕ) → u < it.count → HasFault x it t u → some u ≡ true
+  is_some u low (e, wrong) = elim (cases_Bool (some u)) [
+    | inl is ↦ is
+    | inr other ↦
+        let fine = mergeable_units_have_no_fault x t (it.units u) u
+        (mergeable_by (chart_of x) it t u mirrors.status (all u low other)) in
+        let no_way : None ≡ Some e = sym fine ∙ wrong in absurd cc
+  ]
+
+  never : (e : ChipFault) → IsRenewalFault x it t e → ⊥
+  never e is =
+      let (numbers, few, has) = fit in
+      is.many.many
+      (numbers, few, λ u tid low one. has u tid low (is_some u low (is.many.stuck u low one)))
+
+-- what fails so alone is complete
+pub fault_completes : (places : ℕ) (t : Tables) (result : Result (Unit {0}) ChipFault) (told : Told)
+    → FailsAsRenewal places t result told → CompletesRenewal places t result told
+fault_completes places t (Ok v) told fails x is it mirrors some all fit = tt
+fault_completes places t (Err e) told fails x is it mirrors some all fit =
+    failed_so e (λ unfailed. never places x it t mirrors some all fit e (fails x is it mirrors unfailed))
+
+-- where all units can be merged
+pub complete_where_all : (places : ℕ) (t : Tables) (result : Result (Unit {0}) ChipFault) (told : Told)
+    → CompletesRenewal places t result told → (x : Contents) → told.contents ≡ Some x → (it : Layout)
+    → Mirrors places (chart_of x) it t → AreMergeable (chart_of x) it t → FailsByChipAlone result
+complete_where_all places t result told complete x is it mirrors all =
+    complete x is it mirrors (λ u. false) (λ u low other. all u low)
+    ([], omega arith, λ u tid low one. absurd (false≢true one))
 
 -- a place that wasn't taken is a call of the chip that failed
 pub not_taken_failed : (after : Places) (fault : ChipFault) (old new : Told)

@@ -21,7 +21,7 @@ use Rattle.unit_io.specs.Costs.{Spends}
 use Rattle.unit_io.specs.ReadsAt.{Anywhere, ReadsOnce}
 use Rattle.unit_io.specs.Unread.{ReadsNothing}
 use Rattle.unit_io.proofs.UnreadLemmas.{unread_then, once_then_unread}
-use Rattle.restart.specs.Passes.{KeepsAll, kept_below, has_room, HasPassed}
+use Rattle.restart.specs.Passes.{KeepsAll, kept_below, has_room, HasFound}
 use Rattle.restart.specs.Recovers.{ReadsOnceWhereFit}
 use Rattle.restart.proofs.UnitLemmas.{kept_fits}
 
@@ -46,7 +46,7 @@ fewer a b rise rises within =
     let same = ap (λ (l : List ℕ). length l) both in omega (arith, grow, same)
 
 -- in whatever order those stand
-no_more : (a numbers : List ℕ) → AreRising a → ((n : ℕ) → Contains a n → Contains numbers n)
+pub no_more : (a numbers : List ℕ) → AreRising a → ((n : ℕ) → Contains a n → Contains numbers n)
     → length a ≤ length numbers
 no_more a numbers rise within =
     let sorted = with_numbers numbers [] in
@@ -107,7 +107,7 @@ module _ (places : ℕ) (x : Contents) (it : Layout) (t : Tables)
 
   -- so it is as if all units were passed
   pub passed_all : (told : Told) → told.contents ≡ Some x
-      → HasPassed places it.count (chart_of x) it t kept told t
+      → HasFound places (chart_of x) it t kept told t
   passed_all told is =
       let all = fits_to it.count (omega arith) in record {
         contents = x;
@@ -118,18 +118,21 @@ module _ (places : ℕ) (x : Contents) (it : Layout) (t : Tables)
           shown = λ u page now low few shows. shows;
           no_more = λ u page base low few reads. (base, reads);
         };
-        passed = record {
-          count = refl;
-          same = λ u low either. refl;
-          merged = λ u low full.
-              let no_way : true ≡ false = sym (all.rooms u low) ∙ full in cc no_way;
-        };
+        alike = record { count = refl; units = λ u low. inl refl };
+        passed = inl (
+          record {
+            count = refl;
+            same = λ u low either. refl;
+            merged = λ u low full.
+                let no_way : true ≡ false = sym (all.rooms u low) ∙ full in cc no_way;
+          },
+          rising_lists_are_one kept (kept_below t.status.numbers it it.count) rising
+              all.rises (λ tid. (
+                λ has. (all.keeps tid).1 ((keeps tid).0 has),
+                λ has. (keeps tid).1 ((all.keeps tid).0 has),
+              )),
+        );
         committed = refl;
-        kept_is = rising_lists_are_one kept (kept_below t.status.numbers it it.count) rising
-            all.rises (λ tid. (
-              λ has. (all.keeps tid).1 ((keeps tid).0 has),
-              λ has. (keeps tid).1 ((all.keeps tid).0 has),
-            ));
         keeps = keeps;
       }
 

@@ -4,12 +4,13 @@ use Rattle.std.specs.List.{All, Contains}
 use Rattle.std.proofs.lemmas.List.Elements.{All-contains, Contains-get_or}
 use Rattle.std.proofs.lemmas.Bool.{cases_eq, cases_Bool}
 use Rattle.ipl_format.specs.Record.{Record}
-use Rattle.ipl_meaning.specs.Layout.{Shape, records_of}
+use Rattle.ipl_meaning.specs.Layout.{Shape, Layout, records_of}
+use Rattle.ipl_meaning.specs.Steps.{AllWait}
 use Rattle.number_set.specs.Numbers.{among}
 use Rattle.number_set.proofs.AmongLemmas.{among_is_contains}
 use Rattle.number_set.proofs.NumberLemmas.{numbers_are_a_union}
 use Rattle.restart.specs.Joins.{committed_in, joined}
-use Rattle.restart.specs.Keeps.{IsLogged, IsLoggedBelow, NoneAreKept, UnitsJoin, JoinedNumbersJoin, MergedUnitsAddNothing, KeptNumbersKeep, KeptNumbersAreExact}
+use Rattle.restart.specs.Keeps.{IsLogged, IsLoggedBelow, JoinsLog, KeepsOf, NoneAreKept, UnitsJoin, JoinedNumbersJoin, MergedUnitsAddNothing, KeptNumbersKeep, KeptNumbersAreExact}
 use Rattle.restart.proofs.JoinLemmas.{committed_is_logged}
 
 -- what isn't there isn't among them
@@ -114,4 +115,52 @@ pub kept_numbers_are_exact : KeptNumbersAreExact
 kept_numbers_are_exact it kept keeps tid = (
   λ is. (keeps tid).0 ((among_is_contains kept tid).0 is),
   λ both. (among_is_contains kept tid).1 ((keeps tid).1 both),
+)
+
+-- ---- of some units
+
+-- those that are added, or are left out, have records that wait alone
+pub keeps_as : (Of More : ℕ → Type 0) (it : Layout) (kept : List ℕ) → KeepsOf Of it kept
+    → ((u : ℕ) → Of u → More u ⊎ AllWait it.committed (records_of (it.units u).log))
+    → ((u : ℕ) → More u → Of u ⊎ AllWait it.committed (records_of (it.units u).log))
+    → KeepsOf More it kept
+keeps_as Of More it kept keeps to from tid = (
+  λ has.
+      let (is, (u, of, logged)) = (keeps tid).0 has in elim (to u of) [
+        | inl more ↦ (is, (u, more, logged))
+        | inr wait ↦ absurd (waits_not it.committed (records_of (it.units u).log) tid wait logged is)
+      ],
+  λ (is, (u, more, logged)). elim (from u more) [
+    | inl of ↦ (keeps tid).1 (is, (u, of, logged))
+    | inr wait ↦ absurd (waits_not it.committed (records_of (it.units u).log) tid wait logged is)
+  ],
+)
+
+-- a unit's numbers join them
+pub keeps_join : (Of : ℕ → Type 0) (n : ℕ) (it : Layout) (kept new : List ℕ) → KeepsOf Of it kept
+    → JoinsLog it.committed (it.units n).log kept new → KeepsOf (λ u. Of u ⊎ (u ≡ n)) it new
+keeps_join Of n it kept new keeps joins tid = (
+  λ has. elim ((joins tid).0 has) [
+    | inl before ↦ let (is, (u, of, logged)) = (keeps tid).0 before in (is, (u, inl of, logged))
+    | inr (is, logged) ↦ (is, (n, inr refl, logged))
+  ],
+  λ (is, (u, of, logged)). elim of [
+    | inl before ↦ (joins tid).1 (inl ((keeps tid).1 (is, (u, before, logged))))
+    | inr same ↦ (joins tid).1 (inr (is, subst (λ (v : ℕ). IsLogged (it.units v).log tid) same logged))
+  ],
+)
+
+-- these units are as they were
+pub keeps_still : (Of : ℕ → Type 0) (it now : Layout) (kept : List ℕ) → KeepsOf Of it kept
+    → now.committed ≡ it.committed → ((u : ℕ) → Of u → now.units u ≡ it.units u) → KeepsOf Of now kept
+keeps_still Of it now kept keeps committed same tid = (
+  λ has.
+      let (is, (u, of, logged)) = (keeps tid).0 has in (
+        subst (λ (f : ℕ → Bool). IsTrue (f tid)) (sym committed) is,
+        (u, of, subst (λ (s : Shape). IsLogged s.log tid) (sym (same u of)) logged),
+      ),
+  λ (is, (u, of, logged)). (keeps tid).1 (
+    subst (λ (f : ℕ → Bool). IsTrue (f tid)) committed is,
+    (u, of, subst (λ (s : Shape). IsLogged s.log tid) (same u of) logged),
+  ),
 )

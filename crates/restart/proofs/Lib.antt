@@ -9,7 +9,10 @@ pub mod RenewalCountLemmas
 pub mod PlaceLemmas
 pub mod PlaceStepLemmas
 pub mod UnitLemmas
+pub mod TurnLemmas
+pub mod WalkLemmas
 pub mod PassLemmas
+pub mod PassingLemmas
 pub mod PreserveLemmas
 pub mod RenewalKnownLemmas
 pub mod TellingLemmas

@@ -19,7 +19,7 @@ use Rattle.unit_io.proofs.StepTidyLemmas.{tidy_reads}
 use Rattle.unit_io.specs.Leads.{IsSteady}
 use Rattle.unit_io.specs.ReadsAt.{ReadsAt}
 use Rattle.unit_io.proofs.ReadsAtLemmas.{at_rests}
-use Rattle.restart.specs.Passes.{HasPassed}
+use Rattle.restart.specs.Passes.{HasFound}
 
 -- ---- what is held is told
 
@@ -118,18 +118,18 @@ read_then At places m h it t after old mid new result steady rests agrees reads 
     (agrees_of places k mid (held h.start h.story) it t there
     (reads.contents ∙ steady.holds) agrees.mirrors tidy))
 
--- a part of a pass, and then another call
+-- all passes, and then another call
 pub passed_then : (places : ℕ) (m : Legible) (h : History) (it : Layout) (t between after : Tables)
-    (old mid new : Told) (result : Result (Unit {0}) ChipFault) (n : ℕ) (kept : List ℕ)
+    (old mid new : Told) (result : Result (Unit {0}) ChipFault) (kept : List ℕ)
     → Counts old mid → IsSteady h old → Agrees places h it t
     → ((x : Contents) → old.contents ≡ Some x → Mirrors places (chart_of x) it t
-    → HasPassed places n (chart_of x) it t kept mid between)
+    → HasFound places (chart_of x) it t kept mid between)
     → Preserves {T = Unit {0}} {E = ChipFault} places m t between h (Ok tt) old mid
-    → ((k : History) (was : HasPassed places n (now h) it t kept mid between) → IsSteady k mid
+    → ((k : History) (was : HasFound places (now h) it t kept mid between) → IsSteady k mid
     → StoryRests places m k → Agrees places k was.now between
     → Preserves places m between after k result mid new)
     → Preserves places m t after h result old new
-passed_then places m h it t between after old mid new result n kept counts steady agrees passes
+passed_then places m h it t between after old mid new result kept counts steady agrees passes
     first next =
     let was = passes (held h.start h.story) steady.holds agrees.mirrors in
     preserves_then places m h it t between after old mid new result counts agrees first

@@ -18,24 +18,19 @@ use Rattle.txn_status.specs.Status.{room_of}
 use Rattle.unit_io.specs.Charts.{Charts}
 use Rattle.selective_merge.specs.Throughout.{ChartsThroughout}
 use Rattle.selective_merge.proofs.TakenLemmas.{told_not}
-use Rattle.restart.specs.Passes.{HasPassed, HasRenewed, HasStopped, TellsChart, PassEnds}
+use Rattle.restart.specs.Passes.{HasFound, HasRenewed, HasStopped, TellsChart, PassEnds}
 use Rattle.restart.specs.Renewed.{with_tables, IsGivenBack, MayRenew, MovesStatus, Renews}
-use Rattle.restart.specs.Keeps.{KeepsBelow}
 use Rattle.restart.proofs.KeepsLemmas.{kept_numbers_keep, kept_numbers_are_exact}
 use Rattle.restart.proofs.ReadyLemmas.{kept_numbers_are_old}
 use Rattle.restart.proofs.TidyLemmas.{back_is_same}
 
 module _ (places : ℕ) (c : Chart) (it : Layout) (t : Tables) (kept : List ℕ) (mid : Told)
-    (between : Tables) (was : HasPassed places it.count c it t kept mid between) where
-  -- all units were passed
-  keeps_all : KeepsBelow was.now.count was.now kept
-  keeps_all = subst (λ (n : ℕ). KeepsBelow n was.now kept) (sym was.passed.count) was.keeps
-
+    (between : Tables) (was : HasFound places c it t kept mid between) where
   -- the numbers may be kept
   pub may_renew : MayRenew was.now between kept
   may_renew = record {
-    keeps = kept_numbers_keep was.now kept keeps_all;
-    may = kept_numbers_are_old places it.count (chart_of was.contents) was.now between kept
+    keeps = kept_numbers_keep was.now kept was.keeps;
+    may = kept_numbers_are_old places was.now.count (chart_of was.contents) was.now between kept
         was.mirrors was.keeps;
   }
 
@@ -52,15 +47,21 @@ module _ (places : ℕ) (c : Chart) (it : Layout) (t : Tables) (kept : List ℕ)
           record {
             now = with_status was.now status.place switched.head (among kept);
             mirrors = switched.mirrors;
-            pages = pages_then places c (chart_of was.contents) (chart_of y) it was.now _ was.passed.count was.pages (switched.pages may_renew.keeps);
-            passed = record {
-              count = was.passed.count;
-              same = λ u low either. was.passed.same u low either;
-              merged = λ u before full. was.passed.merged u before full;
-            };
-            committed = ap among was.kept_is;
+            pages = pages_then places c (chart_of was.contents) (chart_of y) it was.now _ was.alike.count was.pages (switched.pages may_renew.keeps);
+            alike = record { count = was.alike.count; units = λ u low. was.alike.units u low };
+            passed = elim was.passed [
+              | inr stuck ↦ inr stuck
+              | inl first ↦ inl (
+                record {
+                  count = first.0.count;
+                  same = λ u low either. first.0.same u low either;
+                  merged = λ u before full. first.0.merged u before full;
+                },
+                ap among first.1,
+              )
+            ];
             exact = λ tid.
-                let both = kept_numbers_are_exact was.now kept keeps_all tid in (
+                let both = kept_numbers_are_exact was.now kept was.keeps tid in (
                   λ is. let (committed, logged) = both.0 is in
                       (subst (λ (f : ℕ → Bool). IsTrue (f tid)) was.committed committed, logged),
                   λ is. both.1
@@ -89,11 +90,14 @@ module _ (places : ℕ) (c : Chart) (it : Layout) (t : Tables) (kept : List ℕ)
           y,
           told_y,
           record {
-            units = it.count;
             now = was.now;
             mirrors = (stays was.now was.mirrors).0;
-            pages = pages_then places c (chart_of was.contents) (chart_of y) it was.now was.now was.passed.count was.pages (stays was.now was.mirrors).1;
-            passed = was.passed;
+            pages = pages_then places c (chart_of was.contents) (chart_of y) it was.now was.now was.alike.count was.pages (stays was.now was.mirrors).1;
+            alike = was.alike;
+            passed = elim was.passed [
+              | inr stuck ↦ inr stuck
+              | inl first ↦ inl (it.count, first.0)
+            ];
             committed = was.committed;
           },
         )

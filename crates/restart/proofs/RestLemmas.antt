@@ -1,7 +1,7 @@
 -- What a renewal leaves of a story that rests on a map.
 use Rattle.std.proofs.Common.{◌≡◌, ◌≢◌, true, false, inl, inr, get_or, Ok, Err, refl, sym, ◌∙◌, ap, subst, arith}
 use Rattle.std.specs.List.{Contains}
-use Rattle.std.proofs.lemmas.Bool.{cases_Bool, cases_lt}
+use Rattle.std.proofs.lemmas.Bool.{cases_Bool}
 use Rattle.std.proofs.lemmas.List.Elements.{Contains-get_or}
 use Rattle.chip_trait.specs.Story.{Contents, held}
 use Rattle.chip_trait.specs.Told.{History, Told, Unrisen, adds_all}
@@ -14,21 +14,16 @@ use Rattle.ipl_meaning.specs.Layout.{Shape, records_of}
 use Rattle.ipl_meaning.specs.Rests.{now}
 use Rattle.ipl_meaning.specs.Tables.{Places}
 use Rattle.unit_io.specs.Leads.{IsSteady}
-use Rattle.restart.specs.Passes.{has_room, HasStopped, HasRenewed, TellsChart, RenewCause}
+use Rattle.restart.specs.Passes.{HasStopped, HasRenewed, TellsChart, RenewCause}
 use Rattle.restart.specs.Renewals.{PassedLogsAreSameOrCarried, ExactNumbersKeep, RenewalsRest}
 use Rattle.restart.proofs.UnitLemmas.{repacked_is_carried}
 use Rattle.restart.proofs.PreserveLemmas.{same_told}
 
 pub passed_logs_are_same_or_carried : PassedLogsAreSameOrCarried
-passed_logs_are_same_or_carried n active numbers it now passed u low =
-    elim (cases_lt u n) [
-      | inl before ↦ elim (cases_Bool (has_room numbers it u)) [
-        | inl room ↦ inl (ap (λ (s : Shape). records_of s.log) (passed.same u low (inr room)))
-        | inr full ↦ inr (repacked_is_carried active u (it.units u) (now.units u)
-            (passed.merged u before full))
-      ]
-      | inr behind ↦ inl (ap (λ (s : Shape). records_of s.log) (passed.same u low (inl behind)))
-    ]
+passed_logs_are_same_or_carried active it now alike u low = elim (alike.units u low) [
+  | inl same ↦ inl (ap (λ (s : Shape). records_of s.log) same)
+  | inr merged ↦ inr (repacked_is_carried active u (it.units u) (now.units u) merged)
+]
 
 -- ---- numbers
 

@@ -11,7 +11,7 @@ use Rattle.ipl_meaning.specs.Tables.{Tables}
 use Rattle.unit_io.specs.Reads.{OfContents}
 use Rattle.restart.specs.Passes.{IsRenewalFault}
 
--- this is wrong with a unit whose numbers don't fit, and the tables then have it where it was
+-- this is wrong with a unit that has to be merged, and the tables then have it where it was
 pub record IsFaultInPlace (x : Contents) (it : Layout) (t after : Tables)
     (e : ChipFault) : Type 0 where
   pub is : IsRenewalFault x it t e

@@ -14,6 +14,11 @@ IsLogged log tid = (r : Record) × Contains (records_of log) r × (r.tid ≡ tid
 abbrev pub IsLoggedBelow : ℕ → Layout → ℕ → Type 0
 IsLoggedBelow n it tid = (u : ℕ) × (u < n) × IsLogged (it.units u).log tid
 
+-- of the numbers in live records of these units, these are exactly the committed ones
+abbrev pub KeepsOf : (ℕ → Type 0) → Layout → List ℕ → Type 0
+KeepsOf Of it kept = (tid : ℕ) → Contains kept tid
+    ↔ (IsTrue (it.committed tid) × ((u : ℕ) × Of u × IsLogged (it.units u).log tid))
+
 -- of the numbers in live records of the first n units, these are exactly the committed ones
 abbrev pub KeepsBelow : ℕ → Layout → List ℕ → Type 0
 KeepsBelow n it kept =

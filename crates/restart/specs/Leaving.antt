@@ -1,20 +1,16 @@
 -- What a pass over the units and a renewal leave, whatever the chip tells, and why they fail over what it holds.
-use Rattle.std.specs.Prelude.{ℕ, ◌≡◌, ◌≤◌, ◌+◌, ◌^◌, List, length, Result, is_ok, OnOk, IfErr}
-use Rattle.chip_trait.specs.Story.{Contents}
+use Rattle.std.specs.Prelude.{ℕ, ◌≤◌, ◌+◌, ◌^◌, length, Result, is_ok, OnOk}
 use Rattle.chip_trait.specs.Told.{Told}
 use Rattle.ipl_base.specs.declared.fault.ChipFault.{ChipFault}
-use Rattle.ipl_meaning.specs.Chart.{Chart, chart_of}
-use Rattle.ipl_meaning.specs.Layout.{Layout}
 use Rattle.ipl_meaning.specs.Tables.{Tables}
-use Rattle.selective_merge.specs.Faults.{FailsByChipAlone}
 use Rattle.place_taking.specs.Spending.{is_worn_out}
 use Rattle.place_taking.specs.Wear.{TellsOfWear}
 use Rattle.selective_merge.specs.Moving.{Holds}
 use Rattle.unit_io.specs.Steps.{Tidies}
 use Rattle.unit_io.specs.Accounts.{Accounts}
 use Rattle.unit_io.specs.Costs.{Spends}
-use Rattle.restart.specs.InPlace.{FailsInPlace, RenewalFailsInPlace}
-use Rattle.restart.specs.Passes.{HasPassed, HoldsRenewed, SparesUnits, FailsAsPass, FailsAsRenewal, AreMergeable, CompletesRenewal, ErasesAtMost, HasErased, RenewCause, RenewsTold, KeepsInSteps}
+use Rattle.restart.specs.InPlace.{RenewalFailsInPlace}
+use Rattle.restart.specs.Passes.{HoldsRenewed, FailsAsRenewal, CompletesRenewal, ErasesAtMost, HasErased, RenewCause, RenewsTold, KeepsInSteps}
 
 -- ---- the pass
 
@@ -29,29 +25,10 @@ pub record LeavesPassed (drawn erases : ℕ) (t after : Tables) (result : Result
   pub tidy : Tidies t result after old new
   pub accounts : Accounts (RenewCause after.places) result old new
 
--- Why it fails at a unit, once those before it were passed: where the others have the bytes that they had, with
--- what is wrong with it, where it was; and where all units can be merged, only since a call of the chip failed.
-pub record UnitFails (unit : ℕ) (kept : List ℕ) (before after : Tables) (result : Result (Unit {0}) ChipFault)
-    (told : Told) : Type 0 where
-  pub fault : (places : ℕ) (x : Contents) (it : Layout) (t : Tables)
-      → told.places ≡ places → Holds places t before
-      → HasPassed places unit (chart_of x) it t kept told before
-      → SparesUnits unit x it told
-      → IfErr result (FailsAsPass x it t)
-  pub stays : (places : ℕ) (x : Contents) (it : Layout) (t : Tables)
-      → told.places ≡ places → Holds places t before
-      → HasPassed places unit (chart_of x) it t kept told before
-      → SparesUnits unit x it told
-      → IfErr result (FailsInPlace x it t after)
-  pub complete : (places : ℕ) (c : Chart) (it : Layout) (t : Tables)
-      → told.places ≡ places → Holds places t before
-      → HasPassed places unit c it t kept told before
-      → AreMergeable c it t → FailsByChipAlone result
-
 -- ---- the renewal
 
--- Why a pass over all units fails, and a renewal: with what is wrong with a unit that had to be merged, where it
--- was; and where all units can be merged, only since a call of the chip failed.
+-- Why passes over all units fail, and a renewal: with what is wrong with a unit that had to be merged, where it
+-- was; and where the numbers of those that can't be merged fit together, only since a call of the chip failed.
 pub record RenewalFails (places : ℕ) (t after : Tables) (result : Result (Unit {0}) ChipFault) (told : Told)
     : Type 0 where
   pub fault : FailsAsRenewal places t result told

@@ -2,7 +2,10 @@ pub mod Closing
 pub mod Ready
 pub mod RenewalChains
 pub mod Renewed
+pub mod Turns
+pub mod Stuck
 pub mod Passes
+pub mod Passing
 pub mod Renewals
 pub mod Recovers
 pub mod InPlace

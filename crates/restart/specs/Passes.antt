@@ -1,5 +1,5 @@
 -- What a pass over the units makes of a chip and of its tables.
-use Rattle.std.specs.Prelude.{ℕ, zero, suc, ◌≡◌, ◌≢◌, ◌⊎◌, ◌↔◌, ◌<◌, ◌≤◌, ◌*◌, nat_le, Bool, true, false, IsTrue, List, [], length, Some, Result, MatchResult, IfErr, if◌then◌else◌}
+use Rattle.std.specs.Prelude.{ℕ, zero, suc, ◌≡◌, ◌≢◌, ◌⊎◌, ◌↔◌, ◌<◌, ◌≤◌, ◌*◌, nat_le, Bool, true, false, IsTrue, List, [], Contains, length, Some, Result, MatchResult, IfErr, if◌then◌else◌}
 use Rattle.ipl_base.specs.declared.limits.TheConstants.{PAGES, FIRST_LOG_SECTOR, KEPT_NUMBERS}
 use Rattle.chip_trait.specs.Story.{Story, Contents}
 use Rattle.chip_trait.specs.Told.{History, Told, Rose}
@@ -30,7 +30,8 @@ use Rattle.unit_io.specs.Costs.{is_erased}
 use Rattle.unit_io.specs.Leads.{IsSteady}
 use Rattle.unit_io.specs.Reads.{OfContents}
 use Rattle.restart.specs.Joins.{joined}
-use Rattle.restart.specs.Keeps.{IsLoggedBelow, KeepsBelow}
+use Rattle.restart.specs.Stuck.{HasFault, OneIsStuck}
+use Rattle.restart.specs.Keeps.{IsLogged, IsLoggedBelow, KeepsBelow}
 
 -- ---- which numbers are kept
 
@@ -67,32 +68,40 @@ pub record ArePassed (n : ℕ) (active numbers : List ℕ) (it now : Layout) : T
   pub merged : (u : ℕ) → u < n → has_room numbers it u ≡ false
       → IsRepacked active u (it.units u) (now.units u)
 
+-- there are as many units, and each is as it was, or was merged
+pub record AreAlike (active : List ℕ) (it now : Layout) : Type 0 where
+  pub count : now.count ≡ it.count
+  pub units : (u : ℕ) → u < it.count
+      → (now.units u ≡ it.units u) ⊎ IsRepacked active u (it.units u) (now.units u)
+
 -- ---- the pass
 
--- The first n units were passed, and the tables mirror what the chip holds then. All pages show what
--- they showed, and the same numbers are committed. Of the numbers in live records of these units
--- exactly the committed ones are kept.
-pub record HasPassed (places n : ℕ) (c : Chart) (it : Layout) (t : Tables) (kept : List ℕ)
+-- All units were passed, and the tables mirror what the chip holds then. Some units were merged: where none
+-- is stuck, those whose numbers don't fit. All pages show what they showed, and the same numbers are
+-- committed. Of the numbers in live records exactly the committed ones are kept.
+pub record HasFound (places : ℕ) (c : Chart) (it : Layout) (t : Tables) (kept : List ℕ)
     (new : Told) (after : Tables) : Type 0 where
   pub contents : Contents
   pub told : new.contents ≡ Some contents
   pub now : Layout
   pub mirrors : Mirrors places (chart_of contents) now after
   pub pages : KeepsPages places c it (chart_of contents) now
-  pub passed : ArePassed n t.active t.status.numbers it now
+  pub alike : AreAlike t.active it now
+  pub passed : (ArePassed it.count t.active t.status.numbers it now
+      × (kept ≡ kept_below t.status.numbers it it.count)) ⊎ OneIsStuck c it t
   pub committed : now.committed ≡ it.committed
-  pub kept_is : kept ≡ kept_below t.status.numbers it n
-  pub keeps : KeepsBelow n now kept
+  pub keeps : KeepsBelow now.count now kept
 
--- It ended before all units were passed: some of the first ones were merged. The tables mirror the
--- chart, all pages show what they showed, and the same numbers are committed.
+-- It ended before all units were passed: some were merged, and where none is stuck, of the first ones
+-- those whose numbers don't fit. The tables mirror the chart, all pages show what they showed, and the same
+-- numbers are committed.
 pub record HasStopped (places : ℕ) (c : Chart) (it : Layout) (t after : Tables)
     (y : Chart) : Type 0 where
-  pub units : ℕ
   pub now : Layout
   pub mirrors : Mirrors places y now after
   pub pages : KeepsPages places c it y now
-  pub passed : ArePassed units t.active t.status.numbers it now
+  pub alike : AreAlike t.active it now
+  pub passed : ((n : ℕ) × ArePassed n t.active t.status.numbers it now) ⊎ OneIsStuck c it t
   pub committed : now.committed ≡ it.committed
 
 -- the chip tells contents whose chart is so
@@ -125,15 +134,17 @@ ListsRetired t c = ListsAt t.status.place t.places.retired c
 
 -- All units were passed, and the status has a new place with the numbers that are kept, whose header
 -- says how often the tables have it erased, and lists exactly the places that are retired in them; no
--- mark stands there. All pages show what they showed. Of the numbers that were committed exactly those
--- are so still that a live record has.
+-- mark stands there. Some units were merged: where none is stuck, those whose numbers don't fit.
+-- All pages show what they showed. Of the numbers that were committed exactly those are so still that a
+-- live record has.
 pub record HasRenewed (places : ℕ) (c : Chart) (it : Layout) (t after : Tables)
     (y : Chart) : Type 0 where
   pub now : Layout
   pub mirrors : Mirrors places y now after
   pub pages : KeepsPages places c it y now
-  pub passed : ArePassed it.count t.active t.status.numbers it now
-  pub committed : now.committed ≡ among (kept_below t.status.numbers it it.count)
+  pub alike : AreAlike t.active it now
+  pub passed : (ArePassed it.count t.active t.status.numbers it now
+      × (now.committed ≡ among (kept_below t.status.numbers it it.count))) ⊎ OneIsStuck c it t
   pub exact : (tid : ℕ) → IsTrue (now.committed tid)
       ↔ (IsTrue (it.committed tid) × IsLoggedBelow now.count now tid)
   pub unmarked : HasNoMark y now.status now.head.generation
@@ -176,18 +187,25 @@ pub record HoldsRenewed (places : ℕ) (before : Tables) (result : Result (Unit 
 
 -- ---- why it fails over what the chip holds
 
--- each unit from the n-th on has the bytes that it had
-abbrev pub SparesUnits : ℕ → Contents → Layout → Told → Type 0
-SparesUnits n x it new = (y : Contents) → new.contents ≡ Some y
-    → (u : ℕ) → u < it.count → n ≤ u
-    → (s : ℕ) → y (it.units u).home s ≡ x (it.units u).home s
+-- at most 3,840 numbers have each committed one that a live record of these units has
+abbrev pub FitTogether : Layout → (ℕ → Bool) → Type 0
+FitTogether it some = (numbers : List ℕ) × (length numbers ≤ KEPT_NUMBERS)
+    × ((u tid : ℕ) → u < it.count → some u ≡ true → IsTrue (it.committed tid)
+    → IsLogged (it.units u).log tid → Contains numbers tid)
 
--- this is wrong with a unit whose numbers don't fit: a page, or how many log sectors are carried
+-- the numbers of some units that can't be merged are too many
+pub record StuckDontFit (x : Contents) (it : Layout) (t : Tables) : Type 0 where
+  pub some : ℕ → Bool
+  pub stuck : (u : ℕ) → u < it.count → some u ≡ true → HasFault x it t u
+  pub many : ¬ FitTogether it some
+
+-- This is wrong with a unit that has to be merged: a page, or how many log sectors are carried. And the numbers of
+-- the units with which something is wrong are too many, whatever the others have.
 pub record IsRenewalFault (x : Contents) (it : Layout) (t : Tables) (e : ChipFault) : Type 0 where
   pub unit : ℕ
   pub low : unit < it.count
-  pub full : has_room t.status.numbers it unit ≡ false
   pub fault : merge_fault x t (it.units unit) unit ≡ Some e
+  pub many : StuckDontFit x it t
 
 -- it is such a fault, unless a call of the chip failed
 abbrev pub FailsAsPass : Contents → Layout → Tables → ChipFault → Type 0
@@ -198,16 +216,21 @@ abbrev pub FailsAsRenewal : ℕ → Tables → Result (Unit {0}) ChipFault → T
 FailsAsRenewal places t result told = OfContents told (λ x. (it : Layout)
     → Mirrors places (chart_of x) it t → IfErr result (FailsAsPass x it t))
 
--- each unit's pages show values, and at most 12 log sectors of it would be carried
+-- of each unit but these all pages show values, and at most 12 log sectors would be carried
+abbrev pub AreMergeableBut : (ℕ → Bool) → Chart → Layout → Tables → Type 0
+AreMergeableBut some c it t = (u : ℕ) → u < it.count → some u ≡ false
+    → IsMergeable c it.committed t (it.units u) u
+
+-- it is so of all units
 abbrev pub AreMergeable : Chart → Layout → Tables → Type 0
 AreMergeable c it t = (u : ℕ) → u < it.count → IsMergeable c it.committed t (it.units u) u
 
--- over contents that the tables mirror, where all units are such, it fails only where a call of the
--- chip failed
+-- over contents that the tables mirror, where all units can be merged but some, and the numbers of those fit
+-- together, it fails only where a call of the chip failed
 abbrev pub CompletesRenewal : ℕ → Tables → Result (Unit {0}) ChipFault → Told → Type 0
 CompletesRenewal places t result told = OfContents told (λ x. (it : Layout)
-    → Mirrors places (chart_of x) it t → AreMergeable (chart_of x) it t
-    → FailsByChipAlone result)
+    → Mirrors places (chart_of x) it t → (some : ℕ → Bool)
+    → AreMergeableBut some (chart_of x) it t → FitTogether it some → FailsByChipAlone result)
 
 -- ---- costs
 

@@ -14,7 +14,7 @@ use Rattle.unit_io.specs.Steps.{Steps}
 use Rattle.unit_io.specs.Accounts.{Accounts}
 use Rattle.unit_io.specs.Leads.{IsSteady}
 use Rattle.restart.specs.Keeps.{IsLoggedBelow}
-use Rattle.restart.specs.Passes.{ArePassed, HasStopped, HasRenewed, RenewsTold, KeepsInSteps, RenewCause}
+use Rattle.restart.specs.Passes.{AreAlike, HasStopped, HasRenewed, RenewsTold, KeepsInSteps, RenewCause}
 
 -- ---- a story that rests on a map
 
@@ -36,8 +36,8 @@ pub record RestsStopped (places : ℕ) (m : Legible) (c : Chart) (it : Layout) (
 
 -- each unit's log has the records that it had, or those that a merge carries
 abbrev pub PassedLogsAreSameOrCarried : Type 0
-PassedLogsAreSameOrCarried = (n : ℕ) (active numbers : List ℕ) (it new : Layout)
-    → ArePassed n active numbers it new → (u : ℕ) → u < it.count
+PassedLogsAreSameOrCarried = (active : List ℕ) (it new : Layout)
+    → AreAlike active it new → (u : ℕ) → u < it.count
     → (records_of (new.units u).log ≡ records_of (it.units u).log)
     ⊎ (records_of (new.units u).log ≡ carried (among active) (records_of (it.units u).log))
 

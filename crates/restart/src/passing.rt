@@ -1,56 +1,63 @@
-//! The pass over the units, which finds the numbers that a new status place keeps.
-ghost use Rattle.std.specs.Prelude.{◌≡◌, ◌<◌, ◌+◌, ◌*◌, ◌^◌, ℕ, length, Some, true, OnOk};
-ghost use Rattle.std.specs.Bool.{OnTrue};
+//! The passes over the units, which find the numbers that a new status place keeps.
+ghost use Rattle.std.specs.Prelude.{◌≡◌, ◌<◌, ◌+◌, ◌*◌, ◌^◌, ℕ, length, Some, true, false};
+ghost use Rattle.std.specs.Bool.{OnTrue, OnFalse};
+ghost use Rattle.ipl_base.specs.Calls.{IsFailedCall};
 ghost use Rattle.ipl_base.specs.declared.limits.TheConstants.{MOST_UNITS};
 ghost use Rattle.chip_trait.specs.Story.{Contents};
-ghost use Rattle.ipl_meaning.specs.Chart.{Chart, chart_of};
+ghost use Rattle.ipl_meaning.specs.Chart.{chart_of};
 ghost use Rattle.ipl_meaning.specs.Layout.{Layout};
 ghost use Rattle.ipl_meaning.specs.Mirrors.{Mirrors};
-ghost use Rattle.ipl_meaning.specs.Tables.{Tables};
+ghost use Rattle.number_set.specs.Numbers.{AreRising};
 ghost use Rattle.selective_merge.specs.Known.{KnowsPlaces};
-ghost use Rattle.selective_merge.specs.Moving.{tables_of, Holds};
+ghost use Rattle.selective_merge.specs.Moving.{tables_of};
 ghost use Rattle.unit_io.specs.Costs.{Spends};
 ghost use Rattle.unit_io.specs.Unread.{ReadsNothing};
-ghost use Rattle.restart.specs.Leaving.{LeavesPassed, RenewalFails, UnitFails};
-ghost use Rattle.restart.specs.Passes.{KeepsAll, HasPassed, PassEnds, GoesOnTelling, KeepsInSteps, SparesUnits};
+ghost use Rattle.restart.specs.Leaving.{LeavesPassed, RenewalFails};
+ghost use Rattle.restart.specs.Passes.{KeepsAll, HasFound, PassEnds, GoesOnTelling, KeepsInSteps};
+ghost use Rattle.restart.specs.Passing.{AreLeft, Grows, HoldsStuck, HoldsUnit, JoinsUnit, MakesRoom, TakesUnit, TakesUnits, TriesPass, Walks};
+ghost use Rattle.restart.specs.Stuck.{IsHeldFault};
+ghost use Rattle.restart.specs.Turns.{is_ended};
+ghost use Rattle.restart.specs.declared.turns.Turns.{Turns};
 
 use crate::numbers::KeptNumbers;
+use crate::turns::Turns;
 use chip_trait::Chip;
 use ipl_base::ChipFault;
 use selective_merge::{Parts, merge};
 use unit_log::read_live;
 
-/// Passes a unit: the committed numbers of its live records join those that are kept; or, where they
-/// would be too many, the unit is merged, and none of its records is of a committed number then.
-fn take_unit<C: Chip>(
+/// Whether a call of the chip failed; else the fault is of what the chip holds.
+fn is_failed_call(fault: &ChipFault) -> bool
+    ensures failed { OnTrue result (IsFailedCall fault.now) }
+    ensures held { OnFalse result (¬ IsFailedCall fault.now) }
+{
+    match fault {
+        ChipFault::ReadFault | ChipFault::Stopped | ChipFault::WornOut(_) => true,
+        ChipFault::Damaged { .. } | ChipFault::Malformed { .. } => false,
+    }
+}
+
+/// The committed numbers of a unit's live records join those that are kept. False where they would be
+/// too many, and then the same are kept.
+fn join_unit<C: Chip>(
     chip: &mut C,
     parts: &mut Parts,
     kept: &mut KeptNumbers,
     unit: u32,
-) -> Result<(), ChipFault>
+) -> Result<bool, ChipFault>
     requires known { KnowsPlaces (C.told chip.old).places (tables_of parts.old) }
     requires unit { unit < length parts.old.directory.current }
-    requires left { parts.old.counter + 13 < 2 ^ 64 }
-    ensures passes { (places : ℕ) (c : Chart) (it : Layout) (t : Tables)
-        → (C.told chip.old).places ≡ places → Holds places t (tables_of parts.old)
-        → HasPassed places unit c it t kept.old (C.told chip.old) (tables_of parts.old)
-        → PassEnds places c it t result (C.told chip.new) (tables_of parts.new)
-        (HasPassed places (unit + 1) c it t kept.new (C.told chip.new) (tables_of parts.new)) }
-    ensures goes_on { GoesOnTelling result (C.told chip.old) (C.told chip.new) }
-    ensures spares { (places : ℕ) (x : Contents) (it : Layout) (t : Tables)
-        → (C.told chip.old).places ≡ places
-        → HasPassed places unit (chart_of x) it t kept.old (C.told chip.old) (tables_of parts.old)
-        → SparesUnits unit x it (C.told chip.old)
-        → OnOk result (SparesUnits (unit + 1) x it (C.told chip.new)) }
-    ensures fails { UnitFails unit kept.old (tables_of parts.old) (tables_of parts.new) result
+    ensures joins { JoinsUnit (C.told chip.old).places unit (tables_of parts.old) kept.old kept.new result
         (C.told chip.old) }
-    ensures steps { (places : ℕ) → (C.told chip.old).places ≡ places
-        → KeepsInSteps places (tables_of parts.old) (tables_of parts.new)
-        (C.told chip.old) result (C.told chip.new) }
-    ensures leaves { LeavesPassed 13 1 (tables_of parts.old) (tables_of parts.new) result
-        (C.told chip.old) (C.told chip.new) }
+    ensures same { tables_of parts.new ≡ tables_of parts.old }
+    ensures rising { AreRising kept.old }
+    ensures walks { (turns : Turns) → Walks turns turns (tables_of parts.old) (tables_of parts.new)
+        result (C.told chip.old) (C.told chip.new) }
+    ensures still { ((C.told chip.new).contents ≡ (C.told chip.old).contents)
+        × ((C.told chip.new).places ≡ (C.told chip.old).places) }
 {
     let scratch = &mut parts.scratch;
+    kept.rises();
     read_live(
         chip,
         &parts.directory,
@@ -58,14 +65,166 @@ fn take_unit<C: Chip>(
         unit,
         &mut scratch.sectors,
     )?;
-    if kept.join(scratch.sectors.sectors(), &parts.status) {
+    Ok(kept.join(scratch.sectors.sectors(), &parts.status))
+}
+
+/// Of a unit that is stuck the numbers join those that are kept. Where they would be too many, it fails
+/// with what is wrong with the one that was stuck last: before it they weren't.
+fn hold_unit<C: Chip>(
+    chip: &mut C,
+    parts: &mut Parts,
+    kept: &mut KeptNumbers,
+    turns: &Turns,
+    unit: u32,
+) -> Result<(), ChipFault>
+    requires known { KnowsPlaces (C.told chip.old).places (tables_of parts.old) }
+    requires unit { unit < length parts.old.directory.current }
+    requires held { IsHeldFault turns.now.fault }
+    ensures holds { HoldsUnit unit turns.now kept.old kept.new (tables_of parts.old)
+        (tables_of parts.new) result (C.told chip.old) (C.told chip.new) }
+    ensures walks { Walks turns.now turns.now (tables_of parts.old) (tables_of parts.new)
+        result (C.told chip.old) (C.told chip.new) }
+{
+    parts.directory.facts();
+    if !turns.is_stuck(unit) {
         return Ok(());
     }
-    merge(chip, parts, unit)
+    if join_unit(chip, parts, kept, unit)? {
+        return Ok(());
+    }
+    Err(turns.fault)
+}
+
+/// The numbers of all units that are stuck are kept before others.
+fn hold_stuck<C: Chip>(
+    chip: &mut C,
+    parts: &mut Parts,
+    kept: &mut KeptNumbers,
+    turns: &Turns,
+) -> Result<(), ChipFault>
+    requires known { KnowsPlaces (C.told chip.old).places (tables_of parts.old) }
+    requires held { IsHeldFault turns.now.fault }
+    ensures holds { HoldsStuck turns.now kept.old kept.new (tables_of parts.old)
+        (tables_of parts.new) result (C.told chip.old) (C.told chip.new) }
+    ensures walks { Walks turns.now turns.now (tables_of parts.old) (tables_of parts.new)
+        result (C.told chip.old) (C.told chip.new) }
+{
+    for unit in 0..parts.directory.units() {
+        hold_unit(chip, parts, kept, turns, unit)?;
+    }
+    Ok(())
+}
+
+/// Merges a unit of which nothing was made and whose numbers don't fit. False where it can't be, for
+/// what the chip holds: it is stuck then.
+fn make_room<C: Chip>(
+    chip: &mut C,
+    parts: &mut Parts,
+    turns: &mut Turns,
+    unit: u32,
+) -> Result<bool, ChipFault>
+    requires known { KnowsPlaces (C.told chip.old).places (tables_of parts.old) }
+    requires unit { unit < length parts.old.directory.current }
+    requires idle { is_ended turns.old unit ≡ false }
+    requires left { AreLeft parts.old.counter parts.old.directory turns.old }
+    ensures makes { MakesRoom unit turns.old turns.new (tables_of parts.old)
+        (tables_of parts.new) result (C.told chip.old) (C.told chip.new) }
+    ensures walks { Walks turns.old turns.new (tables_of parts.old) (tables_of parts.new)
+        result (C.told chip.old) (C.told chip.new) }
+    ensures grows { Grows turns.old turns.new parts.old.directory result }
+{
+    parts.directory.facts();
+    // It is tried once, whatever comes of it.
+    turns.merge(unit);
+    match merge(chip, parts, unit) {
+        Ok(()) => Ok(true),
+        Err(fault) => {
+            if is_failed_call(&fault) {
+                return Err(fault);
+            }
+            turns.stick(unit, fault);
+            Ok(false)
+        }
+    }
+}
+
+/// Passes a unit of which nothing was made: the committed numbers of its live records join those that
+/// are kept; or, where they would be too many, the unit is merged, and none of its records is of a
+/// committed number then. False where it can't be, for what the chip holds.
+fn take_unit<C: Chip>(
+    chip: &mut C,
+    parts: &mut Parts,
+    kept: &mut KeptNumbers,
+    turns: &mut Turns,
+    unit: u32,
+) -> Result<bool, ChipFault>
+    requires known { KnowsPlaces (C.told chip.old).places (tables_of parts.old) }
+    requires unit { unit < length parts.old.directory.current }
+    requires left { AreLeft parts.old.counter parts.old.directory turns.old }
+    ensures takes { TakesUnit unit turns.old turns.new kept.old kept.new (tables_of parts.old)
+        (tables_of parts.new) result (C.told chip.old) (C.told chip.new) }
+    ensures walks { Walks turns.old turns.new (tables_of parts.old) (tables_of parts.new)
+        result (C.told chip.old) (C.told chip.new) }
+    ensures grows { Grows turns.old turns.new parts.old.directory result }
+{
+    parts.directory.facts();
+    if turns.is_ended(unit) {
+        return Ok(true);
+    }
+    if join_unit(chip, parts, kept, unit)? {
+        return Ok(true);
+    }
+    make_room(chip, parts, turns, unit)
+}
+
+/// Passes unit by unit, in rising order. False as soon as one is stuck.
+fn take_units<C: Chip>(
+    chip: &mut C,
+    parts: &mut Parts,
+    kept: &mut KeptNumbers,
+    turns: &mut Turns,
+) -> Result<bool, ChipFault>
+    requires known { KnowsPlaces (C.told chip.old).places (tables_of parts.old) }
+    requires left { AreLeft parts.old.counter parts.old.directory turns.old }
+    ensures takes { TakesUnits turns.old turns.new kept.old kept.new (tables_of parts.old)
+        (tables_of parts.new) result (C.told chip.old) (C.told chip.new) }
+    ensures walks { Walks turns.old turns.new (tables_of parts.old) (tables_of parts.new)
+        result (C.told chip.old) (C.told chip.new) }
+    ensures grows { Grows turns.old turns.new parts.old.directory result }
+{
+    for unit in 0..parts.directory.units() {
+        if !take_unit(chip, parts, kept, turns, unit)? {
+            return Ok(false);
+        }
+    }
+    Ok(true)
+}
+
+/// A pass: units that are stuck keep their numbers first, and then all units are passed in rising
+/// order. False where one more is stuck.
+fn try_pass<C: Chip>(
+    chip: &mut C,
+    parts: &mut Parts,
+    kept: &mut KeptNumbers,
+    turns: &mut Turns,
+) -> Result<bool, ChipFault>
+    requires known { KnowsPlaces (C.told chip.old).places (tables_of parts.old) }
+    requires left { AreLeft parts.old.counter parts.old.directory turns.old }
+    requires held { IsHeldFault turns.old.fault }
+    ensures tries { TriesPass turns.old turns.new kept.new (tables_of parts.old)
+        (tables_of parts.new) result (C.told chip.old) (C.told chip.new) }
+    ensures walks { Walks turns.old turns.new (tables_of parts.old) (tables_of parts.new)
+        result (C.told chip.old) (C.told chip.new) }
+    ensures grows { Grows turns.old turns.new parts.old.directory result }
+{
+    kept.clear();
+    hold_stuck(chip, parts, kept, turns)?;
+    take_units(chip, parts, kept, turns)
 }
 
 /// Finds the committed numbers that live records have, at most 3,840: unit by unit in rising order,
-/// where one whose numbers don't fit is merged. Where they are found already it does nothing.
+/// where one whose numbers don't fit is merged. One that can't be, for what the chip holds, keeps its
+/// numbers before all others: a pass begins anew then. Where they are found already it does nothing.
 pub(crate) fn find_numbers<C: Chip>(
     chip: &mut C,
     parts: &mut Parts,
@@ -81,7 +240,7 @@ pub(crate) fn find_numbers<C: Chip>(
         → Mirrors places (chart_of x) it (tables_of parts.old)
         → PassEnds places (chart_of x) it (tables_of parts.old) result (C.told chip.new)
         (tables_of parts.new)
-        (HasPassed places it.count (chart_of x) it (tables_of parts.old) kept.new
+        (HasFound places (chart_of x) it (tables_of parts.old) kept.new
         (C.told chip.new) (tables_of parts.new)) }
     ensures goes_on { GoesOnTelling result (C.told chip.old) (C.told chip.new) }
     ensures fails { RenewalFails (C.told chip.old).places (tables_of parts.old)
@@ -98,9 +257,7 @@ pub(crate) fn find_numbers<C: Chip>(
         return Ok(());
     }
     parts.directory.facts();
-    kept.clear();
-    for unit in 0..parts.directory.units() {
-        take_unit(chip, parts, kept, unit)?;
-    }
+    let mut turns = Turns::none();
+    'passes: while !try_pass(chip, parts, kept, &mut turns)? {}
     Ok(())
 }

@@ -44,11 +44,13 @@ pub(crate) fn renew_with<C: Chip>(
 
 /// Writes a new status place with the committed numbers that live records still have, at most 3,840.
 /// They are found unit by unit; a unit whose numbers don't fit any more is merged, and has no record
-/// of a committed number then. What the list of numbers has then says nothing.
+/// of a committed number then. One that can't be, for what the chip holds, keeps its numbers before all
+/// others. What the list of numbers has then says nothing.
 ///
 /// Whatever a power cut leaves at any moment stands for the map on which the story rested, and where
 /// no write failed, it rests on that map. It fails where a read or a write failed, where more places
-/// are worn than are spare, or where a unit can't be merged; the status place is the old one then.
+/// are worn than are spare, or where the units that can't be merged have too many numbers together; the
+/// status place is the old one then.
 /// Each place that was found worn is retired, and the new header lists exactly those that are.
 pub fn renew<C: Chip>(
     chip: &mut C,
@@ -65,8 +67,8 @@ pub fn renew<C: Chip>(
         (tables_of parts.new) (C.told chip.old) result (C.told chip.new) }
 
     // Why it fails over what the chip holds: it tells what is wrong with a unit that had to be
-    // merged, which is where it was; and where all units' pages read well and few log sectors of
-    // each would be carried, only where a call of the chip failed.
+    // merged, which is where it was; and where the numbers of the units that can't be merged fit
+    // together, only where a call of the chip failed.
     ensures fails { RenewalFails (C.told chip.old).places (tables_of parts.old)
         (tables_of parts.new) result (C.told chip.old) }
 

@@ -22,7 +22,7 @@ use Rattle.restart.specs.Recovers.{HasOpened, ErasesOpening, ErasesWaiting, Leav
 use Rattle.restart.specs.Passes.{TellsChart, KeepsAll, RenewCause, RenewsTold, KeepsInSteps, FailsAsRenewal, CompletesRenewal}
 use Rattle.restart.proofs.CostLemmas.{erases_more, waiting_alone, waiting_then, waiting_ended, waiting_then_renewed, reads_then_wait}
 use Rattle.restart.proofs.RecoverLemmas.{of_parts, opened_parts, reading_cause, reading_not_worn, renewing_cause, opens_told, opens_done, fault_looks, sound_looks, reads_recover, securing_failed, recovers_done, recovers_failed, tidies_settled, tidies_renewed, tidies_ended}
-use Rattle.restart.proofs.CompleteLemmas.{all_mergeable, call_failed, reading_failed, stopped_failed}
+use Rattle.restart.proofs.CompleteLemmas.{all_mergeable, call_failed, reading_failed, stopped_failed, complete_where_all}
 use Rattle.restart.proofs.FaultLemmas.{opening_fault}
 use Rattle.restart.proofs.FoundLemmas.{all_kept, once_where_fit, unread_first}
 use Rattle.restart.proofs.SecuringLemmas.{forgotten, homes_forgotten, no_waits, none_known, unknown_logs, wait_contents, wait_unread, wait_costs, known_ended, none_marked}
@@ -315,9 +315,9 @@ returns-in_err-renew_with-clause-fails g c =
           c.read_tables.new.parts.overflow c.read_tables.new.parts.status c.read_tables.new.parts.counter active (c.read_tables.ensures.active ∙ c.requires.active)
           (found.opened x told) (found.mirrors x told) in
           call_failed fault
-          (subst (λ n. CompletesRenewal n t (Err fault) settled)
+          (complete_where_all old.places t (Err fault) settled (subst (λ n. CompletesRenewal n t (Err fault) settled)
           (c.secure_marks.ensures.accounts.counts.places ∙ reads.counts.places)
-          c.in_err-renew_with.ensures.renews.fails.complete x
+          c.in_err-renew_with.ensures.renews.fails.complete) x
           (wait_contents (knows_logs c.read_tables.new.parts.directory) mid settled
           c.in_ok-secure_marks.ensures.waits ∙ reads.contents ∙ told) it parts.1
           (all_mergeable old.places (chart_of x) it (whole m) t says (λ u page low few. refl) (c.read_tables.ensures.active ∙ c.requires.active)));

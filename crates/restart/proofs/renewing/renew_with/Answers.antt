@@ -8,7 +8,7 @@ use Rattle.selective_merge.proofs.HeldLemmas.{homes_used}
 use Rattle.selective_merge.specs.Throughout.{ChartsThroughout}
 use Rattle.unit_io.specs.Steps.{RestsAgreeing}
 use Rattle.txn_status.specs.Switching.{RestsSwitched}
-use Rattle.restart.specs.Passes.{HasPassed, ErasesAtMost}
+use Rattle.restart.specs.Passes.{HasFound, ErasesAtMost}
 use Rattle.restart.specs.Renewed.{with_tables, Renews, RenewsInSteps}
 use Rattle.place_taking.specs.Spending.{is_worn_out}
 use Rattle.unit_io.specs.Costs.{Spends}
@@ -112,7 +112,7 @@ returns-clause-renews g c = record {
       (goes_on_from (λ done. Renews old.places between.places between.status between.next kept directory
       status drawn) (λ d y. y ≡ d) c.renew_place.result mid new renews))
       (λ x it told mirrors. renew_ends old.places (chart_of x) it t kept mid between
-      (subst (λ (k : List ℕ). HasPassed old.places it.count (chart_of x) it t k mid between)
+      (subst (λ (k : List ℕ). HasFound old.places (chart_of x) it t k mid between)
       (sym c.as_slice.ensures.numbers)
       (c.in_ok-find_numbers.ensures.passes old.places x it refl told mirrors))
       directory status drawn new c.renew_place.result renews c.renew_place.ensures.moves.same
@@ -129,9 +129,9 @@ returns-clause-renews g c = record {
       let drawn = c.renew_place.new.counter in
       let after = with_tables between directory status drawn in
       passed_then old.places m h it t between after old mid new c.renew_place.result
-      it.count kept c.find_numbers.ensures.leaves.accounts.counts steady
+      kept c.find_numbers.ensures.leaves.accounts.counts steady
       agrees
-      (λ x told mirrors. subst (λ (k : List ℕ). HasPassed old.places it.count (chart_of x)
+      (λ x told mirrors. subst (λ (k : List ℕ). HasFound old.places (chart_of x)
       it t k mid between) (sym c.as_slice.ensures.numbers)
       (c.in_ok-find_numbers.ensures.passes old.places x it refl told mirrors))
       (c.in_ok-find_numbers.ensures.steps old.places refl m it h steady rests agrees)
@@ -154,7 +154,7 @@ returns-clause-renews g c = record {
         fault = λ x told it mirrors. pass_written x it t directory mid new c.renew_place.result cause;
         stays = λ x told it mirrors. place_written x it t after directory mid new c.renew_place.result
             cause;
-        complete = λ x told it mirrors all. written_alone directory mid new c.renew_place.result cause;
+        complete = λ x told it mirrors some all fit. written_alone directory mid new c.renew_place.result cause;
       };
   leaves = let old = g.C.Chip.told c.args.chip.now in
       let mid = g.C.Chip.told c.find_numbers.new.chip in
