@@ -24,12 +24,12 @@ abbrev pub turned_renewed : (places : ℕ) (c y : Chart) (it : Layout) (t after 
     → KeepsTablesOn places c it t y after
 turned_renewed places c y it t after is none active = record {
   layout = is.now;
-  count = is.passed.count;
+  count = is.alike.count;
   mirrors = is.mirrors;
   none_lost = none;
   active = active;
-  alike = passed_logs_are_same_or_carried it.count t.active t.status.numbers it is.now is.passed;
-  kept = λ u low. exact_numbers_keep it is.now is.exact u (rw (sym is.passed.count) at low);
+  alike = passed_logs_are_same_or_carried t.active it is.now is.alike;
+  kept = λ u low. exact_numbers_keep it is.now is.exact u (rw (sym is.alike.count) at low);
   pages = is.pages;
 }
 
@@ -39,11 +39,11 @@ abbrev pub turned_stopped : (places : ℕ) (c y : Chart) (it : Layout) (t after 
     → KeepsTablesOn places c it t y after
 turned_stopped places c y it t after is none active = record {
   layout = is.now;
-  count = is.passed.count;
+  count = is.alike.count;
   mirrors = is.mirrors;
   none_lost = none;
   active = active;
-  alike = passed_logs_are_same_or_carried is.units t.active t.status.numbers it is.now is.passed;
+  alike = passed_logs_are_same_or_carried t.active it is.now is.alike;
   kept = λ u low i d within. let r : Record = get_or (records_of (is.now.units u).log) i d in
       ap (λ (f : ℕ → Bool). f r.tid) is.committed;
   pages = is.pages;

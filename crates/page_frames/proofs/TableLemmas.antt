@@ -20,6 +20,7 @@ use Rattle.place_taking.proofs.WearLemmas.{spared_places_wear}
 use Rattle.unit_io.specs.Steps.{Settled, RestsAgreeing, Tidies}
 use Rattle.selective_merge.specs.Homes.{MergeCause}
 use Rattle.selective_merge.specs.Merging.{Merges, StaysMirrored, MergesInSteps, RestsMerged}
+use Rattle.selective_merge.proofs.UnbrokenLemmas.{steps_settled}
 use Rattle.selective_merge.specs.Moving.{Holds}
 use Rattle.selective_merge.proofs.HeldLemmas.{homes_used}
 use Rattle.selective_merge.specs.Throughout.{ChartsThroughout}
@@ -86,7 +87,9 @@ merge_keeps u place spots t after frames result old new holds tells steps accoun
     steps_weaker (EachStands places m) (EachStands places m) t after
     (λ done k. RestsMerged places m (now h) it t u after k) (λ done k. StoryRests places m k)
     (λ k. RestsAgreeing places m it after k) (λ k. StoryRests places m k) h result old new
-    (λ k is. is) (λ v k is. is.rests) (λ k is. is.rests) (merging m it h steady rests agrees))
+    (λ k is. is) (λ v k is. is.rests) (λ k is. is.rests)
+    (steps_settled (EachStands places m) t after (λ done k. RestsMerged places m (now h) it t u after k)
+    (λ k. RestsAgreeing places m it after k) h result old new (merging m it h steady rests agrees)))
 
 -- ---- what is worn
 

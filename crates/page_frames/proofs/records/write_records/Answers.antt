@@ -16,6 +16,7 @@ use Rattle.place_taking.proofs.WearLemmas.{wears_are_joined}
 use Rattle.selective_merge.specs.Known.{KnowsPlaces}
 use Rattle.ipl_base.specs.declared.fault.ChipFault.{ChipFault}
 use Rattle.unit_io.proofs.TablesLemmas.{tables_then}
+use Rattle.selective_merge.proofs.UnbrokenLemmas.{tidies_settled}
 use Rattle.ipl_base.specs.declared.spot.Spot.{Spot}
 use Rattle.page_frames.proofs.records.write_records.Goals as goal
 
@@ -83,7 +84,9 @@ returns-in_err-at-clause-leaves g c =
       wears = no_room_wears old.places (tables_of c.args.parts.now) (tables_of c.log_place.new.parts)
           (tells_worn c.in_err-at.field-0.0) old (g.C.Chip.told c.log_place.new.chip) c.requires.known
           leaves.holds finds.costs;
-      tidy = leaves.tidy;
+      tidy = tidies_settled {T = Unit {0}} {E = ChipFault} (tables_of c.args.parts.now)
+          (tables_of c.log_place.new.parts) (Err c.in_err-at.field-0.0) old (g.C.Chip.told c.log_place.new.chip)
+          leaves.tidy;
       accounts = record { counts = leaves.accounts.counts; cause = leaves.accounts.cause };
     })
 

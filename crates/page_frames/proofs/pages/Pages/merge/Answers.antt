@@ -1,6 +1,8 @@
 use Rattle.std.proofs.Common.{slice_index, refl}
 use Rattle.overflow.specs.Lists.{spots_in}
+use Rattle.place_taking.specs.Spending.{SparesUsed}
 use Rattle.selective_merge.specs.Moving.{tables_of}
+use Rattle.selective_merge.proofs.UnbrokenLemmas.{tidies_settled, where_done}
 use Rattle.page_frames.proofs.TableLemmas.{merge_upholds, merge_wears}
 use Rattle.page_frames.proofs.CompleteLemmas.{merge_completes}
 use Rattle.page_frames.proofs.TellLemmas.{merged_tells}
@@ -18,10 +20,13 @@ returns-clause-works g c =
     let old = g.C.Chip.told c.args.chip.now in
     let new = g.C.Chip.told c.merge.new.chip in record {
       upholds = merge_upholds c.args.unit pages after c.merge.result
-          old new c.requires.ready refl leaves.holds is.tells is.steps leaves.tidy
+          old new c.requires.ready refl leaves.holds is.tells is.steps
+          (tidies_settled (tables_in pages) (tables_of c.merge.new.parts) c.merge.result old new leaves.tidy)
           (merge_wears old.places (slice_index c.merge.new.parts.directory.current c.args.unit)
           (tables_in pages) (tables_of c.merge.new.parts) c.merge.result old new
-          c.requires.ready.known leaves.holds leaves.spares is.moves.costs) leaves.draws
+          c.requires.ready.known leaves.holds
+          (where_done (SparesUsed (tables_in pages).places old new) c.merge.result leaves.spares) is.moves.costs)
+          leaves.draws
           (slice_index pages.parts.directory.current c.args.unit)
           (spots_in pages.parts.overflow c.args.unit) leaves.accounts;
       complete = merge_completes c.args.unit pages c.merge.result old c.requires.unit is.complete;
