@@ -67,16 +67,6 @@ erases_then first between last n k worn_out old mid new =
       places = leaves_then first between last worn_out later earlier one.places two.places;
     })
 
--- reads, and then another call
-pub reads_then_erase : (At : ℕ → ℕ → Type 0) (before after : Places) (k : ℕ) (worn_out : Bool)
-    (old mid new : Told) → ReadsAt At old mid
-    → Spends (ErasesAtMost before after k worn_out) mid new
-    → Spends (ErasesAtMost before after k worn_out) old new
-reads_then_erase At before after k worn_out old mid new reads did =
-    erases_more before after (0 + k) k worn_out old new (omega arith)
-    (erases_then before before after 0 k worn_out old mid new
-    (reads_erase At before 0 false old mid refl reads) did)
-
 -- barriers alone, at most so many
 pub waiting_alone : (before after : Places) (n waits : ℕ) (worn_out : Bool) (old new : Told)
     → after.retired ≡ before.retired → worn_out ≡ false → KeepsHomes before after → KeepsCounts before after

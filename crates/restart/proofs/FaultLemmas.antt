@@ -19,13 +19,6 @@ use Rattle.restart.specs.Passes.{IsRenewalFault, FailsAsPass}
 use Rattle.restart.specs.Recovers.{IsOpeningFault}
 use Rattle.restart.proofs.CompleteLemmas.{carried_none, not_taken_failed}
 
--- wherever the unit is
-pub in_place_fails : (x : Contents) (it : Layout) (t after : Tables)
-    (result : Result (Unit {0}) ChipFault) → IfErr result (FailsInPlace x it t after)
-    → IfErr result (FailsAsPass x it t)
-in_place_fails x it t after (Ok v) fails = tt
-in_place_fails x it t after (Err e) fails = λ unfailed. (fails unfailed).is
-
 -- a call that only writes
 pub pass_written : (x : Contents) (it : Layout) (t : Tables) (directory : Places) (old new : Told)
     (result : Result (Unit {0}) ChipFault) → IfErr result (λ e. IsNotTaken directory e old new)

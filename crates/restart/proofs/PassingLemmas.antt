@@ -38,18 +38,6 @@ pub call_ends : {T : Type 0} (places : ℕ) (x : Contents) (it : Layout) (t : Ta
 call_ends places x it t e new after Done failed stopped =
     (λ unfailed. absurd (unfailed failed), λ soft. stopped)
 
-pub ends_as : {S T : Type 0} (places : ℕ) (x : Contents) (it : Layout) (t : Tables) (e : ChipFault)
-    (new : Told) (after : Tables) (Done : S → Type 0) (Other : T → Type 0)
-    → StepEnds places x it t (Err e) new after Done → StepEnds places x it t (Err e) new after Other
-ends_as places x it t e new after Done Other is = is
-
--- done in another way
-pub ends_then : {T : Type 0} (places : ℕ) (x : Contents) (it : Layout) (t : Tables) (result : Result T ChipFault)
-    (new : Told) (after : Tables) (Done Other : T → Type 0) → ((v : T) → Done v → Other v)
-    → StepEnds places x it t result new after Done → StepEnds places x it t result new after Other
-ends_then places x it t (Ok v) new after Done Other more is = more v is
-ends_then places x it t (Err e) new after Done Other more is = is
-
 module _ (places : ℕ) (x : Contents) (it : Layout) (t : Tables) where
   -- ---- a unit's numbers
 

@@ -103,21 +103,6 @@ preserves_then places m h it t between after old mid new result counts agrees fi
     (first.ends tt)
     (tidy_is_carried places h it t between first.added agrees (first.does.clean tt)))
 
--- reads, and then another call
-pub read_then : (At : ℕ → ℕ → Type 0) (places : ℕ) (m : Legible) (h : History) (it : Layout)
-    (t after : Tables) (old mid new : Told) (result : Result (Unit {0}) ChipFault)
-    → IsSteady h old → StoryRests places m h
-    → Agrees places h it t → ReadsAt At old mid
-    → ((k : History) → IsSteady k mid → StoryRests places m k → Agrees places k it t
-    → Preserves places m t after k result mid new)
-    → Preserves places m t after h result old new
-read_then At places m h it t after old mid new result steady rests agrees reads next =
-    preserves_then places m h it t t after old mid new result reads.counts agrees
-    (reads_preserve At places m h t (Ok tt) old mid steady rests reads)
-    (λ k there resting tidy. next k there resting
-    (agrees_of places k mid (held h.start h.story) it t there
-    (reads.contents ∙ steady.holds) agrees.mirrors tidy))
-
 -- all passes, and then another call
 pub passed_then : (places : ℕ) (m : Legible) (h : History) (it : Layout) (t between after : Tables)
     (old mid new : Told) (result : Result (Unit {0}) ChipFault) (kept : List ℕ)
