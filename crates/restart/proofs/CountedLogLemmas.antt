@@ -1,26 +1,26 @@
 -- What is known of the units' log sectors by a close mark, while they are read.
 use Rattle.std.proofs.Common.{◌≡◌, ◌≢◌, inl, inr, ◌≤◌, ◌<◌, ◌+◌, ◌-◌, ◌*◌, ◌==◌, ◌&&◌, ℕ, Bool, true, false, nat_le, cond, List, [], length, get_or, set, Option, Some, None, refl, sym, ◌∙◌, ap, subst, arith, get_or-set_same, get_or-set_other, length-set}
-use Rattle.std.proofs.lemmas.Bool.{cases_eq, cases_lt, cases_Bool, eq-eqb, ne_eqb, eqb-true, lt-ltb, le-ltb, le-leb, leb-true, and_parts}
+use Rattle.std.proofs.lemmas.Bool.{false≢true, cases_eq, cases_lt, cases_Bool, eq-eqb, ne_eqb, eqb-true, lt-ltb, le-ltb, le-leb, leb-true, and_parts}
 use Rattle.std.specs.Prelude.{◌↔◌}
 use Rattle.std.proofs.lemmas.List.{get_or_past}
 use Rattle.chip_trait.specs.Story.{Contents, blank}
 use Rattle.ipl_format.specs.Sector.{Sector, sector_in}
 use Rattle.ipl_format.proofs.SectorLemmas.{blank_says_nothing}
-use Rattle.ipl_meaning.specs.Chart.{chart_of}
+use Rattle.ipl_meaning.specs.Chart.{Chart, chart_of}
 use Rattle.ipl_meaning.specs.Tables.{Places, OverflowLists}
 use Rattle.ipl_meaning.specs.Chosen.{KeptHeader, Winner, current_at, status_at}
 use Rattle.ipl_meaning.specs.LaidOut.{place_of}
 use Rattle.ipl_meaning.specs.Opened.{KnowsLogs, IsOpenedLog}
 use Rattle.ipl_meaning.specs.Live.{is_at, is_log_spot}
 use Rattle.ipl_meaning.specs.Marked.{is_marked_by, last_close_mark}
-use Rattle.txn_status.specs.Marks.{MarksRead, none_read, counting}
+use Rattle.txn_status.specs.Marks.{MarksRead, none_read, counting, marks_in}
 use Rattle.unit_directory.specs.Directory.{noted_log, with_marked}
 use Rattle.unit_io.specs.Kinds.{sector_named}
 use Rattle.unit_io.specs.Found.{checked}
 use Rattle.unit_io.specs.declared.reading.Found.{Found}
 use Rattle.unit_io.specs.declared.reading.Found.TheVariants.{Erased, Bad, Sector as Checks}
 use Rattle.restart.specs.Masked.{IsMasked, SamePlaces}
-use Rattle.restart.specs.Counted.{SameHomes, StaysUnknown, NoneKnown, first_known, AreUnitsMarked, KnowsRead, IsReadLog, AreReadLogs, AreHomes, seen_log, does_check, is_erased}
+use Rattle.restart.specs.Counted.{SameHomes, StaysUnknown, NoneKnown, HasWholeLog, mark_for, first_known, AreUnitsMarked, KnowsRead, IsRightlyUnknown, IsReadLog, AreReadLogs, AreHomes, seen_log, does_check, is_erased}
 
 -- ---- the same homes
 
@@ -73,6 +73,17 @@ check_found Erased bytes sector is off = cc
 check_found Bad bytes sector is off = cc
 check_found (Checks head used) bytes sector is on = λ none. let some = is ∙ none in cc
 
+-- it checks, where the sector says something
+pub unchecked_found : (found : Found) (bytes : List ℕ) (sector : Option Sector) → sector_named bytes (checked found) ≡ sector → does_check found ≡ false → sector ≡ None
+unchecked_found Erased bytes sector is off = sym is
+unchecked_found Bad bytes sector is off = sym is
+unchecked_found (Checks head used) bytes sector is on = cc
+
+pub unerased_found : (found : Found) (bytes : List ℕ) → ((found ≡ Erased) ↔ (bytes ≡ blank)) → is_erased found ≡ false → bytes ≢ blank
+unerased_found Erased bytes is on = cc
+unerased_found Bad bytes is off = λ erased. let found = is.1 erased in cc
+unerased_found (Checks head used) bytes is off = λ erased. let found = is.1 erased in cc
+
 pub erased_found : (found : Found) (bytes : List ℕ) → ((found ≡ Erased) ↔ (bytes ≡ blank)) → is_erased found ≡ true → bytes ≡ blank
 erased_found Erased bytes is on = is.0 refl
 erased_found Bad bytes is off = cc
@@ -89,7 +100,7 @@ pub logs_first : (x : Contents) (mark : Option Sector) (current : ℕ → Option
 logs_first x mark current units it are u low = first (current u) (are u low)
   where
     first : (home : Option Winner) → get_or it.written u 0 ≡ first_known mark u home → IsReadLog x mark u home 0 (get_or it.written u 0)
-    first None is = inl (is ∙ rw (none_marked mark u) refl)
+    first None is = inl (is ∙ rw (none_marked mark u) refl, λ winner none marked. absurd (let clash = none in cc))
     first (Some winner) is = elim (cases_Bool (is_marked_by mark u (Some winner))) [
       | inl marked ↦ inr (
         winner,
@@ -98,12 +109,13 @@ logs_first x mark current units it are u low = first (current u) (are u low)
         record {
           count = 0;
           few = omega arith;
+          read = λ n none. absurd (omega (arith, none));
           says = is ∙ rw marked refl;
           whole = λ n least most. absurd (omega (arith, least, most));
           others = λ n from small under. absurd (omega (arith, under));
         },
       )
-      | inr other ↦ inl (is ∙ rw other refl)
+      | inr other ↦ inl (is ∙ rw other refl, λ home same marked. absurd (false≢true (sym other ∙ marked)))
     ]
 
 -- where marks don't count, nothing is known before
@@ -113,10 +125,20 @@ unknown_first marks mark now current units it is off are =
     let none : now ≡ none_read = is ∙ rw off refl in
     subst (λ (n : MarksRead). AreUnitsMarked (counting n) current units it) none are
 
--- where nothing is known, it is what is read
-pub logs_unknown : (x : Contents) (mark : Option Sector) (current : ℕ → Option Winner) (units k : ℕ) (it : Places)
-    → NoneKnown units it → AreReadLogs x mark current units k it
-logs_unknown x mark current units k it unknown u low = inl (unknown u low)
+-- where they count, it is the close mark's
+pub marked_first : (marks : Bool) (c : Chart) (place generation : ℕ) (status : Option Winner) (mark now : MarksRead) (current : ℕ → Option Winner) (units : ℕ) (it : Places)
+    → now ≡ cond marks mark none_read → mark ≡ marks_in c place generation → counting (marks_in c place generation) ≡ last_close_mark c status
+    → AreUnitsMarked (counting now) current units it → AreUnitsMarked (mark_for marks c status) current units it
+marked_first true c place generation status mark now current units it is read last are =
+    subst (λ (m : Option Sector). AreUnitsMarked m current units it) (ap counting (is ∙ read) ∙ last) are
+marked_first false c place generation status mark now current units it is read last are =
+    subst (λ (m : Option Sector). AreUnitsMarked m current units it) (ap counting is) are
+
+-- a unit that the mark has where marks count is one that the mark has
+pub marked_where : (marks : Bool) (mark : Option Sector) (u : ℕ) (home : Option Winner)
+    → is_marked_by (cond marks mark None) u home ≡ true → is_marked_by mark u home ≡ true
+marked_where true mark u home is = is
+marked_where false mark u home is = absurd (false≢true is)
 
 -- ---- one sector more
 
@@ -164,6 +186,25 @@ noted_marked : (count n : ℕ) (a b : Bool) → count ≤ 15
     → noted_log (16 + count) n a b ≡ cond b (16 + count) (cond (a && (16 + count == 16 + n)) (16 + count + 1) 32)
 noted_marked count n a b few = rw (le-ltb (16 + count) 16 (omega arith), lt-ltb (16 + count) 32 (omega (arith, few))) refl
 
+-- A log isn't whole in which a sector that isn't erased doesn't check, or isn't the next behind those that do.
+torn_log : (x : Contents) (home k s w : ℕ) (a : Bool) → k ≡ home * 256 + s → 241 ≤ s → s < 256 → (knows : KnowsRead x home k w)
+    → (a ≡ false → chart_of x home s ≡ None) → x home s ≢ blank
+    → (a && (16 + knows.count == 16 + (s - 241))) ≡ false → ¬ HasWholeLog x home
+torn_log x home k s w a here high below knows unchecked full other (count, whole) = elim (cases_lt s (241 + count)) [
+  | inr past ↦ full (whole.erased s (omega (arith, past)) below)
+  | inl within ↦ elim (cases_Bool a) [
+    | inr off ↦ whole.checks s high within (unchecked off)
+    | inl on ↦ elim (cases_lt (241 + knows.count) s) [
+      | inl behind ↦ whole.checks (241 + knows.count) (omega arith) (omega (arith, behind, within))
+          (ap sector_in (knows.others (241 + knows.count) (omega arith) (omega (arith, behind, below)) (omega (arith, behind, here))) ∙ blank_says_nothing)
+      | inr least ↦ elim (cases_eq (16 + knows.count) (16 + (s - 241))) [
+        | inl next ↦ let same : (a && (16 + knows.count == 16 + (s - 241))) ≡ true = rw (on, eq-eqb _ _ next) refl in false≢true (sym other ∙ same)
+        | inr apart ↦ let read = knows.read (s - 241) (omega (arith, apart, least, high)) in omega (arith, read, high, here)
+      ]
+    ]
+  ]
+]
+
 module _ (x : Contents) (mark : Option Sector) (heads : ℕ → Option KeptHeader) (current : ℕ → Option Winner) (p s : ℕ) (below : s < 256) (homes : AreHomes heads current) where
   -- the place of a unit's header is one where log sectors may stand
   spot_home : (u : ℕ) (winner : Winner) → current u ≡ Some winner → winner.place ≡ p → 241 ≤ s → is_log_spot heads current p s ≡ true
@@ -177,6 +218,7 @@ module _ (x : Contents) (mark : Option Sector) (heads : ℕ → Option KeptHeade
   knows_past home w elsewhere knows = record {
     count = knows.count;
     few = knows.few;
+    read = λ n less. let before = knows.read n less in omega (arith, before);
     says = knows.says;
     whole = knows.whole;
     others = λ n from small under. elim (cases_eq (home * 256 + n) (p * 256 + s)) [
@@ -193,7 +235,20 @@ module _ (x : Contents) (mark : Option Sector) (heads : ℕ → Option KeptHeade
     | inr (winner, is, marked, knows) ↦ inr (winner, is, marked, knows_past winner.place _ (λ at. let spot = spot_home u winner is at.0 at.1 in let clash = sym spot ∙ none in cc) knows)
   ]
 
-  module _ (spot : is_log_spot heads current p s ≡ true) (a b : Bool) (checks : a ≡ true → chart_of x p s ≢ None) (erased : b ≡ true → x p s ≡ blank) where
+  module _ (spot : is_log_spot heads current p s ≡ true) (a b : Bool) (checks : a ≡ true → chart_of x p s ≢ None) (erased : b ≡ true → x p s ≡ blank)
+      (unchecked : a ≡ false → chart_of x p s ≡ None) (unerased : b ≡ false → x p s ≢ blank) where
+    -- what is dropped wasn't whole
+    torn_here : (u w : ℕ) (winner : Winner) → current u ≡ Some winner → winner.place ≡ p → 241 ≤ s
+        → (knows : KnowsRead x winner.place (p * 256 + s) w) → b ≡ false → (a && (16 + knows.count == 16 + (s - 241))) ≡ false
+        → IsRightlyUnknown x mark u (current u)
+    torn_here u w winner is same high knows full other home has marked whole =
+        let e : Some home ≡ Some winner = sym has ∙ is in
+        let one : home.place ≡ winner.place = cc in
+        torn_log x winner.place (p * 256 + s) s w a (omega (arith, same)) high below knows
+        (λ off. ap (λ (q : ℕ). chart_of x q s) same ∙ unchecked off)
+        (λ erased. unerased full (ap (λ (q : ℕ). x q s) (sym same) ∙ erased)) other
+        (subst (HasWholeLog x) one whole)
+
     -- the unit's own sector
     seen_here : (u w : ℕ) (winner : Winner) → current u ≡ Some winner → is_marked_by mark u (current u) ≡ true → winner.place ≡ p → 241 ≤ s
         → KnowsRead x winner.place (p * 256 + s) w → IsReadLog x mark u (current u) (p * 256 + s + 1) (noted_log w (s - 241) a b)
@@ -208,6 +263,7 @@ module _ (x : Contents) (mark : Option Sector) (heads : ℕ → Option KeptHeade
             record {
               count = knows.count;
               few = knows.few;
+              read = λ n less. let before = knows.read n less in omega (arith, before);
               says = step ∙ rw is_blank refl;
               whole = knows.whole;
               others = λ n from small under. elim (cases_eq n s) [
@@ -217,7 +273,7 @@ module _ (x : Contents) (mark : Option Sector) (heads : ℕ → Option KeptHeade
             },
           )
           | inr full ↦ elim (cases_Bool (a && (16 + knows.count == 16 + (s - 241)))) [
-            | inr other ↦ inl (step ∙ rw (full, other) refl)
+            | inr other ↦ inl (step ∙ rw (full, other) refl, torn_here u w winner is same high knows full other)
             | inl next ↦
                 let parts = and_parts a (16 + knows.count == 16 + (s - 241)) next in
                 let number : 16 + knows.count ≡ 16 + (s - 241) = eqb-true _ _ parts.1 in
@@ -228,6 +284,10 @@ module _ (x : Contents) (mark : Option Sector) (heads : ℕ → Option KeptHeade
                   record {
                     count = knows.count + 1;
                     few = omega (arith, number, below, high);
+                    read = λ n less. elim (cases_lt n knows.count) [
+                      | inl seen ↦ let before = knows.read n seen in omega (arith, before)
+                      | inr last ↦ omega (arith, less, last, number, high, same)
+                    ];
                     says = step ∙ rw (full, next) (omega arith);
                     whole = λ n least most. elim (cases_eq n s) [
                       | inl this ↦ subst (λ (m : ℕ). chart_of x winner.place m ≢ None) (sym this) (subst (λ (q : ℕ). chart_of x q s ≢ None) (sym same) (checks parts.0))
@@ -245,7 +305,7 @@ module _ (x : Contents) (mark : Option Sector) (heads : ℕ → Option KeptHeade
     -- in a place with this header
     seen_in : (o : Option KeptHeader) → heads p ≡ o → (u w : ℕ) → IsReadLog x mark u (current u) (p * 256 + s) w
         → IsReadLog x mark u (current u) (p * 256 + s + 1) (seen_written o u w s a b)
-    seen_in o is_o u w (inl unknown) = inl (ap (λ (v : ℕ). seen_written o u v s a b) unknown ∙ unknown_still o u s a b)
+    seen_in o is_o u w (inl (unknown, right)) = inl (ap (λ (v : ℕ). seen_written o u v s a b) unknown ∙ unknown_still o u s a b, right)
     seen_in None is_o u w (inr (winner, is, marked, knows)) =
         inr (winner, is, marked, knows_past winner.place w (λ at. let clash = sym (ap heads (sym at.0) ∙ (homes u winner is).0) ∙ is_o in cc) knows)
     seen_in (Some head) is_o u w (inr (winner, is, marked, knows)) = elim (cases_Bool ((head.kind == 1) && (head.unit == u))) [
@@ -276,7 +336,7 @@ module _ (x : Contents) (mark : Option Sector) (heads : ℕ → Option KeptHeade
           (sym (ap (λ (d : Places). get_or d.written u 0) is ∙ written_seen (heads p) it u s a b within))
           (seen_in (heads p) refl u _ (so_far u low))
       | inr past ↦ absurd (let none : get_or it.written u 0 ≡ 0 = get_or_past it.written u 0 (omega (arith, past)) in elim (so_far u low) [
-        | inl unknown ↦ omega (arith, none, unknown)
+        | inl (unknown, right) ↦ omega (arith, none, unknown)
         | inr (winner, has, marked, knows) ↦ omega (arith, none, knows.says)
       ])
     ]
@@ -318,12 +378,13 @@ marks_none mark current n units it low other so_far later = (
 -- ---- once all are read
 
 -- what stands of a unit's log sectors, by the chart
-pub read_opened : (x : Contents) (places : ℕ) (current : ℕ → Option Winner) (status : Option Winner) (u written : ℕ)
+pub read_opened : (x : Contents) (places : ℕ) (marks : Bool) (current : ℕ → Option Winner) (status : Option Winner) (u written : ℕ)
     → current ≡ current_at (chart_of x) places → status ≡ status_at (chart_of x) places
     → ((winner : Winner) → current u ≡ Some winner → winner.place < places)
-    → IsReadLog x (last_close_mark (chart_of x) status) u (current u) (places * 256) written → IsOpenedLog places (chart_of x) u written
-read_opened x places current status u written currents its within (inl unknown) = inl unknown
-read_opened x places current status u written currents its within (inr (winner, is, marked, knows)) =
+    → IsReadLog x (mark_for marks (chart_of x) status) u (current u) (places * 256) written → IsOpenedLog places (chart_of x) u written
+read_opened x places marks current status u written currents its within (inl (unknown, right)) = inl unknown
+read_opened x places marks current status u written currents its within (inr (winner, is, here_marked, knows)) =
+    let marked = marked_where marks (last_close_mark (chart_of x) status) u (current u) here_marked in
     let here : current_at (chart_of x) places u ≡ Some winner = ap (λ (c : ℕ → Option Winner). c u) (sym currents) ∙ is in
     let home : place_of (current_at (chart_of x) places u) ≡ winner.place = ap place_of here in
     inr (

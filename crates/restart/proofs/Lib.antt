@@ -17,6 +17,7 @@ pub mod PreserveLemmas
 pub mod RenewalKnownLemmas
 pub mod TellingLemmas
 pub mod FoundLemmas
+mod CountedMarkLemmas
 pub mod RenewLemmas
 pub mod CauseLemmas
 pub mod RestLemmas

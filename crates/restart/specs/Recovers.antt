@@ -28,7 +28,7 @@ use Rattle.place_taking.specs.Homes.{LeavesPlaces}
 use Rattle.place_taking.specs.Spending.{RetiringCosts, tells_worn}
 use Rattle.restart.specs.Bytes.{ReadsBytes}
 use Rattle.restart.specs.Looks.{OnlyReads}
-use Rattle.restart.specs.Opened.{NoneIsClean, CountsMarked}
+use Rattle.restart.specs.Opened.{NoneIsClean, CountsMarked, CountsWhole}
 use Rattle.selective_merge.specs.Homes.{WearCause}
 use Rattle.selective_merge.specs.Placing.{SaysErases}
 use Rattle.unit_io.specs.Steps.{Settled, EndsWith, Outcome, TidyWork}
@@ -164,6 +164,12 @@ pub record TakesMarks (marks : Bool) (places : ℕ) (old : Told) (first : Tables
   pub none : marks ≡ false → NoneIsClean first
   pub marked : OfContents old (λ x. CountsMarked places x first)
 
+-- Where marks count, and the numbers fit so that no unit is merged, the tables count as clean each sector that was
+-- marked, where its unit's log is whole.
+abbrev pub CountsMarks : Bool → ℕ → Told → Tables → Type 0
+CountsMarks marks places old after = marks ≡ true
+    → OfContents old (λ x. NumbersFit places (chart_of x) → CountsWhole places x after)
+
 -- Whatever the chip holds, the events are lawful after any lawful ones that leave clean what was counted
 -- so by marks at first; and done, what the tables count as clean is clean.
 pub record TidiesOpening (marks : Bool) (places : ℕ) (old : Told)
@@ -221,8 +227,8 @@ pub record OpeningFails (places : ℕ) (result : Result (Unit {0}) ImageFault) (
   pub bytes : ReadsBytes places old result
 
 -- What it leaves: done, the tables know each place of the chip, and few numbers were drawn after the greatest that
--- was found, which leaves most of them. What they count as clean is clean after lawful events; and where it
--- failed, this is its cause.
+-- was found, which leaves most of them. What they count as clean is clean after lawful events, and what was marked is
+-- counted so; and where it failed, this is its cause.
 pub record LeavesOpened (marks : Bool) (after : Tables) (result : Result (Unit {0}) ImageFault) (old new : Told)
     : Type 0 where
   pub holds : OnOk result (HoldsOpened old.places after)
@@ -230,6 +236,7 @@ pub record LeavesOpened (marks : Bool) (after : Tables) (result : Result (Unit {
       ≤ greatest_found (chart_of x) old.places + 1 + 2 ^ 14))
   pub left : OnOk result (after.next ≤ 2 ^ 63 + 2 ^ 14)
   pub tidy : TidiesOpening marks old.places old result after new
+  pub marked : OnOk result (CountsMarks marks old.places old after)
   pub accounts : Accounts (OpeningCause after.places) result old new
 
 -- What it costs: so many erases and barriers; where the numbers fit, each sector is read at most once; and done,

@@ -54,6 +54,12 @@ IsGivenBack before fault after = IsAsideFrom before after
     ⊎ ((fault ≡ Stopped) × ((mid : Places) × (place : ℕ)
     × IsAsideFrom before mid × IsNextFree mid place × (after ≡ with_erased mid place)))
 
+-- each unit is where it was, with as much known of its log sectors, and the overflow lists are as they were
+pub record KeepsLogs (t after : Tables) : Type 0 where
+  pub current : after.places.current ≡ t.places.current
+  pub written : after.places.written ≡ t.places.written
+  pub overflow : after.overflow ≡ t.overflow
+
 -- the numbers may be kept: of those in live log sectors they are the committed ones, they were
 -- drawn, and none is of an open session
 pub record MayRenew (it : Layout) (t : Tables) (kept : List ℕ) : Type 0 where

@@ -1,5 +1,5 @@
 -- What is read beyond the headers, by these: what that takes, and what is found.
-use Rattle.std.specs.Prelude.{ℕ, ◌≡◌, ◌<◌, ◌≤◌, ◌*◌, ◌^◌, true, false, [], length, Some}
+use Rattle.std.specs.Prelude.{ℕ, ◌≡◌, ◌<◌, ◌≤◌, ◌*◌, ◌^◌, Bool, true, false, [], length, Some}
 use Rattle.chip_trait.specs.Told.{Told}
 use Rattle.ipl_base.specs.Places.{KeepsUnits}
 use Rattle.ipl_meaning.specs.Chart.{chart_of}
@@ -8,7 +8,6 @@ use Rattle.txn_status.specs.ReadingIn.{status_in}
 use Rattle.ipl_meaning.specs.First.{at, count_below}
 use Rattle.ipl_meaning.specs.Chosen.{Winner, units_told}
 use Rattle.ipl_meaning.specs.Live.{marks as live_marks}
-use Rattle.ipl_meaning.specs.Marked.{last_close_mark}
 use Rattle.restart.specs.declared.collecting.Gathered.{Gathered}
 use Rattle.restart.specs.declared.findings.Aim.{Aim}
 use Rattle.restart.specs.declared.findings.Findings.{Findings}
@@ -17,7 +16,7 @@ use Rattle.restart.specs.Bytes.{IsRestWhole}
 use Rattle.restart.specs.Notes.{NotesHaveRoom, AreSized, IsNoted}
 use Rattle.restart.specs.Masked.{NoneNamed, mask_by, IsMasked}
 use Rattle.restart.specs.Collected.{numbers_below, AreKept}
-use Rattle.restart.specs.Counted.{NoneKnown, AreHomes, AreReadLogs}
+use Rattle.restart.specs.Counted.{NoneKnown, AreHomes, AreReadLogs, mark_for}
 use Rattle.restart.specs.Shown.{is_held, number_by}
 
 -- the headers are of a chip of so many places, and those that count are of as many units as the status header says, and
@@ -38,9 +37,9 @@ pub record AreUnread (places : ℕ) (heads : Heads) (it : Findings) : Type 0 whe
   pub blank : NoneNamed (length heads.current.now) it.directory.now
 
 -- Of what the chip holds: the greatest number, the committed numbers, the live log sectors with the pages that they
--- name, what the close mark says of log sectors, and the status are found, and what was read is whole.
-pub record FindsRest (places : ℕ) (told : Told) (heads : Heads) (winner : Winner) (all : Gathered) (it : Findings)
-    : Type 0 where
+-- name, what the close mark says of log sectors where marks count, and the status are found, and what was read is whole.
+pub record FindsRest (places : ℕ) (told : Told) (marks : Bool) (heads : Heads) (winner : Winner) (all : Gathered)
+    (it : Findings) : Type 0 where
   pub number : OfContents told (λ x. all.greatest
       ≡ number_by (chart_of x) (at heads.all.now) (at heads.current.now) (Some winner) places)
   pub collected : OfContents told (λ x. AreKept (numbers_below it.status.now.numbers
@@ -51,7 +50,7 @@ pub record FindsRest (places : ℕ) (told : Told) (heads : Heads) (winner : Winn
       (mask_by (at heads.all.now) (at heads.current.now) (chart_of x)) (places * 256)
       it.directory.now it.overflow.now)
   pub logs : OfContents told (λ x. AreHomes (at heads.all.now) (at heads.current.now)
-      → AreReadLogs x (last_close_mark (chart_of x) (Some winner)) (at heads.current.now)
+      → AreReadLogs x (mark_for marks (chart_of x) (Some winner)) (at heads.current.now)
       (length heads.current.now) (places * 256) it.directory.now)
   pub status : OfContents told (λ x. it.status.now
       ≡ status_in (chart_of x) winner.place winner.head.generation)

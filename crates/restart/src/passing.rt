@@ -1,5 +1,5 @@
 //! The passes over the units, which find the numbers that a new status place keeps.
-ghost use Rattle.std.specs.Prelude.{◌≡◌, ◌<◌, ◌+◌, ◌*◌, ◌^◌, ℕ, length, Some, true, false};
+ghost use Rattle.std.specs.Prelude.{OnOk, ◌≡◌, ◌<◌, ◌+◌, ◌*◌, ◌^◌, ℕ, length, Some, true, false};
 ghost use Rattle.std.specs.Bool.{OnTrue, OnFalse};
 ghost use Rattle.ipl_base.specs.Calls.{IsFailedCall};
 ghost use Rattle.ipl_base.specs.declared.limits.TheConstants.{MOST_UNITS};
@@ -251,6 +251,7 @@ pub(crate) fn find_numbers<C: Chip>(
     ensures leaves { LeavesPassed (13 * MOST_UNITS) (length parts.old.directory.current)
         (tables_of parts.old) (tables_of parts.new) result (C.told chip.old) (C.told chip.new) }
     ensures unread { OnTrue found (Spends ReadsNothing (C.told chip.old) (C.told chip.new)) }
+    ensures same { OnOk result (found ≡ true → tables_of parts.new ≡ tables_of parts.old) }
 {
     if found {
         kept.rises();

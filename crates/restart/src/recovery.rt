@@ -95,7 +95,7 @@ fn read_rest<C: Chip>(
         (fault_by aim.draws (chart_of x) (at heads.now.all.now) (at heads.now.current.now) (Some winner.now)
         geometry.places) result) }
     ensures found { IfOk result (λ all.
-        FindsRest geometry.places (C.told chip.old) heads.now winner.now all findings.new) }
+        FindsRest geometry.places (C.told chip.old) aim.marks heads.now winner.now all findings.new) }
     ensures filled { IfOk result (λ all.
         FillsTables geometry.places heads.now winner.now aim all.greatest findings.new) }
     ensures spent { IfErr result (λ e. e ≡ Spent → OfContents (C.told chip.old) (λ x.

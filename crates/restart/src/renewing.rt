@@ -1,5 +1,5 @@
 //! The renewal of the status place.
-ghost use Rattle.std.specs.Prelude.{◌≡◌, ◌<◌, ◌+◌, ◌^◌, true};
+ghost use Rattle.std.specs.Prelude.{◌≡◌, ◌<◌, ◌+◌, ◌^◌, true, OnOk};
 ghost use Rattle.std.specs.Bool.{OnTrue};
 ghost use Rattle.selective_merge.specs.Known.{KnowsPlaces};
 ghost use Rattle.selective_merge.specs.Moving.{tables_of};
@@ -7,6 +7,7 @@ ghost use Rattle.unit_io.specs.Costs.{Spends};
 ghost use Rattle.unit_io.specs.Unread.{ReadsNothing};
 ghost use Rattle.restart.specs.Leaving.{LeavesRenewed, RenewalFails, RenewalSpends, RenewsStatus};
 ghost use Rattle.restart.specs.Passes.{KeepsAll, RenewsTold, KeepsInSteps};
+ghost use Rattle.restart.specs.Renewed.{KeepsLogs};
 
 use crate::numbers::KeptNumbers;
 use crate::passing::find_numbers;
@@ -30,6 +31,8 @@ pub(crate) fn renew_with<C: Chip>(
     ensures renews { RenewsStatus (tables_of parts.old) (tables_of parts.new) result
         (C.told chip.old) (C.told chip.new) }
     ensures unread { OnTrue found (Spends ReadsNothing (C.told chip.old) (C.told chip.new)) }
+    ensures logs { OnOk result (found ≡ true
+        → KeepsLogs (tables_of parts.old) (tables_of parts.new)) }
 {
     find_numbers(chip, parts, kept, found)?;
     known_laws();

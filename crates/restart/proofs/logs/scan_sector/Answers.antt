@@ -13,7 +13,7 @@ use Rattle.restart.proofs.MaskedLemmas.{masked_none}
 use Rattle.ipl_meaning.specs.Tables.{Places, StatusTable}
 use Rattle.restart.specs.Scanned.{IsScanned}
 use Rattle.restart.specs.Counted.{SameHomes, StaysUnknown, IsReadLog, does_check, is_erased}
-use Rattle.restart.proofs.CountedLogLemmas.{homes_then, homes_from, unknown_then, unknown_from, unknown_seen, seen_homes, seen_masks, masked_alike, check_found, erased_found, logs_past, logs_seen}
+use Rattle.restart.proofs.CountedLogLemmas.{homes_then, homes_from, unknown_then, unknown_from, unknown_seen, seen_homes, seen_masks, masked_alike, check_found, erased_found, unchecked_found, unerased_found, logs_past, logs_seen}
 use Rattle.restart.proofs.logs.scan_sector.Goals as goal
 
 pub returns-then-not-may_hold_log-clause-scans : goal.returns-then-not-may_hold_log-clause-scans
@@ -102,6 +102,8 @@ returns-clause-scans g c = record {
         (does_check found) (is_erased found)
         (check_found found c.read_found.new.into (chart_of x c.args.spot.place c.args.spot.sector) (c.in_ok-found.ensures.exact x told))
         (erased_found found (x c.args.spot.place c.args.spot.sector) (c.in_ok-found.ensures.erased x told))
+        (unchecked_found found c.read_found.new.into (chart_of x c.args.spot.place c.args.spot.sector) (c.in_ok-found.ensures.exact x told))
+        (unerased_found found (x c.args.spot.place c.args.spot.sector) (c.in_ok-found.ensures.erased x told))
         (length c.args.heads.now.current.now) c.take_found.new.findings.directory.now c.note_seen.new.directory c.note_seen.ensures
         (λ u low. subst (λ (ws : List ℕ). IsReadLog x mark u (current u) (c.args.spot.place * 256 + c.args.spot.sector) (get_or ws u 0)) (sym before.written) (so_far u low));
     unknown = unknown_then c.args.findings.now.directory.now c.take_found.new.findings.directory.now c.note_seen.new.directory (unknown_from c.take_found.ensures.takes.places)

@@ -1,6 +1,6 @@
 use Rattle.std.proofs.Common.{◌≡◌, ◌<◌, ◌-◌, ◌∙◌, ℕ, Bool, length, false, Ok, Err, refl, sym, ap, subst, arith}
 use Rattle.std.proofs.lemmas.Result.{err_from_is_err_and}
-use Rattle.std.proofs.lemmas.Bool.{OnTrue_from}
+use Rattle.std.proofs.lemmas.Bool.{OnTrue_from, false≢true}
 use Rattle.chip_trait.proofs.CountsLemmas.{counts_none}
 use Rattle.ipl_meaning.specs.Chart.{chart_of}
 use Rattle.ipl_meaning.specs.Mirrors.{Mirrors}
@@ -235,3 +235,6 @@ returns-in_err-try_pass-clause-leaves g c =
     let e = err_from_is_err_and c.from_residual.result c.from_residual.ensures.1 in
     rw (e.1 ∙ ap Err e.2) (leaves_most c.none-turns.result ended t after (Err fault) old new
     (omega (arith, c.facts.ensures.units, c.facts.ensures.places)) all)
+
+pub returns-clause-same : goal.returns-clause-same
+returns-clause-same g c = λ is. absurd (false≢true (sym c.if-found.false ∙ is))

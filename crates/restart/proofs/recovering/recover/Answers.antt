@@ -27,6 +27,7 @@ use Rattle.restart.proofs.FaultLemmas.{opening_fault}
 use Rattle.restart.proofs.FoundLemmas.{all_kept, once_where_fit, unread_first}
 use Rattle.restart.proofs.SecuringLemmas.{forgotten, homes_forgotten, no_waits, none_known, unknown_logs, wait_contents, wait_unread, wait_costs, known_ended, none_marked}
 use Rattle.restart.proofs.TidyLemmas.{tidies_nothing, tidies_opened}
+use Rattle.restart.proofs.CountedMarkLemmas.{marks_counted}
 use Rattle.restart.proofs.recovering.recover.Goals as goal
 
 -- ---- it was only read
@@ -78,6 +79,7 @@ returns-in_err-found-clause-leaves g c =
       holds = tt;
       number = tt;
       left = tt;
+      marked = tt;
       tidy = tidies_nothing Anywhere c.args.marks old.places fault after old mid looks.only.reads;
       accounts = record {
         counts = looks.only.reads.counts;
@@ -180,6 +182,7 @@ returns-in_err-secure_marks-clause-leaves g c =
             marked = c.in_ok-found.ensures.found.marked;
           }) refl
           (tidies_settled t old mid settled reads (Err fault) c.in_err-secure_marks.ensures.waits);
+      marked = tt;
       accounts = record {
         counts = counts_then old mid settled reads.counts stopped.counts;
         cause = renewing_cause t.places fault old mid settled reads.counts
@@ -351,6 +354,7 @@ returns-in_err-renew_with-clause-leaves g c =
           }) refl
           (tidies_renewed t old mid settled reads waited c.in_ok-secure_marks.ensures.waits after
           (Err fault) new leaves.tidy);
+      marked = tt;
       accounts = record {
         counts = counts_then old settled new counts leaves.accounts.counts;
         cause = renewing_cause after.places fault old settled new counts leaves.accounts.cause;
@@ -488,6 +492,9 @@ returns-clause-leaves g c =
           (tidies_ended t after old new
           (tidies_renewed t old mid settled reads waited c.in_ok-secure_marks.ensures.waits after (Ok tt)
           new leaves.tidy));
+      marked = marks_counted c.args.marks old.places c.in_ok-found.found c.read_tables.new.numbers t after old
+          found.found.exact found.found.collected
+          (λ x told. (found.found.opened x told).status.first_is) c.in_ok-renew_with.ensures.logs;
       accounts = record {
         counts = counts_then old settled new (counts_then old mid settled reads.counts waited)
             leaves.accounts.counts;

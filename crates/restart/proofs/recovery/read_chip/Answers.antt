@@ -1,4 +1,4 @@
-use Rattle.std.proofs.Common.{Option, [], false, ◌≡◌, ◌<◌, ◌∙◌, ◌+◌, ◌*◌, ℕ, List, Some, take, get_or, refl, ap, arith, Ok, length, true, sym, subst}
+use Rattle.std.proofs.Common.{Bool, Option, [], false, ◌≡◌, ◌<◌, ◌∙◌, ◌+◌, ◌*◌, ℕ, List, Some, take, get_or, refl, ap, arith, Ok, length, true, sym, subst}
 use Rattle.std.proofs.lemmas.List.{length-take-le}
 use Rattle.ipl_meaning.specs.Chart.{chart_of}
 use Rattle.ipl_meaning.specs.First.{at, count_below}
@@ -18,10 +18,9 @@ use Rattle.restart.proofs.FillLemmas.{used_still, adopted_then}
 use Rattle.restart.proofs.RetireLemmas.{AreAside, all_aside, listed_within}
 use Rattle.restart.proofs.OpenedMaskLemmas.{opened_masks}
 use Rattle.restart.proofs.OpenedNumbersLemmas.{all_collected}
-use Rattle.restart.proofs.CleanLemmas.{unmarked, counts_marked}
-use Rattle.restart.specs.Counted.{IsReadLog, AreReadLogs}
+use Rattle.restart.proofs.CleanLemmas.{unmarked, counts_marked, counts_exactly}
+use Rattle.restart.specs.Counted.{IsReadLog, AreReadLogs, mark_for}
 use Rattle.restart.proofs.CountedLogLemmas.{read_opened}
-use Rattle.ipl_meaning.specs.Marked.{last_close_mark}
 use Rattle.ipl_meaning.specs.Opened.{IsOpenedLog, AreOpened, tables_of}
 use Rattle.ipl_meaning.specs.Layout.{Laid}
 use Rattle.ipl_meaning.specs.Mirrors.{Mirrors}
@@ -33,7 +32,7 @@ use Rattle.selective_merge.specs.Known.{KnowsPlaces}
 use Rattle.ipl_meaning.specs.Chosen.{KeptHeader, Winner}
 use Rattle.restart.specs.Collected.{AreCollected}
 use Rattle.restart.specs.Filled.{is_used, AreUsed, AreAdopted}
-use Rattle.restart.specs.Opened.{HasFree, IsUnmarked, CountsMarked}
+use Rattle.restart.specs.Opened.{HasFree, IsUnmarked, CountsMarked, CountsExactly}
 use Rattle.restart.proofs.recovery.read_chip.Given.{Over}
 use Rattle.restart.proofs.recovery.read_chip.Goals as goal
 
@@ -217,7 +216,7 @@ laid_out g c = λ x told.
     (omega arith) (omega arith) (c.in_ok-winner.ensures.fault x told) (c.in_ok-gathered.ensures.fault x told_then))
 
 read_logs : (g : Over) (c : goal.After-facts-2 g) → OfContents (g.C.Chip.told c.args.chip.now)
-    (λ x. AreReadLogs x (last_close_mark (chart_of x) (Some c.in_ok-winner.winner)) (at (current g c))
+    (λ x. AreReadLogs x (mark_for c.args.aim.marks (chart_of x) (Some c.in_ok-winner.winner)) (at (current g c))
     (length (current g c)) (c.args.geometry.places * 256) c.read_rest.new.findings.directory.now)
 read_logs g c = λ x told.
     c.in_ok-gathered.ensures.found.logs x (c.read_headers.ensures.looks.only.reads.contents ∙ told)
@@ -249,7 +248,7 @@ all_opened g c = λ x told.
           (listed_within places (length (current g c)) (listed g c) (count g c).listed) (rest.number x told_then) refl
           (λ u low. subst (λ (ws : List ℕ). IsOpenedLog places (chart_of x) u (get_or ws u 0))
           (sym c.fill_places.ensures.same.written)
-          (read_opened x places (at (current g c)) (Some winner) u _ (shows g c x told).current_are
+          (read_opened x places c.args.aim.marks (at (current g c)) (Some winner) u _ (shows g c x told).current_are
           (shows g c x told).status_is (within g c u)
           (read_logs g c x told u (omega (arith, low, (shows g c x told).units_are)))));
       overflow = overflow;
@@ -301,17 +300,39 @@ free g c =
     ((count g c).there 0 (omega (arith, (count g c).keeps.0))) (used g c) (adopted g c) (none g c)
     c.retire_listed.ensures
 
+-- they are as they were read
+logs_made : (g : Over) (c : goal.After-facts-2 g) → OfContents (g.C.Chip.told c.args.chip.now)
+    (λ x. AreReadLogs x (mark_for c.args.aim.marks (chart_of x) (Some c.in_ok-winner.winner)) (at (current g c))
+    (length (current g c)) (c.args.geometry.places * 256) c.retire_listed.new.directory)
+logs_made g c = λ x told u low.
+    subst (λ (ws : List ℕ). IsReadLog x (mark_for c.args.aim.marks (chart_of x) (Some c.in_ok-winner.winner)) u
+    (at (current g c) u) (c.args.geometry.places * 256) (get_or ws u 0))
+    (sym ((aside g c).keeps.written ∙ c.fill_places.ensures.same.written)) (read_logs g c x told u low)
+
 marked : (g : Over) (c : goal.After-facts-2 g) → OfContents (g.C.Chip.told c.args.chip.now)
     (λ x. CountsMarked c.args.geometry.places x (made g c))
 marked g c = λ x told.
     let winner = c.in_ok-winner.winner in
     let keeps = (aside g c).keeps in
-    counts_marked x c.args.geometry.places (heads g c) (current g c) winner c.retire_listed.new.directory
+    counts_marked x c.args.geometry.places c.args.aim.marks (heads g c) (current g c) winner c.retire_listed.new.directory
     c.list_places.new.overflow c.read_rest.new.findings.status.now
     (c.in_ok-gathered.gathered.greatest + 1) (shows g c x told) (laid_out g c x told)
-    (λ u low. subst (λ (ws : List ℕ). IsReadLog x (last_close_mark (chart_of x) (Some winner)) u (at (current g c) u)
-    (c.args.geometry.places * 256) (get_or ws u 0))
-    (sym (keeps.written ∙ c.fill_places.ensures.same.written)) (read_logs g c x told u low))
+    (logs_made g c x told)
+    (λ u low. ap (λ (xs : List ℕ). get_or xs u 0) keeps.current ∙ (adopted g c).current_is u low)
+    (ap length keeps.current ∙ (adopted g c).units_are) (within g c)
+    (is_held (heads g c) c.read_rest.new.findings.noted.now) (length (heads g c)) c.list_places.ensures.in_use
+    c.in_ok-gathered.ensures.filled.unclean
+
+exact : (g : Over) (c : goal.After-facts-2 g) → c.args.aim.marks ≡ true → OfContents (g.C.Chip.told c.args.chip.now)
+    (λ x. CountsExactly c.args.geometry.places x (made g c))
+exact g c = λ on x told.
+    let winner = c.in_ok-winner.winner in
+    let keeps = (aside g c).keeps in
+    counts_exactly x c.args.geometry.places (heads g c) (current g c) winner c.retire_listed.new.directory
+    c.list_places.new.overflow c.read_rest.new.findings.status.now
+    (c.in_ok-gathered.gathered.greatest + 1) (shows g c x told) (laid_out g c x told)
+    (subst (λ (marks : Bool). AreReadLogs x (mark_for marks (chart_of x) (Some winner)) (at (current g c))
+    (length (current g c)) (c.args.geometry.places * 256) c.retire_listed.new.directory) on (logs_made g c x told))
     (λ u low. ap (λ (xs : List ℕ). get_or xs u 0) keeps.current ∙ (adopted g c).current_is u low)
     (ap length keeps.current ∙ (adopted g c).units_are) (within g c)
     (is_held (heads g c) c.read_rest.new.findings.noted.now) (length (heads g c)) c.list_places.ensures.in_use
@@ -337,6 +358,7 @@ returns-clause-found g c = record {
   known = known g c;
   free = free g c;
   marked = marked g c;
+  exact = exact g c;
   unmarked = none_marked g c;
 }
 

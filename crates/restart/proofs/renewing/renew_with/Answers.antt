@@ -20,6 +20,7 @@ use Rattle.restart.proofs.CompleteLemmas.{written_alone}
 use Rattle.restart.proofs.TellingLemmas.{goes_on_from, goes_on_then, renews_told}
 use Rattle.restart.proofs.FaultLemmas.{pass_written, place_written}
 use Rattle.restart.proofs.TidyLemmas.{tidies_then}
+use Rattle.restart.proofs.CountedMarkLemmas.{logs_renewed}
 use Rattle.restart.proofs.FoundLemmas.{unread_both}
 use Rattle.restart.proofs.RenewalWornLemmas.{wears_renewed, wears_unpassed}
 use Rattle.restart.proofs.renewing.renew_with.Goals as goal
@@ -50,6 +51,13 @@ pub returns-clause-unread : goal.returns-clause-unread
 returns-clause-unread g c =
     unread_both c.args.found (g.C.Chip.told c.args.chip.now) (g.C.Chip.told c.find_numbers.new.chip)
     (g.C.Chip.told c.renew_place.new.chip) c.find_numbers.ensures.unread c.renew_place.ensures.writes.unread
+
+pub returns-clause-logs : goal.returns-clause-logs
+returns-clause-logs g c =
+    let between = tables_of c.find_numbers.new.parts in
+    logs_renewed c.args.found (tables_of c.args.parts.now) between c.renew_place.new.directory
+    c.renew_place.new.status c.renew_place.new.counter c.as_slice.result.now c.renew_place.result
+    c.in_ok-find_numbers.ensures.same c.renew_place.ensures.moves.moved
 
 pub returns-in_err-find_numbers-clause-renews : goal.returns-in_err-find_numbers-clause-renews
 returns-in_err-find_numbers-clause-renews g c = record {

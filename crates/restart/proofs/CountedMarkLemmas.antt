@@ -1,0 +1,79 @@
+-- What a mark says is counted as clean still, once the status is renewed.
+use Rattle.std.proofs.Common.{◌≡◌, ◌≤◌, ◌+◌, ◌∙◌, ℕ, Bool, true, false, List, length, get_or, Contains, Result, Ok, Err, OnOk, inl, inr, refl, sym, ap, subst, arith}
+use Rattle.chip_trait.specs.Told.{Told}
+use Rattle.ipl_base.specs.declared.fault.ChipFault.{ChipFault}
+use Rattle.ipl_meaning.specs.Chart.{Chart, chart_of}
+use Rattle.ipl_meaning.specs.Tables.{Places, OverflowLists, StatusTable, Tables, IsCountedClean, counted_written}
+use Rattle.ipl_meaning.specs.TableSteps.{without_marks}
+use Rattle.ipl_meaning.proofs.MarkLemmas.{counted_follow_ends_of_marks}
+use Rattle.unit_directory.proofs.AsideLemmas.{next_places_are_aside}
+use Rattle.unit_io.specs.Reads.{OfContents}
+use Rattle.restart.specs.Collected.{AreCollected}
+use Rattle.restart.specs.Opened.{CountsExactly}
+use Rattle.restart.specs.Recovers.{NumbersFit, CountsMarks}
+use Rattle.restart.specs.Renewed.{KeepsLogs, MovesStatus, with_tables}
+use Rattle.restart.proofs.FoundLemmas.{no_more}
+
+-- ---- the renewal
+
+-- a new status place leaves the units and the overflow places
+moved_logs : (t : Tables) (kept : List ℕ) (d : Places) (status : StatusTable) (drawn : ℕ)
+    → MovesStatus t.places t.status t.next kept d status → KeepsLogs t (with_tables t d status drawn)
+moved_logs t kept d status drawn is =
+    let facts = next_places_are_aside t.places is.taken.worn is.taken.in_turn in record {
+      current = ap (λ (b : Places). b.current) is.places_is
+          ∙ (ap (λ (b : Places). b.current) is.taken.places_is ∙ facts.current);
+      written = ap (λ (b : Places). b.written) is.places_is
+          ∙ (ap (λ (b : Places). b.written) is.taken.places_is ∙ facts.written);
+      overflow = refl;
+    }
+
+-- so it is where no unit was passed
+pub logs_renewed : (found : Bool) (t between : Tables) (d : Places) (status : StatusTable) (drawn : ℕ) (kept : List ℕ)
+    (result : Result (Unit {0}) ChipFault) → (found ≡ true → between ≡ t)
+    → OnOk result (MovesStatus between.places between.status between.next kept d status)
+    → OnOk result (found ≡ true → KeepsLogs t (with_tables between d status drawn))
+logs_renewed found t between d status drawn kept (Ok v) same moved =
+    λ is. subst (λ (b : Tables). KeepsLogs b (with_tables between d status drawn)) (same is)
+    (moved_logs between kept d status drawn moved)
+logs_renewed found t between d status drawn kept (Err e) same moved = tt
+
+-- ---- what is counted then
+
+-- no sector of the old status place was counted, and what else was is so still
+counted_still : (t after : Tables) (p s : ℕ) → t.status.first ≡ 256 → KeepsLogs t after → IsCountedClean t p s
+    → IsCountedClean after p s
+counted_still t after p s none keeps (small, inl (u, less, is, high)) = (
+  small,
+  inl (
+    u,
+    omega (arith, less, ap length keeps.current),
+    is ∙ ap (λ (ps : List ℕ). get_or ps u 0) (sym keeps.current),
+    subst (λ (ws : List ℕ). 241 + counted_written (get_or ws u 0) ≤ s) (sym keeps.written) high,
+  ),
+)
+counted_still t after p s none keeps (small, inr (inl (first, has, high))) = (
+  small,
+  inr (inl (first, subst (λ (o : OverflowLists). Contains o.in_use (p, first)) (sym keeps.overflow) has, high)),
+)
+counted_still t after p s none keeps (small, inr (inr (is, high))) = absurd (omega (arith, small, high, none))
+
+-- where the numbers fit, they were found
+found_where_fit : (places : ℕ) (c : Chart) (fits : Bool) (numbers : List ℕ) → AreCollected places c fits numbers
+    → NumbersFit places c → fits ≡ true
+found_where_fit places c true numbers it fit = refl
+found_where_fit places c false numbers it (most, few, has_all) =
+    let within = no_more it.found most it.rising (λ tid has.
+    let (is, logged) = (it.exact tid).0 has in has_all tid is logged) in
+    absurd (omega (arith, it.kept.more, within, few))
+
+-- what was counted by a mark is counted once no mark stands any more
+pub marks_counted : (marks : Bool) (places : ℕ) (fits : Bool) (numbers : List ℕ) (t after : Tables) (old : Told)
+    → (marks ≡ true → OfContents old (λ x. CountsExactly places x t))
+    → OfContents old (λ x. AreCollected places (chart_of x) fits numbers)
+    → OfContents old (λ x. t.status.first ≡ 256) → (fits ≡ true → KeepsLogs t after)
+    → CountsMarks marks places old (without_marks after)
+marks_counted marks places fits numbers t after old exact collected none keeps on x told fit p s marked whole =
+    let found = found_where_fit places (chart_of x) fits numbers (collected x told) fit in
+    (counted_follow_ends_of_marks after p s).0
+    (counted_still t after p s (none x told) (keeps found) ((exact on x told p s).1 (marked, whole)))
