@@ -18,8 +18,8 @@ use Rattle.ipl_meaning.proofs.OnceLemmas.{laid_once}
 use Rattle.ipl_meaning.specs.FoundLogs.{overflow_at}
 use Rattle.ipl_meaning.specs.Opened.{tables_of}
 use Rattle.ipl_meaning.proofs.SpotLemmas.{in_use_from}
-use Rattle.restart.specs.Counted.{NoneKnown, HasWholeLog, AreReadLogs, mark_for}
-use Rattle.restart.specs.Opened.{NoneIsClean, IsUnmarked, CountsMarked, CountsExactly}
+use Rattle.restart.specs.Counted.{NoneKnown, HasWholeLog, KnowsRead, AreReadLogs, mark_for}
+use Rattle.restart.specs.Opened.{NoneIsClean, IsUnmarked, CountsMarked, CountsExactly, KnowsWhole}
 use Rattle.restart.proofs.CountedLogLemmas.{marked_where}
 use Rattle.restart.specs.Shown.{ShowsHeaders}
 
@@ -72,8 +72,7 @@ counts_whole x places marks heads current status d lists table next shows laid r
           let under : u < units_at (chart_of x) places = omega (arith, low, shows.units_are) in
           let is_marked = subst (λ (c : ℕ → Option Winner). is_marked_by (last_close_mark (chart_of x) (status_at (chart_of x) places)) u (c u) ≡ true) shows.current_are
           (subst (λ (o : Option Winner). is_marked_by (last_close_mark (chart_of x) o) u (at current u) ≡ true) shows.status_is marked) in
-          let inside = within u winner has in
-          (
+          let inside = within u winner has in (
             record {
               layout = layout_in (chart_of x) places;
               laid = laid;
@@ -84,11 +83,14 @@ counts_whole x places marks heads current status d lists table next shows laid r
               region = (omega (arith, from), small);
               is_blank = ap (λ (q : ℕ). x q s) home ∙ knows.others s from small (omega (arith, inside, small));
             },
-            subst (HasWholeLog x) (sym home) (knows.count, record {
-              few = knows.few;
-              checks = knows.whole;
-              erased = λ n behind low. knows.others n behind low (omega (arith, inside, low));
-            }),
+            subst (HasWholeLog x) (sym home) (
+              knows.count,
+              record {
+                few = knows.few;
+                checks = knows.whole;
+                erased = λ n behind low. knows.others n behind low (omega (arith, inside, low));
+              },
+            ),
           )
     ]
 
@@ -106,36 +108,64 @@ counts_marked x places marks heads current status d lists table next shows laid 
 blank_is_none : (x : Contents) (p s : ℕ) → x p s ≡ blank → chart_of x p s ≡ None
 blank_is_none x p s is = ap sector_in is ∙ blank_says_nothing
 
--- and where marks count, each that is marked counts as clean, where its unit's log is whole
+-- where marks count, each unit that is marked and whose log is whole was read so
+whole_read : (x : Contents) (places : ℕ) (heads : List (Option KeptHeader)) (current : List (Option Winner)) (status : Winner) (d : Places)
+    → ShowsHeaders (chart_of x) places heads current status → Laid places (chart_of x) (layout_in (chart_of x) places)
+    → AreReadLogs x (last_close_mark (chart_of x) (Some status)) (at current) (length current) (places * 256) d
+    → ((u : ℕ) → u < length current → get_or d.current u 0 ≡ place_of (at current u))
+    → (p s : ℕ) (it : IsMarked places x p s) → HasWholeLog x p
+    → (it.unit < length current) × (p ≡ get_or d.current it.unit 0) × KnowsRead x p (places * 256) (get_or d.written it.unit 0)
+whole_read x places heads current status d shows laid read homes p s it log =
+    let c = chart_of x in
+    let u = it.unit in
+    let one = laid_once places c (layout_in c places) it.layout laid it.laid in
+    let low : u < length current = let under = it.within in omega (arith, under, one.count, shows.units_are) in
+    let has = ap (λ (f : ℕ → Option Winner). f u) shows.current_are ∙ home_is c places it.layout it.laid u it.within in
+    let told = (marked_units_are_told c places it.layout u it.laid it.within).1 it.marked in
+    let marked = subst (λ (f : ℕ → Option Winner). is_marked_by (last_close_mark c (Some status)) u (f u) ≡ true) (sym shows.current_are)
+    (subst (λ (o : Option Winner). is_marked_by (last_close_mark c o) u (current_at c places u) ≡ true) (sym shows.status_is) told) in (
+      low,
+      it.home ∙ sym (homes u low ∙ ap place_of has),
+      elim (read u low) [
+        | inl (unknown, right) ↦ absurd (right _ has marked (subst (HasWholeLog x) it.home log))
+        | inr (winner, is, here, knows) ↦
+            let home : winner.place ≡ p = ap place_of (sym is ∙ has) ∙ sym it.home in
+            subst (λ (q : ℕ). KnowsRead x q (places * 256) (get_or d.written u 0)) home knows
+      ],
+    )
+
+-- so something is known of it
+pub knows_whole : (x : Contents) (places : ℕ) (heads : List (Option KeptHeader)) (current : List (Option Winner)) (status : Winner) (d : Places) (lists : OverflowLists) (table : StatusTable) (next : ℕ)
+    → ShowsHeaders (chart_of x) places heads current status → Laid places (chart_of x) (layout_in (chart_of x) places)
+    → AreReadLogs x (last_close_mark (chart_of x) (Some status)) (at current) (length current) (places * 256) d
+    → ((u : ℕ) → u < length current → get_or d.current u 0 ≡ place_of (at current u))
+    → KnowsWhole places x (tables_of d lists table next)
+knows_whole x places heads current status d lists table next shows laid read homes p s it log unknown =
+    let (low, place, knows) = whole_read x places heads current status d shows laid read homes p s it log in
+    let says = knows.says in
+    let few = knows.few in omega (arith, unknown, says, few)
+
+-- and each that is marked counts as clean
 counts_all : (x : Contents) (places : ℕ) (heads : List (Option KeptHeader)) (current : List (Option Winner)) (status : Winner) (d : Places) (lists : OverflowLists) (table : StatusTable) (next : ℕ)
     → ShowsHeaders (chart_of x) places heads current status → Laid places (chart_of x) (layout_in (chart_of x) places)
     → AreReadLogs x (last_close_mark (chart_of x) (Some status)) (at current) (length current) (places * 256) d
     → ((u : ℕ) → u < length current → get_or d.current u 0 ≡ place_of (at current u)) → length d.current ≡ length current
     → (p s : ℕ) → IsMarked places x p s → HasWholeLog x p → IsCountedClean (tables_of d lists table next) p s
 counts_all x places heads current status d lists table next shows laid read homes size p s it log =
-    let c = chart_of x in
-    let u = it.unit in
-    let one = laid_once places c (layout_in c places) it.layout laid it.laid in
-    let low : u < length current = let under = it.within in omega (arith, under, one.count, shows.units_are) in
-    let has = ap (λ (f : ℕ → Option Winner). f u) shows.current_are ∙ home_is c places it.layout it.laid u it.within in
-    let place : p ≡ get_or d.current u 0 = it.home ∙ sym (homes u low ∙ ap place_of has) in
-    let told = (marked_units_are_told c places it.layout u it.laid it.within).1 it.marked in
-    let marked = subst (λ (f : ℕ → Option Winner). is_marked_by (last_close_mark c (Some status)) u (f u) ≡ true) (sym shows.current_are)
-    (subst (λ (o : Option Winner). is_marked_by (last_close_mark c o) u (current_at c places u) ≡ true) (sym shows.status_is) told) in
-    elim (read u low) [
-      | inl (unknown, right) ↦ absurd (right _ has marked (subst (HasWholeLog x) it.home log))
-      | inr (winner, is, here, knows) ↦
-          let home : winner.place ≡ p = ap place_of (sym is ∙ has) ∙ sym it.home in
-          let from : 241 + knows.count ≤ s = elim (cases_lt s (241 + knows.count)) [
-            | inr past ↦ omega (arith, past)
-            | inl within ↦ absurd (knows.whole s it.region.0 within (blank_is_none x winner.place s (ap (λ (q : ℕ). x q s) home ∙ it.is_blank)))
-          ] in (
-            it.region.1,
-            inl (u, omega (arith, low, size), place,
-                subst (λ (w : ℕ). 241 + counted_written w ≤ s) (sym knows.says)
-                (subst (λ (n : ℕ). 241 + n ≤ s) (sym (counted_marked knows.count knows.few)) from)),
-          )
-    ]
+    let (low, place, knows) = whole_read x places heads current status d shows laid read homes p s it log in
+    let from : 241 + knows.count ≤ s = elim (cases_lt s (241 + knows.count)) [
+      | inr past ↦ omega (arith, past)
+      | inl within ↦ absurd (knows.whole s it.region.0 within (blank_is_none x p s it.is_blank))
+    ] in (
+      it.region.1,
+      inl (
+        it.unit,
+        omega (arith, low, size),
+        place,
+        subst (λ (w : ℕ). 241 + counted_written w ≤ s) (sym knows.says)
+            (subst (λ (n : ℕ). 241 + n ≤ s) (sym (counted_marked knows.count knows.few)) from),
+      ),
+    )
 
 -- so exactly those count
 pub counts_exactly : (x : Contents) (places : ℕ) (heads : List (Option KeptHeader)) (current : List (Option Winner)) (status : Winner) (d : Places) (lists : OverflowLists) (table : StatusTable) (next : ℕ)

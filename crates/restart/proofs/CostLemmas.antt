@@ -99,7 +99,7 @@ waiting_then before after n waits worn_out old mid new =
     })
 
 -- a unit of which nothing is known once no mark counts any more was unknown before
-homes_unmarked : (it : Places) → KeepsHomes it (with_marks_ended it)
+pub homes_unmarked : (it : Places) → KeepsHomes it (with_marks_ended it)
 homes_unmarked it u low unknown = record {
   low = low;
   unknown = elim (cases_lt u (length it.written)) [

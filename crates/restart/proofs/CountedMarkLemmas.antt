@@ -1,17 +1,23 @@
 -- What a mark says is counted as clean still, once the status is renewed.
-use Rattle.std.proofs.Common.{◌≡◌, ◌≤◌, ◌+◌, ◌∙◌, ℕ, Bool, true, false, List, length, get_or, Contains, Result, Ok, Err, OnOk, inl, inr, refl, sym, ap, subst, arith}
+use Rattle.std.proofs.Common.{◌≡◌, ◌≤◌, ◌+◌, ◌∙◌, ◌<◌, ℕ, Bool, true, false, List, length, get_or, Contains, Result, Ok, Err, OnOk, inl, inr, refl, sym, ap, subst, arith}
 use Rattle.chip_trait.specs.Told.{Told}
 use Rattle.ipl_base.specs.declared.fault.ChipFault.{ChipFault}
+use Rattle.chip_trait.specs.Story.{Contents}
 use Rattle.ipl_meaning.specs.Chart.{Chart, chart_of}
+use Rattle.ipl_meaning.specs.Layout.{Laid}
+use Rattle.ipl_meaning.specs.LaidOut.{layout_in}
+use Rattle.ipl_meaning.proofs.OnceLemmas.{laid_once}
+use Rattle.place_taking.specs.Homes.{KeepsHomes}
 use Rattle.ipl_meaning.specs.Tables.{Places, OverflowLists, StatusTable, Tables, IsCountedClean, counted_written}
 use Rattle.ipl_meaning.specs.TableSteps.{without_marks}
 use Rattle.ipl_meaning.proofs.MarkLemmas.{counted_follow_ends_of_marks}
 use Rattle.unit_directory.proofs.AsideLemmas.{next_places_are_aside}
-use Rattle.unit_io.specs.Reads.{OfContents}
 use Rattle.restart.specs.Collected.{AreCollected}
-use Rattle.restart.specs.Opened.{CountsExactly}
+use Rattle.unit_io.specs.Reads.{OfContents}
+use Rattle.restart.specs.Opened.{CountsExactly, CountsWhole, KnowsWhole}
 use Rattle.restart.specs.Recovers.{NumbersFit, CountsMarks}
 use Rattle.restart.specs.Renewed.{KeepsLogs, MovesStatus, with_tables}
+use Rattle.restart.proofs.CostLemmas.{homes_unmarked}
 use Rattle.restart.proofs.FoundLemmas.{no_more}
 
 -- ---- the renewal
@@ -68,12 +74,37 @@ found_where_fit places c false numbers it (most, few, has_all) =
     absurd (omega (arith, it.kept.more, within, few))
 
 -- what was counted by a mark is counted once no mark stands any more
-pub marks_counted : (marks : Bool) (places : ℕ) (fits : Bool) (numbers : List ℕ) (t after : Tables) (old : Told)
-    → (marks ≡ true → OfContents old (λ x. CountsExactly places x t))
-    → OfContents old (λ x. AreCollected places (chart_of x) fits numbers)
-    → OfContents old (λ x. t.status.first ≡ 256) → (fits ≡ true → KeepsLogs t after)
-    → CountsMarks marks places old (without_marks after)
-marks_counted marks places fits numbers t after old exact collected none keeps on x told fit p s marked whole =
-    let found = found_where_fit places (chart_of x) fits numbers (collected x told) fit in
+marks_counted : (places : ℕ) (fits : Bool) (numbers : List ℕ) (t after : Tables) (x : Contents)
+    → CountsExactly places x t → AreCollected places (chart_of x) fits numbers → t.status.first ≡ 256
+    → (fits ≡ true → KeepsLogs t after) → NumbersFit places (chart_of x) → CountsWhole places x (without_marks after)
+marks_counted places fits numbers t after x exact collected none keeps fit p s marked whole =
+    let found = found_where_fit places (chart_of x) fits numbers collected fit in
     (counted_follow_ends_of_marks after p s).0
-    (counted_still t after p s (none x told) (keeps found) ((exact on x told p s).1 (marked, whole)))
+    (counted_still t after p s none (keeps found) ((exact p s).1 (marked, whole)))
+
+-- a unit of which nothing is known then is one of which nothing was known
+marks_known : (places : ℕ) (t after : Tables) (x : Contents)
+    → Laid places (chart_of x) (layout_in (chart_of x) places)
+    → length after.places.current ≡ (layout_in (chart_of x) places).count → KeepsHomes t.places after.places
+    → KnowsWhole places x t → KnowsWhole places x (without_marks after)
+marks_known places t after x laid units homes knows p s it whole unknown =
+    let one = laid_once places (chart_of x) (layout_in (chart_of x) places) it.layout laid it.laid in
+    let within = it.within in
+    let low : it.unit < length after.places.current = omega (arith, within, one.count, units) in
+    let still = homes_unmarked after.places it.unit low unknown in
+    knows p s it whole (homes it.unit low still.unknown).unknown
+
+-- all of it
+pub takes_marks : (marks : Bool) (places : ℕ) (fits : Bool) (numbers : List ℕ) (t after : Tables) (old : Told)
+    → (marks ≡ true → OfContents old (λ x. CountsExactly places x t))
+    → (marks ≡ true → OfContents old (λ x. KnowsWhole places x t))
+    → OfContents old (λ x. AreCollected places (chart_of x) fits numbers) → OfContents old (λ x. t.status.first ≡ 256)
+    → OfContents old (λ x. Laid places (chart_of x) (layout_in (chart_of x) places))
+    → OfContents old (λ x. length after.places.current ≡ (layout_in (chart_of x) places).count)
+    → KeepsHomes t.places after.places → (fits ≡ true → KeepsLogs t after)
+    → CountsMarks marks places old (without_marks after)
+takes_marks marks places fits numbers t after old exact knows collected none laid units homes keeps = record {
+  knows = λ on x told. marks_known places t after x (laid x told) (units x told) homes (knows on x told);
+  counts = λ on x told. marks_counted places fits numbers t after x (exact on x told) (collected x told)
+      (none x told) keeps;
+}

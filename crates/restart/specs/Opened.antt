@@ -3,6 +3,7 @@ use Rattle.std.specs.Prelude.{ℕ, ◌↔◌, length, slice_index}
 use Rattle.chip_trait.specs.Story.{Contents}
 use Rattle.ipl_meaning.specs.Marks.{IsMarked}
 use Rattle.ipl_meaning.specs.Tables.{Places, IsFree, Tables, IsCountedClean}
+use Rattle.place_taking.specs.Homes.{IsUnknown}
 use Rattle.unit_directory.specs.Free.{IsReadyToTake}
 use Rattle.restart.specs.Counted.{NoneKnown, HasWholeLog}
 
@@ -27,6 +28,10 @@ CountsMarked places x t = (p s : ℕ) → IsCountedClean t p s → IsMarked plac
 -- each sector that is marked is counted as clean, where its unit's log is whole
 abbrev pub CountsWhole : ℕ → Contents → Tables → Type 0
 CountsWhole places x t = (p s : ℕ) → IsMarked places x p s → HasWholeLog x p → IsCountedClean t p s
+
+-- something is known of each unit that is marked and whose log is whole
+abbrev pub KnowsWhole : ℕ → Contents → Tables → Type 0
+KnowsWhole places x t = (p s : ℕ) (it : IsMarked places x p s) → HasWholeLog x p → ¬ IsUnknown t.places it.unit
 
 -- a sector is counted as clean exactly where it is marked and its unit's log is whole
 abbrev pub CountsExactly : ℕ → Contents → Tables → Type 0

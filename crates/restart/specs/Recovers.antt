@@ -28,7 +28,7 @@ use Rattle.place_taking.specs.Homes.{LeavesPlaces}
 use Rattle.place_taking.specs.Spending.{RetiringCosts, tells_worn}
 use Rattle.restart.specs.Bytes.{ReadsBytes}
 use Rattle.restart.specs.Looks.{OnlyReads}
-use Rattle.restart.specs.Opened.{NoneIsClean, CountsMarked, CountsWhole}
+use Rattle.restart.specs.Opened.{NoneIsClean, CountsMarked, CountsWhole, KnowsWhole}
 use Rattle.selective_merge.specs.Homes.{WearCause}
 use Rattle.selective_merge.specs.Placing.{SaysErases}
 use Rattle.unit_io.specs.Steps.{Settled, EndsWith, Outcome, TidyWork}
@@ -164,11 +164,12 @@ pub record TakesMarks (marks : Bool) (places : ℕ) (old : Told) (first : Tables
   pub none : marks ≡ false → NoneIsClean first
   pub marked : OfContents old (λ x. CountsMarked places x first)
 
--- Where marks count, and the numbers fit so that no unit is merged, the tables count as clean each sector that was
--- marked, where its unit's log is whole.
-abbrev pub CountsMarks : Bool → ℕ → Told → Tables → Type 0
-CountsMarks marks places old after = marks ≡ true
-    → OfContents old (λ x. NumbersFit places (chart_of x) → CountsWhole places x after)
+-- Where marks count, something is known of each unit that was marked and whose log is whole; and where the numbers
+-- fit, so that no unit is merged, each of its sectors that was marked counts as clean.
+pub record CountsMarks (marks : Bool) (places : ℕ) (old : Told) (after : Tables) : Type 0 where
+  pub knows : marks ≡ true → OfContents old (λ x. KnowsWhole places x after)
+  pub counts : marks ≡ true
+      → OfContents old (λ x. NumbersFit places (chart_of x) → CountsWhole places x after)
 
 -- Whatever the chip holds, the events are lawful after any lawful ones that leave clean what was counted
 -- so by marks at first; and done, what the tables count as clean is clean.

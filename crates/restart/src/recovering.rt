@@ -17,7 +17,8 @@ use selective_merge::Parts;
 /// the places that aren't used those are retired that the status header lists, and those that were
 /// found worn.
 ///
-/// Where marks count, the log sectors that a close mark says to be clean are known clean then. Before
+/// Where marks count, the log sectors that a close mark says to be clean are known clean then, of units
+/// whose log is whole: all before the first erased one check, and all behind it are erased. Before
 /// anything is written one barrier is asked for them, and nothing is written to them before the new
 /// status place, in which no mark stands.
 ///
@@ -53,7 +54,8 @@ pub fn recover<C: Chip>(
 
     // What the tables have, whatever the chip tells. Whatever the chip holds, what it adds is lawful after
     // any lawful events that leave clean what is marked; and done, what the tables count as clean is clean.
-    // Where marks don't count, nothing has to be clean before.
+    // Where marks don't count, nothing has to be clean before; where they do, something is known of each
+    // unit that is marked and whose log is whole, and all that is marked of it counts where the numbers fit.
     ensures leaves { LeavesOpened marks (tables_of parts.new) result (C.told chip.old) (C.told chip.new) }
     ensures sized { (scratch.new ≡ scratch.old)
         × (length parts.new.directory.in_use ≡ (C.told chip.old).places)

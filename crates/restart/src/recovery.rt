@@ -200,7 +200,8 @@ impl Scratch {
 /// sector is read at most once. The tables then are of as many units as the chip keeps.
 ///
 /// Of a chip without a fault the directory then has the place of each unit, and where marks count, by
-/// the close mark which log sectors there are clean; the status place and the overflow places that hold
+/// the close mark which log sectors there are clean: exactly those that it marks, of units whose log is
+/// whole; the status place and the overflow places that hold
 /// live log sectors are in use too. Of the other places those are retired that the status header lists, and the others are free. Each place
 /// counts as erased as often as its header says, once where that doesn't say it. The overflow table
 /// lists each unit's live log sectors in overflow places, and these places; the status has the

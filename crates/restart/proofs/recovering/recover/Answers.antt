@@ -27,7 +27,7 @@ use Rattle.restart.proofs.FaultLemmas.{opening_fault}
 use Rattle.restart.proofs.FoundLemmas.{all_kept, once_where_fit, unread_first}
 use Rattle.restart.proofs.SecuringLemmas.{forgotten, homes_forgotten, no_waits, none_known, unknown_logs, wait_contents, wait_unread, wait_costs, known_ended, none_marked}
 use Rattle.restart.proofs.TidyLemmas.{tidies_nothing, tidies_opened}
-use Rattle.restart.proofs.CountedMarkLemmas.{marks_counted}
+use Rattle.restart.proofs.CountedMarkLemmas.{takes_marks}
 use Rattle.restart.proofs.recovering.recover.Goals as goal
 
 -- ---- it was only read
@@ -492,9 +492,12 @@ returns-clause-leaves g c =
           (tidies_ended t after old new
           (tidies_renewed t old mid settled reads waited c.in_ok-secure_marks.ensures.waits after (Ok tt)
           new leaves.tidy));
-      marked = marks_counted c.args.marks old.places c.in_ok-found.found c.read_tables.new.numbers t after old
-          found.found.exact found.found.collected
-          (λ x told. (found.found.opened x told).status.first_is) c.in_ok-renew_with.ensures.logs;
+      marked = takes_marks c.args.marks old.places c.in_ok-found.found c.read_tables.new.numbers t after old
+          found.found.exact found.found.knows found.found.collected
+          (λ x told. (found.found.opened x told).status.first_is) found.found.laid
+          (λ x told. leaves.holds.units ∙ (found.found.mirrors x told).directory.units)
+          (λ u low unknown. (c.in_ok-renew_with.ensures.renews.spends.costs.does.places.homes u low unknown).0)
+          c.in_ok-renew_with.ensures.logs;
       accounts = record {
         counts = counts_then old settled new (counts_then old mid settled reads.counts waited)
             leaves.accounts.counts;

@@ -18,10 +18,11 @@ use Rattle.restart.proofs.FillLemmas.{used_still, adopted_then}
 use Rattle.restart.proofs.RetireLemmas.{AreAside, all_aside, listed_within}
 use Rattle.restart.proofs.OpenedMaskLemmas.{opened_masks}
 use Rattle.restart.proofs.OpenedNumbersLemmas.{all_collected}
-use Rattle.restart.proofs.CleanLemmas.{unmarked, counts_marked, counts_exactly}
+use Rattle.restart.proofs.CleanLemmas.{unmarked, counts_marked, counts_exactly, knows_whole}
 use Rattle.restart.specs.Counted.{IsReadLog, AreReadLogs, mark_for}
 use Rattle.restart.proofs.CountedLogLemmas.{read_opened}
 use Rattle.ipl_meaning.specs.Opened.{IsOpenedLog, AreOpened, tables_of}
+use Rattle.ipl_meaning.specs.Marked.{last_close_mark}
 use Rattle.ipl_meaning.specs.Layout.{Laid}
 use Rattle.ipl_meaning.specs.Mirrors.{Mirrors}
 use Rattle.ipl_meaning.specs.LaidOut.{layout_in}
@@ -32,7 +33,7 @@ use Rattle.selective_merge.specs.Known.{KnowsPlaces}
 use Rattle.ipl_meaning.specs.Chosen.{KeptHeader, Winner}
 use Rattle.restart.specs.Collected.{AreCollected}
 use Rattle.restart.specs.Filled.{is_used, AreUsed, AreAdopted}
-use Rattle.restart.specs.Opened.{HasFree, IsUnmarked, CountsMarked, CountsExactly}
+use Rattle.restart.specs.Opened.{HasFree, IsUnmarked, CountsMarked, CountsExactly, KnowsWhole}
 use Rattle.restart.proofs.recovery.read_chip.Given.{Over}
 use Rattle.restart.proofs.recovery.read_chip.Goals as goal
 
@@ -323,6 +324,22 @@ marked g c = λ x told.
     (is_held (heads g c) c.read_rest.new.findings.noted.now) (length (heads g c)) c.list_places.ensures.in_use
     c.in_ok-gathered.ensures.filled.unclean
 
+-- where marks count, they are what the close mark says
+logs_marked : (g : Over) (c : goal.After-facts-2 g) → c.args.aim.marks ≡ true → OfContents (g.C.Chip.told c.args.chip.now)
+    (λ x. AreReadLogs x (last_close_mark (chart_of x) (Some c.in_ok-winner.winner)) (at (current g c))
+    (length (current g c)) (c.args.geometry.places * 256) c.retire_listed.new.directory)
+logs_marked g c = λ on x told.
+    subst (λ (marks : Bool). AreReadLogs x (mark_for marks (chart_of x) (Some c.in_ok-winner.winner)) (at (current g c))
+    (length (current g c)) (c.args.geometry.places * 256) c.retire_listed.new.directory) on (logs_made g c x told)
+
+knows : (g : Over) (c : goal.After-facts-2 g) → c.args.aim.marks ≡ true → OfContents (g.C.Chip.told c.args.chip.now)
+    (λ x. KnowsWhole c.args.geometry.places x (made g c))
+knows g c = λ on x told.
+    knows_whole x c.args.geometry.places (heads g c) (current g c) c.in_ok-winner.winner c.retire_listed.new.directory
+    c.list_places.new.overflow c.read_rest.new.findings.status.now
+    (c.in_ok-gathered.gathered.greatest + 1) (shows g c x told) (laid_out g c x told) (logs_marked g c on x told)
+    (λ u low. ap (λ (xs : List ℕ). get_or xs u 0) (aside g c).keeps.current ∙ (adopted g c).current_is u low)
+
 exact : (g : Over) (c : goal.After-facts-2 g) → c.args.aim.marks ≡ true → OfContents (g.C.Chip.told c.args.chip.now)
     (λ x. CountsExactly c.args.geometry.places x (made g c))
 exact g c = λ on x told.
@@ -331,8 +348,7 @@ exact g c = λ on x told.
     counts_exactly x c.args.geometry.places (heads g c) (current g c) winner c.retire_listed.new.directory
     c.list_places.new.overflow c.read_rest.new.findings.status.now
     (c.in_ok-gathered.gathered.greatest + 1) (shows g c x told) (laid_out g c x told)
-    (subst (λ (marks : Bool). AreReadLogs x (mark_for marks (chart_of x) (Some winner)) (at (current g c))
-    (length (current g c)) (c.args.geometry.places * 256) c.retire_listed.new.directory) on (logs_made g c x told))
+    (logs_marked g c on x told)
     (λ u low. ap (λ (xs : List ℕ). get_or xs u 0) keeps.current ∙ (adopted g c).current_is u low)
     (ap length keeps.current ∙ (adopted g c).units_are) (within g c)
     (is_held (heads g c) c.read_rest.new.findings.noted.now) (length (heads g c)) c.list_places.ensures.in_use
@@ -359,6 +375,7 @@ returns-clause-found g c = record {
   free = free g c;
   marked = marked g c;
   exact = exact g c;
+  knows = knows g c;
   unmarked = none_marked g c;
 }
 
