@@ -27,7 +27,7 @@ use Rattle.unit_io.specs.Costs.{Spends}
 use Rattle.unit_io.specs.Leads.{IsSteady}
 use Rattle.unit_io.specs.Reads.{OfContents}
 use Rattle.restart.specs.Passes.{HasErased, ListsRetired}
-use Rattle.restart.specs.Recovers.{CompletesOpening, ErasesOpening, RecoversTold, LooksAtFaults, RecoversInSteps, TidiesOpening, OpeningCause}
+use Rattle.restart.specs.Recovers.{CompletesOpening, CountsMarks, ErasesOpening, RecoversTold, LooksAtFaults, RecoversInSteps, TidiesOpening, OpeningCause}
 use Rattle.store_laws.specs.Advances.{Memory, MemoryFits, LeadsTo}
 use Rattle.store_laws.specs.Keeps.{limits_of, ShowsState, KeepsStore}
 use Rattle.page_frames.specs.Pages.{tables_in}
@@ -74,8 +74,9 @@ Restarts before old after new = LeadsTo {T = Unit {0}} {E = ChipFault}
 -- What an opening does to the chip, where a mark counts or doesn't, which fails so or leaves these tables:
 -- what it tells, what a power cut leaves, that a faulty chip is only read, when it may fail, that what it
 -- read is bytes, that its events are lawful after any lawful ones that leave clean what a mark said was so,
--- and done, leave clean what the tables count so; how many erases it makes and what it retires, done, one
--- of the place that the status has then; why it fails; and that the tables have as many units as may be kept.
+-- and done, leave clean what the tables count so, and that they count what a mark said; how many erases it
+-- makes and what it retires, done, one of the place that the status has then; why it fails; and that the tables
+-- have as many units as may be kept.
 pub record Tries (marks : Bool) (places : ℕ) (old : Told) (result : Result (Unit {0}) ImageFault) (t : Tables)
     (new : Told) : Type 0 where
   pub tells : RecoversTold places old result t new
@@ -84,6 +85,7 @@ pub record Tries (marks : Bool) (places : ℕ) (old : Told) (result : Result (Un
   pub complete : CompletesOpening places result old
   pub bytes : ReadsBytes places old result
   pub tidy : TidiesOpening marks places old result t new
+  pub marked : OnOk result (CountsMarks marks places old t)
   pub costs : ErasesOpening marks places result t.places old new
   pub renewed : OnOk result (Spends (HasErased t.status.place) old new)
   pub accounts : Accounts (OpeningCause t.places) result old new
