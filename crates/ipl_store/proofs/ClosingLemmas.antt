@@ -1,5 +1,5 @@
 -- What a clean close of a store leaves.
-use Rattle.std.proofs.Common.{◌≡◌, ℕ, ◌+◌, ◌≤◌, ◌^◌, Bool, true, false, List, length, Option, Some, None, Result, Ok, Err, OnOk, is_ok, refl, sym, ◌∙◌, ap, subst}
+use Rattle.std.proofs.Common.{◌≡◌, ℕ, ◌+◌, ◌≤◌, ◌^◌, true, false, List, length, Option, Some, None, Result, Ok, Err, OnOk, refl, sym, ◌∙◌, ap, subst}
 use Rattle.std.proofs.lemmas.Bool.{true≢false}
 use Rattle.chip_trait.specs.Told.{Told}
 use Rattle.chip_trait.proofs.CountsLemmas.{counts_then}
@@ -25,20 +25,20 @@ use Rattle.ipl_store.proofs.CallLemmas.{moved_calls, pages_move}
 -- ---- the mark
 
 -- a store after a mark of its tables was written, or a write failed
-abbrev pub marked : Store → Parts → Bool → Store
-marked store parts closed = record store {
+abbrev pub marked : Store → Parts → Store
+marked store parts = record store {
   transactions = record store.transactions {
     pages = record store.transactions.pages { parts = parts };
   };
   down = true;
-  closed = closed;
+  closed = true;
 }
 
 -- the directory and the overflow lists are as they were
-pub made_marked : (places : ℕ) (store : Store) (parts : Parts) (closed : Bool) → IsMade places store
+pub made_marked : (places : ℕ) (store : Store) (parts : Parts) → IsMade places store
     → parts ≡ record store.transactions.pages.parts { status = parts.status; counter = parts.counter }
-    → IsMade places (marked store parts closed)
-made_marked places store parts closed made rest = record {
+    → IsMade places (marked store parts)
+made_marked places store parts made rest = record {
   geometry = made.geometry;
   units = made.units;
   scratch = made.scratch;
@@ -69,9 +69,9 @@ pub done_marking : (written : Result (Unit {0}) ChipFault) (v : Unit {0}) → wr
 done_marking (Ok w) v is = refl
 done_marking (Err e) v is = absurd (cc is)
 
-pub marks_store : (store : Store) (parts : Parts) (closed : Bool) (before after : Told)
+pub marks_store : (store : Store) (parts : Parts) (before after : Told)
     (written : Result (Unit {0}) ChipFault) (result : Result (Unit {0}) StoreFault)
-    → EndsMarking written result → closed ≡ is_ok written
+    → EndsMarking written result
     → ClosesInSteps before.places (tables_in store.transactions.pages) (tables_of parts) before written
     after
     → Tidies (tables_in store.transactions.pages) written (tables_of parts) before after
@@ -80,8 +80,8 @@ pub marks_store : (store : Store) (parts : Parts) (closed : Bool) (before after 
     → Accounts IsStopped written before after
     → parts ≡ record store.transactions.pages.parts { status = parts.status; counter = parts.counter }
     → parts.counter ≤ counter_of store + 1
-    → MarksStore store before result (marked store parts closed) after
-marks_store store parts closed before after written result ends same steps tidy last costs accounts rest
+    → MarksStore store before result (marked store parts) after
+marks_store store parts before after written result ends steps tidy last costs accounts rest
     drawn = record {
       written = written;
       ends = ends;
@@ -93,7 +93,7 @@ marks_store store parts closed before after written result ends same steps tidy 
       directory = ap (λ (p : Parts). p.directory) rest;
       drawn = drawn;
       down = refl;
-      closed = same;
+      closed = refl;
       units = refl;
     }
 

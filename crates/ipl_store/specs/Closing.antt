@@ -20,7 +20,7 @@ EndsMarking (Ok v) result = result ≡ Ok v
 EndsMarking (Err e) result = result ≡ Err (Chip e)
 
 -- A mark was written, or a write failed: of the chip only the status place was programmed, once at most, and nothing was
--- erased. The store is down either way, and closed where it was written.
+-- erased. The store is down and closed either way, so that an opening counts the mark that may stand.
 pub record MarksStore (old : Store) (before : Told) (result : Result (Unit {0}) StoreFault) (new : Store)
     (after : Told) : Type 0 where
   pub written : Result (Unit {0}) ChipFault
@@ -34,7 +34,7 @@ pub record MarksStore (old : Store) (before : Told) (result : Result (Unit {0}) 
   pub directory : new.transactions.pages.parts.directory ≡ old.transactions.pages.parts.directory
   pub drawn : counter_of new ≤ counter_of old + 1
   pub down : new.down ≡ true
-  pub closed : new.closed ≡ is_ok written
+  pub closed : new.closed ≡ true
   pub units : new.units ≡ old.units
 
 -- The status place was made ready, as by any call that keeps the state; and then a mark was written.

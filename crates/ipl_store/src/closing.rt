@@ -26,7 +26,8 @@ impl Store {
     {
         let written = close(chip, &mut self.transactions.pages.parts);
         self.down = true;
-        self.closed = written.is_ok();
+        // Also where a write failed: a mark may stand then, and an opening finds out.
+        self.closed = true;
         written?;
         Ok(())
     }

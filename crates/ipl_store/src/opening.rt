@@ -103,7 +103,7 @@ impl Store {
 
     /// Opens the chip again, or what is left of it: all sessions are dropped, and all holds. Where
     /// that fails the store is down, and has as many units as before. Where the store was closed, its mark
-    /// on the chip counts.
+    /// on the chip counts, also one that may stand since a write failed in the close.
     pub fn reopen<C: Chip>(mut self, chip: &mut C) -> (Store, Result<(), ImageFault>)
         requires sound { IsSound (C.told chip.old).places self }
         ensures sound { IsSound (C.told chip.old).places result.0 }

@@ -20,7 +20,8 @@ pub struct Store {
     // A write failed, too many places are worn, the store was closed, or the chip wasn't opened again:
     // nothing is done until it is.
     pub(crate) down: bool,
-    // It was closed, and its chip wasn't opened again: a mark says what is known of the chip's log sectors.
+    // It was closed, or a write failed in that, and its chip wasn't opened again: where a mark stands, it says
+    // what is known of the chip's log sectors.
     pub(crate) closed: bool,
 }
 

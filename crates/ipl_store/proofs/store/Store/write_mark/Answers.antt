@@ -9,16 +9,16 @@ returns-in_err-written-clause-marks g c =
     let e = err_from_is_err_and c.from_residual.result c.from_residual.ensures.1 in
     let ends = failed_marking c.close-written.result c.in_err-written.field-0.0
     c.from_residual.result c.in_err-written.was (e.1 ∙ ap Err e.2) in
-    marks_store c.args.self.now c.close-written.new.parts c.is_ok-self.result
+    marks_store c.args.self.now c.close-written.new.parts
     (g.C.Chip.told c.args.chip.now) (g.C.Chip.told c.close-written.new.chip) c.close-written.result
-    c.from_residual.result ends c.is_ok-self.ensures.value did.steps did.tidy did.ends did.costs
+    c.from_residual.result ends did.steps did.tidy did.ends did.costs
     did.accounts did.leaves.rest did.leaves.drawn.1
 
 pub returns-clause-marks : goal.returns-clause-marks
 returns-clause-marks g c =
     let did = c.close-written.ensures in
     let ends = done_marking c.close-written.result c.in_ok-written.field-0 c.in_ok-written.was in
-    marks_store c.args.self.now c.close-written.new.parts c.is_ok-self.result
+    marks_store c.args.self.now c.close-written.new.parts
     (g.C.Chip.told c.args.chip.now) (g.C.Chip.told c.close-written.new.chip) c.close-written.result
-    (Ok tt) ends c.is_ok-self.ensures.value did.steps did.tidy did.ends did.costs did.accounts
+    (Ok tt) ends did.steps did.tidy did.ends did.costs did.accounts
     did.leaves.rest did.leaves.drawn.1
