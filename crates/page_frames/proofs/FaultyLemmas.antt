@@ -141,22 +141,24 @@ load_of_page places x it active t u page e mirrors low few found =
     ]
 
 -- so it names that page where the tables then have the unit there still, with the same sessions open
-pub names_page : (places : ℕ) (x : Contents) (it : Layout) (t after : Tables) (u page : ℕ)
-    (e : ChipFault) → Mirrors places (chart_of x) it t → u < it.count → page < 15
-    → after.active ≡ t.active
+pub names_page : (Finds : ℕ → ℕ → ChipFault → Type 0) (places : ℕ) (x : Contents) (it : Layout)
+    (t after : Tables) (u page : ℕ) (e : ChipFault) → Mirrors places (chart_of x) it t → u < it.count
+    → page < 15 → after.active ≡ t.active
     → slice_index after.places.current u ≡ slice_index t.places.current u
-    → load_fault x it (among t.active) u page ≡ Some e → NamesBadPage x it after e
-names_page places x it t after u page e mirrors low few alike stays found = record {
+    → load_fault x it (among t.active) u page ≡ Some e → Finds u page e
+    → NamesBadPage Finds x it after e
+names_page Finds places x it t after u page e mirrors low few alike stays wrong finds = record {
   unit = u;
   page = page;
   low = low;
   few = few;
   bad = λ none.
       let was = subst (λ (l : List ℕ). load_fault x it (among l) u page ≡ None) alike none in
-      let clash = sym was ∙ found in cc clash;
+      let clash = sym was ∙ wrong in cc clash;
   names = subst (λ (p : ℕ). IsOfPage p page e)
       (sym (stays ∙ mirrors.directory.current u low))
-      (load_of_page places x it (among t.active) t u page e mirrors low few found);
+      (load_of_page places x it (among t.active) t u page e mirrors low few wrong);
+  found = finds;
 }
 
 -- ---- a page that a merge moves

@@ -13,7 +13,7 @@ use Rattle.unit_io.specs.Charts.{Charts}
 use Rattle.selective_merge.proofs.FaultLemmas.{fault_stopped}
 use Rattle.selective_merge.specs.Merging.{FailsAsMerge, StaysMirrored}
 use Rattle.selective_merge.proofs.CompleteLemmas.{fails_complete}
-use Rattle.page_frames.specs.InPlace.{IsInPlace, StaysInPlace}
+use Rattle.page_frames.specs.InPlace.{IsInPlace, StaysInPlace, StaysUntouched}
 use Rattle.page_frames.specs.Leaving.{FailsByUnit}
 
 module _ (t : Tables) (u : ℕ) (after : Tables) where
@@ -34,17 +34,20 @@ module _ (t : Tables) (u : ℕ) (after : Tables) where
 
 -- what is wrong with the unit says also when it doesn't fail
 pub fails_by_unit : (t : Tables) (u : ℕ) (after : Tables) (result : Result (Unit {0}) ChipFault)
-    (told : Told) → FailsAsMerge told.places t u result told
-    → StaysInPlace told.places t u after result told → FailsByUnit t u after result told
-fails_by_unit t u after result told fault stays = record {
+    (old new : Told) → FailsAsMerge old.places t u result old
+    → StaysInPlace old.places t u after result old → StaysUntouched t u after result old new
+    → FailsByUnit t u after result old new
+fails_by_unit t u after result old new fault stays untouched = record {
   fault = fault;
-  complete = fails_complete told.places t u result told fault;
+  complete = fails_complete old.places t u result old fault;
   stays = stays;
+  untouched = untouched;
 }
 
 -- a write failed
-pub stopped_fails : (t : Tables) (u : ℕ) (after : Tables) (e : ChipFault) (told : Told) → e ≡ Stopped
-    → FailsByUnit t u after (Err e) told
-stopped_fails t u after e told is =
-    fails_by_unit t u after (Err e) told (λ x there it mirrors. fault_stopped _ e is)
+pub stopped_fails : (t : Tables) (u : ℕ) (after : Tables) (e : ChipFault) (old new : Told) → e ≡ Stopped
+    → FailsByUnit t u after (Err e) old new
+stopped_fails t u after e old new is =
+    fails_by_unit t u after (Err e) old new (λ x there it mirrors. fault_stopped _ e is)
     (λ x there it mirrors. in_place_stopped t u after e is)
+    (λ x there it mirrors held. absurd (held (subst IsFailedCall (sym is) tt)))

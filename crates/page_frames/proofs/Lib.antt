@@ -14,6 +14,7 @@ mod CauseLemmas
 pub mod RecordSpendLemmas
 mod TidyLemmas
 pub mod WearLemmas
+pub mod UntouchedLemmas
 mod InPlaceLemmas
 pub mod FrameLemmas
 pub mod FramedLemmas

@@ -1,9 +1,10 @@
 -- Calls over contents that stand for a state tell the fault of a page that didn't read well.
-use Rattle.std.proofs.Common.{◌≡◌, ◌≢◌, ◌<◌, ℕ, List, length, Option, Some, None, slice_index, Result, Ok, Err, IfErr, refl, sym, ◌∙◌, ap, subst, arith}
+use Rattle.std.proofs.Common.{◌≡◌, ◌≢◌, ◌<◌, ℕ, List, length, Option, Some, None, slice_index, Result, Ok, Err, IfErr, inl, inr, refl, sym, ◌∙◌, ap, subst, arith}
+use Rattle.std.specs.Prelude.{is_ok}
 use Rattle.chip_trait.specs.Story.{Contents}
-use Rattle.chip_trait.specs.Told.{Told}
+use Rattle.chip_trait.specs.Told.{Told, IsConsistent}
 use Rattle.ipl_base.specs.declared.fault.ChipFault.{ChipFault}
-use Rattle.ipl_base.specs.declared.fault.ChipFault.TheVariants.{ReadFault}
+use Rattle.ipl_base.specs.declared.fault.ChipFault.TheVariants.{ReadFault, Stopped}
 use Rattle.ipl_model.specs.State.{State}
 use Rattle.record_locks.specs.Held.{SessionSlots}
 use Rattle.ipl_meaning.specs.Chart.{chart_of}
@@ -19,43 +20,58 @@ use Rattle.selective_merge.proofs.CompleteLemmas.{merge_fails_so}
 use Rattle.restart.specs.InPlace.{RenewalFailsInPlace}
 use Rattle.number_set.specs.Numbers.{among}
 use Rattle.page_rebuild.specs.Loaded.{OfTables, load_fault}
-use Rattle.page_frames.specs.InPlace.{StaysInPlace}
+use Rattle.page_frames.specs.InPlace.{StaysInPlace, StaysUntouched}
+use Rattle.unit_io.specs.Charts.{Charts}
+use Rattle.unit_io.specs.Costs.{Spends}
+use Rattle.unit_io.proofs.CostLemmas.{spends_weaker}
+use Rattle.place_taking.specs.Spending.{ErasesFor, ErasesFree, is_worn_out}
+use Rattle.selective_merge.specs.Known.{KnowsPlaces}
+use Rattle.selective_merge.proofs.HeldLemmas.{homes_used}
 use Rattle.store_laws.proofs.FitLemmas.{merges_are_small}
 use Rattle.store_laws.specs.Advances.{memory_of, MemoryFits, KeepsState}
 use Rattle.page_frames.specs.declared.pages.Pages.{Pages}
 use Rattle.page_frames.specs.Pages.{tables_in, frames_in}
-use Rattle.page_frames.specs.Faulty.{FailsAsPage, NamesBadPage, TellsFaults}
+use Rattle.page_frames.specs.Faulty.{FailsAsPage, NamesBadPage, StandsEver, StandsThen, TellsFaults, TellsFaultsThen}
 use Rattle.page_frames.proofs.CompleteLemmas.{unread, unstopped}
 use Rattle.page_frames.proofs.FaultyLemmas.{first_some, moved_fault, names_page, still_sound}
+use Rattle.page_frames.proofs.UntouchedLemmas.{read_stands, unit_untouched, untouched_stands}
 
 -- ---- merges
 
 -- what is wrong with a unit that is to be merged is what is wrong with a page of it
-unit_names : (places : ℕ) (x : Contents) (it : Layout) (old : Pages) (after : Tables)
-    (slots : SessionSlots) (state : State) (u : ℕ) (e : ChipFault) → u < it.count
+unit_names : (Finds : ℕ → ℕ → ChipFault → Type 0) (places : ℕ) (x : Contents) (it : Layout) (old : Pages)
+    (after : Tables) (slots : SessionSlots) (state : State) (u : ℕ) (e : ChipFault) → u < it.count
     → MemoryFits places (chart_of x) it (memory_of (tables_in old) (frames_in old) slots) state
     → after.active ≡ (tables_in old).active
     → slice_index after.places.current u ≡ slice_index (tables_in old).places.current u
-    → merge_fault x (tables_in old) (it.units u) u ≡ Some e → NamesBadPage x it after e
-unit_names places x it old after slots state u e low fits alike stays is =
+    → merge_fault x (tables_in old) (it.units u) u ≡ Some e
+    → ((page : ℕ) → load_fault x it (among (tables_in old).active) u page ≡ Some e → Finds u page e)
+    → NamesBadPage Finds x it after e
+unit_names Finds places x it old after slots state u e low fits alike stays is finds =
     let t = tables_in old in
     let few = merges_are_small places (chart_of x) it t (frames_in old) slots state u fits low in
     let (page, below, found) = first_some (page_fault_from x (source_in it u)) 15 e
     (sym (merge_faults_are_of_the_unit x it t u fits.mirrors.status few) ∙ is) in
-    names_page places x it t after u page e fits.mirrors low below alike stays
-    (moved_fault x it (among t.active) u page e found)
+    let wrong = moved_fault x it (among t.active) u page e found in
+    names_page Finds places x it t after u page e fits.mirrors low below alike stays wrong
+    (finds page wrong)
 
+-- the unit is untouched, so that it stands then
 pub merge_tells : {T : Type 0} (u : ℕ) (old new : Pages) (result : Result T ChipFault)
-    (told : Told) → u < length old.parts.directory.current
+    (before last : Told) → u < length old.parts.directory.current
     → (tables_in new).active ≡ (tables_in old).active
-    → FailsAsMerge told.places (tables_in old) u result told
-    → StaysInPlace told.places (tables_in old) u (tables_in new) result told
-    → TellsFaults old result told new
-merge_tells u old new (Ok v) told low alike fails stays x there slots it state fits = tt
-merge_tells u old new (Err e) told low alike fails stays x there slots it state fits = λ fine.
-    unit_names told.places x it old (tables_in new) slots state u e
-    (omega (arith, low, fits.mirrors.directory.units)) fits alike
-    (stays x there it fits.mirrors fine) (fails x there it fits.mirrors fine)
+    → FailsAsMerge before.places (tables_in old) u result before
+    → StaysInPlace before.places (tables_in old) u (tables_in new) result before
+    → StaysUntouched (tables_in old) u (tables_in new) result before last
+    → TellsFaultsThen old result before new last
+merge_tells u old new (Ok v) before last low alike fails stays untouched x there slots it state fits = tt
+merge_tells u old new (Err e) before last low alike fails stays untouched x there slots it state fits =
+    λ fine.
+    let unit : u < it.count = omega (arith, low, fits.mirrors.directory.units) in
+    unit_names (StandsThen (tables_in new) last) before.places x it old (tables_in new) slots state u e unit
+    fits alike (stays x there it fits.mirrors fine) (fails x there it fits.mirrors fine)
+    (λ page wrong. untouched_stands x it (tables_in old) (tables_in new) u page e last unit alike wrong
+    (untouched x there it fits.mirrors fine))
 
 -- where it fails the tables mirror the same layout
 pub merge_in_place : (places u : ℕ) (t after : Tables) (result : Result (Unit {0}) ChipFault)
@@ -68,27 +84,52 @@ merge_in_place places u t after (Err e) old new low tells x told it mirrors = λ
     let below : u < it.count = omega (arith, low, mirrors.directory.units) in
     (still it mirrors).0.directory.current u below ∙ sym (mirrors.directory.current u below)
 
-pub merged_tells : (u : ℕ) (old new : Pages) (result : Result (Unit {0}) ChipFault)
-    (before after : Told) → u < length old.parts.directory.current
-    → (tables_in new).active ≡ (tables_in old).active
-    → TellsMergeFault before.places (tables_in old) u result before
-    → ChartsThroughout (λ done. Merges before.places u (tables_in old) (tables_in new))
-    (StaysMirrored before.places (tables_in old) (tables_in new)) result before after
-    → TellsFaults old result before new
-merged_tells u old new result before after low alike fault tells =
-    merge_tells u old new result before low alike
-    (merge_fails_so before.places (tables_in old) u result before fault)
-    (merge_in_place before.places u (tables_in old) (tables_in new) result before after low tells)
+-- what a merge leaves of this
+pub record MovesMerged (u place : ℕ) (old new : Pages) (result : Result (Unit {0}) ChipFault)
+    (before after : Told) : Type 0 where
+  pub active : (tables_in new).active ≡ (tables_in old).active
+  pub sized : after.places ≡ before.places
+  pub fault : TellsMergeFault before.places (tables_in old) u result before
+  pub tells : ChartsThroughout (λ done. Merges before.places u (tables_in old) (tables_in new))
+      (StaysMirrored before.places (tables_in old) (tables_in new)) result before after
+  pub costs : Spends (ErasesFor (tables_in old).places (tables_in new).places 3 place (is_ok result)
+      (is_worn_out result)) before after
 
-pub renew_tells : (old new : Pages) (result : Result (Unit {0}) ChipFault) (told : Told)
+pub merged_tells : (u place : ℕ) (old new : Pages) (result : Result (Unit {0}) ChipFault)
+    (before after : Told) → IsConsistent before → IsConsistent after
+    → KnowsPlaces before.places (tables_in old) → u < length old.parts.directory.current
+    → MovesMerged u place old new result before after → TellsFaultsThen old result before new after
+merged_tells u place old new result before after was is known low did =
+    let t = tables_in old in
+    merge_tells u old new result before after low did.active
+    (merge_fails_so before.places t u result before did.fault)
+    (merge_in_place before.places u t (tables_in new) result before after low did.tells)
+    (unit_untouched t (tables_in new) 3 u (is_worn_out result) result before after was is did.sized
+    (homes_used before.places t known) low
+    (spends_weaker (ErasesFor t.places (tables_in new).places 3 place (is_ok result) (is_worn_out result))
+    (ErasesFree t.places (tables_in new).places 3 (is_worn_out result)) before after
+    (λ added does. does.erases) did.costs) (failed_stays result did.tells))
+  where
+    failed_stays : (r : Result (Unit {0}) ChipFault)
+        → ChartsThroughout (λ done. Merges before.places u (tables_in old) (tables_in new))
+        (StaysMirrored before.places (tables_in old) (tables_in new)) r before after
+        → IfErr r (λ e. e ≢ Stopped
+        → Charts (StaysMirrored before.places (tables_in old) (tables_in new)) before after)
+    failed_stays (Ok v) tells = tt
+    failed_stays (Err e) tells = tells
+
+-- over the contents before a renewal
+pub renew_tells : (old new : Pages) (result : Result (Unit {0}) ChipFault) (before after : Told)
     → (tables_in new).active ≡ (tables_in old).active
-    → RenewalFailsInPlace told.places (tables_in old) (tables_in new) result told
-    → TellsFaults old result told new
-renew_tells old new (Ok v) told alike fails x there slots it state fits = tt
-renew_tells old new (Err e) told alike fails x there slots it state fits = λ fine.
+    → RenewalFailsInPlace before.places (tables_in old) (tables_in new) result before
+    → TellsFaults old result before new after
+renew_tells old new (Ok v) before after alike fails x there slots it state fits = tt
+renew_tells old new (Err e) before after alike fails x there slots it state fits = λ fine.
     let here = fails x there it fits.mirrors fine in
-    unit_names told.places x it old (tables_in new) slots state here.is.unit e here.is.low fits alike
-    (here.stays ∙ sym (fits.mirrors.directory.current here.is.unit here.is.low)) here.is.fault
+    let u = here.is.unit in
+    unit_names (StandsEver x it (tables_in new) after) before.places x it old (tables_in new) slots state u e
+    here.is.low fits alike (here.stays ∙ sym (fits.mirrors.directory.current u here.is.low)) here.is.fault
+    (λ page wrong. inl (ap (λ (l : List ℕ). load_fault x it (among l) u page) alike ∙ wrong))
 
 -- ---- loads
 
@@ -108,35 +149,56 @@ load_exact t u page result told tells x there it mirrors =
     }))
 
 pub loaded_tells : {T : Type 0} (u page : ℕ) (old new : Pages) (result : Result T ChipFault)
-    (told : Told) → u < length old.parts.directory.current → page < 15
-    → tables_in new ≡ tables_in old
-    → FailsAsPage (tables_in old) u page result told → TellsFaults old result told new
-loaded_tells u page old new (Ok v) told low few same fails x there slots it state fits = tt
-loaded_tells u page old new (Err e) told low few same fails x there slots it state fits =
-    λ fine. names_page told.places x it (tables_in old) (tables_in new) u page e fits.mirrors
-    (omega (arith, low, fits.mirrors.directory.units)) few (ap (λ (t : Tables). t.active) same)
-    (ap (λ (t : Tables). slice_index t.places.current u) same)
-    (fails x there it fits.mirrors (unread e fine))
+    (before after : Told) → u < length old.parts.directory.current → page < 15
+    → tables_in new ≡ tables_in old → after.places ≡ before.places → after.contents ≡ before.contents
+    → FailsAsPage (tables_in old) u page result before → TellsFaultsThen old result before new after
+loaded_tells u page old new (Ok v) before after low few same sized kept fails x there slots it state fits = tt
+loaded_tells u page old new (Err e) before after low few same sized kept fails x there slots it state fits =
+    λ fine.
+    let t = tables_in old in
+    let unit : u < it.count = omega (arith, low, fits.mirrors.directory.units) in
+    let wrong = fails x there it fits.mirrors (unread e fine) in
+    names_page (StandsThen (tables_in new) after) before.places x it t (tables_in new) u page e fits.mirrors
+    unit few (ap (λ (w : Tables). w.active) same) (ap (λ (w : Tables). slice_index w.places.current u) same)
+    wrong (λ story. read_stands x it t (tables_in new) u page e before after unit same fits.mirrors sized
+    kept there wrong)
 
 -- ---- calls of the chip
 
-pub alone_tells : {T : Type 0} (old new : Pages) (result : Result T ChipFault) (told : Told)
-    → FailsByChipAlone result → TellsFaults old result told new
-alone_tells old new (Ok v) told alone x there slots it state fits = tt
-alone_tells old new (Err e) told alone x there slots it state fits = λ fine.
+pub alone_tells : {T : Type 0} (old new : Pages) (result : Result T ChipFault) (before after : Told)
+    → FailsByChipAlone result → TellsFaultsThen old result before new after
+alone_tells old new (Ok v) before after alone x there slots it state fits = tt
+alone_tells old new (Err e) before after alone x there slots it state fits = λ fine.
     absurd (fine alone)
+
+-- ---- what is known over the contents after it
+
+pub tells_ever : {T : Type 0} (old new : Pages) (result : Result T ChipFault) (before after : Told)
+    → TellsFaultsThen old result before new after → TellsFaults old result before new after
+tells_ever old new (Ok v) before after tells x there slots it state fits = tt
+tells_ever old new (Err e) before after tells x there slots it state fits = λ fine.
+    let is = tells x there slots it state fits fine in
+    record {
+      unit = is.unit;
+      page = is.page;
+      low = is.low;
+      few = is.few;
+      bad = is.bad;
+      names = is.names;
+      found = inr is.found;
+    }
 
 -- ---- two calls
 
 -- after one that keeps each state and was done: a page without a fault has none still, with the same
 -- sessions open
 pub tells_then : {T : Type 0} (first between last : Pages) (result : Result T ChipFault)
-    (old mid : Told) → mid.places ≡ old.places → (tables_in last).active ≡ (tables_in between).active
+    (old mid new : Told) → mid.places ≡ old.places → (tables_in last).active ≡ (tables_in between).active
     → KeepsState {T = Unit {0}} {E = ChipFault} (tables_in first) (frames_in first) old (Ok tt)
     (tables_in between) (frames_in between) mid
-    → TellsFaults between result mid last → TellsFaults first result old last
-tells_then first between last (Ok v) old mid sized alike keeps tells x there slots it state fits = tt
-tells_then first between last (Err e) old mid sized alike keeps tells x there slots it state fits =
+    → TellsFaultsThen between result mid last new → TellsFaultsThen first result old last new
+tells_then first between last (Ok v) old mid new sized alike keeps tells x there slots it state fits = tt
+tells_then first between last (Err e) old mid new sized alike keeps tells x there slots it state fits =
     λ fine.
     let memory = memory_of (tables_in first) (frames_in first) slots in
     let after = memory_of (tables_in between) (frames_in between) slots in
@@ -155,4 +217,5 @@ tells_then first between last (Err e) old mid sized alike keeps tells x there sl
           low is.few (λ s held. had it s held) fits on.fits.mirrors
           (subst (λ (l : List ℕ). load_fault x it (among l) is.unit is.page ≡ None) alike none)));
       names = is.names;
+      found = is.found;
     }

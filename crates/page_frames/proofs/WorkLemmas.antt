@@ -27,5 +27,5 @@ works_then n m first between last result old mid new one two =
     let sized = one.accounts.counts.places in record {
       upholds = upholds_then n m first between last result old mid new one two.upholds;
       complete = completes_then first between result old mid sized one.keeps two.complete;
-      faults = tells_then first between last result old mid sized two.upholds.active one.keeps two.faults;
+      faults = tells_then first between last result old mid new sized two.upholds.active one.keeps two.faults;
     }

@@ -14,7 +14,7 @@ use Rattle.selective_merge.specs.Known.{KnowsPlaces}
 use Rattle.selective_merge.specs.Merging.{FailsAsMerge, CompletesMerge}
 use Rattle.selective_merge.specs.Moving.{Holds}
 use Rattle.selective_merge.specs.Spotting.{IsSpotFor}
-use Rattle.page_frames.specs.InPlace.{StaysInPlace}
+use Rattle.page_frames.specs.InPlace.{StaysInPlace, StaysUntouched}
 use Rattle.page_frames.specs.Spending.{UsesHome}
 
 -- The spot may be used for one log sector more of the unit: the tables know each place, and it is one for that.
@@ -43,13 +43,15 @@ pub record UsesOneSector (u p : ℕ) (t after : Tables) (result : Result (Unit {
   pub drawn : after.next ≡ t.next + 1
   pub costs : Spends (ProgramsAt p 1 0 5) old new
 
--- Why it fails over what the chip holds: with what is wrong with the unit, which is where it was; and where
--- the unit's pages show values and few log sectors would be carried, only where a call of the chip failed.
+-- Why it fails over what the chip holds: with what is wrong with the unit, which is where it was, with the
+-- bytes that it had; and where the unit's pages show values and few log sectors would be carried, only where
+-- a call of the chip failed.
 pub record FailsByUnit (t : Tables) (u : ℕ) (after : Tables) (result : Result (Unit {0}) ChipFault)
-    (told : Told) : Type 0 where
-  pub fault : FailsAsMerge told.places t u result told
-  pub complete : CompletesMerge told.places t u result told
-  pub stays : StaysInPlace told.places t u after result told
+    (old new : Told) : Type 0 where
+  pub fault : FailsAsMerge old.places t u result old
+  pub complete : CompletesMerge old.places t u result old
+  pub stays : StaysInPlace old.places t u after result old
+  pub untouched : StaysUntouched t u after result old new
 
 -- done, the list of records is empty and of the version that is written; else it is as it was
 pub record EmptiesPayload (result : Result (Unit {0}) ChipFault) (old new : Versioned) : Type 0 where

@@ -8,7 +8,9 @@ ghost use Rattle.txn_status.specs.Status.{room_of};
 ghost use Rattle.selective_merge.specs.Merging.{Merges, StaysMirrored, FailsAsMerge};
 ghost use Rattle.selective_merge.specs.Throughout.{ChartsThroughout};
 ghost use Rattle.restart.specs.Passes.{ErasesAtMost};
-ghost use Rattle.page_frames.specs.Pages.{tables_in, KeepsFramed, ArePagesReady};
+ghost use Rattle.page_frames.specs.Complete.{FailsByChip};
+ghost use Rattle.page_frames.specs.Faulty.{TellsFaults};
+ghost use Rattle.page_frames.specs.Pages.{tables_in, KeepsFramed, ArePagesReady, Upholds};
 ghost use Rattle.page_frames.specs.Works.{WorksOn};
 
 use crate::Pages;
@@ -26,8 +28,9 @@ impl Pages {
     ) -> Result<(), ChipFault>
         requires ready { ArePagesReady (C.told chip.old).places self.old }
         requires left { self.old.parts.counter + 2 ^ 14 < 2 ^ 64 }
-        ensures works { WorksOn (2 ^ 14) self.old (C.told chip.old)
-            result self.new (C.told chip.new) }
+        ensures upholds { Upholds (2 ^ 14) self.old (C.told chip.old) result self.new (C.told chip.new) }
+        ensures complete { FailsByChip self.old result (C.told chip.old) }
+        ensures faults { TellsFaults self.old result (C.told chip.old) self.new (C.told chip.new) }
         ensures room { OnOk result (0 < room_of self.new.parts.status) }
         ensures frames { self.new.pool ≡ self.old.pool }
         ensures framed { KeepsFramed self.old self.new }

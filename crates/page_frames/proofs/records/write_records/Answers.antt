@@ -11,6 +11,8 @@ use Rattle.page_frames.proofs.FoundLemmas.{found_told, unplaced_told, found_step
 use Rattle.page_frames.proofs.RecordLemmas.{out_told, out_steps, stopped_told}
 use Rattle.page_frames.proofs.RecordSpendLemmas.{unplaced_costs, placed_costs, room_costs}
 use Rattle.page_frames.proofs.SpotLemmas.{holds_then}
+use Rattle.page_frames.proofs.UntouchedLemmas.{unit_untouched}
+use Rattle.selective_merge.proofs.HeldLemmas.{homes_used}
 use Rattle.page_frames.proofs.WearLemmas.{no_room_wears, room_wears}
 use Rattle.place_taking.proofs.WearLemmas.{wears_are_joined}
 use Rattle.selective_merge.specs.Known.{KnowsPlaces}
@@ -67,9 +69,13 @@ returns-in_err-at-clause-fails g c =
     let old = g.C.Chip.told c.args.chip.now in
     let t = tables_of c.args.parts.now in
     let after = tables_of c.log_place.new.parts in
-    rw (e.1, e.2) (fails_by_unit t c.args.unit after (Err fault) old says.fault
-    (unplaced_stays t c.args.unit after old.places old (g.C.Chip.told c.log_place.new.chip) fault
-    c.requires.unit says.tells))
+    let new = g.C.Chip.told c.log_place.new.chip in
+    rw (e.1, e.2) (fails_by_unit t c.args.unit after (Err fault) old new says.fault
+    (unplaced_stays t c.args.unit after old.places old new fault c.requires.unit says.tells)
+    (unit_untouched {T = Unit {0}} t after 3 c.args.unit (tells_worn fault) (Err fault) old new
+    (g.met.C.Chip.consistent c.args.chip.now) (g.met.C.Chip.consistent c.log_place.new.chip)
+    says.finds.leaves.accounts.counts.places (homes_used old.places t c.requires.known) c.requires.unit
+    says.finds.costs says.tells))
 
 pub returns-in_err-at-clause-leaves : goal.returns-in_err-at-clause-leaves
 returns-in_err-at-clause-leaves g c =
@@ -137,7 +143,7 @@ returns-in_err-write_log-clause-fails g c =
     let e = err_from_is_err_and c.from_residual-in_err-write_log.result
     c.from_residual-in_err-write_log.ensures.1 in
     rw (e.1, e.2) (stopped_fails (tables_of c.args.parts.now) c.args.unit (tables_of c.write_log.new.parts)
-    c.in_err-write_log.field-0.0 (g.C.Chip.told c.args.chip.now)
+    c.in_err-write_log.field-0.0 (g.C.Chip.told c.args.chip.now) (g.C.Chip.told c.write_log.new.chip)
     c.in_err-write_log.ensures.leaves.accounts.cause.0)
 
 pub returns-in_err-write_log-clause-leaves : goal.returns-in_err-write_log-clause-leaves
@@ -227,6 +233,7 @@ returns-clause-fails g c = record {
   fault = λ x told it mirrors. tt;
   complete = λ x told it mirrors may. tt;
   stays = λ x told it mirrors. tt;
+  untouched = λ x told it mirrors. tt;
 }
 
 pub returns-clause-leaves : goal.returns-clause-leaves

@@ -66,8 +66,9 @@ returns-in-Err-clause-fills g c = λ pool ready absent takes.
             c.free_frame.ensures.pins)) is.asks.accounts.cause;
         complete = loaded_completes {T = Unit {0}} u q old (Err c.in-Err.fault) told c.requires.page_of.unit
             c.requires.page_of.few is.complete;
-        faults = loaded_tells {T = Unit {0}} u q old new (Err c.in-Err.fault) told c.requires.page_of.unit
-            c.requires.page_of.few is.tables is.exact;
+        faults = loaded_tells {T = Unit {0}} u q old new (Err c.in-Err.fault) told
+            (g.C.Chip.told c.load_frame.new.chip) c.requires.page_of.unit c.requires.page_of.few is.tables
+            is.asks.reads.counts.places is.asks.reads.contents is.exact;
       };
       exact = is.exact;
       brings = freed;

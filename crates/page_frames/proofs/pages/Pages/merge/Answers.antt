@@ -30,8 +30,15 @@ returns-clause-works g c =
           (slice_index pages.parts.directory.current c.args.unit)
           (spots_in pages.parts.overflow c.args.unit) leaves.accounts;
       complete = merge_completes c.args.unit pages c.merge.result old c.requires.unit is.complete;
-      faults = merged_tells c.args.unit pages after c.merge.result old new c.requires.unit
-          leaves.holds.active is.fault is.tells;
+      faults = merged_tells c.args.unit (slice_index c.merge.new.parts.directory.current c.args.unit) pages after
+          c.merge.result old new (g.met.C.Chip.consistent c.args.chip.now)
+          (g.met.C.Chip.consistent c.merge.new.chip) c.requires.ready.known c.requires.unit (record {
+            active = leaves.holds.active;
+            sized = leaves.accounts.counts.places;
+            fault = is.fault;
+            tells = is.tells;
+            costs = is.moves.costs;
+          });
     }
 
 pub returns-clause-framed : goal.returns-clause-framed

@@ -38,8 +38,9 @@ returns-in_err-write_records-clause-works g c =
           is.leaves;
       complete = merge_completes {T = Unit {0}} c.args.unit pages (Err fault) old c.requires.page.unit
           is.fails.complete;
-      faults = merge_tells {T = Unit {0}} c.args.unit pages after (Err fault) old c.requires.page.unit
-          is.leaves.holds.active is.fails.fault is.fails.stays;
+      faults = merge_tells {T = Unit {0}} c.args.unit pages after (Err fault) old
+          (g.C.Chip.told c.write_records.new.chip) c.requires.page.unit is.leaves.holds.active is.fails.fault
+          is.fails.stays is.fails.untouched;
     })
 
 pub returns-then-not-has_records-clause-asks : goal.returns-then-not-has_records-clause-asks

@@ -38,7 +38,8 @@ returns-in_err-write_out-clause-works g c =
           c.loop-i.invariant is.upholds;
       complete = completes_then {T = Unit {0}} first c.loop-i.self (Err fault) before between sized
           done.keeps is.complete;
-      faults = tells_then {T = Unit {0}} first c.loop-i.self new (Err fault) before between sized
+      faults = tells_then {T = Unit {0}} first c.loop-i.self new (Err fault) before between
+          (g.C.Chip.told c.write_out.new.chip) sized
           is.upholds.active done.keeps is.faults;
     })
 
