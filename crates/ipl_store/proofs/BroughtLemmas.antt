@@ -21,8 +21,8 @@ use Rattle.page_frames.specs.Asks.{AsksToBring}
 use Rattle.page_frames.specs.Pages.{tables_in, frames_in, IsFramed, IsCleanFrame, OnlyUses, Upholds}
 use Rattle.page_frames.proofs.FaultyLemmas.{still_sound}
 use Rattle.ipl_store.specs.declared.transactions.Transactions.{Transactions}
-use Rattle.ipl_store.specs.Turns.{memory_in, CompletesFor, TellsFaultsFor, Turns}
-use Rattle.ipl_store.proofs.TurnLemmas.{upheld_then}
+use Rattle.ipl_store.specs.Turns.{memory_in, CompletesFor, TellsFaultsForThen, Turns}
+use Rattle.ipl_store.proofs.TurnLemmas.{ever_for, upheld_then}
 use Rattle.ipl_store.specs.declared.store.Store.{Store}
 use Rattle.ipl_store.specs.Calls.{EndsAs}
 use Rattle.ipl_store.specs.Puts.{HasBrought}
@@ -97,12 +97,13 @@ module _ (old mid : Transactions) (before between : Told) (n : ℕ)
 then_tells : (old mid : Transactions) (before between : Told) (n : ℕ)
     (did : Upholds {T = Unit {0}} n old.pages before (Ok tt) mid.pages between)
     (same : mid.sessions ≡ old.sessions) (done : Result (Unit {0}) ChipFault) (last : Pages)
-    → IfErr done (λ e. last.parts.active ≡ mid.pages.parts.active)
-    → TellsFaultsFor mid done between last → TellsFaultsFor old done before last
-then_tells old mid before between n did same (Ok v) last alike tells x told layout state fits = tt
-then_tells old mid before between n did same (Err e) last alike tells x told layout state fits =
+    → IfErr done (λ e. last.parts.active ≡ mid.pages.parts.active) → (after : Told)
+    → TellsFaultsForThen mid done between last after
+    → TellsFaultsForThen old done before last after
+then_tells old mid before between n did same (Ok v) last alike after tells x told layout state fits = tt
+then_tells old mid before between n did same (Err e) last alike after tells x told layout state fits =
     λ fine.
-    let after = memory_of (tables_in mid.pages) (frames_in mid.pages) old.sessions in
+    let then = memory_of (tables_in mid.pages) (frames_in mid.pages) old.sessions in
     let (y, now, had) = (did.keeps old.sessions).fits before.places refl tt x told in
     let on = had layout state fits in
     let sized = did.accounts.counts.places in
@@ -119,18 +120,19 @@ then_tells old mid before between n did same (Err e) last alike tells x told lay
       few = is.few;
       bad = λ none. is.bad
           (subst (λ (l : List ℕ). load_fault y on.layout (among l) is.unit is.page ≡ None) (sym alike)
-          (still_sound before.places x y layout on.layout (memory_in old) after state is.unit is.page
+          (still_sound before.places x y layout on.layout (memory_in old) then state is.unit is.page
           low is.few (λ s held. had layout s held) fits on.fits.mirrors
           (subst (λ (l : List ℕ). load_fault x layout (among l) is.unit is.page ≡ None) alike
           none)));
       names = is.names;
+      found = is.found;
     }
 
 pub moves_then : (next : State → State) (n m most : ℕ) (old mid new : Transactions)
     (before between after : Told) (done : Result (Unit {0}) ChipFault)
     → Upholds {T = Unit {0}} n old.pages before (Ok tt) mid.pages between
     → mid.sessions ≡ old.sessions → Turns next m mid between done new after
-    → CompletesFor mid done between → TellsFaultsFor mid done between new.pages
+    → CompletesFor mid done between → TellsFaultsForThen mid done between new.pages after
     → IfErr done (λ e. new.pages.parts.active ≡ mid.pages.parts.active)
     → new.pages.parts.counter ≤ old.pages.parts.counter + most
     → Moves next most old before done new after
@@ -148,5 +150,6 @@ moves_then next n m most old mid new before between after done did same turned c
       drawn = few;
       accounts = turns.accounts;
       complete = then_completes old mid before between n did same done complete;
-      faults = then_tells old mid before between n did same done new.pages alike faults;
+      faults = ever_for old done before after new.pages
+          (then_tells old mid before between n did same done new.pages alike after faults);
     }

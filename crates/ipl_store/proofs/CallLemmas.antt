@@ -36,13 +36,13 @@ use Rattle.store_laws.proofs.LeadLemmas.{keepers_lead_still}
 use Rattle.page_frames.specs.Spending.{ErasesAndLogs}
 use Rattle.page_frames.specs.declared.pages.Pages.{Pages}
 use Rattle.page_frames.specs.Complete.{FailsByChip}
-use Rattle.page_frames.specs.Faulty.{FailsByPage, TellsFaults}
+use Rattle.page_frames.specs.Faulty.{FailsByPage, StandsEver, TellsFaults}
 use Rattle.page_frames.specs.Pages.{tables_in, IsFramed, KeepsFramed, KeepsFramedFor, PageCause, Upholds}
 use Rattle.ipl_store.specs.declared.transactions.Transactions.{Transactions}
 use Rattle.ipl_store.specs.Turns.{memory_in, CompletesFor, IsInOrder, TellsFaultsFor, Turns, TurnsInMemory}
 use Rattle.ipl_store.proofs.TurnLemmas.{completes_for, tells_for}
 use Rattle.ipl_store.specs.declared.store.Store.{Store}
-use Rattle.ipl_store.specs.Calls.{memory_of_store, view_of, counter_of, IsMade, IsSound, early_fault, ends_worn_out, entry_fault, down_fault, puts_down, tells_wear, EndsAs, IsOfTheChip, EndsFor, KeepsHolds, Calls}
+use Rattle.ipl_store.specs.Calls.{memory_of_store, view_of, counter_of, IsMade, IsSound, early_fault, ends_worn_out, entry_fault, down_fault, puts_down, tells_wear, EndsAs, IsOfPageFound, IsOfTheChip, EndsFor, KeepsHolds, Calls}
 use Rattle.ipl_store.specs.Shown.{CostsOnePage, IsUsedLastIn}
 
 -- ---- before anything is done
@@ -140,11 +140,11 @@ pub record Moves (next : State → State) (most : ℕ) (old : Transactions) (bef
   pub drawn : new.pages.parts.counter ≤ old.pages.parts.counter + most
   pub accounts : Accounts (PageCause new.pages.parts.directory) done before after
   pub complete : CompletesFor old done before
-  pub faults : TellsFaultsFor old done before new.pages
+  pub faults : TellsFaultsFor old done before new.pages after
 
 pub writes_move : (next : State → State) (most : ℕ) (old new : Transactions) (before after : Told)
     (done : Result (Unit {0}) ChipFault) → Turns next most old before done new after
-    → CompletesFor old done before → TellsFaultsFor old done before new.pages
+    → CompletesFor old done before → TellsFaultsFor old done before new.pages after
     → Moves next most old before done new after
 writes_move next most old new before after done did complete faults = record {
   leads = did.leads;
@@ -162,11 +162,11 @@ writes_move next most old new before after done did complete faults = record {
 
 pub turns_move : (next : State → State) (most : ℕ) (old new : Transactions) (before after : Told)
     (done : Result (Unit {0}) ChipFault) → Turns next most old before done new after
-    → FailsByChip old.pages done before → TellsFaults old.pages done before new.pages
+    → FailsByChip old.pages done before → TellsFaults old.pages done before new.pages after
     → Moves next most old before done new after
 turns_move next most old new before after done did complete faults =
     writes_move next most old new before after done did (completes_for old done before complete)
-    (tells_for old done before new.pages faults)
+    (tells_for (λ x it. StandsEver x it (tables_in new.pages) after) old done before new.pages faults)
 
 -- one in memory alone
 pub memory_moves : (next : State → State) (most : ℕ) (old new : Transactions) (told : Told)
@@ -194,7 +194,7 @@ memory_moves next most old new told did order least drawn = record {
 pub pages_move : (most : ℕ) (old : Transactions) (pages : Pages) (before after : Told)
     (result : Result (Unit {0}) ChipFault) → IsInOrder before.places old
     → Upholds most old.pages before result pages after → FailsByChip old.pages result before
-    → TellsFaults old.pages result before pages
+    → TellsFaults old.pages result before pages after
     → Moves (λ state. state) most old before result (record old { pages = pages }) after
 pages_move most old pages before after result order did complete faults = record {
   leads = keepers_lead_still (memory_in old) _ _ result before after did.keeps;
@@ -207,7 +207,7 @@ pages_move most old pages before after result order did complete faults = record
   drawn = did.drawn;
   accounts = did.accounts;
   complete = completes_for old result before complete;
-  faults = tells_for old result before pages faults;
+  faults = tells_for (λ x it. StandsEver x it (tables_in pages) after) old result before pages faults;
 }
 
 -- ---- the end of a call
@@ -254,17 +254,16 @@ failed_so (Err e) was is result ends alone =
     (e, refl, alone)
 
 -- or that of a page
-blamed_so : (x : Contents) (it : Layout) (done : Result (Unit {0}) ChipFault)
+blamed_so : (x : Contents) (it : Layout) (after : Told) (done : Result (Unit {0}) ChipFault)
     (was is : Bool) (result : Result (Unit {0}) StoreFault) → EndsAs done was result is
-    → (a b : Tables) → a ≡ b → IfErr done (FailsByPage x it a)
-    → IfErr result (λ fault. (e : ChipFault) × (fault ≡ Chip e) × FailsByPage x it b e)
-blamed_so x it (Ok v) was is result ends a b same blamed =
-    subst (λ (r : Result (Unit {0}) StoreFault). IfErr r (λ fault. (e : ChipFault)
-    × (fault ≡ Chip e) × FailsByPage x it b e)) (sym ends.0) tt
-blamed_so x it (Err e) was is result ends a b same blamed =
-    subst (λ (r : Result (Unit {0}) StoreFault). IfErr r (λ fault. (e : ChipFault)
-    × (fault ≡ Chip e) × FailsByPage x it b e)) (sym ends.0)
-    (e, refl, subst (λ (t : Tables). FailsByPage x it t e) same blamed)
+    → (a : Tables) (new : Store) → a ≡ tables_in new.transactions.pages
+    → IfErr done (FailsByPage (StandsEver x it a after) x it a)
+    → IfErr result (IsOfPageFound x it new after)
+blamed_so x it after (Ok v) was is result ends a new same blamed =
+    subst (λ (r : Result (Unit {0}) StoreFault). IfErr r (IsOfPageFound x it new after)) (sym ends.0) tt
+blamed_so x it after (Err e) was is result ends a new same blamed =
+    subst (λ (r : Result (Unit {0}) StoreFault). IfErr r (IsOfPageFound x it new after)) (sym ends.0)
+    (e, refl, subst (λ (t : Tables). FailsByPage (StandsEver x it t after) x it t e) same blamed)
 
 -- work that is complete, where store and contents show a state
 shown_complete : (store : Store) (before : Told) (done : Result (Unit {0}) ChipFault)
@@ -327,8 +326,8 @@ module _ (next : State → State) (most : ℕ) (old : Store) (t : Transactions) 
           (sym moved) moves.drawn;
       complete = λ x told state shown. failed_so done old.down new.down result ends
           (shown_complete old before done moves.complete x told state shown);
-      faults = λ x told it state fits. blamed_so x it done old.down new.down result
-          ends (tables_in t.pages) (tables_in new.transactions.pages)
+      faults = λ x told it state fits. blamed_so x it after done old.down new.down result
+          ends (tables_in t.pages) new
           (ap (λ (it : Transactions). tables_in it.pages) (sym moved))
           (moves.faults x told it state fits);
     };

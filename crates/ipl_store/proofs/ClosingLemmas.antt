@@ -104,7 +104,7 @@ module _ (store : Store) (pages : Pages) (kept : List ℕ) (before told : Told)
     (up : store.down ≡ false) (sound : IsSound before.places store)
     (upholds : Upholds (2 ^ 14) store.transactions.pages before done pages told)
     (complete : FailsByChip store.transactions.pages done before)
-    (faults : TellsFaults store.transactions.pages done before pages)
+    (faults : TellsFaults store.transactions.pages done before pages told)
     (rest : mid ≡ record store {
       transactions = record store.transactions { pages = pages };
       kept = kept;

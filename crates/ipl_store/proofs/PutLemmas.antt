@@ -32,7 +32,7 @@ use Rattle.page_frames.proofs.AskLemmas.{one_of_none}
 use Rattle.page_frames.proofs.UseLemmas.{none_leaves, framed_then}
 use Rattle.ipl_store.specs.declared.transactions.Transactions.{Transactions}
 use Rattle.ipl_store.specs.Costs.{HasRoomFor, AsksToWrite}
-use Rattle.ipl_store.specs.Turns.{memory_in, CompletesFor, TellsFaultsFor, Turns}
+use Rattle.ipl_store.specs.Turns.{memory_in, CompletesFor, TellsFaultsForThen, Turns}
 use Rattle.ipl_store.specs.declared.store.Store.{Store}
 use Rattle.ipl_store.specs.Calls.{counter_of, ends_worn_out, tells_wear, IsSound, EndsAs, KeepsHolds, Calls}
 use Rattle.ipl_store.specs.Puts.{found_room, put_fault, put_next, TellsRoom, HasBrought, BringsPageOf, PutsBy}
@@ -166,7 +166,7 @@ pub record HasWritten (s n : ℕ) (bytes : List ℕ) (mid : Transactions) (betwe
     (done : Result (Unit {0}) ChipFault) (t : Transactions) (after : Told) : Type 0 where
   pub turns : Turns (λ state. after_write state s (n, Some bytes)) 14 mid between done t after
   pub complete : CompletesFor mid done between
-  pub faults : TellsFaultsFor mid done between t.pages
+  pub faults : TellsFaultsForThen mid done between t.pages after
   pub framed : OnOk done (IsFramed t.pages (home_of n).unit (home_of n).page)
   pub used : OnOk done (IsUsedLast t.pages.pool (home_of n).unit (home_of n).page)
   pub stays : KeepsFramedFor (home_of n).unit (home_of n).page mid.pages t.pages

@@ -1,5 +1,5 @@
 -- What a store's frames tell of a name, after a call that kept each state.
-use Rattle.std.proofs.Common.{◌≡◌, ℕ, Bool, false, List, Option, Some, None, Result, Ok, Err, IsSome, is_some, inl, inr, ◌⊎◌, OnOk, refl, sym, ◌∙◌, ap, subst, arith}
+use Rattle.std.proofs.Common.{◌≡◌, ℕ, Bool, false, List, Option, Some, None, Result, Ok, Err, IsSome, is_some, inl, inr, ◌⊎◌, IfErr, OnOk, refl, sym, ◌∙◌, ap, subst, arith}
 use Rattle.std.proofs.lemmas.Bool.{cases_Bool, false≢true}
 use Rattle.std.specs.FinMap.{get}
 use Rattle.chip_trait.specs.Story.{Contents}
@@ -24,6 +24,9 @@ use Rattle.page_ops.specs.Pending.{seen_by}
 use Rattle.buffer_pool.specs.Uses.{IsUsedLast}
 use Rattle.buffer_pool.proofs.HoldingLemmas.{nothing_keeps, both_keep}
 use Rattle.page_frames.specs.Asks.{AsksForFrame, AsksToBring}
+use Rattle.number_set.specs.Numbers.{among}
+use Rattle.page_rebuild.specs.Loaded.{load_fault}
+use Rattle.page_frames.specs.Faulty.{FailsAsPage}
 use Rattle.page_frames.specs.Spending.{ErasesAndLogs}
 use Rattle.page_frames.specs.declared.pages.Pages.{Pages}
 use Rattle.page_frames.specs.Pages.{tables_in, frames_in, IsFramed, KeepsFramedFor}
@@ -34,9 +37,9 @@ use Rattle.ipl_store.specs.declared.transactions.Transactions.{Transactions}
 use Rattle.ipl_store.specs.Costs.{AsksToWrite}
 use Rattle.ipl_store.specs.Turns.{TurnsInMemory}
 use Rattle.ipl_store.specs.declared.store.Store.{Store}
-use Rattle.ipl_store.specs.Calls.{view_of, tells_wear, IsSound}
+use Rattle.ipl_store.specs.Calls.{view_of, tells_wear, EndsAs, IsSound}
 use Rattle.ipl_store.proofs.CallLemmas.{calls_refused, let_in_calls, calls_as, calls_fail_as, failed_calls, calls_joined}
-use Rattle.ipl_store.specs.Shown.{ShowsName, FramesName, IsSeen, HasCommitted, Fetches, answered, AsksLittle, CostsOnePage, LooksAtStore}
+use Rattle.ipl_store.specs.Shown.{ShowsName, FramesName, IsSeen, HasCommitted, Fetches, answered, AsksLittle, CostsOnePage, FailsAsPageOf, IsExactly, LooksAtStore}
 
 name_of_home : (n : ℕ) → name_at (home_of n).unit (home_of n).page (home_of n).slot ≡ n
 name_of_home n = omega arith
@@ -95,6 +98,20 @@ names_told n old pages before after (Ok v) new is keeps framed =
     }
 names_told n old pages before after (Err e) new is keeps framed = tt
 
+-- ---- why it isn't
+
+-- the call hands on what is wrong with the page
+pub ended_exact : (t : Tables) (u page : ℕ) (told : Told) (done : Result (Unit {0}) ChipFault)
+    (was is : Bool) (result : Result (Unit {0}) StoreFault) → EndsAs done was result is
+    → FailsAsPage t u page done told → FailsAsPageOf u page t told result
+ended_exact t u page told (Ok v) was is result ends fails x there it mirrors =
+    subst (λ (r : Result (Unit {0}) StoreFault).
+    IfErr r (IsExactly (load_fault x it (among t.active) u page))) (sym ends.0) tt
+ended_exact t u page told (Err e) was is result ends fails x there it mirrors =
+    subst (λ (r : Result (Unit {0}) StoreFault).
+    IfErr r (IsExactly (load_fault x it (among t.active) u page))) (sym ends.0)
+    (e, refl, fails x there it mirrors)
+
 -- ---- what is lent of it
 
 -- a call that answers where another one was done, and fails as it does
@@ -105,6 +122,7 @@ pub looks_as : {U : Type 0} (early : Option StoreFault) (next : State → State)
 looks_as early next n old before v new after did = record {
   calls = calls_as early next 14 old before tt v new after did.calls;
   holds = did.holds;
+  exact = λ none room x told it mirrors. tt;
   framed = subst IsSome (sym did.names.there) refl;
   used = did.used;
   stays = did.stays;
@@ -118,6 +136,7 @@ looks_fail : {U : Type 0} (early : Option StoreFault) (next : State → State) (
 looks_fail {U} early next n old before fault new after did = record {
   calls = calls_fail_as early next 14 old before fault new after did.calls;
   holds = did.holds;
+  exact = did.exact;
   framed = tt;
   used = tt;
   stays = did.stays;
@@ -141,6 +160,7 @@ pub let_in_fetches : (early : Option StoreFault) (next : State → State) (n : �
 let_in_fetches early next n old before result new after none did = record {
   calls = let_in_calls early next 14 old before result new after none did.calls;
   holds = did.holds;
+  exact = λ let_in. did.exact refl;
   names = did.names;
   used = did.used;
   stays = did.stays;
@@ -162,6 +182,7 @@ pub refused_fetches : (early : Option StoreFault) (next : State → State) (n : 
 refused_fetches early next n store told fault is unworn sound = record {
   calls = calls_refused early next 14 store told (Err fault) fault is unworn refl sound;
   holds = nothing_keeps store.transactions.pages.pool;
+  exact = λ none. let no : None ≡ Some fault = sym none ∙ is in absurd (cc no);
   names = tt;
   used = tt;
   stays = none_leaves (home_of n).unit (home_of n).page store.transactions.pages;
@@ -220,6 +241,7 @@ pub failed_fetches : (early : Option StoreFault) (next : State → State) (n : �
 failed_fetches early next n old before fault new after none did = record {
   calls = failed_calls early next 14 old before fault new after none did.calls;
   holds = did.holds;
+  exact = λ let_in. did.exact refl;
   names = tt;
   used = tt;
   stays = did.stays;
@@ -237,6 +259,7 @@ shared_fetches early next n old mid t before after none did turns same = record 
       (ap (λ (p : Pages). p.parts.counter) same);
   holds = both_keep old.transactions.pages.pool mid.transactions.pages.pool t.pages.pool did.holds
       turns.pins;
+  exact = λ let_in room x told it mirrors. tt;
   names = record {
     frame = did.names.frame;
     there = ap (λ (p : Pages). frames_in p (home_of n).unit (home_of n).page) same

@@ -1,5 +1,7 @@
 -- Calls that keep each state, and then one that leads to the next.
-use Rattle.std.proofs.Common.{◌≡◌, ℕ, ◌≤◌, ◌+◌, Bool, false, Result, Ok, Err, is_ok, refl, sym, ◌∙◌, ap, subst, arith}
+use Rattle.std.proofs.Common.{◌≡◌, ℕ, ◌≤◌, ◌+◌, Bool, false, Result, Ok, Err, is_ok, inr, refl, sym, ◌∙◌, ap, subst, arith}
+use Rattle.chip_trait.specs.Story.{Contents}
+use Rattle.ipl_meaning.specs.Layout.{Layout}
 use Rattle.chip_trait.specs.Told.{Told}
 use Rattle.ipl_base.specs.declared.fault.ChipFault.{ChipFault}
 use Rattle.ipl_model.specs.State.{State}
@@ -16,10 +18,10 @@ use Rattle.store_laws.proofs.KeeperLemmas.{Nowhere, keepers_are_joined, reads_ke
 use Rattle.store_laws.proofs.LeadLemmas.{keepers_then_lead, failed_keepers_lead}
 use Rattle.page_frames.specs.declared.pages.Pages.{Pages}
 use Rattle.page_frames.specs.Complete.{FailsByChip}
-use Rattle.page_frames.specs.Faulty.{TellsFaults}
+use Rattle.page_frames.specs.Faulty.{TellsFaultsBy}
 use Rattle.page_frames.specs.Pages.{tables_in, frames_in, PageCause, Upholds}
 use Rattle.ipl_store.specs.declared.transactions.Transactions.{Transactions}
-use Rattle.ipl_store.specs.Turns.{memory_in, CompletesFor, IsInOrder, TellsFaultsFor, Turns}
+use Rattle.ipl_store.specs.Turns.{memory_in, CompletesFor, IsInOrder, TellsFaultsFor, TellsFaultsForBy, TellsFaultsForThen, Turns}
 
 -- with the same sessions memory is in order still
 upheld_order : (most : ℕ) (old new : Transactions) (result : Result (Unit {0}) ChipFault)
@@ -121,10 +123,28 @@ pub completes_for : (old : Transactions) (result : Result (Unit {0}) ChipFault) 
 completes_for old result told complete x there layout state fits says =
     complete x there old.sessions layout state fits says
 
-pub tells_for : (old : Transactions) (result : Result (Unit {0}) ChipFault) (told : Told)
-    (new : Pages) → TellsFaults old.pages result told new → TellsFaultsFor old result told new
-tells_for old result told new faults x there layout state fits =
+pub tells_for : (Finds : Contents → Layout → ℕ → ℕ → ChipFault → Type 0) (old : Transactions)
+    (result : Result (Unit {0}) ChipFault) (told : Told) (new : Pages)
+    → TellsFaultsBy Finds old.pages result told new → TellsFaultsForBy Finds old result told new
+tells_for Finds old result told new faults x there layout state fits =
     faults x there old.sessions layout state fits
+
+-- what is known over the contents after it
+pub ever_for : (old : Transactions) (result : Result (Unit {0}) ChipFault) (before after : Told)
+    (new : Pages) → TellsFaultsForThen old result before new after
+    → TellsFaultsFor old result before new after
+ever_for old (Ok v) before after new tells x there layout state fits = tt
+ever_for old (Err e) before after new tells x there layout state fits = λ fine.
+    let is = tells x there layout state fits fine in
+    record {
+      unit = is.unit;
+      page = is.page;
+      low = is.low;
+      few = is.few;
+      bad = is.bad;
+      names = is.names;
+      found = inr is.found;
+    }
 
 -- fewer numbers were drawn
 pub turns_weaker : (next : State → State) (n m : ℕ) (old new : Transactions)

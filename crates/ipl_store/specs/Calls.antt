@@ -1,5 +1,6 @@
 -- What a contract sees of a store, and what each of its calls leaves.
 use Rattle.std.specs.Prelude.{ℕ, ◌≡◌, ◌≤◌, ◌+◌, ◌-◌, ◌||◌, ◌&&◌, nat_le, nat_lt, Bool, not, true, false, ◌∷◌, [], length, Option, Some, None, Result, Ok, Err, MatchResult, IfErr, is_ok, if◌then◌else◌}
+use Rattle.chip_trait.specs.Story.{Contents}
 use Rattle.chip_trait.specs.Told.{Told, Counts}
 use Rattle.ipl_base.specs.declared.limits.TheConstants.{PAGES}
 use Rattle.ipl_base.specs.Calls.{IsFailedCall}
@@ -26,7 +27,7 @@ use Rattle.store_laws.specs.Keeps.{View, ShowsState, limits_of}
 use Rattle.place_taking.specs.Spending.{tells_worn}
 use Rattle.place_taking.specs.Wear.{TellsOfWear}
 use Rattle.unit_io.specs.Steps.{Tidies}
-use Rattle.page_frames.specs.Faulty.{FailsByPage}
+use Rattle.page_frames.specs.Faulty.{FailsByPage, StandsEver}
 use Rattle.page_frames.specs.Pages.{tables_in, PageCause}
 use Rattle.ipl_store.specs.Turns.{memory_in, IsInOrder}
 use Rattle.ipl_store.specs.declared.store.Store.{Store}
@@ -170,19 +171,25 @@ abbrev pub ends_worn_out : {T : Type 0} → Result T StoreFault → Bool
 ends_worn_out (Ok v) = false
 ends_worn_out (Err fault) = tells_wear fault
 
+-- it tells the fault of a page, unless a call of the chip failed, exactly as that stands over the contents
+-- before, or over what the chip holds after the call
+abbrev pub IsOfPageFound : Contents → Layout → Store → Told → StoreFault → Type 0
+IsOfPageFound x it new after fault =
+    let t = tables_in new.transactions.pages in
+    (e : ChipFault) × (fault ≡ Chip e) × FailsByPage (StandsEver x it t after) x it t e
+
 -- Over contents that the memory fits, whatever their pages say, the fault is of a page that didn't
--- read well or had no room for its values, at the place where its unit is then; or a call of the
--- chip failed.
-abbrev pub BlamesPages : {T : Type 0} → Store → Told → Result T StoreFault → Store → Type 0
-BlamesPages old before result new = OfContents before (λ x. (it : Layout) (state : State)
+-- read well or had no room for its values, at the place where its unit is then, and is exactly what is
+-- wrong with it; or a call of the chip failed.
+abbrev pub BlamesPages : {T : Type 0} → Store → Told → Result T StoreFault → Store → Told → Type 0
+BlamesPages old before result new after = OfContents before (λ x. (it : Layout) (state : State)
     → MemoryFits before.places (chart_of x) it (memory_of_store old) state
-    → IfErr result (λ fault. (e : ChipFault) × (fault ≡ Chip e)
-    × FailsByPage x it (tables_in new.transactions.pages) e))
+    → IfErr result (IsOfPageFound x it new after))
 
 -- A call that is let in. It leads from each state that memory and chip stand for to the next one,
 -- at most so many numbers were drawn, and however it ends the tables have as many units as the store.
 -- Over contents that the memory shows a state of, it fails only where a call of the chip failed; and
--- else by a page that doesn't read well or has no room.
+-- else by a page that doesn't read well or has no room, with exactly what is wrong with it.
 pub record Serves {T : Type 0} (next : State → State) (most : ℕ) (old : Store) (before : Told)
     (result : Result T StoreFault) (new : Store) (after : Told) : Type 0 where
   pub leads : LeadsTo next (memory_of_store old) before result (memory_of_store new) after
@@ -193,7 +200,7 @@ pub record Serves {T : Type 0} (next : State → State) (most : ℕ) (old : Stor
   pub complete : OfContents before (λ x. (state : State)
       → ShowsState before.places every (view_of old) state x
       → IfErr result IsOfTheChip)
-  pub faults : BlamesPages old before result new
+  pub faults : BlamesPages old before result new after
 
 -- the same pages are held
 abbrev pub KeepsHolds : Store → Store → Type 0

@@ -1,16 +1,23 @@
 -- What a store's frames tell of a name, and which pages are held.
-use Rattle.std.specs.Prelude.{ℕ, ◌≡◌, ◌<◌, ◌⊎◌, ◌↔◌, ◌≤◌, Bool, Option, Some, IfSome, List, [], length, option_map, Result, Ok, Err, OnOk}
+use Rattle.std.specs.Prelude.{ℕ, ◌≡◌, ◌≢◌, ◌<◌, ◌⊎◌, ◌↔◌, ◌≤◌, Bool, Option, Some, None, IfSome, List, [], length, option_map, Result, Ok, Err, IfErr, OnOk}
 use Rattle.std.specs.Borrow.{Bor}
 use Rattle.std.specs.FinMap.{get}
 use Rattle.chip_trait.specs.Story.{Contents}
 use Rattle.chip_trait.specs.Told.{Told}
+use Rattle.ipl_base.specs.declared.fault.ChipFault.{ChipFault}
+use Rattle.ipl_base.specs.declared.fault.ChipFault.TheVariants.{ReadFault}
 use Rattle.ipl_base.specs.declared.fault.StoreFault.{StoreFault}
+use Rattle.ipl_base.specs.declared.fault.StoreFault.TheVariants.{Chip}
 use Rattle.ipl_base.specs.Places.{home_of}
 use Rattle.ipl_base.specs.declared.limits.TheConstants.{VALUE_LEN}
 use Rattle.ipl_model.specs.State.{State, see}
 use Rattle.ipl_meaning.specs.Chart.{chart_of}
 use Rattle.ipl_meaning.specs.Layout.{Layout}
+use Rattle.ipl_meaning.specs.Mirrors.{Mirrors}
 use Rattle.ipl_meaning.specs.Stands.{Shows, page_in}
+use Rattle.ipl_meaning.specs.Tables.{Tables}
+use Rattle.number_set.specs.Numbers.{among}
+use Rattle.page_rebuild.specs.Loaded.{load_fault}
 use Rattle.unit_io.specs.Costs.{Costs, Spends}
 use Rattle.unit_io.specs.Reads.{OfContents}
 use Rattle.store_laws.specs.Frames.{PageFrame}
@@ -23,7 +30,7 @@ use Rattle.store_laws.specs.Keeps.{View, TellsName}
 use Rattle.store_laws.specs.Refusals.{IsOpenSession}
 use Rattle.page_frames.specs.Asks.{AsksForFrame}
 use Rattle.page_frames.specs.Spending.{ErasesAndLogs}
-use Rattle.page_frames.specs.Pages.{frames_in, IsFramed, KeepsFramed, KeepsFramedFor, HasFreeFrame}
+use Rattle.page_frames.specs.Pages.{tables_in, frames_in, IsFramed, KeepsFramed, KeepsFramedFor, HasFreeFrame}
 use Rattle.ipl_store.specs.declared.store.Store.{Store}
 use Rattle.ipl_store.specs.Calls.{view_of, KeepsHolds, Calls, ends_worn_out}
 
@@ -138,13 +145,33 @@ CostsOnePage worn_out old new before after =
 
 -- ---- calls that bring a name's page into a frame
 
+-- it is what is wrong, unless a read failed
+abbrev pub IsExactly : Option ChipFault → StoreFault → Type 0
+IsExactly wrong fault = (e : ChipFault) × (fault ≡ Chip e) × (e ≢ ReadFault → wrong ≡ Some e)
+
+-- Over contents that the tables mirror, it fails exactly with what is wrong with this page.
+abbrev pub FailsAsPageOf : {T : Type 0} → ℕ → ℕ → Tables → Told → Result T StoreFault → Type 0
+FailsAsPageOf u page t before result = OfContents before (λ x. (it : Layout)
+    → Mirrors before.places (chart_of x) it t
+    → IfErr result (IsExactly (load_fault x it (among t.active) u page)))
+
+-- so does a call that is let in, where the page of the name is in a frame or a frame is free
+abbrev pub FailsAsName : {T : Type 0} → Option StoreFault → ℕ → Store → Told → Result T StoreFault
+    → Type 0
+FailsAsName early n old before result = early ≡ None
+    → (IsFramed old.transactions.pages (home_of n).unit (home_of n).page
+    ⊎ HasFreeFrame old.transactions.pages)
+    → FailsAsPageOf (home_of n).unit (home_of n).page (tables_in old.transactions.pages) before result
+
 -- Such a call; done, the frame tells the name, and its page is the one used last. Where the page is in
--- a frame or a frame is free, no page leaves its frame. It costs at most to write one page out.
+-- a frame or a frame is free, no page leaves its frame, and it fails exactly with what is wrong with that
+-- page. It costs at most to write one page out.
 pub record Fetches (early : Option StoreFault) (next : State → State) (n : ℕ) (old : Store)
     (before : Told) (result : Result (Unit {0}) StoreFault) (new : Store) (after : Told)
     : Type 0 where
   pub calls : Calls early next 14 old before result new after
   pub holds : KeepsHolds old new
+  pub exact : FailsAsName early n old before result
   pub names : OnOk result (FramesName n old before new)
   pub used : OnOk result (IsUsedLastIn new (home_of n).unit (home_of n).page)
   pub stays : KeepsFramedFor (home_of n).unit (home_of n).page old.transactions.pages
@@ -157,13 +184,14 @@ answered (Ok v) found = Ok found
 answered (Err e) found = Err e
 
 -- A call that lends what the frame has of the name; done, the page is in a frame and the one used
--- last, and no other page leaves one where it was there before or a frame was free. It costs at most to
--- write one page out.
+-- last, and no other page leaves one where it was there before or a frame was free; then it fails exactly
+-- with what is wrong with that page. It costs at most to write one page out.
 pub record LooksAtStore {T : Type 0} (early : Option StoreFault) (next : State → State) (n : ℕ)
     (old : Store) (before : Told) (result : Result T StoreFault) (new : Store) (after : Told)
     : Type 0 where
   pub calls : Calls early next 14 old before result new after
   pub holds : KeepsHolds old new
+  pub exact : FailsAsName early n old before result
   pub framed : OnOk result (IsFramed new.transactions.pages (home_of n).unit (home_of n).page)
   pub used : OnOk result (IsUsedLastIn new (home_of n).unit (home_of n).page)
   pub stays : KeepsFramedFor (home_of n).unit (home_of n).page old.transactions.pages

@@ -1,5 +1,6 @@
 -- What sessions do to the memory of a store, and to its chip.
 use Rattle.std.specs.Prelude.{ℕ, ◌≡◌, ◌<◌, ◌≤◌, ◌+◌, false, List, All, length, Some, IfSome, Result, Ok, IfErr, is_ok}
+use Rattle.chip_trait.specs.Story.{Contents}
 use Rattle.chip_trait.specs.Told.{Told}
 use Rattle.ipl_base.specs.declared.fault.ChipFault.{ChipFault}
 use Rattle.ipl_base.specs.Places.{home_of}
@@ -24,7 +25,7 @@ use Rattle.store_laws.specs.Room.{overfills_at}
 use Rattle.store_laws.specs.Advances.{Memory, memory_of, MemoryFits, LeadsTo}
 use Rattle.store_laws.specs.Numbers.{IsOut}
 use Rattle.page_frames.specs.declared.pages.Pages.{Pages}
-use Rattle.page_frames.specs.Faulty.{FailsByPage}
+use Rattle.page_frames.specs.Faulty.{FailsByPage, StandsEver, StandsThen}
 use Rattle.page_frames.specs.Pages.{tables_in, frames_in, ArePagesReady, PageCause}
 use Rattle.ipl_store.specs.declared.transactions.Transactions.{Transactions}
 
@@ -59,10 +60,23 @@ CompletesFor it result told = OfContents told (λ x. (layout : Layout) (state : 
 
 -- Where nothing is asked of what the pages say, it fails by a page that didn't read well or had no room
 -- for its values, or where a call of the chip failed.
-abbrev pub TellsFaultsFor : {T : Type 0} → Transactions → Result T ChipFault → Told → Pages → Type 0
-TellsFaultsFor it result told new = OfContents told (λ x. (layout : Layout) (state : State)
+abbrev pub TellsFaultsForBy : {T : Type 0} → (Contents → Layout → ℕ → ℕ → ChipFault → Type 0)
+    → Transactions → Result T ChipFault → Told → Pages → Type 0
+TellsFaultsForBy Finds it result told new = OfContents told (λ x. (layout : Layout) (state : State)
     → MemoryFits told.places (chart_of x) layout (memory_in it) state
-    → IfErr result (FailsByPage x layout (tables_in new)))
+    → IfErr result (FailsByPage (Finds x layout) x layout (tables_in new)))
+
+-- the fault is exactly what is wrong with that page over what the chip holds before the call or after it
+abbrev pub TellsFaultsFor : {T : Type 0} → Transactions → Result T ChipFault → Told → Pages → Told
+    → Type 0
+TellsFaultsFor it result before new after =
+    TellsFaultsForBy (λ x layout. StandsEver x layout (tables_in new) after) it result before new
+
+-- and so over what it holds after it, where nothing was written behind what failed
+abbrev pub TellsFaultsForThen : {T : Type 0} → Transactions → Result T ChipFault → Told → Pages → Told
+    → Type 0
+TellsFaultsForThen it result before new after =
+    TellsFaultsForBy (λ x layout. StandsThen (tables_in new) after) it result before new
 
 -- A call that leads from each state that memory and chip stand for to the next one. Whatever the chip
 -- tells: its events are lawful by the tables, what is retired besides was found worn, a unit whose place

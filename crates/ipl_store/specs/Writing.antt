@@ -11,7 +11,7 @@ use Rattle.page_frames.specs.declared.pages.Pages.{Pages}
 use Rattle.page_frames.specs.Faulty.{FailsAsPage}
 use Rattle.page_frames.specs.Pages.{tables_in, frames_in, HasFreeFrame}
 use Rattle.ipl_store.specs.declared.transactions.Transactions.{Transactions}
-use Rattle.ipl_store.specs.Turns.{CompletesFor, MayTake, TellsFaultsFor}
+use Rattle.ipl_store.specs.Turns.{CompletesFor, MayTake, TellsFaultsForThen}
 
 -- The session may write the name so: it is one of 32, and the name one of the chip's; no lock keeps it from it,
 -- and a put has room.
@@ -22,11 +22,11 @@ pub record MayWrite (it : Transactions) (s n : ℕ) (change : Change) : Type 0 w
   pub room : MayTake it n change
 
 -- Why a write of the name fails, over contents that with the memory stand for a state: only where a call of the
--- chip failed; or where nothing is asked of what the pages say, by a page that is bad. Where the page is in no
--- frame and a frame is free, exactly with what is wrong with it.
+-- chip failed; or where nothing is asked of what the pages say, by a page that is bad, with exactly what is
+-- wrong with that. Where the page of the name is in no frame and a frame is free, it is that page.
 pub record FailsAsWrite (it : Transactions) (n : ℕ) (result : Result (Unit {0}) ChipFault) (told : Told)
-    (new : Pages) : Type 0 where
+    (new : Pages) (after : Told) : Type 0 where
   pub complete : CompletesFor it result told
-  pub faults : TellsFaultsFor it result told new
+  pub faults : TellsFaultsForThen it result told new after
   pub exact : frames_in it.pages (home_of n).unit (home_of n).page ≡ None → HasFreeFrame it.pages
       → FailsAsPage (tables_in it.pages) (home_of n).unit (home_of n).page result told

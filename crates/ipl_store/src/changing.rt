@@ -30,7 +30,8 @@ use store_laws::passing_laws;
 impl Store {
     /// Puts a value of at most 464 bytes at a name, for a session. It counts once that is
     /// committed. The page of the name is brought into a frame before it is refused as full: where
-    /// it might come to take more than it has, whichever open sessions commit.
+    /// it might come to take more than it has, whichever open sessions commit. A bad page ends it as it
+    /// does a `get`.
     pub fn put<C: Chip>(
         &mut self,
         chip: &mut C,
@@ -73,7 +74,8 @@ impl Store {
         self.end(done)
     }
 
-    /// Deletes the record of a name, where it has one, for a session.
+    /// Deletes the record of a name, where it has one, for a session. A bad page ends it as it does a
+    /// `get`.
     pub fn del<C: Chip>(&mut self, chip: &mut C, s: u32, n: u32) -> Result<(), StoreFault>
         requires sound { IsSound (C.told chip.old).places self.old }
         ensures calls { Calls (early_fault (entry_fault self.old)
@@ -96,7 +98,8 @@ impl Store {
     }
 
     /// Commits a session: once it answers, its writes last, all of them, and it is closed. A power
-    /// cut before leaves all of them or none.
+    /// cut before leaves all of them or none. A bad page of a unit that had to be merged for it ends it,
+    /// with exactly what is wrong with that page.
     pub fn commit<C: Chip>(&mut self, chip: &mut C, s: u32) -> Result<(), StoreFault>
         requires sound { IsSound (C.told chip.old).places self.old }
         ensures calls { Calls (early_fault (entry_fault self.old)
@@ -116,7 +119,7 @@ impl Store {
 
     /// Commits several sessions (2 to 32, each named once) together, by one commit sector: once it
     /// answers, all their writes last, and all are closed. A power cut before leaves the writes of
-    /// all of them or of none.
+    /// all of them or of none. A bad page ends it as it does a `commit`.
     pub fn commit_all<C: Chip>(&mut self, chip: &mut C, sessions: &[u32]) -> Result<(), StoreFault>
         requires sound { IsSound (C.told chip.old).places self.old }
         requires few { length sessions.now ≤ SESSIONS }

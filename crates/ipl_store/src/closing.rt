@@ -36,7 +36,8 @@ impl Store {
     /// on the chip, so that the next opening counts what is clean of them, and the first commits need no merge. The
     /// store is down from then on, until it is opened again. That is also so where a write failed.
     ///
-    /// It is refused where a session is open, and the least is named.
+    /// It is refused where a session is open, and the least is named. A bad page ends it as it does a
+    /// `commit`.
     pub fn close<C: Chip>(&mut self, chip: &mut C) -> Result<(), StoreFault>
         requires sound { IsSound (C.told chip.old).places self.old }
         ensures closes { ClosesStore (early_fault (entry_fault self.old)

@@ -40,7 +40,8 @@ impl Transactions {
         ensures upholds { Upholds (2 ^ 14 + 14 * 64) self.old.pages (C.told chip.old)
             result self.new.pages (C.told chip.new) }
         ensures complete { FailsByChip self.old.pages result (C.told chip.old) }
-        ensures faults { TellsFaults self.old.pages result (C.told chip.old) self.new.pages }
+        ensures faults { TellsFaults self.old.pages result (C.told chip.old) self.new.pages
+            (C.told chip.new) }
         ensures may_add { OnOk result (MayAddNumbers self.new numbers.now) }
         ensures sessions { self.new.sessions ≡ self.old.sessions }
         ensures framed { KeepsFramed self.old.pages self.new.pages }
@@ -113,7 +114,8 @@ impl Transactions {
         ensures turns { Turns (λ state. after_batch state numbers.now) (2 ^ 15)
             self.old (C.told chip.old) result self.new (C.told chip.new) }
         ensures complete { FailsByChip self.old.pages result (C.told chip.old) }
-        ensures faults { TellsFaults self.old.pages result (C.told chip.old) self.new.pages }
+        ensures faults { TellsFaults self.old.pages result (C.told chip.old) self.new.pages
+            (C.told chip.new) }
         ensures framed { KeepsFramed self.old.pages self.new.pages }
         ensures asks { CommitAsks self.old numbers.now (is_worn_out result) self.new.pages
             (C.told chip.old) (C.told chip.new) }

@@ -14,8 +14,10 @@
 //! and the state is as it was then. Else a call leads from each state for which memory and chip stand
 //! to the model's next one, or leaves it where it fails, and the store is down exactly where a write
 //! failed or one place more is worn than are spare; over a chip that tells what it holds, where
-//! memory and contents show a state, it fails only where a call of the chip failed. A place that is
-//! found worn is retired, and the next free one is taken. A get lends what the session sees, and asks
+//! memory and contents show a state, it fails only where a call of the chip failed. Where a page is bad
+//! it may fail by that, and the fault is exactly what is wrong with the page, sector and sums: over what the
+//! chip held before the call, or over what it holds after it, which is said of a chip that tells its story.
+//! A place that is found worn is retired, and the next free one is taken. A get lends what the session sees, and asks
 //! the chip nothing where the page is in a frame. A begin draws one number. A commit, or a batch,
 //! which commits several sessions together, makes all their writes last and closes them; a power cut
 //! in it leaves the writes of all its sessions or of none. A batch costs one commit sector, as a
@@ -35,14 +37,16 @@
 //! its condition there. A contract sees the memory as a whole (`memory_in`), and that each call leads
 //! from each state that it stands for to the model's next one (`LeadsTo`), and over a chip that holds
 //! one fails only where a call of the chip failed (`Completes`, `CompletesFor`), or by a page that
-//! doesn't read well or has no room for its values (`TellsFaults`, `TellsFaultsFor`).
+//! doesn't read well or has no room for its values, with exactly what is wrong with it (`TellsFaults`,
+//! `TellsFaultsForThen`).
 //!
 //! Proved, by the calls of `Transactions`: sessions over pages in frames: a begin, a share, a write,
 //! an abort and a commit of one session or several each lead to the model's next state, or leave the
 //! state as it was where they fail; memory stays in order, the same pages are held, and a fault has
 //! its cause; over a chip that tells what it holds, where that stands for a state, a write and a
 //! commit fail only where a call of the chip failed, and where it stands for all of a state but what
-//! the pages say, also by a page that didn't read well or had no room for its values. A put is of a
+//! the pages say, also by a page that didn't read well or had no room for its values, and the fault is
+//! then what is wrong with that page. A put is of a
 //! page that has room for it by what open sessions wrote there (`MayTake`). A power cut in a commit
 //! leaves the writes of all its sessions or of none. A commit of sessions that wrote nothing asks the
 //! chip nothing; where the status place has a clean sector, one costs at most one erase and one log

@@ -23,7 +23,8 @@ use ipl_base::StoreFault;
 use store_laws::passing_laws;
 
 impl Store {
-    /// Merges a unit at once, whatever is carried.
+    /// Merges a unit at once, whatever is carried. A bad page of it ends that, with exactly what is wrong
+    /// with the page.
     pub fn merge<C: Chip>(&mut self, chip: &mut C, unit: u32) -> Result<(), StoreFault>
         requires sound { IsSound (C.told chip.old).places self.old }
         ensures calls { Calls (early_fault (entry_fault self.old)

@@ -79,6 +79,9 @@ impl Store {
 
     /// What a session sees of a name: its own last write there, or else the committed record. It
     /// takes no lock. The slice, of at most 464 bytes, is lent from the page's frame.
+    ///
+    /// A bad page ends it, with exactly what is wrong with that: the page of the name, or one of the unit
+    /// of the page that had to leave its frame.
     pub fn get<C: Chip>(
         &mut self,
         chip: &mut C,
@@ -117,7 +120,7 @@ impl Store {
     }
 
     /// What a session sees of a name, which it shares until it ends. The slice is lent from the
-    /// page's frame.
+    /// page's frame. A bad page ends it as it does a `get`.
     pub fn share<C: Chip>(
         &mut self,
         chip: &mut C,
@@ -160,7 +163,7 @@ impl Store {
     }
 
     /// The committed record of a name, where it has one. The slice, of at most 464 bytes, is
-    /// lent from the page's frame.
+    /// lent from the page's frame. A bad page ends it as it does a `get`.
     pub fn committed<C: Chip>(&mut self, chip: &mut C, n: u32) -> Result<Option<&[u8]>, StoreFault>
         requires sound { IsSound (C.told chip.old).places self.old }
         ensures* looks { sem 𝓛 (Rests the_row self.entry (λ new.

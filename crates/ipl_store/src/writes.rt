@@ -37,7 +37,8 @@ impl Transactions {
         requires left { self.old.pages.parts.counter + 14 < 2 ^ 64 }
         ensures turns { Turns (λ state. after_write state s (name.0, change_of change)) 14
             self.old (C.told chip.old) result self.new (C.told chip.new) }
-        ensures fails { FailsAsWrite self.old name.0 result (C.told chip.old) self.new.pages }
+        ensures fails { FailsAsWrite self.old name.0 result (C.told chip.old) self.new.pages
+            (C.told chip.new) }
         ensures frames { FramesPage (home_of name.0).unit (home_of name.0).page result
             self.old.pages self.new.pages }
         ensures asks { AsksToWrite name.0 (change_of change) (is_worn_out result)

@@ -1,14 +1,16 @@
-use Rattle.std.proofs.Common.{None, OnOk, refl, sym, ap, subst}
+use Rattle.std.proofs.Common.{◌⊎◌, None, OnOk, refl, sym, ap, subst}
 use Rattle.ipl_base.specs.Places.{home_of}
 use Rattle.ipl_base.specs.declared.spot.Home.{Home}
 use Rattle.buffer_pool.specs.Uses.{IsUsedLast}
-use Rattle.page_frames.specs.Pages.{IsFramed, KeepsFramedFor}
+use Rattle.page_frames.specs.Faulty.{FailsAsPage}
+use Rattle.page_frames.specs.Pages.{tables_in, HasFreeFrame, IsFramed, KeepsFramedFor}
+use Rattle.page_frames.proofs.TellLemmas.{tells_ever}
 use Rattle.ipl_store.specs.declared.store.Store.{Store}
 use Rattle.ipl_store.specs.Puts.{HasBrought}
 use Rattle.ipl_store.specs.Shown.{FramesName}
 use Rattle.ipl_store.proofs.CallLemmas.{pages_move, moved_calls, kept_holds, kept_for, done_ends, ended_costs, ended_used}
 use Rattle.ipl_store.proofs.BroughtLemmas.{has_brought}
-use Rattle.ipl_store.proofs.ShownLemmas.{names_told, brought_frame}
+use Rattle.ipl_store.proofs.ShownLemmas.{names_told, brought_frame, ended_exact}
 use Rattle.ipl_store.proofs.store.Store.bring.Goals as goal
 
 pub returns-clause-fetches : goal.returns-clause-fetches
@@ -24,10 +26,17 @@ returns-clause-fetches g c =
           (pages_move 14 store.transactions pages old after c.bring-done.result
           (c.requires.sound.order c.requires.up) c.bring-done.ensures.works.upholds
           c.bring-done.ensures.works.complete
-          c.bring-done.ensures.works.faults) rest
+          (tells_ever store.transactions.pages pages c.bring-done.result old after
+          c.bring-done.ensures.works.faults)) rest
           c.end.ensures.ends None refl;
       holds = kept_holds store c.end.new.self (record store.transactions { pages = pages })
           store.kept rest c.bring-done.ensures.works.upholds.pins;
+      exact = λ none room. ended_exact (tables_in store.transactions.pages) (home_of c.args.n).unit
+          (home_of c.args.n).page old c.bring-done.result store.down c.end.new.self.down c.end.result
+          c.end.ensures.ends (subst (λ (h : Home). FailsAsPage (tables_in store.transactions.pages) h.unit
+          h.page c.bring-done.result old) c.home-home.ensures.home (c.bring-done.ensures.exact
+          (subst (λ (h : Home). IsFramed store.transactions.pages h.unit h.page
+          ⊎ HasFreeFrame store.transactions.pages) (sym c.home-home.ensures.home) room)));
       names = done_ends (FramesName c.args.n store old c.end.new.self) c.bring-done.result
           store.down
           c.end.new.self.down c.end.result c.end.ensures.ends

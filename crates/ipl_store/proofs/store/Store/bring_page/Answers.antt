@@ -1,4 +1,5 @@
 use Rattle.std.proofs.Common.{None, refl}
+use Rattle.page_frames.proofs.TellLemmas.{tells_ever}
 use Rattle.ipl_store.proofs.CallLemmas.{pages_move, moved_calls, kept_holds, kept_for, ended_costs, ended_framed, ended_used}
 use Rattle.ipl_store.proofs.store.Store.bring_page.Goals as goal
 use Rattle.ipl_store.proofs.ShownLemmas.{brought_frame}
@@ -7,14 +8,15 @@ pub returns-clause-calls : goal.returns-clause-calls
 returns-clause-calls g c =
     let store = c.args.self.now in
     let old = g.C.Chip.told c.args.chip.now in
+    let after = g.C.Chip.told c.bring-done.new.chip in
     let pages = c.bring-done.new.self in
     moved_calls (λ state. state) 14 store (record store.transactions { pages = pages }) store.kept
-    old (g.C.Chip.told c.bring-done.new.chip) c.bring-done.result c.end.result c.end.new.self
+    old after c.bring-done.result c.end.result c.end.new.self
     c.requires.up c.requires.sound
-    (pages_move 14 store.transactions pages old (g.C.Chip.told c.bring-done.new.chip)
-    c.bring-done.result (c.requires.sound.order c.requires.up) c.bring-done.ensures.works.upholds
+    (pages_move 14 store.transactions pages old after c.bring-done.result (c.requires.sound.order c.requires.up) c.bring-done.ensures.works.upholds
     c.bring-done.ensures.works.complete
-    c.bring-done.ensures.works.faults)
+    (tells_ever store.transactions.pages pages c.bring-done.result old after
+    c.bring-done.ensures.works.faults))
     c.end.ensures.rest c.end.ensures.ends None refl
 
 pub returns-clause-holds : goal.returns-clause-holds

@@ -9,6 +9,7 @@ use Rattle.ipl_store.specs.Costs.{AsksToWrite}
 use Rattle.ipl_store.specs.Calls.{early_fault, entry_fault, tells_wear}
 use Rattle.ipl_store.proofs.CallLemmas.{calls_refused, early_unworn, let_in, writes_move, moved_calls, kept_holds, kept_for, ended_asks, ended_framed, ended_used}
 use Rattle.ipl_store.proofs.ShownLemmas.{write_asks_nothing}
+use Rattle.ipl_store.proofs.TurnLemmas.{ever_for}
 use Rattle.ipl_store.proofs.store.Store.del.Goals as goal
 
 pub returns-clause-calls : goal.returns-clause-calls
@@ -28,7 +29,8 @@ returns-clause-calls g c =
     (writes_move (λ state. after_write state c.args.s (c.args.n, None)) 14 store.transactions
     c.write-done.new.self old after c.write-done.result c.write-done.ensures.turns
     c.write-done.ensures.fails.complete
-    c.write-done.ensures.fails.faults)
+    (ever_for store.transactions c.write-done.result old after c.write-done.new.self.pages
+    c.write-done.ensures.fails.faults))
     c.end.ensures.rest c.end.ensures.ends early none
 
 pub returns-clause-holds : goal.returns-clause-holds

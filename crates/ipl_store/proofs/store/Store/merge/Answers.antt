@@ -12,6 +12,7 @@ use Rattle.ipl_store.specs.declared.store.Store.{Store}
 use Rattle.ipl_store.specs.Calls.{early_fault, ends_worn_out, entry_fault, tells_wear}
 use Rattle.ipl_store.proofs.CallLemmas.{early_unworn, let_in, pages_move, moved_calls, kept_holds, kept_framed, done_ends, ended_asks, same_answer, throughout_done, calls_refused}
 use Rattle.ipl_store.proofs.MergeLemmas.{refused_merges}
+use Rattle.page_frames.proofs.TellLemmas.{tells_ever}
 use Rattle.ipl_store.proofs.store.Store.merge.Goals as goal
 
 pub returns-clause-calls : goal.returns-clause-calls
@@ -30,7 +31,8 @@ returns-clause-calls g c =
     c.end.result c.end.new.self up c.requires.sound
     (pages_move 13 store.transactions c.merge-done.new.self old after c.merge-done.result
     (c.requires.sound.order up) c.merge-done.ensures.works.upholds c.merge-done.ensures.works.complete
-    c.merge-done.ensures.works.faults)
+    (tells_ever store.transactions.pages c.merge-done.new.self c.merge-done.result old after
+    c.merge-done.ensures.works.faults))
     c.end.ensures.rest c.end.ensures.ends (early_fault (entry_fault store) refusal) none
 
 pub returns-clause-holds : goal.returns-clause-holds

@@ -3,7 +3,7 @@ use Rattle.std.proofs.lemmas.Result.{err_from_is_err_and}
 use Rattle.ipl_meaning.specs.Tables.{Places}
 use Rattle.place_taking.specs.Spending.{is_worn_out, tells_worn}
 use Rattle.page_frames.proofs.FramedLemmas.{pool_framed}
-use Rattle.page_frames.proofs.TellLemmas.{alone_tells}
+use Rattle.page_frames.proofs.TellLemmas.{alone_tells, tells_ever}
 use Rattle.ipl_store.proofs.CommitLemmas.{empty_committed, committed, not_committed}
 use Rattle.ipl_store.proofs.CostLemmas.{empty_asks, unwritten_asks, commit_asks}
 use Rattle.ipl_store.proofs.WriterLemmas.{wrote_nothing, wrote_some}
@@ -71,8 +71,11 @@ returns-in_err-write_sessions_out-clause-faults g c =
 
 pub returns-clause-faults : goal.returns-clause-faults
 returns-clause-faults g c =
-    alone_tells c.args.self.now.pages c.commit_numbers.new.self.pages c.commit_numbers.result
-    (g.C.Chip.told c.args.chip.now) c.commit_numbers.ensures.complete
+    let before = g.C.Chip.told c.args.chip.now in
+    let after = g.C.Chip.told c.commit_numbers.new.chip in
+    tells_ever c.args.self.now.pages c.commit_numbers.new.self.pages c.commit_numbers.result before after
+    (alone_tells c.args.self.now.pages c.commit_numbers.new.self.pages c.commit_numbers.result before after
+    c.commit_numbers.ensures.complete)
 
 pub returns-then-is_empty-clause-asks : goal.returns-then-is_empty-clause-asks
 returns-then-is_empty-clause-asks g c =

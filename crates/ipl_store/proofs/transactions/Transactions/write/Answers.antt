@@ -28,7 +28,7 @@ use Rattle.buffer_pool.specs.Uses.{IsUsedLast}
 use Rattle.buffer_pool.proofs.UseLemmas.{kept_uses_are_last, same_counts}
 use Rattle.std.proofs.Common.{◌≡◌, None, Err}
 use Rattle.page_frames.specs.Pages.{tables_in, frames_in, HasFreeFrame}
-use Rattle.page_frames.specs.Faulty.{FailsAsPage}
+use Rattle.page_frames.specs.Faulty.{FailsAsPage, StandsThen}
 use Rattle.ipl_store.proofs.transactions.Transactions.write.Given.{Over}
 use Rattle.ipl_store.proofs.transactions.Transactions.write.Goals as goal
 
@@ -91,7 +91,8 @@ returns-in_err-prepare-clause-fails g c =
     let e = err_from_is_err_and c.from_residual.result c.from_residual.ensures.1 in
     rw (e.1, e.2) (record {
       complete = completes_for old (Err failed) told says.works.complete;
-      faults = tells_for old (Err failed) told c.prepare.new.self says.works.faults;
+      faults = tells_for (λ x layout. StandsThen (tables_in c.prepare.new.self)
+          (g.C.Chip.told c.prepare.new.chip)) old (Err failed) told c.prepare.new.self says.works.faults;
       exact = subst (λ (h : Home). frames_in old.pages h.unit h.page ≡ None → HasFreeFrame old.pages
           → FailsAsPage {T = Unit {0}} (tables_in old.pages) h.unit h.page (Err failed) told)
           c.home-home.ensures.home says.exact;
@@ -227,7 +228,7 @@ returns-then-not-put_record-clause-fails g c =
     record {
       complete = refused_completes u r old mid before after is c.no_room.result;
       faults = refused_tells u r old mid before after is c.no_room.result
-          (record { parts = mid.parts; pool = c.put_record.new.pool });
+          (record { parts = mid.parts; pool = c.put_record.new.pool }) after;
       exact = λ none free. absurd (unframed_put c.args.name.0 old (change_of c.args.change)
           c.requires.may.room is.some none);
     }

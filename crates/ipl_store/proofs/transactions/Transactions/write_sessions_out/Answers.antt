@@ -5,7 +5,7 @@ use Rattle.place_taking.specs.Spending.{is_worn_out}
 use Rattle.record_locks.specs.Held.{written_by}
 use Rattle.page_frames.proofs.UpholdLemmas.{upholds_then, upholds_weaker}
 use Rattle.page_frames.proofs.CompleteLemmas.{completes_then}
-use Rattle.page_frames.proofs.TellLemmas.{tells_then}
+use Rattle.page_frames.proofs.TellLemmas.{tells_ever, tells_then}
 use Rattle.ipl_store.proofs.CommitLemmas.{may_add}
 use Rattle.ipl_store.proofs.CostLemmas.{names_out_asks}
 use Rattle.ipl_store.proofs.transactions.Transactions.write_sessions_out.Goals as goal
@@ -19,14 +19,14 @@ returns-in_err-ready_status-clause-upholds g c =
     rw (e.1, e.2)
     (upholds_weaker (2 ^ 14) (2 ^ 14 + 14 * 64) c.args.self.now.pages c.ready_status.new.self
     (Err c.in_err-ready_status.field-0.0) (g.C.Chip.told c.args.chip.now)
-    (g.C.Chip.told c.ready_status.new.chip) (omega arith) c.in_err-ready_status.ensures.works.upholds)
+    (g.C.Chip.told c.ready_status.new.chip) (omega arith) c.in_err-ready_status.ensures.upholds)
 
 pub returns-clause-upholds : goal.returns-clause-upholds
 returns-clause-upholds g c =
     upholds_then (2 ^ 14) (14 * 64) c.args.self.now.pages c.ready_status.new.self
     c.write_sessions_out.new.self c.write_sessions_out.result (g.C.Chip.told c.args.chip.now)
     (g.C.Chip.told c.ready_status.new.chip) (g.C.Chip.told c.write_sessions_out.new.chip)
-    c.in_ok-ready_status.ensures.works.upholds c.write_sessions_out.ensures.works.upholds
+    c.in_ok-ready_status.ensures.upholds c.write_sessions_out.ensures.works.upholds
 
 pub returns-clause-may_add : goal.returns-clause-may_add
 returns-clause-may_add g c =
@@ -38,11 +38,11 @@ returns-clause-may_add g c =
 pub returns-in_err-ready_status-clause-complete : goal.returns-in_err-ready_status-clause-complete
 returns-in_err-ready_status-clause-complete g c =
     let e = err_from_is_err_and c.from_residual.result c.from_residual.ensures.1 in
-    rw (e.1, e.2) c.in_err-ready_status.ensures.works.complete
+    rw (e.1, e.2) c.in_err-ready_status.ensures.complete
 
 pub returns-clause-complete : goal.returns-clause-complete
 returns-clause-complete g c =
-    let did = c.in_ok-ready_status.ensures.works.upholds in
+    let did = c.in_ok-ready_status.ensures.upholds in
     completes_then c.args.self.now.pages c.ready_status.new.self c.write_sessions_out.result
     (g.C.Chip.told c.args.chip.now) (g.C.Chip.told c.ready_status.new.chip)
     did.accounts.counts.places did.keeps c.write_sessions_out.ensures.works.complete
@@ -68,12 +68,14 @@ returns-clause-asks g c = λ room.
 pub returns-in_err-ready_status-clause-faults : goal.returns-in_err-ready_status-clause-faults
 returns-in_err-ready_status-clause-faults g c =
     let e = err_from_is_err_and c.from_residual.result c.from_residual.ensures.1 in
-    rw (e.1, e.2) c.in_err-ready_status.ensures.works.faults
+    rw (e.1, e.2) c.in_err-ready_status.ensures.faults
 
 pub returns-clause-faults : goal.returns-clause-faults
 returns-clause-faults g c =
-    let did = c.in_ok-ready_status.ensures.works.upholds in
-    tells_then c.args.self.now.pages c.ready_status.new.self c.write_sessions_out.new.self
-    c.write_sessions_out.result (g.C.Chip.told c.args.chip.now)
-    (g.C.Chip.told c.ready_status.new.chip) did.accounts.counts.places
-    c.write_sessions_out.ensures.works.upholds.active did.keeps c.write_sessions_out.ensures.works.faults
+    let did = c.in_ok-ready_status.ensures.upholds in
+    let old = g.C.Chip.told c.args.chip.now in
+    let new = g.C.Chip.told c.write_sessions_out.new.chip in
+    tells_ever c.args.self.now.pages c.write_sessions_out.new.self c.write_sessions_out.result old new
+    (tells_then c.args.self.now.pages c.ready_status.new.self c.write_sessions_out.new.self
+    c.write_sessions_out.result old (g.C.Chip.told c.ready_status.new.chip) new did.accounts.counts.places
+    c.write_sessions_out.ensures.works.upholds.active did.keeps c.write_sessions_out.ensures.works.faults)
