@@ -36,13 +36,13 @@ use Rattle.store_laws.proofs.LeadLemmas.{keepers_lead_still}
 use Rattle.page_frames.specs.Spending.{ErasesAndLogs}
 use Rattle.page_frames.specs.declared.pages.Pages.{Pages}
 use Rattle.page_frames.specs.Complete.{FailsByChip}
-use Rattle.page_frames.specs.Faulty.{FailsByPage, StandsEver, TellsFaults}
+use Rattle.page_frames.specs.Faulty.{FailsByPage, StandsEver, StandsSurely, TellsFaults}
 use Rattle.page_frames.specs.Pages.{tables_in, IsFramed, KeepsFramed, KeepsFramedFor, PageCause, Upholds}
 use Rattle.ipl_store.specs.declared.transactions.Transactions.{Transactions}
-use Rattle.ipl_store.specs.Turns.{memory_in, CompletesFor, IsInOrder, TellsFaultsFor, Turns, TurnsInMemory}
+use Rattle.ipl_store.specs.Turns.{memory_in, CompletesFor, IsInOrder, TellsFaultsFor, TellsFaultsForSurely, Turns, TurnsInMemory}
 use Rattle.ipl_store.proofs.TurnLemmas.{completes_for, tells_for}
 use Rattle.ipl_store.specs.declared.store.Store.{Store}
-use Rattle.ipl_store.specs.Calls.{memory_of_store, view_of, counter_of, IsMade, IsSound, early_fault, ends_worn_out, entry_fault, down_fault, puts_down, tells_wear, EndsAs, IsOfPageFound, IsOfTheChip, EndsFor, KeepsHolds, Calls}
+use Rattle.ipl_store.specs.Calls.{memory_of_store, view_of, counter_of, IsMade, IsSound, early_fault, ends_worn_out, entry_fault, down_fault, puts_down, tells_wear, EndsAs, BlamesPagesSurely, IsOfBadPage, IsOfTheChip, EndsFor, KeepsHolds, Calls}
 use Rattle.ipl_store.specs.Shown.{CostsOnePage, IsUsedLastIn}
 
 -- ---- before anything is done
@@ -254,16 +254,27 @@ failed_so (Err e) was is result ends alone =
     (e, refl, alone)
 
 -- or that of a page
-blamed_so : (x : Contents) (it : Layout) (after : Told) (done : Result (Unit {0}) ChipFault)
-    (was is : Bool) (result : Result (Unit {0}) StoreFault) → EndsAs done was result is
-    → (a : Tables) (new : Store) → a ≡ tables_in new.transactions.pages
-    → IfErr done (FailsByPage (StandsEver x it a after) x it a)
-    → IfErr result (IsOfPageFound x it new after)
-blamed_so x it after (Ok v) was is result ends a new same blamed =
-    subst (λ (r : Result (Unit {0}) StoreFault). IfErr r (IsOfPageFound x it new after)) (sym ends.0) tt
-blamed_so x it after (Err e) was is result ends a new same blamed =
-    subst (λ (r : Result (Unit {0}) StoreFault). IfErr r (IsOfPageFound x it new after)) (sym ends.0)
-    (e, refl, subst (λ (t : Tables). FailsByPage (StandsEver x it t after) x it t e) same blamed)
+blamed_so : (Finds : Tables → ℕ → ℕ → ChipFault → Type 0) (x : Contents) (it : Layout)
+    (done : Result (Unit {0}) ChipFault) (was is : Bool) (result : Result (Unit {0}) StoreFault)
+    → EndsAs done was result is → (a : Tables) (new : Store) → a ≡ tables_in new.transactions.pages
+    → IfErr done (FailsByPage (Finds a) x it a) → IfErr result (IsOfBadPage Finds x it new)
+blamed_so Finds x it (Ok v) was is result ends a new same blamed =
+    subst (λ (r : Result (Unit {0}) StoreFault). IfErr r (IsOfBadPage Finds x it new)) (sym ends.0) tt
+blamed_so Finds x it (Err e) was is result ends a new same blamed =
+    subst (λ (r : Result (Unit {0}) StoreFault). IfErr r (IsOfBadPage Finds x it new)) (sym ends.0)
+    (e, refl, subst (λ (t : Tables). FailsByPage (Finds t) x it t e) same blamed)
+
+-- whether the chip tells its story or not
+pub blamed_surely : (old new : Store) (t : Transactions) (kept : List ℕ) (before after : Told)
+    (done : Result (Unit {0}) ChipFault) (result : Result (Unit {0}) StoreFault)
+    → new ≡ record old { transactions = t; kept = kept; down = new.down }
+    → EndsAs done old.down result new.down
+    → TellsFaultsForSurely old.transactions done before t.pages after
+    → BlamesPagesSurely old before result new after
+blamed_surely old new t kept before after done result rest ends tells x told it state fits =
+    blamed_so (λ k. StandsSurely x it k after) x it done old.down new.down result ends (tables_in t.pages) new
+    (ap (λ (s : Store). tables_in s.transactions.pages) (sym rest))
+    (tells x told it state fits)
 
 -- work that is complete, where store and contents show a state
 shown_complete : (store : Store) (before : Told) (done : Result (Unit {0}) ChipFault)
@@ -326,8 +337,8 @@ module _ (next : State → State) (most : ℕ) (old : Store) (t : Transactions) 
           (sym moved) moves.drawn;
       complete = λ x told state shown. failed_so done old.down new.down result ends
           (shown_complete old before done moves.complete x told state shown);
-      faults = λ x told it state fits. blamed_so x it after done old.down new.down result
-          ends (tables_in t.pages) new
+      faults = λ x told it state fits. blamed_so (λ k. StandsEver x it k after) x it done old.down
+          new.down result ends (tables_in t.pages) new
           (ap (λ (it : Transactions). tables_in it.pages) (sym moved))
           (moves.faults x told it state fits);
     };

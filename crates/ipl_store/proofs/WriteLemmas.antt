@@ -13,6 +13,7 @@ use Rattle.ipl_model.specs.Operations as rules
 use Rattle.ipl_model.specs.State.{State}
 use Rattle.record_locks.specs.Held.{marks_in, number_of, numbers_in, after_write}
 use Rattle.ipl_meaning.specs.Chart.{chart_of}
+use Rattle.chip_trait.specs.Story.{Contents}
 use Rattle.ipl_meaning.specs.Layout.{Layout}
 use Rattle.ipl_meaning.specs.Values.{Values}
 use Rattle.unit_io.specs.Reads.{OfContents}
@@ -43,7 +44,7 @@ use Rattle.place_taking.proofs.WearLemmas.{alike_tables, nothing_wears}
 use Rattle.ipl_store.specs.declared.transactions.Transactions.{Transactions}
 use Rattle.page_frames.specs.Asks.{AsksToPrepare}
 use Rattle.ipl_store.specs.Costs.{HasRoomFor, AsksToWrite}
-use Rattle.ipl_store.specs.Turns.{memory_in, CompletesFor, IsInOrder, MayTake, TellsFaultsForThen, Turns}
+use Rattle.ipl_store.specs.Turns.{memory_in, CompletesFor, IsInOrder, MayTake, TellsFaultsForBy, Turns}
 use Rattle.ipl_store.proofs.OrderLemmas.{HadFrames, still_ready}
 use Rattle.ipl_store.proofs.SessionLemmas.{among_all, writes_keep_numbers}
 use Rattle.ipl_store.proofs.TurnLemmas.{upheld_order_then, upheld_then}
@@ -172,9 +173,9 @@ module _ (u : ℕ) (r : Record) (old : Transactions) (mid : Pages) (before after
   pub refused_completes : (e : ChipFault) → CompletesFor {T = Unit {0}} old (Err e) before
   refused_completes e x told layout state fits says = absurd (fits_none x told layout state fits)
 
-  pub refused_tells : (e : ChipFault) (new : Pages) (after : Told)
-      → TellsFaultsForThen {T = Unit {0}} old (Err e) before new after
-  refused_tells e new after x told layout state fits = absurd (fits_none x told layout state fits)
+  pub refused_tells : (F : Contents → Layout → ℕ → ℕ → ChipFault → Type 0) (e : ChipFault) (new : Pages)
+      → TellsFaultsForBy {T = Unit {0}} F old (Err e) before new
+  refused_tells F e new x told layout state fits = absurd (fits_none x told layout state fits)
 
 -- a put that has room has its page in a frame
 pub unframed_put : (n : ℕ) (it : Transactions) (change : Change) → MayTake it n change

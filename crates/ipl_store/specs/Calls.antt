@@ -16,6 +16,7 @@ use Rattle.ipl_model.specs.Refusals.{Test, first_of, bad_session, bad_name, refu
 use Rattle.ipl_meaning.specs.Legible.{every}
 use Rattle.ipl_meaning.specs.Chart.{chart_of}
 use Rattle.ipl_meaning.specs.Layout.{Layout}
+use Rattle.ipl_meaning.specs.Tables.{Tables}
 use Rattle.unit_io.specs.Reads.{OfContents}
 use Rattle.buffer_pool.specs.Pools.{PoolView}
 use Rattle.buffer_pool.specs.Laws.{buffer_of}
@@ -27,7 +28,7 @@ use Rattle.store_laws.specs.Keeps.{View, ShowsState, limits_of}
 use Rattle.place_taking.specs.Spending.{tells_worn}
 use Rattle.place_taking.specs.Wear.{TellsOfWear}
 use Rattle.unit_io.specs.Steps.{Tidies}
-use Rattle.page_frames.specs.Faulty.{FailsByPage, StandsEver}
+use Rattle.page_frames.specs.Faulty.{FailsByPage, StandsEver, StandsSurely}
 use Rattle.page_frames.specs.Pages.{tables_in, PageCause}
 use Rattle.ipl_store.specs.Turns.{memory_in, IsInOrder}
 use Rattle.ipl_store.specs.declared.store.Store.{Store}
@@ -57,8 +58,8 @@ pub record IsMade (places : ℕ) (store : Store) : Type 0 where
   pub frames : store.frames ≡ store.transactions.pages.pool.limit
   pub two : 2 ≤ store.frames
 
--- and one that isn't down has its memory in order, whatever the chip tells, and its tables have as many
--- units
+-- and one that isn't down has its memory in order, whatever the chip tells, and its tables have as
+-- many units
 pub record IsSound (places : ℕ) (store : Store) : Type 0 where
   pub made : IsMade places store
   pub order : store.down ≡ false → IsInOrder places store.transactions
@@ -171,25 +172,39 @@ abbrev pub ends_worn_out : {T : Type 0} → Result T StoreFault → Bool
 ends_worn_out (Ok v) = false
 ends_worn_out (Err fault) = tells_wear fault
 
--- it tells the fault of a page, unless a call of the chip failed, exactly as that stands over the contents
--- before, or over what the chip holds after the call
-abbrev pub IsOfPageFound : Contents → Layout → Store → Told → StoreFault → Type 0
-IsOfPageFound x it new after fault =
+-- it tells the fault of a bad page, of which this is so by the tables then, unless a call of the
+-- chip failed
+abbrev pub IsOfBadPage : (Tables → ℕ → ℕ → ChipFault → Type 0) → Contents → Layout → Store → StoreFault
+    → Type 0
+IsOfBadPage Finds x it new fault =
     let t = tables_in new.transactions.pages in
-    (e : ChipFault) × (fault ≡ Chip e) × FailsByPage (StandsEver x it t after) x it t e
+    (e : ChipFault) × (fault ≡ Chip e) × FailsByPage (Finds t) x it t e
 
 -- Over contents that the memory fits, whatever their pages say, the fault is of a page that didn't
--- read well or had no room for its values, at the place where its unit is then, and is exactly what is
--- wrong with it; or a call of the chip failed.
-abbrev pub BlamesPages : {T : Type 0} → Store → Told → Result T StoreFault → Store → Told → Type 0
-BlamesPages old before result new after = OfContents before (λ x. (it : Layout) (state : State)
+-- read well or had no room for its values, at the place where its unit is then; or a call of the
+-- chip failed.
+abbrev pub BlamesPagesBy : {T : Type 0} → (Contents → Layout → Tables → ℕ → ℕ → ChipFault → Type 0)
+    → Store → Told → Result T StoreFault → Store → Type 0
+BlamesPagesBy Finds old before result new = OfContents before (λ x. (it : Layout) (state : State)
     → MemoryFits before.places (chart_of x) it (memory_of_store old) state
-    → IfErr result (IsOfPageFound x it new after))
+    → IfErr result (IsOfBadPage (Finds x it) x it new))
+
+-- The fault is exactly what is wrong with that page, over what the chip holds before the call or
+-- after it.
+abbrev pub BlamesPages : {T : Type 0} → Store → Told → Result T StoreFault → Store → Told → Type 0
+BlamesPages old before result new after =
+    BlamesPagesBy (λ x it t. StandsEver x it t after) old before result new
+
+-- the same, whether the chip tells its story or not
+abbrev pub BlamesPagesSurely : {T : Type 0} → Store → Told → Result T StoreFault → Store → Told → Type 0
+BlamesPagesSurely old before result new after =
+    BlamesPagesBy (λ x it t. StandsSurely x it t after) old before result new
 
 -- A call that is let in. It leads from each state that memory and chip stand for to the next one,
--- at most so many numbers were drawn, and however it ends the tables have as many units as the store.
--- Over contents that the memory shows a state of, it fails only where a call of the chip failed; and
--- else by a page that doesn't read well or has no room, with exactly what is wrong with it.
+-- at most so many numbers were drawn, and however it ends the tables have as many units as the
+-- store. Over contents that the memory shows a state of, it fails only where a call of the chip
+-- failed; and else by a page that doesn't read well or has no room, with exactly what is wrong with
+-- it.
 pub record Serves {T : Type 0} (next : State → State) (most : ℕ) (old : Store) (before : Told)
     (result : Result T StoreFault) (new : Store) (after : Told) : Type 0 where
   pub leads : LeadsTo next (memory_of_store old) before result (memory_of_store new) after
@@ -207,8 +222,9 @@ abbrev pub KeepsHolds : Store → Store → Type 0
 KeepsHolds old new = KeepsPins old.transactions.pages.pool new.transactions.pages.pool
 
 -- A call of a store: it ends early with this fault, and nothing was done; or it does what it is
--- for. The store is sound either way, with as many units, and whatever the chip tells, its events are
--- lawful by the tables, what is retired besides was found worn, and a unit whose place was erased is known.
+-- for. The store is sound either way, with as many units, and whatever the chip tells, its events
+-- are lawful by the tables, what is retired besides was found worn, and a unit whose place was
+-- erased is known.
 pub record Calls {T : Type 0} (early : Option StoreFault) (next : State → State) (most : ℕ)
     (old : Store) (before : Told) (result : Result T StoreFault) (new : Store) (after : Told)
     : Type 0 where

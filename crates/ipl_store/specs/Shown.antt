@@ -32,13 +32,13 @@ use Rattle.page_frames.specs.Asks.{AsksForFrame}
 use Rattle.page_frames.specs.Spending.{ErasesAndLogs}
 use Rattle.page_frames.specs.Pages.{tables_in, frames_in, IsFramed, KeepsFramed, KeepsFramedFor, HasFreeFrame}
 use Rattle.ipl_store.specs.declared.store.Store.{Store}
-use Rattle.ipl_store.specs.Calls.{view_of, KeepsHolds, Calls, ends_worn_out}
+use Rattle.ipl_store.specs.Calls.{view_of, BlamesPagesSurely, KeepsHolds, Calls, ends_worn_out}
 
 -- ---- names
 
--- The memory fits what the chip of so many places holds, which is laid out in as many units, and the
--- page of the name shows what the state has there. Of other pages nothing is asked: they may not read
--- well.
+-- The memory fits what the chip of so many places holds, which is laid out in as many units, and
+-- the page of the name shows what the state has there. Of other pages nothing is asked: they may
+-- not read well.
 pub record ShowsName (places : ℕ) (store : View) (state : State) (n : ℕ) (x : Contents)
     : Type 0 where
   pub layout : Layout
@@ -83,7 +83,8 @@ pub record KeepsNumber (s : ℕ) (old new : Store) : Type 0 where
 
 -- ---- pages
 
--- Memory alone is worked on: the pages that are held or in frames stay so, and the chip isn't asked.
+-- Memory alone is worked on: the pages that are held or in frames stay so, and the chip isn't
+-- asked.
 pub record WorksInMemory (old : Store) (before : Told) (new : Store) (after : Told) : Type 0 where
   pub holds : KeepsHolds old new
   pub framed : KeepsFramed old.transactions.pages new.transactions.pages
@@ -126,8 +127,8 @@ IsUsedLastIn store u page = IsUsedLast store.transactions.pages.pool u page
 
 -- ---- what is asked of the chip for a page
 
--- nothing where it is in a frame, only reads where a frame is free or the page that leaves one has no records in memory,
--- and no erase where a log sector is clean for them at home
+-- nothing where it is in a frame, only reads where a frame is free or the page that leaves one has
+-- no records in memory, and no erase where a log sector is clean for them at home
 pub record AsksLittle (u page : ℕ) (store : Store) (before after : Told) : Type 0 where
   pub idle : IsFramed store.transactions.pages u page → after ≡ before
   pub free : HasFreeFrame store.transactions.pages → Spends (Costs 0 0 0 []) before after
@@ -163,15 +164,16 @@ FailsAsName early n old before result = early ≡ None
     ⊎ HasFreeFrame old.transactions.pages)
     → FailsAsPageOf (home_of n).unit (home_of n).page (tables_in old.transactions.pages) before result
 
--- Such a call; done, the frame tells the name, and its page is the one used last. Where the page is in
--- a frame or a frame is free, no page leaves its frame, and it fails exactly with what is wrong with that
--- page. It costs at most to write one page out.
+-- Such a call; done, the frame tells the name, and its page is the one used last. Where the page is
+-- in a frame or a frame is free, no page leaves its frame, and it fails exactly with what is wrong
+-- with that page; else with what is wrong with a page. It costs at most to write one page out.
 pub record Fetches (early : Option StoreFault) (next : State → State) (n : ℕ) (old : Store)
     (before : Told) (result : Result (Unit {0}) StoreFault) (new : Store) (after : Told)
     : Type 0 where
   pub calls : Calls early next 14 old before result new after
   pub holds : KeepsHolds old new
   pub exact : FailsAsName early n old before result
+  pub surely : early ≡ None → BlamesPagesSurely old before result new after
   pub names : OnOk result (FramesName n old before new)
   pub used : OnOk result (IsUsedLastIn new (home_of n).unit (home_of n).page)
   pub stays : KeepsFramedFor (home_of n).unit (home_of n).page old.transactions.pages
@@ -184,14 +186,16 @@ answered (Ok v) found = Ok found
 answered (Err e) found = Err e
 
 -- A call that lends what the frame has of the name; done, the page is in a frame and the one used
--- last, and no other page leaves one where it was there before or a frame was free; then it fails exactly
--- with what is wrong with that page. It costs at most to write one page out.
+-- last, and no other page leaves one where it was there before or a frame was free; then it fails
+-- exactly with what is wrong with that page, else with what is wrong with a page. It costs at most
+-- to write one page out.
 pub record LooksAtStore {T : Type 0} (early : Option StoreFault) (next : State → State) (n : ℕ)
     (old : Store) (before : Told) (result : Result T StoreFault) (new : Store) (after : Told)
     : Type 0 where
   pub calls : Calls early next 14 old before result new after
   pub holds : KeepsHolds old new
   pub exact : FailsAsName early n old before result
+  pub surely : early ≡ None → BlamesPagesSurely old before result new after
   pub framed : OnOk result (IsFramed new.transactions.pages (home_of n).unit (home_of n).page)
   pub used : OnOk result (IsUsedLastIn new (home_of n).unit (home_of n).page)
   pub stays : KeepsFramedFor (home_of n).unit (home_of n).page old.transactions.pages

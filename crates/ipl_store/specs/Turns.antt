@@ -25,7 +25,7 @@ use Rattle.store_laws.specs.Room.{overfills_at}
 use Rattle.store_laws.specs.Advances.{Memory, memory_of, MemoryFits, LeadsTo}
 use Rattle.store_laws.specs.Numbers.{IsOut}
 use Rattle.page_frames.specs.declared.pages.Pages.{Pages}
-use Rattle.page_frames.specs.Faulty.{FailsByPage, StandsEver, StandsThen}
+use Rattle.page_frames.specs.Faulty.{FailsByPage, StandsEver, StandsSurely, StandsThen}
 use Rattle.page_frames.specs.Pages.{tables_in, frames_in, ArePagesReady, PageCause}
 use Rattle.ipl_store.specs.declared.transactions.Transactions.{Transactions}
 
@@ -43,34 +43,41 @@ pub record MayAddNumbers (it : Transactions) (ss : List ℕ) : Type 0 where
   pub out : All (IsOut (frames_in it.pages)) (written_by it.sessions ss)
   pub room : 0 < room_of it.pages.parts.status
 
--- A put of this change has room: the page of the name is in a frame, and isn't too full for it by what
--- open sessions wrote. A delete always has.
+-- A put of this change has room: the page of the name is in a frame, and isn't too full for it by
+-- what open sessions wrote. A delete always has.
 abbrev pub MayTake : Transactions → ℕ → Change → Type 0
 MayTake it n change = IfSome change (λ bytes. (f : PageFrame)
     × (frames_in it.pages (home_of n).unit (home_of n).page ≡ Some f)
     × (overfills_at (marks_in it.sessions) n bytes f.values ≡ false))
 
--- Where the chip tells what it holds, and that with the memory stands for a state, the call fails only
--- where a call of the chip failed. It is `Completes` with the memory's own sessions: a put has room by
--- what these wrote.
+-- Where the chip tells what it holds, and that with the memory stands for a state, the call fails
+-- only where a call of the chip failed. It is `Completes` with the memory's own sessions: a put has
+-- room by what these wrote.
 abbrev pub CompletesFor : {T : Type 0} → Transactions → Result T ChipFault → Told → Type 0
 CompletesFor it result told = OfContents told (λ x. (layout : Layout) (state : State)
     → MemoryFits told.places (chart_of x) layout (memory_in it) state
     → Says told.places (chart_of x) layout (whole state.map) → FailsByChipAlone result)
 
--- Where nothing is asked of what the pages say, it fails by a page that didn't read well or had no room
--- for its values, or where a call of the chip failed.
+-- Where nothing is asked of what the pages say, it fails by a page that didn't read well or had no
+-- room for its values, or where a call of the chip failed.
 abbrev pub TellsFaultsForBy : {T : Type 0} → (Contents → Layout → ℕ → ℕ → ChipFault → Type 0)
     → Transactions → Result T ChipFault → Told → Pages → Type 0
 TellsFaultsForBy Finds it result told new = OfContents told (λ x. (layout : Layout) (state : State)
     → MemoryFits told.places (chart_of x) layout (memory_in it) state
     → IfErr result (FailsByPage (Finds x layout) x layout (tables_in new)))
 
--- the fault is exactly what is wrong with that page over what the chip holds before the call or after it
+-- the fault is exactly what is wrong with that page over what the chip holds before the call or
+-- after it
 abbrev pub TellsFaultsFor : {T : Type 0} → Transactions → Result T ChipFault → Told → Pages → Told
     → Type 0
 TellsFaultsFor it result before new after =
     TellsFaultsForBy (λ x layout. StandsEver x layout (tables_in new) after) it result before new
+
+-- the same, whether the chip tells its story or not
+abbrev pub TellsFaultsForSurely : {T : Type 0} → Transactions → Result T ChipFault → Told → Pages → Told
+    → Type 0
+TellsFaultsForSurely it result before new after =
+    TellsFaultsForBy (λ x layout. StandsSurely x layout (tables_in new) after) it result before new
 
 -- and so over what it holds after it, where nothing was written behind what failed
 abbrev pub TellsFaultsForThen : {T : Type 0} → Transactions → Result T ChipFault → Told → Pages → Told
@@ -78,10 +85,10 @@ abbrev pub TellsFaultsForThen : {T : Type 0} → Transactions → Result T ChipF
 TellsFaultsForThen it result before new after =
     TellsFaultsForBy (λ x layout. StandsThen (tables_in new) after) it result before new
 
--- A call that leads from each state that memory and chip stand for to the next one. Whatever the chip
--- tells: its events are lawful by the tables, what is retired besides was found worn, a unit whose place
--- was erased is known, the memory is in order, there are as many units, the same pages are held, at most so
--- many numbers were drawn, and a fault has its cause.
+-- A call that leads from each state that memory and chip stand for to the next one. Whatever the
+-- chip tells: its events are lawful by the tables, what is retired besides was found worn, a unit
+-- whose place was erased is known, the memory is in order, there are as many units, the same pages
+-- are held, at most so many numbers were drawn, and a fault has its cause.
 pub record Turns {T : Type 0} (next : State → State) (most : ℕ) (old : Transactions) (before : Told)
     (result : Result T ChipFault) (new : Transactions) (after : Told) : Type 0 where
   pub leads : LeadsTo next (memory_in old) before result (memory_in new) after
@@ -95,8 +102,8 @@ pub record Turns {T : Type 0} (next : State → State) (most : ℕ) (old : Trans
   pub drawn : new.pages.parts.counter ≤ old.pages.parts.counter + most
   pub accounts : Accounts (PageCause new.pages.parts.directory) result before after
 
--- A call in memory alone that does, over whatever chip. The directory is the same, the status has the
--- same place, and no more sectors are counted as clean.
+-- A call in memory alone that does, over whatever chip. The directory is the same, the status has
+-- the same place, and no more sectors are counted as clean.
 pub record TurnsInMemory (next : State → State) (old new : Transactions) : Type 0 where
   pub leads : (told : Told) → LeadsTo {T = Unit {0}} {E = ChipFault} next (memory_in old) told (Ok tt)
       (memory_in new) told

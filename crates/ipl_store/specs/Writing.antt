@@ -11,22 +11,24 @@ use Rattle.page_frames.specs.declared.pages.Pages.{Pages}
 use Rattle.page_frames.specs.Faulty.{FailsAsPage}
 use Rattle.page_frames.specs.Pages.{tables_in, frames_in, HasFreeFrame}
 use Rattle.ipl_store.specs.declared.transactions.Transactions.{Transactions}
-use Rattle.ipl_store.specs.Turns.{CompletesFor, MayTake, TellsFaultsForThen}
+use Rattle.ipl_store.specs.Turns.{CompletesFor, MayTake, TellsFaultsForSurely, TellsFaultsForThen}
 
--- The session may write the name so: it is one of 32, and the name one of the chip's; no lock keeps it from it,
--- and a put has room.
+-- The session may write the name so: it is one of 32, and the name one of the chip's; no lock keeps
+-- it from it, and a put has room.
 pub record MayWrite (it : Transactions) (s n : ℕ) (change : Change) : Type 0 where
   pub session : s < SESSIONS
   pub name : n < 960 * length it.pages.parts.directory.current
   pub unrefused : refuses_write it.sessions s n (size_in_page change) ≡ None
   pub room : MayTake it n change
 
--- Why a write of the name fails, over contents that with the memory stand for a state: only where a call of the
--- chip failed; or where nothing is asked of what the pages say, by a page that is bad, with exactly what is
--- wrong with that. Where the page of the name is in no frame and a frame is free, it is that page.
+-- Why a write of the name fails, over contents that with the memory stand for a state: only where a
+-- call of the chip failed; or where nothing is asked of what the pages say, by a page that is bad,
+-- with exactly what is wrong with that. Where the page of the name is in no frame and a frame is
+-- free, it is that page.
 pub record FailsAsWrite (it : Transactions) (n : ℕ) (result : Result (Unit {0}) ChipFault) (told : Told)
     (new : Pages) (after : Told) : Type 0 where
   pub complete : CompletesFor it result told
   pub faults : TellsFaultsForThen it result told new after
+  pub surely : TellsFaultsForSurely it result told new after
   pub exact : frames_in it.pages (home_of n).unit (home_of n).page ≡ None → HasFreeFrame it.pages
       → FailsAsPage (tables_in it.pages) (home_of n).unit (home_of n).page result told

@@ -10,6 +10,7 @@ ghost use Rattle.store_laws.specs.Refusals.{sessions_refuse_del};
 ghost use Rattle.page_frames.specs.Pages.{IsFramed, KeepsFramed, KeepsFramedFor};
 ghost use Rattle.ipl_store.specs.Costs.{AsksToWrite, CommitAsks};
 ghost use Rattle.ipl_store.specs.Calls.{
+  BlamesPagesSurely,
   IsSound,
   KeepsHolds,
   Calls,
@@ -30,8 +31,8 @@ use store_laws::passing_laws;
 impl Store {
     /// Puts a value of at most 464 bytes at a name, for a session. It counts once that is
     /// committed. The page of the name is brought into a frame before it is refused as full: where
-    /// it might come to take more than it has, whichever open sessions commit. A bad page ends it as it
-    /// does a `get`.
+    /// it might come to take more than it has, whichever open sessions commit. A bad page ends it
+    /// as it does a `get`.
     pub fn put<C: Chip>(
         &mut self,
         chip: &mut C,
@@ -74,14 +75,17 @@ impl Store {
         self.end(done)
     }
 
-    /// Deletes the record of a name, where it has one, for a session. A bad page ends it as it does a
-    /// `get`.
+    /// Deletes the record of a name, where it has one, for a session. A bad page ends it as it does
+    /// a `get`.
     pub fn del<C: Chip>(&mut self, chip: &mut C, s: u32, n: u32) -> Result<(), StoreFault>
         requires sound { IsSound (C.told chip.old).places self.old }
         ensures calls { Calls (early_fault (entry_fault self.old)
             (sessions_refuse_del (limits_of self.old.units) self.old.transactions.sessions s n))
             (λ state. after_write state s (n, None)) 14
             self.old (C.told chip.old) result self.new (C.told chip.new) }
+        ensures surely { early_fault (entry_fault self.old)
+            (sessions_refuse_del (limits_of self.old.units) self.old.transactions.sessions s n) ≡ None
+            → BlamesPagesSurely self.old (C.told chip.old) result self.new (C.told chip.new) }
         ensures holds { KeepsHolds self.old self.new }
         ensures framed { OnOk result
             (IsFramed self.new.transactions.pages (home_of n).unit (home_of n).page) }
@@ -98,8 +102,8 @@ impl Store {
     }
 
     /// Commits a session: once it answers, its writes last, all of them, and it is closed. A power
-    /// cut before leaves all of them or none. A bad page of a unit that had to be merged for it ends it,
-    /// with exactly what is wrong with that page.
+    /// cut before leaves all of them or none. A bad page of a unit that had to be merged for it
+    /// ends it, with exactly what is wrong with that page.
     pub fn commit<C: Chip>(&mut self, chip: &mut C, s: u32) -> Result<(), StoreFault>
         requires sound { IsSound (C.told chip.old).places self.old }
         ensures calls { Calls (early_fault (entry_fault self.old)

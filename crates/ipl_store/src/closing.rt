@@ -14,8 +14,8 @@ use restart::close;
 use store_laws::passing_laws;
 
 impl Store {
-    /// Writes down of which units the log sectors are known. The store is down then: a mark stands on its chip, or
-    /// nobody knows whether one does.
+    /// Writes down of which units the log sectors are known. The store is down then: a mark stands
+    /// on its chip, or nobody knows whether one does.
     fn write_mark<C: Chip>(&mut self, chip: &mut C) -> Result<(), StoreFault>
         requires made { IsMade (C.told chip.old).places self.old }
         requires known { KnowsPlaces (C.told chip.old).places (tables_in self.old.transactions.pages) }
@@ -32,12 +32,13 @@ impl Store {
         Ok(())
     }
 
-    /// Closes the store in order, where no session is open: of which units the log sectors are known is written down
-    /// on the chip, so that the next opening counts what is clean of them, and the first commits need no merge. The
-    /// store is down from then on, until it is opened again. That is also so where a write failed.
+    /// Closes the store in order, where no session is open: of which units the log sectors are
+    /// known is written down on the chip, so that the next opening counts what is clean of them,
+    /// and the first commits need no merge. The store is down from then on, until it is opened
+    /// again. That is also so where a write failed.
     ///
-    /// It is refused where a session is open, and the least is named. A bad page ends it as it does a
-    /// `commit`.
+    /// It is refused where a session is open, and the least is named. A bad page ends it as it does
+    /// a `commit`.
     pub fn close<C: Chip>(&mut self, chip: &mut C) -> Result<(), StoreFault>
         requires sound { IsSound (C.told chip.old).places self.old }
         ensures closes { ClosesStore (early_fault (entry_fault self.old)

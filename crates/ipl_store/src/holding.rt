@@ -28,8 +28,8 @@ use page_frames::buffer_laws;
 
 impl Store {
     /// Holds a page of a unit in a frame: a `get` of a name there makes no chip call until it is
-    /// released. A second hold counts as a use of the page, and changes nothing else. A bad page ends it as
-    /// it does a `get`.
+    /// released. A second hold counts as a use of the page, and changes nothing else. A bad page
+    /// ends it as it does a `get`.
     pub fn hold<C: Chip>(&mut self, chip: &mut C, unit: u32, page: u32) -> Result<(), StoreFault>
         requires sound { IsSound (C.told chip.old).places self.old }
         ensures calls { Calls (early_fault (entry_fault self.old)

@@ -1,5 +1,5 @@
 //! A merge that is asked for.
-ghost use Rattle.std.specs.Prelude.{◌≤◌, slice_index, is_ok, OnOk};
+ghost use Rattle.std.specs.Prelude.{◌≡◌, None, ◌≤◌, slice_index, is_ok, OnOk};
 ghost use Rattle.ipl_base.specs.declared.limits.TheConstants.{CARRIED_SECTORS};
 ghost use Rattle.unit_io.specs.Charts.{Charts};
 ghost use Rattle.unit_io.specs.Costs.{Spends};
@@ -9,6 +9,7 @@ ghost use Rattle.place_taking.specs.Spending.{ErasesFor};
 ghost use Rattle.store_laws.specs.Keeps.{limits_of};
 ghost use Rattle.page_frames.specs.Pages.{tables_in, KeepsFramed};
 ghost use Rattle.ipl_store.specs.Calls.{
+  BlamesPagesSurely,
   IsSound,
   KeepsHolds,
   Calls,
@@ -23,13 +24,15 @@ use ipl_base::StoreFault;
 use store_laws::passing_laws;
 
 impl Store {
-    /// Merges a unit at once, whatever is carried. A bad page of it ends that, with exactly what is wrong
-    /// with the page.
+    /// Merges a unit at once, whatever is carried. A bad page of it ends that, with exactly what is
+    /// wrong with the page.
     pub fn merge<C: Chip>(&mut self, chip: &mut C, unit: u32) -> Result<(), StoreFault>
         requires sound { IsSound (C.told chip.old).places self.old }
         ensures calls { Calls (early_fault (entry_fault self.old)
             (refuses_merge (limits_of self.old.units) unit)) (λ state. state) 13
             self.old (C.told chip.old) result self.new (C.told chip.new) }
+        ensures surely { early_fault (entry_fault self.old) (refuses_merge (limits_of self.old.units) unit)
+            ≡ None → BlamesPagesSurely self.old (C.told chip.old) result self.new (C.told chip.new) }
         ensures holds { KeepsHolds self.old self.new }
         ensures framed { KeepsFramed self.old.transactions.pages self.new.transactions.pages }
         // Done, the unit stands at a new place, its pages show the same, and its log is what open

@@ -80,8 +80,8 @@ impl Store {
     /// What a session sees of a name: its own last write there, or else the committed record. It
     /// takes no lock. The slice, of at most 464 bytes, is lent from the page's frame.
     ///
-    /// A bad page ends it, with exactly what is wrong with that: the page of the name, or one of the unit
-    /// of the page that had to leave its frame.
+    /// A bad page ends it, with exactly what is wrong with that: the page of the name, or one of
+    /// the unit of the page that had to leave its frame.
     pub fn get<C: Chip>(
         &mut self,
         chip: &mut C,

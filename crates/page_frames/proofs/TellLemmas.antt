@@ -29,12 +29,50 @@ use Rattle.selective_merge.specs.Known.{KnowsPlaces}
 use Rattle.selective_merge.proofs.HeldLemmas.{homes_used}
 use Rattle.store_laws.proofs.FitLemmas.{merges_are_small}
 use Rattle.store_laws.specs.Advances.{memory_of, MemoryFits, KeepsState}
+use Rattle.buffer_pool.specs.Pools.{PoolView}
+use Rattle.store_laws.specs.Frames.{Frames}
+use Rattle.page_frames.specs.Views.{frames_of}
 use Rattle.page_frames.specs.declared.pages.Pages.{Pages}
 use Rattle.page_frames.specs.Pages.{tables_in, frames_in}
-use Rattle.page_frames.specs.Faulty.{FailsAsPage, NamesBadPage, StandsEver, StandsThen, TellsFaults, TellsFaultsThen}
+use Rattle.page_frames.specs.Faulty.{FailsAsPage, NamesBadPage, Stands, StandsEver, StandsSurely, StandsThen, TellsFaults, TellsFaultsBy, TellsFaultsSurely, TellsFaultsThen}
 use Rattle.page_frames.proofs.CompleteLemmas.{unread, unstopped}
 use Rattle.page_frames.proofs.FaultyLemmas.{first_some, moved_fault, names_page, still_sound}
 use Rattle.page_frames.proofs.UntouchedLemmas.{read_stands, unit_untouched, untouched_stands}
+
+-- ---- what is known of the fault
+
+-- less is known of it too
+pub tells_as : {T : Type 0} (F G : Contents → Layout → ℕ → ℕ → ChipFault → Type 0) (old new : Pages)
+    (result : Result T ChipFault) (told : Told)
+    → ((x : Contents) (it : Layout) (u page : ℕ) (e : ChipFault) → F x it u page e → G x it u page e)
+    → TellsFaultsBy F old result told new → TellsFaultsBy G old result told new
+tells_as F G old new (Ok v) told weaker tells x there slots it state fits = tt
+tells_as F G old new (Err e) told weaker tells x there slots it state fits = λ fine.
+    let is = tells x there slots it state fits fine in
+    record {
+      unit = is.unit;
+      page = is.page;
+      low = is.low;
+      few = is.few;
+      bad = is.bad;
+      names = is.names;
+      found = weaker x it is.unit is.page e is.found;
+    }
+
+-- what is known over the contents after it
+pub tells_ever : {T : Type 0} (old new : Pages) (result : Result T ChipFault) (before after : Told)
+    → TellsFaultsThen old result before new after → TellsFaults old result before new after
+tells_ever old new result before after tells =
+    tells_as (λ x it. StandsThen (tables_in new) after) (λ x it. StandsEver x it (tables_in new) after)
+    old new result before (λ x it u page e is. inr is) tells
+
+-- with another pool, whose frames have the same
+pub used_tells : {T : Type 0} (F : Contents → Layout → ℕ → ℕ → ChipFault → Type 0) (old new : Pages)
+    (pool : PoolView) (result : Result T ChipFault) (told : Told) → frames_of pool ≡ frames_in old
+    → TellsFaultsBy F (record old { pool = pool }) result told new → TellsFaultsBy F old result told new
+used_tells F old new pool result told same tells x there slots it state fits =
+    tells x there slots it state (subst (λ (frames : Frames).
+    MemoryFits told.places (chart_of x) it (memory_of (tables_in old) frames slots) state) (sym same) fits)
 
 -- ---- merges
 
@@ -72,6 +110,21 @@ merge_tells u old new (Err e) before last low alike fails stays untouched x ther
     fits alike (stays x there it fits.mirrors fine) (fails x there it fits.mirrors fine)
     (λ page wrong. untouched_stands x it (tables_in old) (tables_in new) u page e last unit alike wrong
     (untouched x there it fits.mirrors fine))
+
+-- over the contents before
+pub merge_tells_surely : {T : Type 0} (u : ℕ) (old new : Pages) (result : Result T ChipFault)
+    (before last : Told) → u < length old.parts.directory.current
+    → (tables_in new).active ≡ (tables_in old).active
+    → FailsAsMerge before.places (tables_in old) u result before
+    → StaysInPlace before.places (tables_in old) u (tables_in new) result before
+    → TellsFaultsSurely old result before new last
+merge_tells_surely u old new (Ok v) before last low alike fails stays x there slots it state fits = tt
+merge_tells_surely u old new (Err e) before last low alike fails stays x there slots it state fits =
+    λ fine.
+    let unit : u < it.count = omega (arith, low, fits.mirrors.directory.units) in
+    unit_names (StandsSurely x it (tables_in new) last) before.places x it old (tables_in new) slots state u e
+    unit fits alike (stays x there it fits.mirrors fine) (fails x there it fits.mirrors fine)
+    (λ page wrong. inl (ap (λ (l : List ℕ). load_fault x it (among l) u page) alike ∙ wrong))
 
 -- where it fails the tables mirror the same layout
 pub merge_in_place : (places u : ℕ) (t after : Tables) (result : Result (Unit {0}) ChipFault)
@@ -118,6 +171,14 @@ merged_tells u place old new result before after was is known low did =
     failed_stays (Ok v) tells = tt
     failed_stays (Err e) tells = tells
 
+pub merged_tells_surely : (u place : ℕ) (old new : Pages) (result : Result (Unit {0}) ChipFault)
+    (before after : Told) → u < length old.parts.directory.current
+    → MovesMerged u place old new result before after → TellsFaultsSurely old result before new after
+merged_tells_surely u place old new result before after low did =
+    merge_tells_surely u old new result before after low did.active
+    (merge_fails_so before.places (tables_in old) u result before did.fault)
+    (merge_in_place before.places u (tables_in old) (tables_in new) result before after low did.tells)
+
 -- over the contents before a renewal
 pub renew_tells : (old new : Pages) (result : Result (Unit {0}) ChipFault) (before after : Told)
     → (tables_in new).active ≡ (tables_in old).active
@@ -148,20 +209,37 @@ load_exact t u page result told tells x there it mirrors =
       status_is = refl;
     }))
 
-pub loaded_tells : {T : Type 0} (u page : ℕ) (old new : Pages) (result : Result T ChipFault)
+pub loaded_stands : {T : Type 0} (u page : ℕ) (old new : Pages) (result : Result T ChipFault)
     (before after : Told) → u < length old.parts.directory.current → page < 15
     → tables_in new ≡ tables_in old → after.places ≡ before.places → after.contents ≡ before.contents
-    → FailsAsPage (tables_in old) u page result before → TellsFaultsThen old result before new after
-loaded_tells u page old new (Ok v) before after low few same sized kept fails x there slots it state fits = tt
-loaded_tells u page old new (Err e) before after low few same sized kept fails x there slots it state fits =
+    → FailsAsPage (tables_in old) u page result before
+    → TellsFaultsBy (λ x it. Stands (tables_in new) after) old result before new
+loaded_stands u page old new (Ok v) before after low few same sized kept fails x there slots it state fits =
+    tt
+loaded_stands u page old new (Err e) before after low few same sized kept fails x there slots it state fits =
     λ fine.
     let t = tables_in old in
     let unit : u < it.count = omega (arith, low, fits.mirrors.directory.units) in
     let wrong = fails x there it fits.mirrors (unread e fine) in
-    names_page (StandsThen (tables_in new) after) before.places x it t (tables_in new) u page e fits.mirrors
-    unit few (ap (λ (w : Tables). w.active) same) (ap (λ (w : Tables). slice_index w.places.current u) same)
-    wrong (λ story. read_stands x it t (tables_in new) u page e before after unit same fits.mirrors sized
-    kept there wrong)
+    names_page (Stands (tables_in new) after) before.places x it t (tables_in new) u page e fits.mirrors unit
+    few (ap (λ (w : Tables). w.active) same) (ap (λ (w : Tables). slice_index w.places.current u) same)
+    wrong (read_stands x it t (tables_in new) u page e before after unit same fits.mirrors sized kept there
+    wrong)
+
+-- whether the chip tells its story or not
+pub stands_then : {T : Type 0} (old new : Pages) (result : Result T ChipFault) (before after : Told)
+    → TellsFaultsBy (λ x it. Stands (tables_in new) after) old result before new
+    → TellsFaultsThen old result before new after
+stands_then old new result before after tells =
+    tells_as (λ x it. Stands (tables_in new) after) (λ x it. StandsThen (tables_in new) after) old new result
+    before (λ x it u page e is story. is) tells
+
+pub stands_surely : {T : Type 0} (old new : Pages) (result : Result T ChipFault) (before after : Told)
+    → TellsFaultsBy (λ x it. Stands (tables_in new) after) old result before new
+    → TellsFaultsSurely old result before new after
+stands_surely old new result before after tells =
+    tells_as (λ x it. Stands (tables_in new) after) (λ x it. StandsSurely x it (tables_in new) after) old new
+    result before (λ x it u page e is. inr is) tells
 
 -- ---- calls of the chip
 
@@ -171,34 +249,17 @@ alone_tells old new (Ok v) before after alone x there slots it state fits = tt
 alone_tells old new (Err e) before after alone x there slots it state fits = λ fine.
     absurd (fine alone)
 
--- ---- what is known over the contents after it
-
-pub tells_ever : {T : Type 0} (old new : Pages) (result : Result T ChipFault) (before after : Told)
-    → TellsFaultsThen old result before new after → TellsFaults old result before new after
-tells_ever old new (Ok v) before after tells x there slots it state fits = tt
-tells_ever old new (Err e) before after tells x there slots it state fits = λ fine.
-    let is = tells x there slots it state fits fine in
-    record {
-      unit = is.unit;
-      page = is.page;
-      low = is.low;
-      few = is.few;
-      bad = is.bad;
-      names = is.names;
-      found = inr is.found;
-    }
-
 -- ---- two calls
 
 -- after one that keeps each state and was done: a page without a fault has none still, with the same
 -- sessions open
-pub tells_then : {T : Type 0} (first between last : Pages) (result : Result T ChipFault)
-    (old mid new : Told) → mid.places ≡ old.places → (tables_in last).active ≡ (tables_in between).active
+pub tells_then : {T : Type 0} (F : ℕ → ℕ → ChipFault → Type 0) (first between last : Pages)
+    (result : Result T ChipFault) (old mid : Told) → mid.places ≡ old.places → (tables_in last).active ≡ (tables_in between).active
     → KeepsState {T = Unit {0}} {E = ChipFault} (tables_in first) (frames_in first) old (Ok tt)
     (tables_in between) (frames_in between) mid
-    → TellsFaultsThen between result mid last new → TellsFaultsThen first result old last new
-tells_then first between last (Ok v) old mid new sized alike keeps tells x there slots it state fits = tt
-tells_then first between last (Err e) old mid new sized alike keeps tells x there slots it state fits =
+    → TellsFaultsBy (λ x it. F) between result mid last → TellsFaultsBy (λ x it. F) first result old last
+tells_then F first between last (Ok v) old mid sized alike keeps tells x there slots it state fits = tt
+tells_then F first between last (Err e) old mid sized alike keeps tells x there slots it state fits =
     λ fine.
     let memory = memory_of (tables_in first) (frames_in first) slots in
     let after = memory_of (tables_in between) (frames_in between) slots in

@@ -61,6 +61,11 @@ abbrev pub StandsEver : Contents → Layout → Tables → Told → ℕ → ℕ 
 StandsEver x it after told u page e =
     (load_fault x it (among after.active) u page ≡ Some e) ⊎ StandsThen after told u page e
 
+-- the same, whether the chip tells its story or not
+abbrev pub StandsSurely : Contents → Layout → Tables → Told → ℕ → ℕ → ChipFault → Type 0
+StandsSurely x it after told u page e =
+    (load_fault x it (among after.active) u page ≡ Some e) ⊎ Stands after told u page e
+
 -- ---- any page
 
 -- A page that didn't read well or had no room for its values, with what is pending of the sessions
@@ -94,6 +99,11 @@ TellsFaultsBy Finds old result told new = OfContents told (λ x. (slots : Sessio
 abbrev pub TellsFaults : {T : Type 0} → Pages → Result T ChipFault → Told → Pages → Told → Type 0
 TellsFaults old result before new after = TellsFaultsBy (λ x it. StandsEver x it (tables_in new) after)
     old result before new
+
+-- the same, whether the chip tells its story or not
+abbrev pub TellsFaultsSurely : {T : Type 0} → Pages → Result T ChipFault → Told → Pages → Told → Type 0
+TellsFaultsSurely old result before new after =
+    TellsFaultsBy (λ x it. StandsSurely x it (tables_in new) after) old result before new
 
 -- and so over what it holds after it, where nothing was written behind what failed
 abbrev pub TellsFaultsThen : {T : Type 0} → Pages → Result T ChipFault → Told → Pages → Told → Type 0

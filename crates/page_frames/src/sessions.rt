@@ -5,9 +5,10 @@ ghost use Rattle.place_taking.specs.Spending.{is_worn_out};
 ghost use Rattle.record_locks.specs.Held.{written_by};
 ghost use Rattle.store_laws.specs.Numbers.{IsOut};
 ghost use Rattle.page_frames.specs.Asks.{AsksToWriteNamesOut};
-ghost use Rattle.page_frames.specs.Pages.{frames_in, KeepsFramed, ArePagesReady};
+ghost use Rattle.page_frames.specs.Complete.{FailsByChip};
+ghost use Rattle.page_frames.specs.Faulty.{TellsFaultsThen};
+ghost use Rattle.page_frames.specs.Pages.{frames_in, KeepsFramed, ArePagesReady, Upholds};
 ghost use Rattle.page_frames.specs.Changed.{is_home, is_on_page};
-ghost use Rattle.page_frames.specs.Works.{WorksOn};
 
 use crate::Pages;
 use chip_trait::Chip;
@@ -60,8 +61,9 @@ impl Pages {
         requires ready { ArePagesReady (C.told chip.old).places self.old }
         requires low { (s : ℕ) → Contains numbers.now s → s < SESSIONS }
         requires left { self.old.parts.counter + 14 * 64 < 2 ^ 64 }
-        ensures works { WorksOn (14 * 64) self.old (C.told chip.old)
-            result self.new (C.told chip.new) }
+        ensures upholds { Upholds (14 * 64) self.old (C.told chip.old) result self.new (C.told chip.new) }
+        ensures complete { FailsByChip self.old result (C.told chip.old) }
+        ensures faults { TellsFaultsThen self.old result (C.told chip.old) self.new (C.told chip.new) }
         ensures out { OnOk result (All (IsOut (frames_in self.new))
             (written_by sessions.now numbers.now)) }
         ensures framed { KeepsFramed self.old self.new }

@@ -2,13 +2,14 @@ use Rattle.std.proofs.Common.{◌⊎◌, None, OnOk, refl, sym, ap, subst}
 use Rattle.ipl_base.specs.Places.{home_of}
 use Rattle.ipl_base.specs.declared.spot.Home.{Home}
 use Rattle.buffer_pool.specs.Uses.{IsUsedLast}
-use Rattle.page_frames.specs.Faulty.{FailsAsPage}
+use Rattle.page_frames.specs.Faulty.{FailsAsPage, StandsSurely}
 use Rattle.page_frames.specs.Pages.{tables_in, HasFreeFrame, IsFramed, KeepsFramedFor}
 use Rattle.page_frames.proofs.TellLemmas.{tells_ever}
 use Rattle.ipl_store.specs.declared.store.Store.{Store}
 use Rattle.ipl_store.specs.Puts.{HasBrought}
 use Rattle.ipl_store.specs.Shown.{FramesName}
-use Rattle.ipl_store.proofs.CallLemmas.{pages_move, moved_calls, kept_holds, kept_for, done_ends, ended_costs, ended_used}
+use Rattle.ipl_store.proofs.CallLemmas.{blamed_surely, pages_move, moved_calls, kept_holds, kept_for, done_ends, ended_costs, ended_used}
+use Rattle.ipl_store.proofs.TurnLemmas.{tells_for}
 use Rattle.ipl_store.proofs.BroughtLemmas.{has_brought}
 use Rattle.ipl_store.proofs.ShownLemmas.{names_told, brought_frame, ended_exact}
 use Rattle.ipl_store.proofs.store.Store.bring.Goals as goal
@@ -37,6 +38,10 @@ returns-clause-fetches g c =
           h.page c.bring-done.result old) c.home-home.ensures.home (c.bring-done.ensures.exact
           (subst (λ (h : Home). IsFramed store.transactions.pages h.unit h.page
           ⊎ HasFreeFrame store.transactions.pages) (sym c.home-home.ensures.home) room)));
+      surely = λ none. blamed_surely store c.end.new.self (record store.transactions { pages = pages })
+          store.kept old after c.bring-done.result c.end.result rest c.end.ensures.ends
+          (tells_for (λ x it. StandsSurely x it (tables_in pages) after) store.transactions
+          c.bring-done.result old pages c.bring-done.ensures.works.surely);
       names = done_ends (FramesName c.args.n store old c.end.new.self) c.bring-done.result
           store.down
           c.end.new.self.down c.end.result c.end.ensures.ends

@@ -7,7 +7,7 @@ use Rattle.store_laws.specs.Refusals.{sessions_refuse_del}
 use Rattle.page_frames.proofs.UseLemmas.{none_leaves}
 use Rattle.ipl_store.specs.Costs.{AsksToWrite}
 use Rattle.ipl_store.specs.Calls.{early_fault, entry_fault, tells_wear}
-use Rattle.ipl_store.proofs.CallLemmas.{calls_refused, early_unworn, let_in, writes_move, moved_calls, kept_holds, kept_for, ended_asks, ended_framed, ended_used}
+use Rattle.ipl_store.proofs.CallLemmas.{blamed_surely, calls_refused, early_unworn, let_in, writes_move, moved_calls, kept_holds, kept_for, ended_asks, ended_framed, ended_used}
 use Rattle.ipl_store.proofs.ShownLemmas.{write_asks_nothing}
 use Rattle.ipl_store.proofs.TurnLemmas.{ever_for}
 use Rattle.ipl_store.proofs.store.Store.del.Goals as goal
@@ -91,3 +91,15 @@ returns-clause-asks g c =
     AsksToWrite c.args.n None worn_out store.transactions.pages pages old after) store c.end.new.self
     c.write-done.new.self store.kept c.write-done.result c.end.result c.end.ensures.rest
     c.end.ensures.ends c.write-done.ensures.asks
+
+pub returns-in_err-admit-clause-surely : goal.returns-in_err-admit-clause-surely
+returns-in_err-admit-clause-surely g c = λ none.
+    let is = ap (early_fault (entry_fault c.args.self.now)) (sym c.refuses_del.ensures)
+    ∙ sym c.in_err-admit.ensures in
+    let no : None ≡ Some c.in_err-admit.field-0.0 = sym none ∙ is in absurd (cc no)
+
+pub returns-clause-surely : goal.returns-clause-surely
+returns-clause-surely g c = λ none.
+    blamed_surely c.args.self.now c.end.new.self c.write-done.new.self c.args.self.now.kept
+    (g.C.Chip.told c.args.chip.now) (g.C.Chip.told c.write-done.new.chip) c.write-done.result c.end.result
+    c.end.ensures.rest c.end.ensures.ends c.write-done.ensures.fails.surely

@@ -7,10 +7,12 @@ use Rattle.unit_io.specs.Costs.{Spends}
 use Rattle.place_taking.specs.Spending.{ErasesFor}
 use Rattle.selective_merge.specs.Merging.{Merges, StaysMirrored}
 use Rattle.page_frames.specs.declared.pages.Pages.{Pages}
+use Rattle.page_frames.specs.Faulty.{StandsSurely}
 use Rattle.page_frames.specs.Pages.{tables_in}
+use Rattle.ipl_store.proofs.TurnLemmas.{tells_for}
 use Rattle.ipl_store.specs.declared.store.Store.{Store}
 use Rattle.ipl_store.specs.Calls.{early_fault, ends_worn_out, entry_fault, tells_wear}
-use Rattle.ipl_store.proofs.CallLemmas.{early_unworn, let_in, pages_move, moved_calls, kept_holds, kept_framed, done_ends, ended_asks, same_answer, throughout_done, calls_refused}
+use Rattle.ipl_store.proofs.CallLemmas.{blamed_surely, early_unworn, let_in, pages_move, moved_calls, kept_holds, kept_framed, done_ends, ended_asks, same_answer, throughout_done, calls_refused}
 use Rattle.ipl_store.proofs.MergeLemmas.{refused_merges}
 use Rattle.page_frames.proofs.TellLemmas.{tells_ever}
 use Rattle.ipl_store.proofs.store.Store.merge.Goals as goal
@@ -107,3 +109,20 @@ returns-in_err-admit-clause-calls g c =
     rw (e.1 ∙ ap Err e.2) (calls_refused early (λ state. state) 13 store
     (g.C.Chip.told c.args.chip.now) (Err fault) fault is (early_unworn store refusal fault is) refl
     c.requires.sound)
+
+pub returns-in_err-admit-clause-surely : goal.returns-in_err-admit-clause-surely
+returns-in_err-admit-clause-surely g c = λ none.
+    let is = ap (early_fault (entry_fault c.args.self.now)) (sym c.refuses_merge.ensures)
+    ∙ sym c.in_err-admit.ensures in
+    let no : None ≡ Some c.in_err-admit.field-0.0 = sym none ∙ is in absurd (cc no)
+
+pub returns-clause-surely : goal.returns-clause-surely
+returns-clause-surely g c = λ none.
+    let store = c.args.self.now in
+    let old = g.C.Chip.told c.args.chip.now in
+    let after = g.C.Chip.told c.merge-done.new.chip in
+    let pages = c.merge-done.new.self in
+    blamed_surely store c.end.new.self (record store.transactions { pages = pages }) store.kept old after
+    c.merge-done.result c.end.result c.end.ensures.rest c.end.ensures.ends
+    (tells_for (λ x it. StandsSurely x it (tables_in pages) after) store.transactions c.merge-done.result old
+    pages c.merge-done.ensures.works.surely)

@@ -28,7 +28,7 @@ use Rattle.buffer_pool.specs.Uses.{IsUsedLast}
 use Rattle.buffer_pool.proofs.UseLemmas.{kept_uses_are_last, same_counts}
 use Rattle.std.proofs.Common.{◌≡◌, None, Err}
 use Rattle.page_frames.specs.Pages.{tables_in, frames_in, HasFreeFrame}
-use Rattle.page_frames.specs.Faulty.{FailsAsPage, StandsThen}
+use Rattle.page_frames.specs.Faulty.{FailsAsPage, StandsSurely, StandsThen}
 use Rattle.ipl_store.proofs.transactions.Transactions.write.Given.{Over}
 use Rattle.ipl_store.proofs.transactions.Transactions.write.Goals as goal
 
@@ -93,6 +93,8 @@ returns-in_err-prepare-clause-fails g c =
       complete = completes_for old (Err failed) told says.works.complete;
       faults = tells_for (λ x layout. StandsThen (tables_in c.prepare.new.self)
           (g.C.Chip.told c.prepare.new.chip)) old (Err failed) told c.prepare.new.self says.works.faults;
+      surely = tells_for (λ x layout. StandsSurely x layout (tables_in c.prepare.new.self)
+          (g.C.Chip.told c.prepare.new.chip)) old (Err failed) told c.prepare.new.self says.works.surely;
       exact = subst (λ (h : Home). frames_in old.pages h.unit h.page ≡ None → HasFreeFrame old.pages
           → FailsAsPage {T = Unit {0}} (tables_in old.pages) h.unit h.page (Err failed) told)
           c.home-home.ensures.home says.exact;
@@ -102,6 +104,7 @@ pub returns-clause-fails : goal.returns-clause-fails
 returns-clause-fails g c = record {
   complete = λ x told layout state fits says. tt;
   faults = λ x told layout state fits. tt;
+  surely = λ x told layout state fits. tt;
   exact = λ none free x told layout mirrors. tt;
 }
 
@@ -225,10 +228,13 @@ returns-then-not-put_record-clause-fails g c =
     let before = g.C.Chip.told c.args.chip.now in
     let after = g.C.Chip.told c.prepare.new.chip in
     let is = refused g c in
+    let new : Pages = record { parts = mid.parts; pool = c.put_record.new.pool } in
     record {
       complete = refused_completes u r old mid before after is c.no_room.result;
-      faults = refused_tells u r old mid before after is c.no_room.result
-          (record { parts = mid.parts; pool = c.put_record.new.pool }) after;
+      faults = refused_tells u r old mid before after is
+          (λ x layout. StandsThen (tables_in new) after) c.no_room.result new;
+      surely = refused_tells u r old mid before after is
+          (λ x layout. StandsSurely x layout (tables_in new) after) c.no_room.result new;
       exact = λ none free. absurd (unframed_put c.args.name.0 old (change_of c.args.change)
           c.requires.may.room is.some none);
     }

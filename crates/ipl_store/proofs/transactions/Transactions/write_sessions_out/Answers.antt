@@ -5,6 +5,8 @@ use Rattle.place_taking.specs.Spending.{is_worn_out}
 use Rattle.record_locks.specs.Held.{written_by}
 use Rattle.page_frames.proofs.UpholdLemmas.{upholds_then, upholds_weaker}
 use Rattle.page_frames.proofs.CompleteLemmas.{completes_then}
+use Rattle.page_frames.specs.Faulty.{StandsThen}
+use Rattle.page_frames.specs.Pages.{tables_in}
 use Rattle.page_frames.proofs.TellLemmas.{tells_ever, tells_then}
 use Rattle.ipl_store.proofs.CommitLemmas.{may_add}
 use Rattle.ipl_store.proofs.CostLemmas.{names_out_asks}
@@ -26,7 +28,7 @@ returns-clause-upholds g c =
     upholds_then (2 ^ 14) (14 * 64) c.args.self.now.pages c.ready_status.new.self
     c.write_sessions_out.new.self c.write_sessions_out.result (g.C.Chip.told c.args.chip.now)
     (g.C.Chip.told c.ready_status.new.chip) (g.C.Chip.told c.write_sessions_out.new.chip)
-    c.in_ok-ready_status.ensures.upholds c.write_sessions_out.ensures.works.upholds
+    c.in_ok-ready_status.ensures.upholds c.write_sessions_out.ensures.upholds
 
 pub returns-clause-may_add : goal.returns-clause-may_add
 returns-clause-may_add g c =
@@ -45,7 +47,7 @@ returns-clause-complete g c =
     let did = c.in_ok-ready_status.ensures.upholds in
     completes_then c.args.self.now.pages c.ready_status.new.self c.write_sessions_out.result
     (g.C.Chip.told c.args.chip.now) (g.C.Chip.told c.ready_status.new.chip)
-    did.accounts.counts.places did.keeps c.write_sessions_out.ensures.works.complete
+    did.accounts.counts.places did.keeps c.write_sessions_out.ensures.complete
 
 pub returns-in_err-ready_status-clause-framed : goal.returns-in_err-ready_status-clause-framed
 returns-in_err-ready_status-clause-framed g c = c.in_err-ready_status.ensures.framed
@@ -76,6 +78,7 @@ returns-clause-faults g c =
     let old = g.C.Chip.told c.args.chip.now in
     let new = g.C.Chip.told c.write_sessions_out.new.chip in
     tells_ever c.args.self.now.pages c.write_sessions_out.new.self c.write_sessions_out.result old new
-    (tells_then c.args.self.now.pages c.ready_status.new.self c.write_sessions_out.new.self
-    c.write_sessions_out.result old (g.C.Chip.told c.ready_status.new.chip) new did.accounts.counts.places
-    c.write_sessions_out.ensures.works.upholds.active did.keeps c.write_sessions_out.ensures.works.faults)
+    (tells_then (StandsThen (tables_in c.write_sessions_out.new.self) new) c.args.self.now.pages
+    c.ready_status.new.self c.write_sessions_out.new.self c.write_sessions_out.result old
+    (g.C.Chip.told c.ready_status.new.chip) did.accounts.counts.places
+    c.write_sessions_out.ensures.upholds.active did.keeps c.write_sessions_out.ensures.faults)

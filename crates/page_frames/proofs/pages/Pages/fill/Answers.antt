@@ -12,7 +12,7 @@ use Rattle.page_frames.proofs.HeldLemmas.{taken_log}
 use Rattle.page_frames.proofs.LoadLemmas.{loaded_then, freed_then, load_upholds, fail_upholds}
 use Rattle.page_frames.proofs.SpendLemmas.{reads_alone}
 use Rattle.page_frames.proofs.CompleteLemmas.{loaded_completes}
-use Rattle.page_frames.proofs.TellLemmas.{loaded_tells}
+use Rattle.page_frames.proofs.TellLemmas.{loaded_stands, stands_surely, stands_then}
 use Rattle.page_frames.proofs.WorkLemmas.{works_done}
 use Rattle.page_frames.proofs.pages.Pages.fill.Goals as goal
 
@@ -38,6 +38,7 @@ returns-in-Ok-clause-fills g c = λ pool ready absent takes.
           is.tables frames is.asks.reads is.loads.loaded
           (both_keep pool c.args.self.now.pool new.pool takes.pins is.pool.pins));
       exact = is.exact;
+      stands = λ x there slots it state fits. tt;
       brings = (frame_of is.loads.view [], refl, frames);
       others = λ v r used apart now. takes.others v r used apart
           (same_counts u q c.args.self.now.pool new.pool is.pool.uses v r used apart now);
@@ -57,7 +58,11 @@ returns-in-Err-clause-fills g c = λ pool ready absent takes.
     (frame_of is.loads.view []) absent
     (loaded_then (frames_of pool) (frames_in c.args.self.now) (frames_in mid) u q
     (frame_of empty_frame []) (frame_of is.loads.view []) takes.frames is.loads.frames)
-    c.free_frame.ensures.frames in record {
+    c.free_frame.ensures.frames in
+    let after = g.C.Chip.told c.load_frame.new.chip in
+    let stands = loaded_stands {T = Unit {0}} u q old new (Err c.in-Err.fault) told after
+    c.requires.page_of.unit c.requires.page_of.few is.tables is.asks.reads.counts.places
+    is.asks.reads.contents is.exact in record {
       works = record {
         upholds = fail_upholds old new c.in-Err.fault told (g.C.Chip.told c.load_frame.new.chip) ready
             is.tables freed is.asks.reads is.asks.unworn
@@ -66,11 +71,11 @@ returns-in-Err-clause-fills g c = λ pool ready absent takes.
             c.free_frame.ensures.pins)) is.asks.accounts.cause;
         complete = loaded_completes {T = Unit {0}} u q old (Err c.in-Err.fault) told c.requires.page_of.unit
             c.requires.page_of.few is.complete;
-        faults = loaded_tells {T = Unit {0}} u q old new (Err c.in-Err.fault) told
-            (g.C.Chip.told c.load_frame.new.chip) c.requires.page_of.unit c.requires.page_of.few is.tables
-            is.asks.reads.counts.places is.asks.reads.contents is.exact;
+        faults = stands_then {T = Unit {0}} old new (Err c.in-Err.fault) told after stands;
+        surely = stands_surely {T = Unit {0}} old new (Err c.in-Err.fault) told after stands;
       };
       exact = is.exact;
+      stands = stands;
       brings = freed;
       others = λ v r used apart now. takes.others v r used apart
           (same_counts u q c.args.self.now.pool mid.pool is.pool.uses v r used apart

@@ -5,7 +5,7 @@ use Rattle.selective_merge.specs.Moving.{tables_of}
 use Rattle.selective_merge.proofs.UnbrokenLemmas.{tidies_settled, where_done}
 use Rattle.page_frames.proofs.TableLemmas.{merge_upholds, merge_wears}
 use Rattle.page_frames.proofs.CompleteLemmas.{merge_completes}
-use Rattle.page_frames.proofs.TellLemmas.{merged_tells}
+use Rattle.page_frames.proofs.TellLemmas.{MovesMerged, merged_tells, merged_tells_surely}
 use Rattle.page_frames.specs.declared.pages.Pages.{Pages}
 use Rattle.page_frames.specs.Pages.{tables_in}
 use Rattle.selective_merge.proofs.CompleteLemmas.{merge_fails_so}
@@ -18,11 +18,19 @@ returns-clause-works g c =
     let pages = c.args.self.now in
     let after : Pages = record { parts = c.merge.new.parts; pool = pages.pool } in
     let old = g.C.Chip.told c.args.chip.now in
-    let new = g.C.Chip.told c.merge.new.chip in record {
+    let new = g.C.Chip.told c.merge.new.chip in
+    let place = slice_index c.merge.new.parts.directory.current c.args.unit in
+    let moves : MovesMerged c.args.unit place pages after c.merge.result old new = record {
+      active = leaves.holds.active;
+      sized = leaves.accounts.counts.places;
+      fault = is.fault;
+      tells = is.tells;
+      costs = is.moves.costs;
+    } in record {
       upholds = merge_upholds c.args.unit pages after c.merge.result
           old new c.requires.ready refl leaves.holds is.tells is.steps
           (tidies_settled (tables_in pages) (tables_of c.merge.new.parts) c.merge.result old new leaves.tidy)
-          (merge_wears old.places (slice_index c.merge.new.parts.directory.current c.args.unit)
+          (merge_wears old.places place
           (tables_in pages) (tables_of c.merge.new.parts) c.merge.result old new
           c.requires.ready.known leaves.holds
           (where_done (SparesUsed (tables_in pages).places old new) c.merge.result leaves.spares) is.moves.costs)
@@ -30,15 +38,10 @@ returns-clause-works g c =
           (slice_index pages.parts.directory.current c.args.unit)
           (spots_in pages.parts.overflow c.args.unit) leaves.accounts;
       complete = merge_completes c.args.unit pages c.merge.result old c.requires.unit is.complete;
-      faults = merged_tells c.args.unit (slice_index c.merge.new.parts.directory.current c.args.unit) pages after
-          c.merge.result old new (g.met.C.Chip.consistent c.args.chip.now)
-          (g.met.C.Chip.consistent c.merge.new.chip) c.requires.ready.known c.requires.unit (record {
-            active = leaves.holds.active;
-            sized = leaves.accounts.counts.places;
-            fault = is.fault;
-            tells = is.tells;
-            costs = is.moves.costs;
-          });
+      faults = merged_tells c.args.unit place pages after c.merge.result old new
+          (g.met.C.Chip.consistent c.args.chip.now) (g.met.C.Chip.consistent c.merge.new.chip)
+          c.requires.ready.known c.requires.unit moves;
+      surely = merged_tells_surely c.args.unit place pages after c.merge.result old new c.requires.unit moves;
     }
 
 pub returns-clause-framed : goal.returns-clause-framed

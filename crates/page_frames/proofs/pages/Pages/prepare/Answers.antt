@@ -9,6 +9,9 @@ use Rattle.page_frames.specs.declared.pages.Pages.{Pages}
 use Rattle.buffer_pool.proofs.UseLemmas.{same_counts}
 use Rattle.page_frames.proofs.AskLemmas.{fitting_asks, framed_asks, fetched_asks}
 use Rattle.page_frames.proofs.BringLemmas.{fits_fresh, out_fresh, same_values, out_values, no_values}
+use Rattle.page_frames.specs.Faulty.{StandsSurely}
+use Rattle.page_frames.specs.Pages.{tables_in}
+use Rattle.page_frames.proofs.TellLemmas.{used_tells}
 use Rattle.page_frames.proofs.UseLemmas.{used_upholds, used_framed, used_after, stays_for}
 use Rattle.page_frames.proofs.WorkLemmas.{works_done, works_then}
 use Rattle.page_frames.proofs.pages.Pages.prepare.Goals as goal
@@ -82,6 +85,9 @@ returns-clause-works g c =
     told (g.C.Chip.told c.write_out.new.chip)
     (used_upholds 0 old pool told c.requires.ready c.use_page.ensures.frames
     c.use_page.ensures.pins) c.write_out.ensures.works
+    (used_tells (λ x it. StandsSurely x it (tables_in c.write_out.new.self)
+    (g.C.Chip.told c.write_out.new.chip)) old c.write_out.new.self pool c.write_out.result told
+    c.use_page.ensures.frames c.write_out.ensures.works.surely)
 
 pub returns-clause-exact : goal.returns-clause-exact
 returns-clause-exact g c = λ none.

@@ -8,7 +8,7 @@ use Rattle.page_frames.proofs.FramedLemmas.{out_framed}
 use Rattle.page_frames.proofs.OutLemmas.{out_failed, cleared_frames, out_done}
 use Rattle.page_frames.proofs.UpholdLemmas.{upholds_none}
 use Rattle.page_frames.proofs.CompleteLemmas.{merge_completes}
-use Rattle.page_frames.proofs.TellLemmas.{merge_tells}
+use Rattle.page_frames.proofs.TellLemmas.{merge_tells, merge_tells_surely}
 use Rattle.page_frames.proofs.WorkLemmas.{works_done}
 use Rattle.page_frames.proofs.pages.Pages.write_out.Goals as goal
 
@@ -41,6 +41,9 @@ returns-in_err-write_records-clause-works g c =
       faults = merge_tells {T = Unit {0}} c.args.unit pages after (Err fault) old
           (g.C.Chip.told c.write_records.new.chip) c.requires.page.unit is.leaves.holds.active is.fails.fault
           is.fails.stays is.fails.untouched;
+      surely = merge_tells_surely {T = Unit {0}} c.args.unit pages after (Err fault) old
+          (g.C.Chip.told c.write_records.new.chip) c.requires.page.unit is.leaves.holds.active is.fails.fault
+          is.fails.stays;
     })
 
 pub returns-then-not-has_records-clause-asks : goal.returns-then-not-has_records-clause-asks

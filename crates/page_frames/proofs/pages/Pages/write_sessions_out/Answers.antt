@@ -4,6 +4,8 @@ use Rattle.record_locks.specs.Held.{written_by}
 use Rattle.page_frames.proofs.OutAllLemmas.{none_out, passed_out, written_out, unwritten_upholds, unwritten_asks, framed_unit, framed_low, names_out, names_ask}
 use Rattle.page_frames.proofs.CompleteLemmas.{completes_then}
 use Rattle.page_frames.proofs.pages.Pages.write_sessions_out.Goals.{then-has_page+in_ok-write_out, else-has_page}
+use Rattle.page_frames.specs.Faulty.{StandsThen}
+use Rattle.page_frames.specs.Pages.{tables_in}
 use Rattle.page_frames.proofs.TellLemmas.{tells_then}
 use Rattle.page_frames.proofs.pages.Pages.write_sessions_out.Goals as goal
 
@@ -20,28 +22,32 @@ write_out-requires-clause-page g c = record {
   few = c.page_at-unit.ensures.page;
 }
 
-pub returns-in_err-write_out-clause-works : goal.returns-in_err-write_out-clause-works
-returns-in_err-write_out-clause-works g c =
-    let first = c.args.self.now in
-    let before = g.C.Chip.told c.args.chip.now in
-    let between = g.C.Chip.told c.loop-i.chip in
+pub returns-in_err-write_out-clause-upholds : goal.returns-in_err-write_out-clause-upholds
+returns-in_err-write_out-clause-upholds g c =
+    let e = err_from_is_err_and c.from_residual.result c.from_residual.ensures.1 in
+    rw (e.1, e.2) (unwritten_upholds c.loop-i.i c.len-i-end.result
+    (written_by c.args.sessions.now c.args.numbers.now) c.args.self.now (g.C.Chip.told c.args.chip.now)
+    c.loop-i.self (g.C.Chip.told c.loop-i.chip) c.write_out.new.self (g.C.Chip.told c.write_out.new.chip)
+    c.in_err-write_out.field-0.0 c.loop-i-test.true c.len-i-end.ensures.few c.loop-i.invariant
+    c.in_err-write_out.ensures.works.upholds)
+
+pub returns-in_err-write_out-clause-complete : goal.returns-in_err-write_out-clause-complete
+returns-in_err-write_out-clause-complete g c =
+    let done = c.loop-i.invariant.upholds in
+    let e = err_from_is_err_and c.from_residual.result c.from_residual.ensures.1 in
+    rw (e.1, e.2) (completes_then {T = Unit {0}} c.args.self.now c.loop-i.self
+    (Err c.in_err-write_out.field-0.0) (g.C.Chip.told c.args.chip.now) (g.C.Chip.told c.loop-i.chip)
+    done.accounts.counts.places done.keeps c.in_err-write_out.ensures.works.complete)
+
+pub returns-in_err-write_out-clause-faults : goal.returns-in_err-write_out-clause-faults
+returns-in_err-write_out-clause-faults g c =
     let new = c.write_out.new.self in
-    let fault = c.in_err-write_out.field-0.0 in
     let is = c.in_err-write_out.ensures.works in
     let done = c.loop-i.invariant.upholds in
-    let sized = done.accounts.counts.places in
     let e = err_from_is_err_and c.from_residual.result c.from_residual.ensures.1 in
-    rw (e.1, e.2) (record {
-      upholds = unwritten_upholds c.loop-i.i c.len-i-end.result
-          (written_by c.args.sessions.now c.args.numbers.now) first before c.loop-i.self between new
-          (g.C.Chip.told c.write_out.new.chip) fault c.loop-i-test.true c.len-i-end.ensures.few
-          c.loop-i.invariant is.upholds;
-      complete = completes_then {T = Unit {0}} first c.loop-i.self (Err fault) before between sized
-          done.keeps is.complete;
-      faults = tells_then {T = Unit {0}} first c.loop-i.self new (Err fault) before between
-          (g.C.Chip.told c.write_out.new.chip) sized
-          is.upholds.active done.keeps is.faults;
-    })
+    rw (e.1, e.2) (tells_then {T = Unit {0}} (StandsThen (tables_in new) (g.C.Chip.told c.write_out.new.chip))
+    c.args.self.now c.loop-i.self new (Err c.in_err-write_out.field-0.0) (g.C.Chip.told c.args.chip.now)
+    (g.C.Chip.told c.loop-i.chip) done.accounts.counts.places is.upholds.active done.keeps is.faults)
 
 pub loop-i-preserved : goal.loop-i-preserved
 loop-i-preserved g c = elim c.if-has_page.branch [
