@@ -17,14 +17,15 @@
 //! holds, where memory and contents show a state, it fails only where a call of the chip failed.
 //! Where a page is bad it may fail by that, and the fault is exactly what is wrong with the page,
 //! sector and sums: over what the chip held before the call, or over what it holds after it, which
-//! is said of a chip that tells its story. A place that is found worn is retired, and the next free
-//! one is taken. A get lends what the session sees, and asks the chip nothing where the page is in
-//! a frame. A begin draws one number. A commit, or a batch, which commits several sessions
-//! together, makes all their writes last and closes them; a power cut in it leaves the writes of
-//! all its sessions or of none. A batch costs one commit sector, as a commit does, and where the
-//! status place has a clean one, at most one erase and one log sector for each page in a frame that
-//! its sessions wrote, however many of them did, and one erase more for each place that is retired.
-//! A get, a share, a put, a delete and a hold leave the page in a frame where they are done, as the
+//! is said of a chip that tells its story, and of a get, a share, a look at what is committed, a
+//! delete and a merge of any. A place that is found worn is retired, and the next free one is
+//! taken. A get lends what the session sees, and asks the chip nothing where the page is in a
+//! frame. A begin draws one number. A commit, or a batch, which commits several sessions together,
+//! makes all their writes last and closes them; a power cut in it leaves the writes of all its
+//! sessions or of none. A batch costs one commit sector, as a commit does, and where the status
+//! place has a clean one, at most one erase and one log sector for each page in a frame that its
+//! sessions wrote, however many of them did, and one erase more for each place that is retired. A
+//! get, a share, a put, a delete and a hold leave the page in a frame where they are done, as the
 //! one used last; where it was in one or a frame was free, no page leaves its frame, and one that
 //! leaves isn't held and was used longest ago; a begin, an abort, a commit, a batch, a merge and a
 //! release keep all pages in their frames. An opening gives the records for which the contents

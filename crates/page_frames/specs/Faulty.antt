@@ -47,7 +47,8 @@ FailsAsPage t u page result told = OfContents told (λ x. (it : Layout)
 abbrev pub TellsStory : Told → Type 0
 TellsStory told = (h : History) × (told.history ≡ Some h)
 
--- over what the chip holds, in whatever layout the tables mirror it, this is what is wrong with the page
+-- over what the chip holds, in whatever layout the tables mirror it, this is what is wrong with the
+-- page
 abbrev pub Stands : Tables → Told → ℕ → ℕ → ChipFault → Type 0
 Stands t told u page e = OfContents told (λ y. (it : Layout)
     → Mirrors told.places (chart_of y) it t → load_fault y it (among t.active) u page ≡ Some e)
@@ -69,8 +70,8 @@ StandsSurely x it after told u page e =
 -- ---- any page
 
 -- A page that didn't read well or had no room for its values, with what is pending of the sessions
--- that are open then. The fault is of it, at the place where the tables then have its unit, and this is
--- so of the page and of the fault.
+-- that are open then. The fault is of it, at the place where the tables then have its unit, and this
+-- is so of the page and of the fault.
 pub record NamesBadPage (Finds : ℕ → ℕ → ChipFault → Type 0) (x : Contents) (it : Layout)
     (after : Tables) (e : ChipFault) : Type 0 where
   pub unit : ℕ
@@ -95,7 +96,8 @@ TellsFaultsBy Finds old result told new = OfContents told (λ x. (slots : Sessio
     (memory_of (tables_in old) (frames_in old) slots) state
     → IfErr result (FailsByPage (Finds x it) x it (tables_in new)))
 
--- the fault is exactly what is wrong with that page over what the chip holds before the call or after it
+-- the fault is exactly what is wrong with that page over what the chip holds before the call or after
+-- it
 abbrev pub TellsFaults : {T : Type 0} → Pages → Result T ChipFault → Told → Pages → Told → Type 0
 TellsFaults old result before new after = TellsFaultsBy (λ x it. StandsEver x it (tables_in new) after)
     old result before new

@@ -22,16 +22,16 @@ abbrev pub StaysInPlace : {T : Type 0} → ℕ → Tables → ℕ → Tables →
 StaysInPlace places t u after result told = OfContents told (λ x. (it : Layout)
     → Mirrors places (chart_of x) it t → IfErr result (IsInPlace t u after))
 
--- The tables mirror what the chip holds then by the layout that it had. Where it tells its story too, the
--- unit's place has the bytes that it had.
+-- The tables mirror what the chip holds then by the layout that it had. Where it tells its story too,
+-- the unit's place has the bytes that it had.
 pub record IsUntouched (x : Contents) (it : Layout) (u : ℕ) (after : Tables) (new : Told) : Type 0 where
   pub contents : Contents
   pub told : new.contents ≡ Some contents
   pub mirrors : Mirrors new.places (chart_of contents) it after
   pub bytes : TellsStory new → (s : ℕ) → contents (it.units u).home s ≡ x (it.units u).home s
 
--- over contents that the tables mirror, where it fails, the unit is untouched, unless a call of the chip
--- failed
+-- over contents that the tables mirror, where it fails, the unit is untouched, unless a call of the
+-- chip failed
 abbrev pub StaysUntouched : {T : Type 0} → Tables → ℕ → Tables → Result T ChipFault → Told → Told → Type 0
 StaysUntouched t u after result old new = OfContents old (λ x. (it : Layout)
     → Mirrors old.places (chart_of x) it t

@@ -43,9 +43,9 @@ pub record UsesOneSector (u p : ℕ) (t after : Tables) (result : Result (Unit {
   pub drawn : after.next ≡ t.next + 1
   pub costs : Spends (ProgramsAt p 1 0 5) old new
 
--- Why it fails over what the chip holds: with what is wrong with the unit, which is where it was, with the
--- bytes that it had; and where the unit's pages show values and few log sectors would be carried, only where
--- a call of the chip failed.
+-- Why it fails over what the chip holds: with what is wrong with the unit, which is where it was, with
+-- the bytes that it had; and where the unit's pages show values and few log sectors would be carried,
+-- only where a call of the chip failed.
 pub record FailsByUnit (t : Tables) (u : ℕ) (after : Tables) (result : Result (Unit {0}) ChipFault)
     (old new : Told) : Type 0 where
   pub fault : FailsAsMerge old.places t u result old

@@ -10,10 +10,10 @@ use Rattle.page_frames.specs.Pages.{frames_in, IsFramed, IsCleanFrame, KeepsValu
 use Rattle.page_frames.specs.Complete.{FailsByChip}
 use Rattle.page_frames.specs.Faulty.{TellsFaultsSurely, TellsFaultsThen}
 
--- What each call does, however it ends: it keeps each state, at most so many numbers being drawn; and over
--- contents that stand for one it fails only where a call of the chip failed, or by a page that is bad, with
--- exactly what is wrong with that: over what the chip holds then, where it tells its story; and in any case
--- over that, or over what it held before.
+-- What each call does, however it ends: it keeps each state, at most so many numbers being drawn; and
+-- over contents that stand for one it fails only where a call of the chip failed, or by a page that is
+-- bad, with exactly what is wrong with that: over what the chip holds then, where it tells its story;
+-- and in any case over that, or over what it held before.
 pub record WorksOn {T : Type 0} (most : ℕ) (old : Pages) (before : Told) (result : Result T ChipFault)
     (new : Pages) (after : Told) : Type 0 where
   pub upholds : Upholds most old before result new after

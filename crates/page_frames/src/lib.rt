@@ -5,8 +5,8 @@
 //! log sector; what commands do to frames in memory alone is here too. A contract sees the tables (`tables_in`) and the frames by unit and page (`frames_in`), and
 //! that each call keeps whatever state they stand for (`KeepsState`), and over a chip that holds one
 //! fails only where a call of the chip failed (`Completes`), or by a page that doesn't read well or has
-//! no room for its values with what is pending there, with exactly what is wrong with it (`TellsFaultsThen`,
-//! `TellsFaultsSurely`; a renewal: `TellsFaults`).
+//! no room for its values with what is pending there, with exactly what is wrong with it
+//! (`TellsFaultsThen`, `TellsFaultsSurely`; a renewal: `TellsFaults`).
 //!
 //! Proved, by its calls: pages in frames: a page is brought into a frame, from which another that
 //! isn't held may have to leave, the one used longest ago; it is the page used last then, also where
@@ -18,9 +18,10 @@
 //! where that stands for a state, it fails only where a call of the chip failed; and where it
 //! stands for all of a state but what the pages say, also by a page that didn't read well or had no
 //! room for its values with what is pending there, of which the fault names a base sector or the
-//! header at the place where its unit is then. It is exactly what is wrong with that page, sector and
-//! sums: over what the chip holds then, which is said of a chip that tells its story; and but for the pages of
-//! sessions' names, in any case over that or over what it held before. A renewal's is over what it held before.
+//! header at the place where its unit is then. It is exactly what is wrong with that page, sector
+//! and sums: over what the chip holds then, which is said of a chip that tells its story; and but for
+//! the pages of sessions' names, in any case over that or over what it held before. A renewal's is
+//! over what it held before.
 //! With a frame free, a page that is brought fails with exactly what is wrong with it. A page that is
 //! in a frame costs nothing, and one for which a frame is free only reads; in both cases every page
 //! stays in its frame. Where records are written out, a unit is merged or the status place is renewed,
@@ -38,9 +39,9 @@
 //! at most one sector programmed elsewhere, a log sector; where one is clean at the unit's home, nothing is read or
 //! erased, there is no barrier, and no other sector counts as written than before. What is retired
 //! besides was found worn, and the status header lists no other place as it. Over what the chip
-//! holds it fails with what is wrong with the unit that it had to merge, which is where it was, with the
-//! bytes that it had, or where a call of the chip failed; with that alone where the unit's pages show values and few log
-//! sectors would be carried.
+//! holds it fails with what is wrong with the unit that it had to merge, which is where it was, with
+//! the bytes that it had, or where a call of the chip failed; with that alone where the unit's pages
+//! show values and few log sectors would be carried.
 //!
 //! Proved, by its calls, `buffer_laws`, `room_laws`: a put changes the frame of its page by its record
 //! and no other, exactly where the page has room for all that may become values then; whether a put

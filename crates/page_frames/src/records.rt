@@ -122,8 +122,8 @@ pub(crate) fn write_records<C: Chip>(
         (tables_of parts.old) (tables_of parts.new) (C.told chip.old) result (C.told chip.new) }
 
     // Why it fails over what the chip holds: where the unit's pages show values and few log sectors
-    // would be carried, only where a call of the chip failed. Else the unit is where it was, with the
-    // bytes that it had.
+    // would be carried, only where a call of the chip failed. Else the unit is where it was, with
+    // the bytes that it had.
     ensures fails { FailsByUnit (tables_of parts.old) unit (tables_of parts.new) result
         (C.told chip.old) (C.told chip.new) }
 
