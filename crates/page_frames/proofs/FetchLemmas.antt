@@ -7,7 +7,7 @@ use Rattle.page_frames.specs.Views.{frames_of}
 use Rattle.page_frames.specs.declared.pages.Pages.{Pages}
 use Rattle.page_frames.specs.Filling.{with_pool, Fills}
 use Rattle.page_frames.specs.Frames.{Gives, MayGive, Victim}
-use Rattle.page_frames.specs.Faulty.{Stands}
+use Rattle.page_frames.specs.Faulty.{FaultStands}
 use Rattle.page_frames.specs.Pages.{tables_in, frames_in, ArePagesReady, Upholds}
 use Rattle.page_frames.specs.Works.{WorksOn}
 use Rattle.page_frames.proofs.GiveLemmas.{gives_none, gives_upholds}
@@ -32,7 +32,7 @@ fetched victim u page old mid new between result before late after did once may 
     let ready = subst (λ (n : ℕ). ArePagesReady n mid) (sym did.accounts.counts.places) did.ready in
     let given = gives_upholds victim mid between late once ready may gives in
     let fills = fill given.ready (gives_none victim mid.pool between u page gives none) in
-    let stands = Stands (tables_in new) after in
+    let stands = FaultStands (tables_in new) after in
     let alike = fills.works.upholds.active in
     let here = tells_then stands mid made new result late late refl alike given.keeps fills.stands in
     let there = tells_then stands old mid new result before late did.accounts.counts.places alike did.keeps here

@@ -34,7 +34,7 @@ use Rattle.store_laws.specs.Frames.{Frames}
 use Rattle.page_frames.specs.Views.{frames_of}
 use Rattle.page_frames.specs.declared.pages.Pages.{Pages}
 use Rattle.page_frames.specs.Pages.{tables_in, frames_in}
-use Rattle.page_frames.specs.Faulty.{FailsAsPage, NamesBadPage, Stands, StandsEver, StandsSurely, StandsThen, TellsFaults, TellsFaultsBy, TellsFaultsSurely, TellsFaultsThen}
+use Rattle.page_frames.specs.Faulty.{FailsAsPage, NamesBadPage, FaultStands, StandsEver, StandsSurely, StandsThen, TellsFaults, TellsFaultsBy, TellsFaultsSurely, TellsFaultsThen}
 use Rattle.page_frames.proofs.CompleteLemmas.{unread, unstopped}
 use Rattle.page_frames.proofs.FaultyLemmas.{first_some, moved_fault, names_page, still_sound}
 use Rattle.page_frames.proofs.UntouchedLemmas.{read_stands, unit_untouched, untouched_stands}
@@ -213,7 +213,7 @@ pub loaded_stands : {T : Type 0} (u page : ℕ) (old new : Pages) (result : Resu
     (before after : Told) → u < length old.parts.directory.current → page < 15
     → tables_in new ≡ tables_in old → after.places ≡ before.places → after.contents ≡ before.contents
     → FailsAsPage (tables_in old) u page result before
-    → TellsFaultsBy (λ x it. Stands (tables_in new) after) old result before new
+    → TellsFaultsBy (λ x it. FaultStands (tables_in new) after) old result before new
 loaded_stands u page old new (Ok v) before after low few same sized kept fails x there slots it state fits =
     tt
 loaded_stands u page old new (Err e) before after low few same sized kept fails x there slots it state fits =
@@ -221,24 +221,24 @@ loaded_stands u page old new (Err e) before after low few same sized kept fails 
     let t = tables_in old in
     let unit : u < it.count = omega (arith, low, fits.mirrors.directory.units) in
     let wrong = fails x there it fits.mirrors (unread e fine) in
-    names_page (Stands (tables_in new) after) before.places x it t (tables_in new) u page e fits.mirrors unit
+    names_page (FaultStands (tables_in new) after) before.places x it t (tables_in new) u page e fits.mirrors unit
     few (ap (λ (w : Tables). w.active) same) (ap (λ (w : Tables). slice_index w.places.current u) same)
     wrong (read_stands x it t (tables_in new) u page e before after unit same fits.mirrors sized kept there
     wrong)
 
 -- whether the chip tells its story or not
 pub stands_then : {T : Type 0} (old new : Pages) (result : Result T ChipFault) (before after : Told)
-    → TellsFaultsBy (λ x it. Stands (tables_in new) after) old result before new
+    → TellsFaultsBy (λ x it. FaultStands (tables_in new) after) old result before new
     → TellsFaultsThen old result before new after
 stands_then old new result before after tells =
-    tells_as (λ x it. Stands (tables_in new) after) (λ x it. StandsThen (tables_in new) after) old new result
+    tells_as (λ x it. FaultStands (tables_in new) after) (λ x it. StandsThen (tables_in new) after) old new result
     before (λ x it u page e is story. is) tells
 
 pub stands_surely : {T : Type 0} (old new : Pages) (result : Result T ChipFault) (before after : Told)
-    → TellsFaultsBy (λ x it. Stands (tables_in new) after) old result before new
+    → TellsFaultsBy (λ x it. FaultStands (tables_in new) after) old result before new
     → TellsFaultsSurely old result before new after
 stands_surely old new result before after tells =
-    tells_as (λ x it. Stands (tables_in new) after) (λ x it. StandsSurely x it (tables_in new) after) old new
+    tells_as (λ x it. FaultStands (tables_in new) after) (λ x it. StandsSurely x it (tables_in new) after) old new
     result before (λ x it u page e is. inr is) tells
 
 -- ---- calls of the chip

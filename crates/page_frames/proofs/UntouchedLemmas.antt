@@ -27,8 +27,8 @@ use Rattle.place_taking.proofs.HomeLemmas.{tried_free}
 use Rattle.selective_merge.specs.Merging.{StaysMirrored}
 use Rattle.page_ops.specs.Rebuilt.{values_of, with_records}
 use Rattle.page_rebuild.specs.Loaded.{fill_fault, load_fault, loaded_pending}
-use Rattle.page_frames.specs.Faulty.{TellsStory, Stands, StandsThen}
-use Rattle.page_frames.specs.InPlace.{IsUntouched, StaysUntouched}
+use Rattle.page_frames.specs.Faulty.{TellsStory, FaultStands, StandsThen}
+use Rattle.page_frames.specs.InPlace.{IsUnitUntouched, StaysUntouched}
 
 -- ---- events
 
@@ -162,7 +162,7 @@ load_once places x it now active u page laid other low =
 -- it stands then, where the unit is untouched
 pub untouched_stands : (x : Contents) (it : Layout) (t after : Tables) (u page : ℕ) (e : ChipFault)
     (new : Told) → u < it.count → after.active ≡ t.active
-    → load_fault x it (among t.active) u page ≡ Some e → IsUntouched x it u after new
+    → load_fault x it (among t.active) u page ≡ Some e → IsUnitUntouched x it u after new
     → StandsThen after new u page e
 untouched_stands x it t after u page e new low alike found is story y told now mirrors =
     let same = same_Some is.contents y (sym is.told ∙ told) in
@@ -177,7 +177,7 @@ untouched_stands x it t after u page e new low alike found is story y told now m
 pub read_stands : (x : Contents) (it : Layout) (t after : Tables) (u page : ℕ) (e : ChipFault)
     (old new : Told) → u < it.count → after ≡ t → Mirrors old.places (chart_of x) it t
     → new.places ≡ old.places → new.contents ≡ old.contents → old.contents ≡ Some x
-    → load_fault x it (among t.active) u page ≡ Some e → Stands after new u page e
+    → load_fault x it (among t.active) u page ≡ Some e → FaultStands after new u page e
 read_stands x it t after u page e old new low same mirrors sized kept told found y there now theirs =
     let here = same_Some x y (sym told ∙ sym kept ∙ there) in
     let laid = subst (λ (z : Contents). Laid new.places (chart_of z) it) here

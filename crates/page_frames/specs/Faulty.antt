@@ -49,13 +49,13 @@ TellsStory told = (h : History) × (told.history ≡ Some h)
 
 -- over what the chip holds, in whatever layout the tables mirror it, this is what is wrong with the
 -- page
-abbrev pub Stands : Tables → Told → ℕ → ℕ → ChipFault → Type 0
-Stands t told u page e = OfContents told (λ y. (it : Layout)
+abbrev pub FaultStands : Tables → Told → ℕ → ℕ → ChipFault → Type 0
+FaultStands t told u page e = OfContents told (λ y. (it : Layout)
     → Mirrors told.places (chart_of y) it t → load_fault y it (among t.active) u page ≡ Some e)
 
 -- so it is over what the chip holds after the call, where that tells its story
 abbrev pub StandsThen : Tables → Told → ℕ → ℕ → ChipFault → Type 0
-StandsThen after told u page e = TellsStory told → Stands after told u page e
+StandsThen after told u page e = TellsStory told → FaultStands after told u page e
 
 -- over the contents before, with the sessions that are open then, or over those after the call
 abbrev pub StandsEver : Contents → Layout → Tables → Told → ℕ → ℕ → ChipFault → Type 0
@@ -65,7 +65,7 @@ StandsEver x it after told u page e =
 -- the same, whether the chip tells its story or not
 abbrev pub StandsSurely : Contents → Layout → Tables → Told → ℕ → ℕ → ChipFault → Type 0
 StandsSurely x it after told u page e =
-    (load_fault x it (among after.active) u page ≡ Some e) ⊎ Stands after told u page e
+    (load_fault x it (among after.active) u page ≡ Some e) ⊎ FaultStands after told u page e
 
 -- ---- any page
 

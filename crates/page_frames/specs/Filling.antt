@@ -9,7 +9,7 @@ use Rattle.store_laws.specs.Frames.{logs_of}
 use Rattle.page_frames.specs.declared.pages.Pages.{Pages}
 use Rattle.page_frames.specs.Pages.{tables_in, frames_in, IsPageOf, BringsPage}
 use Rattle.page_frames.specs.Frames.{IsUnheld}
-use Rattle.page_frames.specs.Faulty.{FailsAsPage, Stands, TellsFaultsBy}
+use Rattle.page_frames.specs.Faulty.{FailsAsPage, FaultStands, TellsFaultsBy}
 use Rattle.page_frames.specs.Works.{WorksOn}
 
 -- the tables with another pool
@@ -30,7 +30,7 @@ pub record Fills {T : Type 0} (u page : ℕ) (old : Pages) (before : Told) (resu
     (new : Pages) (after : Told) : Type 0 where
   pub works : WorksOn 0 old before result new after
   pub exact : FailsAsPage (tables_in old) u page result before
-  pub stands : TellsFaultsBy (λ x it. Stands (tables_in new) after) old result before new
+  pub stands : TellsFaultsBy (λ x it. FaultStands (tables_in new) after) old result before new
   pub brings : BringsPage result u page (frames_in old) (frames_in new)
   pub others : CountsNoOther u page old.pool new.pool
   pub used : OnOk result (IsUsedLast new.pool u page)

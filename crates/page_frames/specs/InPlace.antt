@@ -24,7 +24,7 @@ StaysInPlace places t u after result told = OfContents told (λ x. (it : Layout)
 
 -- The tables mirror what the chip holds then by the layout that it had. Where it tells its story too,
 -- the unit's place has the bytes that it had.
-pub record IsUntouched (x : Contents) (it : Layout) (u : ℕ) (after : Tables) (new : Told) : Type 0 where
+pub record IsUnitUntouched (x : Contents) (it : Layout) (u : ℕ) (after : Tables) (new : Told) : Type 0 where
   pub contents : Contents
   pub told : new.contents ≡ Some contents
   pub mirrors : Mirrors new.places (chart_of contents) it after
@@ -35,4 +35,4 @@ pub record IsUntouched (x : Contents) (it : Layout) (u : ℕ) (after : Tables) (
 abbrev pub StaysUntouched : {T : Type 0} → Tables → ℕ → Tables → Result T ChipFault → Told → Told → Type 0
 StaysUntouched t u after result old new = OfContents old (λ x. (it : Layout)
     → Mirrors old.places (chart_of x) it t
-    → IfErr result (λ e. ¬ IsFailedCall e → IsUntouched x it u after new))
+    → IfErr result (λ e. ¬ IsFailedCall e → IsUnitUntouched x it u after new))
