@@ -7,6 +7,7 @@ use Rattle.ipl_base.specs.declared.fault.ChipFault.TheVariants.{ReadFault, Stopp
 use Rattle.ipl_base.specs.declared.fault.ImageFault.{ImageFault}
 use Rattle.ipl_base.specs.declared.fault.ImageFault.TheVariants as image
 use Rattle.ipl_model.specs.State.{Map}
+use Rattle.ipl_meaning.specs.Legible.{whole}
 use Rattle.unit_io.specs.Reads.{OfContents}
 use Rattle.restart.specs.Looks.{OnlyReads}
 use Rattle.store_trait.specs.Onward.{Further}
@@ -118,7 +119,7 @@ module _ (old new : Told) where
 
 -- ---- completeness
 
-module _ (old new : Told) (calm : IsCalm old new) (holds : (m : Map) × HoldsRecords old.places m old) where
+module _ (old new : Told) (calm : IsCalm old new) (holds : (m : Map) × HoldsRecords old.places (whole m) old) where
   unread : (e : ImageFault) → e ≢ image.Chip ReadFault → CheckedCause e old new → ⊥
   unread e other c = (c.unwell other holds.1.contents holds.1.told).stray holds.0 holds.1.stands
 

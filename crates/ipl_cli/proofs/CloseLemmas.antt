@@ -2,6 +2,8 @@
 use Rattle.std.proofs.Common.{◌≡◌, ◌≤◌, ◌+◌, ◌++◌, ℕ, Bool, true, Result, Ok, Err, OnOk, is_ok, refl, sym, ◌∙◌, ap, subst, arith}
 use Rattle.std.specs.Prelude.{IsErrOf, max}
 use Rattle.std.specs.Option.{option_map}
+use Rattle.std.proofs.lemmas.Bool.{true≢false}
+use Rattle.std.proofs.lemmas.Result.{on_ok_weaker}
 use Rattle.chip_trait.specs.Story.{Story}
 use Rattle.chip_trait.specs.Told.{Told, Beside, adds_all}
 use Rattle.chip_trait.proofs.HistoryLemmas.{history_then}
@@ -21,6 +23,7 @@ use Rattle.script_run.proofs.BehindLemmas.{runs_behind, tidy_behind, cause_behin
 use Rattle.script_run.proofs.CompleteLemmas.{completes_more}
 use Rattle.script_store.specs.declared.store.ScriptStore.{ScriptStore}
 use Rattle.script_store.specs.Closes.{MarksRecalled, MarksSince, ClosesAtEnd}
+use Rattle.store_laws.specs.Keeps.{KnownPages, all_pages}
 use Rattle.script_store.specs.Keeps.{KeepsScript, script_keeping, next_number}
 use Rattle.ipl_cli.specs.Top.{IsTooLong}
 use Rattle.ipl_cli.specs.Runs.{EndsClosed, MarksBehind, ClosesScript, RunsClosing, RunsOver, ending_of}
@@ -55,43 +58,34 @@ too_long old new many = record { grew = many.grew; told = λ source left. (many.
 module _ (before then : ScriptStore) (old new : Told) (closes : Bool) where
   -- it was run, and nothing else done
   pub ran_alone : (result : Result (Unit {0}) Stop) → next_number before ≤ FOUND_NUMBER
-      → RunsScript (script_keeping old.places) before old result then new
-      → LeavesTidy (script_keeping old.places) before then old new (is_ok result)
-      → Draws (script_keeping old.places) SCRIPT_DRAWS before (IsErrOf result (stop.Store fault.Spent)) then
-      → CompletesOver (script_keeping old.places) SCRIPT_DRAWS before old result then new
-      → LearnsAlong (script_keeping old.places) before old result then new
-      → Further old new → EndsScript (script_keeping old.places) old result new
+      → ((known : KnownPages) → RunsScript (script_keeping old.places known) before old result then new)
+      → LeavesTidy (script_keeping old.places all_pages) before then old new (is_ok result)
+      → Draws (script_keeping old.places all_pages) SCRIPT_DRAWS before (IsErrOf result (stop.Store fault.Spent)) then
+      → CompletesOver (script_keeping old.places all_pages) SCRIPT_DRAWS before old result then new
+      → LearnsAlong (script_keeping old.places all_pages) before old result then new
+      → Further old new → EndsScript (script_keeping old.places all_pages) old result new
       → OnOk result (closes ≡ true → ClosesScript before old new)
       → RunsClosing closes result before old then new
   ran_alone result low runs tidy draws completes learns further ends closed = record {
-    runs = runs;
-    tidy = tidy;
-    completes = λ limits keeps. completes_more (completes limits keeps) (omega arith);
-    cause = ends.cause;
-    learns = learns;
-    unspent = numbers_last draws low;
-    long = λ is. too_long old new (ends.long is);
-    further = further;
-    read = ends.all;
+    last = on_ok_weaker result (λ replied is. replied) ends.last;
+    run = record {
+      runs = runs;
+      tidy = tidy;
+      completes = λ limits keeps. completes_more (completes limits keeps) (omega arith);
+      cause = ends.cause;
+      learns = learns;
+      unspent = numbers_last draws low;
+      long = λ is. too_long old new (ends.long is);
+      further = further;
+      read = ends.all;
+    };
     closed = closed;
   }
 
 -- so it ends
 pub runs_over : (closes : Bool) (result : Result (Unit {0}) Stop) (before then : ScriptStore) (old new : Told)
     → RunsClosing closes result before old then new → RunsOver (ending_of result) before old then new
-runs_over closes result before then old new r = record {
-  result = result;
-  ending_is = refl;
-  runs = r.runs;
-  tidy = r.tidy;
-  completes = r.completes;
-  cause = r.cause;
-  learns = r.learns;
-  unspent = r.unspent;
-  long = r.long;
-  further = r.further;
-  read = r.read;
-}
+runs_over closes result before then old new r = record { result = result; ending_is = refl; run = r.run }
 
 -- ---- and the chip closed behind it
 
@@ -109,33 +103,35 @@ on_closed (Ok v) f a = f a
 on_closed (Err fault) f a = tt
 
 module _ (before mid then : ScriptStore) (old between new : Told) (closes : Bool) (closed : Result (Unit {0}) Fault)
-    (further : Further old between) (did : ClosesAtEnd mid between closed then new) where
-  works : WorksBehind (script_keeping old.places) mid between closed then new
-  works = subst (λ (n : ℕ). WorksBehind (script_keeping n) mid between closed then new) further.places did.works
+    (further : Further old between) (did : (known : KnownPages) → ClosesAtEnd known mid between closed then new) where
+  works : (known : KnownPages) → WorksBehind (script_keeping old.places known) mid between closed then new
+  works known =
+      subst (λ (n : ℕ). WorksBehind (script_keeping n known) mid between closed then new) further.places (did known).works
 
   -- numbers last for both
   both_last : next_number before ≤ FOUND_NUMBER → next_number mid ≤ max (next_number before) FOUND_NUMBER + SCRIPT_DRAWS
       → IsErrOf closed fault.Spent → ⊥
-  both_last low drawn is = let past = works.draws.spent is in omega (arith, past, low, drawn)
+  both_last low drawn is = let past = (works all_pages).draws.spent is in omega (arith, past, low, drawn)
 
   -- what was erased before the script is marked too
-  marks_behind : RunsScript (script_keeping old.places) before old (Ok tt) mid between
-      → MarksRecalled mid between new → MarksBehind before old new
-  marks_behind runs marks script left calm entry h at recalls limits state k is keeps =
-      let ended = runs limits state k keeps script left in
+  marks_behind : ((known : KnownPages) → RunsScript (script_keeping old.places known) before old (Ok tt) mid between)
+      → ((known : KnownPages) → MarksRecalled known mid between new) → MarksBehind before old new
+  marks_behind runs marks known script left calm entry h at recalls limits state k is keeps =
+      let ended = runs known limits state k keeps script left in
       let last = after_all limits state (commands_of script) in
       let l = adds_all ended.leaves.added k in
       subst (λ (n : ℕ). MarksSince n h new) further.places
-      (marks entry h at (ended.leaves.recalls refl calm entry recalls) limits last l
+      (marks known entry h at (ended.leaves.recalls refl calm entry recalls) limits last l
       (ended.leaves.history ∙ ap (option_map (adds_all ended.leaves.added)) is)
-      (subst (λ (n : ℕ). KeepsScript n limits mid between l last) (sym further.places) ended.holds))
+      (subst (λ (n : ℕ). KeepsScript n known limits mid between l last) (sym further.places) ended.holds))
 
   closes_script : (first : Story) → between.history ≡ option_map (adds_all first) old.history
-      → RunsScript (script_keeping old.places) before old (Ok tt) mid between
+      → ((known : KnownPages) → RunsScript (script_keeping old.places known) before old (Ok tt) mid between)
       → OnOk (stop_of closed) (closes ≡ true → ClosesScript before old new)
-  closes_script first history runs = by_end closed did.last did.marked
+  closes_script first history runs = by_end closed (did all_pages).last (λ known. (did known).marked)
     where
-      by_end : (r : Result (Unit {0}) Fault) → OnOk r (EndsClosed between new) → OnOk r (MarksRecalled mid between new)
+      by_end : (r : Result (Unit {0}) Fault) → OnOk r (EndsClosed between new)
+          → ((known : KnownPages) → OnOk r (MarksRecalled known mid between new))
           → OnOk (stop_of r) (closes ≡ true → ClosesScript before old new)
       by_end (Ok v) last marks = λ is. record {
         ends = closed_since first old between new history last;
@@ -144,22 +140,29 @@ module _ (before mid then : ScriptStore) (old between new : Told) (closes : Bool
       by_end (Err e) last marks = tt
 
   pub ran_closing : next_number before ≤ FOUND_NUMBER
-      → RunsScript (script_keeping old.places) before old (Ok tt) mid between
-      → LeavesTidy (script_keeping old.places) before mid old between true
-      → Draws (script_keeping old.places) SCRIPT_DRAWS before (IsErrOf {T = Unit {0}} (Ok tt) (stop.Store fault.Spent)) mid
-      → CompletesOver (script_keeping old.places) {T = Unit {0}} SCRIPT_DRAWS before old (Ok tt) mid between
-      → LearnsAlong (script_keeping old.places) {T = Unit {0}} before old (Ok tt) mid between
-      → ReadsAll old between → RunsClosing closes (stop_of closed) before old then new
-  ran_closing low runs tidy draws completes learns read =
-      let k = script_keeping old.places in record {
-        runs = runs_behind k before mid then old between new closed further works runs;
-        tidy = tidy_behind k before mid then old between new closed further works tidy;
-        completes = completes_behind k before mid then old between new closed further works SCRIPT_DRAWS completes;
-        cause = cause_behind k before mid then old between new closed further works;
-        learns = learns_behind k before mid then old between new closed further works learns;
-        unspent = λ is. both_last low draws.most (spent_so closed is);
-        long = λ is. absurd (never_long closed is);
-        further = further_both k before mid then old between new closed further works;
-        read = on_closed closed (λ last source left. ap (λ (b : Beside). b.left) works.counts.beside ∙ read source left) did.last;
+      → ((known : KnownPages) → RunsScript (script_keeping old.places known) before old (Ok tt) mid between)
+      → LeavesTidy (script_keeping old.places all_pages) before mid old between true
+      → Draws (script_keeping old.places all_pages) SCRIPT_DRAWS before (IsErrOf {T = Unit {0}} (Ok tt) (stop.Store fault.Spent)) mid
+      → CompletesOver (script_keeping old.places all_pages) {T = Unit {0}} SCRIPT_DRAWS before old (Ok tt) mid between
+      → LearnsAlong (script_keeping old.places all_pages) {T = Unit {0}} before old (Ok tt) mid between
+      → ReadsAll old between → closes ≡ true → RunsClosing closes (stop_of closed) before old then new
+  ran_closing low runs tidy draws completes learns read asked =
+      let k = script_keeping old.places all_pages in record {
+        run = record {
+          runs = λ known. runs_behind (script_keeping old.places known) before mid then old between new closed further
+              (works known) (runs known);
+          tidy = tidy_behind k before mid then old between new closed further (works all_pages) tidy;
+          completes = completes_behind k before mid then old between new closed further (works all_pages) SCRIPT_DRAWS
+              completes;
+          cause = cause_behind k before mid then old between new closed further (works all_pages);
+          learns = learns_behind k before mid then old between new closed further (works all_pages) learns;
+          unspent = λ is. both_last low draws.most (spent_so closed is);
+          long = λ is. absurd (never_long closed is);
+          further = further_both k before mid then old between new closed further (works all_pages);
+          read = on_closed closed
+              (λ last source left. ap (λ (b : Beside). b.left) (works all_pages).counts.beside ∙ read source left)
+              (did all_pages).last;
+        };
         closed = closes_script tidy.added tidy.history runs;
+        last = on_closed closed (λ ends is. absurd (true≢false (sym asked ∙ is))) (did all_pages).last;
       }

@@ -22,7 +22,8 @@ use Rattle.ipl_model.specs.Grammar.{commands_of}
 use Rattle.ipl_model.specs.Run.{IsNear, joined as joined_text}
 use Rattle.ipl_model.proofs.RunLemmas.{reply_shows}
 use Rattle.ipl_format.specs.Sector.{sector_in}
-use Rattle.ipl_meaning.specs.Legible.{every, whole}
+use Rattle.ipl_meaning.proofs.RotLemmas.{every_is_told_apart}
+use Rattle.ipl_meaning.specs.Legible.{Legible, IsToldApart, of, whole}
 use Rattle.ipl_meaning.specs.Chart.{chart_of}
 use Rattle.ipl_meaning.specs.Stands.{StandsIn}
 use Rattle.ipl_meaning.specs.Rests.{now, EachStands, EachStandsIn, StoryRests}
@@ -45,7 +46,7 @@ use Rattle.restart.specs.Recovers.{TakesMarks}
 use Rattle.store_trait.specs.Keeping.{Stays}
 use Rattle.store_trait.specs.declared.fault.Fault.TheVariants as fault
 use Rattle.store_trait.proofs.OnwardLemmas.{unrisen_later}
-use Rattle.store_laws.specs.Keeps.{limits_of}
+use Rattle.store_laws.specs.Keeps.{KnownPages, all_pages, limits_of}
 use Rattle.script_run.specs.declared.fault.Stop.{Stop}
 use Rattle.script_run.specs.declared.fault.Stop.TheVariants as stop
 use Rattle.script_run.specs.Run.{RunLeaves, SaysLines, EndsAt}
@@ -172,13 +173,13 @@ module _ (spares : ℕ) (old mid new : Told) (counts : Counts old mid)
   ]
 
 -- what a store keeps at the end, the chip has
-pub record Kept (places : ℕ) (new : Told) (k : History) (s : State) : Type 0 where
+pub record Kept (known : KnownPages) (places : ℕ) (new : Told) (k : History) (s : State) : Type 0 where
   pub steady : IsSteady k new
-  pub rests : StoryRests places (whole s.map) k
+  pub rests : StoryRests places (of known.pages s.map) k
 
-pub kept : (places : ℕ) (limits : Limits) (then : ScriptStore) (new : Told) (s : State)
-    (k : History) → KeepsScript places limits then new k s → Kept places new k s
-kept places limits then new s k keeps =
+pub kept : (known : KnownPages) (places : ℕ) (limits : Limits) (then : ScriptStore) (new : Told) (s : State)
+    (k : History) → KeepsScript places known limits then new k s → Kept known places new k s
+kept known places limits then new s k keeps =
     record { steady = keeps.kept.steady; rests = keeps.kept.rests }
 
 -- behind events that say nothing, what is said is that of the later ones
@@ -253,23 +254,23 @@ pub all_done : (result : Result (Unit {0}) Stop) → ending_of result ≡ Ok tt 
 all_done (Ok u) is = refl
 all_done (Err s) is = absurd cc
 
-module _ (marks : Bool) (places units : ℕ) (m : Map) (script : List ℕ) (h : History) (first : Story)
+module _ (known : KnownPages) (marks : Bool) (places units : ℕ) (m : Map) (script : List ℕ) (h : History) (first : Story)
     (silent : pieces first ≡ [])
-    (each : AtEachMoment (λ e. EachStandsIn places units (whole m) (adds_all e h)) first)
+    (each : AtEachMoment (λ e. EachStandsIn places units (of known.pages m) (adds_all e h)) first)
     (lawful : (base : Story) → IsLawful base → AreClean (AreMarked marks places h) base → IsLawful (first ++ base))
     (unused : WereUnused marks places h → AtEachMoment (λ e. MarksAreUnused places (adds_all e h)) first) where
   abbrev limits : Limits
   limits = limits_of units
 
   abbrev Found : Story → Type 0
-  Found e = Leaves (says sector_in) (StandsAbout places units m script (said e)) h e
+  Found e = Leaves (says sector_in) (StandsAbout places units (of known.pages m) script (said e)) h e
 
   -- at each moment of them nothing was answered
   near_first : AtEachMoment Found first
   near_first = λ later e is x image.
       let quiet : pieces e ≡ [] = silent-part later e (ap pieces is ∙ silent) in
-      subst (λ (bytes : List ℕ). StandsAbout places units m script bytes x) (sym (ap joined quiet))
-      (near_silent (λ s. StandsIn places units (chart_of x) (whole s.map)) limits (at_rest m) (commands_of script)
+      subst (λ (bytes : List ℕ). StandsAbout places units (of known.pages m) script bytes x) (sym (ap joined quiet))
+      (near_silent (λ s. StandsIn places units (chart_of x) (of known.pages s.map)) limits (at_rest m) (commands_of script)
       (each later e is x image))
 
   -- ---- they alone were done
@@ -277,9 +278,9 @@ module _ (marks : Bool) (places units : ℕ) (m : Map) (script : List ℕ) (h : 
   module _ (old new : Told) (history : new.history ≡ option_map (adds_all first) old.history)
       (left : new.beside.left ≡ Some script)
       (steady : Unrisen old new → IsSteady (adds_all first h) new)
-      (rests : Unrisen old new → StoryRests places (whole m) (adds_all first h)) where
+      (rests : Unrisen old new → StoryRests places (of known.pages m) (adds_all first h)) where
     abbrev Resting : State → Type 0
-    Resting s = Unrisen old new → StoryRests places (whole s.map) (adds_all first h)
+    Resting s = Unrisen old new → StoryRests places (of known.pages s.map) (adds_all first h)
 
     none_between : IsBetween Resting units m script (pieces first)
     none_between = subst (IsBetween Resting units m script) (sym silent) (between_none limits
@@ -287,7 +288,7 @@ module _ (marks : Bool) (places units : ℕ) (m : Map) (script : List ℕ) (h : 
 
     pub runs_none : (ending : Ending) → (ending ≡ Ok tt → ⊥)
         → EndsBy ending Resting units m script (pieces first)
-        → Runs marks places units m script h [] old new ending
+        → Runs marks places units (of known.pages m) script h [] old new ending
     runs_none ending unfinished ends = record {
       added = first;
       history = history ∙ ap (option_map (adds_all first)) (same_history old.history);
@@ -299,9 +300,9 @@ module _ (marks : Bool) (places units : ℕ) (m : Map) (script : List ℕ) (h : 
       lawful = lawful;
       unused = unused;
       steady = steady;
-      rests = λ unrisen. subst (IsAbout (λ s. StoryRests places (whole s.map) (adds_all first h)) units m
+      rests = λ unrisen. subst (IsAbout (λ s. StoryRests places (of known.pages s.map) (adds_all first h)) units m
           script) (sym (ap joined silent))
-          (near_silent (λ s. StoryRests places (whole s.map) (adds_all first h)) limits (at_rest m)
+          (near_silent (λ s. StoryRests places (of known.pages s.map) (adds_all first h)) limits (at_rest m)
           (commands_of script) (rests unrisen));
       ends = ends;
       read = [];
@@ -311,10 +312,10 @@ module _ (marks : Bool) (places units : ℕ) (m : Map) (script : List ℕ) (h : 
       all = λ is. absurd (unfinished is);
     }
 
-    pub none_failed : (e : ImageFault) → Runs marks places units m script h [] old new (Err (Chip e))
+    pub none_failed : (e : ImageFault) → Runs marks places units (of known.pages m) script h [] old new (Err (Chip e))
     none_failed e = runs_none (Err (Chip e)) (λ is. cc) none_between
 
-    pub none_wanting : Runs marks places units m script h [] old new (Err OutOfMemory)
+    pub none_wanting : Runs marks places units (of known.pages m) script h [] old new (Err OutOfMemory)
     none_wanting = runs_none (Err OutOfMemory) (λ is. cc) none_between
 
   -- ---- then the script was run
@@ -323,17 +324,17 @@ module _ (marks : Bool) (places units : ℕ) (m : Map) (script : List ℕ) (h : 
       (later : old.write_faults ≤ mid.write_faults)
       (told : mid.history ≡ option_map (adds_all first) old.history)
       (clean : (base : Story) → AreClean (AreMarked marks places h) base
-      → AreClean ((script_keeping places).clean before) (first ++ base))
-      (unused_then : WereUnused marks places h → (script_keeping places).unused before (adds_all first h)) where
+      → AreClean ((script_keeping places known).clean before) (first ++ base))
+      (unused_then : WereUnused marks places h → (script_keeping places known).unused before (adds_all first h)) where
     module _ (R : History → State → Type 0) (result : Result (Unit {0}) Stop)
-        (stays : (k : History) (s : State) → R k s → Stays (script_keeping places) limits then mid new k s)
-        (leaves : RunLeaves (script_keeping places) limits (at_rest m) (commands_of script) before
+        (stays : (k : History) (s : State) → R k s → Stays (script_keeping places known) limits then mid new k s)
+        (leaves : RunLeaves (script_keeping places known) limits (at_rest m) (commands_of script) before
         (adds_all first h) R then mid new result) where
       abbrev last : History
       last = adds_all leaves.added (adds_all first h)
 
-      kept_last : (s : State) → R last s → Unrisen old new → Kept places new last s
-      kept_last s so unrisen = kept places limits then new s last
+      kept_last : (s : State) → R last s → Unrisen old new → Kept known places new last s
+      kept_last s so unrisen = kept known places limits then new s last
           (stays last s so (unrisen_later old mid new later unrisen))
 
       all_pieces : pieces (leaves.added ++ first) ≡ pieces leaves.added
@@ -346,9 +347,9 @@ module _ (marks : Bool) (places units : ℕ) (m : Map) (script : List ℕ) (h : 
       all_history = history_behind first leaves.added h
 
       later_found : AtEachMoment (λ f. Found (f ++ first)) leaves.added
-      later_found = at_weaker (λ e. Leaves (says sector_in) (StandsAbout places units m script (said e))
+      later_found = at_weaker (λ e. Leaves (says sector_in) (StandsAbout places units (of known.pages m) script (said e))
           (adds_all first h) e) (λ f. Found (f ++ first)) leaves.added (λ f found x image.
-          subst (λ (bytes : List ℕ). StandsAbout places units m script bytes x)
+          subst (λ (bytes : List ℕ). StandsAbout places units (of known.pages m) script bytes x)
           (sym (said-append f first ∙ ap (λ (ps : List (List ℕ)). joined ps ++ said f) silent))
           (found x (subst (λ (s : Story). IsNoChanceImage (says sector_in) h.start s x)
           (append_assoc f first h.story) image))) leaves.each_moment
@@ -361,23 +362,23 @@ module _ (marks : Bool) (places units : ℕ) (m : Map) (script : List ℕ) (h : 
       ]
 
       rests_near : IsAbout (R last) units m script (said leaves.added) → Unrisen old new
-          → IsAbout (λ s. StoryRests places (whole s.map) last) units m script (said leaves.added)
+          → IsAbout (λ s. StoryRests places (of known.pages s.map) last) units m script (said leaves.added)
       rests_near near unrisen = elim near [
         | inl so ↦ inl (kept_last _ so unrisen).rests
         | inr so ↦ inr (kept_last _ so unrisen).rests
       ]
 
-      ends_last : EndsBy (ending_of result) (λ s. Unrisen old new → StoryRests places (whole s.map) last)
+      ends_last : EndsBy (ending_of result) (λ s. Unrisen old new → StoryRests places (of known.pages s.map) last)
           units m script (pieces leaves.added)
-      ends_last = ends_by (λ s. Unrisen old new → StoryRests places (whole s.map) last) units m script
+      ends_last = ends_by (λ s. Unrisen old new → StoryRests places (of known.pages s.map) last) units m script
           (pieces leaves.added) result
           (ends_weaker limits (at_rest m) result (commands_of script) (pieces leaves.added) (R last)
-          (λ s. Unrisen old new → StoryRests places (whole s.map) last)
+          (λ s. Unrisen old new → StoryRests places (of known.pages s.map) last)
           (λ s so unrisen. (kept_last s so unrisen).rests) leaves.ends)
 
       runs_by : (read unread : List ℕ) → script ≡ read ++ unread → new.beside.left ≡ Some unread
           → (is_ok result ≡ true → unread ≡ [])
-          → Runs marks places units m script h [] old new (ending_of result)
+          → Runs marks places units (of known.pages m) script h [] old new (ending_of result)
       runs_by read unread script_is left_is ends = record {
         added = leaves.added ++ first;
         history = leaves.history ∙ ap (option_map (adds_all leaves.added)) told
@@ -395,13 +396,13 @@ module _ (marks : Bool) (places units : ℕ) (m : Map) (script : List ℕ) (h : 
             (leaves.unused.marks (unused_then were) later e split));
         steady = λ unrisen. subst (λ (k : History). IsSteady k new) all_history
             (steady_near leaves.rests unrisen);
-        rests = λ unrisen. subst (λ (k : History). IsAbout (λ s. StoryRests places (whole s.map) k) units m
+        rests = λ unrisen. subst (λ (k : History). IsAbout (λ s. StoryRests places (of known.pages s.map) k) units m
             script (said (leaves.added ++ first))) all_history
-            (subst (IsAbout (λ s. StoryRests places (whole s.map) last) units m script) (sym all_said)
+            (subst (IsAbout (λ s. StoryRests places (of known.pages s.map) last) units m script) (sym all_said)
             (rests_near leaves.rests unrisen));
         ends = subst (λ (k : History). EndsBy (ending_of result) (λ s. Unrisen old new → StoryRests
-            places (whole s.map) k) units m script (pieces (leaves.added ++ first))) all_history
-            (subst (EndsBy (ending_of result) (λ s. Unrisen old new → StoryRests places (whole s.map) last)
+            places (of known.pages s.map) k) units m script (pieces (leaves.added ++ first))) all_history
+            (subst (EndsBy (ending_of result) (λ s. Unrisen old new → StoryRests places (of known.pages s.map) last)
             units m script) (sym all_pieces) ends_last);
         read = read;
         unread = unread;
@@ -415,15 +416,15 @@ module _ (marks : Bool) (places units : ℕ) (m : Map) (script : List ℕ) (h : 
         );
       }
 
-    pub runs_ended : Ended (script_keeping places) limits (at_rest m) script before (adds_all first h) then
-        mid new → Runs marks places units m script h [] old new (Ok tt)
-    runs_ended e = runs_by ((script_keeping places).holds limits then new) (Ok tt) (λ k s held unrisen. held)
+    pub runs_ended : Ended (script_keeping places known) limits (at_rest m) script before (adds_all first h) then
+        mid new → Runs marks places units (of known.pages m) script h [] old new (Ok tt)
+    runs_ended e = runs_by ((script_keeping places known).holds limits then new) (Ok tt) (λ k s held unrisen. held)
         e.leaves script [] (sym (append-nil script)) e.left_is (λ is. refl)
 
-    pub runs_stopped : (s : Stop) → Stopped (script_keeping places) limits (at_rest m) (commands_of script)
-        script before (adds_all first h) (Stays (script_keeping places) limits then mid new) then mid new s
-        → Runs marks places units m script h [] old new (ending_of (Err s))
-    runs_stopped s e = runs_by (Stays (script_keeping places) limits then mid new) (Err s)
+    pub runs_stopped : (s : Stop) → Stopped (script_keeping places known) limits (at_rest m) (commands_of script)
+        script before (adds_all first h) (Stays (script_keeping places known) limits then mid new) then mid new s
+        → Runs marks places units (of known.pages m) script h [] old new (ending_of (Err s))
+    runs_stopped s e = runs_by (Stays (script_keeping places known) limits then mid new) (Err s)
         (λ k state stays. stays) e.leaves e.read e.rest e.source_is e.left_is (λ is. absurd cc)
 
 -- ---- over a chip that was opened
@@ -442,6 +443,10 @@ marked_within places x p n is =
     let inside = (is.laid.each is.unit is.within).chosen.within in
     let at = is.home in omega (arith, at, inside)
 
+-- what is known of the pages of records
+abbrev pub known_of : (m : Legible) → IsToldApart m.pages → KnownPages
+known_of m apart = record { pages = m.pages; apart = apart }
+
 module _ {marks : Bool} (old mid : Told) (store : ScriptStore) (s : StartsOpened marks old store mid) where
   -- the store has as many units as the chip says
   pub units_told : (h : History) → IsSteady h old
@@ -449,35 +454,35 @@ module _ {marks : Bool} (old mid : Told) (store : ScriptStore) (s : StartsOpened
   units_told h steady = s.opens.units (held h.start h.story) steady.holds
 
   -- it keeps the records on which the history rested
-  pub opened_keeps : (m : Map) (h : History) (steady : IsSteady h old)
-      (rests : StoryRests old.places (whole m) h)
-      → KeepsScript old.places (limits_of store.store.units) store mid
-      (adds_all (s.tries.steps (whole m) h steady rests).2.added h) (at_rest m)
-  opened_keeps m h steady rests =
+  pub opened_keeps : (known : KnownPages) (m : Map) (h : History) (steady : IsSteady h old)
+      (rests : StoryRests old.places (of known.pages m) h)
+      → KeepsScript old.places known (limits_of store.store.units) store mid
+      (adds_all (s.tries.steps (of known.pages m) h steady rests).2.added h) (at_rest m)
+  opened_keeps known m h steady rests =
       let made = s.running.sound.made in
-      let did = (s.tries.steps (whole m) h steady rests).2 in
+      let did = (s.tries.steps (of known.pages m) h steady rests).2 in
       let k = adds_all did.added h in record {
-        kept = s.opens.keeps every m k (held h.start h.story) steady.holds
-            (held_stands old.places (whole m) h rests.each) (did.steady tt) (did.ends tt).rests
+        kept = s.opens.keeps known.pages m k (held h.start h.story) steady.holds
+            (held_stands old.places (of known.pages m) h rests.each) (did.steady tt) (did.ends tt).rests
             (did.ends tt).tidy;
         few = omega (arith, made.units, made.geometry.1);
       }
 
   -- an opening leaves as many units at each moment
-  pub opened_each : (m : Map) (h : History) (steady : IsSteady h old) (rests : StoryRests old.places (whole m) h)
-      → AtEachMoment (λ e. EachStandsIn old.places store.store.units (whole m) (adds_all e h))
-      (s.tries.steps (whole m) h steady rests).2.added
-  opened_each m h steady rests =
-      let did = (s.tries.steps (whole m) h steady rests).2 in
-      subst (λ (n : ℕ). AtEachMoment (λ e. EachStandsIn old.places n (whole m) (adds_all e h)) did.added)
-      (sym (units_told h steady)) (moments_as_said old.places (whole m) h did.added rests did.each_moment)
+  pub opened_each : (known : KnownPages) (m : Map) (h : History) (steady : IsSteady h old) (rests : StoryRests old.places (of known.pages m) h)
+      → AtEachMoment (λ e. EachStandsIn old.places store.store.units (of known.pages m) (adds_all e h))
+      (s.tries.steps (of known.pages m) h steady rests).2.added
+  opened_each known m h steady rests =
+      let did = (s.tries.steps (of known.pages m) h steady rests).2 in
+      subst (λ (n : ℕ). AtEachMoment (λ e. EachStandsIn old.places n (of known.pages m) (adds_all e h)) did.added)
+      (sym (units_told h steady)) (moments_as_said old.places (of known.pages m) h did.added rests did.each_moment)
 
   -- where nothing that was marked was used, nothing that is marked then was, nor what the store counts as clean
-  opened_unused : (h : History) (steady : IsSteady h old) (m : Map) (rests : StoryRests old.places (whole m) h)
+  opened_unused : (known : KnownPages) (h : History) (steady : IsSteady h old) (m : Map) (rests : StoryRests old.places (of known.pages m) h)
       → MarksAreUnused old.places h
-      → (script_keeping old.places).unused store (adds_all (s.tries.steps (whole m) h steady rests).2.added h)
-  opened_unused h steady m rests were =
-      let (took, takes, did) = s.tries.steps (whole m) h steady rests in (
+      → (script_keeping old.places known).unused store (adds_all (s.tries.steps (of known.pages m) h steady rests).2.added h)
+  opened_unused known h steady m rests were =
+      let (took, takes, did) = s.tries.steps (of known.pages m) h steady rests in (
         did.marks tt [] did.added refl were,
         unused_carried (IsCountedClean took) (IsCountedClean (tables_in store.store.transactions.pages)) old.places
             did.added
@@ -489,64 +494,66 @@ module _ {marks : Bool} (old mid : Told) (store : ScriptStore) (s : StartsOpened
 
   -- what was erased since the chip was opened is marked behind a close
   pub opened_marks : (new : Told) → MarksBehind store mid new → MarksWhatWasErased old new
-  opened_marks new behind h script steady left at m rests calm =
+  opened_marks new behind h script steady left at m rests apart calm =
+      let known = known_of m apart in
       let same = s.tries.accounts.counts.places in
-      let did = (s.tries.steps (whole m) h steady rests).2 in
+      let did = (s.tries.steps m h steady rests).2 in
       let k = adds_all did.added h in
       subst (λ (n : ℕ). MarksSince n h new) same
-      (behind script (left_counts old mid s.tries.accounts.counts ∙ left) calm old h at
-      (opening_recalls old mid store s.tries) (limits_of store.store.units) (at_rest m) k
+      (behind known script (left_counts old mid s.tries.accounts.counts ∙ left) calm old h at
+      (opening_recalls old mid store s.tries) (limits_of store.store.units) (at_rest m.map) k
       (did.history ∙ ap (option_map (adds_all did.added)) at)
-      (subst (λ (n : ℕ). KeepsScript n (limits_of store.store.units) store mid k (at_rest m)) (sym same)
-      (opened_keeps m h steady rests)))
+      (subst (λ (n : ℕ). KeepsScript n known (limits_of store.store.units) store mid k (at_rest m.map)) (sym same)
+      (opened_keeps known m.map h steady rests)))
 
   module _ (then : ScriptStore) (new : Told) where
-    opened_so : (result : Result (Unit {0}) Stop)
-        → RunsScript (script_keeping old.places) store mid result then new
+    opened_so : (known : KnownPages) (result : Result (Unit {0}) Stop)
+        → RunsScript (script_keeping old.places known) store mid result then new
         → (h : History) (script : List ℕ) → IsSteady h old → old.beside.left ≡ Some script
-        → (m : Map) → StoryRests old.places (whole m) h → WereUnused (not marks) old.places h
-        → Runs marks old.places store.store.units m script h [] old new (ending_of result)
-    opened_so (Ok u) run h script steady left m rests besides =
-        let (took, takes, did) = s.tries.steps (whole m) h steady rests in
+        → (m : Map) → StoryRests old.places (of known.pages m) h → WereUnused (not marks) old.places h
+        → Runs marks old.places store.store.units (of known.pages m) script h [] old new (ending_of result)
+    opened_so known (Ok u) run h script steady left m rests besides =
+        let (took, takes, did) = s.tries.steps (of known.pages m) h steady rests in
         let taken = took_marked marks old took h steady takes in
-        runs_ended marks old.places store.store.units m script h did.added did.does.silent
-        (opened_each m h steady rests)
+        runs_ended known marks old.places store.store.units m script h did.added did.does.silent
+        (opened_each known m h steady rests)
         (λ base good marked. did.does.lawful.lawful base good (taken base marked))
         (λ were later e split. did.marks tt later e split (were_unused marks old.places h were besides))
         old mid new store then s.tries.accounts.counts.writes did.history
         (λ base marked. did.does.clean refl base (taken base marked))
-        (λ were. opened_unused h steady m rests (were_unused marks old.places h were besides))
-        (run (limits_of store.store.units) (at_rest m) (adds_all did.added h) (opened_keeps m h
+        (λ were. opened_unused known h steady m rests (were_unused marks old.places h were besides))
+        (run (limits_of store.store.units) (at_rest m) (adds_all did.added h) (opened_keeps known m h
         steady rests) script (left_counts old mid s.tries.accounts.counts ∙ left))
-    opened_so (Err e) run h script steady left m rests besides =
-        let (took, takes, did) = s.tries.steps (whole m) h steady rests in
+    opened_so known (Err e) run h script steady left m rests besides =
+        let (took, takes, did) = s.tries.steps (of known.pages m) h steady rests in
         let taken = took_marked marks old took h steady takes in
-        runs_stopped marks old.places store.store.units m script h did.added did.does.silent
-        (opened_each m h steady rests)
+        runs_stopped known marks old.places store.store.units m script h did.added did.does.silent
+        (opened_each known m h steady rests)
         (λ base good marked. did.does.lawful.lawful base good (taken base marked))
         (λ were later e split. did.marks tt later e split (were_unused marks old.places h were besides))
         old mid new store then s.tries.accounts.counts.writes did.history
         (λ base marked. did.does.clean refl base (taken base marked))
-        (λ were. opened_unused h steady m rests (were_unused marks old.places h were besides)) e
-        (run (limits_of store.store.units) (at_rest m) (adds_all did.added h) (opened_keeps m h
+        (λ were. opened_unused known h steady m rests (were_unused marks old.places h were besides)) e
+        (run (limits_of store.store.units) (at_rest m) (adds_all did.added h) (opened_keeps known m h
         steady rests) script (left_counts old mid s.tries.accounts.counts ∙ left))
 
     pub opened_runs : (result : Result (Unit {0}) Stop)
-        → RunsScript (script_keeping mid.places) store mid result then new
+        → ((known : KnownPages) → RunsScript (script_keeping mid.places known) store mid result then new)
         → RunsFrom marks old new (ending_of result)
-    opened_runs result run = λ h script steady left m rests besides.
+    opened_runs result run = λ h script steady left m rests apart besides.
+        let known = known_of m apart in
         subst (λ (n : ℕ). Runs marks old.places n m script h [] old new (ending_of result))
         (units_told h steady)
-        (opened_so result (subst (λ (n : ℕ). RunsScript (script_keeping n) store mid result then new)
-        s.tries.accounts.counts.places run) h script steady left m rests besides)
+        (opened_so known result (subst (λ (n : ℕ). RunsScript (script_keeping n known) store mid result then new)
+        s.tries.accounts.counts.places (run known)) h script steady left m.map rests besides)
 
 -- an opening that fails leaves the records
 pub unopened_runs : {marks : Bool} (old new : Told) (end : End) → (n : IsNotOpened marks end old new)
     → RunsFrom marks old new (Err (Chip n.fault))
-unopened_runs {marks} old new end n = λ h script steady left m rests besides.
-    let (took, takes, did) = n.tries.steps (whole m) h steady rests in
-    none_failed marks old.places (units_at (now h) old.places) m script h did.added did.does.silent
-    (moments_as_said old.places (whole m) h did.added rests did.each_moment)
+unopened_runs {marks} old new end n = λ h script steady left m rests apart besides.
+    let (took, takes, did) = n.tries.steps m h steady rests in
+    none_failed (known_of m apart) marks old.places (units_at (now h) old.places) m.map script h did.added did.does.silent
+    (moments_as_said old.places m h did.added rests did.each_moment)
     (λ base good marked. did.does.lawful.lawful base good (took_marked marks old took h steady takes base marked))
     (λ were later e split. did.marks tt later e split (were_unused marks old.places h were besides))
     old new did.history (left_counts old new n.tries.accounts.counts ∙ left) did.steady did.ends
@@ -554,7 +561,7 @@ unopened_runs {marks} old new end n = λ h script steady left m rests besides.
 
 -- where marks count nothing is asked besides
 pub runs_opened : {old new : Told} {ending : Ending} → RunsFrom true old new ending → RunsOpened old new ending
-runs_opened runs = λ h script steady left m rests. runs h script steady left m rests tt
+runs_opened runs = λ h script steady left m rests apart. runs h script steady left m rests apart tt
 
 -- and so does what does nothing
 module _ (old new : Told) (is : IsLeftAlone old new) where
@@ -570,14 +577,14 @@ module _ (old new : Told) (is : IsLeftAlone old new) where
   left_still : (script : List ℕ) → old.beside.left ≡ Some script → new.beside.left ≡ Some script
   left_still script left = ap (λ (t : Told). t.beside.left) is ∙ left
 
-  still_each : (places : ℕ) (m : Map) (h : History) → StoryRests places (whole m) h
-      → AtEachMoment (λ e. EachStandsIn places (units_at (now h) places) (whole m) (adds_all e h)) []
-  still_each places m h rests = moments_as_said places (whole m) h [] rests
-      (at_start (λ e. EachStands places (whole m) (adds_all e h)) rests.each)
+  still_each : (places : ℕ) (m : Legible) (h : History) → StoryRests places m h
+      → AtEachMoment (λ e. EachStandsIn places (units_at (now h) places) m (adds_all e h)) []
+  still_each places m h rests = moments_as_said places m h [] rests
+      (at_start (λ e. EachStands places m (adds_all e h)) rests.each)
 
   pub untouched_runs : RunsOpened old new (Err OutOfMemory)
-  untouched_runs = λ h script steady left m rests.
-      none_wanting true old.places (units_at (now h) old.places) m script h [] refl
+  untouched_runs = λ h script steady left m rests apart.
+      none_wanting (known_of m apart) true old.places (units_at (now h) old.places) m.map script h [] refl
       (still_each old.places m h rests)
       (λ base good marked. good)
       (at_start (λ e. MarksAreUnused old.places (adds_all e h)))
@@ -585,8 +592,8 @@ module _ (old new : Told) (is : IsLeftAlone old new) where
       (λ unrisen. rests)
 
   pub untouched_stops : (e : ImageFault) → RunsOpened old new (Err (Chip e))
-  untouched_stops e = λ h script steady left m rests.
-      none_failed true old.places (units_at (now h) old.places) m script h [] refl
+  untouched_stops e = λ h script steady left m rests apart.
+      none_failed (known_of m apart) true old.places (units_at (now h) old.places) m.map script h [] refl
       (still_each old.places m h rests)
       (λ base good marked. good)
       (at_start (λ e. MarksAreUnused old.places (adds_all e h)))
@@ -633,8 +640,8 @@ module _ (old mid new : Told) (f : WasFormatted old mid) where
 
   -- a run from there on is one after the events of the format
   after_format : {ending : Ending} (script : List ℕ) (h : History)
-      → Runs false old.places (units_on old.places) empty script (adds_all first h) [] mid new ending
-      → Runs false old.places (units_on old.places) empty script h first old new ending
+      → Runs false old.places (units_on old.places) (whole empty) script (adds_all first h) [] mid new ending
+      → Runs false old.places (units_on old.places) (whole empty) script h first old new ending
   after_format {ending} script h r = let last : History = adds_all r.added
       (adds_all first h) in record {
         added = r.added;
@@ -666,13 +673,13 @@ module _ (old mid new : Told) (f : WasFormatted old mid) where
   formatted_runs {ending} runs = λ h script steady left.
       let fresh = fresh_story h steady in
       after_format script h
-      (subst (λ (n : ℕ). Runs false old.places n empty script (adds_all first h) [] mid new ending)
+      (subst (λ (n : ℕ). Runs false old.places n (whole empty) script (adds_all first h) [] mid new ending)
       (fresh_units h)
-      (subst (λ (q : ℕ). Runs false q (units_at (now (adds_all first h)) q) empty script
+      (subst (λ (q : ℕ). Runs false q (units_at (now (adds_all first h)) q) (whole empty) script
       (adds_all first h) [] mid new ending) f.counts.places
       (runs (adds_all first h) script fresh.0
-      (left_counts old mid f.counts ∙ left) empty
+      (left_counts old mid f.counts ∙ left) (whole empty)
       (subst (λ (q : ℕ). StoryRests q (whole empty) (adds_all first h))
-      (sym f.counts.places) fresh.1)
+      (sym f.counts.places) fresh.1) every_is_told_apart
       (subst (λ (q : ℕ). MarksAreUnused q (adds_all first h)) (sym f.counts.places)
       (format_unused old.places (units_on old.places) h old mid (f.formats h))))))

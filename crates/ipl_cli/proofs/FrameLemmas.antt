@@ -40,8 +40,8 @@ module _ (old mid new : Told) (only : new ≡ but_noted mid new.beside.noted) wh
   }
 
   marks_noted : MarksWhatWasErased old mid → MarksWhatWasErased old new
-  marks_noted marks h script steady left at m rests calm =
-      let since = marks h script steady left at m rests calm in record {
+  marks_noted marks h script steady left at m rests apart calm =
+      let since = marks h script steady left at m rests apart calm in record {
         added = since.added;
         history = ap (λ (t : Told). t.history) only ∙ since.history;
         marked = since.marked;

@@ -20,6 +20,7 @@ use Rattle.page_frames.specs.Pages.{tables_in}
 use Rattle.unit_io.specs.Reads.{OfContents}
 use Rattle.ipl_store.specs.Openings.{Tries}
 use Rattle.script_store.specs.declared.store.ScriptStore.{ScriptStore}
+use Rattle.store_laws.specs.Keeps.{all_pages}
 use Rattle.script_store.specs.Keeps.{script_keeping}
 use Rattle.command_line.specs.declared.end.End.{End}
 use Rattle.command_line.specs.declared.asked.Request.TheVariants.{Format, Run, Serial, Check, Trial}
@@ -144,7 +145,7 @@ unstarted_adds end old new (inr (inr (formatted, formats, did))) =
 -- a run, after an opening that leaves clean what the store counts so
 unmarked_adds : (old mid new : Told) (before then : ScriptStore) (done : Bool)
     → StartsOpened false old before mid
-    → LeavesTidy (script_keeping mid.places) before then mid new done → AddsLawful old new
+    → LeavesTidy (script_keeping mid.places all_pages) before then mid new done → AddsLawful old new
 unmarked_adds old mid new before then done opened run =
     let first = opened.tries.tidy.tidies in
     let none = opened.tries.tidy.takes.none refl in record {
@@ -160,7 +161,7 @@ unmarked_adds old mid new before then done opened run =
 -- after a format
 pub formatted_adds : (old mid new : Told) (before then : ScriptStore) (done : Bool)
     → StartsFormatted old before mid
-    → LeavesTidy (script_keeping mid.places) before then mid new done
+    → LeavesTidy (script_keeping mid.places all_pages) before then mid new done
     → AddsLawful old new
 formatted_adds old mid new before then done started run =
     adds_then old started.formatted new
@@ -228,7 +229,7 @@ unopened_adds end old new did = opening_adds old new (Err did.fault) did.tables 
 -- a run
 pub opened_adds : (old mid new : Told) (before then : ScriptStore) (done : Bool)
     → StartsOpened true old before mid
-    → LeavesTidy (script_keeping mid.places) before then mid new done → AddsLawfulByMark old new
+    → LeavesTidy (script_keeping mid.places all_pages) before then mid new done → AddsLawfulByMark old new
 opened_adds old mid new before then done opened run =
     let tries = opened.tries in
     let first = tries.tidy.tidies in

@@ -4,7 +4,7 @@ use Rattle.chip_trait.specs.Told.{History, Told}
 use Rattle.ipl_base.specs.declared.fault.ChipFault.TheVariants.{ReadFault, Stopped, Damaged, Malformed, WornOut}
 use Rattle.ipl_base.specs.declared.fault.ImageFault.{ImageFault}
 use Rattle.ipl_base.specs.declared.fault.ImageFault.TheVariants as image
-use Rattle.ipl_model.specs.State.{Map}
+use Rattle.ipl_meaning.specs.Legible.{Legible}
 use Rattle.ipl_model.specs.declared.command.Command.{Command}
 use Rattle.unit_io.specs.Leads.{IsSteady}
 use Rattle.store_trait.specs.Onward.{Further}
@@ -94,7 +94,7 @@ module _ (old mid : Told) (noted : Option (List ℕ)) where
   steady_noted : {h : History} → IsSteady h mid → IsSteady h then
   steady_noted steady = record { holds = steady.holds; settled = steady.settled }
 
-  runs_noted : {marks : Bool} {places units : ℕ} {m : Map} {script : List ℕ} {h : History} {first : List _}
+  runs_noted : {marks : Bool} {places units : ℕ} {m : Legible} {script : List ℕ} {h : History} {first : List _}
       {ending : Ending} → Runs marks places units m script h first old mid ending
       → Runs marks places units m script h first old then ending
   runs_noted r = record {
@@ -174,7 +174,7 @@ module _ (old mid : Told) (noted : Option (List ℕ)) where
   formatted_noted runs = λ h script steady left. runs_noted (runs h script steady left)
 
   opened_noted : {ending : Ending} → RunsOpened old mid ending → RunsOpened old then ending
-  opened_noted runs = λ h script steady left m rests. runs_noted (runs h script steady left m rests)
+  opened_noted runs = λ h script steady left m rests apart. runs_noted (runs h script steady left m rests apart)
 
   stopped_noted : {units : ℕ} {ending : Ending} → IsFormatStopped units old mid ending
       → IsFormatStopped units old then ending

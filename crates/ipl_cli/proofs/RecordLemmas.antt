@@ -4,8 +4,7 @@ use Rattle.std.specs.FinMap.{empty}
 use Rattle.chip_trait.specs.Story.{Contents, held}
 use Rattle.chip_trait.specs.Told.{History, Told, IsConsistent, Unrisen, adds_all}
 use Rattle.ipl_base.specs.Places.{units_on}
-use Rattle.ipl_model.specs.State.{Map}
-use Rattle.ipl_meaning.specs.Legible.{whole}
+use Rattle.ipl_meaning.specs.Legible.{Legible, of, whole}
 use Rattle.ipl_meaning.proofs.StoryLemmas.{held_stands}
 use Rattle.unit_io.specs.Leads.{IsSteady}
 use Rattle.restart.specs.Events.{format_events}
@@ -22,17 +21,17 @@ steady_start x t consistent told = record { holds = told; settled = consistent.s
 
 module _ (old new : Told) (consistent : IsConsistent old) where
   -- a run that is done leaves what it rests on
-  module _ {marks : Bool} (units : ℕ) (m : Map) (script : List ℕ) (x : Contents) (first : List _)
+  module _ {marks : Bool} (units : ℕ) (m : Legible) (script : List ℕ) (x : Contents) (first : List _)
       (r : Runs marks old.places units m script (starts_at x) first old new (Ok tt))
       (unrisen : Unrisen old new) where
     abbrev last : History
     last = adds_all r.added (adds_all first (starts_at x))
 
-    holds_records : HoldsRecords old.places (records_after units m script) new
+    holds_records : HoldsRecords old.places (of m.pages (records_after units m.map script)) new
     holds_records = record {
       contents = held last.start last.story;
       told = (r.steady unrisen).holds;
-      stands = held_stands old.places (whole (records_after units m script)) last (r.ends unrisen).each;
+      stands = held_stands old.places (of m.pages (records_after units m.map script)) last (r.ends unrisen).each;
     }
 
   pub opened_records : AtStatus (RunsOpened old new) 0 → EndsWithRecords FromItsRecords old new
@@ -44,14 +43,14 @@ module _ (old new : Told) (consistent : IsConsistent old) where
       (subst (λ (n : ℕ). Runs true old.places n m script (starts_at x) [] old new (Ok tt))
       (sym from.units_are)
       (runs (starts_at x) script (steady_start x old consistent has.told) left m
-      (images_rest old.places (whole m) x has.stands))) unrisen
+      (images_rest old.places m x has.stands) from.apart)) unrisen
 
   pub formatted_records : RunsFormatted old new (Ok tt) → EndsWithRecords FromNoRecords old new
   formatted_records runs units m script (none, many, has) left unrisen =
       let x = has.0 in
       let told = has.1 in
-      subst (λ (n : Map). HoldsRecords old.places (records_after units n script) new) (sym none)
-      (subst (λ (n : ℕ). HoldsRecords old.places (records_after n empty script) new) (sym many)
-      (holds_records (units_on old.places) empty script x
+      subst (λ (n : Legible). HoldsRecords old.places (of n.pages (records_after units n.map script)) new) (sym none)
+      (subst (λ (n : ℕ). HoldsRecords old.places (whole (records_after n empty script)) new) (sym many)
+      (holds_records (units_on old.places) (whole empty) script x
       (format_events old.places (units_on old.places))
       (runs (starts_at x) script (steady_start x old consistent told) left) unrisen))

@@ -44,7 +44,7 @@ use Rattle.place_taking.proofs.SpendingLemmas.{or_right}
 use Rattle.selective_merge.specs.Homes.{WearCause}
 use Rattle.restart.specs.Recovers.{FailsByCallAlone, OpeningCause, tells_wear}
 use Rattle.restart.proofs.ReadyLemmas.{layouts_say}
-use Rattle.store_laws.specs.Keeps.{IsWornCount, FaultTells, StoreCause, limits_of}
+use Rattle.store_laws.specs.Keeps.{all_pages, IsWornCount, FaultTells, StoreCause, limits_of}
 use Rattle.script_run.specs.declared.fault.Stop.{Stop}
 use Rattle.script_run.specs.declared.fault.Stop.TheVariants as stop
 use Rattle.script_run.specs.Goes.{StopCause, StopWears, LearnsAlong, KeepsSome, CompletesOver, ReadsAll}
@@ -288,18 +288,18 @@ module _ {marks : Bool} (old mid : Told) (store : ScriptStore) (s : StartsOpened
 
   module _ (then : ScriptStore) (new : Told) where
     abbrev Completes : Stop → Type 0
-    Completes e = CompletesOver (script_keeping mid.places) {T = Unit {0}} (SCRIPT_DRAWS + WORK_DRAWS) store mid
+    Completes e = CompletesOver (script_keeping mid.places all_pages) {T = Unit {0}} (SCRIPT_DRAWS + WORK_DRAWS) store mid
         (Err e) then new
 
     -- it keeps the records on which a history rests
     keeps_some : (m : Map) (h : History) → IsSteady h old → StoryRests old.places (whole m) h
-        → KeepsSome (script_keeping mid.places) (limits_of store.store.units) store mid
+        → KeepsSome (script_keeping mid.places all_pages) (limits_of store.store.units) store mid
     keeps_some m h steady rests = subst (λ (n : ℕ).
-        KeepsSome (script_keeping n) (limits_of store.store.units) store mid)
+        KeepsSome (script_keeping n all_pages) (limits_of store.store.units) store mid)
         (sym s.tries.accounts.counts.places) (record {
           state = at_rest m;
           history = adds_all (s.tries.steps (whole m) h steady rests).2.added h;
-          holds = opened_keeps old mid store s m h steady rests;
+          holds = opened_keeps old mid store s all_pages m h steady rests;
         })
 
     -- the store of a sound chip fails only where a call of the chip failed, and says so
@@ -310,7 +310,7 @@ module _ {marks : Bool} (old mid : Told) (store : ScriptStore) (s : StartsOpened
         let number : counter_of store.store ≤ greatest_found (now sound.history) old.places + 1 + 2 ^ 14 =
         s.opens.number _ sound.steady.holds in
         let next : next_number store ≡ counter_of store.store = rw s.running.up refl in
-        (done.excuse f refl (omega (arith, number, next, sound.left))).1
+        (done.excuse f refl (omega (arith, number, next, sound.left)) refl).1
 
     later : (f : Fault) → Completes (stop.Store f) → ¬ SaysFailedCall f → IsMetLater old
     later f completes other = record {
@@ -364,8 +364,8 @@ module _ {marks : Bool} (old mid : Told) (store : ScriptStore) (s : StartsOpened
 
     -- why the run stops
     stop_cause : (frames : ℕ) (closes : Bool) (e : Stop) → Completes e
-        → StopCause (script_keeping mid.places) mid new e
-        → StopWears (script_keeping mid.places) old e new
+        → StopCause (script_keeping mid.places all_pages) mid new e
+        → StopWears (script_keeping mid.places all_pages) old e new
         → (e ≡ stop.Store fault.Spent → ⊥) → (e ≡ stop.TooLong → IsTooLong mid new)
         → RequestCause (Run frames false closes) (end_of e) old new
     stop_cause frames closes (stop.Store (fault.Chip c)) completes cause wears unspent long = chip_met c
@@ -382,9 +382,9 @@ module _ {marks : Bool} (old mid : Told) (store : ScriptStore) (s : StartsOpened
         s.tries.accounts.counts (long refl)
 
     pub over_cause : (frames : ℕ) (closes : Bool) (result : Result (Unit {0}) Stop)
-        → CompletesOver (script_keeping mid.places) (SCRIPT_DRAWS + WORK_DRAWS) store mid result then new
-        → IfErr result (λ e. StopCause (script_keeping mid.places) mid new e)
-        → LearnsAlong (script_keeping mid.places) store mid result then new
+        → CompletesOver (script_keeping mid.places all_pages) (SCRIPT_DRAWS + WORK_DRAWS) store mid result then new
+        → IfErr result (λ e. StopCause (script_keeping mid.places all_pages) mid new e)
+        → LearnsAlong (script_keeping mid.places all_pages) store mid result then new
         → (IsErrOf result (stop.Store fault.Spent) → ⊥)
         → (IsErrOf result stop.TooLong → IsTooLong mid new)
         → EndCause (Some (Run frames false closes)) (ending_of result) old new
@@ -396,8 +396,8 @@ module _ {marks : Bool} (old mid : Told) (store : ScriptStore) (s : StartsOpened
     pub opened_cause : (frames : ℕ) (closes : Bool) (ending : Ending) → RunsOver ending store mid then new
         → EndCause (Some (Run frames false closes)) ending old new
     opened_cause frames closes ending r = subst (λ (e : Ending). EndCause (Some (Run frames false closes)) e old
-        new) (sym r.ending_is) (over_cause frames closes r.result r.completes r.cause r.learns
-        r.unspent r.long)
+        new) (sym r.ending_is) (over_cause frames closes r.result r.run.completes r.run.cause r.run.learns
+        r.run.unspent r.run.long)
 
   -- all that was left of the script before the opening was read
   pub read_before : (new : Told) (result : Result (Unit {0}) Stop) → OnOk result (ReadsAll mid new)
@@ -439,8 +439,8 @@ module _ (old mid : Told) (store : ScriptStore) (s : StartsOpened true old store
   pub opened_left : (ending : Ending) → RunsOver ending store mid then new
       → OpenedLeaves ending old new
   opened_left ending r = subst (λ (e : Ending). OpenedLeaves e old new) (sym r.ending_is)
-      (leaves_by r.result (runs_opened (opened_runs old mid store s then new r.result r.runs))
-      (read_before old mid store s new r.result r.read))
+      (leaves_by r.result (runs_opened (opened_runs old mid store s then new r.result r.run.runs))
+      (read_before old mid store s new r.result r.run.read))
 
 -- ---- memory that was wanting, and other numbers of places
 
@@ -622,8 +622,8 @@ module _ (old mid : Told) (store : ScriptStore) (s : StartsFormatted old store m
       → FormattedLeaves ending old new
   formatted_left ending r = subst (λ (e : Ending). FormattedLeaves e old new) (sym r.ending_is)
       (leaves_anew old s.formatted s.formats new r.result
-      (opened_runs s.formatted mid store s.opened then new r.result r.runs)
-      (read_before s.formatted mid store s.opened new r.result r.read))
+      (opened_runs s.formatted mid store s.opened then new r.result r.run.runs)
+      (read_before s.formatted mid store s.opened new r.result r.run.read))
 
   pub cause_anew : (frames : ℕ) (closes : Bool) (ending : Ending)
       → EndCause (Some (Run frames false closes)) ending s.formatted new

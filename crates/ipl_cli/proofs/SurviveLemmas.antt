@@ -60,9 +60,9 @@ module _ (old new : Told) where
   -- a chip that tells what it holds may be taken as the start of a history
   pub opened_survives : IsConsistent old → (status : ℕ) → AtStatus (RunsOpened old new) status
       → Survives old new
-  opened_survives consistent status (ending, is, runs) x units m script told stands left =
+  opened_survives consistent status (ending, is, runs) x units m script told stands apart left =
       let r = runs (starts_at x) script (steady_start x old consistent told) left m
-      (images_rest old.places (whole m) x stands.stands) in
+      (images_rest old.places m x stands.stands) apart in
       let number = laid_says_its_units (chart_of x) old.places stands.stands.layout stands.stands.laid ∙ stands.count in
       record {
         added = r.added;
@@ -80,7 +80,7 @@ module _ (old new : Told) where
   module _ (x : Contents) (script : List ℕ) where
     -- the script was run
     run_survives : (ending : Ending)
-        → Runs false old.places (units_on old.places) empty script (starts_at x) first old new ending
+        → Runs false old.places (units_on old.places) (whole empty) script (starts_at x) first old new ending
         → SurvivesFormat script x old new
     run_survives ending r = record {
       added = r.added ++ first;
@@ -119,7 +119,7 @@ module _ (old new : Told) where
           (rests.each.1 y (subst
           (λ (s : Story). IsNoChanceImage (says sector_in) x (s ++ first) y)
           none image)) in
-          subst (λ (s : Story). StandsAfterAnswered old.places (units_on old.places) empty script (said s) y) (sym none)
+          subst (λ (s : Story). StandsAfterAnswered old.places (units_on old.places) (whole empty) script (said s) y) (sym none)
           (near_silent (λ (s : State). StandsIn old.places (units_on old.places) (chart_of y) (whole s.map))
           (limits_of (units_on old.places)) (at_rest empty) (commands_of script) stands);
     }

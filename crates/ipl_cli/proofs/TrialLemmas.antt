@@ -29,7 +29,7 @@ use Rattle.store_trait.specs.Onward.{Onward}
 use Rattle.store_trait.specs.declared.fault.Fault.TheVariants as fault
 use Rattle.store_trait.proofs.DrawLemmas.{numbers_last}
 use Rattle.store_trait.proofs.OnwardLemmas.{unrisen_later}
-use Rattle.store_laws.specs.Keeps.{limits_of}
+use Rattle.store_laws.specs.Keeps.{all_pages, limits_of}
 use Rattle.script_run.specs.declared.fault.Stop.{Stop}
 use Rattle.script_run.specs.declared.fault.Stop.TheVariants as stop
 use Rattle.script_run.specs.Goes.{Along, CompletesOver}
@@ -54,7 +54,7 @@ use Rattle.ipl_cli.proofs.StartLemmas.{cause_anew, over_cause, not_started_cause
 -- ---- what the chip stands for
 
 behind : (places : ℕ) (commands : List Command) (lines : List (List ℕ)) (x : Contents)
-    → StandsBehind (script_keeping places) (limits_of (units_on places)) (at_rest empty) commands
+    → StandsBehind (script_keeping places all_pages) (limits_of (units_on places)) (at_rest empty) commands
     lines x
     → ChipStandsBehind places commands lines x
 behind places commands [] x (done, later, are, stands) = (done, later, are, stands)
@@ -112,17 +112,17 @@ module _ (places : ℕ) (commands : List Command) (h : History) (first : Story)
   module _ (old mid new : Told) (before then : ScriptStore)
       (later : old.write_faults ≤ mid.write_faults)
       (told : mid.history ≡ option_map (adds_all first) old.history)
-      (clean : (base : Story) → AreClean ((script_keeping places).clean before) (first ++ base))
+      (clean : (base : Story) → AreClean ((script_keeping places all_pages).clean before) (first ++ base))
       (left : new.beside.left ≡ old.beside.left) where
     module _ (R : History → State → Type 0) (result : Result (Unit {0}) Stop)
-        (stays : (k : History) (s : State) → R k s → Stays (script_keeping places) limits then mid new k s)
-        (leaves : TrialRuns (script_keeping places) limits (at_rest empty) commands before (adds_all first h)
+        (stays : (k : History) (s : State) → R k s → Stays (script_keeping places all_pages) limits then mid new k s)
+        (leaves : TrialRuns (script_keeping places all_pages) limits (at_rest empty) commands before (adds_all first h)
         R then mid new result) where
       abbrev last : History
       last = adds_all leaves.added (adds_all first h)
 
-      kept_last : (s : State) → R last s → Unrisen old new → Kept places new last s
-      kept_last s so unrisen = kept places limits then new s last
+      kept_last : (s : State) → R last s → Unrisen old new → Kept all_pages places new last s
+      kept_last s so unrisen = kept all_pages places limits then new s last
           (stays last s so (unrisen_later old mid new later unrisen))
 
       all_pieces : pieces (leaves.added ++ first) ≡ pieces leaves.added
@@ -135,7 +135,7 @@ module _ (places : ℕ) (commands : List Command) (h : History) (first : Story)
       all_history = history_behind first leaves.added h
 
       later_found : AtEachMoment (λ f. Found (f ++ first)) leaves.added
-      later_found = at_weaker (λ e. Leaves (says sector_in) (StandsBehind (script_keeping places) limits
+      later_found = at_weaker (λ e. Leaves (says sector_in) (StandsBehind (script_keeping places all_pages) limits
           (at_rest empty) commands (pieces e)) (adds_all first h) e) (λ f. Found (f ++ first))
           leaves.added (λ f found x image.
           subst (λ (lines : List (List ℕ)). ChipStandsBehind places commands lines x)
@@ -151,7 +151,7 @@ module _ (places : ℕ) (commands : List Command) (h : History) (first : Story)
       rested s so = λ unrisen. subst (λ (k : History). StoryRests places (whole s.map) k) all_history
           (kept_last s so unrisen).rests
 
-      along : EndsInWork (script_keeping places) limits (at_rest empty) commands (adds_all first h)
+      along : EndsInWork (script_keeping places all_pages) limits (at_rest empty) commands (adds_all first h)
           leaves.added (R last) → EndsAlong Resting places commands (pieces (leaves.added ++ first))
       along e = record {
         done = e.done;
@@ -162,7 +162,7 @@ module _ (places : ℕ) (commands : List Command) (h : History) (first : Story)
         rests = rested (state_after places e.done) e.rests;
       }
 
-      ends_by : (r : Result (Unit {0}) Stop) → TrialEnds (script_keeping places) r limits (at_rest empty)
+      ends_by : (r : Result (Unit {0}) Stop) → TrialEnds (script_keeping places all_pages) r limits (at_rest empty)
           commands (adds_all first h) leaves.added (R last)
           → EndsTrial (ending_of r) Resting places commands (pieces (leaves.added ++ first))
       ends_by (Ok u) e = rested (state_after places commands) e.rests
@@ -178,7 +178,7 @@ module _ (places : ℕ) (commands : List Command) (h : History) (first : Story)
       ends_by (Err stop.TooLong) e = absurd e
 
       steady_by : (r : Result (Unit {0}) Stop)
-          → TrialEnds (script_keeping places) r limits (at_rest empty) commands (adds_all first h)
+          → TrialEnds (script_keeping places all_pages) r limits (at_rest empty) commands (adds_all first h)
           leaves.added (R last) → Unrisen old new → IsSteady last new
       steady_by (Ok u) e unrisen = (kept_last (state_after places commands) e.rests
           unrisen).steady
@@ -231,11 +231,11 @@ module _ (old mid : Told) (store : ScriptStore) (s : StartsOpened false old stor
   -- the store keeps no records, with all units
   keeps_none : (h : History) (steady : IsSteady h old) (rests : StoryRests old.places (whole empty) h)
       → store.store.units ≡ units_on old.places
-      → KeepsScript old.places (limits_of (units_on old.places)) store mid
+      → KeepsScript old.places all_pages (limits_of (units_on old.places)) store mid
       (adds_all (s.tries.steps (whole empty) h steady rests).2.added h) (at_rest empty)
-  keeps_none h steady rests many = subst (λ (u : ℕ). KeepsScript old.places (limits_of u) store mid
+  keeps_none h steady rests many = subst (λ (u : ℕ). KeepsScript old.places all_pages (limits_of u) store mid
       (adds_all (s.tries.steps (whole empty) h steady rests).2.added h) (at_rest empty)) many
-      (opened_keeps old mid store s empty h steady rests)
+      (opened_keeps old mid store s all_pages empty h steady rests)
 
   -- an opening leaves all units at each moment
   opened_all : (h : History) (steady : IsSteady h old) (rests : StoryRests old.places (whole empty) h)
@@ -244,10 +244,10 @@ module _ (old mid : Told) (store : ScriptStore) (s : StartsOpened false old stor
       (s.tries.steps (whole empty) h steady rests).2.added
   opened_all h steady rests many = subst (λ (n : ℕ). AtEachMoment (λ e. EachStandsIn old.places n (whole empty)
       (adds_all e h)) (s.tries.steps (whole empty) h steady rests).2.added) many
-      (opened_each old mid store s empty h steady rests)
+      (opened_each old mid store s all_pages empty h steady rests)
 
   abbrev Ran : Result (Unit {0}) Stop → ℕ → Type 0
-  Ran result units = RunsTrial (script_keeping old.places) (trial_commands units seed count) store
+  Ran result units = RunsTrial (script_keeping old.places all_pages) (trial_commands units seed count) store
       mid result then new
 
   opened_so : (result : Result (Unit {0}) Stop) → Ran result (units_on old.places)
@@ -262,7 +262,7 @@ module _ (old mid : Told) (store : ScriptStore) (s : StartsOpened false old stor
       (λ base good. did.does.lawful.lawful base good (taken base (λ p q none. absurd none)))
       old mid new store then s.tries.accounts.counts.writes
       did.history (λ base. did.does.clean refl base (taken base (λ p q none. absurd none))) left_alone
-      (KeepsScript old.places (limits_of (units_on old.places)) then new) (Ok tt)
+      (KeepsScript old.places all_pages (limits_of (units_on old.places)) then new) (Ok tt)
       (λ k state held unrisen. held)
       (run (limits_of (units_on old.places)) (at_rest empty) (adds_all did.added h)
       (keeps_none h steady rests many))
@@ -274,17 +274,17 @@ module _ (old mid : Told) (store : ScriptStore) (s : StartsOpened false old stor
       (λ base good. did.does.lawful.lawful base good (taken base (λ p q none. absurd none)))
       old mid new store then s.tries.accounts.counts.writes
       did.history (λ base. did.does.clean refl base (taken base (λ p q none. absurd none))) left_alone
-      (Stays (script_keeping old.places) (limits_of (units_on old.places)) then mid new) (Err e)
+      (Stays (script_keeping old.places all_pages) (limits_of (units_on old.places)) then mid new) (Err e)
       (λ k state stays. stays)
       (run (limits_of (units_on old.places)) (at_rest empty) (adds_all did.added h)
       (keeps_none h steady rests many))
 
   opened_trial : (result : Result (Unit {0}) Stop)
-      → RunsTrial (script_keeping mid.places) (trial_commands store.store.units seed count) store
+      → RunsTrial (script_keeping mid.places all_pages) (trial_commands store.store.units seed count) store
       mid result then new → TrialsOpened seed count old new (ending_of result)
   opened_trial result run = λ h steady rests all.
       let many = units_told old mid store s h steady ∙ all in
-      opened_so result (subst (Ran result) many (subst (λ (n : ℕ). RunsTrial (script_keeping n)
+      opened_so result (subst (Ran result) many (subst (λ (n : ℕ). RunsTrial (script_keeping n all_pages)
       (trial_commands store.store.units seed count) store mid result then new)
       s.tries.accounts.counts.places run)) h steady rests many
 
@@ -490,15 +490,15 @@ module _ (seed count units : ℕ) (before then : ScriptStore) (old new : Told)
     (units_are : units ≡ before.store.units)
     (low : next_number before ≤ FOUND_NUMBER) where
   pub tries_over : (result : Result (Unit {0}) Stop)
-      → RunsTrial (script_keeping old.places) (trial_commands units seed count) before old result
+      → RunsTrial (script_keeping old.places all_pages) (trial_commands units seed count) before old result
       then new
-      → Along (script_keeping old.places) Onward SCRIPT_DRAWS before old result then new
-      → CompletesOver (script_keeping old.places) SCRIPT_DRAWS before old result then new
+      → Along (script_keeping old.places all_pages) Onward SCRIPT_DRAWS before old result then new
+      → CompletesOver (script_keeping old.places all_pages) SCRIPT_DRAWS before old result then new
       → IfErr result IsTrialStop → TriesOver seed count (ending_of result) before old then new
   tries_over result run goes completes stops = record {
     result = result;
     ending_is = refl;
-    trial = subst (λ (n : ℕ). RunsTrial (script_keeping old.places) (trial_commands n seed count)
+    trial = subst (λ (n : ℕ). RunsTrial (script_keeping old.places all_pages) (trial_commands n seed count)
         before old result then new) units_are run;
     tidy = goes.tidy;
     completes = completes;

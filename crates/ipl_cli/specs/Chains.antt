@@ -3,17 +3,18 @@ use Rattle.std.specs.Prelude.{◌≡◌, List, Some, ℕ}
 use Rattle.std.specs.FinMap.{empty}
 use Rattle.chip_trait.specs.Told.{History, Told}
 use Rattle.ipl_model.specs.State.{Map}
-use Rattle.ipl_meaning.specs.Legible.{whole}
+use Rattle.ipl_meaning.specs.Legible.{Legible, IsToldApart, whole}
 use Rattle.ipl_meaning.specs.Rests.{now, StoryRests}
 use Rattle.unit_io.specs.Leads.{IsSteady}
 use Rattle.ipl_meaning.specs.Chosen.{units_at}
 
--- no write has failed, a history that leaves what the chip holds rests on these records, and this is
--- left of the script
-pub record RestsOn (m : Map) (script : List ℕ) (t : Told) : Type 0 where
+-- no write has failed, a history that leaves what the chip holds rests on these records, whichever pages don't read well, and
+-- this is left of the script
+pub record RestsOn (m : Legible) (script : List ℕ) (t : Told) : Type 0 where
   pub history : History
   pub steady : IsSteady history t
-  pub rests : StoryRests t.places (whole m) history
+  pub rests : StoryRests t.places m history
+  pub apart : IsToldApart m.pages
   pub left : t.beside.left ≡ Some script
 
 -- no write has failed, the chip tells what it holds, and this is left of the script

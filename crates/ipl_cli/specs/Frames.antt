@@ -4,13 +4,13 @@ use Rattle.chip_trait.specs.Told.{Told}
 use Rattle.command_line.specs.declared.asked.Request.TheVariants.{Format, Run, Serial, Check, Trial}
 use Rattle.ipl_model.specs.Grammar.{commands_of}
 use Rattle.ipl_model.specs.State.{Map}
-use Rattle.ipl_meaning.specs.Legible.{whole}
+use Rattle.ipl_meaning.specs.Legible.{Legible, IsToldApart}
 use Rattle.ipl_meaning.specs.Rests.{StoryRests}
 use Rattle.script_store.specs.declared.store.ScriptStore.{ScriptStore}
 use Rattle.script_store.specs.Closes.{MarksSince}
 use Rattle.store_trait.specs.Keeping.{restarts}
 use Rattle.ipl_cli.specs.Ending.{AskedFor, but_noted}
-use Rattle.ipl_cli.specs.Runs.{StartsOpened, StartsFormatted, RunsOver, TriesOver, EndsClosed}
+use Rattle.ipl_cli.specs.Runs.{StartsOpened, StartsFormatted, RunsAsAsked, TriesOver, EndsClosed}
 use Rattle.ipl_cli.specs.Top.{OverTold}
 
 -- A store of so many frames was started so over the chip, and then it did this to its end.
@@ -26,14 +26,15 @@ pub record DoesWith (Starts : Told → ScriptStore → Told → Type 0)
   pub does : Does store started then last
   pub noted : new ≡ but_noted last new.beside.noted
 
--- a run and a trial are done by a store of as many frames as the words ask for
+-- a run and a trial are done by a store of as many frames as the words ask for; a run that isn't to close the chip does nothing
+-- behind the last reply
 abbrev pub DoesAsAsked : AskedFor → Told → Told → Type 0
 DoesAsAsked None old new = Unit {0}
 DoesAsAsked (Some (Format spares)) old new = Unit {0}
 DoesAsAsked (Some (Run frames true closes)) old new =
-    DoesWith StartsFormatted (RunsOver (Ok tt)) frames old new
+    DoesWith StartsFormatted (RunsAsAsked closes) frames old new
 DoesAsAsked (Some (Run frames false closes)) old new =
-    DoesWith (StartsOpened true) (RunsOver (Ok tt)) frames old new
+    DoesWith (StartsOpened true) (RunsAsAsked closes) frames old new
 DoesAsAsked (Some Serial) old new = Unit {0}
 DoesAsAsked (Some Check) old new = Unit {0}
 DoesAsAsked (Some (Trial seed count frames)) old new =
@@ -43,7 +44,7 @@ DoesAsAsked (Some (Trial seed count frames)) old new =
 -- unit's place that was erased since, and not programmed, is marked.
 abbrev pub MarksWhatWasErased : Told → Told → Type 0
 MarksWhatWasErased old new = OverTold
-    (λ places script h. old.history ≡ Some h → (m : Map) → StoryRests places (whole m) h
+    (λ places script h. old.history ≡ Some h → (m : Legible) → StoryRests places m h → IsToldApart m.pages
     → restarts (commands_of script) ≡ false → MarksSince places h new) old
 
 -- what a close leaves of a chip that was opened

@@ -7,11 +7,10 @@ use Rattle.ipl_base.specs.declared.fault.FormatFault.{FormatFault}
 use Rattle.ipl_base.specs.declared.fault.FormatFault.TheVariants as format
 use Rattle.ipl_base.specs.declared.fault.ImageFault.{ImageFault}
 use Rattle.ipl_base.specs.declared.fault.ImageFault.TheVariants as image
-use Rattle.ipl_meaning.specs.Legible.{whole}
+use Rattle.ipl_meaning.specs.Legible.{Legible, IsToldApart}
 use Rattle.ipl_meaning.specs.Tables.{Tables}
 use Rattle.ipl_meaning.specs.Rests.{now, StoryRests}
 use Rattle.ipl_model.specs.Grammar.{commands_of}
-use Rattle.ipl_model.specs.State.{Map}
 use Rattle.ipl_meaning.specs.Chosen.{units_at}
 use Rattle.restart.specs.Fresh.{Formats, TellsFresh}
 use Rattle.store_trait.specs.Onward.{Onward, Further}
@@ -21,12 +20,13 @@ use Rattle.store_trait.specs.declared.fault.Fault.TheVariants as fault
 use Rattle.script_run.specs.declared.fault.Stop.{Stop}
 use Rattle.script_run.specs.declared.fault.Stop.TheVariants as stop
 use Rattle.script_run.specs.Behind.{stop_of}
-use Rattle.script_run.specs.Goes.{LearnsAlong, StopCause, CompletesOver, ReadsAll, RunsScript}
+use Rattle.script_run.specs.Goes.{EndsReplied, LearnsAlong, StopCause, CompletesOver, ReadsAll, RunsScript}
 use Rattle.page_frames.specs.Pages.{tables_in}
 use Rattle.ipl_store.specs.declared.store.Store.{Store}
 use Rattle.ipl_store.specs.Calls.{IsSound}
 use Rattle.ipl_store.specs.Openings.{OpensStore, Tries}
 use Rattle.script_store.specs.declared.store.ScriptStore.{ScriptStore}
+use Rattle.store_laws.specs.Keeps.{KnownPages, all_pages}
 use Rattle.script_store.specs.Keeps.{IsRunning, script_keeping}
 use Rattle.script_store.specs.Closes.{MarksRecalled, ClosesAtEnd}
 use Rattle.restart.specs.Closing.{EndsWithMark}
@@ -123,26 +123,33 @@ abbrev pub ending_of : Result (Unit {0}) Stop → Ending
 ending_of (Ok u) = Ok u
 ending_of (Err s) = Err (end_of s)
 
--- The script was run to its end, or to where it stopped, and it ends so.
-pub record RunsOver (ending : Ending) (before : ScriptStore) (old : Told) (then : ScriptStore)
-    (new : Told) : Type 0 where
-  pub result : Result (Unit {0}) Stop
-  pub ending_is : ending ≡ ending_of result
-  pub runs : RunsScript (script_keeping old.places) before old result then new
-  pub tidy : LeavesTidy (script_keeping old.places) before then old new (is_ok result)
-  pub completes : CompletesOver (script_keeping old.places) (SCRIPT_DRAWS + WORK_DRAWS) before old result then new
-  pub cause : IfErr result (λ s. StopCause (script_keeping old.places) old new s)
-  pub learns : LearnsAlong (script_keeping old.places) before old result then new
+-- What a run over a script leaves, with a close behind it or without, to its end or to where it stopped: the records of whatever
+-- pages are known to read, and what else it does, which asks nothing of pages.
+pub record HasRun (result : Result (Unit {0}) Stop) (before : ScriptStore) (old : Told) (then : ScriptStore) (new : Told)
+    : Type 0 where
+  pub runs : (known : KnownPages) → RunsScript (script_keeping old.places known) before old result then new
+  pub tidy : LeavesTidy (script_keeping old.places all_pages) before then old new (is_ok result)
+  pub completes : CompletesOver (script_keeping old.places all_pages) (SCRIPT_DRAWS + WORK_DRAWS) before old result then new
+  pub cause : IfErr result (λ s. StopCause (script_keeping old.places all_pages) old new s)
+  pub learns : LearnsAlong (script_keeping old.places all_pages) before old result then new
   pub unspent : IsErrOf result (stop.Store fault.Spent) → ⊥
   pub long : IsErrOf result stop.TooLong → IsTooLong old new
   pub further : Further old new
   pub read : OnOk result (ReadsAll old new)
 
+-- The script was run to its end, or to where it stopped, and it ends so.
+pub record RunsOver (ending : Ending) (before : ScriptStore) (old : Told) (then : ScriptStore)
+    (new : Told) : Type 0 where
+  pub result : Result (Unit {0}) Stop
+  pub ending_is : ending ≡ ending_of result
+  pub run : HasRun result before old then new
+
 -- A chip was opened whose marks count or don't, and a script was run: from the records on which its history
--- rests, on as many units as it says. Where marks don't count, nothing that is marked was used.
+-- rests, on as many units as it says, whichever pages don't read well. Where marks don't count, nothing that is marked was
+-- used.
 abbrev pub RunsFrom : Bool → Told → Told → Ending → Type 0
 RunsFrom marks old new ending = OverTold
-    (λ places script h. (m : Map) → StoryRests places (whole m) h → WereUnused (not marks) places h
+    (λ places script h. (m : Legible) → StoryRests places m h → IsToldApart m.pages → WereUnused (not marks) places h
     → Runs marks places (units_at (now h) places) m script h [] old new ending) old
 
 -- ---- a close behind a run
@@ -152,7 +159,7 @@ pub record ClosesBehind (result : Result (Unit {0}) Stop) (before : ScriptStore)
     (new : Told) : Type 0 where
   pub closed : Result (Unit {0}) Fault
   pub result_is : result ≡ stop_of closed
-  pub closes : ClosesAtEnd before old closed then new
+  pub closes : (known : KnownPages) → ClosesAtEnd known before old closed then new
 
 -- the last two events since were the program of a mark and a barrier
 abbrev pub EndsClosed : Told → Told → Type 0
@@ -160,27 +167,26 @@ EndsClosed = Spends EndsWithMark
 
 -- What was erased since an entry and not programmed is marked, where no command of the script opens the chip again.
 abbrev pub MarksBehind : ScriptStore → Told → Told → Type 0
-MarksBehind before old new = (script : List ℕ) → old.beside.left ≡ Some script
-    → restarts (commands_of script) ≡ false → MarksRecalled before old new
+MarksBehind before old new = (known : KnownPages) (script : List ℕ) → old.beside.left ≡ Some script
+    → restarts (commands_of script) ≡ false → MarksRecalled known before old new
 
 -- what a close leaves behind a script
 pub record ClosesScript (before : ScriptStore) (old new : Told) : Type 0 where
   pub ends : EndsClosed old new
   pub marked : MarksBehind before old new
 
--- The script was run to its end and the chip closed behind it, where that is asked; or it stopped.
+-- The script was run to its end, and the chip closed behind it where that is asked, where else nothing is done behind the
+-- last reply; or it stopped.
 pub record RunsClosing (closes : Bool) (result : Result (Unit {0}) Stop) (before : ScriptStore) (old : Told)
     (then : ScriptStore) (new : Told) : Type 0 where
-  pub runs : RunsScript (script_keeping old.places) before old result then new
-  pub tidy : LeavesTidy (script_keeping old.places) before then old new (is_ok result)
-  pub completes : CompletesOver (script_keeping old.places) (SCRIPT_DRAWS + WORK_DRAWS) before old result then new
-  pub cause : IfErr result (λ s. StopCause (script_keeping old.places) old new s)
-  pub learns : LearnsAlong (script_keeping old.places) before old result then new
-  pub unspent : IsErrOf result (stop.Store fault.Spent) → ⊥
-  pub long : IsErrOf result stop.TooLong → IsTooLong old new
-  pub further : Further old new
-  pub read : OnOk result (ReadsAll old new)
+  pub run : HasRun result before old then new
   pub closed : OnOk result (closes ≡ true → ClosesScript before old new)
+  pub last : OnOk result (closes ≡ false → EndsReplied old new)
+
+-- The script was run to its end by a store: where no close is asked, nothing was done behind the last reply.
+pub record RunsAsAsked (closes : Bool) (before : ScriptStore) (old : Told) (then : ScriptStore) (new : Told) : Type 0 where
+  pub over : RunsOver (Ok tt) before old then new
+  pub last : closes ≡ false → EndsReplied old new
 
 -- ---- the trial
 
@@ -190,12 +196,12 @@ pub record TriesOver (seed count : ℕ) (ending : Ending) (before : ScriptStore)
     (then : ScriptStore) (new : Told) : Type 0 where
   pub result : Result (Unit {0}) Stop
   pub ending_is : ending ≡ ending_of result
-  pub trial : RunsTrial (script_keeping old.places) (trial_commands before.store.units seed count)
+  pub trial : RunsTrial (script_keeping old.places all_pages) (trial_commands before.store.units seed count)
       before old result then new
-  pub tidy : LeavesTidy (script_keeping old.places) before then old new (is_ok result)
-  pub completes : CompletesOver (script_keeping old.places) SCRIPT_DRAWS before old result then new
-  pub cause : IfErr result (λ s. StopCause (script_keeping old.places) old new s)
-  pub learns : LearnsAlong (script_keeping old.places) before old result then new
+  pub tidy : LeavesTidy (script_keeping old.places all_pages) before then old new (is_ok result)
+  pub completes : CompletesOver (script_keeping old.places all_pages) SCRIPT_DRAWS before old result then new
+  pub cause : IfErr result (λ s. StopCause (script_keeping old.places all_pages) old new s)
+  pub learns : LearnsAlong (script_keeping old.places all_pages) before old result then new
   pub unspent : IsErrOf result (stop.Store fault.Spent) → ⊥
   pub stops : IfErr result IsTrialStop
   pub onward : Onward old new

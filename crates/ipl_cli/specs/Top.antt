@@ -16,7 +16,7 @@ use Rattle.ipl_model.specs.State.{State, Map, at_rest}
 use Rattle.ipl_model.specs.Grammar.{commands_of}
 use Rattle.ipl_model.specs.Run.{joined, lines, after_all, IsNear}
 use Rattle.ipl_format.specs.Sector.{sector_in}
-use Rattle.ipl_meaning.specs.Legible.{whole}
+use Rattle.ipl_meaning.specs.Legible.{Legible, IsToldApart, of, whole}
 use Rattle.ipl_meaning.specs.Chart.{chart_of}
 use Rattle.ipl_meaning.specs.Marks.{IsMarked, MarksAreUnused}
 use Rattle.ipl_meaning.specs.Stands.{Stands, StandsIn}
@@ -253,10 +253,10 @@ abbrev pub IsAbout : (State → Type 0) → ℕ → Map → List ℕ → List �
 IsAbout Q units m script bytes =
     IsNear Q (limits_of units) (at_rest m) (commands_of script) bytes
 
--- the contents of a chip of so many places stand, in so many units, for the records of such a state
-abbrev pub StandsAbout : ℕ → ℕ → Map → List ℕ → List ℕ → Contents → Type 0
+-- the contents of a chip of so many places stand, in so many units, for the records of such a state, of these pages
+abbrev pub StandsAbout : ℕ → ℕ → Legible → List ℕ → List ℕ → Contents → Type 0
 StandsAbout places units m script bytes x =
-    IsAbout (λ s. StandsIn places units (chart_of x) (whole s.map)) units m script bytes
+    IsAbout (λ s. StandsIn places units (chart_of x) (of m.pages s.map)) units m.map script bytes
 
 -- the first commands of the script were answered with these lines, each said whole; Q is so of the
 -- state after them
@@ -288,7 +288,8 @@ WereUnused false places h = Unit {0}
 WereUnused true places h = MarksAreUnused places h
 
 -- What a run of a script leaves, from these records on and on so many units, after these first events
--- on a chip of so many places that holds what this history leaves, where its marks count or don't. What the chip tells grew by these
+-- on a chip of so many places that holds what this history leaves, where its marks count or don't. Of records it says those of
+-- the pages of which these are. What the chip tells grew by these
 -- events. Whatever moment the power is cut at, within a chip operation too, the chip stands for the
 -- records after the commands whose replies were said, or after one more. What is said is a beginning of
 -- the model's text, line by line. No sector is programmed twice between erases of its place,
@@ -297,7 +298,7 @@ WereUnused true places h = MarksAreUnused places h
 -- the history then leaves; that rests on such records, and by how the run ended exactly on those of the
 -- commands that are done: the next run may begin there. Where all is done, the whole text is said, and the
 -- script was read to its end.
-pub record Runs (marks : Bool) (places units : ℕ) (m : Map) (script : List ℕ) (h : History) (first : Story)
+pub record Runs (marks : Bool) (places units : ℕ) (m : Legible) (script : List ℕ) (h : History) (first : Story)
     (old new : Told) (ending : Ending) : Type 0 where
   pub added : Story
   pub history : new.history
@@ -306,25 +307,25 @@ pub record Runs (marks : Bool) (places units : ℕ) (m : Map) (script : List ℕ
       (λ e. Leaves (says sector_in) (StandsAbout places units m script (said e))
       (adds_all first h) e)
       added
-  pub replies : SaysLines (answers units m script) (pieces added)
-  pub is_prefix : IsPrefix (said added) (joined (answers units m script))
+  pub replies : SaysLines (answers units m.map script) (pieces added)
+  pub is_prefix : IsPrefix (said added) (joined (answers units m.map script))
   pub lawful : (base : Story) → IsLawful base → AreClean (AreMarked marks places h) base
       → IsLawful (added ++ (first ++ base))
   pub unused : WereUnused marks places (adds_all first h)
       → AtEachMoment (λ e. MarksAreUnused places (adds_all e (adds_all first h))) added
   pub steady : Unrisen old new → IsSteady (adds_all added (adds_all first h)) new
   pub rests : Unrisen old new
-      → IsAbout (λ s. StoryRests places (whole s.map) (adds_all added (adds_all first h))) units m script
+      → IsAbout (λ s. StoryRests places (of m.pages s.map) (adds_all added (adds_all first h))) units m.map script
       (said added)
   pub ends : EndsBy ending
-      (λ s. Unrisen old new → StoryRests places (whole s.map) (adds_all added (adds_all first h)))
-      units m script (pieces added)
+      (λ s. Unrisen old new → StoryRests places (of m.pages s.map) (adds_all added (adds_all first h)))
+      units m.map script (pieces added)
   pub read : List ℕ
   pub unread : List ℕ
   pub script_is : script ≡ read ++ unread
   pub left_is : new.beside.left ≡ Some unread
   pub all : ending ≡ Ok tt
-      → (pieces added ≡ answers units m script) × (said added ≡ joined (answers units m script))
+      → (pieces added ≡ answers units m.map script) × (said added ≡ joined (answers units m.map script))
       × (unread ≡ [])
 
 -- over each history that leaves what the chip holds, where no write has failed, and a script that is
@@ -334,16 +335,16 @@ OverTold P old = (h : History) (script : List ℕ) → IsSteady h old
     → old.beside.left ≡ Some script → P old.places script h
 
 -- The chip was opened, and the script was run: from the records on which such a history rests, on as many
--- units as the chip says. All events are in this, those of the opening too.
+-- units as the chip says, whichever pages don't read well. All events are in this, those of the opening too.
 abbrev pub RunsOpened : Told → Told → Ending → Type 0
 RunsOpened old new ending = OverTold
-    (λ places script h. (m : Map) → StoryRests places (whole m) h
+    (λ places script h. (m : Legible) → StoryRests places m h → IsToldApart m.pages
     → Runs true places (units_at (now h) places) m script h [] old new ending) old
 
 -- the chip was formatted with no place to spare, and the script was run from no records on
 abbrev pub RunsFormatted : Told → Told → Ending → Type 0
 RunsFormatted old new ending = OverTold
-    (λ places script h. Runs false places (units_on places) empty script h
+    (λ places script h. Runs false places (units_on places) (whole empty) script h
     (format_events places (units_on places)) old new ending) old
 
 -- the records after all commands of a script, on so many units, from these records on
@@ -352,32 +353,33 @@ records_after units m script =
     (after_all (limits_of units) (at_rest m) (commands_of script)).map
 
 -- the chip tells what it holds, and that stands for these records
-pub record HoldsRecords (places : ℕ) (m : Map) (t : Told) : Type 0 where
+pub record HoldsRecords (places : ℕ) (m : Legible) (t : Told) : Type 0 where
   pub contents : Contents
   pub told : t.contents ≡ Some contents
-  pub stands : Stands places (chart_of contents) (whole m)
+  pub stands : Stands places (chart_of contents) m
 
 -- Over a chip that tells what it holds, and a script that is told: where no write failed, the chip
--- holds the records after all commands at the end.
-abbrev pub EndsWithRecords : (Told → ℕ → Map → Type 0) → Told → Told → Type 0
-EndsWithRecords From old new = (units : ℕ) (m : Map) (script : List ℕ) → From old units m
+-- holds the records after all commands at the end, of the same pages.
+abbrev pub EndsWithRecords : (Told → ℕ → Legible → Type 0) → Told → Told → Type 0
+EndsWithRecords From old new = (units : ℕ) (m : Legible) (script : List ℕ) → From old units m
     → old.beside.left ≡ Some script → Unrisen old new
-    → HoldsRecords old.places (records_after units m script) new
+    → HoldsRecords old.places (of m.pages (records_after units m.map script)) new
 
--- it begins with the records that the chip holds, and with as many units as that says
-pub record FromItsRecords (old : Told) (units : ℕ) (m : Map) : Type 0 where
+-- it begins with the records that the chip holds, whichever pages don't read well, and with as many units as that says
+pub record FromItsRecords (old : Told) (units : ℕ) (m : Legible) : Type 0 where
   pub holds : HoldsRecords old.places m old
   pub units_are : units ≡ units_at (chart_of holds.contents) old.places
+  pub apart : IsToldApart m.pages
 
 -- it begins with none, whatever the chip holds, and with no place to spare
-abbrev pub FromNoRecords : Told → ℕ → Map → Type 0
-FromNoRecords old units m = (m ≡ empty) × (units ≡ units_on old.places)
+abbrev pub FromNoRecords : Told → ℕ → Legible → Type 0
+FromNoRecords old units m = (m ≡ whole empty) × (units ≡ units_on old.places)
     × ((x : Contents) × (old.contents ≡ Some x))
 
 -- the script was run, or a part of it, or the format before it was stopped
 abbrev pub RunsOrStops : Told → Told → Ending → Type 0
 RunsOrStops old new ending = OverTold
-    (λ places script h. Runs false places (units_on places) empty script h
+    (λ places script h. Runs false places (units_on places) (whole empty) script h
     (format_events places (units_on places)) old new ending
     ⊎ StopsEarly places (units_on places) h old new ending) old
 
@@ -549,7 +551,7 @@ Suffices (Format spares) old = IsSpared old.places spares
 Suffices (Run frames true closes) old = IsTold old
 Suffices (Run frames false closes) old = RestsWithNumbersLeft old
 Suffices Serial old = IsGeometry old.places
-Suffices Check old = (m : Map) × HoldsRecords old.places m old
+Suffices Check old = (m : Map) × HoldsRecords old.places (whole m) old
 Suffices (Trial seed count frames) old = IsTold old
 
 -- the script ends in time: by the count of its bytes, or as it is told

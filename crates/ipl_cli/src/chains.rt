@@ -6,7 +6,7 @@ ghost use Rattle.std.specs.String.{string_bytes};
 ghost use Rattle.chip_trait.specs.Told.{Unrisen};
 ghost use Rattle.command_line.specs.Choice.{requested};
 ghost use Rattle.command_line.specs.declared.asked.Request.TheVariants.{Format};
-ghost use Rattle.ipl_model.specs.State.{Map};
+ghost use Rattle.ipl_meaning.specs.Legible.{Legible, of, whole};
 ghost use Rattle.ipl_cli.specs.Ending.{AsksOpened, units_beside};
 ghost use Rattle.ipl_cli.specs.Top.{records_after};
 ghost use Rattle.ipl_cli.specs.Chains.{RestsOn, IsFormattable, no_records, units_kept};
@@ -19,9 +19,9 @@ use std::alloc::Global;
 /// has its premise from what is told of the first.
 pub fn run_twice<D: Desk>(alloc: Global, words: &[String], desk: &mut D) -> bool
     requires { AsksOpened (requested (map string_bytes words.now)) }
-    ensures { (m : Map) (script : List ℕ) (on : RestsOn m script (D.told desk.old))
+    ensures { (m : Legible) (script : List ℕ) (on : RestsOn m script (D.told desk.old))
         → Unrisen (D.told desk.old) (D.told desk.new) → result ≡ true
-        → RestsOn (records_after (units_kept (D.told desk.old) on.history) m script) []
+        → RestsOn (of m.pages (records_after (units_kept (D.told desk.old) on.history) m.map script)) []
         (D.told desk.new) }
 {
     if top(alloc, words, desk) != 0 {
@@ -42,7 +42,7 @@ pub fn format_and_run<D: Desk>(
         → requested (map string_bytes first.now) ≡ Some (Format spares)
         → IsFormattable script (D.told desk.old)
         → Unrisen (D.told desk.old) (D.told desk.new) → result ≡ true
-        → RestsOn (records_after (units_beside (D.told desk.old).places spares) no_records script) []
+        → RestsOn (whole (records_after (units_beside (D.told desk.old).places spares) no_records script)) []
         (D.told desk.new) }
 {
     if top(alloc, first, desk) != 0 {

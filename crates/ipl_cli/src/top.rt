@@ -6,7 +6,7 @@ ghost use Rattle.ipl_base.specs.declared.limits.TheConstants.{MOST_SPARES};
 ghost use Rattle.ipl_base.specs.Places.{IsGeometry};
 ghost use Rattle.store_trait.specs.Keeping.{FOUND_NUMBER};
 ghost use Rattle.store_trait.specs.Onward.{Further};
-ghost use Rattle.script_run.specs.Goes.{ReadsAll};
+ghost use Rattle.script_run.specs.Goes.{EndsReplied, ReadsAll};
 ghost use Rattle.script_store.specs.Keeps.{IsRunning, next_number};
 ghost use Rattle.ipl_store.specs.Calls.{IsSound};
 ghost use Rattle.command_line.specs.Asked.{IsInBounds};
@@ -24,7 +24,7 @@ ghost use Rattle.ipl_cli.specs.Top.{EndsWithRecords, FromItsRecords, FromNoRecor
 ghost use Rattle.ipl_cli.specs.Top.{IsStray, StrayCause, SpentCause, AnewCause, LacksUnits, EndsUnfit, IsCalm, Suffices, EndsInTime, Ends, WearsAsAsked};
 ghost use Rattle.ipl_cli.specs.Survives.{Survives, SurvivesAnew};
 ghost use Rattle.ipl_cli.specs.Frames.{DoesWith, DoesAsAsked, ClosesOpened, ClosesAsAsked};
-ghost use Rattle.ipl_cli.specs.Runs.{StartsFormatted, StartsOpened, MakesStore, FormatsFirst, OpensOver, IsNotStarted, ClosesBehind, EndsClosed, ClosesScript, RunsClosing, RunsOver, TriesOver, end_of};
+ghost use Rattle.ipl_cli.specs.Runs.{StartsFormatted, StartsOpened, MakesStore, FormatsFirst, OpensOver, IsNotStarted, ClosesBehind, EndsClosed, ClosesScript, RunsClosing, RunsOver, RunsAsAsked, TriesOver, end_of};
 
 use crate::checking::check_chip;
 use chip_trait::Desk;
@@ -185,6 +185,7 @@ fn run_over<D: Desk>(store: &mut ScriptStore, desk: &mut D, closes: bool) -> Res
     requires left { next_number store.old ≤ FOUND_NUMBER }
     ensures runs { RunsOver result store.old (D.told desk.old) store.new (D.told desk.new) }
     ensures closed { OnOk result (closes ≡ true → ClosesScript store.old (D.told desk.old) (D.told desk.new)) }
+    ensures last { OnOk result (closes ≡ false → EndsReplied (D.told desk.old) (D.told desk.new)) }
 {
     match run_closing(store, desk, closes) {
         Ok(()) => Ok(()),
@@ -197,7 +198,7 @@ fn run_formatted<D: Desk>(alloc: Global, frames: u32, closes: bool, desk: &mut D
     requires two { 2 ≤ frames }
     requires few { frames ≤ 64 }
     ensures leaves { FormattedLeaves result (D.told desk.old) (D.told desk.new) }
-    ensures framed { OnOk result (DoesWith StartsFormatted (RunsOver (Ok tt)) frames
+    ensures framed { OnOk result (DoesWith StartsFormatted (RunsAsAsked closes) frames
         (D.told desk.old) (D.told desk.new)) }
     ensures closed { OnOk result (closes ≡ true → EndsClosed (D.told desk.old) (D.told desk.new)) }
     ensures cause { EndCause (Some (Run frames true closes)) result (D.told desk.old) (D.told desk.new) }
@@ -214,7 +215,7 @@ fn run_opened<D: Desk>(alloc: Global, frames: u32, closes: bool, desk: &mut D) -
     requires two { 2 ≤ frames }
     requires few { frames ≤ 64 }
     ensures leaves { OpenedLeaves result (D.told desk.old) (D.told desk.new) }
-    ensures framed { OnOk result (DoesWith (StartsOpened true) (RunsOver (Ok tt)) frames
+    ensures framed { OnOk result (DoesWith (StartsOpened true) (RunsAsAsked closes) frames
         (D.told desk.old) (D.told desk.new)) }
     ensures closed { OnOk result (closes ≡ true → ClosesOpened (D.told desk.old) (D.told desk.new)) }
     ensures cause { EndCause (Some (Run frames false closes)) result (D.told desk.old) (D.told desk.new) }
@@ -399,7 +400,8 @@ pub fn top<D: Desk>(alloc: Global, words: &[String], desk: &mut D) -> u8
         → (result ≡ 0) ⊎ (result ≡ 6) ⊎ (result ≡ 7) ⊎ (result ≡ 8)
         → IsLaidWell (D.told desk.old) × IsGeometry (D.told desk.old).places }
 
-    // At 0 it was done by a store of as many page frames as the words ask for.
+    // At 0 it was done by a store of as many page frames as the words ask for. A run that isn't to close the chip
+    // did nothing behind its last reply.
     ensures framed { result ≡ 0
         → DoesAsAsked (requested (map string_bytes words.now)) (D.told desk.old) (D.told desk.new) }
 

@@ -8,12 +8,12 @@ use Rattle.ipl_base.specs.declared.fault.StoreFault.TheVariants as store
 use Rattle.ipl_model.specs.State.{Map, State, is_open}
 use Rattle.ipl_model.specs.Refusals.{refuses_end}
 use Rattle.ipl_model.specs.Operations.{after_write}
-use Rattle.ipl_meaning.specs.Legible.{whole, every}
+use Rattle.ipl_meaning.specs.Legible.{of}
 use Rattle.ipl_meaning.specs.Rests.{EachStandsEitherIn}
 use Rattle.record_locks.specs.Standing.{state_of}
 use Rattle.unit_io.specs.Steps.{Settled, EndsWith, Steps}
 use Rattle.page_frames.specs.Pages.{tables_in}
-use Rattle.store_laws.specs.Keeps.{limits_of, KeepsStore}
+use Rattle.store_laws.specs.Keeps.{KnownPages, limits_of, KeepsStore}
 use Rattle.store_laws.specs.Refusals.{sessions_refuse_del}
 use Rattle.store_laws.proofs.StepLemmas.{steps_then, steps_weaker}
 use Rattle.ipl_store.specs.declared.store.Store.{Store}
@@ -63,13 +63,13 @@ write_is_up : (a : Store) (refusal : Option Refusal) → early_fault (entry_faul
     → a.down ≡ false
 write_is_up a refusal none = (let_in a refusal none).0
 
-module _ (s n : ℕ) (w : KeyWrite) (a b : Store) (before after : Told) (h : History) (state : State)
-    (k : KeyState) (keeps : KeepsStore before.places every (limits_of a.units) (view_of a) before h state)
+module _ (known : KnownPages) (s n : ℕ) (w : KeyWrite) (a b : Store) (before after : Told) (h : History) (state : State)
+    (k : KeyState) (keeps : KeepsStore before.places known.pages (limits_of a.units) (view_of a) before h state)
     (has : HasKeyState a.units state k) where
   abbrev turn : KeyState → KeyState
   turn k = after_key_write k s w
 
-  own : KeepsKeys before.places a before h k
+  own : KeepsKeys before.places known a before h k
   own = record { state = state; keeps = keeps; has = has }
 
   -- of bytes that say the session's next writes
@@ -81,12 +81,12 @@ module _ (s n : ℕ) (w : KeyWrite) (a b : Store) (before after : Told) (h : His
 
       put_ends : (fault : StoreFault) (r : Result Bool StoreFault) → (r ≡ Ok true → ⊥) → (later : History)
           → EndsWith r
-          (λ v l. KeepsStore before.places every (limits_of a.units) (view_of b) after l (put_next s n bytes r state))
-          (λ l. KeepsStore before.places every (limits_of a.units) (view_of b) after l state) later
-          → KeepsKeys before.places b after later k
+          (λ v l. KeepsStore before.places known.pages (limits_of a.units) (view_of b) after l (put_next s n bytes r state))
+          (λ l. KeepsStore before.places known.pages (limits_of a.units) (view_of b) after l state) later
+          → KeepsKeys before.places known b after later k
       put_ends fault (Ok true) never later kept = absurd (never refl)
-      put_ends fault (Ok false) never later kept = keeps_keys before.places a b after later state k kept has
-      put_ends fault (Err e) never later kept = keeps_keys before.places a b after later state k kept has
+      put_ends fault (Ok false) never later kept = keeps_keys known before.places a b after later state k kept has
+      put_ends fault (Err e) never later kept = keeps_keys known before.places a b after later state k kept has
 
       put_less : (fault : StoreFault) (r : Result Bool StoreFault)
           → Settled {T = Unit {0}} {E = KeyFault} (Err (key.Store fault)) before after → Settled r before after
@@ -94,17 +94,17 @@ module _ (s n : ℕ) (w : KeyWrite) (a b : Store) (before after : Told) (h : His
       put_less fault (Err e) settled = settled
 
       put_served : (answer : Result (Unit {0}) StoreFault)
-          → StoreSteps (put_next s n bytes (found_room answer)) a before (found_room answer) b after h state
-          → ServesFor turn AnswersNothing a before (handed answer) b after h k
+          → StoreSteps known (put_next s n bytes (found_room answer)) a before (found_room answer) b after h state
+          → ServesFor known turn AnswersNothing a before (handed answer) b after h k
       put_served (Ok v) did = record {
-        steps = keys_steps {T = Bool} {U = Unit {0}} (put_next s n bytes (Ok true)) turn AnswersNothing a b before after
+        steps = keys_steps {T = Bool} {U = Unit {0}} known (put_next s n bytes (Ok true)) turn AnswersNothing a b before after
             (Ok true) (handed (Ok v)) h state k has.keys then_has.keys (λ s. s)
-            (λ later kept. (keeps_keys before.places a b after later (after_write state s (n, Some bytes)) (turn k) kept then_has, tt))
+            (λ later kept. (keeps_keys known before.places a b after later (after_write state s (n, Some bytes)) (turn k) kept then_has, tt))
             did;
         buckets = tt;
       }
       put_served (Err fault) did = record {
-        steps = keys_steps {T = Bool} {U = Unit {0}} (put_next s n bytes (found_room (Err fault))) turn AnswersNothing
+        steps = keys_steps {T = Bool} {U = Unit {0}} known (put_next s n bytes (found_room (Err fault))) turn AnswersNothing
             a b before after (found_room (Err fault)) (handed (Err fault)) h state k has.keys
             (put_keys (found_room (Err fault))) (put_less fault (found_room (Err fault)))
             (put_ends fault (found_room (Err fault)) (never_room fault)) did;
@@ -112,32 +112,32 @@ module _ (s n : ℕ) (w : KeyWrite) (a b : Store) (before after : Told) (h : His
       }
 
       put_refused : (answer : Result (Unit {0}) StoreFault) (fault : StoreFault)
-          → found_room answer ≡ Err fault → ServesFor turn AnswersNothing a before (handed answer) a before h k
+          → found_room answer ≡ Err fault → ServesFor known turn AnswersNothing a before (handed answer) a before h k
       put_refused (Ok v) fault is = absurd (cc is)
-      put_refused (Err e) fault is = nothing_serves turn AnswersNothing a before (key.Store e) h k tt own
+      put_refused (Err e) fault is = nothing_serves known turn AnswersNothing a before (key.Store e) h k tt own
 
       put_serves : (answer : Result (Unit {0}) StoreFault) → PutsBytes s n bytes a before answer b after
-          → ServesFor turn AnswersNothing a before (handed answer) b after h k
+          → ServesFor known turn AnswersNothing a before (handed answer) b after h k
       put_serves answer puts = by_early (put_fault a s n bytes) refl
         where
           by_early : (o : Option StoreFault) → put_fault a s n bytes ≡ o
-              → ServesFor turn AnswersNothing a before (handed answer) b after h k
+              → ServesFor known turn AnswersNothing a before (handed answer) b after h k
           by_early None is = put_served answer
-              (leads_steps (put_next s n bytes (found_room answer)) a b before after (found_room answer) h state
+              (leads_steps known (put_next s n bytes (found_room answer)) a b before after (found_room answer) h state
               (write_is_up a _ is) puts.calls.units (puts.calls.serves is).leads keeps)
           by_early (Some fault) is =
               let (answered, same, idle) = puts.calls.refuses fault is in
-              subst (λ (t : Told). ServesFor turn AnswersNothing a before (handed answer) b t h k) (sym idle)
-              (subst (λ (x : Store). ServesFor turn AnswersNothing a before (handed answer) x before h k) (sym same)
+              subst (λ (t : Told). ServesFor known turn AnswersNothing a before (handed answer) b t h k) (sym idle)
+              (subst (λ (x : Store). ServesFor known turn AnswersNothing a before (handed answer) x before h k) (sym same)
               (put_refused answer fault answered))
 
   -- a put or a delete of what is written for pairs
   writes_serve : (answer : Result (Unit {0}) StoreFault) (change : Option (List ℕ))
       → HasKeyState a.units (after_write state s (n, change)) (turn k)
       → WritesName s n change a before answer b after
-      → ServesFor turn AnswersNothing a before (handed answer) b after h k
+      → ServesFor known turn AnswersNothing a before (handed answer) b after h k
   writes_serve answer None then_has did =
-      call_serves (λ st. after_write st s (n, None)) turn a b before after h k
+      call_serves known (λ st. after_write st s (n, None)) turn a b before after h k
       (early_fault (entry_fault a) (sessions_refuse_del (limits_of a.units) a.transactions.sessions s n)) 14
       answer (write_is_up a _) did state keeps has (λ up. then_has)
   writes_serve answer (Some bytes) then_has did = put_serves bytes then_has answer did
@@ -165,19 +165,19 @@ after_home units w pairs home = by_change w.1
     by_change None = removals_keep_home units (bucket_of units w.0) w.0 pairs home
     by_change (Some value) = sets_keep_home units (bucket_of units w.0) w.0 value pairs refl home
 
-module _ (s : ℕ) (w : KeyWrite) (mid b : Store) (told after : Told) (h : History) (state : State)
+module _ (known : KnownPages) (s : ℕ) (w : KeyWrite) (mid b : Store) (told after : Told) (h : History) (state : State)
     (k : KeyState) (result : Result (Unit {0}) KeyFault)
     (running : is_open state s ≡ true) where
   -- what is left from a key state with so many units on so many places
   abbrev WritesServe : ℕ → ℕ → Type 0
   WritesServe places units = (has : HasKeyState units state k)
-      → KeepsStore places every (limits_of units) (view_of mid) told h state
+      → KeepsStore places known.pages (limits_of units) (view_of mid) told h state
       → IsBucketWritten s (bucket_of units w.0) (pairs_after w (pairs_of has s (bucket_of units w.0))) mid told
       result b after
-      → Steps (LeavesKeys places units k.map k.map) (tables_in mid.transactions.pages)
+      → Steps (LeavesKeys places known units k.map k.map) (tables_in mid.transactions.pages)
       (tables_in b.transactions.pages)
-      (λ v later. KeepsKeys places b after later (after_key_write k s w) × AnswersNothing k v)
-      (λ later. KeepsKeys places b after later k) h result told after × IfErr result IsNoBadBucket
+      (λ v later. KeepsKeys places known b after later (after_key_write k s w) × AnswersNothing k v)
+      (λ later. KeepsKeys places known b after later k) h result told after × IfErr result IsNoBadBucket
 
   at_mid : WritesServe told.places mid.units
   at_mid has keeps wrote =
@@ -188,8 +188,8 @@ module _ (s : ℕ) (w : KeyWrite) (mid b : Store) (told after : Told) (h : Histo
       record { bucket = wrote.bucket; home = home } in
       let (answer, is, did) = wrote.writes in
       let serves = subst (λ (q : Result (Unit {0}) KeyFault).
-      ServesFor (λ (x : KeyState). after_key_write x s w) AnswersNothing mid told q b after h k) (sym is)
-      (writes_serve s n w mid b told after h state k keeps has answer (written (pairs_after w pairs))
+      ServesFor known (λ (x : KeyState). after_key_write x s w) AnswersNothing mid told q b after h k) (sym is)
+      (writes_serve known s n w mid b told after h state k keeps has answer (written (pairs_after w pairs))
       (writes_keep_keys mid.units state k s w has running bucket) did) in
       (serves.steps, serves.buckets)
 
@@ -212,40 +212,40 @@ module _ (s : ℕ) (w : KeyWrite) (a b : Store) (before after : Told) (result : 
     abbrev Turn : KeyState → KeyState
     Turn k = after_key_write k s w
 
-    abbrev Serving : Result (Unit {0}) KeyFault → Store → Told → History → KeyState → Type 0
-    Serving r store t h k = ServesFor Turn AnswersNothing a before r store t h k
+    abbrev Serving : KnownPages → Result (Unit {0}) KeyFault → Store → Told → History → KeyState → Type 0
+    Serving known r store t h k = ServesFor known Turn AnswersNothing a before r store t h k
 
-    module _ (h : History) (k : KeyState) (keeps : KeepsKeys before.places a before h k) (up : a.down ≡ false)
+    module _ (known : KnownPages) (h : History) (k : KeyState) (keeps : KeepsKeys before.places known a before h k) (up : a.down ≡ false)
         (running : is_open keeps.state s ≡ true) (mid : Store) (told : Told)
         (alike : mid.units ≡ a.units) (counts : Counts before told) where
       abbrev Reading : Result (List ℕ) KeyFault → Type 0
-      Reading read = ReadSteps s name a mid before told h keeps.state k keeps.has up alike keeps.keeps read
+      Reading read = ReadSteps known s name a mid before told h keeps.state k keeps.has up alike keeps.keeps read
 
       abbrev AtRead : List ℕ → History → Type 0
-      AtRead bytes later = Read s name a mid before told h keeps.state k keeps.has up alike keeps.keeps
+      AtRead bytes later = Read known s name a mid before told h keeps.state k keeps.has up alike keeps.keeps
           bytes later
 
       abbrev AtEnd : History → Type 0
-      AtEnd later = Kept s name a mid before told h keeps.state k keeps.has up alike keeps.keeps later
+      AtEnd later = Kept known s name a mid before told h keeps.state k keeps.has up alike keeps.keeps later
 
       -- it ends with this fault once the bucket was read, or couldn't be
       ends_there : (read : Result (List ℕ) KeyFault) (fault : KeyFault) → IsNoBadBucket fault
           → (Settled {T = Unit {0}} {E = KeyFault} (Err fault) before told → Settled read before told)
           → ((later : History) → EndsWith read AtRead AtEnd later → AtEnd later)
-          → Reading read → Serving (Err fault) mid told h k
+          → Reading read → Serving known (Err fault) mid told h k
       ends_there read fault good less ends did = record {
-        steps = steps_weaker (EachStandsEitherIn before.places a.units (whole keeps.state.map) (whole keeps.state.map))
-            (LeavesKeys before.places a.units k.map k.map) (tables_in a.transactions.pages) (tables_in mid.transactions.pages)
-            (λ v later. KeepsKeys before.places mid told later (Turn k) × AnswersNothing k v)
-            (λ v later. KeepsKeys before.places mid told later (Turn k) × AnswersNothing k v)
-            (λ later. KeepsKeys before.places mid told later k) (λ later. KeepsKeys before.places mid told later k) h failed before told
-            (leaves_keys before.places a.units keeps.state.map keeps.state.map k.map k.map keeps.has.keys keeps.has.keys)
+        steps = steps_weaker (EachStandsEitherIn before.places a.units (of known.pages keeps.state.map) (of known.pages keeps.state.map))
+            (LeavesKeys before.places known a.units k.map k.map) (tables_in a.transactions.pages) (tables_in mid.transactions.pages)
+            (λ v later. KeepsKeys before.places known mid told later (Turn k) × AnswersNothing k v)
+            (λ v later. KeepsKeys before.places known mid told later (Turn k) × AnswersNothing k v)
+            (λ later. KeepsKeys before.places known mid told later k) (λ later. KeepsKeys before.places known mid told later k) h failed before told
+            (leaves_keys known before.places a.units keeps.state.map keeps.state.map k.map k.map keeps.has.keys keeps.has.keys)
             (λ v later is. is) (λ later is. is)
-            (steps_as (EachStandsEitherIn before.places a.units (whole keeps.state.map) (whole keeps.state.map))
+            (steps_as (EachStandsEitherIn before.places a.units (of known.pages keeps.state.map) (of known.pages keeps.state.map))
             (tables_in a.transactions.pages) (tables_in mid.transactions.pages) AtRead AtEnd
-            (λ v later. KeepsKeys before.places mid told later (Turn k) × AnswersNothing k v)
-            (λ later. KeepsKeys before.places mid told later k) h read failed before told less
-            (λ later is. keeps_keys before.places a mid told later keeps.state k (ends later is) keeps.has) did);
+            (λ v later. KeepsKeys before.places known mid told later (Turn k) × AnswersNothing k v)
+            (λ later. KeepsKeys before.places known mid told later k) h read failed before told less
+            (λ later is. keeps_keys known before.places a mid told later keeps.state k (ends later is) keeps.has) did);
         buckets = good;
       }
         where
@@ -254,47 +254,47 @@ module _ (s : ℕ) (w : KeyWrite) (a b : Store) (before after : Told) (result : 
 
       -- it goes on and writes
       goes_on : (bytes : List ℕ) (pairs : Pairs) → Reading (Ok bytes) → SpellsBucket bytes pairs
-          → IsBucketWritten s name (pairs_after w pairs) mid told result b after → Serving result b after h k
+          → IsBucketWritten s name (pairs_after w pairs) mid told result b after → Serving known result b after h k
       goes_on bytes pairs first spells wrote =
           let (kept, also) = first.ends tt in
           let same = buckets_spell_once bytes pairs (pairs_of keeps.has s name) spells also in
-          let second = at_units s w mid b told after (adds_all first.added h) keeps.state k result running
+          let second = at_units known s w mid b told after (adds_all first.added h) keeps.state k result running
           before.places a.units counts.places alike keeps.has kept
           (subst (λ (ps : Pairs). IsBucketWritten s name (pairs_after w ps) mid told result b after) same wrote) in
           record {
             steps = steps_then (List ℕ) (Unit {0}) KeyFault KeyFault
-                (EachStandsEitherIn before.places a.units (whole keeps.state.map) (whole keeps.state.map))
-                (LeavesKeys before.places a.units k.map k.map) (LeavesKeys before.places a.units k.map k.map)
+                (EachStandsEitherIn before.places a.units (of known.pages keeps.state.map) (of known.pages keeps.state.map))
+                (LeavesKeys before.places known a.units k.map k.map) (LeavesKeys before.places known a.units k.map k.map)
                 (tables_in a.transactions.pages) (tables_in mid.transactions.pages)
                 (tables_in b.transactions.pages) AtRead AtEnd
-                (λ v later. KeepsKeys before.places b after later (Turn k) × AnswersNothing k v)
-                (λ later. KeepsKeys before.places b after later k) h bytes result before told after
-                (leaves_keys before.places a.units keeps.state.map keeps.state.map k.map k.map keeps.has.keys keeps.has.keys)
+                (λ v later. KeepsKeys before.places known b after later (Turn k) × AnswersNothing k v)
+                (λ later. KeepsKeys before.places known b after later k) h bytes result before told after
+                (leaves_keys known before.places a.units keeps.state.map keeps.state.map k.map k.map keeps.has.keys keeps.has.keys)
                 (λ later is. is) counts first second.0;
             buckets = second.1;
           }
 
       moved : (r : Result (Unit {0}) KeyFault) → result ≡ r → b ≡ mid → after ≡ told
-          → Serving r mid told h k → Serving result b after h k
+          → Serving known r mid told h k → Serving known result b after h k
       moved r answer same idle did =
-          subst (λ (t : Told). Serving result b t h k) (sym idle)
-          (subst (λ (store : Store). Serving result store told h k) (sym same)
-          (subst (λ (q : Result (Unit {0}) KeyFault). Serving q mid told h k) (sym answer) did))
+          subst (λ (t : Told). Serving known result b t h k) (sym idle)
+          (subst (λ (store : Store). Serving known result store told h k) (sym same)
+          (subst (λ (q : Result (Unit {0}) KeyFault). Serving known q mid told h k) (sym answer) did))
 
       by_read : (read : Result (List ℕ) KeyFault) → ReadsBucket s name a before read mid told
           → ((fault : KeyFault) → read ≡ Err fault → (result ≡ Err fault) × (b ≡ mid) × (after ≡ told))
           → ((bytes : List ℕ) → read ≡ Ok bytes
           → (pairs : Pairs) × SpellsBucket bytes pairs × Rest pairs mid told)
-          → Serving result b after h k
+          → Serving known result b after h k
       by_read (Err fault) reads fails goes =
           let (answer, same, idle) = fails fault refl in
-          let did = reads_steps s name a mid before told h keeps.state k keeps.has up alike keeps.keeps
+          let did = reads_steps known s name a mid before told h keeps.state k keeps.has up alike keeps.keeps
           (Err fault) reads in
           moved (Err fault) answer same idle
           (ends_there (Err fault) fault did.1 (λ settled. settled) (λ later kept. kept) did.0)
       by_read (Ok bytes) reads fails goes =
           let (pairs, spells, is) = goes bytes refl in
-          let did = reads_steps s name a mid before told h keeps.state k keeps.has up alike keeps.keeps
+          let did = reads_steps known s name a mid before told h keeps.state k keeps.has up alike keeps.keeps
           (Ok bytes) reads in
           elim (rest pairs mid told is) [
             | inl full ↦ moved (Err (key.BucketFull name)) full.answer full.same full.idle
@@ -307,24 +307,24 @@ module _ (s : ℕ) (w : KeyWrite) (a b : Store) (before after : Told) (result : 
         → CallsKey (early_key_fault a bad s) (ChangesBucket s name Rest a before result b after) a before result b
         after
         → ServesKeys Turn AnswersNothing a before result b after
-    changing_serves bad good calls h k keeps = by_early (early_key_fault a bad s) refl
+    changing_serves bad good calls known h k keeps = by_early (early_key_fault a bad s) refl
       where
-        by_early : (o : Option KeyFault) → early_key_fault a bad s ≡ o → Serving result b after h k
+        by_early : (o : Option KeyFault) → early_key_fault a bad s ≡ o → Serving known result b after h k
         by_early None is =
             let none = none_early (entry_fault a) bad
             (refuses_end (limits_of a.units) (state_of a.transactions.sessions) s) is in
             let up = entry_is_up a none.0 in
             let did = calls.ends is in
-            by_read h k keeps up (may_end_is_open a before h keeps.state s up keeps.keeps none.2) did.mid
+            by_read known h k keeps up (may_end_is_open known a before h keeps.state s up keeps.keeps none.2) did.mid
             did.told did.units did.counts did.read did.reads did.fails did.goes_on
         by_early (Some fault) is =
             let (answer, same, idle) = calls.refuses fault is in
             let fine = early_is_good (entry_fault a) bad
             (refuses_end (limits_of a.units) (state_of a.transactions.sessions) s) fault good is in
-            subst (λ (t : Told). Serving result b t h k) (sym idle)
-            (subst (λ (store : Store). Serving result store before h k) (sym same)
-            (subst (λ (q : Result (Unit {0}) KeyFault). Serving q a before h k) (sym answer)
-            (nothing_serves Turn AnswersNothing a before fault h k fine keeps)))
+            subst (λ (t : Told). Serving known result b t h k) (sym idle)
+            (subst (λ (store : Store). Serving known result store before h k) (sym same)
+            (subst (λ (q : Result (Unit {0}) KeyFault). Serving known q a before h k) (sym answer)
+            (nothing_serves known Turn AnswersNothing a before fault h k fine keeps)))
 
 -- ---- what a put and a delete do
 

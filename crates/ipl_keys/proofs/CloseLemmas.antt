@@ -11,7 +11,7 @@ use Rattle.ipl_base.specs.declared.fault.Refusal.{Refusal}
 use Rattle.ipl_base.specs.declared.fault.StoreFault.{StoreFault}
 use Rattle.ipl_format.specs.Sector.{sector_in}
 use Rattle.ipl_model.specs.State.{Map, State}
-use Rattle.ipl_meaning.specs.Legible.{whole, every}
+use Rattle.ipl_meaning.specs.Legible.{of}
 use Rattle.ipl_meaning.specs.Rests.{EachStandsIn, StoryRests}
 use Rattle.ipl_meaning.specs.Tables.{Tables, IsCountedClean}
 use Rattle.ipl_meaning.proofs.CarriedLemmas.{unused_is_carried}
@@ -21,7 +21,7 @@ use Rattle.unit_io.proofs.StepLemmas.{outcome_then}
 use Rattle.unit_io.proofs.StepTidyLemmas.{tidy_then, tidy_weaker}
 use Rattle.restart.specs.Closing.{CountsUnused, RestsMarked, Closes, ClosesInSteps}
 use Rattle.page_frames.specs.Pages.{tables_in}
-use Rattle.store_laws.specs.Keeps.{limits_of, KeepsStore, IsUp}
+use Rattle.store_laws.specs.Keeps.{KnownPages, limits_of, KeepsStore, IsUp}
 use Rattle.ipl_store.specs.declared.store.Store.{Store}
 use Rattle.ipl_store.specs.Calls.{view_of, early_fault, entry_fault, Serves}
 use Rattle.ipl_store.specs.Closing.{ClosesStore, EndsMarking, MarksStore, ServesClose}
@@ -39,10 +39,10 @@ use Rattle.ipl_keys.proofs.SessionLemmas.{served}
 -- ---- the mark
 
 -- it was written, and the story rests; it wasn't only where a write failed
-rests_marked : (places : ℕ) (m : Map) (t : Tables) (written : Result (Unit {0}) ChipFault) (later : History)
-    → EndsWith written (λ v k. RestsMarked places (whole m) t k) NoOtherEnd later → StoryRests places (whole m) later
-rests_marked places m t (Ok v) later marked = marked.rests
-rests_marked places m t (Err e) later none = absurd none
+rests_marked : (known : KnownPages) (places : ℕ) (m : Map) (t : Tables) (written : Result (Unit {0}) ChipFault) (later : History)
+    → EndsWith written (λ v k. RestsMarked places (of known.pages m) t k) NoOtherEnd later → StoryRests places (of known.pages m) later
+rests_marked known places m t (Ok v) later marked = marked.rests
+rests_marked known places m t (Err e) later none = absurd none
 
 -- no write failed in writing it where none failed in the close
 settled_marked : (written : Result (Unit {0}) ChipFault) (r : Result (Unit {0}) StoreFault)
@@ -56,10 +56,10 @@ settled_marked (Err e) r before told after is counts settled =
 -- ---- a call that ended early
 
 -- it leaves as much as any call
-as_closes : (a b : Store) (before after : Told) (fault : KeyFault) (h : History) (k : KeyState)
-    → ServesFor (λ k. k) AnswersNothing a before (Err fault) b after h k
-    → ClosesFor a before (Err fault) b after h k
-as_closes a b before after fault h k did = record {
+as_closes : (known : KnownPages) (a b : Store) (before after : Told) (fault : KeyFault) (h : History) (k : KeyState)
+    → ServesFor known (λ k. k) AnswersNothing a before (Err fault) b after h k
+    → ClosesFor known a before (Err fault) b after h k
+as_closes known a b before after fault h k did = record {
   added = did.steps.added;
   places = did.steps.places;
   history = did.steps.history;
@@ -72,9 +72,9 @@ as_closes a b before after fault h k did = record {
 
 -- ---- the status place was made ready, and a mark written
 
-module _ (a between : Store) (before told : Told) (h : History) (state : State) (k : KeyState)
+module _ (known : KnownPages) (a between : Store) (before told : Told) (h : History) (state : State) (k : KeyState)
     (up : a.down ≡ false) (units : between.units ≡ a.units)
-    (keeps : KeepsStore before.places every (limits_of a.units) (view_of a) before h state)
+    (keeps : KeepsStore before.places known.pages (limits_of a.units) (view_of a) before h state)
     (has : HasKeyState a.units state k) where
   abbrev places : ℕ
   places = before.places
@@ -83,22 +83,22 @@ module _ (a between : Store) (before told : Told) (h : History) (state : State) 
   Readied readied = Serves (λ state. state) (2 ^ 14) a before readied between told
 
   ready_steps : (readied : Result (Unit {0}) StoreFault) → Readied readied
-      → StoreSteps (λ state. state) a before readied between told h state
+      → StoreSteps known (λ state. state) a before readied between told h state
   ready_steps readied serves =
-      leads_steps (λ state. state) a between before told readied h state up units serves.leads keeps
+      leads_steps known (λ state. state) a between before told readied h state up units serves.leads keeps
 
   -- it wasn't made ready, and so the store wasn't closed
   pub unready_closes : (fault : StoreFault) → Readied (Err fault)
-      → ClosesFor a before (handed (Err fault)) between told h k
-  unready_closes fault serves = as_closes a between before told (key.Store fault) h k
-      (served (λ state. state) (λ k. k) a between before told h k (Err fault) state has has
+      → ClosesFor known a before (handed (Err fault)) between told h k
+  unready_closes fault serves = as_closes known a between before told (key.Store fault) h k
+      (served known (λ state. state) (λ k. k) a between before told h k (Err fault) state has has
       (ready_steps (Err fault) serves))
 
   module _ (c : Store) (after : Told) (v : Unit {0}) (r : Result (Unit {0}) StoreFault)
       (serves : Readied (Ok v)) (counts : Counts before told)
       (marked : MarksStore between told r c after) where
     abbrev Each : History → Type 0
-    Each = LeavesKeys places a.units k.map k.map
+    Each = LeavesKeys places known a.units k.map k.map
 
     abbrev Settles : Type 0
     Settles = Settled (handed r) before after
@@ -115,30 +115,30 @@ module _ (a between : Store) (before told : Told) (h : History) (state : State) 
     abbrev Unused : Type 0
     Unused = CountsUnused (tables_in a.transactions.pages) h
 
-    ready : StoreSteps {T = Unit {0}} {E = StoreFault} (λ state. state) a before (Ok v) between told h state
+    ready : StoreSteps {T = Unit {0}} {E = StoreFault} known (λ state. state) a before (Ok v) between told h state
     ready = ready_steps (Ok v) serves
 
     abbrev then : History
     then = adds_all ready.added h
 
-    kept : KeepsStore places every (limits_of a.units) (view_of between) told then state
+    kept : KeepsStore places known.pages (limits_of a.units) (view_of between) told then state
     kept = ready.ends tt
 
-    runs : IsUp places every (view_of between) then state
+    runs : IsUp places known.pages (view_of between) then state
     runs = kept.up serves.ends
 
-    way : Closes places (whole state.map) (tables_in between.transactions.pages) (tables_in c.transactions.pages)
+    way : Closes places (of known.pages state.map) (tables_in between.transactions.pages) (tables_in c.transactions.pages)
         marked.written then told after
     way =
         let steps = subst (λ (n : ℕ). ClosesInSteps n (tables_in between.transactions.pages)
         (tables_in c.transactions.pages) told marked.written after) counts.places marked.steps in
-        steps (whole state.map) runs.shows.layout then kept.steady kept.rests
+        steps (of known.pages state.map) runs.shows.layout then kept.steady kept.rests
         (record { mirrors = runs.shows.fits.mirrors; tidy = runs.tidy })
 
-    moments : AtEachMoment (λ e. EachStandsIn places a.units (whole state.map) (adds_all e then)) way.added
-    moments = subst (λ (n : ℕ). AtEachMoment (λ e. EachStandsIn places n (whole state.map) (adds_all e then)) way.added)
+    moments : AtEachMoment (λ e. EachStandsIn places a.units (of known.pages state.map) (adds_all e then)) way.added
+    moments = subst (λ (n : ℕ). AtEachMoment (λ e. EachStandsIn places n (of known.pages state.map) (adds_all e then)) way.added)
         (runs.shows.count ∙ units)
-        (moments_of_one places (whole state.map) then runs.shows.layout way.added runs.shows.fits.mirrors.laid
+        (moments_of_one places (of known.pages state.map) then runs.shows.layout way.added runs.shows.fits.mirrors.laid
         way.each_moment)
 
     unused_then : Unused → CountsUnused (tables_in between.transactions.pages) then
@@ -151,19 +151,19 @@ module _ (a between : Store) (before told : Told) (h : History) (state : State) 
     less : Settles → Settled marked.written told after
     less = settled_marked marked.written r before told after marked.ends counts
 
-    many_marked : (rests : StoryRests places (whole state.map) (adds_all way.added then)) → rests.each.0 ≡ c.units
+    many_marked : (rests : StoryRests places (of known.pages state.map) (adds_all way.added then)) → rests.each.0 ≡ c.units
     many_marked rests =
         let later = adds_all way.added then in
-        let is = at_end (λ e. EachStandsIn places a.units (whole state.map) (adds_all e then)) way.added moments
+        let is = at_end (λ e. EachStandsIn places a.units (of known.pages state.map) (adds_all e then)) way.added moments
         (held later.start later.story) (held_is_image (says sector_in) later.start later.story) in
-        rests_in_units places (whole state.map) later is.stands.layout rests is.stands.laid ∙ is.count
+        rests_in_units places (of known.pages state.map) later is.stands.layout rests is.stands.laid ∙ is.count
         ∙ sym (marked.units ∙ units)
 
     -- the store is down, and keeps the records
     down_keeps : Settles
-        → KeepsStore places every (limits_of a.units) (view_of c) after (adds_all way.added then) state
+        → KeepsStore places known.pages (limits_of a.units) (view_of c) after (adds_all way.added then) state
     down_keeps settled =
-        let rests = rests_marked places state.map (tables_in c.transactions.pages) marked.written
+        let rests = rests_marked known places state.map (tables_in c.transactions.pages) marked.written
         (adds_all way.added then) (way.ends (less settled)) in record {
           limits_are = ap limits_of (sym (marked.units ∙ units));
           steady = way.steady (less settled);
@@ -173,12 +173,12 @@ module _ (a between : Store) (before told : Told) (h : History) (state : State) 
         }
 
     abbrev first : OutcomeWhere Unused Each (TidyWork counted clean (Unit {0})) (Unit {0})
-        (λ later. KeepsStore places every (limits_of a.units) (view_of between) told later state) h before told
+        (λ later. KeepsStore places known.pages (limits_of a.units) (view_of between) told later state) h before told
     first = record {
       added = ready.added;
       places = ready.places;
       history = ready.history;
-      each_moment = λ later e split. leaves_keys places a.units state.map state.map k.map k.map has.keys has.keys
+      each_moment = λ later e split. leaves_keys known places a.units state.map state.map k.map k.map has.keys has.keys
           (adds_all e h) (ready.each_moment later e split);
       marks = λ unused. ready.marks tt;
       does = ready.does;
@@ -187,7 +187,7 @@ module _ (a between : Store) (before told : Told) (h : History) (state : State) 
     }
 
     abbrev second : OutcomeWhere Unused Each (TidyWork clean last Settles) Settles
-        (λ later. KeepsKeys places c after later k) then told after
+        (λ later. KeepsKeys places known c after later k) then told after
     second = record {
       added = way.added;
       places = way.places;
@@ -200,59 +200,59 @@ module _ (a between : Store) (before told : Told) (h : History) (state : State) 
       marks = λ unused. way.marks (unused_then unused);
       does = tidy_weaker clean last (Settled marked.written told after) Settles way.added less way.does;
       steady = λ settled. way.steady (less settled);
-      ends = λ settled. keeps_keys places a c after (adds_all way.added then) state k (down_keeps settled) has;
+      ends = λ settled. keeps_keys known places a c after (adds_all way.added then) state k (down_keeps settled) has;
     }
 
-    pub marked_closes : ClosesFor a before (handed r) c after h k
+    pub marked_closes : ClosesFor known a before (handed r) c after h k
     marked_closes = outcome_then Each (TidyWork counted clean (Unit {0})) (TidyWork clean last Settles)
         (TidyWork counted last Settles) (Unit {0}) Settles
-        (λ later. KeepsStore places every (limits_of a.units) (view_of between) told later state)
-        (λ later. KeepsKeys places c after later k) h before told after first tt second
+        (λ later. KeepsStore places known.pages (limits_of a.units) (view_of between) told later state)
+        (λ later. KeepsKeys places known c after later k) h before told after first tt second
         (λ x y one two. tidy_then counted clean last (Unit {0}) Settles x y one tt two)
 
 -- ---- the close
 
-module _ (a c : Store) (before after : Told) (r : Result (Unit {0}) StoreFault) (h : History) (k : KeyState)
-    (keeps : KeepsKeys before.places a before h k) where
+module _ (known : KnownPages) (a c : Store) (before after : Told) (r : Result (Unit {0}) StoreFault) (h : History) (k : KeyState)
+    (keeps : KeepsKeys before.places known a before h k) where
   served_closes : a.down ≡ false → ServesClose a before r c after
-      → ClosesFor a before (handed r) c after h k
+      → ClosesFor known a before (handed r) c after h k
   served_closes up did = by_ready did.readied did.ready did.then
     where
       by_ready : (readied : Result (Unit {0}) StoreFault)
           → Serves (λ state. state) (2 ^ 14) a before readied did.between did.told
           → MatchResult readied (λ _. MarksStore did.between did.told r c after)
           (λ fault. (r ≡ Err fault) × (c ≡ did.between) × (after ≡ did.told))
-          → ClosesFor a before (handed r) c after h k
+          → ClosesFor known a before (handed r) c after h k
       by_ready (Ok v) ready marked =
-          marked_closes a did.between before did.told h keeps.state k up did.units keeps.keeps keeps.has c
+          marked_closes known a did.between before did.told h keeps.state k up did.units keeps.keeps keeps.has c
           after v r ready did.counts marked
       by_ready (Err fault) ready (is, same, still) =
-          subst (λ (t : Told). ClosesFor a before (handed r) c t h k) (sym still)
-          (subst (λ (s : Store). ClosesFor a before (handed r) s did.told h k) (sym same)
-          (subst (λ (q : Result (Unit {0}) StoreFault). ClosesFor a before (handed q) did.between did.told h k)
-          (sym is) (unready_closes a did.between before did.told h keeps.state k up did.units keeps.keeps
+          subst (λ (t : Told). ClosesFor known a before (handed r) c t h k) (sym still)
+          (subst (λ (s : Store). ClosesFor known a before (handed r) s did.told h k) (sym same)
+          (subst (λ (q : Result (Unit {0}) StoreFault). ClosesFor known a before (handed q) did.between did.told h k)
+          (sym is) (unready_closes known a did.between before did.told h keeps.state k up did.units keeps.keeps
           keeps.has fault ready)))
 
   store_closes : (refusal : Option Refusal)
       → ClosesStore (early_fault (entry_fault a) refusal) a before r c after
-      → ClosesFor a before (handed r) c after h k
+      → ClosesFor known a before (handed r) c after h k
   store_closes refusal did = by_early (early_fault (entry_fault a) refusal) refl
     where
       by_early : (o : Option StoreFault) → early_fault (entry_fault a) refusal ≡ o
-          → ClosesFor a before (handed r) c after h k
+          → ClosesFor known a before (handed r) c after h k
       by_early None is = served_closes (let_in a refusal is).0 (did.serves is)
       by_early (Some fault) is =
           let (answer, same, idle) = did.refuses fault is in
-          subst (λ (t : Told). ClosesFor a before (handed r) c t h k) (sym idle)
-          (subst (λ (s : Store). ClosesFor a before (handed r) s before h k) (sym same)
-          (subst (λ (q : Result (Unit {0}) StoreFault). ClosesFor a before (handed q) a before h k)
-          (sym answer) (as_closes a a before before (key.Store fault) h k
-          (nothing_serves (λ k. k) AnswersNothing a before (key.Store fault) h k tt keeps))))
+          subst (λ (t : Told). ClosesFor known a before (handed r) c t h k) (sym idle)
+          (subst (λ (s : Store). ClosesFor known a before (handed r) s before h k) (sym same)
+          (subst (λ (q : Result (Unit {0}) StoreFault). ClosesFor known a before (handed q) a before h k)
+          (sym answer) (as_closes known a a before before (key.Store fault) h k
+          (nothing_serves known (λ k. k) AnswersNothing a before (key.Store fault) h k tt keeps))))
 
 pub hands_on_closes : (a c : Store) (before after : Told) (refusal : Option Refusal)
     (result : Result (Unit {0}) KeyFault)
     → HandsOn (λ answer. ClosesStore (early_fault (entry_fault a) refusal) a before answer c after) result
     → ClosesKeys a before result c after
-hands_on_closes a c before after refusal result (r, is, did) h k keeps =
-    subst (λ (q : Result (Unit {0}) KeyFault). ClosesFor a before q c after h k) (sym is)
-    (store_closes a c before after r h k keeps refusal did)
+hands_on_closes a c before after refusal result (r, is, did) known h k keeps =
+    subst (λ (q : Result (Unit {0}) KeyFault). ClosesFor known a before q c after h k) (sym is)
+    (store_closes known a c before after r h k keeps refusal did)

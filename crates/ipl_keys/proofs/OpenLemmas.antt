@@ -9,7 +9,8 @@ use Rattle.ipl_base.specs.declared.fault.ImageFault.{ImageFault}
 use Rattle.ipl_base.specs.declared.fault.OpenFault.{OpenFault}
 use Rattle.ipl_base.specs.declared.fault.OpenFault.TheVariants.{Image, OutOfMemory}
 use Rattle.ipl_model.specs.State.{Map, at_rest}
-use Rattle.ipl_meaning.specs.Legible.{every, whole}
+use Rattle.ipl_meaning.specs.Legible.{of}
+use Rattle.store_laws.specs.Keeps.{KnownPages}
 use Rattle.ipl_meaning.specs.Rests.{now, EachStands, EachStandsIn, StoryRests}
 use Rattle.ipl_meaning.specs.Tables.{Tables}
 use Rattle.ipl_meaning.proofs.StoryLemmas.{held_stands}
@@ -25,36 +26,36 @@ use Rattle.ipl_keys.specs.Opening.{OpensFor, OpensKeys, store_of}
 use Rattle.ipl_keys.proofs.StateLemmas.{resting_states_have_keys}
 use Rattle.ipl_keys.proofs.ServeLemmas.{leaves_keys}
 
-module _ (old new : Told) (units : ℕ) (records : Map) (m : KeyMap) (h : History)
+module _ (known : KnownPages) (old new : Told) (units : ℕ) (records : Map) (m : KeyMap) (h : History)
     (suits : units ≡ units_at (now h) old.places) (steady : IsSteady h old)
-    (rests : StoryRests old.places (whole records) h) (has : HasKeys units records m) where
-  leaves : (k : History) → EachStandsIn old.places units (whole records) k
-      → LeavesKeys old.places units m m k
+    (rests : StoryRests old.places (of known.pages records) h) (has : HasKeys units records m) where
+  leaves : (k : History) → EachStandsIn old.places units (of known.pages records) k
+      → LeavesKeys old.places known units m m k
   leaves k each =
-      leaves_keys old.places units records records m m has has k (λ x image. inl (each x image))
+      leaves_keys known old.places units records records m m has has k (λ x image. inl (each x image))
 
   -- at each moment there are as many units as the chip said
-  as_said : (added : Story) → AtEachMoment (λ e. EachStands old.places (whole records) (adds_all e h)) added
-      → AtEachMoment (λ e. EachStandsIn old.places units (whole records) (adds_all e h)) added
+  as_said : (added : Story) → AtEachMoment (λ e. EachStands old.places (of known.pages records) (adds_all e h)) added
+      → AtEachMoment (λ e. EachStandsIn old.places units (of known.pages records) (adds_all e h)) added
   as_said added each =
-      subst (λ (n : ℕ). AtEachMoment (λ e. EachStandsIn old.places n (whole records) (adds_all e h)) added)
-      (sym suits) (moments_as_said old.places (whole records) h added rests each)
+      subst (λ (n : ℕ). AtEachMoment (λ e. EachStandsIn old.places n (of known.pages records) (adds_all e h)) added)
+      (sym suits) (moments_as_said old.places (of known.pages records) h added rests each)
 
   -- the chip wasn't asked
-  idle : (fault : OpenFault) → OpensFor old.places units m h old (Err fault) old
+  idle : (fault : OpenFault) → OpensFor old.places known units m h old (Err fault) old
   idle fault = record {
     added = [];
     history = same_history old.history;
     each_moment = λ later part is. leaves (adds_all part h) (as_said []
-        (at_start (λ e. EachStands old.places (whole records) (adds_all e h)) rests.each) later part is);
+        (at_start (λ e. EachStands old.places (of known.pages records) (adds_all e h)) rests.each) later part is);
     keeps = tt;
   }
 
   -- it was, and not opened
   failed : (e : ImageFault) (t : Tables) → Tries true old.places old (Err e) t new
-      → OpensFor old.places units m h old (Err (Image e)) new
+      → OpensFor old.places known units m h old (Err (Image e)) new
   failed e t tries =
-      let (first, takes, did) = tries.steps (whole records) h steady rests in record {
+      let (first, takes, did) = tries.steps (of known.pages records) h steady rests in record {
         added = did.added;
         history = did.history;
         each_moment = λ later part is. leaves (adds_all part h)
@@ -63,9 +64,9 @@ module _ (old new : Told) (units : ℕ) (records : Map) (m : KeyMap) (h : Histor
       }
 
   -- it was opened
-  opened : (keys : Keys) → OpensAs old.places old (Ok keys.store) new → OpensFor old.places units m h old (Ok keys) new
+  opened : (keys : Keys) → OpensAs old.places old (Ok keys.store) new → OpensFor old.places known units m h old (Ok keys) new
   opened keys (sound, opens, tries) =
-      let (first, takes, did) = tries.steps (whole records) h steady rests in
+      let (first, takes, did) = tries.steps (of known.pages records) h steady rests in
       let later = adds_all did.added h in
       let ends = did.ends tt in
       let store = keys.store in
@@ -78,8 +79,8 @@ module _ (old new : Told) (units : ℕ) (records : Map) (m : KeyMap) (h : Histor
         keeps = (
           record {
             state = at_rest records;
-            keeps = opens.keeps every records later (held h.start h.story) steady.holds
-                (held_stands old.places (whole records) h rests.each) (did.steady tt) ends.rests ends.tidy;
+            keeps = opens.keeps known.pages records later (held h.start h.story) steady.holds
+                (held_stands old.places (of known.pages records) h rests.each) (did.steady tt) ends.rests ends.tidy;
             has = resting_states_have_keys store.units records m
                 (subst (λ (n : ℕ). HasKeys n records m) (sym alike) has);
           },
@@ -88,15 +89,15 @@ module _ (old new : Told) (units : ℕ) (records : Map) (m : KeyMap) (h : Histor
       }
 
   by_result : (result : Result Keys OpenFault) → OpensAs old.places old (store_of result) new
-      → OpensFor old.places units m h old result new
+      → OpensFor old.places known units m h old result new
   by_result (Ok keys) did = opened keys did
   by_result (Err (Image e)) (inl (not, is, same)) =
-      subst (λ (t : Told). OpensFor old.places units m h old (Err (Image e)) t) (sym same) (idle (Image e))
+      subst (λ (t : Told). OpensFor old.places known units m h old (Err (Image e)) t) (sym same) (idle (Image e))
   by_result (Err (Image e)) (inr (fits, (t, tries))) = failed e t tries
   by_result (Err OutOfMemory) same =
-      subst (λ (t : Told). OpensFor old.places units m h old (Err OutOfMemory) t) (sym same) (idle OutOfMemory)
+      subst (λ (t : Told). OpensFor old.places known units m h old (Err OutOfMemory) t) (sym same) (idle OutOfMemory)
 
 pub opens_keys : (old new : Told) (result : Result Keys OpenFault)
     → OpensAs old.places old (store_of result) new → OpensKeys old result new
-opens_keys old new result did units records m h suits steady rests has =
-    by_result old new units records m h suits steady rests has result did
+opens_keys old new result did known units records m h suits steady rests has =
+    by_result known old new units records m h suits steady rests has result did

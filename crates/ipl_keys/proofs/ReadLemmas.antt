@@ -1,28 +1,29 @@
 -- A bucket is read, and keys are looked up.
-use Rattle.std.proofs.Common.{◌≡◌, ℕ, ◌<◌, ◌*◌, Bool, true, false, List, Option, Some, None, Result, Ok, Err, IfErr, if◌then◌else◌, nat_le, nat_lt, not, length, refl, sym, ◌∙◌, ap, ap₂, subst, arith}
+use Rattle.std.proofs.Common.{◌≡◌, ℕ, ◌<◌, ◌*◌, Bool, true, false, List, Option, Some, None, Result, Ok, Err, IfErr, OnOk, if◌then◌else◌, nat_le, nat_lt, not, length, refl, sym, ◌∙◌, ap, ap₂, subst, arith}
 use Rattle.std.proofs.lemmas.Bool.Decides.{nat_tests}
 use Rattle.chip_trait.specs.Story.{held}
 use Rattle.chip_trait.specs.Told.{History, Told, Counts}
 use Rattle.chip_trait.proofs.CountsLemmas.{counts_none}
+use Rattle.ipl_base.specs.Places.{home_of}
 use Rattle.ipl_base.specs.declared.fault.Refusal.{Refusal}
 use Rattle.ipl_base.specs.declared.fault.Refusal.TheVariants.{BadSession, BadName, NotOpen}
 use Rattle.ipl_base.specs.declared.fault.StoreFault.{StoreFault}
 use Rattle.ipl_base.specs.declared.fault.StoreFault.TheVariants.{Refused}
 use Rattle.ipl_model.specs.State.{State, Limits, is_open}
 use Rattle.ipl_model.specs.Refusals.{refuses_get, refuses_end}
-use Rattle.ipl_meaning.specs.Legible.{whole, every}
+use Rattle.ipl_meaning.specs.Legible.{of}
 use Rattle.ipl_meaning.specs.Rests.{EachStandsEitherIn}
 use Rattle.record_locks.specs.Standing.{state_of}
 use Rattle.record_locks.proofs.SameLemmas.{alike}
 use Rattle.unit_io.specs.Steps.{Settled, EndsWith, Steps}
-use Rattle.page_frames.specs.Pages.{tables_in}
+use Rattle.page_frames.specs.Pages.{tables_in, IsFramed}
 use Rattle.store_laws.proofs.StepLemmas.{steps_weaker}
-use Rattle.store_laws.specs.Keeps.{limits_of, KeepsStore}
+use Rattle.store_laws.specs.Keeps.{KnownPages, limits_of, KeepsStore}
 use Rattle.ipl_store.specs.declared.store.Store.{Store}
 use Rattle.ipl_store.specs.Calls.{view_of, IsSound, early_fault, entry_fault, Serves, Calls}
 use Rattle.ipl_store.specs.Shown.{IsSeen}
 use Rattle.ipl_store.proofs.CallLemmas.{calls_as, calls_fail_as, let_in}
-use Rattle.ipl_store.proofs.ShownLemmas.{name_shown}
+use Rattle.ipl_store.proofs.ShownLemmas.{framed_shows}
 use Rattle.ipl_keys.specs.BucketPairs.{Pairs, value_at}
 use Rattle.ipl_keys.specs.Bucket.{SpellsBucket}
 use Rattle.ipl_keys.specs.BucketHome.{bucket_of}
@@ -33,7 +34,7 @@ use Rattle.ipl_keys.specs.Records.{bytes_of}
 use Rattle.ipl_keys.specs.Sessions.{HasKeyState}
 use Rattle.ipl_keys.specs.Laws.{pairs_of}
 use Rattle.ipl_keys.specs.Keeps.{LeavesKeys, KeepsKeys}
-use Rattle.ipl_keys.specs.Calls.{is_key, bad_key, bad_pair, first_fault, early_key_fault, LooksAtName, ReadsBucket, Gets, GetsKey, CallsKey, IsNoBadBucket, ServesFor, ServesKeys}
+use Rattle.ipl_keys.specs.Calls.{ReadsPage, is_key, bad_key, bad_pair, first_fault, early_key_fault, LooksAtName, ReadsBucket, Gets, GetsKey, CallsKey, IsNoBadBucket, ServesFor, ServesKeys}
 use Rattle.ipl_keys.proofs.NeverLemmas.{get_met}
 use Rattle.ipl_keys.proofs.StateLemmas.{seen_holds, seen_key}
 use Rattle.ipl_keys.proofs.ServeLemmas.{StoreSteps, leads_steps, keeps_keys, steps_as, leaves_keys, nothing_serves}
@@ -55,6 +56,26 @@ pub failed_as : {T U : Type 0} (early : Option StoreFault) (next : State → Sta
 failed_as {T} early next most old before result fault new after is calls =
     calls_fail_as early next most old before fault new after
     (subst (λ (r : Result T StoreFault). Calls early next most old before r new after) is calls)
+
+-- a call that was done has the name's page in a frame: it reads
+page_reads_found : {T : Type 0} (early : Option StoreFault) (next : State → State) (most n : ℕ) (a b : Store)
+    (before after : Told) (found : T) → Calls early next most a before (Ok found) b after
+    → IsFramed b.transactions.pages (home_of n).unit (home_of n).page → ReadsPage n a before
+page_reads_found early next most n a b before after found calls framed = by_early early refl
+  where
+    by_early : (o : Option StoreFault) → early ≡ o → ReadsPage n a before
+    by_early (Some fault) is known state x told shown = let answer = (calls.refuses fault is).0 in absurd (cc answer)
+    by_early None is known state x told shown =
+        framed_shows known.pages next most n a b before after found known.apart (calls.serves is) framed state x told shown
+
+pub page_reads : {T : Type 0} (early : Option StoreFault) (next : State → State) (most n : ℕ) (a b : Store)
+    (before after : Told) (result : Result T StoreFault) (found : T) → result ≡ Ok found
+    → Calls early next most a before result b after
+    → OnOk result (IsFramed b.transactions.pages (home_of n).unit (home_of n).page) → ReadsPage n a before
+page_reads {T} early next most n a b before after result found is calls framed =
+    page_reads_found early next most n a b before after found
+    (subst (λ (r : Result T StoreFault). Calls early next most a before r b after) is calls)
+    (subst (λ (r : Result T StoreFault). OnOk r (IsFramed b.transactions.pages (home_of n).unit (home_of n).page)) is framed)
 
 -- ---- early faults
 
@@ -142,11 +163,11 @@ pub entry_is_up : (store : Store) → entry_fault store ≡ None → store.down 
 entry_is_up store none = (let_in store None (ap (λ e. early_fault e None) none)).0
 
 -- a session that may end is open in each state that the sessions are of
-pub may_end_is_open : (a : Store) (before : Told) (h : History) (state : State) (s : ℕ)
-    → a.down ≡ false → KeepsStore before.places every (limits_of a.units) (view_of a) before h state
+pub may_end_is_open : (known : KnownPages) (a : Store) (before : Told) (h : History) (state : State) (s : ℕ)
+    → a.down ≡ false → KeepsStore before.places known.pages (limits_of a.units) (view_of a) before h state
     → refuses_end (limits_of a.units) (state_of a.transactions.sessions) s ≡ None
     → is_open state s ≡ true
-may_end_is_open a before h state s up keeps none =
+may_end_is_open known a before h state s up keeps none =
     sym (alike (state_of a.transactions.sessions) state (keeps.up up).sessions.names s 0).opens
     ∙ by_tests (nat_le 32 s) (is_open (state_of a.transactions.sessions) s) none
   where
@@ -213,39 +234,39 @@ module _ {T U : Type 0} (s n : ℕ) (a b : Store) (before after : Told) (r : Res
 
 -- ---- over a story
 
-module _ (s n : ℕ) (a mid : Store) (before told : Told) (h : History) (state : State) (k : KeyState)
+module _ (known : KnownPages) (s n : ℕ) (a mid : Store) (before told : Told) (h : History) (state : State) (k : KeyState)
     (has : HasKeyState a.units state k) (up : a.down ≡ false) (alike : mid.units ≡ a.units)
-    (keeps : KeepsStore before.places every (limits_of a.units) (view_of a) before h state) where
+    (keeps : KeepsStore before.places known.pages (limits_of a.units) (view_of a) before h state) where
   -- what is seen is the bucket of the state
-  seen_spells : (found : Option (List ℕ)) → IsSeen s n a before found
+  seen_spells : ReadsPage n a before → (found : Option (List ℕ)) → IsSeen s n a before found
       → SpellsBucket (bytes_of found) (pairs_of has s n)
-  seen_spells found seen =
+  seen_spells reads found seen =
       let x = held h.start h.story in
       let same = seen state x keeps.steady.holds
-      (name_shown before.places (view_of a) state n x (keeps.up up).shows) in
+      (reads known state x keeps.steady.holds (keeps.up up).shows) in
       let holds = seen_holds a.units state k has s n in
       record { bucket = holds.is.bucket; text = ap bytes_of same ∙ holds.text }
 
   looked : (r : Result (Unit {0}) StoreFault) → LooksAtName a before r mid told
-      → StoreSteps (λ st. st) a before r mid told h state
-  looked r looks = leads_steps (λ st. st) a mid before told r h state up alike looks.leads keeps
+      → StoreSteps known (λ st. st) a before r mid told h state
+  looked r looks = leads_steps known (λ st. st) a mid before told r h state up alike looks.leads keeps
 
   abbrev pub Read : List ℕ → History → Type 0
-  Read bytes later = KeepsStore before.places every (limits_of a.units) (view_of mid) told later state
+  Read bytes later = KeepsStore before.places known.pages (limits_of a.units) (view_of mid) told later state
       × SpellsBucket bytes (pairs_of has s n)
 
   abbrev pub Kept : History → Type 0
-  Kept later = KeepsStore before.places every (limits_of a.units) (view_of mid) told later state
+  Kept later = KeepsStore before.places known.pages (limits_of a.units) (view_of mid) told later state
 
   abbrev pub ReadSteps : Result (List ℕ) KeyFault → Type 0
-  ReadSteps read = Steps (EachStandsEitherIn before.places a.units (whole state.map) (whole state.map))
+  ReadSteps read = Steps (EachStandsEitherIn before.places a.units (of known.pages state.map) (of known.pages state.map))
       (tables_in a.transactions.pages) (tables_in mid.transactions.pages) Read Kept h read before told
 
   as_read : (r : Result (Unit {0}) StoreFault) (read : Result (List ℕ) KeyFault)
       → (Settled read before told → Settled r before told)
       → ((later : History) → EndsWith r (λ v. Kept) Kept later → EndsWith read Read Kept later)
       → LooksAtName a before r mid told → ReadSteps read
-  as_read r read less ends looks = steps_as (EachStandsEitherIn before.places a.units (whole state.map) (whole state.map))
+  as_read r read less ends looks = steps_as (EachStandsEitherIn before.places a.units (of known.pages state.map) (of known.pages state.map))
       (tables_in a.transactions.pages) (tables_in mid.transactions.pages) (λ v. Kept) Kept Read Kept h
       r read before told less ends (looked r looks)
 
@@ -256,7 +277,7 @@ module _ (s n : ℕ) (a mid : Store) (before told : Told) (h : History) (state :
         (λ later kept. (
           kept,
           subst (λ (x : List ℕ). SpellsBucket x (pairs_of has s n)) sees.is
-              (seen_spells sees.found sees.seen),
+              (seen_spells sees.reads sees.found sees.seen),
         )) looks,
     tt,
   )
@@ -266,7 +287,7 @@ module _ (s n : ℕ) (a mid : Store) (before told : Told) (h : History) (state :
   reads_steps (Err key.LongValue) never = absurd never
   reads_steps (Err (key.BucketFull m)) never = absurd never
   reads_steps (Err (key.BadBucket m)) (is, sees, looks) =
-      absurd (sees.is (pairs_of has s n, seen_spells sees.found sees.seen))
+      absurd (sees.is (pairs_of has s n, seen_spells sees.reads sees.found sees.seen))
 
 -- ---- a get
 
@@ -277,60 +298,60 @@ module _ (s : ℕ) (bytes : List ℕ) (a b : Store) (before after : Told)
   abbrev Answers : KeyState → Option (List ℕ) → Type 0
   Answers k found = found ≡ see_key k s bytes
 
-  module _ (h : History) (k : KeyState) (keeps : KeepsKeys before.places a before h k) where
+  module _ (known : KnownPages) (h : History) (k : KeyState) (keeps : KeepsKeys before.places known a before h k) where
     abbrev Then : Option (List ℕ) → History → Type 0
-    Then found later = KeepsKeys before.places b after later k × Answers k found
+    Then found later = KeepsKeys before.places known b after later k × Answers k found
 
     abbrev Else : History → Type 0
-    Else later = KeepsKeys before.places b after later k
+    Else later = KeepsKeys before.places known b after later k
 
     as_keys : (read : Result (List ℕ) KeyFault) (r : Result (Option (List ℕ)) KeyFault)
         (up : a.down ≡ false)
         → (Settled r before after → Settled read before after)
         → ((later : History) → EndsWith read
-        (Read s (bucket_of a.units bytes) a b before after h keeps.state k keeps.has up calls.units keeps.keeps)
-        (Kept s (bucket_of a.units bytes) a b before after h keeps.state k keeps.has up calls.units keeps.keeps)
+        (Read known s (bucket_of a.units bytes) a b before after h keeps.state k keeps.has up calls.units keeps.keeps)
+        (Kept known s (bucket_of a.units bytes) a b before after h keeps.state k keeps.has up calls.units keeps.keeps)
         later → EndsWith r Then Else later)
-        → ReadSteps s (bucket_of a.units bytes) a b before after h keeps.state k keeps.has up
+        → ReadSteps known s (bucket_of a.units bytes) a b before after h keeps.state k keeps.has up
         calls.units keeps.keeps read
-        → Steps (LeavesKeys before.places a.units k.map k.map) (tables_in a.transactions.pages)
+        → Steps (LeavesKeys before.places known a.units k.map k.map) (tables_in a.transactions.pages)
         (tables_in b.transactions.pages) Then Else h r before after
     as_keys read r up less ends did =
         let n = bucket_of a.units bytes in
         let t = tables_in a.transactions.pages in
         let after_t = tables_in b.transactions.pages in
-        steps_weaker (EachStandsEitherIn before.places a.units (whole keeps.state.map) (whole keeps.state.map))
-        (LeavesKeys before.places a.units k.map k.map) t after_t Then Then Else Else h r before after
-        (leaves_keys before.places a.units keeps.state.map keeps.state.map k.map k.map keeps.has.keys keeps.has.keys)
+        steps_weaker (EachStandsEitherIn before.places a.units (of known.pages keeps.state.map) (of known.pages keeps.state.map))
+        (LeavesKeys before.places known a.units k.map k.map) t after_t Then Then Else Else h r before after
+        (leaves_keys known before.places a.units keeps.state.map keeps.state.map k.map k.map keeps.has.keys keeps.has.keys)
         (λ v later is. is) (λ later is. is)
-        (steps_as (EachStandsEitherIn before.places a.units (whole keeps.state.map) (whole keeps.state.map)) t after_t
-        (Read s n a b before after h keeps.state k keeps.has up calls.units keeps.keeps)
-        (Kept s n a b before after h keeps.state k keeps.has up calls.units keeps.keeps)
+        (steps_as (EachStandsEitherIn before.places a.units (of known.pages keeps.state.map) (of known.pages keeps.state.map)) t after_t
+        (Read known s n a b before after h keeps.state k keeps.has up calls.units keeps.keeps)
+        (Kept known s n a b before after h keeps.state k keeps.has up calls.units keeps.keeps)
         Then Else h read r before after less ends did)
 
     by_result : (r : Result (Option (List ℕ)) KeyFault) → a.down ≡ false
         → Gets s (bucket_of a.units bytes) bytes a before r b after
-        → ServesFor (λ k. k) Answers a before r b after h k
+        → ServesFor known (λ k. k) Answers a before r b after h k
     by_result (Ok found) up (bucket, reads, value) =
         let n = bucket_of a.units bytes in
-        let did = reads_steps s n a b before after h keeps.state k keeps.has up calls.units
+        let did = reads_steps known s n a b before after h keeps.state k keeps.has up calls.units
         keeps.keeps (Ok bucket) reads in record {
           steps = as_keys (Ok bucket) (Ok found) up (λ settled. tt) (λ later (kept, spells). (
-            keeps_keys before.places a b after later keeps.state k kept keeps.has,
+            keeps_keys known before.places a b after later keeps.state k kept keeps.has,
             value (pairs_of keeps.has s n) spells ∙ seen_key a.units keeps.state k keeps.has s bytes,
           )) did.0;
           buckets = tt;
         }
     by_result (Err fault) up reads =
-        let did = reads_steps s (bucket_of a.units bytes) a b before after h keeps.state k keeps.has up
+        let did = reads_steps known s (bucket_of a.units bytes) a b before after h keeps.state k keeps.has up
         calls.units keeps.keeps (Err fault) reads in record {
           steps = as_keys (Err fault) (Err fault) up (λ settled. settled)
-              (λ later kept. keeps_keys before.places a b after later keeps.state k kept keeps.has) did.0;
+              (λ later kept. keeps_keys known before.places a b after later keeps.state k kept keeps.has) did.0;
           buckets = did.1;
         }
 
     by_early : (o : Option KeyFault) → early_key_fault a (bad_key bytes) s ≡ o
-        → ServesFor (λ k. k) Answers a before result b after h k
+        → ServesFor known (λ k. k) Answers a before result b after h k
     by_early None is =
         let none = none_early (entry_fault a) (bad_key bytes)
         (refuses_end (limits_of a.units) (state_of a.transactions.sessions) s) is in
@@ -340,13 +361,13 @@ module _ (s : ℕ) (bytes : List ℕ) (a b : Store) (before after : Told)
         let good = early_is_good (entry_fault a) (bad_key bytes)
         (refuses_end (limits_of a.units) (state_of a.transactions.sessions) s) fault
         (bad_key_is_good bytes) is in
-        subst (λ (t : Told). ServesFor (λ k. k) Answers a before result b t h k) (sym idle)
-        (subst (λ (store : Store). ServesFor (λ k. k) Answers a before result store before h k) (sym same)
-        (subst (λ (r : Result (Option (List ℕ)) KeyFault). ServesFor (λ k. k) Answers a before r a before h k)
-        (sym answer) (nothing_serves (λ k. k) Answers a before fault h k good keeps)))
+        subst (λ (t : Told). ServesFor known (λ k. k) Answers a before result b t h k) (sym idle)
+        (subst (λ (store : Store). ServesFor known (λ k. k) Answers a before result store before h k) (sym same)
+        (subst (λ (r : Result (Option (List ℕ)) KeyFault). ServesFor known (λ k. k) Answers a before r a before h k)
+        (sym answer) (nothing_serves known (λ k. k) Answers a before fault h k good keeps)))
 
   pub get_serves : ServesKeys (λ k. k) Answers a before result b after
-  get_serves h k keeps = by_early h k keeps _ refl
+  get_serves known h k keeps = by_early known h k keeps _ refl
 
 -- ---- the answer of a get
 

@@ -5,7 +5,7 @@ use Rattle.chip_trait.specs.Story.{Contents, held}
 use Rattle.chip_trait.specs.Told.{History, Told, adds_all}
 use Rattle.ipl_base.specs.declared.fault.StoreFault.{StoreFault}
 use Rattle.ipl_model.specs.State.{Map, State, Limits}
-use Rattle.ipl_meaning.specs.Legible.{whole, every}
+use Rattle.ipl_meaning.specs.Legible.{of}
 use Rattle.ipl_meaning.proofs.CarriedLemmas.{tidy_is_carried}
 use Rattle.ipl_meaning.specs.Chart.{chart_of}
 use Rattle.ipl_meaning.specs.Layout.{Laid}
@@ -17,7 +17,7 @@ use Rattle.unit_io.proofs.StepLemmas.{outcome_none, outcome_weaker}
 use Rattle.unit_io.proofs.StepTidyLemmas.{tidy_none, tidy_weaker}
 use Rattle.page_frames.specs.Pages.{tables_in}
 use Rattle.store_laws.specs.Advances.{state_then, TurnsMapOf, LeadsTo}
-use Rattle.store_laws.specs.Keeps.{limits_of, ShowsState, KeepsStore, keeps_each}
+use Rattle.store_laws.specs.Keeps.{KnownPages, limits_of, ShowsState, KeepsStore, keeps_each}
 use Rattle.store_laws.proofs.AdvanceLemmas.{same_held}
 use Rattle.store_laws.proofs.KeepLemmas.{IsAt, is_at, says_next}
 use Rattle.ipl_store.specs.declared.store.Store.{Store}
@@ -32,65 +32,65 @@ use Rattle.ipl_keys.specs.Calls.{IsNoBadBucket, ServesFor}
 -- ---- of records
 
 -- what a call leaves of a store that keeps this state
-abbrev pub StoreSteps : {T E : Type 0} → (State → State) → Store → Told → Result T E → Store → Told
+abbrev pub StoreSteps : {T E : Type 0} → KnownPages → (State → State) → Store → Told → Result T E → Store → Told
     → History → State → Type 0
-StoreSteps next a before result b after h state =
-    Steps (EachStandsEitherIn before.places a.units (whole state.map) (whole (next state).map))
+StoreSteps known next a before result b after h state =
+    Steps (EachStandsEitherIn before.places a.units (of known.pages state.map) (of known.pages (next state).map))
     (tables_in a.transactions.pages) (tables_in b.transactions.pages)
-    (λ v later. KeepsStore before.places every (limits_of a.units) (view_of b) after later (next state))
-    (λ later. KeepsStore before.places every (limits_of a.units) (view_of b) after later state) h result
+    (λ v later. KeepsStore before.places known.pages (limits_of a.units) (view_of b) after later (next state))
+    (λ later. KeepsStore before.places known.pages (limits_of a.units) (view_of b) after later state) h result
     before after
 
-rests_then : {T E : Type 0} (result : Result T E) (places : ℕ) (next : State → State)
+rests_then : {T E : Type 0} (known : KnownPages) (result : Result T E) (places : ℕ) (next : State → State)
     (state : State) (k : History)
-    → EndsWith result (λ v k. StoryRests places (whole (next state).map) k)
-    (λ k. StoryRests places (whole state.map) k) k
-    → StoryRests places (whole (state_then result next state).map) k
-rests_then (Ok v) places next state k rests = rests
-rests_then (Err e) places next state k rests = rests
+    → EndsWith result (λ v k. StoryRests places (of known.pages (next state).map) k)
+    (λ k. StoryRests places (of known.pages state.map) k) k
+    → StoryRests places (of known.pages (state_then result next state).map) k
+rests_then known (Ok v) places next state k rests = rests
+rests_then known (Err e) places next state k rests = rests
 
 -- one that leads to the next state
-module _ {T E : Type 0} (next : State → State) (a b : Store) (before after : Told) (result : Result T E)
+module _ {T E : Type 0} (known : KnownPages) (next : State → State) (a b : Store) (before after : Told) (result : Result T E)
     (h : History) (state : State) (alike : b.units ≡ a.units)
-    (at : IsAt every (view_of a) before state h)
+    (at : IsAt known.pages (view_of a) before state h)
     (leads : LeadsTo next (memory_of_store a) before result (memory_of_store b) after) where
   abbrev places : ℕ
   places = before.places
 
-  did : Steps (TurnsMapOf next places every state) (tables_in a.transactions.pages)
-      (tables_in b.transactions.pages) (λ v k. StoryRests places (whole (next state).map) k)
-      (λ k. StoryRests places (whole state.map) k) h result before after
-  did = leads.steps places every h at.shown.layout state refl at.steady at.story
+  did : Steps (TurnsMapOf next places known.pages state) (tables_in a.transactions.pages)
+      (tables_in b.transactions.pages) (λ v k. StoryRests places (of known.pages (next state).map) k)
+      (λ k. StoryRests places (of known.pages state.map) k) h result before after
+  did = leads.steps places known.pages h at.shown.layout state refl at.steady at.story
 
   abbrev then : State
   then = state_then result next state
 
   keeps_then : Settled result before after
-      → KeepsStore places every (limits_of a.units) (view_of b) after (adds_all did.added h) then
+      → KeepsStore places known.pages (limits_of a.units) (view_of b) after (adds_all did.added h) then
   keeps_then settled =
       let (y, told_then, had) = leads.fits places refl settled (held h.start h.story)
       at.steady.holds in
       let at_end = had at.shown.layout state at.shown.fits in
-      let showing : ShowsState places every (view_of b) then y = record {
+      let showing : ShowsState places known.pages (view_of b) then y = record {
         layout = at_end.layout;
         count = at_end.shows.count ∙ at.shown.count ∙ sym alike;
         fits = at_end.fits;
-        says = says_next places every (now h) (chart_of y) at.shown.layout at_end.layout state then
+        says = says_next places known.pages (now h) (chart_of y) at.shown.layout at_end.layout state then
             at_end.shows at.shown.says;
       } in
       let k = adds_all did.added h in
       let steady = did.steady settled in record {
         limits_are = ap limits_of (sym alike);
         steady = steady;
-        rests = rests_then result places next state k (did.ends settled);
-        many = rests_in_units places (whole then.map) k at_end.layout
-            (rests_then result places next state k (did.ends settled))
+        rests = rests_then known result places next state k (did.ends settled);
+        many = rests_in_units places (of known.pages then.map) k at_end.layout
+            (rests_then known result places next state k (did.ends settled))
             (subst (λ (x : Contents). Laid places (chart_of x) at_end.layout)
             (same_held y (held k.start k.story) after told_then steady.holds)
             at_end.fits.mirrors.laid) ∙ showing.count;
         up = λ runs. record {
           sessions = at_end.fits.sessions;
-          shows = subst (ShowsState places every (view_of b) then)
+          shows = subst (ShowsState places known.pages (view_of b) then)
               (same_held y (held k.start k.story) after told_then steady.holds) showing;
           tidy = tidy_is_carried places h at.shown.layout (view_of a).memory.tables (view_of b).memory.tables did.added
               (record { mirrors = at.shown.fits.mirrors; tidy = at.story.tidy }) (did.does.clean settled);
@@ -98,20 +98,20 @@ module _ {T E : Type 0} (next : State → State) (a b : Store) (before after : T
       }
 
   ends_so : {U F : Type 0} (r : Result U F) (k : History)
-      → KeepsStore places every (limits_of a.units) (view_of b) after k (state_then r next state)
-      → EndsWith r (λ v later. KeepsStore places every (limits_of a.units) (view_of b) after later (next state))
-      (λ later. KeepsStore places every (limits_of a.units) (view_of b) after later state) k
+      → KeepsStore places known.pages (limits_of a.units) (view_of b) after k (state_then r next state)
+      → EndsWith r (λ v later. KeepsStore places known.pages (limits_of a.units) (view_of b) after later (next state))
+      (λ later. KeepsStore places known.pages (limits_of a.units) (view_of b) after later state) k
   ends_so (Ok v) k keeps = keeps
   ends_so (Err e) k keeps = keeps
 
-  pub leading_steps : StoreSteps next a before result b after h state
+  pub leading_steps : StoreSteps known next a before result b after h state
   leading_steps = record {
     added = did.added;
     places = did.places;
     history = did.history;
-    each_moment = subst (λ (units : ℕ). AtEachMoment (λ e. EachStandsEitherIn places units (whole state.map)
-        (whole (next state).map) (adds_all e h)) did.added) at.shown.count
-        (moments_keep_units places (whole state.map) (whole (next state).map) h at.shown.layout did.added
+    each_moment = subst (λ (units : ℕ). AtEachMoment (λ e. EachStandsEitherIn places units (of known.pages state.map)
+        (of known.pages (next state).map) (adds_all e h)) did.added) at.shown.count
+        (moments_keep_units places (of known.pages state.map) (of known.pages (next state).map) h at.shown.layout did.added
         at.shown.fits.mirrors.laid did.each_moment);
     marks = did.marks;
     does = did.does;
@@ -119,23 +119,23 @@ module _ {T E : Type 0} (next : State → State) (a b : Store) (before after : T
     ends = λ settled. ends_so result (adds_all did.added h) (keeps_then settled);
   }
 
-pub leads_steps : {T E : Type 0} (next : State → State) (a b : Store) (before after : Told)
+pub leads_steps : {T E : Type 0} (known : KnownPages) (next : State → State) (a b : Store) (before after : Told)
     (result : Result T E) (h : History) (state : State) → a.down ≡ false → b.units ≡ a.units
     → LeadsTo next (memory_of_store a) before result (memory_of_store b) after
-    → KeepsStore before.places every (limits_of a.units) (view_of a) before h state
-    → StoreSteps next a before result b after h state
-leads_steps next a b before after result h state up alike leads keeps =
-    leading_steps next a b before after result h state alike
-    (is_at every (view_of a) before h state up keeps) leads
+    → KeepsStore before.places known.pages (limits_of a.units) (view_of a) before h state
+    → StoreSteps known next a before result b after h state
+leads_steps known next a b before after result h state up alike leads keeps =
+    leading_steps known next a b before after result h state alike
+    (is_at known.pages (view_of a) before h state up keeps) leads
 
 -- ---- of keys
 
-pub keeps_keys : (places : ℕ) (a b : Store) (t : Told) (h : History) (state : State) (k : KeyState)
-    → KeepsStore places every (limits_of a.units) (view_of b) t h state → HasKeyState a.units state k
-    → KeepsKeys places b t h k
-keeps_keys places a b t h state k keeps has = record {
+pub keeps_keys : (known : KnownPages) (places : ℕ) (a b : Store) (t : Told) (h : History) (state : State) (k : KeyState)
+    → KeepsStore places known.pages (limits_of a.units) (view_of b) t h state → HasKeyState a.units state k
+    → KeepsKeys places known b t h k
+keeps_keys known places a b t h state k keeps has = record {
   state = state;
-  keeps = subst (λ (l : Limits). KeepsStore places every l (view_of b) t h state) keeps.limits_are keeps;
+  keeps = subst (λ (l : Limits). KeepsStore places known.pages l (view_of b) t h state) keeps.limits_are keeps;
   has = subst (λ (n : ℕ). HasKeyState n state k) (ap (λ (l : Limits). l.units) keeps.limits_are) has;
 }
 
@@ -157,59 +157,59 @@ steps_as Each t then A B C D h r answer old new less ends did =
     less (λ settled later is. ends later is) did
 
 -- what stands for records that have keys stands for the keys
-pub leaves_keys : (places count : ℕ) (m n : Map) (keys others : KeyMap) → HasKeys count m keys
-    → HasKeys count n others → (h : History) → EachStandsEitherIn places count (whole m) (whole n) h
-    → LeavesKeys places count keys others h
-leaves_keys places count m n keys others one other h each x image = elim (each x image) [
+pub leaves_keys : (known : KnownPages) (places count : ℕ) (m n : Map) (keys others : KeyMap) → HasKeys count m keys
+    → HasKeys count n others → (h : History) → EachStandsEitherIn places count (of known.pages m) (of known.pages n) h
+    → LeavesKeys places known count keys others h
+leaves_keys known places count m n keys others one other h each x image = elim (each x image) [
   | inl stands ↦ inl (record { map = m; stands = stands; has = one })
   | inr stands ↦ inr (record { map = n; stands = stands; has = other })
 ]
 
 -- a call of keys by one of the store
-module _ {T U : Type 0} (next : State → State) (turn : KeyState → KeyState)
+module _ {T U : Type 0} (known : KnownPages) (next : State → State) (turn : KeyState → KeyState)
     (Answers : KeyState → U → Type 0) (a b : Store) (before after : Told) (r : Result T StoreFault)
     (answer : Result U KeyFault) (h : History) (state : State) (k : KeyState)
     (keys : HasKeys a.units state.map k.map)
     (then_keys : HasKeys a.units (next state).map (turn k).map) where
   pub keys_steps : (Settled answer before after → Settled r before after)
       → ((later : History) → EndsWith r
-      (λ v l. KeepsStore before.places every (limits_of a.units) (view_of b) after l (next state))
-      (λ l. KeepsStore before.places every (limits_of a.units) (view_of b) after l state) later
-      → EndsWith answer (λ v l. KeepsKeys before.places b after l (turn k) × Answers k v)
-      (λ l. KeepsKeys before.places b after l k) later)
-      → StoreSteps next a before r b after h state
-      → Steps (LeavesKeys before.places a.units k.map (turn k).map) (tables_in a.transactions.pages)
-      (tables_in b.transactions.pages) (λ v l. KeepsKeys before.places b after l (turn k) × Answers k v)
-      (λ l. KeepsKeys before.places b after l k) h answer before after
+      (λ v l. KeepsStore before.places known.pages (limits_of a.units) (view_of b) after l (next state))
+      (λ l. KeepsStore before.places known.pages (limits_of a.units) (view_of b) after l state) later
+      → EndsWith answer (λ v l. KeepsKeys before.places known b after l (turn k) × Answers k v)
+      (λ l. KeepsKeys before.places known b after l k) later)
+      → StoreSteps known next a before r b after h state
+      → Steps (LeavesKeys before.places known a.units k.map (turn k).map) (tables_in a.transactions.pages)
+      (tables_in b.transactions.pages) (λ v l. KeepsKeys before.places known b after l (turn k) × Answers k v)
+      (λ l. KeepsKeys before.places known b after l k) h answer before after
   keys_steps less ends did =
       let counted = IsCountedClean (tables_in a.transactions.pages) in
       let clean = IsCountedClean (tables_in b.transactions.pages) in
-      outcome_weaker (EachStandsEitherIn before.places a.units (whole state.map) (whole (next state).map))
-      (LeavesKeys before.places a.units k.map (turn k).map)
+      outcome_weaker (EachStandsEitherIn before.places a.units (of known.pages state.map) (of known.pages (next state).map))
+      (LeavesKeys before.places known a.units k.map (turn k).map)
       (TidyWork counted clean (Settled r before after)) (TidyWork counted clean (Settled answer before after))
       (Settled r before after) (Settled answer before after)
-      (EndsWith r (λ v l. KeepsStore before.places every (limits_of a.units) (view_of b) after l (next state))
-      (λ l. KeepsStore before.places every (limits_of a.units) (view_of b) after l state))
-      (EndsWith answer (λ v l. KeepsKeys before.places b after l (turn k) × Answers k v)
-      (λ l. KeepsKeys before.places b after l k))
+      (EndsWith r (λ v l. KeepsStore before.places known.pages (limits_of a.units) (view_of b) after l (next state))
+      (λ l. KeepsStore before.places known.pages (limits_of a.units) (view_of b) after l state))
+      (EndsWith answer (λ v l. KeepsKeys before.places known b after l (turn k) × Answers k v)
+      (λ l. KeepsKeys before.places known b after l k))
       h before after
-      (leaves_keys before.places a.units state.map (next state).map k.map (turn k).map keys then_keys)
+      (leaves_keys known before.places a.units state.map (next state).map k.map (turn k).map keys then_keys)
       (λ added is. tidy_weaker counted clean (Settled r before after) (Settled answer before after) added less is)
       less (λ settled later is. ends later is) did
 
 -- a call that did nothing
-pub nothing_serves : {U : Type 0} (turn : KeyState → KeyState) (Answers : KeyState → U → Type 0)
+pub nothing_serves : {U : Type 0} (known : KnownPages) (turn : KeyState → KeyState) (Answers : KeyState → U → Type 0)
     (a : Store) (told : Told) (fault : KeyFault) (h : History) (k : KeyState) → IsNoBadBucket fault
-    → KeepsKeys told.places a told h k → ServesFor turn Answers a told (Err fault) a told h k
-nothing_serves {U} turn Answers a told fault h k good keeps = record {
-  steps = outcome_none (LeavesKeys told.places a.units k.map (turn k).map)
+    → KeepsKeys told.places known a told h k → ServesFor known turn Answers a told (Err fault) a told h k
+nothing_serves {U} known turn Answers a told fault h k good keeps = record {
+  steps = outcome_none (LeavesKeys told.places known a.units k.map (turn k).map)
       (TidyWork counted counted (Settled answer told told)) (Settled answer told told)
-      (EndsWith answer (λ v l. KeepsKeys told.places a told l (turn k) × Answers k v)
-      (λ l. KeepsKeys told.places a told l k))
+      (EndsWith answer (λ v l. KeepsKeys told.places known a told l (turn k) × Answers k v)
+      (λ l. KeepsKeys told.places known a told l k))
       h told keeps.keeps.steady
       (λ x image. inl (record {
         map = keeps.state.map;
-        stands = keeps_each told.places every (limits_of a.units) (view_of a) told h keeps.state keeps.keeps
+        stands = keeps_each told.places known.pages (limits_of a.units) (view_of a) told h keeps.state keeps.keeps
             x image;
         has = keeps.has.keys;
       }))
@@ -224,8 +224,8 @@ nothing_serves {U} turn Answers a told fault h k good keeps = record {
     counted = IsCountedClean (tables_in a.transactions.pages)
 
 pub kept_keys_last : KeptKeysLast
-kept_keys_last places store t h k keeps x image = inl (record {
+kept_keys_last places known store t h k keeps x image = inl (record {
   map = keeps.state.map;
-  stands = keeps_each places every (limits_of store.units) (view_of store) t h keeps.state keeps.keeps x image;
+  stands = keeps_each places known.pages (limits_of store.units) (view_of store) t h keeps.state keeps.keeps x image;
   has = keeps.has.keys;
 })

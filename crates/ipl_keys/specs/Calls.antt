@@ -9,16 +9,18 @@ use Rattle.ipl_base.specs.declared.fault.Refusal.TheVariants as refused
 use Rattle.ipl_base.specs.declared.fault.StoreFault.TheVariants.{Down, Spent, Refused, Chip}
 use Rattle.ipl_base.specs.declared.limits.TheConstants.{VALUE_LEN}
 use Rattle.ipl_model.specs.Operations.{after_write}
+use Rattle.ipl_model.specs.State.{State}
 use Rattle.ipl_model.specs.Refusals.{refuses_end}
 use Rattle.record_locks.specs.Standing.{state_of}
+use Rattle.unit_io.specs.Reads.{OfContents}
 use Rattle.unit_io.specs.Steps.{Steps}
 use Rattle.page_frames.specs.Pages.{tables_in}
-use Rattle.store_laws.specs.Keeps.{limits_of}
+use Rattle.store_laws.specs.Keeps.{KnownPages, ShowsState, limits_of}
 use Rattle.store_laws.specs.Refusals.{sessions_refuse_del}
 use Rattle.ipl_store.specs.declared.store.Store.{Store}
-use Rattle.ipl_store.specs.Calls.{IsSound, early_fault, entry_fault, Serves, Calls}
+use Rattle.ipl_store.specs.Calls.{view_of, IsSound, early_fault, entry_fault, Serves, Calls}
 use Rattle.ipl_store.specs.Puts.{found_room, put_fault, put_next, TellsRoom}
-use Rattle.ipl_store.specs.Shown.{IsSeen}
+use Rattle.ipl_store.specs.Shown.{ShowsName, IsSeen}
 use Rattle.ipl_keys.specs.declared.bucket_limits.TheConstants.{KEY_LEN, KEY_VALUE_LEN}
 use Rattle.ipl_keys.specs.BucketPairs.{Pairs, value_at, set_pair, remove_pair}
 use Rattle.ipl_keys.specs.Bucket.{IsBucket, IsBucketText, SpellsBucket, bucket_bytes}
@@ -59,8 +61,14 @@ early_key_fault store bad s = first_fault (entry_fault store) bad
 
 -- ---- a bucket is read
 
--- the session sees this record of the name, of whose bytes this holds
+-- The page of the name reads: whichever pages are known not to, it shows the state that the others and the memory show.
+abbrev pub ReadsPage : ℕ → Store → Told → Type 0
+ReadsPage n store told = (known : KnownPages) (state : State) → OfContents told (λ x.
+    ShowsState told.places known.pages (view_of store) state x → ShowsName told.places (view_of store) state n x)
+
+-- the session sees this record of the name, whose page reads, and of whose bytes this holds
 pub record Sees (s n : ℕ) (store : Store) (told : Told) (Of : List ℕ → Type 0) : Type 0 where
+  pub reads : ReadsPage n store told
   pub found : Option (List ℕ)
   pub seen : IsSeen s n store told found
   pub is : Of (bytes_of found)
@@ -237,20 +245,20 @@ IsNoBadBucket (key.BadBucket n) = ⊥
 -- What a call leaves of a store that keeps a key state. At each moment a power cut leaves the keys
 -- before or those after it. Done, the store keeps the next key state, and the answer is right; else it
 -- keeps the one before, unless a write failed, and no record was found to be no bucket.
-pub record ServesFor {T : Type 0} (next : KeyState → KeyState) (Answers : KeyState → T → Type 0)
+pub record ServesFor {T : Type 0} (known : KnownPages) (next : KeyState → KeyState) (Answers : KeyState → T → Type 0)
     (old : Store) (before : Told) (result : Result T KeyFault) (new : Store) (after : Told)
     (h : History) (k : KeyState) : Type 0 where
-  pub steps : Steps (LeavesKeys before.places old.units k.map (next k).map) (tables_in old.transactions.pages)
+  pub steps : Steps (LeavesKeys before.places known old.units k.map (next k).map) (tables_in old.transactions.pages)
       (tables_in new.transactions.pages)
-      (λ v later. KeepsKeys before.places new after later (next k) × Answers k v)
-      (λ later. KeepsKeys before.places new after later k) h result before after
+      (λ v later. KeepsKeys before.places known new after later (next k) × Answers k v)
+      (λ later. KeepsKeys before.places known new after later k) h result before after
   pub buckets : IfErr result IsNoBadBucket
 
--- each that it keeps
+-- each that it keeps, whichever pages don't read well
 abbrev pub ServesKeys : {T : Type 0} → (KeyState → KeyState) → (KeyState → T → Type 0) → Store → Told
     → Result T KeyFault → Store → Told → Type 0
-ServesKeys next Answers old before result new after = (h : History) (k : KeyState)
-    → KeepsKeys before.places old before h k → ServesFor next Answers old before result new after h k
+ServesKeys next Answers old before result new after = (known : KnownPages) (h : History) (k : KeyState)
+    → KeepsKeys before.places known old before h k → ServesFor known next Answers old before result new after h k
 
 -- nothing is answered
 abbrev pub AnswersNothing : KeyState → Unit {0} → Type 0

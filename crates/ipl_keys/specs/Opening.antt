@@ -6,7 +6,8 @@ use Rattle.chip_trait.specs.Story.{Story}
 use Rattle.chip_trait.specs.Told.{History, Told, adds_all}
 use Rattle.ipl_base.specs.declared.fault.OpenFault.{OpenFault}
 use Rattle.ipl_model.specs.State.{Map}
-use Rattle.ipl_meaning.specs.Legible.{whole}
+use Rattle.ipl_meaning.specs.Legible.{of}
+use Rattle.store_laws.specs.Keeps.{KnownPages}
 use Rattle.ipl_meaning.specs.Rests.{now, StoryRests}
 use Rattle.ipl_meaning.specs.Chosen.{units_at}
 use Rattle.unit_io.specs.Leads.{IsSteady}
@@ -23,16 +24,16 @@ store_of (Err fault) = Err fault
 
 -- At each moment a power cut leaves these keys, in so many units. Done, the store has as many, and keeps
 -- the keys, with no session open.
-pub record OpensFor (places units : ℕ) (m : KeyMap) (h : History) (old : Told)
+pub record OpensFor (places : ℕ) (known : KnownPages) (units : ℕ) (m : KeyMap) (h : History) (old : Told)
     (result : Result Keys OpenFault) (new : Told) : Type 0 where
   pub added : Story
   pub history : new.history ≡ option_map (adds_all added) old.history
-  pub each_moment : AtEachMoment (λ e. LeavesKeys places units m m (adds_all e h)) added
-  pub keeps : IfOk result (λ keys. KeepsKeys places keys.store new (adds_all added h) (keys_at_rest m)
+  pub each_moment : AtEachMoment (λ e. LeavesKeys places known units m m (adds_all e h)) added
+  pub keeps : IfOk result (λ keys. KeepsKeys places known keys.store new (adds_all added h) (keys_at_rest m)
       × (keys.store.units ≡ units))
 
--- over each story that rests on records that have keys, in as many units as the chip then says
+-- over each story that rests on records that have keys, whichever pages don't read well, in as many units as the chip then says
 abbrev pub OpensKeys : Told → Result Keys OpenFault → Told → Type 0
-OpensKeys old result new = (units : ℕ) (records : Map) (m : KeyMap) (h : History)
-    → units ≡ units_at (now h) old.places → IsSteady h old → StoryRests old.places (whole records) h
-    → HasKeys units records m → OpensFor old.places units m h old result new
+OpensKeys old result new = (known : KnownPages) (units : ℕ) (records : Map) (m : KeyMap) (h : History)
+    → units ≡ units_at (now h) old.places → IsSteady h old → StoryRests old.places (of known.pages records) h
+    → HasKeys units records m → OpensFor old.places known units m h old result new

@@ -1,5 +1,5 @@
 -- What a store's frames tell of a name, after a call that kept each state.
-use Rattle.std.proofs.Common.{◌≡◌, ℕ, Bool, false, List, Option, Some, None, Result, Ok, Err, IsSome, is_some, inl, inr, ◌⊎◌, IfErr, OnOk, refl, sym, ◌∙◌, ap, subst, arith}
+use Rattle.std.proofs.Common.{◌≡◌, ℕ, Bool, true, false, List, Option, Some, None, Result, Ok, Err, IsSome, is_some, inl, inr, ◌⊎◌, IfErr, OnOk, refl, sym, ◌∙◌, ap, subst, arith}
 use Rattle.std.proofs.lemmas.Bool.{cases_Bool, false≢true}
 use Rattle.std.specs.FinMap.{get}
 use Rattle.chip_trait.specs.Story.{Contents}
@@ -9,7 +9,7 @@ use Rattle.ipl_base.specs.declared.fault.StoreFault.{StoreFault}
 use Rattle.ipl_base.specs.Places.{home_of}
 use Rattle.ipl_model.specs.State.{State, see}
 use Rattle.ipl_format.specs.Record.{Change}
-use Rattle.ipl_meaning.specs.Legible.{every}
+use Rattle.ipl_meaning.specs.Legible.{Legibility, IsToldApart}
 use Rattle.ipl_meaning.specs.Chart.{chart_of}
 use Rattle.ipl_meaning.specs.Tables.{Tables}
 use Rattle.unit_io.specs.Costs.{Spends}
@@ -18,7 +18,7 @@ use Rattle.store_laws.specs.Pending.{name_at}
 use Rattle.store_laws.specs.Frames.{PageFrame, Frames}
 use Rattle.store_laws.specs.Advances.{KeepsState}
 use Rattle.store_laws.specs.Keeps.{View, ShowsState, TellsName}
-use Rattle.store_laws.proofs.ViewLemmas.{frames_tell_state}
+use Rattle.store_laws.proofs.ViewLemmas.{shown_is_said, frames_tell_state}
 use Rattle.record_locks.specs.Held.{number_of}
 use Rattle.page_ops.specs.Pending.{seen_by}
 use Rattle.buffer_pool.specs.Uses.{IsUsedLast}
@@ -37,23 +37,38 @@ use Rattle.ipl_store.specs.declared.transactions.Transactions.{Transactions}
 use Rattle.ipl_store.specs.Costs.{AsksToWrite}
 use Rattle.ipl_store.specs.Turns.{TurnsInMemory}
 use Rattle.ipl_store.specs.declared.store.Store.{Store}
-use Rattle.ipl_store.specs.Calls.{view_of, tells_wear, EndsAs, IsSound}
+use Rattle.ipl_store.specs.Calls.{memory_of_store, view_of, tells_wear, EndsAs, IsSound, Serves}
 use Rattle.ipl_store.proofs.CallLemmas.{calls_refused, let_in_calls, calls_as, calls_fail_as, failed_calls, calls_joined}
 use Rattle.ipl_store.specs.Shown.{ShowsName, FramesName, IsSeen, HasCommitted, Fetches, answered, AsksLittle, CostsOnePage, FailsAsPageOf, IsExactly, LooksAtStore}
 
 name_of_home : (n : ℕ) → name_at (home_of n).unit (home_of n).page (home_of n).slot ≡ n
 name_of_home n = omega arith
 
--- where all pages show the state, that of the name does
-pub name_shown : (places : ℕ) (store : View) (state : State) (n : ℕ) (x : Contents)
-    → ShowsState places every store state x → ShowsName places store state n x
-name_shown places store state n x shown = record {
+-- a page in a frame has values
+framed_has : (o : Option PageFrame) → IsSome o → (f : PageFrame) × (o ≡ Some f)
+framed_has (Some f) is = (f, refl)
+framed_has None is = absurd (cc is)
+
+-- Where a call was done and has the name's page in a frame then, that is one of the pages of whose names it is said,
+-- whichever are known not to read well: it shows the state.
+pub framed_shows : {T : Type 0} (pages : Legibility) (next : State → State) (most n : ℕ) (a b : Store)
+    (before after : Told) (found : T) → IsToldApart pages → Serves next most a before (Ok found) b after
+    → IsFramed b.transactions.pages (home_of n).unit (home_of n).page
+    → (state : State) → OfContents before (λ x. ShowsState before.places pages (view_of a) state x
+    → ShowsName before.places (view_of a) state n x)
+framed_shows pages next most n a b before after found apart did framed state x told shown = record {
   layout = shown.layout;
   count = shown.count;
   fits = shown.fits;
-  shows = λ low. shown.says.pages (home_of n).unit (home_of n).page
-      (omega (arith, low, shown.count)) (omega arith) refl;
+  shows = λ low. shown.says.pages (home_of n).unit (home_of n).page (omega (arith, low, shown.count)) (omega arith) said;
 }
+  where
+    said : pages.reads (home_of n).unit (home_of n).page ≡ true
+    said =
+        let (y, told_then, fits) = did.leads.fits before.places refl tt x told in
+        let (f, there) = framed_has (frames_in b.transactions.pages (home_of n).unit (home_of n).page) framed in
+        shown_is_said before.places pages (chart_of x) (chart_of y) shown.layout state.map (memory_of_store b)
+        (next state) (home_of n).unit (home_of n).page f apart shown.says (fits shown.layout state shown.fits) there
 
 pub shown_frames_tell : {T E : Type 0} (v : T) (n : ℕ) (store : View) (t : Tables)
     (later : Frames) (f : PageFrame) (old new : Told)

@@ -97,7 +97,7 @@ module _ {S : Type 0} {k : Keeping S} {limits : Limits} where
 
   -- more numbers may be drawn
   pub completes_more : {T : Type 0} {n m : ℕ} {before then : S} {old new : Told} {result : Result T Stop} → Completes k limits n before old result then new → n ≤ m → Completes k limits m before old result then new
-  completes_more first le = record { drawn = omega (arith, first.drawn, le); excuse = λ fault is few. first.excuse fault is (omega (arith, few, le)); tells = first.tells; again = first.again }
+  completes_more first le = record { drawn = omega (arith, first.drawn, le); excuse = λ fault is few whole. first.excuse fault is (omega (arith, few, le)) whole; tells = first.tells; again = first.again }
 
   -- what a `?` hands on
   pub completes_stop : {T U : Type 0} {n : ℕ} {before then : S} {old new : Told} {s : Stop} (result : Result U Stop) → IsErrAnd result (λ e. e ≡ s) → Completes k {T = T} limits n before old (Err s) then new → Completes k limits n before old result then new
@@ -114,7 +114,7 @@ module _ {S : Type 0} {k : Keeping S} {limits : Limits} where
   completes_then {T} {n} {m} {before} {between} {then} {old} {mid} {new} first on next =
       let more = next first.again in record {
         drawn = omega (arith, first.drawn, more.drawn);
-        excuse = λ fault is few. excuse_earlier old mid new fault on.reads on.writes on.worn (more.excuse fault is (omega (arith, few, first.drawn)));
+        excuse = λ fault is few whole. excuse_earlier old mid new fault on.reads on.writes on.worn (more.excuse fault is (omega (arith, few, first.drawn)) whole);
         tells = more.tells;
         again = more.again;
       }
@@ -126,7 +126,7 @@ module _ {S : Type 0} {k : Keeping S} {limits : Limits} where
       let still = still_beside old mid read in
       let more = next (record { state = keeps.state; history = adds_all (sayings still.pieces) keeps.history; holds = k.still limits before old mid keeps.history keeps.state still keeps.holds }) in record {
         drawn = more.drawn;
-        excuse = λ fault is few. excuse_earlier old mid new fault read.reads read.writes read.worn (more.excuse fault is few);
+        excuse = λ fault is few whole. excuse_earlier old mid new fault read.reads read.writes read.worn (more.excuse fault is few whole);
         tells = more.tells;
         again = more.again;
       }

@@ -12,6 +12,7 @@ mod GatherLemmas
 mod SayLemmas
 mod ViewLemmas
 pub mod ReadLemmas
+mod ReplyLemmas
 pub mod LineLemmas
 mod FeedLemmas
 pub mod RunLemmas

@@ -1,5 +1,8 @@
 -- How a run goes on as the bytes of its script come.
-use Rattle.std.specs.Prelude.{◌≡◌, ℕ, ◌≤◌, ◌+◌, ◌-◌, ◌*◌, ◌^◌, min, max, true, false, take, drop, length, List, [], ◌++◌, Option, Some, Result, Ok, Err, MatchResult, IfErr, OnOk, IsErrOf, is_ok, map}
+use Rattle.std.specs.Option.{option_map}
+use Rattle.chip_trait.specs.declared.event.Event.TheVariants.{Said}
+use Rattle.chip_trait.specs.Story.{Story}
+use Rattle.std.specs.Prelude.{◌≡◌, ◌⊎◌, ◌∷◌, ℕ, ◌≤◌, ◌+◌, ◌-◌, ◌*◌, ◌^◌, min, max, true, false, take, drop, length, List, [], ◌++◌, Option, Some, Result, Ok, Err, MatchResult, IfErr, OnOk, IsErrOf, is_ok, map}
 use Rattle.ipl_model.specs.State.{Map, State, Limits}
 use Rattle.ipl_model.specs.Operations.{row_of, rows_from}
 use Rattle.ipl_model.specs.declared.command.Command.{Command}
@@ -33,6 +36,12 @@ HasRead n old new = (source : List ℕ) → old.beside.left ≡ Some source
 -- all of the source was read, where it is told
 abbrev pub ReadsAll : Told → Told → Type 0
 ReadsAll old new = (source : List ℕ) → old.beside.left ≡ Some source → new.beside.left ≡ Some []
+
+-- what was added since: nothing, or a piece of a reply last of all
+pub record EndsReplied (old new : Told) : Type 0 where
+  pub added : Story
+  pub history : new.history ≡ option_map (adds_all added) old.history
+  pub last : (added ≡ []) ⊎ ((piece : List ℕ) × (earlier : Story) × (added ≡ Said piece ∷ earlier))
 
 -- n bytes of the script were read, no more than there was room for; none only where all of it was read
 pub record ReadsPiece (room n : ℕ) (old new : Told) : Type 0 where
@@ -120,12 +129,13 @@ module _ {S : Type 0} (k : Keeping S) where
     pub drew : k.counter then ≤ max (k.counter before) FOUND_NUMBER + COMMAND_DRAWS * n
     pub completed : CompletesOver (COMMAND_DRAWS * n) before old result then new
 
-  -- How a run of a script ends: all of it was read, or the stop has its cause. It is too long only where so many bytes
-  -- were read.
+  -- How a run of a script ends: all of it was read, and nothing was done behind the last reply; or the stop has its cause.
+  -- It is too long only where so many bytes were read.
   pub record EndsScript (old : Told) (result : Result (Unit {0}) Stop) (new : Told) : Type 0 where
     pub cause : IfErr result (λ s. StopCause old new s)
     pub long : IsErrOf result stop.TooLong → ReadsTooMany old new
     pub all : OnOk result (ReadsAll old new)
+    pub last : OnOk result (EndsReplied old new)
 
   -- these lines were said, chip calls between them, and the store keeps the same state; or a part of them was
   pub record SaysSome (limits : Limits) (state : State) (lines : List (List ℕ)) (before : S) (h : History)
@@ -162,12 +172,14 @@ module _ {S : Type 0} (k : Keeping S) where
       × k.holds limits then new (adds_all leaves.added h) (after_all limits state commands))
       (λ s. RunLeaves k limits state commands before h (Stays k limits then old new) then old new (Err s))
 
-  -- commands were answered, or it stopped in them, with what goes along and what is done with a store that keeps a state
+  -- Commands were answered, or it stopped in them, with what goes along and what is done with a store that keeps a state.
+  -- Nothing is done behind the last reply.
   pub record AnswersAlong (commands : List Command) (n : ℕ) (before : S) (old : Told)
       (result : Result (Unit {0}) Stop) (then : S) (new : Told) : Type 0 where
     pub answers : Answers commands before old result then new
     pub along : Along Onward n before old result then new
     pub completes : CompletesOver n before old result then new
+    pub last : OnOk result (EndsReplied old new)
 
   -- From one moment of a run to a later one, while some bytes were taken: commands were answered, and with those still to come
   -- they are those that were to come before.
@@ -194,6 +206,7 @@ module _ {S : Type 0} (k : Keeping S) where
     pub takes : TakesBytes bytes before line old result then later new
     pub along : Along Onward n before old result then new
     pub completes : CompletesOver n before old result then new
+    pub last : OnOk result (EndsReplied old new)
 
   -- the next n bytes of the source
   pub record Took (limits : Limits) (state : State) (line source : List ℕ) (before : S) (h : History) (n : ℕ)

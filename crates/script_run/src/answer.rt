@@ -34,8 +34,8 @@ fn say_reply<D: Desk>(desk: &mut D, reply: &Reply) -> Result<(), Failed>
 fn answer_one<S: Store, D: Desk>(store: &mut S, desk: &mut D, command: &Command) -> Result<(), Stop>
     ghost places: { ℕ }
     requires single { IsSingle command.now }
-    requires suits { FitsDesk (S.keeping places) places store.old (D.told desk.old) }
-    ensures { AnswersAlong (S.keeping places) (command.now ∷ []) WORK_DRAWS store.old (D.told desk.old) result
+    requires suits { FitsDesk (S.keeping places S.all) places store.old (D.told desk.old) }
+    ensures { (known : S.Known) → AnswersAlong (S.keeping places known) (command.now ∷ []) WORK_DRAWS store.old (D.told desk.old) result
         store.new (D.told desk.new) }
 {
     let reply = store.work(desk, command)?;
@@ -48,8 +48,8 @@ fn answer_one<S: Store, D: Desk>(store: &mut S, desk: &mut D, command: &Command)
 /// Says the record of a name, where there is one.
 fn say_row<S: Store, D: Desk>(store: &mut S, desk: &mut D, n: u32) -> Result<(), Stop>
     ghost places: { ℕ }
-    requires { FitsDesk (S.keeping places) places store.old (D.told desk.old) }
-    ensures { SaysAlong (S.keeping places) (λ limits. n < limits.names) (λ state. row_lines n (get state.map n))
+    requires { FitsDesk (S.keeping places S.all) places store.old (D.told desk.old) }
+    ensures { (known : S.Known) → SaysAlong (S.keeping places known) (λ limits. n < limits.names) (λ state. row_lines n (get state.map n))
         LOOK_UP_DRAWS store.old (D.told desk.old) result store.new (D.told desk.new) }
 {
     match store.look_up(desk, n)? {
@@ -69,8 +69,8 @@ fn say_rows<S: Store, D: Desk>(
     end: u32,
 ) -> Result<(), Stop>
     ghost places: { ℕ }
-    requires { FitsDesk (S.keeping places) places store.old (D.told desk.old) }
-    ensures { SaysAlong (S.keeping places) (λ limits. end ≤ limits.names)
+    requires { FitsDesk (S.keeping places S.all) places store.old (D.told desk.old) }
+    ensures { (known : S.Known) → SaysAlong (S.keeping places known) (λ limits. end ≤ limits.names)
         (λ state. rows_lines state.map first (end - first)) (LOOK_UP_DRAWS * (end - first)) store.old
         (D.told desk.old) result store.new (D.told desk.new) }
 {
@@ -83,8 +83,8 @@ fn say_rows<S: Store, D: Desk>(
 /// Answers a list: its records and then a line that ends it, or a refusal.
 fn list<S: Store, D: Desk>(store: &mut S, desk: &mut D, first: u32, last: u32) -> Result<(), Stop>
     ghost places: { ℕ }
-    requires { FitsDesk (S.keeping places) places store.old (D.told desk.old) }
-    ensures { AnswersAlong (S.keeping places) (command.List first last ∷ []) COMMAND_DRAWS store.old
+    requires { FitsDesk (S.keeping places S.all) places store.old (D.told desk.old) }
+    ensures { (known : S.Known) → AnswersAlong (S.keeping places known) (command.List first last ∷ []) COMMAND_DRAWS store.old
         (D.told desk.old) result store.new (D.told desk.new) }
 {
     let names = store.names();
@@ -104,8 +104,8 @@ fn list<S: Store, D: Desk>(store: &mut S, desk: &mut D, first: u32, last: u32) -
 /// Answers one command.
 fn answer<S: Store, D: Desk>(store: &mut S, desk: &mut D, command: &Command) -> Result<(), Stop>
     ghost places: { ℕ }
-    requires { FitsDesk (S.keeping places) places store.old (D.told desk.old) }
-    ensures { AnswersAlong (S.keeping places) (command.now ∷ []) COMMAND_DRAWS store.old (D.told desk.old) result
+    requires { FitsDesk (S.keeping places S.all) places store.old (D.told desk.old) }
+    ensures { (known : S.Known) → AnswersAlong (S.keeping places known) (command.now ∷ []) COMMAND_DRAWS store.old (D.told desk.old) result
         store.new (D.told desk.new) }
 {
     match command {
@@ -121,8 +121,8 @@ pub(crate) fn answer_line<S: Store, D: Desk>(
     line: &[u8],
 ) -> Result<(), Stop>
     ghost places: { ℕ }
-    requires { FitsDesk (S.keeping places) places store.old (D.told desk.old) }
-    ensures { AnswersAlong (S.keeping places) (commands_in (line_of line.now)) COMMAND_DRAWS store.old
+    requires { FitsDesk (S.keeping places S.all) places store.old (D.told desk.old) }
+    ensures { (known : S.Known) → AnswersAlong (S.keeping places known) (commands_in (line_of line.now)) COMMAND_DRAWS store.old
         (D.told desk.old) result store.new (D.told desk.new) }
 {
     match parse(line) {

@@ -4,7 +4,7 @@ ghost use Rattle.std.specs.List.{position};
 ghost use Rattle.ipl_model.specs.Grammar.{is_line_feed};
 ghost use Rattle.store_trait.specs.Onward.{Further};
 ghost use Rattle.store_trait.specs.Keeping.{Draws, LeavesTidy, COMMAND_DRAWS, SCRIPT_DRAWS};
-ghost use Rattle.script_run.specs.Goes.{FitsDesk, Along, LearnsAlong, CompletesOver, DrawsPiece, ReadsPiece, EndsScript, TakesAlong, TakesPiece, RunsScript};
+ghost use Rattle.script_run.specs.Goes.{EndsReplied, FitsDesk, Along, LearnsAlong, CompletesOver, DrawsPiece, ReadsPiece, EndsScript, TakesAlong, TakesPiece, RunsScript};
 
 use crate::Stop;
 use crate::answer::answer_line;
@@ -32,8 +32,8 @@ fn end_line<S: Store, D: Desk>(
     line: &mut LineBuffer,
 ) -> Result<(), Stop>
     ghost places: { ℕ }
-    requires { FitsDesk (S.keeping places) places store.old (D.told desk.old) }
-    ensures { TakesAlong (S.keeping places) (10 ∷ []) COMMAND_DRAWS store.old line.old (D.told desk.old) result
+    requires { FitsDesk (S.keeping places S.all) places store.old (D.told desk.old) }
+    ensures { (known : S.Known) → TakesAlong (S.keeping places known) (10 ∷ []) COMMAND_DRAWS store.old line.old (D.told desk.old) result
         store.new line.new (D.told desk.new) }
 {
     let answered = answer_line(store, desk, line.bytes());
@@ -50,8 +50,8 @@ fn take_piece<S: Store, D: Desk>(
     piece: &[u8],
 ) -> Result<(), Stop>
     ghost places: { ℕ }
-    requires { FitsDesk (S.keeping places) places store.old (D.told desk.old) }
-    ensures { TakesAlong (S.keeping places) piece.now (COMMAND_DRAWS * length piece.now) store.old line.old
+    requires { FitsDesk (S.keeping places S.all) places store.old (D.told desk.old) }
+    ensures { (known : S.Known) → TakesAlong (S.keeping places known) piece.now (COMMAND_DRAWS * length piece.now) store.old line.old
         (D.told desk.old) result store.new line.new (D.told desk.new) }
 {
     let mut at = 0;
@@ -73,16 +73,17 @@ fn take_next<S: Store, D: Desk>(
 ) -> Result<usize, Stop>
     ghost places: { ℕ }
     requires some { 0 < length piece.old }
-    requires suits { FitsDesk (S.keeping places) places store.old (D.told desk.old) }
-    ensures takes { TakesPiece (S.keeping places) store.old line.old (D.told desk.old) result store.new line.new
+    requires suits { FitsDesk (S.keeping places S.all) places store.old (D.told desk.old) }
+    ensures takes { (known : S.Known) → TakesPiece (S.keeping places known) store.old line.old (D.told desk.old) result store.new line.new
         (D.told desk.new) }
-    ensures along { Along (S.keeping places) Further (COMMAND_DRAWS * length piece.old) store.old
+    ensures along { (known : S.Known) → Along (S.keeping places known) Further (COMMAND_DRAWS * length piece.old) store.old
         (D.told desk.old) result store.new (D.told desk.new) }
-    ensures completes { CompletesOver (S.keeping places) (COMMAND_DRAWS * length piece.old) store.old
+    ensures completes { (known : S.Known) → CompletesOver (S.keeping places known) (COMMAND_DRAWS * length piece.old) store.old
         (D.told desk.old) result store.new (D.told desk.new) }
+    ensures last { OnOk result (EndsReplied (D.told desk.old) (D.told desk.new)) }
     // How many bytes it were, and what they draw.
     ensures read { IfOk result (λ n. ReadsPiece (length piece.old) n (D.told desk.old) (D.told desk.new)) }
-    ensures draws { IfOk result (λ n. DrawsPiece (S.keeping places) n store.old (D.told desk.old) result store.new
+    ensures draws { (known : S.Known) → IfOk result (λ n. DrawsPiece (S.keeping places known) n store.old (D.told desk.old) result store.new
         (D.told desk.new)) }
 {
     match desk.read_script(piece) {
@@ -98,16 +99,16 @@ fn take_next<S: Store, D: Desk>(
 /// moment the power is cut at, the chip stands for the records after the commands whose replies were said, or after one more.
 pub fn run_script<S: Store, D: Desk>(store: &mut S, desk: &mut D) -> Result<(), Stop>
     ghost places: { ℕ }
-    requires { FitsDesk (S.keeping places) places store.old (D.told desk.old) }
-    ensures run { RunsScript (S.keeping places) store.old (D.told desk.old) result store.new (D.told desk.new) }
-    ensures tidy { LeavesTidy (S.keeping places) store.old store.new (D.told desk.old) (D.told desk.new) (is_ok result) }
-    ensures draws { Draws (S.keeping places) SCRIPT_DRAWS store.old (IsErrOf result (Stop.Store Fault.Spent)) store.new }
-    ensures learns { LearnsAlong (S.keeping places) store.old (D.told desk.old) result store.new (D.told desk.new) }
-    ensures completes { CompletesOver (S.keeping places) SCRIPT_DRAWS store.old (D.told desk.old) result store.new
+    requires { FitsDesk (S.keeping places S.all) places store.old (D.told desk.old) }
+    ensures run { (known : S.Known) → RunsScript (S.keeping places known) store.old (D.told desk.old) result store.new (D.told desk.new) }
+    ensures tidy { (known : S.Known) → LeavesTidy (S.keeping places known) store.old store.new (D.told desk.old) (D.told desk.new) (is_ok result) }
+    ensures draws { (known : S.Known) → Draws (S.keeping places known) SCRIPT_DRAWS store.old (IsErrOf result (Stop.Store Fault.Spent)) store.new }
+    ensures learns { (known : S.Known) → LearnsAlong (S.keeping places known) store.old (D.told desk.old) result store.new (D.told desk.new) }
+    ensures completes { (known : S.Known) → CompletesOver (S.keeping places known) SCRIPT_DRAWS store.old (D.told desk.old) result store.new
         (D.told desk.new) }
     ensures further { Further (D.told desk.old) (D.told desk.new) }
-    ensures ends { EndsScript (S.keeping places) (D.told desk.old) result (D.told desk.new) }
-    ensures suited { OnOk result ((S.keeping places).suits store.new) }
+    ensures ends { (known : S.Known) → EndsScript (S.keeping places known) (D.told desk.old) result (D.told desk.new) }
+    ensures suited { OnOk result ((S.keeping places S.all).suits store.new) }
 {
     let mut line = LineBuffer::new();
     let mut piece = [0u8; PIECE];

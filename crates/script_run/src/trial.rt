@@ -31,13 +31,13 @@ pub fn run_trial<S: Store, D: Desk>(
 ) -> Result<(), Stop>
     ghost places: { ℕ }
     requires units { units ≤ MOST_UNITS }
-    requires suits { FitsDesk (S.keeping places) places store.old (D.told desk.old) }
-    ensures run { RunsTrial (S.keeping places) (trial_commands units seed count) store.old (D.told desk.old)
+    requires suits { FitsDesk (S.keeping places S.all) places store.old (D.told desk.old) }
+    ensures run { RunsTrial (S.keeping places S.all) (trial_commands units seed count) store.old (D.told desk.old)
         result store.new (D.told desk.new) }
     // It draws no more numbers than a script may.
-    ensures along { Along (S.keeping places) Onward SCRIPT_DRAWS store.old (D.told desk.old) result store.new
+    ensures along { Along (S.keeping places S.all) Onward SCRIPT_DRAWS store.old (D.told desk.old) result store.new
         (D.told desk.new) }
-    ensures completes { CompletesOver (S.keeping places) SCRIPT_DRAWS store.old (D.told desk.old) result
+    ensures completes { CompletesOver (S.keeping places S.all) SCRIPT_DRAWS store.old (D.told desk.old) result
         store.new (D.told desk.new) }
     ensures stops { IfErr result IsTrialStop }
 {

@@ -22,15 +22,15 @@ fn take_one<S: Store, D: Desk>(
 ) -> Result<(), Stop>
     ghost places: { ℕ }
     requires room { records.old.count < 4294967295 }
-    requires suits { FitsDesk (S.keeping places) places store.old (D.told desk.old) }
+    requires suits { FitsDesk (S.keeping places S.all) places store.old (D.told desk.old) }
     ensures takes { (limits : Limits) → n < limits.names
-        → TakesAll (S.keeping places) limits (λ state. row_lines n (get state.map n)) records.old store.old
+        → TakesAll (S.keeping places S.all) limits (λ state. row_lines n (get state.map n)) records.old store.old
         (D.told desk.old) result records.new store.new (D.told desk.new) }
-    ensures along { Along (S.keeping places) Onward LOOK_UP_DRAWS store.old (D.told desk.old) result store.new
+    ensures along { Along (S.keeping places S.all) Onward LOOK_UP_DRAWS store.old (D.told desk.old) result store.new
         (D.told desk.new) }
     ensures completes { (limits : Limits) → n < limits.names
-        → KeepsSome (S.keeping places) limits store.old (D.told desk.old)
-        → Completes (S.keeping places) limits LOOK_UP_DRAWS store.old (D.told desk.old) result store.new
+        → KeepsSome (S.keeping places S.all) limits store.old (D.told desk.old)
+        → Completes (S.keeping places S.all) limits LOOK_UP_DRAWS store.old (D.told desk.old) result store.new
         (D.told desk.new) }
     ensures stops { IfErr result IsStoreStop }
     ensures few { records.new.count ≤ records.old.count + 1 }
@@ -50,15 +50,15 @@ fn take_below<S: Store, D: Desk>(
 ) -> Result<(), Stop>
     ghost places: { ℕ }
     requires none { records.old.count ≡ 0 }
-    requires suits { FitsDesk (S.keeping places) places store.old (D.told desk.old) }
+    requires suits { FitsDesk (S.keeping places S.all) places store.old (D.told desk.old) }
     ensures takes { (limits : Limits) → names ≤ limits.names
-        → TakesAll (S.keeping places) limits (λ state. record_lines state.map names) records.old store.old
+        → TakesAll (S.keeping places S.all) limits (λ state. record_lines state.map names) records.old store.old
         (D.told desk.old) result records.new store.new (D.told desk.new) }
-    ensures along { Along (S.keeping places) Onward (LOOK_UP_DRAWS * names) store.old (D.told desk.old) result
+    ensures along { Along (S.keeping places S.all) Onward (LOOK_UP_DRAWS * names) store.old (D.told desk.old) result
         store.new (D.told desk.new) }
     ensures completes { (limits : Limits) → names ≤ limits.names
-        → KeepsSome (S.keeping places) limits store.old (D.told desk.old)
-        → Completes (S.keeping places) limits (LOOK_UP_DRAWS * names) store.old (D.told desk.old) result store.new
+        → KeepsSome (S.keeping places S.all) limits store.old (D.told desk.old)
+        → Completes (S.keeping places S.all) limits (LOOK_UP_DRAWS * names) store.old (D.told desk.old) result store.new
         (D.told desk.new) }
     ensures stops { IfErr result IsStoreStop }
 {
@@ -76,13 +76,13 @@ pub(crate) fn take_all<S: Store, D: Desk>(
 ) -> Result<(), Stop>
     ghost places: { ℕ }
     requires none { records.old.count ≡ 0 }
-    requires suits { FitsDesk (S.keeping places) places store.old (D.told desk.old) }
+    requires suits { FitsDesk (S.keeping places S.all) places store.old (D.told desk.old) }
     ensures takes { (limits : Limits)
-        → TakesAll (S.keeping places) limits (λ state. record_lines state.map limits.names) records.old store.old
+        → TakesAll (S.keeping places S.all) limits (λ state. record_lines state.map limits.names) records.old store.old
         (D.told desk.old) result records.new store.new (D.told desk.new) }
-    ensures along { Along (S.keeping places) Onward (LOOK_UP_DRAWS * 983040) store.old (D.told desk.old) result
+    ensures along { Along (S.keeping places S.all) Onward (LOOK_UP_DRAWS * 983040) store.old (D.told desk.old) result
         store.new (D.told desk.new) }
-    ensures completes { CompletesOver (S.keeping places) (LOOK_UP_DRAWS * 983040) store.old (D.told desk.old)
+    ensures completes { CompletesOver (S.keeping places S.all) (LOOK_UP_DRAWS * 983040) store.old (D.told desk.old)
         result store.new (D.told desk.new) }
     ensures stops { IfErr result IsStoreStop }
 {

@@ -23,12 +23,12 @@ fn do_one<S: Store, D: Desk>(
     ghost places: { ℕ }
     requires kind { IsOfTrial command.now }
     requires room { tally.old.commands < 4294967295 }
-    requires suits { FitsDesk (S.keeping places) places store.old (D.told desk.old) }
-    ensures does { DoesAll (S.keeping places) (command.now ∷ []) tally.old store.old (D.told desk.old) result
+    requires suits { FitsDesk (S.keeping places S.all) places store.old (D.told desk.old) }
+    ensures does { DoesAll (S.keeping places S.all) (command.now ∷ []) tally.old store.old (D.told desk.old) result
         tally.new store.new (D.told desk.new) }
-    ensures along { Along (S.keeping places) Onward WORK_DRAWS store.old (D.told desk.old) result store.new
+    ensures along { Along (S.keeping places S.all) Onward WORK_DRAWS store.old (D.told desk.old) result store.new
         (D.told desk.new) }
-    ensures completes { CompletesOver (S.keeping places) WORK_DRAWS store.old (D.told desk.old) result store.new
+    ensures completes { CompletesOver (S.keeping places S.all) WORK_DRAWS store.old (D.told desk.old) result store.new
         (D.told desk.new) }
     ensures stops { IfErr result IsStoreStop }
     ensures more { OnOk result (tally.new.commands ≡ tally.old.commands + 1) }
@@ -48,12 +48,12 @@ pub fn do_all<S: Store, D: Desk>(
 ) -> Result<(), Stop>
     ghost places: { ℕ }
     requires none { tally.old.commands ≡ 0 }
-    requires suits { FitsDesk (S.keeping places) places store.old (D.told desk.old) }
-    ensures does { DoesAll (S.keeping places) (commands_from commands.old count) tally.old store.old
+    requires suits { FitsDesk (S.keeping places S.all) places store.old (D.told desk.old) }
+    ensures does { DoesAll (S.keeping places S.all) (commands_from commands.old count) tally.old store.old
         (D.told desk.old) result tally.new store.new (D.told desk.new) }
-    ensures along { Along (S.keeping places) Onward (WORK_DRAWS * count) store.old (D.told desk.old) result
+    ensures along { Along (S.keeping places S.all) Onward (WORK_DRAWS * count) store.old (D.told desk.old) result
         store.new (D.told desk.new) }
-    ensures completes { CompletesOver (S.keeping places) (WORK_DRAWS * count) store.old (D.told desk.old) result
+    ensures completes { CompletesOver (S.keeping places S.all) (WORK_DRAWS * count) store.old (D.told desk.old) result
         store.new (D.told desk.new) }
     ensures stops { IfErr result IsStoreStop }
 {

@@ -18,7 +18,7 @@ use Rattle.ipl_format.specs.Sector.{sector_in}
 use Rattle.ipl_model.specs.declared.command.Command.TheVariants as command
 use Rattle.ipl_model.specs.declared.reply.Reply.TheVariants as reply
 use Rattle.ipl_model.specs.Step.{Stepped, step}
-use Rattle.ipl_meaning.specs.Legible.{every, whole}
+use Rattle.ipl_meaning.specs.Legible.{of}
 use Rattle.ipl_meaning.specs.Chart.{chart_of}
 use Rattle.ipl_meaning.specs.Stands.{StandsIn}
 use Rattle.ipl_meaning.specs.Tables.{IsCountedClean}
@@ -27,7 +27,7 @@ use Rattle.record_locks.specs.Standing.{state_of}
 use Rattle.store_trait.proofs.UnusedLemmas.{unused_none}
 use Rattle.store_trait.specs.Keeping.{WorkLeaves}
 use Rattle.store_trait.proofs.TidyLemmas.{tidy_same, tidy_then}
-use Rattle.store_laws.specs.Keeps.{limits_of, keeps_each}
+use Rattle.store_laws.specs.Keeps.{KnownPages, limits_of, keeps_each}
 use Rattle.ipl_store.specs.declared.store.Store.{Store}
 use Rattle.ipl_store.specs.Calls.{Calls, view_of, counter_of, down_fault, early_fault}
 use Rattle.script_store.specs.declared.store.ScriptStore.{ScriptStore}
@@ -51,23 +51,23 @@ abort_keeps limits state s = by_refusal (refuses_end limits state s)
 
 -- ---- none was aborted
 
-module _ (a : ScriptStore) (told : Told) where
-  abbrev nothing_left : (limits : Limits) (state : State) (h : History) → KeepsScript told.places limits a told h state
-      → WorkLeaves (script_keeping told.places) (λ x. StandsIn told.places limits.units (chart_of x) (whole state.map)) a h a
+module _ (known : KnownPages) (a : ScriptStore) (told : Told) where
+  abbrev nothing_left : (limits : Limits) (state : State) (h : History) → KeepsScript told.places known limits a told h state
+      → WorkLeaves (script_keeping told.places known) (λ x. StandsIn told.places limits.units (chart_of x) (of known.pages state.map)) a h a
       told told true
   nothing_left limits state h keeps = record {
     added = [];
     history = same_history told.history;
-    each_moment = at_start (Leaves (says sector_in) (λ x. StandsIn told.places limits.units (chart_of x) (whole state.map)) h)
-        (keeps_each told.places every limits (view_of a.store) told h state keeps.kept);
+    each_moment = at_start (Leaves (says sector_in) (λ x. StandsIn told.places limits.units (chart_of x) (of known.pages state.map)) h)
+        (keeps_each told.places known.pages limits (view_of a.store) told h state keeps.kept);
     silent = refl;
     only = tt;
     lawful = lawful_none (IsCountedClean (view_of a.store).memory.tables);
     clean = λ _. clean_none (IsCountedClean (view_of a.store).memory.tables);
-    unused = unused_none (script_keeping told.places) a h true;
+    unused = unused_none (script_keeping told.places known) a h true;
   }
 
-  pub aborts_none : IsRunning told.places a → Aborts a told a
+  pub aborts_none : IsRunning told.places a → Aborts known a told a
   aborts_none runs = record {
     running = runs;
     keeps = λ limits state h keeps. record {
@@ -76,7 +76,7 @@ module _ (a : ScriptStore) (told : Told) where
       records = refl;
       keeps = keeps;
     };
-    tidy = tidy_same (script_keeping told.places) a told told true refl;
+    tidy = tidy_same (script_keeping told.places known) a told told true refl;
     drawn = omega arith;
     knows = λ entry knows. knows;
     recalls = λ entry recalled. recalled;
@@ -84,40 +84,40 @@ module _ (a : ScriptStore) (told : Told) where
 
 -- ---- one more was aborted
 
-module _ (a m b : ScriptStore) (told : Told) (s : ℕ) (so_far : Aborts a told m) where
+module _ (known : KnownPages) (a m b : ScriptStore) (told : Told) (s : ℕ) (so_far : Aborts known a told m) where
   -- it keeps the records that were kept so far
-  keeps_more : DoesCommand (command.Abort s) m told (Ok reply.Ok) b told → (limits : Limits) (state : State) (h : History)
-      → KeepsScript told.places limits a told h state → KeepsRecords limits state a h b told
+  keeps_more : DoesCommand known (command.Abort s) m told (Ok reply.Ok) b told → (limits : Limits) (state : State) (h : History)
+      → KeepsScript told.places known limits a told h state → KeepsRecords known limits state a h b told
   keeps_more does limits state h keeps =
       let first = so_far.keeps limits state h keeps in
       let did = does.works limits first.now (adds_all first.leaves.added h) first.keeps in
       let last = (step limits first.now (command.Abort s)).0 in
       let same : last.map ≡ state.map = abort_keeps limits first.now s ∙ first.records in record {
-        leaves = leaves_then (script_keeping told.places)
-            (λ x. StandsIn told.places limits.units (chart_of x) (whole state.map)) a m b h told told told true first.leaves
-            (leaves_weaker (script_keeping told.places)
-            (λ x. StandsIn told.places limits.units (chart_of x) (whole first.now.map)
-            ⊎ StandsIn told.places limits.units (chart_of x) (whole last.map))
-            (λ x. StandsIn told.places limits.units (chart_of x) (whole state.map)) m b (adds_all first.leaves.added h)
+        leaves = leaves_then (script_keeping told.places known)
+            (λ x. StandsIn told.places limits.units (chart_of x) (of known.pages state.map)) a m b h told told told true first.leaves
+            (leaves_weaker (script_keeping told.places known)
+            (λ x. StandsIn told.places limits.units (chart_of x) (of known.pages first.now.map)
+            ⊎ StandsIn told.places limits.units (chart_of x) (of known.pages last.map))
+            (λ x. StandsIn told.places limits.units (chart_of x) (of known.pages state.map)) m b (adds_all first.leaves.added h)
             told told true (λ x. either limits state first.now.map last.map first.records same x) did.leaves);
         now = last;
         records = same;
-        keeps = subst (λ (k : History). KeepsScript told.places limits b told k last)
+        keeps = subst (λ (k : History). KeepsScript told.places known limits b told k last)
             (added_then did.leaves.added first.leaves.added h) did.ends.0;
       }
     where
       either : (limits : Limits) (state : State) (m n : Map) → m ≡ state.map → n ≡ state.map → (x : Contents)
-          → StandsIn told.places limits.units (chart_of x) (whole m) ⊎ StandsIn told.places limits.units (chart_of x) (whole n)
-          → StandsIn told.places limits.units (chart_of x) (whole state.map)
-      either limits state m n one other x (inl is) = subst (λ (r : Map). StandsIn told.places limits.units (chart_of x) (whole r)) one is
-      either limits state m n one other x (inr is) = subst (λ (r : Map). StandsIn told.places limits.units (chart_of x) (whole r)) other is
+          → StandsIn told.places limits.units (chart_of x) (of known.pages m) ⊎ StandsIn told.places limits.units (chart_of x) (of known.pages n)
+          → StandsIn told.places limits.units (chart_of x) (of known.pages state.map)
+      either limits state m n one other x (inl is) = subst (λ (r : Map). StandsIn told.places limits.units (chart_of x) (of known.pages r)) one is
+      either limits state m n one other x (inr is) = subst (λ (r : Map). StandsIn told.places limits.units (chart_of x) (of known.pages r)) other is
 
-  done_more : DoesCommand (command.Abort s) m told (Ok reply.Ok) b told → counter_of b.store ≤ counter_of m.store
-      → Aborts a told b
+  done_more : DoesCommand known (command.Abort s) m told (Ok reply.Ok) b told → counter_of b.store ≤ counter_of m.store
+      → Aborts known a told b
   done_more does few = record {
     running = does.running;
     keeps = keeps_more does;
-    tidy = tidy_then (script_keeping told.places) a m b told told told true so_far.tidy does.tidy;
+    tidy = tidy_then (script_keeping told.places known) a m b told told told true so_far.tidy does.tidy;
     drawn = let before = so_far.drawn in omega (arith, before, few);
     knows = λ entry knows. does.learns entry (so_far.knows entry knows);
     recalls = λ entry recalled. does.recalls refl entry (so_far.recalls entry recalled);
@@ -138,8 +138,8 @@ calls_idle m b told mid after s result first second calls =
     subst (λ (t : Told). Calls early (λ state. after_abort state s) 0 m.store t result b.store t) first
     (subst (λ (t : Told). Calls early (λ state. after_abort state s) 0 m.store mid result b.store t) second calls)
 
-module _ (a m b : ScriptStore) (told : Told) (s : ℕ) (result : Result (Unit {0}) StoreFault)
-    (so_far : Aborts a told m) where
+module _ (known : KnownPages) (a m b : ScriptStore) (told : Told) (s : ℕ) (result : Result (Unit {0}) StoreFault)
+    (so_far : Aborts known a told m) where
   abbrev refusal : Option Refusal
   refusal = refuses_end (limits_of m.store.units) (state_of m.store.transactions.sessions) s
 
@@ -157,16 +157,16 @@ module _ (a m b : ScriptStore) (told : Told) (s : ℕ) (result : Result (Unit {0
       by_early (Some fault) is = let answer = (calls.refuses fault is).0 in absurd (cc answer)
       by_early None is = let drawn = (calls.serves is).drawn in omega (arith, drawn)
 
-  pub aborts_more : Called result → IfErr result (λ fault. early ≡ Some fault) → Aborts a told b
+  pub aborts_more : Called result → IfErr result (λ fault. early ≡ Some fault) → Aborts known a told b
   aborts_more calls fails = by_result result calls fails
     where
-      by_result : (r : Result (Unit {0}) StoreFault) → Called r → IfErr r (λ fault. early ≡ Some fault) → Aborts a told b
+      by_result : (r : Result (Unit {0}) StoreFault) → Called r → IfErr r (λ fault. early ≡ Some fault) → Aborts known a told b
       by_result (Ok v) calls fails =
-          done_more a m b told s so_far
-          (ends_do (λ v. reply.Ok) (command.Abort s) refusal (λ state. after_abort state s) 0 m b told told (Ok v)
+          done_more known a m b told s so_far
+          (ends_do known (λ v. reply.Ok) (command.Abort s) refusal (λ state. after_abort state s) 0 m b told told (Ok v)
           so_far.running (omega arith) refl (λ state. refl) (λ state. refl) (λ state x told shown. refl) calls)
           (drawn_none v calls)
-      by_result (Err fault) calls early_is = subst (λ (st : Store). Aborts a told (record { store = st }))
+      by_result (Err fault) calls early_is = subst (λ (st : Store). Aborts known a told (record { store = st }))
           (sym (calls.refuses fault early_is).1) so_far
 
   -- and one session more is closed

@@ -14,7 +14,7 @@ use Rattle.ipl_base.specs.declared.fault.StoreFault.TheVariants as store
 use Rattle.ipl_model.specs.State.{State, Limits}
 use Rattle.ipl_model.specs.declared.command.Command.TheVariants as command
 use Rattle.ipl_model.specs.declared.reply.Reply.TheVariants as reply
-use Rattle.ipl_meaning.specs.Legible.{whole}
+use Rattle.ipl_meaning.specs.Legible.{of}
 use Rattle.ipl_meaning.specs.Chart.{chart_of}
 use Rattle.ipl_meaning.specs.Stands.{StandsIn}
 use Rattle.ipl_meaning.specs.Tables.{Places}
@@ -35,7 +35,7 @@ use Rattle.store_trait.specs.declared.fault.Fault.TheVariants.{Chip, Spent}
 use Rattle.store_trait.specs.Behind.{KeepsBehind, WorksBehind}
 use Rattle.store_trait.specs.Keeping.{LAST_NUMBER, Works, WorkLeaves, StillRecalls, DoneRecalls}
 use Rattle.store_trait.proofs.TidyLemmas.{tidy_then}
-use Rattle.store_laws.specs.Keeps.{IsChipFaultCause, ChipTells, StoreCause}
+use Rattle.store_laws.specs.Keeps.{KnownPages, IsChipFaultCause, ChipTells, StoreCause}
 use Rattle.ipl_store.specs.declared.store.Store.{Store}
 use Rattle.ipl_store.specs.Calls.{view_of, counter_of, IsSound, entry_fault, early_fault, ends_worn_out, Serves, Calls}
 use Rattle.ipl_store.specs.Closing.{ClosesStore, EndsMarking, MarksStore, ServesClose}
@@ -64,17 +64,17 @@ marked (Err e) = Err (Chip e)
 abbrev over : Store → ScriptStore
 over store = record { store = store }
 
-module _ (m : ScriptStore) (between : Store) (before told : Told) (runs : IsRunning before.places m)
+module _ (known : KnownPages) (m : ScriptStore) (between : Store) (before told : Told) (runs : IsRunning before.places m)
     (units : between.units ≡ m.store.units) where
   abbrev Readied : Result (Unit {0}) StoreFault → Type 0
   Readied readied = Serves (λ state. state) (2 ^ 14) m.store before readied between told
 
   -- done, each state is kept
   ready_works : (v : Unit {0}) → Readied (Ok v)
-      → Works (script_keeping before.places) command.Syntax m before (Ok reply.Syntax) (over between) told
-  ready_works v served = works_so before.places m (over between) before told runs.up units command.Syntax
+      → Works (script_keeping before.places known) command.Syntax m before (Ok reply.Syntax) (over between) told
+  ready_works v served = works_so known before.places m (over between) before told runs.up units command.Syntax
       (Ok reply.Syntax)
-      (accepted_work (λ v. reply.Syntax) command.Syntax (λ state. state) (2 ^ 14) m (over between) before told runs
+      (accepted_work known (λ v. reply.Syntax) command.Syntax (λ state. state) (2 ^ 14) m (over between) before told runs
       (omega arith) units refl (λ state. refl) (λ state. refl) (Ok v) served (λ state x told shown. refl))
 
   -- it failed, and so did the close
@@ -84,13 +84,13 @@ module _ (m : ScriptStore) (between : Store) (before told : Told) (runs : IsRunn
       → TellsOfWear (tables_in m.store.transactions.pages) (tables_in between.transactions.pages) false
       (ends_worn_out {T = Unit {0}} (Err fault)) before told
       → Counts before told
-      → WorksBehind (script_keeping before.places) m before (closed (Err fault)) (shut between) told
+      → WorksBehind (script_keeping before.places known) m before (closed (Err fault)) (shut between) told
   ready_failed fault served sound tidy wears counts =
       let (e, is, cause, down) = served.ends in
-      subst (λ (f : StoreFault). DoesCommand command.Syntax m before (ended f) (over between) told
-      → WorksBehind (script_keeping before.places) m before (closed (Err f)) (shut between) told) (sym is)
-      (λ does. failed_behind m (over between) before told (Chip e) runs.up does)
-      (by_call (λ v. reply.Syntax) command.Syntax None (λ state. state) (2 ^ 14) m (over between) before told
+      subst (λ (f : StoreFault). DoesCommand known command.Syntax m before (ended f) (over between) told
+      → WorksBehind (script_keeping before.places known) m before (closed (Err f)) (shut between) told) (sym is)
+      (λ does. failed_behind known m (over between) before told (Chip e) runs.up does)
+      (by_call known (λ v. reply.Syntax) command.Syntax None (λ state. state) (2 ^ 14) m (over between) before told
       (Err fault) runs (omega arith) refl (λ state. refl) (λ state. refl) tt None (inl refl) calls)
     where
       calls : Calls {T = Unit {0}} None (λ state. state) (2 ^ 14) m.store before (Err fault) between told
@@ -115,14 +115,14 @@ module _ (m : ScriptStore) (between : Store) (before told : Told) (runs : IsRunn
       told written after)
       (second : Tidies (tables_in between.transactions.pages) written (tables_in c.transactions.pages) told after)
       (accounts : Accounts IsStopped written told after) (same : c.units ≡ between.units)
-      (recalled : StillRecalls (script_keeping before.places) m before (shut c) after) where
+      (recalled : StillRecalls (script_keeping before.places known) m before (shut c) after) where
     marked_leaves : (limits : Limits) (state : State) (h : History)
-        → KeepsScript before.places limits (over between) told h state
-        → Marks before.places (view_of between) (view_of (shut c).store) told after written same served.ends refl counts.places
+        → KeepsScript before.places known limits (over between) told h state
+        → Marks before.places known.pages (view_of between) (view_of (shut c).store) told after written same served.ends refl counts.places
         (subst (λ (n : ℕ). ClosesInSteps n (tables_in between.transactions.pages) (tables_in c.transactions.pages)
         told written after) counts.places steps) limits state h
     marked_leaves limits state h keeps =
-        marks before.places (view_of between) (view_of (shut c).store) told after written same served.ends refl counts.places
+        marks before.places known.pages (view_of between) (view_of (shut c).store) told after written same served.ends refl counts.places
         (subst (λ (n : ℕ). ClosesInSteps n (tables_in between.transactions.pages) (tables_in c.transactions.pages)
         told written after) counts.places steps) limits state h keeps.kept
 
@@ -130,37 +130,37 @@ module _ (m : ScriptStore) (between : Store) (before told : Told) (runs : IsRunn
     stopped : (e : ChipFault) → IsStopped e told after → (e ≡ Stopped) × Rose before.write_faults after.write_faults
     stopped e is = (is.0, let rose = is.1 in let fewer = counts.writes in omega (arith, rose, fewer))
 
-    marked_keeps : (limits : Limits) (state : State) (h : History) → KeepsScript before.places limits m before h state
-        → KeepsBehind (script_keeping before.places) limits state m h (marked written) (shut c) before after
+    marked_keeps : (limits : Limits) (state : State) (h : History) → KeepsScript before.places known limits m before h state
+        → KeepsBehind (script_keeping before.places known) limits state m h (marked written) (shut c) before after
     marked_keeps limits state h keeps =
         let ready = ready_works v served limits state h keeps in
         let k = adds_all ready.leaves.added h in
         let more = marked_leaves limits state k ready.ends.0 in
-        let P : Contents → Type 0 = λ x. StandsIn before.places limits.units (chart_of x) (whole state.map) in
+        let P : Contents → Type 0 = λ x. StandsIn before.places limits.units (chart_of x) (of known.pages state.map) in
         by_written written accounts.cause (adds_all more.leaves.added k)
-        (leaves_then (script_keeping before.places) P m (over between) (shut c) h before told after (is_ok written)
-        (leaves_weaker (script_keeping before.places) (λ x. P x ⊎ P x) P m (over between) h before told true
+        (leaves_then (script_keeping before.places known) P m (over between) (shut c) h before told after (is_ok written)
+        (leaves_weaker (script_keeping before.places known) (λ x. P x ⊎ P x) P m (over between) h before told true
         (either state limits) ready.leaves)
-        (leaves_so before.places (over between) (shut c) told after served.ends same P k (is_ok written) more.leaves))
+        (leaves_so known before.places (over between) (shut c) told after served.ends same P k (is_ok written) more.leaves))
         (added_then more.leaves.added ready.leaves.added h)
         (λ settled. record { kept = more.keeps settled; few = omega (arith, keeps.few, same, units) })
       where
         either : (state : State) (limits : Limits) (x : Contents)
-            → StandsIn before.places limits.units (chart_of x) (whole state.map)
-            ⊎ StandsIn before.places limits.units (chart_of x) (whole state.map)
-            → StandsIn before.places limits.units (chart_of x) (whole state.map)
+            → StandsIn before.places limits.units (chart_of x) (of known.pages state.map)
+            ⊎ StandsIn before.places limits.units (chart_of x) (of known.pages state.map)
+            → StandsIn before.places limits.units (chart_of x) (of known.pages state.map)
         either state limits x (inl is) = is
         either state limits x (inr is) = is
 
         by_written : (w : Result (Unit {0}) ChipFault) → IfErr w (λ e. IsStopped e told after) → (k : History)
-            → (leaves : WorkLeaves (script_keeping before.places)
-            (λ x. StandsIn before.places limits.units (chart_of x) (whole state.map)) m h (shut c) before after (is_ok w))
+            → (leaves : WorkLeaves (script_keeping before.places known)
+            (λ x. StandsIn before.places limits.units (chart_of x) (of known.pages state.map)) m h (shut c) before after (is_ok w))
             → k ≡ adds_all leaves.added h
-            → (Settled w told after → KeepsScript before.places limits (shut c) after k state)
-            → KeepsBehind (script_keeping before.places) limits state m h (marked w) (shut c) before after
+            → (Settled w told after → KeepsScript before.places known limits (shut c) after k state)
+            → KeepsBehind (script_keeping before.places known) limits state m h (marked w) (shut c) before after
         by_written (Ok v) cause k leaves is kept = record {
           leaves = leaves;
-          ends = subst (λ (l : History). KeepsScript before.places limits (shut c) after l state) is (kept tt);
+          ends = subst (λ (l : History). KeepsScript before.places known limits (shut c) after l state) is (kept tt);
           drawn = omega arith;
           excuse = tt;
           tells = tt;
@@ -170,17 +170,17 @@ module _ (m : ScriptStore) (between : Store) (before told : Told) (runs : IsRunn
               leaves = leaves;
               ends = λ unrisen. absurd (omega (arith, rose, unrisen));
               drawn = omega arith;
-              excuse = λ few. (inr (inl rose), subst IsFailedCall (sym stops) tt);
+              excuse = λ few whole. (inr (inl rose), subst IsFailedCall (sym stops) tt);
               tells = subst (ChipTells (spares_on before.places limits.units)) (sym stops) tt;
             }
 
-    pub marked_behind : WorksBehind (script_keeping before.places) m before (marked written) (shut c) after
+    pub marked_behind : WorksBehind (script_keeping before.places known) m before (marked written) (shut c) after
     marked_behind = record {
       keeps = marked_keeps;
-      tidy = tidy_then (script_keeping before.places) m (over between) (shut c) before told after
+      tidy = tidy_then (script_keeping before.places known) m (over between) (shut c) before told after
           (is_ok (marked written))
-          (tidy_so {U = Unit {0}} before.places m (over between) before told (Ok v) (Ok v) refl first)
-          (tidy_answered ChipFault before.places (over between) (shut c) told after written (marked written)
+          (tidy_so known {U = Unit {0}} before.places m (over between) before told (Ok v) (Ok v) refl first)
+          (tidy_answered known ChipFault before.places (over between) (shut c) told after written (marked written)
           (by_ok written) second);
       draws = record { most = omega arith; spent = λ is. absurd (unspent written is) };
       learns = λ entry knows. learnt entry written accounts.cause;
@@ -194,7 +194,7 @@ module _ (m : ScriptStore) (between : Store) (before told : Told) (runs : IsRunn
         by_ok (Err e) = refl
 
         on_ok : (r : Result (Unit {0}) Fault)
-            → DoneRecalls (script_keeping before.places) m before r (shut c) after
+            → DoneRecalls (script_keeping before.places known) m before r (shut c) after
         on_ok (Ok v) = recalled
         on_ok (Err e) = tt
 
@@ -216,7 +216,7 @@ module _ (m : ScriptStore) (between : Store) (before told : Told) (runs : IsRunn
 
     -- what the chip holds then has marks, by what is known of each unit
     units_after : (limits : Limits) (state : State) (k : History) → before.history ≡ Some k
-        → KeepsScript before.places limits m before k state
+        → KeepsScript before.places known limits m before k state
         → (l : History) × (after.history ≡ Some l)
         × OnOk written (MarksUnits before.places (tables_in c.transactions.pages) (held l.start l.story))
     units_after limits state k is keeps =
@@ -230,7 +230,7 @@ module _ (m : ScriptStore) (between : Store) (before told : Told) (runs : IsRunn
         )
 
     -- done, what was erased since an entry and not programmed is marked
-    erased_marked : OnOk (marked written) (MarksRecalled m before after)
+    erased_marked : OnOk (marked written) (MarksRecalled known m before after)
     erased_marked = by_written written units_after
       where
         Units : History → Type 0
@@ -238,9 +238,9 @@ module _ (m : ScriptStore) (between : Store) (before told : Told) (runs : IsRunn
 
         by_written : (w : Result (Unit {0}) ChipFault)
             → ((limits : Limits) (state : State) (k : History) → before.history ≡ Some k
-            → KeepsScript before.places limits m before k state
+            → KeepsScript before.places known limits m before k state
             → (l : History) × (after.history ≡ Some l) × OnOk w (Units l))
-            → OnOk (marked w) (MarksRecalled m before after)
+            → OnOk (marked w) (MarksRecalled known m before after)
         by_written (Ok v) known = λ entry h at recalls limits state k is keeps.
             let (l, ends, units) = known limits state k is keeps in
             let since = recalled entry recalls h at in
@@ -278,28 +278,28 @@ module _ (m : ScriptStore) (between : Store) (before told : Told) (runs : IsRunn
 -- ---- the close
 
 -- What it leaves of a store that is put down then: it wasn't refused.
-pub record Ends (a : ScriptStore) (before : Told) (r : Result (Unit {0}) StoreFault) (c : Store) (after : Told)
+pub record Ends (known : KnownPages) (a : ScriptStore) (before : Told) (r : Result (Unit {0}) StoreFault) (c : Store) (after : Told)
     : Type 0 where
   pub up : r ≢ Err store.Down
   pub free : (refusal : Refusal) → r ≢ Err (store.Refused refusal)
-  pub closes : ClosesAtEnd a before (closed r) (shut c) after
+  pub closes : ClosesAtEnd known a before (closed r) (shut c) after
 
 -- by its answer, and by the store then
-pub answer_closes : (a : ScriptStore) (before : Told) (r : Result (Unit {0}) StoreFault) (c : Store) (after : Told)
+pub answer_closes : (known : KnownPages) (a : ScriptStore) (before : Told) (r : Result (Unit {0}) StoreFault) (c : Store) (after : Told)
     (answer : Result (Unit {0}) Fault) (new : Store) → answer ≡ closed r → new ≡ (shut c).store
-    → Ends a before r c after → ClosesAtEnd a before answer (over new) after
-answer_closes a before r c after answer new is same ends =
-    subst (λ (x : Result (Unit {0}) Fault). ClosesAtEnd a before x (over new) after) (sym is)
-    (subst (λ (s : Store). ClosesAtEnd a before (closed r) (over s) after) (sym same) ends.closes)
+    → Ends known a before r c after → ClosesAtEnd known a before answer (over new) after
+answer_closes known a before r c after answer new is same ends =
+    subst (λ (x : Result (Unit {0}) Fault). ClosesAtEnd known a before x (over new) after) (sym is)
+    (subst (λ (s : Store). ClosesAtEnd known a before (closed r) (over s) after) (sym same) ends.closes)
 
-module _ (a m : ScriptStore) (c : Store) (before after : Told) (result : Result (Unit {0}) StoreFault)
-    (runs : IsRunning before.places a) (aborted : Aborts a before m)
+module _ (known : KnownPages) (a m : ScriptStore) (c : Store) (before after : Told) (result : Result (Unit {0}) StoreFault)
+    (runs : IsRunning before.places a) (aborted : Aborts known a before m)
     (none : refuses_close m.store.transactions.sessions ≡ None) where
   abbrev early : Option StoreFault
   early = early_fault (entry_fault m.store) (refuses_close m.store.transactions.sessions)
 
   abbrev Ended : Result (Unit {0}) StoreFault → Type 0
-  Ended r = Ends a before r c after
+  Ended r = Ends known a before r c after
 
   -- it wasn't refused
   early_is : (e : Option StoreFault) → entry_fault m.store ≡ e → early ≡ early_fault e None
@@ -310,11 +310,11 @@ module _ (a m : ScriptStore) (c : Store) (before after : Told) (result : Result 
     up = λ down. cc down;
     free = λ refusal refused. cc refused;
     closes = record {
-      works = subst (λ (t : Told). WorksBehind (script_keeping before.places) a before (Err Spent) (shut c) t) (sym still)
-          (subst (λ (s : Store). WorksBehind (script_keeping before.places) a before (Err Spent) (shut s) before) (sym same)
-          (aborted_behind a m m.store before before (Err Spent) runs.up aborted
-          (failed_behind m m before before Spent aborted.running.up
-          (spent_does command.Syntax m before aborted.running late))));
+      works = subst (λ (t : Told). WorksBehind (script_keeping before.places known) a before (Err Spent) (shut c) t) (sym still)
+          (subst (λ (s : Store). WorksBehind (script_keeping before.places known) a before (Err Spent) (shut s) before) (sym same)
+          (aborted_behind known a m m.store before before (Err Spent) runs.up aborted
+          (failed_behind known m m before before Spent aborted.running.up
+          (spent_does known command.Syntax m before aborted.running late))));
       last = tt;
       marked = tt;
     };
@@ -322,38 +322,38 @@ module _ (a m : ScriptStore) (c : Store) (before after : Told) (result : Result 
 
   ready_ends : (between : Store) (told : Told) (fault : StoreFault)
       → Serves {T = Unit {0}} (λ state. state) (2 ^ 14) m.store before (Err fault) between told
-      → WorksBehind (script_keeping before.places) m before (closed (Err fault)) (shut between) told
+      → WorksBehind (script_keeping before.places known) m before (closed (Err fault)) (shut between) told
       → result ≡ Err fault → c ≡ between → after ≡ told → Ended result
   ready_ends between told fault served behind is same still = subst Ended (sym is) (record {
     up = λ down. let which : store.Down ≡ store.Chip served.ends.0 = sym (cc down) ∙ served.ends.1 in cc which;
     free = λ refusal refused.
         let which : store.Refused refusal ≡ store.Chip served.ends.0 = sym (cc refused) ∙ served.ends.1 in cc which;
     closes = record {
-      works = subst (λ (t : Told). WorksBehind (script_keeping before.places) a before (closed (Err fault)) (shut c) t)
+      works = subst (λ (t : Told). WorksBehind (script_keeping before.places known) a before (closed (Err fault)) (shut c) t)
           (sym still)
-          (subst (λ (s : Store). WorksBehind (script_keeping before.places) a before (closed (Err fault)) (shut s) told)
-          (sym same) (aborted_behind a m between before told (closed (Err fault)) runs.up aborted behind));
+          (subst (λ (s : Store). WorksBehind (script_keeping before.places known) a before (closed (Err fault)) (shut s) told)
+          (sym same) (aborted_behind known a m between before told (closed (Err fault)) runs.up aborted behind));
       last = subst (λ (f : StoreFault). OnOk (closed (Err f)) (Spends EndsWithMark before after)) (sym served.ends.1) tt;
-      marked = subst (λ (f : StoreFault). OnOk (closed (Err f)) (MarksRecalled a before after)) (sym served.ends.1) tt;
+      marked = subst (λ (f : StoreFault). OnOk (closed (Err f)) (MarksRecalled known a before after)) (sym served.ends.1) tt;
     };
   })
 
   -- what was erased before sessions were aborted is marked too
-  aborted_marked : MarksRecalled m before after → MarksRecalled a before after
+  aborted_marked : MarksRecalled known m before after → MarksRecalled known a before after
   aborted_marked marks entry h at recalls limits state k is keeps =
       let first = aborted.keeps limits state k keeps in
       marks entry h at (aborted.recalls entry recalls) limits first.now (adds_all first.leaves.added k)
       (first.leaves.history ∙ ap (option_map (adds_all first.leaves.added)) is) first.keeps
 
   marked_ends : (written : Result (Unit {0}) ChipFault) → EndsMarking written result
-      → WorksBehind (script_keeping before.places) m before (marked written) (shut c) after
+      → WorksBehind (script_keeping before.places known) m before (marked written) (shut c) after
       → OnOk (marked written) (Spends EndsWithMark before after)
-      → OnOk (marked written) (MarksRecalled m before after) → Ended result
+      → OnOk (marked written) (MarksRecalled known m before after) → Ended result
   marked_ends (Ok v) is behind last marks = subst Ended (sym is) (record {
     up = λ down. cc down;
     free = λ refusal refused. cc refused;
     closes = record {
-      works = aborted_behind a m c before after (Ok v) runs.up aborted behind;
+      works = aborted_behind known a m c before after (Ok v) runs.up aborted behind;
       last = last;
       marked = aborted_marked marks;
     };
@@ -362,7 +362,7 @@ module _ (a m : ScriptStore) (c : Store) (before after : Told) (result : Result 
     up = λ down. cc down;
     free = λ refusal refused. cc refused;
     closes = record {
-      works = aborted_behind a m c before after (Err (Chip e)) runs.up aborted behind;
+      works = aborted_behind known a m c before after (Err (Chip e)) runs.up aborted behind;
       last = last;
       marked = tt;
     };
@@ -380,17 +380,17 @@ module _ (a m : ScriptStore) (c : Store) (before after : Told) (result : Result 
       -- what was erased is known still: the status place was made ready, and then programmed
       marked_recalls : TellsOfWear (tables_in m.store.transactions.pages) (tables_in between.transactions.pages)
           true false before told → MarksStore between told result c after
-          → StillRecalls (script_keeping before.places) m before (shut c) after
+          → StillRecalls (script_keeping before.places known) m before (shut c) after
       marked_recalls wears marked entry recalled =
           let same = marked.directory in
-          leaves_recall (over between) (shut c) told after false
+          leaves_recall known (over between) (shut c) told after false
           (programs_leave_places between.transactions.pages.parts.directory
           c.transactions.pages.parts.directory _ 1 2 7 told after
           (ap (λ (d : Places). d.retired) same)
           (homes_equal between.transactions.pages.parts.directory c.transactions.pages.parts.directory same)
           (keeps_counts between.transactions.pages.parts.directory c.transactions.pages.parts.directory same)
           marked.costs) entry
-          (leaves_recall m (over between) before told false wears.places entry recalled)
+          (leaves_recall known m (over between) before told false wears.places entry recalled)
 
       by_ready : (r : Result (Unit {0}) StoreFault)
           → Serves (λ state. state) (2 ^ 14) m.store before r between told
@@ -401,16 +401,16 @@ module _ (a m : ScriptStore) (c : Store) (before after : Told) (result : Result 
           (λ fault. (result ≡ Err fault) × (c ≡ between) × (after ≡ told)) → Ended result
       by_ready (Ok v) ready tidy wears marked =
           marked_ends marked.written marked.ends
-          (marked_behind m between before told aborted.running served.units c after marked.written v ready tidy
+          (marked_behind known m between before told aborted.running served.units c after marked.written v ready tidy
           served.counts marked.steps marked.tidy marked.accounts marked.units (marked_recalls wears marked))
-          (marked_last m between before told aborted.running served.units c after marked.written v ready tidy
+          (marked_last known m between before told aborted.running served.units c after marked.written v ready tidy
           served.counts marked.steps marked.tidy marked.accounts marked.units (marked_recalls wears marked)
           marked.last)
-          (erased_marked m between before told aborted.running served.units c after marked.written v ready tidy
+          (erased_marked known m between before told aborted.running served.units c after marked.written v ready tidy
           served.counts marked.steps marked.tidy marked.accounts marked.units (marked_recalls wears marked))
       by_ready (Err fault) ready tidy wears (is, same, still) =
           ready_ends between told fault ready
-          (ready_failed m between before told aborted.running served.units fault ready
+          (ready_failed known m between before told aborted.running served.units fault ready
           (subst (IsSound before.places) same sound) tidy wears served.counts) is same still
 
   ends_at_once : ClosesStore early m.store before result c after → Ended result

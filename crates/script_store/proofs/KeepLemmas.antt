@@ -1,5 +1,4 @@
 -- How the store of a script keeps a state, from how the store of records does.
-use Rattle.ipl_meaning.specs.Legible.{every}
 use Rattle.std.proofs.Common.{ℕ, ◌≡◌, ◌≤◌, ◌<◌, ◌+◌, ◌^◌, max, arith, Bool, true, false, ◌∷◌, [], Option, List, Result, MatchResult, Ok, Err, is_ok, if◌then◌else◌, sym, ap, subst}
 use Rattle.std.specs.FinMap.{get}
 use Rattle.std.proofs.lemmas.Bool.{true≢false, false≢true}
@@ -14,7 +13,7 @@ use Rattle.store_trait.specs.Keeping.{FOUND_NUMBER, LAST_NUMBER, WORK_DRAWS, LOO
 use Rattle.ipl_base.specs.declared.fault.StoreFault.{StoreFault}
 use Rattle.unit_io.specs.Steps.{Tidies}
 use Rattle.page_frames.specs.Pages.{tables_in}
-use Rattle.store_laws.specs.Keeps.{KeepsStore, store_keeping}
+use Rattle.store_laws.specs.Keeps.{KnownPages, KeepsStore, store_keeping}
 use Rattle.ipl_store.specs.Calls.{view_of, counter_of}
 use Rattle.script_store.specs.declared.store.ScriptStore.{ScriptStore}
 use Rattle.script_store.specs.Keeps.{KeepsScript, next_number, script_keeping}
@@ -41,10 +40,10 @@ within_found : (a b n m : ℕ) → n ≤ b → n ≤ max a b + m
 within_found a b n m few = omega (arith, few)
 
 -- a call of a store that isn't down drew at most so many, and told that they are used up where they are
-pub draws_few : (places n : ℕ) (IsSpent : Type 0) (a b : ScriptStore) → a.store.down ≡ false
+pub draws_few : (known : KnownPages) (places n : ℕ) (IsSpent : Type 0) (a b : ScriptStore) → a.store.down ≡ false
     → counter_of b.store ≤ counter_of a.store + n
-    → (IsSpent → LAST_NUMBER < counter_of a.store) → Draws (script_keeping places) n a IsSpent b
-draws_few places n IsSpent a b up drawn late = record {
+    → (IsSpent → LAST_NUMBER < counter_of a.store) → Draws (script_keeping places known) n a IsSpent b
+draws_few known places n IsSpent a b up drawn late = record {
   most = within_max (next_number a) FOUND_NUMBER (next_number b) n most;
   spent = λ is. past_max (next_number a) FOUND_NUMBER LAST_NUMBER n
       (subst (λ (k : ℕ). LAST_NUMBER < k) (sym (counted_up a up)) (late is));
@@ -54,9 +53,9 @@ draws_few places n IsSpent a b up drawn late = record {
     most = omega (arith, drawn, counted_few b, counted_up a up)
 
 -- one that opened the chip again
-pub draws_found : (places n : ℕ) (IsSpent : Type 0) (a b : ScriptStore)
-    → next_number b ≤ FOUND_NUMBER → (IsSpent → ⊥) → Draws (script_keeping places) n a IsSpent b
-draws_found places n IsSpent a b left never = record {
+pub draws_found : (known : KnownPages) (places n : ℕ) (IsSpent : Type 0) (a b : ScriptStore)
+    → next_number b ≤ FOUND_NUMBER → (IsSpent → ⊥) → Draws (script_keeping places known) n a IsSpent b
+draws_found known places n IsSpent a b left never = record {
   most = within_found (next_number a) FOUND_NUMBER (next_number b) n left;
   spent = λ is. absurd (never is);
 }
@@ -64,39 +63,39 @@ draws_found places n IsSpent a b left never = record {
 -- ---- what is added
 
 -- an answer that is done where the call was
-pub tidy_answered : {T U : Type 0} (E : Type 0) (places : ℕ) (a b : ScriptStore) (old new : Told)
+pub tidy_answered : (known : KnownPages) {T U : Type 0} (E : Type 0) (places : ℕ) (a b : ScriptStore) (old new : Told)
     (result : Result T E) (answer : Result U Fault) → is_ok result ≡ is_ok answer
     → Tidies (tables_in a.store.transactions.pages) result (tables_in b.store.transactions.pages) old new
-    → LeavesTidy (script_keeping places) a b old new (is_ok answer)
-tidy_answered E places a b old new (Ok v) (Ok w) same did = record {
+    → LeavesTidy (script_keeping places known) a b old new (is_ok answer)
+tidy_answered known E places a b old new (Ok v) (Ok w) same did = record {
   added = did.added;
   history = did.history;
   lawful = did.does.lawful;
   clean = λ done. record { clean = λ base is clean. did.does.clean tt base clean };
 }
-tidy_answered E places a b old new (Err e) (Err f) same did = record {
+tidy_answered known E places a b old new (Err e) (Err f) same did = record {
   added = did.added;
   history = did.history;
   lawful = did.does.lawful;
   clean = λ done. absurd (false≢true done);
 }
-tidy_answered E places a b old new (Ok v) (Err f) same did = absurd (true≢false same)
-tidy_answered E places a b old new (Err e) (Ok w) same did = absurd (false≢true same)
+tidy_answered known E places a b old new (Ok v) (Err f) same did = absurd (true≢false same)
+tidy_answered known E places a b old new (Err e) (Ok w) same did = absurd (false≢true same)
 
 -- of a call of the store
-pub tidy_so : {T U : Type 0} (places : ℕ) (a b : ScriptStore) (old new : Told)
+pub tidy_so : (known : KnownPages) {T U : Type 0} (places : ℕ) (a b : ScriptStore) (old new : Told)
     (result : Result T StoreFault) (answer : Result U Fault) → is_ok result ≡ is_ok answer
     → Tidies (tables_in a.store.transactions.pages) result (tables_in b.store.transactions.pages) old new
-    → LeavesTidy (script_keeping places) a b old new (is_ok answer)
-tidy_so places a b old new result answer same did = tidy_answered StoreFault places a b old new result answer same did
+    → LeavesTidy (script_keeping places known) a b old new (is_ok answer)
+tidy_so known places a b old new result answer same did = tidy_answered known StoreFault places a b old new result answer same did
 
 -- ---- work, and looking up
 
-module _ (places : ℕ) (a b : ScriptStore) (old new : Told) (up : a.store.down ≡ false)
+module _ (known : KnownPages) (places : ℕ) (a b : ScriptStore) (old new : Told) (up : a.store.down ≡ false)
     (units : b.store.units ≡ a.store.units) where
   abbrev pub leaves_so : (P : Contents → Type 0) (h : History) (done : Bool)
-      → WorkLeaves (store_keeping places every) P (view_of a.store) h (view_of b.store) old new done
-      → WorkLeaves (script_keeping places) P a h b old new done
+      → WorkLeaves (store_keeping places known.pages) P (view_of a.store) h (view_of b.store) old new done
+      → WorkLeaves (script_keeping places known) P a h b old new done
   leaves_so P h done leaves = record {
     added = leaves.added;
     history = leaves.history;
@@ -119,54 +118,54 @@ module _ (places : ℕ) (a b : ScriptStore) (old new : Told) (up : a.store.down 
   few_so n few = subst (λ (k : ℕ). k + n < 2 ^ 63) (counted_up a up) few
 
   pub works_so : (c : Command) (result : Result Reply Fault)
-      → Works (store_keeping places every) c (view_of a.store) old result (view_of b.store) new
-      → Works (script_keeping places) c a old result b new
+      → Works (store_keeping places known.pages) c (view_of a.store) old result (view_of b.store) new
+      → Works (script_keeping places known) c a old result b new
   works_so c result works limits state h keeps =
       let did = works limits state h keeps.kept in record {
         leaves = leaves_so _ h (is_ok result) did.leaves;
         ends = by_end result (adds_all did.leaves.added h) did.ends;
         drawn = drawn_so WORK_DRAWS did.drawn;
         excuse = IfErr-weaker result
-            (Excuses (store_keeping places every) WORK_DRAWS (view_of a.store) old new)
-            (Excuses (script_keeping places) WORK_DRAWS a old new)
-            (λ fault excuse few. excuse (few_so WORK_DRAWS few)) did.excuse;
+            (Excuses (store_keeping places known.pages) WORK_DRAWS (view_of a.store) old new)
+            (Excuses (script_keeping places known) WORK_DRAWS a old new)
+            (λ fault excuse few whole. excuse (few_so WORK_DRAWS few) whole) did.excuse;
         tells = did.tells;
       }
     where
       by_end : (r : Result Reply Fault) (k : History) → MatchResult r
-          (λ reply. KeepsStore places every limits (view_of b.store) new k (step limits state c).0
+          (λ reply. KeepsStore places known.pages limits (view_of b.store) new k (step limits state c).0
           × ((step limits state c).1 ≡ reply ∷ []))
-          (λ fault. Stays (store_keeping places every) limits (view_of b.store) old new k state)
+          (λ fault. Stays (store_keeping places known.pages) limits (view_of b.store) old new k state)
           → MatchResult r
-          (λ reply. KeepsScript places limits b new k (step limits state c).0
+          (λ reply. KeepsScript places known limits b new k (step limits state c).0
           × ((step limits state c).1 ≡ reply ∷ []))
-          (λ fault. Stays (script_keeping places) limits b old new k state)
+          (λ fault. Stays (script_keeping places known) limits b old new k state)
       by_end (Ok reply) k ends = (record { kept = ends.0; few = few_still keeps.few }, ends.1)
       by_end (Err fault) k stays =
           λ unrisen. record { kept = stays unrisen; few = few_still keeps.few }
 
   pub looks_up_so : (n : ℕ) (result : Result (Option (List ℕ)) Fault)
-      → LooksUp (store_keeping places every) n (view_of a.store) old result (view_of b.store) new
-      → LooksUp (script_keeping places) n a old result b new
+      → LooksUp (store_keeping places known.pages) n (view_of a.store) old result (view_of b.store) new
+      → LooksUp (script_keeping places known) n a old result b new
   looks_up_so n result looks limits state h keeps low =
       let did = looks limits state h keeps.kept low in record {
         leaves = leaves_so _ h (is_ok result) did.leaves;
         ends = by_end result (adds_all did.leaves.added h) did.ends;
         drawn = drawn_so LOOK_UP_DRAWS did.drawn;
         excuse = IfErr-weaker result
-            (Excuses (store_keeping places every) LOOK_UP_DRAWS (view_of a.store) old new)
-            (Excuses (script_keeping places) LOOK_UP_DRAWS a old new)
-            (λ fault excuse few. excuse (few_so LOOK_UP_DRAWS few)) did.excuse;
+            (Excuses (store_keeping places known.pages) LOOK_UP_DRAWS (view_of a.store) old new)
+            (Excuses (script_keeping places known) LOOK_UP_DRAWS a old new)
+            (λ fault excuse few whole. excuse (few_so LOOK_UP_DRAWS few) whole) did.excuse;
         tells = did.tells;
       }
     where
       by_end : (r : Result (Option (List ℕ)) Fault) (k : History) → MatchResult r
-          (λ found. KeepsStore places every limits (view_of b.store) new k state
+          (λ found. KeepsStore places known.pages limits (view_of b.store) new k state
           × (found ≡ get state.map n))
-          (λ fault. Stays (store_keeping places every) limits (view_of b.store) old new k state)
+          (λ fault. Stays (store_keeping places known.pages) limits (view_of b.store) old new k state)
           → MatchResult r
-          (λ found. KeepsScript places limits b new k state × (found ≡ get state.map n))
-          (λ fault. Stays (script_keeping places) limits b old new k state)
+          (λ found. KeepsScript places known limits b new k state × (found ≡ get state.map n))
+          (λ fault. Stays (script_keeping places known) limits b old new k state)
       by_end (Ok found) k ends = (record { kept = ends.0; few = few_still keeps.few }, ends.1)
       by_end (Err fault) k stays =
           λ unrisen. record { kept = stays unrisen; few = few_still keeps.few }

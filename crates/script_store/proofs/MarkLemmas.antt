@@ -9,7 +9,7 @@ use Rattle.chip_trait.proofs.MomentLemmas.{at_end}
 use Rattle.ipl_base.specs.declared.fault.ChipFault.{ChipFault}
 use Rattle.ipl_model.specs.State.{Map, State, Limits}
 use Rattle.ipl_format.specs.Sector.{sector_in}
-use Rattle.ipl_meaning.specs.Legible.{whole, every}
+use Rattle.ipl_meaning.specs.Legible.{Legibility, of}
 use Rattle.ipl_meaning.specs.Chart.{chart_of}
 use Rattle.ipl_meaning.specs.Rests.{EachStandsIn, StoryRests}
 use Rattle.ipl_meaning.specs.Stands.{StandsIn}
@@ -24,48 +24,48 @@ use Rattle.store_laws.specs.Keeps.{View, limits_of, KeepsStore, IsUp, UsedNothin
 use Rattle.store_laws.proofs.KeepLemmas.{all_done, at_limits, done_settles}
 
 -- a mark was written, and the story rests; it is not written only where a write failed
-rests_marked : (places : ℕ) (m : Map) (t : Tables) (written : Result (Unit {0}) ChipFault) (k : History)
-    → EndsWith written (λ v k. RestsMarked places (whole m) t k) NoOtherEnd k → StoryRests places (whole m) k
-rests_marked places m t (Ok v) k marked = marked.rests
-rests_marked places m t (Err e) k none = absurd none
+rests_marked : (places : ℕ) (pages : Legibility) (m : Map) (t : Tables) (written : Result (Unit {0}) ChipFault) (k : History)
+    → EndsWith written (λ v k. RestsMarked places (of pages m) t k) NoOtherEnd k → StoryRests places (of pages m) k
+rests_marked places pages m t (Ok v) k marked = marked.rests
+rests_marked places pages m t (Err e) k none = absurd none
 
 -- and then what holds 512 bytes FF is marked of each unit of which something is known
-units_marked : (places : ℕ) (m : Map) (t : Tables) (old new : Told) (written : Result (Unit {0}) ChipFault) (k : History)
-    → (Settled written old new → EndsWith written (λ v k. RestsMarked places (whole m) t k) NoOtherEnd k)
+units_marked : (places : ℕ) (pages : Legibility) (m : Map) (t : Tables) (old new : Told) (written : Result (Unit {0}) ChipFault) (k : History)
+    → (Settled written old new → EndsWith written (λ v k. RestsMarked places (of pages m) t k) NoOtherEnd k)
     → OnOk written (MarksUnits places t (held k.start k.story))
-units_marked places m t old new (Ok v) k ends = (ends tt).units
-units_marked places m t old new (Err e) k ends = tt
+units_marked places pages m t old new (Ok v) k ends = (ends tt).units
+units_marked places pages m t old new (Err e) k ends = tt
 
-module _ (places : ℕ) (before after : View) (old new : Told) (written : Result (Unit {0}) ChipFault)
+module _ (places : ℕ) (pages : Legibility) (before after : View) (old new : Told) (written : Result (Unit {0}) ChipFault)
     (units : after.units ≡ before.units) (up : before.down ≡ false) (down : after.down ≡ true)
     (same : old.places ≡ places)
     (steps : ClosesInSteps places before.memory.tables after.memory.tables old written new) where
   -- what is left of a store that is down then
   pub record Marks (limits : Limits) (state : State) (h : History) : Type 0 where
-    pub leaves : WorkLeaves (store_keeping places every) (λ x. StandsIn places limits.units (chart_of x) (whole state.map))
+    pub leaves : WorkLeaves (store_keeping places pages) (λ x. StandsIn places limits.units (chart_of x) (of pages state.map))
         before h after old new (is_ok written)
-    pub keeps : Settled written old new → KeepsStore places every limits after new (adds_all leaves.added h) state
+    pub keeps : Settled written old new → KeepsStore places pages limits after new (adds_all leaves.added h) state
     pub marked : OnOk written (MarksUnits places after.memory.tables (held h.start (leaves.added ++ h.story)))
 
-  module _ (state : State) (h : History) (keeps : KeepsStore places every (limits_of before.units) before old h state) where
-    runs : IsUp places every before h state
+  module _ (state : State) (h : History) (keeps : KeepsStore places pages (limits_of before.units) before old h state) where
+    runs : IsUp places pages before h state
     runs = keeps.up up
 
-    way : Closes places (whole state.map) before.memory.tables after.memory.tables written h old new
-    way = steps (whole state.map) runs.shows.layout h keeps.steady keeps.rests
+    way : Closes places (of pages state.map) before.memory.tables after.memory.tables written h old new
+    way = steps (of pages state.map) runs.shows.layout h keeps.steady keeps.rests
         (record { mirrors = runs.shows.fits.mirrors; tidy = runs.tidy })
 
-    moments : AtEachMoment (λ e. EachStandsIn places before.units (whole state.map) (adds_all e h)) way.added
-    moments = subst (λ (n : ℕ). AtEachMoment (λ e. EachStandsIn places n (whole state.map) (adds_all e h)) way.added)
+    moments : AtEachMoment (λ e. EachStandsIn places before.units (of pages state.map) (adds_all e h)) way.added
+    moments = subst (λ (n : ℕ). AtEachMoment (λ e. EachStandsIn places n (of pages state.map) (adds_all e h)) way.added)
         runs.shows.count
-        (moments_of_one places (whole state.map) h runs.shows.layout way.added runs.shows.fits.mirrors.laid way.each_moment)
+        (moments_of_one places (of pages state.map) h runs.shows.layout way.added runs.shows.fits.mirrors.laid way.each_moment)
 
-    many_marked : (rests : StoryRests places (whole state.map) (adds_all way.added h)) → rests.each.0 ≡ after.units
+    many_marked : (rests : StoryRests places (of pages state.map) (adds_all way.added h)) → rests.each.0 ≡ after.units
     many_marked rests =
         let k = adds_all way.added h in
-        let is = at_end (λ e. EachStandsIn places before.units (whole state.map) (adds_all e h)) way.added moments
+        let is = at_end (λ e. EachStandsIn places before.units (of pages state.map) (adds_all e h)) way.added moments
         (held k.start k.story) (held_is_image (says sector_in) k.start k.story) in
-        rests_in_units places (whole state.map) k is.stands.layout rests is.stands.laid ∙ is.count ∙ sym units
+        rests_in_units places (of pages state.map) k is.stands.layout rests is.stands.laid ∙ is.count ∙ sym units
 
     -- nothing that is marked was used
     kept_marks : UsedNothing places before h → AtEachMoment (λ e. MarksAreUnused places (adds_all e h)) way.added
@@ -95,7 +95,7 @@ module _ (places : ℕ) (before after : View) (old new : Told) (written : Result
         };
       };
       keeps = λ settled.
-          let rests = rests_marked places state.map after.memory.tables written (adds_all way.added h)
+          let rests = rests_marked places pages state.map after.memory.tables written (adds_all way.added h)
           (way.ends settled) in record {
             limits_are = ap limits_of (sym units);
             steady = way.steady settled;
@@ -103,10 +103,10 @@ module _ (places : ℕ) (before after : View) (old new : Told) (written : Result
             many = many_marked rests;
             up = λ runs. absurd (let clash : true ≡ false = sym down ∙ runs in cc clash);
           };
-      marked = units_marked places state.map after.memory.tables old new written (adds_all way.added h) way.ends;
+      marked = units_marked places pages state.map after.memory.tables old new written (adds_all way.added h) way.ends;
     }
 
-  pub marks : (limits : Limits) (state : State) (h : History) → KeepsStore places every limits before old h state
+  pub marks : (limits : Limits) (state : State) (h : History) → KeepsStore places pages limits before old h state
       → Marks limits state h
   marks limits state h keeps = subst (λ (l : Limits). Marks l state h) (sym keeps.limits_are)
-      (marks_here state h (at_limits places every limits before old h state keeps))
+      (marks_here state h (at_limits places pages limits before old h state keeps))

@@ -14,9 +14,7 @@ use Rattle.unit_io.specs.Steps.{Tidies}
 use Rattle.store_trait.specs.declared.fault.Fault.{Fault}
 use Rattle.store_trait.specs.declared.fault.Fault.TheVariants.{Spent}
 use Rattle.store_trait.specs.Keeping.{WORK_DRAWS, Works, Learns, StillRecalls}
-use Rattle.ipl_meaning.proofs.RotLemmas.{every_is_told_apart}
-use Rattle.ipl_meaning.specs.Legible.{every}
-use Rattle.store_laws.specs.Keeps.{limits_of, store_keeping}
+use Rattle.store_laws.specs.Keeps.{KnownPages, limits_of, store_keeping}
 use Rattle.store_laws.specs.Refusals.{sessions_refuse_put}
 use Rattle.store_laws.proofs.PutLemmas.{full_puts_are_work, written_puts_are_work, failed_puts_leave_the_map}
 use Rattle.ipl_store.specs.Calls.{view_of, counter_of, IsSound, entry_fault, Serves, Calls}
@@ -60,7 +58,7 @@ replies_alike (Err (store.Refused (SessionsOpen s))) = refl
 
 -- ---- the work
 
-module _ (s n : ℕ) (bytes : List ℕ) (a b : ScriptStore) (before after : Told)
+module _ (known : KnownPages) (s n : ℕ) (bytes : List ℕ) (a b : ScriptStore) (before after : Told)
     (runs : IsRunning before.places a) where
   abbrev c : Command
   c = command.Put s n bytes
@@ -77,33 +75,33 @@ module _ (s n : ℕ) (bytes : List ℕ) (a b : ScriptStore) (before after : Told
     -- its page was brought, and found full, or written
     put_work : (room : Bool) → By (Ok room)
         → counter_of b.store ≤ counter_of a.store + WORK_DRAWS
-        → Works (store_keeping before.places every) c (view_of a.store) before (Ok (put_reply room))
+        → Works (store_keeping before.places known.pages) c (view_of a.store) before (Ok (put_reply room))
         (view_of b.store) after
-    put_work true did few = written_puts_are_work every s n bytes (view_of a.store) (view_of b.store)
-        did.tables did.frames did.frame before did.mid after every_is_told_apart units runs.up
+    put_work true did few = written_puts_are_work known.pages s n bytes (view_of a.store) (view_of b.store)
+        did.tables did.frames did.frame before did.mid after known.apart units runs.up
         did.brings.counts did.brings.keeps did.brings.there free did.room did.leads
         (λ pages h state keeps. few)
-    put_work false did few = full_puts_are_work every s n bytes (view_of a.store) (view_of b.store)
-        did.frame before after every_is_told_apart units runs.up did.sessions did.brings.keeps
+    put_work false did few = full_puts_are_work known.pages s n bytes (view_of a.store) (view_of b.store)
+        did.frame before after known.apart units runs.up did.sessions did.brings.keeps
         did.brings.there free did.full (λ pages h state keeps. few)
 
     put_served : (found : Result Bool StoreFault) → Served found → By found
         → IsSound before.places b.store
         → Tidies (tables_in a.store.transactions.pages) found (tables_in b.store.transactions.pages)
         before after
-        → Learns (script_keeping before.places) a before (answer_of put_reply found) b after
-        → StillRecalls (script_keeping before.places) a before b after
-        → Counts before after → DoesCommand c a before (answer_of put_reply found) b after
+        → Learns (script_keeping before.places known) a before (answer_of put_reply found) b after
+        → StillRecalls (script_keeping before.places known) a before b after
+        → Counts before after → DoesCommand known c a before (answer_of put_reply found) b after
     put_served (Ok room) did by sound tidy learns recalls counts =
         let next = put_next s n bytes (Ok room) in
-        done_does put_reply c next 14 a b before after runs (omega arith) units room did
+        done_does known put_reply c next 14 a b before after runs (omega arith) units room did
         (put_work room by
-        (few_drawn put_reply c next 14 a b before after runs (omega arith) units did.drawn))
+        (few_drawn known put_reply c next 14 a b before after runs (omega arith) units did.drawn))
         (record { sound = sound; up = did.ends })
-        (tidy_so before.places a b before after (Ok room) (Ok (put_reply room)) refl tidy) learns
+        (tidy_so known before.places a b before after (Ok room) (Ok (put_reply room)) refl tidy) learns
         recalls counts
     put_served (Err fault) did by sound tidy learns recalls counts =
-        served_does put_reply c (put_next s n bytes (Err fault)) 14 a b before after runs (omega arith)
+        served_does known put_reply c (put_next s n bytes (Err fault)) 14 a b before after runs (omega arith)
         units (λ state sessions.
         failed_puts_leave_the_map (limits_of a.store.units) state s n bytes Spent)
         (Err fault) did tt sound tidy learns recalls counts
@@ -114,16 +112,16 @@ module _ (s n : ℕ) (bytes : List ℕ) (a b : ScriptStore) (before after : Told
       (calls : Calls (put_fault a.store s n bytes) (put_next s n bytes (found_room result)) 14 a.store
       before (found_room result) b.store after) where
     pub put_does : (put_fault a.store s n bytes ≡ None → By (found_room result))
-        → DoesCommand c a before (reply_of result) b after
-    put_does by = subst (λ (r : Result Reply Fault). DoesCommand c a before r b after) (replies_alike result)
-        (by_entry put_reply c
+        → DoesCommand known c a before (reply_of result) b after
+    put_does by = subst (λ (r : Result Reply Fault). DoesCommand known c a before r b after) (replies_alike result)
+        (by_entry known put_reply c
         (sessions_refuse_put (limits_of a.store.units) a.store.transactions.sessions s n bytes)
         (put_next s n bytes (found_room result)) 14 a b before after (found_room result) runs refl
         (entry_fault a.store) calls
         (λ none free units. put_served units free (found_room result) (calls.serves none) (by none)
-        calls.sound calls.tidy (calls_learn a b before after put_reply (found_room result) runs
+        calls.sound calls.tidy (calls_learn known a b before after put_reply (found_room result) runs
         (put_fault a.store s n bytes) (put_next s n bytes (found_room result)) 14 calls)
-        (calls_recall a b before after (found_room result) (put_fault a.store s n bytes)
+        (calls_recall known a b before after (found_room result) (put_fault a.store s n bytes)
         (put_next s n bytes (found_room result)) 14 calls)
         calls.counts) (up_entry a runs.up))
 

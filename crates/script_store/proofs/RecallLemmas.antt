@@ -13,6 +13,7 @@ use Rattle.store_trait.specs.Keeping.{StillRecalls}
 use Rattle.ipl_store.specs.Calls.{Calls}
 use Rattle.ipl_store.specs.Openings.{Tries}
 use Rattle.script_store.specs.declared.store.ScriptStore.{ScriptStore}
+use Rattle.store_laws.specs.Keeps.{KnownPages}
 use Rattle.script_store.specs.Keeps.{script_keeping}
 use Rattle.script_store.specs.Recalls.{RecallsSince, RecallsErased}
 use Rattle.script_store.specs.Worn.{history_longer}
@@ -33,10 +34,10 @@ places_recall h first then worn_out before after did since = record {
       subst (λ (q : ℕ). is_tried (did.added ++ since.added) q ≡ false) (sym stays.place) none;
 }
 
-module _ (a b : ScriptStore) (before after : Told) where
+module _ (known : KnownPages) (a b : ScriptStore) (before after : Told) where
   pub leaves_recall : (worn_out : Bool) → Spends (LeavesPlaces a.store.transactions.pages.parts.directory
       b.store.transactions.pages.parts.directory worn_out) before after
-      → StillRecalls (script_keeping before.places) a before b after
+      → StillRecalls (script_keeping before.places known) a before b after
   leaves_recall worn_out did entry recalls h history =
       places_recall h a.store.transactions.pages.parts.directory
       b.store.transactions.pages.parts.directory worn_out before after did (recalls h history)
@@ -44,7 +45,7 @@ module _ (a b : ScriptStore) (before after : Told) where
   -- a call of the store
   pub calls_recall : {T : Type 0} (result : Result T StoreFault) (early : Option StoreFault)
       (next : State → State) (most : ℕ) → Calls early next most a.store before result b.store after
-      → StillRecalls (script_keeping before.places) a before b after
+      → StillRecalls (script_keeping before.places known) a before b after
   calls_recall result early next most calls = leaves_recall _ calls.wears.places
 
 -- a chip that was opened: of the units that were found unknown no place was erased

@@ -13,12 +13,12 @@ use Rattle.ipl_model.specs.State.{Map, State}
 use Rattle.ipl_model.specs.declared.command.Command.TheVariants as command
 use Rattle.ipl_model.specs.declared.reply.Reply.{Reply}
 use Rattle.ipl_model.specs.declared.reply.Reply.TheVariants as reply
-use Rattle.ipl_meaning.specs.Legible.{every, whole}
-use Rattle.ipl_meaning.specs.Legible.{whole}
+use Rattle.ipl_meaning.specs.Legible.{Legibility, every, of, whole}
 use Rattle.ipl_meaning.specs.Chart.{Chart, chart_of}
 use Rattle.ipl_meaning.specs.Found.{IsAbove}
 use Rattle.ipl_meaning.specs.Layout.{Layout, Laid}
 use Rattle.ipl_meaning.specs.Rests.{StoryRests}
+use Rattle.ipl_meaning.specs.Stands.{Says}
 use Rattle.ipl_meaning.specs.Tables.{Places, Tables, IsCountedClean}
 use Rattle.ipl_meaning.specs.Chosen.{units_at}
 use Rattle.ipl_meaning.specs.Faults.{first_fault, greatest_found}
@@ -37,7 +37,7 @@ use Rattle.store_trait.specs.declared.fault.Fault.{Fault}
 use Rattle.store_trait.specs.declared.fault.Fault.TheVariants.{Image}
 use Rattle.store_trait.specs.Keeping.{FOUND_NUMBER, WORK_DRAWS, ChipRose, SaysFailedCall, Works}
 use Rattle.store_laws.specs.Advances.{memory_of, TurnsMapOf}
-use Rattle.store_laws.specs.Keeps.{View, ImageCause, ImageTells, DrawsFew, IsExcused, KeepsStore, ShowsState, limits_of, store_keeping}
+use Rattle.store_laws.specs.Keeps.{KnownPages, View, ImageCause, ImageTells, DrawsFew, IsExcused, KeepsStore, ShowsState, limits_of, store_keeping}
 use Rattle.store_laws.proofs.AdvanceLemmas.{answers_advance}
 use Rattle.store_laws.proofs.KeepLemmas.{at_limits, leads_are_work}
 use Rattle.store_laws.proofs.FaultLemmas.{faults_that_leave_down}
@@ -81,7 +81,7 @@ none_counted next p s (within, inr (inr (place, from))) = absurd (omega (arith, 
 
 -- ---- a store that is down keeps its story
 
-module _ (a b : ScriptStore) (old new : Told) (up : a.store.down ≡ false)
+module _ (known : KnownPages) (a b : ScriptStore) (old new : Told) (up : a.store.down ≡ false)
     (units : b.store.units ≡ a.store.units) (down : b.store.down ≡ true) where
   -- whatever is left of its memory
   abbrev left : View
@@ -92,8 +92,8 @@ module _ (a b : ScriptStore) (old new : Told) (up : a.store.down ≡ false)
   }
 
   pub works_down : (fault : Fault)
-      → Works (store_keeping old.places every) command.Restart (view_of a.store) old (Err fault) left new
-      → Works (script_keeping old.places) command.Restart a old (Err fault) b new
+      → Works (store_keeping old.places known.pages) command.Restart (view_of a.store) old (Err fault) left new
+      → Works (script_keeping old.places known) command.Restart a old (Err fault) b new
   works_down fault works limits state h keeps =
       let did = works limits state h keeps.kept in record {
         leaves = record {
@@ -119,8 +119,8 @@ module _ (a b : ScriptStore) (old new : Told) (up : a.store.down ≡ false)
               few = omega (arith, few, units);
             };
         drawn = let none = none_drawn in omega (arith, none);
-        excuse = λ few. did.excuse (subst (λ (k : ℕ). k + WORK_DRAWS < 2 ^ 63)
-            (ap (λ (is : Bool). if is then 0 else counter_of a.store) up) few);
+        excuse = λ few whole. did.excuse (subst (λ (k : ℕ). k + WORK_DRAWS < 2 ^ 63)
+            (ap (λ (is : Bool). if is then 0 else counter_of a.store) up) few) whole;
         tells = did.tells;
       }
     where
@@ -226,7 +226,7 @@ few_found places c it next bytes laid above = elim (greatest_is_found c places i
 
 -- ---- an opening
 
-module _ (a b : ScriptStore) (before after : Told) (runs : IsRunning before.places a)
+module _ (known : KnownPages) (a b : ScriptStore) (before after : Told) (runs : IsRunning before.places a)
     (sound : IsSound before.places b.store) where
   -- the tables then
   abbrev t : Tables
@@ -240,7 +240,7 @@ module _ (a b : ScriptStore) (before after : Told) (runs : IsRunning before.plac
 
   -- a chip on which the store kept a state says as many units as it had
   as_many : (state : State) (h : History)
-      → KeepsStore before.places every (limits_of first.units) first before h state
+      → KeepsStore before.places known.pages (limits_of first.units) first before h state
       → units_at (chart_of (held h.start h.story)) before.places ≡ a.store.units
   as_many state h keeps =
       let shown = (keeps.up runs.up).shows in
@@ -250,13 +250,13 @@ module _ (a b : ScriptStore) (before after : Told) (runs : IsRunning before.plac
   opened_does : OpensStore before.places before b.store after
       → Tries false before.places before (Ok tt) t after
       → Restarts (memory_of_store a.store) before (memory_of_store b.store) after
-      → DoesCommand command.Restart a before (Ok reply.Ok) b after
+      → DoesCommand known command.Restart a before (Ok reply.Ok) b after
   opened_does opens tries leads = record {
     works = λ limits state h keeps.
-        let kept = at_limits before.places every limits first before h state keeps.kept in
+        let kept = at_limits before.places known.pages limits first before h state keeps.kept in
         let units = opens.units _ kept.steady.holds ∙ as_many state h kept in
-        works_so before.places a b before after runs.up units command.Restart (Ok reply.Ok)
-        (leads_are_work every command.Restart (λ state. after_restart state) first last (Ok reply.Ok)
+        works_so known before.places a b before after runs.up units command.Restart (Ok reply.Ok)
+        (leads_are_work known.pages command.Restart (λ state. after_restart state) first last (Ok reply.Ok)
         before after units runs.up
         (answers_advance (TurnsMapOf (λ state. after_restart state)) (λ state. after_restart state)
         first.memory last.memory (Ok tt) (Ok reply.Ok) before after refl leads)
@@ -271,7 +271,7 @@ module _ (a b : ScriptStore) (before after : Told) (runs : IsRunning before.plac
         clean = λ base is clean. tries.tidy.tidies.does.clean refl base (took_none base);
       };
     };
-    draws = draws_found before.places WORK_DRAWS _ a b found (λ spent. absurd (cc spent));
+    draws = draws_found known before.places WORK_DRAWS _ a b found (λ spent. absurd (cc spent));
     running = record { sound = sound; up = opens.fresh.up };
     learns = λ entry knows.
         restart_learns_done a b before after runs entry knows opens tries;
@@ -296,11 +296,11 @@ module _ (a b : ScriptStore) (before after : Told) (runs : IsRunning before.plac
           let number = opens.number x told in omega (arith, below, number)
 
   failed_does : (e : ImageFault) → b.store.down ≡ true → b.store.units ≡ a.store.units
-      → Tries false before.places before (Err e) t after → DoesCommand command.Restart a before (Err (Image e)) b after
+      → Tries false before.places before (Err e) t after → DoesCommand known command.Restart a before (Err (Image e)) b after
   failed_does e down units tries = record {
-    works = works_down a b before after runs.up units down (Image e)
-        (faults_that_leave_down every command.Restart first
-        (left a b before after runs.up units down) (Image e) before after units
+    works = works_down known a b before after runs.up units down (Image e)
+        (faults_that_leave_down known.pages command.Restart first
+        (left known a b before after runs.up units down) (Image e) before after units
         runs.up refl
         (λ h it state steady story. preserved state.map h steady story.rests)
         (omega arith) excused);
@@ -313,7 +313,7 @@ module _ (a b : ScriptStore) (before after : Told) (runs : IsRunning before.plac
       };
       clean = λ done. absurd (cc done);
     };
-    draws = draws_found before.places WORK_DRAWS _ a b
+    draws = draws_found known before.places WORK_DRAWS _ a b
         (let none = none_drawn in omega (arith, none)) (λ spent. absurd (cc spent));
     running = tt;
     learns = λ entry knows.
@@ -327,11 +327,11 @@ module _ (a b : ScriptStore) (before after : Told) (runs : IsRunning before.plac
       none_drawn : next_number b ≡ 0
       none_drawn = ap (λ (is : Bool). if is then 0 else counter_of b.store) down
 
-      preserved : (m : Map) (h : History) → IsSteady h before → StoryRests before.places (whole m) h
-          → Preserves {T = Reply} before.places (whole m) first.memory.tables
+      preserved : (m : Map) (h : History) → IsSteady h before → StoryRests before.places (of known.pages m) h
+          → Preserves {T = Reply} before.places (of known.pages m) first.memory.tables
           (none_clean (counter_of a.store)) h (Err (Image e)) before after
       preserved m h steady rests =
-          let (took, takes, did) = tries.steps (whole m) h steady rests in record {
+          let (took, takes, did) = tries.steps (of known.pages m) h steady rests in record {
             added = did.added;
             places = did.places;
             history = did.history;
@@ -350,9 +350,9 @@ module _ (a b : ScriptStore) (before after : Told) (runs : IsRunning before.plac
             ends = did.ends;
           }
 
-      excused : IsExcused every WORK_DRAWS first before after (Image e)
+      excused : IsExcused known.pages WORK_DRAWS first before after (Image e)
       excused h state keeps = (
-        λ low. rose_for t.places e before after tries.accounts.cause (fails low),
+        λ low all. rose_for t.places e before after tries.accounts.cause (fails low all),
         image_tells before.places a.store.units t.places e before after tries.all
             (λ worn. tries.costs.units (or_right false (tells_wear e) worn) x told
             ∙ as_many state h keeps) tries.accounts.cause,
@@ -364,7 +364,7 @@ module _ (a b : ScriptStore) (before after : Told) (runs : IsRunning before.plac
           told : before.contents ≡ Some x
           told = keeps.steady.holds
 
-          shown : ShowsState before.places every first state x
+          shown : ShowsState before.places known.pages first state x
           shown = (keeps.up runs.up).shows
 
           laid : Laid before.places (chart_of x) shown.layout
@@ -375,9 +375,9 @@ module _ (a b : ScriptStore) (before after : Told) (runs : IsRunning before.plac
           above low n found =
               let below = shown.fits.mirrors.numbers.above n found in omega (arith, below, low)
 
-          fails : counter_of a.store + WORK_DRAWS < 2 ^ 63 → ¬ FailsByCallAlone e
+          fails : counter_of a.store + WORK_DRAWS < 2 ^ 63 → known.pages ≡ every → ¬ FailsByCallAlone e
               → FailsByCallAlone e
-          fails low unfailed =
+          fails low all unfailed =
               let fault = tries.tells x told unfailed in
               let bytes = tries.bytes x told (λ is. unfailed (ReadFault, is, tt))
               (λ is. unfailed (Stopped, is, tt))
@@ -387,13 +387,18 @@ module _ (a b : ScriptStore) (before after : Told) (runs : IsRunning before.plac
               let in_it = no_fault_is_laid (chart_of x) before.places bytes none in
               tries.complete x told state.map none
               (layouts_say before.places (chart_of x) (layout_in (chart_of x) before.places)
-              (whole state.map) in_it (record { layout = shown.layout; laid = laid; says = shown.says }))
+              (whole state.map) in_it (record {
+                layout = shown.layout;
+                laid = laid;
+                says = subst (λ (pages : Legibility). Says before.places (chart_of x) shown.layout (of pages state.map)) all
+                    shown.says;
+              }))
 
   -- a restart
   pub restart_does : (result : Result (Unit {0}) ImageFault)
       → Reopens before.places a.store before result b.store after
       → Tries false before.places before result t after
       → OnOk result (Restarts (memory_of_store a.store) before (memory_of_store b.store) after)
-      → DoesCommand command.Restart a before (restarted result) b after
+      → DoesCommand known command.Restart a before (restarted result) b after
   restart_does (Ok v) opens tries leads = opened_does opens tries leads
   restart_does (Err e) closed tries leads = failed_does e closed.0 closed.1 tries

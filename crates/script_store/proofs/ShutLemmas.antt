@@ -7,7 +7,7 @@ use Rattle.chip_trait.specs.Told.{History, Told, adds_all}
 use Rattle.ipl_model.specs.State.{Map, State, Limits}
 use Rattle.ipl_model.specs.declared.command.Command.TheVariants as command
 use Rattle.ipl_model.specs.declared.reply.Reply.{Reply}
-use Rattle.ipl_meaning.specs.Legible.{whole}
+use Rattle.ipl_meaning.specs.Legible.{of}
 use Rattle.ipl_meaning.specs.Chart.{chart_of}
 use Rattle.ipl_meaning.specs.Rests.{StoryRests}
 use Rattle.ipl_meaning.specs.Stands.{StandsIn}
@@ -20,6 +20,7 @@ use Rattle.ipl_store.specs.declared.store.Store.{Store}
 use Rattle.ipl_store.specs.Calls.{counter_of}
 use Rattle.script_store.specs.declared.store.ScriptStore.{ScriptStore}
 use Rattle.script_store.specs.Closes.{Aborts}
+use Rattle.store_laws.specs.Keeps.{KnownPages}
 use Rattle.script_store.specs.Keeps.{KeepsScript, next_number, script_keeping, DoesCommand}
 use Rattle.script_store.proofs.KeepLemmas.{counted_up, counted_few}
 use Rattle.script_store.proofs.PartLemmas.{added_then, leaves_then, leaves_weaker, leaves_failed}
@@ -31,10 +32,10 @@ shut store = record { store = record store { down = true } }
 -- ---- what it keeps
 
 -- a state with the same records
-pub shut_keeps : (places : ℕ) (limits : Limits) (s : ScriptStore) (t : Told) (h : History) (now state : State)
-    → now.map ≡ state.map → KeepsScript places limits s t h now → KeepsScript places limits (shut s.store) t h state
-shut_keeps places limits s t h now state same keeps =
-    let rests = subst (λ (m : Map). (rests : StoryRests places (whole m) h) × (rests.each.0 ≡ s.store.units)) same
+pub shut_keeps : (known : KnownPages) (places : ℕ) (limits : Limits) (s : ScriptStore) (t : Told) (h : History) (now state : State)
+    → now.map ≡ state.map → KeepsScript places known limits s t h now → KeepsScript places known limits (shut s.store) t h state
+shut_keeps known places limits s t h now state same keeps =
+    let rests = subst (λ (m : Map). (rests : StoryRests places (of known.pages m) h) × (rests.each.0 ≡ s.store.units)) same
     (keeps.kept.rests, keeps.kept.many) in record {
       kept = record {
         limits_are = keeps.kept.limits_are;
@@ -47,10 +48,10 @@ shut_keeps places limits s t h now state same keeps =
     }
 
 -- it draws no number
-draws_none : (places n : ℕ) (a b m : ScriptStore) (c : Store) (WasSpent IsSpent : Type 0) → (IsSpent → WasSpent)
-    → Draws (script_keeping places) n m WasSpent b → counter_of m.store ≤ counter_of a.store → a.store.down ≡ false
-    → Draws (script_keeping places) n a IsSpent (shut c)
-draws_none places n a b m c WasSpent IsSpent was draws fewer up = record {
+draws_none : (known : KnownPages) (places n : ℕ) (a b m : ScriptStore) (c : Store) (WasSpent IsSpent : Type 0) → (IsSpent → WasSpent)
+    → Draws (script_keeping places known) n m WasSpent b → counter_of m.store ≤ counter_of a.store → a.store.down ≡ false
+    → Draws (script_keeping places known) n a IsSpent (shut c)
+draws_none known places n a b m c WasSpent IsSpent was draws fewer up = record {
   most = omega arith;
   spent = λ is. longer (next_number m) (next_number a) FOUND_NUMBER LAST_NUMBER n few (draws.spent (was is));
 }
@@ -63,33 +64,33 @@ draws_none places n a b m c WasSpent IsSpent was draws fewer up = record {
 
 -- ---- work that failed
 
-module _ (m mid : ScriptStore) (before after : Told) (fault : Fault) (up : m.store.down ≡ false)
-    (does : DoesCommand command.Syntax m before (Err fault) mid after) where
+module _ (known : KnownPages) (m mid : ScriptStore) (before after : Told) (fault : Fault) (up : m.store.down ≡ false)
+    (does : DoesCommand known command.Syntax m before (Err fault) mid after) where
   -- what it would have left is what was
   either : (limits : Limits) (state : State) (x : Contents)
-      → StandsIn before.places limits.units (chart_of x) (whole state.map)
-      ⊎ StandsIn before.places limits.units (chart_of x) (whole state.map)
-      → StandsIn before.places limits.units (chart_of x) (whole state.map)
+      → StandsIn before.places limits.units (chart_of x) (of known.pages state.map)
+      ⊎ StandsIn before.places limits.units (chart_of x) (of known.pages state.map)
+      → StandsIn before.places limits.units (chart_of x) (of known.pages state.map)
   either limits state x (inl is) = is
   either limits state x (inr is) = is
 
   failed_keeps : (limits : Limits) (state : State) (h : History)
-      → KeepsScript before.places limits m before h state
-      → KeepsBehind (script_keeping before.places) limits state m h (Err fault) (shut mid.store) before after
+      → KeepsScript before.places known limits m before h state
+      → KeepsBehind (script_keeping before.places known) limits state m h (Err fault) (shut mid.store) before after
   failed_keeps limits state h keeps =
       let did = does.works limits state h keeps in
-      let P : Contents → Type 0 = λ x. StandsIn before.places limits.units (chart_of x) (whole state.map) in record {
-        leaves = leaves_failed (script_keeping before.places) P m mid (shut mid.store) h before after
-            (leaves_weaker (script_keeping before.places) (λ x. P x ⊎ P x) P m mid h before after false
+      let P : Contents → Type 0 = λ x. StandsIn before.places limits.units (chart_of x) (of known.pages state.map) in record {
+        leaves = leaves_failed (script_keeping before.places known) P m mid (shut mid.store) h before after
+            (leaves_weaker (script_keeping before.places known) (λ x. P x ⊎ P x) P m mid h before after false
             (either limits state) did.leaves);
-        ends = λ unrisen. shut_keeps before.places limits mid after (adds_all did.leaves.added h) state state refl
+        ends = λ unrisen. shut_keeps known before.places limits mid after (adds_all did.leaves.added h) state state refl
             (did.ends unrisen);
         drawn = omega arith;
         excuse = did.excuse;
         tells = did.tells;
       }
 
-  pub failed_behind : WorksBehind (script_keeping before.places) m before (Err fault) (shut mid.store) after
+  pub failed_behind : WorksBehind (script_keeping before.places known) m before (Err fault) (shut mid.store) after
   failed_behind = record {
     keeps = failed_keeps;
     tidy = record {
@@ -98,7 +99,7 @@ module _ (m mid : ScriptStore) (before after : Told) (fault : Fault) (up : m.sto
       lawful = does.tidy.lawful;
       clean = λ is. absurd (false≢true is);
     };
-    draws = draws_none before.places WORK_DRAWS m mid m mid.store (IsErrOf {T = Reply} (Err fault) Spent)
+    draws = draws_none known before.places WORK_DRAWS m mid m mid.store (IsErrOf {T = Reply} (Err fault) Spent)
         (IsErrOf {T = Unit {0}} (Err fault) Spent) also_spent does.draws (omega arith) up;
     learns = λ entry knows. does.learns entry knows;
     recalls = tt;
@@ -113,54 +114,54 @@ module _ (m mid : ScriptStore) (before after : Told) (fault : Fault) (up : m.sto
 
 -- ---- behind sessions that were aborted
 
-module _ (a m : ScriptStore) (c : Store) (before after : Told) (result : Result (Unit {0}) Fault)
-    (up : a.store.down ≡ false) (aborted : Aborts a before m)
-    (did : WorksBehind (script_keeping before.places) m before result (shut c) after) where
-  excuse_longer : (fault : Fault) → Excuses (script_keeping before.places) WORK_DRAWS m before after fault
-      → Excuses (script_keeping before.places) WORK_DRAWS a before after fault
-  excuse_longer fault excuse few =
-      let fewer = aborted.drawn in excuse (omega (arith, few, fewer, counted_few m, counted_up a up))
+module _ (known : KnownPages) (a m : ScriptStore) (c : Store) (before after : Told) (result : Result (Unit {0}) Fault)
+    (up : a.store.down ≡ false) (aborted : Aborts known a before m)
+    (did : WorksBehind (script_keeping before.places known) m before result (shut c) after) where
+  excuse_longer : (fault : Fault) → Excuses (script_keeping before.places known) WORK_DRAWS m before after fault
+      → Excuses (script_keeping before.places known) WORK_DRAWS a before after fault
+  excuse_longer fault excuse few whole =
+      let fewer = aborted.drawn in excuse (omega (arith, few, fewer, counted_few m, counted_up a up)) whole
 
   keeps_records : (limits : Limits) (state : State) (h : History)
-      → KeepsScript before.places limits a before h state
-      → KeepsBehind (script_keeping before.places) limits state a h result (shut c) before after
+      → KeepsScript before.places known limits a before h state
+      → KeepsBehind (script_keeping before.places known) limits state a h result (shut c) before after
   keeps_records limits state h keeps =
       let first = aborted.keeps limits state h keeps in
       let k = adds_all first.leaves.added h in
       let more = did.keeps limits first.now k first.keeps in
-      let P : Contents → Type 0 = λ x. StandsIn before.places limits.units (chart_of x) (whole state.map) in record {
-        leaves = leaves_then (script_keeping before.places) P a m (shut c) h before before after (is_ok result)
+      let P : Contents → Type 0 = λ x. StandsIn before.places limits.units (chart_of x) (of known.pages state.map) in record {
+        leaves = leaves_then (script_keeping before.places known) P a m (shut c) h before before after (is_ok result)
             first.leaves
-            (leaves_weaker (script_keeping before.places)
-            (λ x. StandsIn before.places limits.units (chart_of x) (whole first.now.map)) P m (shut c) k before after
-            (is_ok result) (λ x. subst (λ (r : Map). StandsIn before.places limits.units (chart_of x) (whole r)) first.records) more.leaves);
+            (leaves_weaker (script_keeping before.places known)
+            (λ x. StandsIn before.places limits.units (chart_of x) (of known.pages first.now.map)) P m (shut c) k before after
+            (is_ok result) (λ x. subst (λ (r : Map). StandsIn before.places limits.units (chart_of x) (of known.pages r)) first.records) more.leaves);
         ends = by_end result (adds_all more.leaves.added k) (adds_all (more.leaves.added ++ first.leaves.added) h)
             first.now first.records (added_then more.leaves.added first.leaves.added h) more.ends;
         drawn = omega arith;
         excuse = IfErr-weaker result
-            (Excuses (script_keeping before.places) WORK_DRAWS m before after)
-            (Excuses (script_keeping before.places) WORK_DRAWS a before after) excuse_longer more.excuse;
+            (Excuses (script_keeping before.places known) WORK_DRAWS m before after)
+            (Excuses (script_keeping before.places known) WORK_DRAWS a before after) excuse_longer more.excuse;
         tells = more.tells;
       }
     where
       by_end : (r : Result (Unit {0}) Fault) (k l : History) (now : State) → now.map ≡ state.map → k ≡ l
           → MatchResult r
-          (λ _. KeepsScript before.places limits (shut c) after k now)
-          (λ fault. Stays (script_keeping before.places) limits (shut c) before after k now)
+          (λ _. KeepsScript before.places known limits (shut c) after k now)
+          (λ fault. Stays (script_keeping before.places known) limits (shut c) before after k now)
           → MatchResult r
-          (λ _. KeepsScript before.places limits (shut c) after l state)
-          (λ fault. Stays (script_keeping before.places) limits (shut c) before after l state)
-      by_end (Ok v) k l now same is ends = subst (λ (h : History). KeepsScript before.places limits (shut c) after h state) is
-          (shut_keeps before.places limits (shut c) after k now state same ends)
+          (λ _. KeepsScript before.places known limits (shut c) after l state)
+          (λ fault. Stays (script_keeping before.places known) limits (shut c) before after l state)
+      by_end (Ok v) k l now same is ends = subst (λ (h : History). KeepsScript before.places known limits (shut c) after h state) is
+          (shut_keeps known before.places limits (shut c) after k now state same ends)
       by_end (Err fault) k l now same is stays = λ unrisen.
-          subst (λ (h : History). KeepsScript before.places limits (shut c) after h state) is
-          (shut_keeps before.places limits (shut c) after k now state same (stays unrisen))
+          subst (λ (h : History). KeepsScript before.places known limits (shut c) after h state) is
+          (shut_keeps known before.places limits (shut c) after k now state same (stays unrisen))
 
-  pub aborted_behind : WorksBehind (script_keeping before.places) a before result (shut c) after
+  pub aborted_behind : WorksBehind (script_keeping before.places known) a before result (shut c) after
   aborted_behind = record {
     keeps = keeps_records;
-    tidy = tidy_then (script_keeping before.places) a m (shut c) before before after (is_ok result) aborted.tidy did.tidy;
-    draws = draws_none before.places WORK_DRAWS a (shut c) m c _ _ (λ is. is) did.draws aborted.drawn up;
+    tidy = tidy_then (script_keeping before.places known) a m (shut c) before before after (is_ok result) aborted.tidy did.tidy;
+    draws = draws_none known before.places WORK_DRAWS a (shut c) m c _ _ (λ is. is) did.draws aborted.drawn up;
     learns = λ entry knows. did.learns entry (aborted.knows entry knows);
     recalls = on_ok_weaker result (λ still entry recalled. still entry (aborted.recalls entry recalled))
         did.recalls;

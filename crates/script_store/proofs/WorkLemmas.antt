@@ -1,6 +1,7 @@
 -- Calls of the store are the work of their commands.
 use Rattle.std.proofs.Common.{ℕ, ◌≡◌, ◌≢◌, ◌⊎◌, inl, inr, ◌≤◌, ◌<◌, ◌+◌, arith, Bool, true, false, nat_lt, ◌∷◌, [], List, length, Option, None, Some, Result, Ok, Err, IfOk, if◌then◌else◌, refl, sym, ◌∙◌, ap, subst}
 use Rattle.std.proofs.lemmas.Bool.Decides.{nat_tests}
+use Rattle.chip_trait.specs.Story.{held}
 use Rattle.chip_trait.specs.Told.{Told, Counts}
 use Rattle.chip_trait.proofs.CountsLemmas.{counts_none}
 use Rattle.ipl_base.specs.Calls.{IsFailedCall}
@@ -17,7 +18,7 @@ use Rattle.ipl_model.specs.declared.command.Command.TheVariants as command
 use Rattle.ipl_model.specs.declared.reply.Reply.{Reply}
 use Rattle.ipl_model.specs.declared.reply.Reply.TheVariants as reply
 use Rattle.ipl_model.specs.Step.{Stepped, accepted, step}
-use Rattle.ipl_meaning.specs.Legible.{every}
+use Rattle.ipl_meaning.specs.Legible.{Legibility}
 use Rattle.ipl_meaning.specs.Tables.{Places}
 use Rattle.unit_directory.specs.Free.{spares_of}
 use Rattle.unit_io.specs.Reads.{OfContents}
@@ -28,7 +29,7 @@ use Rattle.store_trait.specs.declared.fault.Fault.TheVariants.{Chip, Spent}
 use Rattle.store_trait.specs.Keeping.{LAST_NUMBER, WORK_DRAWS, ChipRose, Works, LeavesTidy, Learns, StillRecalls}
 use Rattle.store_trait.proofs.TidyLemmas.{tidy_same}
 use Rattle.store_laws.specs.Advances.{TurnsMapOf}
-use Rattle.store_laws.specs.Keeps.{View, limits_of, ChipTells, ShowsState, StoreCause, store_keeping}
+use Rattle.store_laws.specs.Keeps.{KnownPages, View, limits_of, ChipTells, ShowsState, StoreCause, store_keeping}
 use Rattle.store_laws.specs.Refusals.{finds_full, sessions_refuse}
 use Rattle.store_laws.proofs.AdvanceLemmas.{answers_advance}
 use Rattle.store_laws.proofs.LeadLemmas.{answers_are_alike, memory_leads}
@@ -171,13 +172,13 @@ both_are x state replies state_is is =
 
 -- ---- the store as it was
 
-module _ (c : Command) (a : ScriptStore) (told : Told) (runs : IsRunning told.places a) where
-  pub spent_does : LAST_NUMBER < counter_of a.store → DoesCommand c a told (Err Spent) a told
+module _ (known : KnownPages) (c : Command) (a : ScriptStore) (told : Told) (runs : IsRunning told.places a) where
+  pub spent_does : LAST_NUMBER < counter_of a.store → DoesCommand known c a told (Err Spent) a told
   spent_does late = record {
-    works = works_so told.places a a told told runs.up refl c (Err Spent)
-        (idle_faults_are_work every c (view_of a.store) told late);
-    tidy = tidy_same (script_keeping told.places) a told told false refl;
-    draws = draws_few told.places WORK_DRAWS _ a a runs.up (omega arith) (λ is. late);
+    works = works_so known told.places a a told told runs.up refl c (Err Spent)
+        (idle_faults_are_work known.pages c (view_of a.store) told late);
+    tidy = tidy_same (script_keeping told.places known) a told told false refl;
+    draws = draws_few known told.places WORK_DRAWS _ a a runs.up (omega arith) (λ is. late);
     running = tt;
     learns = λ entry knows. tt;
     recalls = λ calm. tt;
@@ -187,18 +188,18 @@ module _ (c : Command) (a : ScriptStore) (told : Told) (runs : IsRunning told.pl
 
   refused_does : (r : Refusal)
       → sessions_refuse (limits_of a.store.units) a.store.transactions.sessions c ≡ Some r
-      → DoesCommand c a told (Ok (reply.Refused r)) a told
+      → DoesCommand known c a told (Ok (reply.Refused r)) a told
   refused_does r is = record {
-    works = works_so told.places a a told told runs.up refl c (Ok (reply.Refused r))
-        (leads_are_work every c (λ state. (step (limits_of a.store.units) state c).0) (view_of a.store)
+    works = works_so known told.places a a told told runs.up refl c (Ok (reply.Refused r))
+        (leads_are_work known.pages c (λ state. (step (limits_of a.store.units) state c).0) (view_of a.store)
         (view_of a.store) (Ok (reply.Refused r)) told told refl runs.up
         (refusals_lead a.store.units c r (view_of a.store).memory told is)
         (λ h state keeps. says_it (step (limits_of a.store.units) state c) _
         (ap (λ (y : Stepped). y.1) (refusals_answer (limits_of a.store.units)
         a.store.transactions.sessions state c r (keeps.up runs.up).sessions is)))
         (λ pages h state keeps. omega arith) tt);
-    tidy = tidy_same (script_keeping told.places) a told told true refl;
-    draws = draws_few told.places WORK_DRAWS _ a a runs.up (omega arith)
+    tidy = tidy_same (script_keeping told.places known) a told told true refl;
+    draws = draws_few known told.places WORK_DRAWS _ a a runs.up (omega arith)
         (λ spent. absurd (cc spent));
     running = runs;
     learns = λ entry knows. knows;
@@ -208,14 +209,14 @@ module _ (c : Command) (a : ScriptStore) (told : Told) (runs : IsRunning told.pl
   }
 
 -- a line that is no command
-module _ (a : ScriptStore) (told : Told) (runs : IsRunning told.places a) where
+module _ (known : KnownPages) (a : ScriptStore) (told : Told) (runs : IsRunning told.places a) where
   abbrev same : View
   same = view_of a.store
 
-  pub syntax_does : DoesCommand command.Syntax a told (Ok reply.Syntax) a told
+  pub syntax_does : DoesCommand known command.Syntax a told (Ok reply.Syntax) a told
   syntax_does = record {
-    works = works_so told.places a a told told runs.up refl command.Syntax (Ok reply.Syntax)
-        (leads_are_work every command.Syntax (λ state. state) same same (Ok reply.Syntax) told told
+    works = works_so known told.places a a told told runs.up refl command.Syntax (Ok reply.Syntax)
+        (leads_are_work known.pages command.Syntax (λ state. state) same same (Ok reply.Syntax) told told
         refl runs.up
         (answers_are_alike (λ state. state) same.memory same.memory
         (Ok tt) (Ok reply.Syntax) told told refl
@@ -223,8 +224,8 @@ module _ (a : ScriptStore) (told : Told) (runs : IsRunning told.places a) where
         (λ places c it state settled fits. fits) (λ places c it state fits. refl)
         (λ p s counted. counted)))
         (λ h state keeps. refl) (λ pages h state keeps. omega arith) tt);
-    tidy = tidy_same (script_keeping told.places) a told told true refl;
-    draws = draws_few told.places WORK_DRAWS _ a a runs.up (omega arith)
+    tidy = tidy_same (script_keeping told.places known) a told told true refl;
+    draws = draws_few known told.places WORK_DRAWS _ a a runs.up (omega arith)
         (λ spent. absurd (cc spent));
     running = runs;
     learns = λ entry knows. knows;
@@ -236,7 +237,7 @@ module _ (a : ScriptStore) (told : Told) (runs : IsRunning told.places a) where
 -- ---- a call that is let in
 
 -- Done, it is the work of its command; failed, it left the map of the model's step at least.
-module _ {T : Type 0} (say : T → Reply) (c : Command) (next : State → State) (most : ℕ)
+module _ (known : KnownPages) {T : Type 0} (say : T → Reply) (c : Command) (next : State → State) (most : ℕ)
     (a b : ScriptStore) (before after : Told) (runs : IsRunning before.places a)
     (few : most ≤ WORK_DRAWS) (units : b.store.units ≡ a.store.units) where
   abbrev first : View
@@ -247,7 +248,7 @@ module _ {T : Type 0} (say : T → Reply) (c : Command) (next : State → State)
 
   -- what the store found is the model's reply, and what it keeps then the next state
   abbrev IsWork : T → Type 0
-  IsWork found = Works (store_keeping before.places every) c first before (Ok (say found)) last after
+  IsWork found = Works (store_keeping before.places known.pages) c first before (Ok (say found)) last after
 
   -- the model's step leaves the next state's map
   abbrev StepsToMap : Type 0
@@ -260,14 +261,14 @@ module _ {T : Type 0} (say : T → Reply) (c : Command) (next : State → State)
 
   pub done_does : (found : T) (did : Serves next most a.store before (Ok found) b.store after)
       → IsWork found → IsRunning before.places b
-      → LeavesTidy (script_keeping before.places) a b before after true
-      → Learns (script_keeping before.places) a before (Ok (say found)) b after
-      → StillRecalls (script_keeping before.places) a before b after
-      → (counts : Counts before after) → DoesCommand c a before (Ok (say found)) b after
+      → LeavesTidy (script_keeping before.places known) a b before after true
+      → Learns (script_keeping before.places known) a before (Ok (say found)) b after
+      → StillRecalls (script_keeping before.places known) a before b after
+      → (counts : Counts before after) → DoesCommand known c a before (Ok (say found)) b after
   done_does found did works running tidy learns recalls counts = record {
-    works = works_so before.places a b before after runs.up units c (Ok (say found)) works;
+    works = works_so known before.places a b before after runs.up units c (Ok (say found)) works;
     tidy = tidy;
-    draws = draws_few before.places WORK_DRAWS _ a b runs.up (few_drawn did.drawn)
+    draws = draws_few known before.places WORK_DRAWS _ a b runs.up (few_drawn did.drawn)
         (λ spent. absurd (cc spent));
     running = running;
     learns = learns;
@@ -280,23 +281,23 @@ module _ {T : Type 0} (say : T → Reply) (c : Command) (next : State → State)
       (did : Serves {T = T} next most a.store before (Err (store.Chip e)) b.store after)
       → PageCause b.store.transactions.pages.parts.directory e before after
       → IsSound before.places b.store
-      → LeavesTidy (script_keeping before.places) a b before after false
-      → Learns (script_keeping before.places) {T = Reply} a before (Err (Chip e)) b after
-      → (counts : Counts before after) → DoesCommand c a before (Err (Chip e)) b after
+      → LeavesTidy (script_keeping before.places known) a b before after false
+      → Learns (script_keeping before.places known) {T = Reply} a before (Err (Chip e)) b after
+      → (counts : Counts before after) → DoesCommand known c a before (Err (Chip e)) b after
   failed_does steps e did cause sound tidy learns counts = record {
-    works = works_so before.places a b before after runs.up units c (Err (Chip e))
-        (leads_are_work every c next first last (Err (Chip e)) before after
+    works = works_so known before.places a b before after runs.up units c (Err (Chip e))
+        (leads_are_work known.pages c next first last (Err (Chip e)) before after
         units runs.up (answers_advance (TurnsMapOf next) next first.memory
         last.memory (Err (store.Chip e)) (Err (Chip e)) before after refl did.leads)
         (λ h state keeps. steps state (keeps.up runs.up).sessions)
         (λ pages h state keeps. few_drawn did.drawn)
         (λ h state keeps. (
-          λ low. chip_rose d e before after
-              (did.complete _ keeps.steady.holds state (keeps.up runs.up).shows) cause,
+          λ low whole. chip_rose d e before after (did.complete _ keeps.steady.holds state
+              (subst (λ (pages : Legibility). ShowsState before.places pages first state (held h.start h.story)) whole (keeps.up runs.up).shows)) cause,
           chip_tells before.places a.store.units d e before after are cause,
         )));
     tidy = tidy;
-    draws = draws_few before.places WORK_DRAWS _ a b runs.up (few_drawn did.drawn)
+    draws = draws_few known before.places WORK_DRAWS _ a b runs.up (few_drawn did.drawn)
         (λ spent. absurd (cc spent));
     running = tt;
     learns = learns;
@@ -319,25 +320,25 @@ module _ {T : Type 0} (say : T → Reply) (c : Command) (next : State → State)
       → Serves next most a.store before result b.store after → IfOk result IsWork
       → IsSound before.places b.store
       → Tidies (tables_in a.store.transactions.pages) result (tables_in b.store.transactions.pages)
-      before after → Learns (script_keeping before.places) a before (answer_of say result) b after
-      → StillRecalls (script_keeping before.places) a before b after
-      → Counts before after → DoesCommand c a before (answer_of say result) b after
+      before after → Learns (script_keeping before.places known) a before (answer_of say result) b after
+      → StillRecalls (script_keeping before.places known) a before b after
+      → Counts before after → DoesCommand known c a before (answer_of say result) b after
   served_does steps (Ok found) did works sound tidy learns recalls counts =
       done_does found did works (record { sound = sound; up = did.ends })
-      (tidy_so before.places a b before after (Ok found) (Ok (say found)) refl tidy) learns recalls
+      (tidy_so known before.places a b before after (Ok found) (Ok (say found)) refl tidy) learns recalls
       counts
   served_does steps (Err fault) did works sound tidy learns recalls counts =
       let (e, is_chip, cause, down) = did.ends in
       subst (λ (f : StoreFault). Serves {T = T} next most a.store before (Err f) b.store after
-      → Learns (script_keeping before.places) a before (ended f) b after
-      → DoesCommand c a before (ended f) b after) (sym is_chip)
+      → Learns (script_keeping before.places known) a before (ended f) b after
+      → DoesCommand known c a before (ended f) b after) (sym is_chip)
       (λ of_chip of_it. failed_does steps e of_chip cause sound
-      (tidy_so {T = T} {U = Reply} before.places a b before after (Err fault) (Err (Chip e)) refl
+      (tidy_so known {T = T} {U = Reply} before.places a b before after (Err fault) (Err (Chip e)) refl
       tidy) of_it counts) did learns
 
 -- ---- the work of a command that asks no page for room
 
-module _ {T : Type 0} (say : T → Reply) (c : Command) (next : State → State) (most : ℕ)
+module _ (known : KnownPages) {T : Type 0} (say : T → Reply) (c : Command) (next : State → State) (most : ℕ)
     (a b : ScriptStore) (before after : Told) (runs : IsRunning before.places a)
     (few : most ≤ WORK_DRAWS) (units : b.store.units ≡ a.store.units)
     (free : sessions_refuse (limits_of a.store.units) a.store.transactions.sessions c ≡ None)
@@ -351,45 +352,45 @@ module _ {T : Type 0} (say : T → Reply) (c : Command) (next : State → State)
       ∙ ap (λ (full : Bool). if full then (state, reply.Refused PageFull ∷ []) else accepted state c)
       (roomy state)
 
-  pub steps_to_map : StepsToMap say c next most a b before after runs few units
+  pub steps_to_map : StepsToMap known say c next most a b before after runs few units
   steps_to_map state sessions = ap (λ (x : Stepped). x.0.map) (steps_on state sessions)
       ∙ ap (λ (s : State). s.map) (nexts state)
 
   -- what the store found is the model's reply
   abbrev Replies : T → Type 0
   Replies found = (state : State) → OfContents before (λ x.
-      ShowsState before.places every (view_of a.store) state x
+      ShowsState before.places known.pages (view_of a.store) state x
       → (accepted state c).1 ≡ say found ∷ [])
 
   pub accepted_work : (result : Result T StoreFault)
       → Serves next most a.store before result b.store after → IfOk result Replies
-      → IfOk result (IsWork say c next most a b before after runs few units)
+      → IfOk result (IsWork known say c next most a b before after runs few units)
   accepted_work (Err fault) did replies = tt
   accepted_work (Ok found) did replies =
-      leads_are_work every c next (view_of a.store) (view_of b.store) (Ok (say found)) before after
+      leads_are_work known.pages c next (view_of a.store) (view_of b.store) (Ok (say found)) before after
       units runs.up (answers_advance (TurnsMapOf next) next
       (view_of a.store).memory (view_of b.store).memory (Ok found) (Ok (say found)) before after
       refl did.leads)
       (λ h state keeps. steps_on state (keeps.up runs.up).sessions
       ∙ both_are (accepted state c) (next state) (say found ∷ []) (nexts state)
       (replies state _ keeps.steady.holds (keeps.up runs.up).shows))
-      (λ pages h state keeps. few_drawn say c next most a b before after runs few units did.drawn) tt
+      (λ pages h state keeps. few_drawn known say c next most a b before after runs few units did.drawn) tt
 
 -- ---- a call
 
-module _ {T : Type 0} (say : T → Reply) (c : Command) (refusal : Option Refusal)
+module _ (known : KnownPages) {T : Type 0} (say : T → Reply) (c : Command) (refusal : Option Refusal)
     (next : State → State) (most : ℕ) (a b : ScriptStore) (before after : Told)
     (result : Result T StoreFault) (runs : IsRunning before.places a)
     (refuses : refusal ≡ sessions_refuse (limits_of a.store.units) a.store.transactions.sessions c)
   where
     -- one that did nothing
-    idle_does : (fault : StoreFault) → DoesCommand c a before (ended fault) a before
+    idle_does : (fault : StoreFault) → DoesCommand known c a before (ended fault) a before
         → result ≡ Err fault → b.store ≡ a.store → after ≡ before
-        → DoesCommand c a before (answer_of say result) b after
+        → DoesCommand known c a before (answer_of say result) b after
     idle_does fault base is same still =
-        subst (λ (r : Result T StoreFault). DoesCommand c a before (answer_of say r) b after) (sym is)
-        (subst (λ (t : Told). DoesCommand c a before (ended fault) b t) (sym still)
-        (subst (λ (s : Store). DoesCommand c a before (ended fault) (record { store = s }) before) (sym same)
+        subst (λ (r : Result T StoreFault). DoesCommand known c a before (answer_of say r) b after) (sym is)
+        (subst (λ (t : Told). DoesCommand known c a before (ended fault) b t) (sym still)
+        (subst (λ (s : Store). DoesCommand known c a before (ended fault) (record { store = s }) before) (sym same)
         base))
 
     module _ (entry : Option StoreFault)
@@ -397,32 +398,32 @@ module _ {T : Type 0} (say : T → Reply) (c : Command) (refusal : Option Refusa
         -- where it is let in, it is the command's work, and else it failed
         (works : early_fault entry refusal ≡ None
         → sessions_refuse (limits_of a.store.units) a.store.transactions.sessions c ≡ None
-        → b.store.units ≡ a.store.units → DoesCommand c a before (answer_of say result) b after) where
+        → b.store.units ≡ a.store.units → DoesCommand known c a before (answer_of say result) b after) where
       early_is : (e : Option StoreFault) (r : Option Refusal) → entry ≡ e → refusal ≡ r
           → early_fault entry refusal ≡ early_fault e r
       early_is e r entry_is is = ap (λ (o : Option StoreFault). early_fault o refusal) entry_is
           ∙ ap (early_fault e) is
 
       by_refusal : (r : Option Refusal) → refusal ≡ r → entry ≡ None
-          → DoesCommand c a before (answer_of say result) b after
+          → DoesCommand known c a before (answer_of say result) b after
       by_refusal (Some r) is none =
           let (answer, same, still) = calls.refuses (store.Refused r) (early_is None (Some r) none is)
           in
-          idle_does (store.Refused r) (refused_does c a before runs r (sym refuses ∙ is))
+          idle_does (store.Refused r) (refused_does known c a before runs r (sym refuses ∙ is))
           answer same still
       by_refusal None is none = works (early_is None None none is) (sym refuses ∙ is)
           calls.units
 
-      pub by_entry : IsEntry a entry → DoesCommand c a before (answer_of say result) b after
+      pub by_entry : IsEntry a entry → DoesCommand known c a before (answer_of say result) b after
       by_entry (inl none) = by_refusal refusal refl none
       by_entry (inr (is, late)) =
           let (answer, same, still) = calls.refuses store.Spent
           (ap (λ (o : Option StoreFault). early_fault o refusal) is) in
-          idle_does store.Spent (spent_does c a before runs late) answer same still
+          idle_does store.Spent (spent_does known c a before runs late) answer same still
 
 -- ---- a call of a command that asks no page for room
 
-module _ {T : Type 0} (say : T → Reply) (c : Command) (refusal : Option Refusal)
+module _ (known : KnownPages) {T : Type 0} (say : T → Reply) (c : Command) (refusal : Option Refusal)
     (next : State → State) (most : ℕ) (a b : ScriptStore) (before after : Told)
     (result : Result T StoreFault) (runs : IsRunning before.places a)
     (few : most ≤ WORK_DRAWS)
@@ -430,31 +431,31 @@ module _ {T : Type 0} (say : T → Reply) (c : Command) (refusal : Option Refusa
     (roomy : (state : State) → finds_full state c ≡ false)
     (nexts : (state : State) → (accepted state c).0 ≡ next state)
     (replies : IfOk result (λ found. (state : State)
-    → OfContents before (λ x. ShowsState before.places every (view_of a.store) state x
+    → OfContents before (λ x. ShowsState before.places known.pages (view_of a.store) state x
     → (accepted state c).1 ≡ say found ∷ []))) where
   pub by_call : (entry : Option StoreFault) → IsEntry a entry
       → Calls (early_fault entry refusal) next most a.store before result b.store after
-      → DoesCommand c a before (answer_of say result) b after
+      → DoesCommand known c a before (answer_of say result) b after
   by_call entry is calls =
-      by_entry say c refusal next most a b before after result runs refuses entry calls
+      by_entry known say c refusal next most a b before after result runs refuses entry calls
       (λ none free units.
-      served_does say c next most a b before after runs few units
-      (steps_to_map say c next most a b before after runs few units free roomy nexts) result
+      served_does known say c next most a b before after runs few units
+      (steps_to_map known say c next most a b before after runs few units free roomy nexts) result
       (calls.serves none)
-      (accepted_work say c next most a b before after runs few units free roomy nexts result
+      (accepted_work known say c next most a b before after runs few units free roomy nexts result
       (calls.serves none) replies)
       calls.sound calls.tidy
-      (calls_learn a b before after say result runs (early_fault entry refusal) next most calls)
-      (calls_recall a b before after result (early_fault entry refusal) next most calls)
+      (calls_learn known a b before after say result runs (early_fault entry refusal) next most calls)
+      (calls_recall known a b before after result (early_fault entry refusal) next most calls)
       calls.counts) is
 
   -- that the store refuses once its numbers are used up
   pub calls_do : Calls (early_fault (entry_fault a.store) refusal) next most a.store before result
-      b.store after → DoesCommand c a before (answer_of say result) b after
+      b.store after → DoesCommand known c a before (answer_of say result) b after
   calls_do calls = by_call (entry_fault a.store) (up_entry a runs.up) calls
 
   -- and one that draws none
   pub ends_do : Calls (early_fault (down_fault a.store) refusal) next most a.store before result
-      b.store after → DoesCommand c a before (answer_of say result) b after
+      b.store after → DoesCommand known c a before (answer_of say result) b after
   ends_do calls = by_call (down_fault a.store)
       (inl (ap (λ (down : Bool). if down then Some store.Down else None) runs.up)) calls

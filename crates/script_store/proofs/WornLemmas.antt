@@ -24,6 +24,7 @@ use Rattle.store_trait.specs.Keeping.{Learns}
 use Rattle.ipl_store.specs.declared.store.Store.{Store}
 use Rattle.ipl_store.specs.Calls.{IsSound, Serves, Calls, ends_worn_out}
 use Rattle.script_store.specs.declared.store.ScriptStore.{ScriptStore}
+use Rattle.store_laws.specs.Keeps.{KnownPages}
 use Rattle.script_store.specs.Keeps.{IsRunning, script_keeping, answer_of, looked_up}
 use Rattle.script_store.specs.Worn.{IsKnownWorn, TooManyAreWorn, WearsOut, KnowsSince, KnowsWorn, ChipWears, FaultWears, history_longer, known_longer}
 
@@ -237,12 +238,12 @@ look_ups_learn entry (Err (store.Chip e)) b after learns = learns
 
 -- ---- work
 
-module _ (a b : ScriptStore) (before after : Told) where
+module _ (known : KnownPages) (a b : ScriptStore) (before after : Told) where
   -- a call of the store, as the work of a command
   pub calls_learn : {T : Type 0} (say : T → Reply) (result : Result T StoreFault)
       → IsRunning before.places a → (early : Option StoreFault) (next : State → State) (most : ℕ)
       → Calls early next most a.store before result b.store after
-      → Learns (script_keeping before.places) a before (answer_of say result) b after
+      → Learns (script_keeping before.places known) a before (answer_of say result) b after
   calls_learn say result runs early next most calls entry knows =
       answers_learn say entry result b after
       (call_learns a b before after entry runs knows early next most result calls)
@@ -251,7 +252,7 @@ module _ (a b : ScriptStore) (before after : Told) where
   pub look_up_learns : (result : Result (Option (List ℕ)) StoreFault)
       → IsRunning before.places a → (early : Option StoreFault) (next : State → State) (most : ℕ)
       → Calls early next most a.store before result b.store after
-      → Learns (script_keeping before.places) a before (looked_up result) b after
+      → Learns (script_keeping before.places known) a before (looked_up result) b after
   look_up_learns result runs early next most calls entry knows =
       look_ups_learn entry result b after
       (call_learns a b before after entry runs knows early next most result calls)

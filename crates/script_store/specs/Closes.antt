@@ -7,7 +7,7 @@ use Rattle.ipl_base.specs.declared.limits.TheConstants.{SECTORS, FIRST_LOG_SECTO
 use Rattle.ipl_base.specs.declared.fault.StoreFault.{StoreFault}
 use Rattle.ipl_base.specs.declared.fault.StoreFault.TheVariants as store
 use Rattle.ipl_model.specs.State.{State, Limits}
-use Rattle.ipl_meaning.specs.Legible.{whole}
+use Rattle.ipl_meaning.specs.Legible.{of}
 use Rattle.ipl_meaning.specs.Chart.{chart_of}
 use Rattle.ipl_meaning.specs.Layout.{Layout, Laid}
 use Rattle.ipl_meaning.specs.Marks.{IsMarked}
@@ -21,6 +21,7 @@ use Rattle.store_trait.specs.Keeping.{LeavesTidy, WorkLeaves, StillRecalls}
 use Rattle.store_trait.specs.Behind.{WorksBehind}
 use Rattle.ipl_store.specs.Calls.{counter_of}
 use Rattle.script_store.specs.declared.store.ScriptStore.{ScriptStore}
+use Rattle.store_laws.specs.Keeps.{KnownPages}
 use Rattle.script_store.specs.Keeps.{IsRunning, KeepsScript, script_keeping}
 use Rattle.script_store.specs.Recalls.{RecallsErased}
 use Rattle.script_store.specs.Worn.{KnowsWorn}
@@ -29,24 +30,24 @@ use Rattle.script_store.specs.Worn.{KnowsWorn}
 
 -- Wherever the power was cut on the way, the chip stood for the records of the state; and the store keeps a state
 -- with the same records then.
-pub record KeepsRecords (limits : Limits) (state : State) (before : ScriptStore) (h : History) (then : ScriptStore)
+pub record KeepsRecords (known : KnownPages) (limits : Limits) (state : State) (before : ScriptStore) (h : History) (then : ScriptStore)
     (told : Told) : Type 0 where
-  pub leaves : WorkLeaves (script_keeping told.places)
-      (λ x. StandsIn told.places limits.units (chart_of x) (whole state.map)) before h then told told true
+  pub leaves : WorkLeaves (script_keeping told.places known)
+      (λ x. StandsIn told.places limits.units (chart_of x) (of known.pages state.map)) before h then told told true
   pub now : State
   pub records : now.map ≡ state.map
-  pub keeps : KeepsScript told.places limits then told (adds_all leaves.added h) now
+  pub keeps : KeepsScript told.places known limits then told (adds_all leaves.added h) now
 
 -- Sessions were aborted, over a chip that tells this and wasn't asked: of each state that the store kept it keeps the
 -- records.
-pub record Aborts (old : ScriptStore) (told : Told) (new : ScriptStore) : Type 0 where
+pub record Aborts (known : KnownPages) (old : ScriptStore) (told : Told) (new : ScriptStore) : Type 0 where
   pub running : IsRunning told.places new
-  pub keeps : (limits : Limits) (state : State) (h : History) → KeepsScript told.places limits old told h state
-      → KeepsRecords limits state old h new told
-  pub tidy : LeavesTidy (script_keeping told.places) old new told told true
+  pub keeps : (limits : Limits) (state : State) (h : History) → KeepsScript told.places known limits old told h state
+      → KeepsRecords known limits state old h new told
+  pub tidy : LeavesTidy (script_keeping told.places known) old new told told true
   pub drawn : counter_of new.store ≤ counter_of old.store
   pub knows : (entry : Told) → KnowsWorn entry old told → KnowsWorn entry new told
-  pub recalls : StillRecalls (script_keeping told.places) old told new told
+  pub recalls : StillRecalls (script_keeping told.places known) old told new told
 
 -- ---- what is marked
 
@@ -63,10 +64,10 @@ pub record MarksSince (places : ℕ) (h : History) (t : Told) : Type 0 where
   pub marked : MarksErased places (adds_all added h) added
 
 -- Of a store that knew what was erased since an entry, and kept a state.
-abbrev pub MarksRecalled : ScriptStore → Told → Told → Type 0
-MarksRecalled old before after = (entry : Told) (h : History) → entry.history ≡ Some h → RecallsErased entry old before
+abbrev pub MarksRecalled : KnownPages → ScriptStore → Told → Told → Type 0
+MarksRecalled known old before after = (entry : Told) (h : History) → entry.history ≡ Some h → RecallsErased entry old before
     → (limits : Limits) (state : State) (k : History) → before.history ≡ Some k
-    → KeepsScript before.places limits old before k state → MarksSince before.places h after
+    → KeepsScript before.places known limits old before k state → MarksSince before.places h after
 
 -- ---- a close
 
@@ -80,8 +81,8 @@ closed (Err (store.Chip fault)) = Err (Chip fault)
 
 -- Whatever the chip tells, it works behind the script as what says nothing does; and done, the last two events are the
 -- program of a mark and a barrier, and what was erased since an entry and not programmed is marked.
-pub record ClosesAtEnd (old : ScriptStore) (before : Told) (result : Result (Unit {0}) Fault) (new : ScriptStore)
+pub record ClosesAtEnd (known : KnownPages) (old : ScriptStore) (before : Told) (result : Result (Unit {0}) Fault) (new : ScriptStore)
     (after : Told) : Type 0 where
-  pub works : WorksBehind (script_keeping before.places) old before result new after
+  pub works : WorksBehind (script_keeping before.places known) old before result new after
   pub last : OnOk result (Spends EndsWithMark before after)
-  pub marked : OnOk result (MarksRecalled old before after)
+  pub marked : OnOk result (MarksRecalled known old before after)

@@ -11,7 +11,7 @@ use Rattle.ipl_model.specs.declared.command.Command.{Command}
 use Rattle.ipl_model.specs.declared.reply.Reply.{Reply}
 use Rattle.ipl_model.specs.declared.reply.Reply.TheVariants as reply
 use Rattle.ipl_format.specs.Sector.{sector_in}
-use Rattle.ipl_meaning.specs.Legible.{whole, every}
+use Rattle.ipl_meaning.specs.Legible.{every, of}
 use Rattle.ipl_meaning.specs.Chart.{chart_of}
 use Rattle.ipl_meaning.specs.Stands.{StandsIn}
 use Rattle.ipl_meaning.specs.Marks.{MarksAreUnused}
@@ -20,7 +20,7 @@ use Rattle.store_trait.specs.declared.fault.Fault.{Fault}
 use Rattle.store_trait.specs.declared.fault.Fault.TheVariants.{Chip, Spent}
 use Rattle.store_trait.specs.Onward.{Still, sayings}
 use Rattle.store_trait.specs.Keeping.{Keeping, WORK_DRAWS, LOOK_UP_DRAWS, Draws, Works, LooksUp, LeavesTidy, Learns, DoneRecalls, is_restart}
-use Rattle.store_laws.specs.Keeps.{KeepsStore, StoreCause, FaultTells, UsedNothing, keeps_each, keeps_still, said_unused, cause_longer}
+use Rattle.store_laws.specs.Keeps.{KnownPages, KeepsStore, StoreCause, FaultTells, UsedNothing, keeps_each, keeps_still, said_unused, cause_longer}
 use Rattle.ipl_store.specs.Calls.{view_of, counter_of, IsSound}
 use Rattle.script_store.specs.declared.store.ScriptStore.{ScriptStore}
 use Rattle.script_store.specs.Recalls.{RecallsErased, erased_still}
@@ -33,10 +33,10 @@ pub record IsRunning (places : ℕ) (s : ScriptStore) : Type 0 where
   pub sound : IsSound places s.store
   pub up : s.store.down ≡ false
 
--- it keeps the state over a chip of so many places, with at most 1,024 units
-pub record KeepsScript (places : ℕ) (limits : Limits) (s : ScriptStore) (t : Told) (h : History)
+-- it keeps the state of these pages over a chip of so many places, with at most 1,024 units
+pub record KeepsScript (places : ℕ) (known : KnownPages) (limits : Limits) (s : ScriptStore) (t : Told) (h : History)
     (state : State) : Type 0 where
-  pub kept : KeepsStore places every limits (view_of s.store) t h state
+  pub kept : KeepsStore places known.pages limits (view_of s.store) t h state
   pub few : s.store.units ≤ 1024
 
 -- the next number that it draws; a store that is down draws none
@@ -44,20 +44,21 @@ abbrev pub next_number : ScriptStore → ℕ
 next_number s = if s.store.down then 0 else counter_of s.store
 
 -- what is said and what is read of a script changes nothing
-pub script_still : (places : ℕ) (limits : Limits) (s : ScriptStore) (old new : Told) (h : History)
-    (state : State) → (still : Still old new) → KeepsScript places limits s old h state
-    → KeepsScript places limits s new (adds_all (sayings still.pieces) h) state
-script_still places limits s old new h state still keeps = record {
-  kept = keeps_still places every limits (view_of s.store) old new h state still keeps.kept;
+pub script_still : (places : ℕ) (known : KnownPages) (limits : Limits) (s : ScriptStore) (old new : Told) (h : History)
+    (state : State) → (still : Still old new) → KeepsScript places known limits s old h state
+    → KeepsScript places known limits s new (adds_all (sayings still.pieces) h) state
+script_still places known limits s old new h state still keeps = record {
+  kept = keeps_still places known.pages limits (view_of s.store) old new h state still keeps.kept;
   few = keeps.few;
 }
 
--- such a store over a chip of so many places, as a run knows it
-abbrev pub script_keeping : ℕ → Keeping ScriptStore
-script_keeping places = record {
+-- such a store over a chip of so many places, of whose pages this is known, as a run knows it
+abbrev pub script_keeping : ℕ → KnownPages → Keeping ScriptStore
+script_keeping places known = record {
   checks = says sector_in;
-  stands = λ limits x m. StandsIn places limits.units (chart_of x) (whole m);
-  holds = KeepsScript places;
+  whole = known.pages ≡ every;
+  stands = λ limits x m. StandsIn places limits.units (chart_of x) (of known.pages m);
+  holds = KeepsScript places known;
   suits = IsRunning places;
   clean = λ s p sector. IsCountedClean (view_of s.store).memory.tables p sector;
   marked = MarksAreUnused places;
@@ -70,8 +71,8 @@ script_keeping places = record {
   recalls = RecallsErased;
   tells = λ limits fault. FaultTells (spares_on places limits.units) fault;
   each = λ limits s t h state keeps.
-      keeps_each places every limits (view_of s.store) t h state keeps.kept;
-  still = script_still places;
+      keeps_each places known.pages limits (view_of s.store) t h state keeps.kept;
+  still = script_still places known;
   known_still = worn_still;
   unused_marked = λ s h unused. unused.0;
   unused_said = λ s. said_unused places (view_of s.store);
@@ -110,26 +111,26 @@ looked_up (Err fault) = not_found fault
 
 -- ---- work
 
--- what the work of a command leaves
-pub record DoesCommand (c : Command) (old : ScriptStore) (before : Told) (result : Result Reply Fault)
+-- what the work of a command leaves, where this is known of the chip's pages
+pub record DoesCommand (known : KnownPages) (c : Command) (old : ScriptStore) (before : Told) (result : Result Reply Fault)
     (new : ScriptStore) (after : Told) : Type 0 where
-  pub works : Works (script_keeping before.places) c old before result new after
-  pub tidy : LeavesTidy (script_keeping before.places) old new before after (is_ok result)
-  pub draws : Draws (script_keeping before.places) WORK_DRAWS old (IsErrOf result Spent) new
+  pub works : Works (script_keeping before.places known) c old before result new after
+  pub tidy : LeavesTidy (script_keeping before.places known) old new before after (is_ok result)
+  pub draws : Draws (script_keeping before.places known) WORK_DRAWS old (IsErrOf result Spent) new
   pub running : OnOk result (IsRunning before.places new)
-  pub learns : Learns (script_keeping before.places) old before result new after
-  pub recalls : is_restart c ≡ false → DoneRecalls (script_keeping before.places) old before result new after
+  pub learns : Learns (script_keeping before.places known) old before result new after
+  pub recalls : is_restart c ≡ false → DoneRecalls (script_keeping before.places known) old before result new after
   pub counts : Counts before after
   pub cause : IfErr result (λ fault. StoreCause before.places fault before after)
 
--- what looking a record up leaves
-pub record Finds (n : ℕ) (old : ScriptStore) (before : Told)
+-- what looking a record up leaves, likewise
+pub record Finds (known : KnownPages) (n : ℕ) (old : ScriptStore) (before : Told)
     (result : Result (Option (List ℕ)) Fault) (new : ScriptStore) (after : Told) : Type 0 where
-  pub looks_up : LooksUp (script_keeping before.places) n old before result new after
-  pub tidy : LeavesTidy (script_keeping before.places) old new before after (is_ok result)
-  pub draws : Draws (script_keeping before.places) LOOK_UP_DRAWS old (IsErrOf result Spent) new
+  pub looks_up : LooksUp (script_keeping before.places known) n old before result new after
+  pub tidy : LeavesTidy (script_keeping before.places known) old new before after (is_ok result)
+  pub draws : Draws (script_keeping before.places known) LOOK_UP_DRAWS old (IsErrOf result Spent) new
   pub running : OnOk result (IsRunning before.places new)
-  pub learns : Learns (script_keeping before.places) old before result new after
-  pub recalls : DoneRecalls (script_keeping before.places) old before result new after
+  pub learns : Learns (script_keeping before.places known) old before result new after
+  pub recalls : DoneRecalls (script_keeping before.places known) old before result new after
   pub counts : Counts before after
   pub cause : IfErr result (λ fault. StoreCause before.places fault before after)

@@ -1,6 +1,7 @@
 //! Commands that have no record as their reply.
 ghost use Rattle.std.specs.Prelude.{◌⊎◌, IfOk, OnOk};
 ghost use Rattle.ipl_model.specs.declared.command.Command.TheVariants as command;
+ghost use Rattle.store_laws.specs.Keeps.{KnownPages};
 ghost use Rattle.script_store.specs.Keeps.{IsRunning, DoesCommand};
 ghost use Rattle.script_store.specs.Done.{IsRefusal, UnitHasMoved, HasNewStatus};
 
@@ -14,7 +15,7 @@ impl ScriptStore {
     /// Opens a session.
     pub(crate) fn begin<C: Chip>(&mut self, chip: &mut C, s: u32) -> Result<Reply, Fault>
         requires runs { IsRunning (C.told chip.old).places self.old }
-        ensures { DoesCommand (command.Begin s) self.old (C.told chip.old) result self.new (C.told chip.new) }
+        ensures { (known : KnownPages) → DoesCommand known (command.Begin s) self.old (C.told chip.old) result self.new (C.told chip.new) }
     {
         reply_of(self.store.begin(chip, s))
     }
@@ -28,7 +29,7 @@ impl ScriptStore {
         bytes: &PutBytes,
     ) -> Result<Reply, Fault>
         requires runs { IsRunning (C.told chip.old).places self.old }
-        ensures { DoesCommand (command.Put s n bytes.now) self.old (C.told chip.old) result self.new
+        ensures { (known : KnownPages) → DoesCommand known (command.Put s n bytes.now) self.old (C.told chip.old) result self.new
             (C.told chip.new) }
     {
         reply_of(self.store.put(chip, s, n, bytes.bytes()))
@@ -37,7 +38,7 @@ impl ScriptStore {
     /// Deletes a name's record, for a session.
     pub(crate) fn del<C: Chip>(&mut self, chip: &mut C, s: u32, n: u32) -> Result<Reply, Fault>
         requires runs { IsRunning (C.told chip.old).places self.old }
-        ensures { DoesCommand (command.Del s n) self.old (C.told chip.old) result self.new (C.told chip.new) }
+        ensures { (known : KnownPages) → DoesCommand known (command.Del s n) self.old (C.told chip.old) result self.new (C.told chip.new) }
     {
         reply_of(self.store.del(chip, s, n))
     }
@@ -45,7 +46,7 @@ impl ScriptStore {
     /// Commits a session.
     pub(crate) fn commit<C: Chip>(&mut self, chip: &mut C, s: u32) -> Result<Reply, Fault>
         requires runs { IsRunning (C.told chip.old).places self.old }
-        ensures { DoesCommand (command.Commit s) self.old (C.told chip.old) result self.new
+        ensures { (known : KnownPages) → DoesCommand known (command.Commit s) self.old (C.told chip.old) result self.new
             (C.told chip.new) }
     {
         reply_of(self.store.commit(chip, s))
@@ -58,7 +59,7 @@ impl ScriptStore {
         sessions: &Sessions,
     ) -> Result<Reply, Fault>
         requires runs { IsRunning (C.told chip.old).places self.old }
-        ensures { DoesCommand (command.Batch sessions.now) self.old (C.told chip.old) result self.new
+        ensures { (known : KnownPages) → DoesCommand known (command.Batch sessions.now) self.old (C.told chip.old) result self.new
             (C.told chip.new) }
     {
         reply_of(self.store.commit_all(chip, sessions.numbers()))
@@ -67,7 +68,7 @@ impl ScriptStore {
     /// Aborts a session.
     pub(crate) fn abort<C: Chip>(&mut self, chip: &mut C, s: u32) -> Result<Reply, Fault>
         requires runs { IsRunning (C.told chip.old).places self.old }
-        ensures { DoesCommand (command.Abort s) self.old (C.told chip.old) result self.new (C.told chip.new) }
+        ensures { (known : KnownPages) → DoesCommand known (command.Abort s) self.old (C.told chip.old) result self.new (C.told chip.new) }
     {
         reply_of(self.store.abort(chip, s))
     }
@@ -75,7 +76,7 @@ impl ScriptStore {
     /// Merges a unit.
     pub(crate) fn merge<C: Chip>(&mut self, chip: &mut C, unit: u32) -> Result<Reply, Fault>
         requires runs { IsRunning (C.told chip.old).places self.old }
-        ensures does { DoesCommand (command.Merge unit) self.old (C.told chip.old) result self.new
+        ensures does { (known : KnownPages) → DoesCommand known (command.Merge unit) self.old (C.told chip.old) result self.new
             (C.told chip.new) }
         // Done, the place where the unit stands was erased.
         ensures done { IfOk result (λ reply. IsRefusal reply
@@ -87,7 +88,7 @@ impl ScriptStore {
     /// Opens the chip again, whatever the memory has: all sessions are dropped.
     pub(crate) fn restart<C: Chip>(&mut self, chip: &mut C) -> Result<Reply, Fault>
         requires runs { IsRunning (C.told chip.old).places self.old }
-        ensures does { DoesCommand command.Restart self.old (C.told chip.old) result self.new
+        ensures does { (known : KnownPages) → DoesCommand known command.Restart self.old (C.told chip.old) result self.new
             (C.told chip.new) }
         // Done, the place that the status has was erased.
         ensures done { OnOk result (HasNewStatus self.new (C.told chip.old) (C.told chip.new)) }

@@ -1,6 +1,7 @@
 //! A clean close behind a script.
 ghost use Rattle.record_locks.specs.Locks.{refuses_close};
 ghost use Rattle.std.specs.Prelude.{◌≡◌, None};
+ghost use Rattle.store_laws.specs.Keeps.{KnownPages};
 ghost use Rattle.script_store.specs.Keeps.{IsRunning};
 ghost use Rattle.script_store.specs.Closes.{Aborts, ClosesAtEnd};
 
@@ -15,7 +16,7 @@ impl ScriptStore {
     fn abort_all<C: Chip>(&mut self, chip: &mut C)
         requires runs { IsRunning (C.told chip.old).places self.old }
         ensures idle { C.told chip.new ≡ C.told chip.old }
-        ensures aborts { Aborts self.old (C.told chip.old) self.new }
+        ensures aborts { (known : KnownPages) → Aborts known self.old (C.told chip.old) self.new }
         ensures none { refuses_close self.new.store.transactions.sessions ≡ None }
     {
         for s in 0..SESSIONS {
@@ -28,7 +29,7 @@ impl ScriptStore {
     /// written down for the next opening. Nothing is done by the store from then on.
     pub fn close<C: Chip>(&mut self, chip: &mut C) -> Result<(), Fault>
         requires runs { IsRunning (C.told chip.old).places self.old }
-        ensures { ClosesAtEnd self.old (C.told chip.old) result self.new (C.told chip.new) }
+        ensures { (known : KnownPages) → ClosesAtEnd known self.old (C.told chip.old) result self.new (C.told chip.new) }
     {
         self.abort_all(chip);
         let done = self.store.close(chip);

@@ -3,6 +3,7 @@ ghost use Rattle.std.specs.Prelude.{◌≡◌, ◌≤◌, ℕ, false, IfOk};
 ghost use Rattle.chip_trait.specs.Told.{History, Told};
 ghost use Rattle.ipl_model.specs.State.{State, Limits};
 ghost use Rattle.store_trait.specs.Keeping.{IsSingle, Works, LooksUp, WorksAlong, DoneRecalls, is_restart, WORK_DRAWS, LOOK_UP_DRAWS};
+ghost use Rattle.store_laws.specs.Keeps.{KnownPages, all_pages};
 ghost use Rattle.script_store.specs.Keeps.{IsRunning, KeepsScript, DoesCommand, script_keeping};
 ghost use Rattle.script_store.specs.Done.{HasDone, HasFound};
 
@@ -36,8 +37,8 @@ impl ScriptStore {
     /// Names are numbers below this: those of all units of its chip.
     pub(crate) fn limit(&self) -> u32
         ensures most { result ≤ 983040 }
-        ensures limit { (places : ℕ) (limits : Limits) (t : Told) (h : History) (state : State)
-            → KeepsScript places limits self.now t h state → result ≡ limits.names }
+        ensures limit { (places : ℕ) (known : KnownPages) (limits : Limits) (t : Told) (h : History) (state : State)
+            → KeepsScript places known limits self.now t h state → result ≡ limits.names }
     {
         let units = self.store.unit_count();
         if units > MOST_UNITS {
@@ -50,7 +51,7 @@ impl ScriptStore {
     fn answer<C: Chip>(&mut self, chip: &mut C, command: &Command) -> Result<Reply, Fault>
         requires single { IsSingle command.now }
         requires runs { IsRunning (C.told chip.old).places self.old }
-        ensures does { DoesCommand command.now self.old (C.told chip.old) result self.new
+        ensures does { (known : KnownPages) → DoesCommand known command.now self.old (C.told chip.old) result self.new
             (C.told chip.new) }
         ensures done { IfOk result (λ reply. HasDone command.now self.old (C.told chip.old) reply
             self.new (C.told chip.new)) }
@@ -73,6 +74,10 @@ impl ScriptStore {
 }
 
 impl store_trait::Store for ScriptStore {
+    ghost Known = { KnownPages };
+
+    ghost all = { all_pages };
+
     ghost keeping = { script_keeping };
 
     fn names(&self) -> u32 {
@@ -82,12 +87,12 @@ impl store_trait::Store for ScriptStore {
     fn work<C: Chip>(&mut self, chip: &mut C, command: &Command) -> Result<Reply, Fault>
         requires single { IsSingle command.now }
         requires suits { IsRunning (C.told chip.old).places self.old }
-        ensures along { WorksAlong (script_keeping (C.told chip.old).places) WORK_DRAWS self.old (C.told chip.old)
+        ensures along { (known : KnownPages) → WorksAlong (script_keeping (C.told chip.old).places known) WORK_DRAWS self.old (C.told chip.old)
             result self.new (C.told chip.new) }
-        ensures works { Works (script_keeping (C.told chip.old).places) command.now self.old
+        ensures works { (known : KnownPages) → Works (script_keeping (C.told chip.old).places known) command.now self.old
             (C.told chip.old) result self.new (C.told chip.new) }
         ensures recalls { is_restart command.now ≡ false
-            → DoneRecalls (script_keeping (C.told chip.old).places) self.old (C.told chip.old)
+            → (known : KnownPages) → DoneRecalls (script_keeping (C.told chip.old).places known) self.old (C.told chip.old)
             result self.new (C.told chip.new) }
         // And what it has done by itself, also where not all pages of the chip read well.
         ensures done { IfOk result (λ reply. HasDone command.now self.old (C.told chip.old) reply
@@ -98,11 +103,11 @@ impl store_trait::Store for ScriptStore {
 
     fn look_up<C: Chip>(&mut self, chip: &mut C, n: u32) -> Result<Option<Value>, Fault>
         requires { IsRunning (C.told chip.old).places self.old }
-        ensures along { WorksAlong (script_keeping (C.told chip.old).places) LOOK_UP_DRAWS self.old (C.told chip.old)
+        ensures along { (known : KnownPages) → WorksAlong (script_keeping (C.told chip.old).places known) LOOK_UP_DRAWS self.old (C.told chip.old)
             result self.new (C.told chip.new) }
-        ensures looks_up { LooksUp (script_keeping (C.told chip.old).places) n self.old
+        ensures looks_up { (known : KnownPages) → LooksUp (script_keeping (C.told chip.old).places known) n self.old
             (C.told chip.old) result self.new (C.told chip.new) }
-        ensures recalls { DoneRecalls (script_keeping (C.told chip.old).places) self.old (C.told chip.old)
+        ensures recalls { (known : KnownPages) → DoneRecalls (script_keeping (C.told chip.old).places known) self.old (C.told chip.old)
             result self.new (C.told chip.new) }
         // What the name's own page shows, also where others don't read well.
         ensures done { IfOk result (λ found. HasFound n self.old (C.told chip.old) found) }

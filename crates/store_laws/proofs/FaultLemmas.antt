@@ -67,7 +67,7 @@ idle_faults_are_work pages c store told late limits state h keeps = record {
       (λ x image. inl (keeps_each told.places pages limits store told h state keeps x image));
   ends = λ unrisen. keeps;
   drawn = omega arith;
-  excuse = λ few. absurd (omega (arith, late, few));
+  excuse = λ few whole. absurd (omega (arith, late, few));
   tells = tt;
 }
 
@@ -76,7 +76,7 @@ idle_faults_look_up pages n store told late limits state h keeps low = record {
   leaves = nothing_leaves pages _ store h told (keeps_each told.places pages limits store told h state keeps);
   ends = λ unrisen. keeps;
   drawn = omega arith;
-  excuse = λ few. absurd (omega (arith, late, few));
+  excuse = λ few whole. absurd (omega (arith, late, few));
   tells = tt;
 }
 

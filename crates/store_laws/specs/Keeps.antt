@@ -22,12 +22,13 @@ use Rattle.record_locks.specs.Held.{SessionSlots, number_of}
 use Rattle.ipl_meaning.specs.Chart.{chart_of}
 use Rattle.ipl_meaning.specs.Layout.{Layout, Laid}
 use Rattle.ipl_meaning.specs.Marks.{AreUnused, MarksAreUnused}
-use Rattle.ipl_meaning.specs.Legible.{Legibility, Legible, of, IsToldApart}
+use Rattle.ipl_meaning.specs.Legible.{Legibility, Legible, of, every, IsToldApart}
 use Rattle.ipl_meaning.specs.Stands.{Says, StandsIn}
 use Rattle.ipl_meaning.specs.Rests.{EachStandsIn, StoryRests}
 use Rattle.ipl_meaning.specs.Tables.{Tables, IsCountedClean}
 use Rattle.ipl_meaning.specs.Mirrors.{Mirrors, NoneIsLost}
 use Rattle.ipl_meaning.specs.Agrees.{IsTidy}
+use Rattle.ipl_meaning.proofs.RotLemmas.{every_is_told_apart}
 use Rattle.ipl_meaning.proofs.StoryLemmas.{held_stands, rests_in_units, says_keep}
 use Rattle.unit_io.specs.Leads.{IsSteady}
 use Rattle.unit_io.specs.Reads.{OfContents}
@@ -40,6 +41,18 @@ use Rattle.store_trait.specs.declared.fault.Fault.TheVariants.{Chip, Image, Spen
 use Rattle.store_trait.specs.Onward.{Still, Further, sayings}
 use Rattle.store_trait.specs.Keeping.{Keeping, LAST_NUMBER, WORK_DRAWS, LOOK_UP_DRAWS, Excuses, Works, LooksUp}
 use Rattle.store_laws.specs.Advances.{Memory, memory_of, MemoryFits, MemoryFitsStory, KeepsState, LeadsTo}
+
+-- ---- what is known of pages
+
+-- What is known of a chip's pages: of whose names it is said which records they have, and which don't read well. Each page
+-- is of the one kind or of the other.
+pub record KnownPages : Type 0 where
+  pub pages : Legibility
+  pub apart : IsToldApart pages
+
+-- every page reads
+abbrev pub all_pages : KnownPages
+all_pages = record { pages = every; apart = every_is_told_apart }
 
 -- ---- what a store keeps
 
@@ -254,6 +267,7 @@ said_unused places store h piece unused = (
 abbrev pub store_keeping : ℕ → Legibility → Keeping View
 store_keeping places pages = record {
   checks = says sector_in;
+  whole = pages ≡ every;
   stands = λ limits x m. StandsIn places limits.units (chart_of x) (of pages m);
   holds = KeepsStore places pages;
   suits = λ store. store.down ≡ false;

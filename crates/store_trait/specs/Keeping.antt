@@ -28,6 +28,8 @@ AllOf P (e ∷ story) = P e × AllOf P story
 pub record Keeping (S : Type 0) : Type 1 where
   -- the bytes of a sector check, so that a power cut leaves them only where they were written
   pub checks : List ℕ → Bool
+  -- it is known of every record of the chip, so that nothing but a call can fail
+  pub whole : Type 0
   -- under these limits the contents of a chip stand for these records
   pub stands : Limits → Contents → Map → Type 0
   -- under these limits the store, over a chip that tells this and holds what this history leaves, keeps the state
@@ -214,10 +216,10 @@ module _ {S : Type 0} (k : Keeping S) where
   abbrev pub Stays : Limits → S → Told → Told → History → State → Type 0
   Stays limits store old new h state = Unrisen old new → k.holds limits store new h state
 
-  -- as long as n numbers are left below 2^63, a call of the chip failed, and the fault says so
+  -- as long as n numbers are left below 2^63, and all records are known, a call of the chip failed, and the fault says so
   abbrev pub Excuses : ℕ → S → Told → Told → Fault → Type 0
   Excuses n before old new fault =
-      k.counter before + n < 2 ^ 63 → ChipRose old new × SaysFailedCall fault
+      k.counter before + n < 2 ^ 63 → k.whole → ChipRose old new × SaysFailedCall fault
 
   -- The work for one command: wherever the power is cut, the chip stands for the records before the command or after it.
   -- Done, the store keeps the model's next state, and the reply is the model's. After a fault it keeps the state, unless a

@@ -1,6 +1,7 @@
 use Rattle.std.proofs.Common.{◌≡◌, ℕ, [], subst, arith}
 use Rattle.std.proofs.lemmas.Bool.Decides.{nat_tests}
 use Rattle.store_trait.proofs.OnwardLemmas.{unrisen_later}
+use Rattle.ipl_meaning.specs.Legible.{whole}
 use Rattle.ipl_cli.specs.Ending.{AtStatus}
 use Rattle.ipl_cli.specs.Top.{RunsOpened, records_after}
 use Rattle.ipl_cli.specs.Chains.{RestsOn, no_records}
@@ -16,9 +17,9 @@ returns g c = λ spares script asked on unrisen is.
     let second : c.top-2.result ≡ 0 = grind (arith, nat_tests, is) in
     let lays = c.top.ensures.formats spares asked first in
     let begun = format_rests old mid spares script on lays c.top.ensures.counts in
-    let done = run_rests mid new no_records script begun
+    let done = run_rests mid new (whole no_records) script begun
     (subst (λ (n : ℕ). AtStatus (RunsOpened mid new) n) second
     (c.top-2.ensures.opened c.requires))
     c.top-2.ensures.counts (unrisen_later old mid new c.top.ensures.counts.writes unrisen) in
-    subst (λ (q : ℕ). RestsOn (records_after q no_records script) [] new)
+    subst (λ (q : ℕ). RestsOn (whole (records_after q no_records script)) [] new)
     (format_keeps old mid spares script on lays c.top.ensures.counts) done

@@ -1,6 +1,7 @@
 use Rattle.std.proofs.Common.{◌≡◌, ℕ, [], subst, arith}
 use Rattle.std.proofs.lemmas.Bool.Decides.{nat_tests}
 use Rattle.store_trait.proofs.OnwardLemmas.{unrisen_later}
+use Rattle.ipl_meaning.specs.Legible.{of}
 use Rattle.ipl_cli.specs.Ending.{AtStatus}
 use Rattle.ipl_cli.specs.Top.{RunsOpened, records_after}
 use Rattle.ipl_cli.specs.Chains.{units_kept}
@@ -17,6 +18,6 @@ returns g c = λ m script on unrisen is.
     let begun = run_rests old mid m script on
     (subst (λ (n : ℕ). AtStatus (RunsOpened old mid) n) first (c.top.ensures.opened c.requires))
     c.top.ensures.counts (unrisen_first old mid new c.top-2.ensures.counts unrisen) in
-    run_rests mid new (records_after (units_kept old on.history) m script) [] begun
+    run_rests mid new (of m.pages (records_after (units_kept old on.history) m.map script)) [] begun
     (subst (λ (n : ℕ). AtStatus (RunsOpened mid new) n) second (c.top-2.ensures.opened c.requires))
     c.top-2.ensures.counts (unrisen_later old mid new c.top.ensures.counts.writes unrisen)

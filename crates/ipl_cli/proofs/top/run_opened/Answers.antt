@@ -54,7 +54,7 @@ returns-in_err-run_over-clause-further g c =
     let mid = g.D.Chip.told c.start_opened.new.desk in
     further_then old mid (g.D.Chip.told c.run_over.new.desk)
     (further_onward old mid (onward_counts old mid c.start_opened.ensures.counts))
-    c.in_err-run_over.ensures.runs.further
+    c.in_err-run_over.ensures.runs.run.further
 
 pub returns-clause-further : goal.returns-clause-further
 returns-clause-further g c =
@@ -62,21 +62,21 @@ returns-clause-further g c =
     let mid = g.D.Chip.told c.start_opened.new.desk in
     further_then old mid (g.D.Chip.told c.run_over.new.desk)
     (further_onward old mid (onward_counts old mid c.start_opened.ensures.counts))
-    c.in_ok-run_over.ensures.runs.further
+    c.in_ok-run_over.ensures.runs.run.further
 
 pub returns-in_err-run_over-clause-lawful : goal.returns-in_err-run_over-clause-lawful
 returns-in_err-run_over-clause-lawful g c =
     opened_adds (g.D.Chip.told c.args.desk.now) (g.D.Chip.told c.start_opened.new.desk)
     (g.D.Chip.told c.run_over.new.desk) c.in_ok-store.store c.run_over.new.store
     (is_ok c.in_err-run_over.ensures.runs.result) c.in_ok-store.ensures.starts
-    c.in_err-run_over.ensures.runs.tidy
+    c.in_err-run_over.ensures.runs.run.tidy
 
 pub returns-clause-lawful : goal.returns-clause-lawful
 returns-clause-lawful g c =
     opened_adds (g.D.Chip.told c.args.desk.now) (g.D.Chip.told c.start_opened.new.desk)
     (g.D.Chip.told c.run_over.new.desk) c.in_ok-store.store c.run_over.new.store
     (is_ok c.in_ok-run_over.ensures.runs.result) c.in_ok-store.ensures.starts
-    c.in_ok-run_over.ensures.runs.tidy
+    c.in_ok-run_over.ensures.runs.run.tidy
 
 pub returns-clause-framed : goal.returns-clause-framed
 returns-clause-framed g c = record {
@@ -86,7 +86,7 @@ returns-clause-framed g c = record {
   starts = c.in_ok-store.ensures.starts;
   then = c.run_over.new.store;
   last = g.D.Chip.told c.run_over.new.desk;
-  does = c.in_ok-run_over.ensures.runs;
+  does = record { over = c.in_ok-run_over.ensures.runs; last = c.in_ok-run_over.ensures.last };
   noted = refl;
 }
 

@@ -4,9 +4,10 @@ use Rattle.script_run.proofs.CompleteLemmas.{completes_more}
 use Rattle.script_run.proofs.answer.answer.Goals as goal
 
 pub returns-in_default : goal.returns-in_default
-returns-in_default g c =
-    let one = c.answer_one.ensures in record {
+returns-in_default g c = λ known.
+    let one = c.answer_one.ensures known in record {
       answers = one.answers;
       along = along_more one.along (omega arith);
       completes = λ limits keeps. completes_more (one.completes limits keeps) (omega arith);
+      last = one.last;
     }

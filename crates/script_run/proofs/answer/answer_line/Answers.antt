@@ -7,12 +7,13 @@ use Rattle.script_run.specs.Run.{RunLeaves}
 use Rattle.script_run.proofs.AlongLemmas.{along_none}
 use Rattle.script_run.proofs.RunLemmas.{run_none}
 use Rattle.script_run.proofs.CompleteLemmas.{completes_none}
+use Rattle.script_run.proofs.ReplyLemmas.{replied_none}
 use Rattle.script_run.proofs.answer.answer_line.Goals as goal
 
 pub returns-in-Skip : goal.returns-in-Skip
-returns-in-Skip g c = record {
+returns-in-Skip g c = λ known. record {
   answers = λ limits state h holds.
-      let k = g.S.Store.keeping g.places in
+      let k = g.S.Store.keeping g.places known in
       let store = c.args.store.now in
       let t = g.D.Chip.told c.args.desk.now in
       let leaves = run_none k limits state store h (k.holds limits store t) t (Ok tt) holds holds holds in
@@ -20,4 +21,5 @@ returns-in-Skip g c = record {
       (leaves, leaves.ends);
   along = along_none;
   completes = λ limits keeps. completes_none keeps;
+  last = replied_none (g.D.Chip.told c.args.desk.now);
 }

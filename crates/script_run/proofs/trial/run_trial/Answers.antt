@@ -16,7 +16,7 @@ pub returns-in_err-do_all-clause-run : goal.returns-in_err-do_all-clause-run
 returns-in_err-do_all-clause-run g c = λ limits state h holds.
     let stop = err_from_is_err_and c.from_residual.result c.from_residual.ensures.1 in
     let failed = c.in_err-do_all.ensures in
-    let k = g.S.Store.keeping g.places in
+    let k = g.S.Store.keeping g.places g.S.Store.all in
     let old = g.D.Chip.told c.args.desk.now in
     let new = g.D.Chip.told c.do_all.new.desk in
     rw stop.1 (rw stop.2 (trial_cut k limits state (trial_commands c.args.units c.args.seed c.args.count)
@@ -37,7 +37,7 @@ returns-in_err-take_all-clause-run g c = λ limits state h holds.
     let stop = err_from_is_err_and residual.result residual.ensures.1 in
     let failed = c.in_err-take_all.ensures in
     let worked = c.in_ok-do_all.ensures in
-    let k = g.S.Store.keeping g.places in
+    let k = g.S.Store.keeping g.places g.S.Store.all in
     let commands = trial_commands c.args.units c.args.seed c.args.count in
     let old = g.D.Chip.told c.args.desk.now in
     let between = g.D.Chip.told c.do_all.new.desk in
@@ -60,7 +60,7 @@ returns-in_err-take_all-clause-completes g c = λ limits keeps.
 pub returns-clause-run : goal.returns-clause-run
 returns-clause-run g c = λ limits state h holds.
     let worked = c.in_ok-do_all.ensures in
-    let k = g.S.Store.keeping g.places in
+    let k = g.S.Store.keeping g.places g.S.Store.all in
     let commands = trial_commands c.args.units c.args.seed c.args.count in
     let old = g.D.Chip.told c.args.desk.now in
     let between = g.D.Chip.told c.do_all.new.desk in
@@ -77,7 +77,7 @@ returns-clause-run g c = λ limits state h holds.
 
 pub returns-clause-completes : goal.returns-clause-completes
 returns-clause-completes g c = λ limits keeps.
-    completes_saying (g.S.Store.keeping g.places) limits _ _ _ _ _ _ _ _ _
+    completes_saying (g.S.Store.keeping g.places g.S.Store.all) limits _ _ _ _ _ _ _ _ _
     (completes_then (c.in_ok-do_all.ensures.completes limits keeps) (further_onward _ _ c.in_ok-do_all.ensures.along.beside)
     (λ now. c.in_ok-take_all.ensures.completes limits now)) c.say_lines.ensures.says c.say_lines.ensures.stop (omega arith)
 
@@ -89,7 +89,7 @@ returns-in_err-take_all-clause-along g c =
 
 pub returns-clause-along : goal.returns-clause-along
 returns-clause-along g c =
-    along_lines (g.S.Store.keeping g.places) _ _ c.args.store.now c.take_all.new.store _ (g.D.Chip.told c.args.desk.now)
+    along_lines (g.S.Store.keeping g.places g.S.Store.all) _ _ c.args.store.now c.take_all.new.store _ (g.D.Chip.told c.args.desk.now)
     (g.D.Chip.told c.take_all.new.desk) (g.D.Chip.told c.say_lines.new.desk) c.say_lines.result
     (along_then c.in_ok-do_all.ensures.along c.in_ok-take_all.ensures.along) c.say_lines.ensures.says
     c.say_lines.ensures.onward c.say_lines.ensures.stop c.say_lines.ensures.cause (omega arith)

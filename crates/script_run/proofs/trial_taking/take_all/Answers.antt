@@ -4,7 +4,7 @@ use Rattle.script_run.proofs.trial_taking.take_all.Goals as goal
 
 pub returns-clause-completes : goal.returns-clause-completes
 returns-clause-completes g c = λ limits keeps.
-    let named = c.names-names.ensures.limit g.places limits (g.D.Chip.told c.args.desk.now) keeps.history
+    let named = c.names-names.ensures.limit g.places g.S.Store.all limits (g.D.Chip.told c.args.desk.now) keeps.history
     keeps.state keeps.holds in
     completes_more (c.take_below.ensures.completes limits (omega (arith, named)) keeps)
     (omega (arith, c.names-names.ensures.most))

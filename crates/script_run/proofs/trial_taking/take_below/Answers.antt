@@ -14,7 +14,7 @@ use Rattle.script_run.proofs.trial_taking.take_below.Goals as goal
 pub loop-n-init : goal.loop-n-init
 loop-n-init g c = record {
   takes = λ limits named state h holds.
-      taken_none (g.S.Store.keeping g.places) limits state c.args.records.now c.args.store.now h _ holds;
+      taken_none (g.S.Store.keeping g.places g.S.Store.all) limits state c.args.records.now c.args.store.now h _ holds;
   along = along_none;
   completes = λ limits named keeps. completes_none keeps;
   few = omega arith;
@@ -25,14 +25,14 @@ returns-in_err-take_one-clause-takes g c = λ limits named state h holds.
     let stop = err_from_is_err_and c.from_residual.result c.from_residual.ensures.1 in
     let was = c.loop-n.invariant in
     let so_far = was.takes limits named state h holds in
-    rw stop.1 (lost_then (g.S.Store.keeping g.places) limits state (record_lines state.map c.loop-n.n) c.args.records.now
+    rw stop.1 (lost_then (g.S.Store.keeping g.places g.S.Store.all) limits state (record_lines state.map c.loop-n.n) c.args.records.now
     c.loop-n.records c.args.store.now c.loop-n.store c.take_one.new.store h _ _ _ so_far
     was.along.beside.writes
     (c.in_err-take_one.ensures.takes limits (omega arith) state (adds_all so_far.leaves.added h) so_far.holds))
 
 pub loop-n-preserved : goal.loop-n-preserved
 loop-n-preserved g c =
-    let k = g.S.Store.keeping g.places in
+    let k = g.S.Store.keeping g.places g.S.Store.all in
     let new = c.take_one.new in
     record {
       takes = λ limits named state h holds.
@@ -57,7 +57,7 @@ pub returns-clause-takes : goal.returns-clause-takes
 returns-clause-takes g c = λ limits named state h holds.
     let all : c.loop-n.n ≡ c.args.names = omega arith in
     subst
-    (λ (n : ℕ). AreLinesTaken (g.S.Store.keeping g.places) limits state (record_lines state.map n) c.args.records.now c.args.store.now h
+    (λ (n : ℕ). AreLinesTaken (g.S.Store.keeping g.places g.S.Store.all) limits state (record_lines state.map n) c.args.records.now c.args.store.now h
     c.loop-n.records c.loop-n.store (g.D.Chip.told c.args.desk.now) (g.D.Chip.told c.loop-n.desk)) all
     (c.loop-n.invariant.takes limits named state h holds)
 

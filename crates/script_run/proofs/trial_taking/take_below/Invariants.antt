@@ -13,7 +13,7 @@ use Rattle.script_run.proofs.trial_taking.take_below.Given as goal
 abbrev pub invariant-loop-n : goal.invariant-loop-n
 invariant-loop-n g l =
     let told = g.D.Chip.told in
-    let k = g.S.Store.keeping g.places in
+    let k = g.S.Store.keeping g.places g.S.Store.all in
     record {
       takes : (limits : Limits) → l.names ≤ limits.names → (state : State) (h : History)
           → k.holds limits l.fn.store (told l.fn.desk) h state

@@ -14,7 +14,7 @@ use Rattle.script_run.proofs.trial_work.do_all.Goals as goal
 
 pub loop-i-init : goal.loop-i-init
 loop-i-init g c =
-    let k = g.S.Store.keeping g.places in
+    let k = g.S.Store.keeping g.places g.S.Store.all in
     let at = g.D.Chip.told c.args.desk.now in
     record {
       goes = goes_none c.args.commands.now;
@@ -32,7 +32,7 @@ loop-i-init g c =
 pub returns-in_err-do_one-clause-does : goal.returns-in_err-do_one-clause-does
 returns-in_err-do_one-clause-does g c = λ limits state h holds.
     let stop = err_from_is_err_and c.from_residual.result c.from_residual.ensures.1 in
-    let k = g.S.Store.keeping g.places in
+    let k = g.S.Store.keeping g.places g.S.Store.all in
     let first = c.args.commands.now in
     let i = c.loop-i.i in
     let command = c.next-command.result in
@@ -62,7 +62,7 @@ returns-in_err-do_one-clause-completes g c = λ limits keeps.
 
 pub loop-i-preserved : goal.loop-i-preserved
 loop-i-preserved g c =
-    let k = g.S.Store.keeping g.places in
+    let k = g.S.Store.keeping g.places g.S.Store.all in
     let first = c.args.commands.now in
     let command = c.next-command.result in
     let later = c.next-command.new.self in
@@ -92,7 +92,7 @@ pub returns-clause-does : goal.returns-clause-does
 returns-clause-does g c = λ limits state h holds.
     let all : c.loop-i.i ≡ c.args.count = omega arith in
     subst
-    (λ (n : ℕ). IsDone (g.S.Store.keeping g.places) limits state (commands_from c.args.commands.now n) c.args.tally.now
+    (λ (n : ℕ). IsDone (g.S.Store.keeping g.places g.S.Store.all) limits state (commands_from c.args.commands.now n) c.args.tally.now
     c.args.store.now h c.loop-i.tally c.loop-i.store (g.D.Chip.told c.args.desk.now) (g.D.Chip.told c.loop-i.desk)) all
     (c.loop-i.invariant.does limits state h holds)
 

@@ -14,7 +14,7 @@ use Rattle.script_run.proofs.trial_work.do_all.Given as goal
 abbrev pub invariant-loop-i : goal.invariant-loop-i
 invariant-loop-i g l =
     let told = g.D.Chip.told in
-    let k = g.S.Store.keeping g.places in
+    let k = g.S.Store.keeping g.places g.S.Store.all in
     record {
       goes : GoesOn l.fn.commands l.i l.commands;
       does : (limits : Limits) (state : State) (h : History) → k.holds limits l.fn.store (told l.fn.desk) h state

@@ -17,5 +17,5 @@ returns-clause-serves g c =
     hands_on_serves (λ state. after_abort state s) (λ k. after_key_abort k s) store c.abort.new.self
     (g.C.Chip.told c.args.chip.now) (g.C.Chip.told c.abort.new._chip) (early_fault (down_fault store) refusal)
     0 c.handed.result (λ none. (let_in_down store refusal none).0)
-    (λ h state k up keeps has. aborts_keep_keys store.units state k s has)
+    (λ known h state k up keeps has. aborts_keep_keys store.units state k s has)
     (c.abort.result, c.handed.ensures, c.abort.ensures.calls)

@@ -17,5 +17,5 @@ returns-clause-serves g c =
     hands_on_serves (λ state. after_begin state s) (λ k. after_key_begin k s) store c.begin.new.self
     (g.C.Chip.told c.args.chip.now) (g.C.Chip.told c.begin.new._chip) (early_fault (entry_fault store) refusal)
     1 c.handed.result (λ none. (let_in store refusal none).0)
-    (λ h state k up keeps has. begins_keep_keys store.units state k s has)
+    (λ known h state k up keeps has. begins_keep_keys store.units state k s has)
     (c.begin.result, c.handed.ensures, c.begin.ensures.calls)

@@ -19,6 +19,6 @@ returns-clause-serves g c =
     hands_on_serves (λ state. after_commit state s) (λ k. after_key_commit k s) store c.commit.new.self
     (g.C.Chip.told c.args.chip.now) (g.C.Chip.told c.commit.new.chip) (early_fault (entry_fault store) refusal)
     (2 ^ 15) c.handed.result (λ none. (let_in store refusal none).0)
-    (λ h state k up keeps has. commits_keep_keys store.units state k s
+    (λ known h state k up keeps has. commits_keep_keys store.units state k s
     (sessions_are_sound store.transactions.sessions state (keeps.up up).sessions).0 has)
     (c.commit.result, c.handed.ensures, c.commit.ensures.calls)

@@ -31,6 +31,7 @@ returns-then-not-is_bucket g c =
           (done_hands _) (λ did. (
             refl,
             record {
+              reads = sees.reads;
               found = sees.found;
               seen = sees.seen;
               is = λ text. false≢true (c.if-not-is_bucket.ensures.1 (subst IsBucketText sees.is text));

@@ -13,15 +13,15 @@ use Rattle.script_store.proofs.WorkLemmas.{ends_do}
 use Rattle.script_store.proofs.store.ScriptStore.abort.Goals as goal
 
 pub returns : goal.returns
-returns g c =
+returns g c = λ known.
     let store = c.args.self.now.store in
     let refusal = refuses_end (limits_of store.units) (state_of store.transactions.sessions)
     c.args.s in
     let before = g.C.Chip.told c.args.chip.now in
     let after = g.C.Chip.told c.abort.new._chip in
-    subst (λ (r : Result Reply Fault). DoesCommand (command.Abort c.args.s) c.args.self.now before r
+    subst (λ (r : Result Reply Fault). DoesCommand known (command.Abort c.args.s) c.args.self.now before r
     (record { store = c.abort.new.self }) after) (sym c.reply_of.ensures)
-    (ends_do (λ v. reply.Ok) (command.Abort c.args.s) refusal (λ state. after_abort state c.args.s)
+    (ends_do known (λ v. reply.Ok) (command.Abort c.args.s) refusal (λ state. after_abort state c.args.s)
     0 c.args.self.now
     (record { store = c.abort.new.self }) before after c.abort.result c.requires.runs
     (omega arith) refl (λ state. refl) (λ state. refl)

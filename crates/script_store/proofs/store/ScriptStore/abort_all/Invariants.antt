@@ -1,5 +1,6 @@
 use Rattle.std.proofs.Common.{◌≡◌}
 use Rattle.script_store.specs.Closes.{Aborts}
+use Rattle.store_laws.specs.Keeps.{KnownPages}
 use Rattle.script_store.proofs.ClosedLemmas.{AreClosedBelow}
 use Rattle.script_store.proofs.store.ScriptStore.abort_all.Given as goal
 
@@ -7,6 +8,6 @@ use Rattle.script_store.proofs.store.ScriptStore.abort_all.Given as goal
 abbrev pub invariant-loop-s : goal.invariant-loop-s
 invariant-loop-s g l = record {
   idle : g.C.Chip.told l.chip ≡ g.C.Chip.told l.fn.chip;
-  aborts : Aborts l.fn.self (g.C.Chip.told l.fn.chip) l.self;
+  aborts : (known : KnownPages) → Aborts known l.fn.self (g.C.Chip.told l.fn.chip) l.self;
   closed : AreClosedBelow l.s l.self.store.transactions.sessions;
 }

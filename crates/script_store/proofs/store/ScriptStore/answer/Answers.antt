@@ -64,7 +64,7 @@ returns-in-Restart-clause-done g c = rw c.in-Restart.is (on_ok_is_if _ c.restart
 
 pub returns-in-Syntax-clause-does : goal.returns-in-Syntax-clause-does
 returns-in-Syntax-clause-does g c =
-    rw c.in-Syntax.is (syntax_does c.args.self.now (g.C.Chip.told c.args.chip.now) c.requires.runs)
+    rw c.in-Syntax.is (λ known. syntax_does known c.args.self.now (g.C.Chip.told c.args.chip.now) c.requires.runs)
 
 pub returns-in-Syntax-clause-done : goal.returns-in-Syntax-clause-done
 returns-in-Syntax-clause-done g c = rw c.in-Syntax.is tt

@@ -13,15 +13,15 @@ use Rattle.script_store.proofs.WorkLemmas.{calls_do}
 use Rattle.script_store.proofs.store.ScriptStore.begin.Goals as goal
 
 pub returns : goal.returns
-returns g c =
+returns g c = λ known.
     let store = c.args.self.now.store in
     let refusal = refuses_begin (limits_of store.units) (state_of store.transactions.sessions)
     c.args.s in
     let before = g.C.Chip.told c.args.chip.now in
     let after = g.C.Chip.told c.begin.new._chip in
-    subst (λ (r : Result Reply Fault). DoesCommand (command.Begin c.args.s) c.args.self.now before r
+    subst (λ (r : Result Reply Fault). DoesCommand known (command.Begin c.args.s) c.args.self.now before r
     (record { store = c.begin.new.self }) after) (sym c.reply_of.ensures)
-    (calls_do (λ v. reply.Ok) (command.Begin c.args.s) refusal
+    (calls_do known (λ v. reply.Ok) (command.Begin c.args.s) refusal
     (λ state. after_begin state c.args.s) 1 c.args.self.now
     (record { store = c.begin.new.self }) before after c.begin.result c.requires.runs
     (omega arith) refl (λ state. refl) (λ state. refl)

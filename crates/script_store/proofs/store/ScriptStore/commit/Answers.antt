@@ -13,15 +13,15 @@ use Rattle.script_store.proofs.WorkLemmas.{calls_do}
 use Rattle.script_store.proofs.store.ScriptStore.commit.Goals as goal
 
 pub returns : goal.returns
-returns g c =
+returns g c = λ known.
     let store = c.args.self.now.store in
     let refusal = refuses_end (limits_of store.units) (state_of store.transactions.sessions)
     c.args.s in
     let before = g.C.Chip.told c.args.chip.now in
     let after = g.C.Chip.told c.commit.new.chip in
-    subst (λ (r : Result Reply Fault). DoesCommand (command.Commit c.args.s) c.args.self.now before r
+    subst (λ (r : Result Reply Fault). DoesCommand known (command.Commit c.args.s) c.args.self.now before r
     (record { store = c.commit.new.self }) after) (sym c.reply_of.ensures)
-    (calls_do (λ v. reply.Ok) (command.Commit c.args.s) refusal
+    (calls_do known (λ v. reply.Ok) (command.Commit c.args.s) refusal
     (λ state. after_commit state c.args.s) (2 ^ 15) c.args.self.now
     (record { store = c.commit.new.self }) before after c.commit.result c.requires.runs
     (omega arith) refl (λ state. refl) (λ state. refl)

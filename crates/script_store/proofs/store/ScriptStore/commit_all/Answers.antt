@@ -24,18 +24,18 @@ reply_of-requires g c =
     }
 
 pub returns : goal.returns
-returns g c =
+returns g c = λ known.
     let store = c.args.self.now.store in
     let numbers = c.numbers.result.now in
     let refusal = refuses_batch (limits_of store.units) (state_of store.transactions.sessions)
     numbers in
     let before = g.C.Chip.told c.args.chip.now in
     let after = g.C.Chip.told c.commit_all.new.chip in
-    subst (λ (ss : List ℕ). DoesCommand (command.Batch ss) c.args.self.now before c.reply_of.result
+    subst (λ (ss : List ℕ). DoesCommand known (command.Batch ss) c.args.self.now before c.reply_of.result
     (record { store = c.commit_all.new.self }) after) c.numbers.ensures.value
-    (subst (λ (r : Result Reply Fault). DoesCommand (command.Batch numbers) c.args.self.now before r
+    (subst (λ (r : Result Reply Fault). DoesCommand known (command.Batch numbers) c.args.self.now before r
     (record { store = c.commit_all.new.self }) after) (sym c.reply_of.ensures)
-    (calls_do (λ v. reply.Ok) (command.Batch numbers) refusal
+    (calls_do known (λ v. reply.Ok) (command.Batch numbers) refusal
     (λ state. after_batch state numbers) (2 ^ 15) c.args.self.now
     (record { store = c.commit_all.new.self }) before after c.commit_all.result c.requires.runs
     (omega arith) refl (λ state. refl) (λ state. refl)

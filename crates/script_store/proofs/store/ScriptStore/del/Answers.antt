@@ -12,15 +12,15 @@ use Rattle.script_store.proofs.WorkLemmas.{calls_do}
 use Rattle.script_store.proofs.store.ScriptStore.del.Goals as goal
 
 pub returns : goal.returns
-returns g c =
+returns g c = λ known.
     let store = c.args.self.now.store in
     let refusal = sessions_refuse_del (limits_of store.units) store.transactions.sessions
     c.args.s c.args.n in
     let before = g.C.Chip.told c.args.chip.now in
     let after = g.C.Chip.told c.del.new.chip in
-    subst (λ (r : Result Reply Fault). DoesCommand (command.Del c.args.s c.args.n) c.args.self.now before r
+    subst (λ (r : Result Reply Fault). DoesCommand known (command.Del c.args.s c.args.n) c.args.self.now before r
     (record { store = c.del.new.self }) after) (sym c.reply_of.ensures)
-    (calls_do (λ v. reply.Ok) (command.Del c.args.s c.args.n) refusal
+    (calls_do known (λ v. reply.Ok) (command.Del c.args.s c.args.n) refusal
     (λ state. after_write state c.args.s (c.args.n, None)) 14 c.args.self.now
     (record { store = c.del.new.self }) before after c.del.result c.requires.runs
     (omega arith) refl (λ state. refl) (λ state. refl)

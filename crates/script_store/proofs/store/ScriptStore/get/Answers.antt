@@ -6,6 +6,7 @@ use Rattle.ipl_model.specs.Refusals.{refuses_get}
 use Rattle.record_locks.specs.Standing.{state_of}
 use Rattle.store_trait.specs.declared.fault.Fault.{Fault}
 use Rattle.store_laws.specs.Keeps.{limits_of}
+use Rattle.ipl_store.specs.Calls.{early_fault, entry_fault}
 use Rattle.script_store.specs.Keeps.{DoesCommand}
 use Rattle.script_store.specs.Done.{SaysSeen}
 use Rattle.script_store.proofs.DoneLemmas.{seen_done}
@@ -14,18 +15,19 @@ use Rattle.script_store.proofs.WorkLemmas.{calls_do}
 use Rattle.script_store.proofs.store.ScriptStore.get.Goals as goal
 
 pub returns-clause-does : goal.returns-clause-does
-returns-clause-does g c =
+returns-clause-does g c = λ known.
     let store = c.args.self.now.store in
     let refusal = refuses_get (limits_of store.units) (state_of store.transactions.sessions)
     c.args.s c.args.n in
     let before = g.C.Chip.told c.args.chip.now in
     let after = g.C.Chip.told c.see.new.chip in
-    subst (λ (r : Result Reply Fault). DoesCommand (command.Get c.args.s c.args.n) c.args.self.now
+    subst (λ (r : Result Reply Fault). DoesCommand known (command.Get c.args.s c.args.n) c.args.self.now
     before r c.see.new.self after) (sym c.found_of.ensures)
-    (calls_do found_reply (command.Get c.args.s c.args.n) refusal (λ state. state) 14
+    (calls_do known found_reply (command.Get c.args.s c.args.n) refusal (λ state. state) 14
     c.args.self.now c.see.new.self before after c.see.result c.requires.runs
     (omega arith) refl (λ state. refl) (λ state. refl)
-    (seen_replies c.args.s c.args.n store before c.see.result c.see.ensures.seen)
+    (seen_replies known c.args.s c.args.n (λ state. state) (early_fault (entry_fault store) refusal) 14 c.args.self.now c.see.new.self
+    before after c.see.result c.see.ensures.calls c.see.ensures.framed c.see.ensures.seen)
     c.see.ensures.calls)
 
 pub returns-clause-done : goal.returns-clause-done

@@ -15,14 +15,14 @@ use Rattle.script_store.proofs.WorkLemmas.{calls_do}
 use Rattle.script_store.proofs.store.ScriptStore.merge.Goals as goal
 
 pub returns-clause-does : goal.returns-clause-does
-returns-clause-does g c =
+returns-clause-does g c = λ known.
     let store = c.args.self.now.store in
     let refusal = refuses_merge (limits_of store.units) c.args.unit in
     let before = g.C.Chip.told c.args.chip.now in
     let after = g.C.Chip.told c.merge.new.chip in
-    subst (λ (r : Result Reply Fault). DoesCommand (command.Merge c.args.unit) c.args.self.now before r
+    subst (λ (r : Result Reply Fault). DoesCommand known (command.Merge c.args.unit) c.args.self.now before r
     (record { store = c.merge.new.self }) after) (sym c.reply_of.ensures)
-    (calls_do (λ v. reply.Ok) (command.Merge c.args.unit) refusal (λ state. state) (13)
+    (calls_do known (λ v. reply.Ok) (command.Merge c.args.unit) refusal (λ state. state) (13)
     c.args.self.now
     (record { store = c.merge.new.self }) before after c.merge.result c.requires.runs
     (omega arith) refl (λ state. refl) (λ state. refl)

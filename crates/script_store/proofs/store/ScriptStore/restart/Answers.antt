@@ -8,25 +8,25 @@ use Rattle.script_store.proofs.RestartLemmas.{restarted, restart_does}
 use Rattle.script_store.proofs.store.ScriptStore.restart.Goals as goal
 
 pub returns-in-Ok-clause-does : goal.returns-in-Ok-clause-does
-returns-in-Ok-clause-does g c =
+returns-in-Ok-clause-does g c = λ known.
     let before = g.C.Chip.told c.args.chip.now in
     let after = g.C.Chip.told c.open_chip.new.chip in
     let b : ScriptStore = record { store = c.open_chip.new.self } in
-    subst (λ (r : Result (Unit {0}) ImageFault). DoesCommand command.Restart c.args.self.now before
+    subst (λ (r : Result (Unit {0}) ImageFault). DoesCommand known command.Restart c.args.self.now before
     (restarted r) b after) c.in-Ok.is
-    (restart_does c.args.self.now b before after
+    (restart_does known c.args.self.now b before after
     c.requires.runs c.open_chip.ensures.sound
     c.open_chip.result c.open_chip.ensures.opens c.open_chip.ensures.tries
     (c.open_chip.ensures.leads refl))
 
 pub returns-in-Err-clause-does : goal.returns-in-Err-clause-does
-returns-in-Err-clause-does g c =
+returns-in-Err-clause-does g c = λ known.
     let before = g.C.Chip.told c.args.chip.now in
     let after = g.C.Chip.told c.open_chip.new.chip in
     let b : ScriptStore = record { store = c.open_chip.new.self } in
-    subst (λ (r : Result (Unit {0}) ImageFault). DoesCommand command.Restart c.args.self.now before
+    subst (λ (r : Result (Unit {0}) ImageFault). DoesCommand known command.Restart c.args.self.now before
     (restarted r) b after) c.in-Err.is
-    (restart_does c.args.self.now b before after
+    (restart_does known c.args.self.now b before after
     c.requires.runs c.open_chip.ensures.sound
     c.open_chip.result c.open_chip.ensures.opens c.open_chip.ensures.tries
     (c.open_chip.ensures.leads refl))

@@ -1,4 +1,7 @@
-use Rattle.std.proofs.Common.{Bor, List, ℕ, option_map, sym, subst}
+use Rattle.std.proofs.Common.{Bor, List, ℕ, Option, option_map, Result, OnOk, sym, subst}
+use Rattle.ipl_base.specs.Places.{home_of}
+use Rattle.ipl_base.specs.declared.fault.StoreFault.{StoreFault}
+use Rattle.page_frames.specs.Pages.{IsFramed}
 use Rattle.ipl_model.specs.Operations.{after_share}
 use Rattle.ipl_store.specs.Calls.{share_fault}
 use Rattle.ipl_store.specs.Shown.{IsSeen}
@@ -26,3 +29,8 @@ returns-in-Err-clause-calls g c =
     (g.C.Chip.told c.args.chip.now) c.share.result
     c.in-Err.fault c.share.follows.lender-at-none (g.C.Chip.told c.share.new.chip)
     c.in-Err.is c.share.follows.holds-at-none.calls
+
+pub returns-in-Ok-clause-framed : goal.returns-in-Ok-clause-framed
+returns-in-Ok-clause-framed g c =
+    subst (λ (r : Result (Option (Bor (List ℕ))) StoreFault). OnOk r (IsFramed c.share.follows.lender-at-none.transactions.pages
+    (home_of c.args.n).unit (home_of c.args.n).page)) c.in-Ok.is c.share.follows.holds-at-none.framed

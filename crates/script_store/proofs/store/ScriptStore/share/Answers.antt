@@ -7,6 +7,7 @@ use Rattle.ipl_model.specs.Operations.{after_share}
 use Rattle.record_locks.specs.Standing.{state_of}
 use Rattle.store_trait.specs.declared.fault.Fault.{Fault}
 use Rattle.store_laws.specs.Keeps.{limits_of}
+use Rattle.ipl_store.specs.Calls.{early_fault, entry_fault}
 use Rattle.script_store.specs.Keeps.{DoesCommand}
 use Rattle.script_store.specs.Done.{SaysSeen}
 use Rattle.script_store.proofs.DoneLemmas.{seen_done}
@@ -15,19 +16,20 @@ use Rattle.script_store.proofs.WorkLemmas.{calls_do}
 use Rattle.script_store.proofs.store.ScriptStore.share.Goals as goal
 
 pub returns-clause-does : goal.returns-clause-does
-returns-clause-does g c =
+returns-clause-does g c = λ known.
     let store = c.args.self.now.store in
     let refusal = refuses_share (limits_of store.units) (state_of store.transactions.sessions)
     c.args.s c.args.n in
     let before = g.C.Chip.told c.args.chip.now in
     let after = g.C.Chip.told c.see_shared.new.chip in
-    subst (λ (r : Result Reply Fault). DoesCommand (command.Share c.args.s c.args.n) c.args.self.now
+    subst (λ (r : Result Reply Fault). DoesCommand known (command.Share c.args.s c.args.n) c.args.self.now
     before r c.see_shared.new.self after) (sym c.found_of.ensures)
-    (calls_do found_reply (command.Share c.args.s c.args.n) refusal
+    (calls_do known found_reply (command.Share c.args.s c.args.n) refusal
     (λ state. after_share state c.args.s c.args.n) 14
     c.args.self.now c.see_shared.new.self before after c.see_shared.result c.requires.runs
     (omega arith) refl (λ state. refl) (λ state. refl)
-    (seen_replies c.args.s c.args.n store before c.see_shared.result c.see_shared.ensures.seen)
+    (seen_replies known c.args.s c.args.n (λ state. after_share state c.args.s c.args.n) (early_fault (entry_fault store) refusal) 14 c.args.self.now c.see_shared.new.self
+    before after c.see_shared.result c.see_shared.ensures.calls c.see_shared.ensures.framed c.see_shared.ensures.seen)
     c.see_shared.ensures.calls)
 
 pub returns-clause-done : goal.returns-clause-done

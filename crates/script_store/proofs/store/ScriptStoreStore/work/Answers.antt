@@ -1,11 +1,11 @@
 use Rattle.script_store.proofs.store.ScriptStoreStore.work.Goals as goal
 
 pub returns-clause-works : goal.returns-clause-works
-returns-clause-works g c = c.answer.ensures.does.works
+returns-clause-works g c = λ known. (c.answer.ensures.does known).works
 
 pub returns-clause-along : goal.returns-clause-along
-returns-clause-along g c =
-    let is = c.answer.ensures.does in record {
+returns-clause-along g c = λ known.
+    let is = c.answer.ensures.does known in record {
       draws = is.draws;
       tidy = is.tidy;
       suited = is.running;
@@ -15,7 +15,7 @@ returns-clause-along g c =
     }
 
 pub returns-clause-recalls : goal.returns-clause-recalls
-returns-clause-recalls g c = c.answer.ensures.does.recalls
+returns-clause-recalls g c = λ calm known. (c.answer.ensures.does known).recalls calm
 
 pub returns-clause-done : goal.returns-clause-done
 returns-clause-done g c = c.answer.ensures.done
