@@ -478,7 +478,7 @@ module _ {marks : Bool} (old mid : Told) (store : ScriptStore) (s : StartsOpened
       (sym (units_told h steady)) (moments_as_said old.places (of known.pages m) h did.added rests did.each_moment)
 
   -- where nothing that was marked was used, nothing that is marked then was, nor what the store counts as clean
-  opened_unused : (known : KnownPages) (h : History) (steady : IsSteady h old) (m : Map) (rests : StoryRests old.places (of known.pages m) h)
+  pub opened_unused : (known : KnownPages) (h : History) (steady : IsSteady h old) (m : Map) (rests : StoryRests old.places (of known.pages m) h)
       → MarksAreUnused old.places h
       → (script_keeping old.places known).unused store (adds_all (s.tries.steps (of known.pages m) h steady rests).2.added h)
   opened_unused known h steady m rests were =

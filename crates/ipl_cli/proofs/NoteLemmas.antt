@@ -137,6 +137,7 @@ module _ (old mid : Told) (noted : Option (List ℕ)) where
     lines = t.lines;
     is_prefix = t.is_prefix;
     lawful = t.lawful;
+    unused = t.unused;
     steady = λ unrisen. steady_noted (t.steady unrisen);
     ends = t.ends;
     left_is = t.left_is;

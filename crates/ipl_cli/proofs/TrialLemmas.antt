@@ -18,6 +18,9 @@ use Rattle.ipl_model.specs.State.{State, Limits, at_rest}
 use Rattle.ipl_model.specs.declared.command.Command.{Command}
 use Rattle.ipl_model.specs.Run.{joined as joined_text}
 use Rattle.ipl_format.specs.Sector.{sector_in}
+use Rattle.store_trait.proofs.UnusedLemmas.{twice}
+use Rattle.ipl_cli.proofs.UnusedLemmas.{format_unused}
+use Rattle.ipl_meaning.specs.Marks.{MarksAreUnused}
 use Rattle.ipl_meaning.specs.Legible.{whole}
 use Rattle.ipl_meaning.specs.Rests.{now, EachStandsIn, StoryRests}
 use Rattle.ipl_meaning.specs.Chosen.{units_at}
@@ -47,7 +50,7 @@ use Rattle.ipl_cli.specs.Ending.{Ending, StopsEarly}
 use Rattle.ipl_cli.specs.Top.{IsTooLong, RequestCause, EndCause}
 use Rattle.ipl_cli.specs.Trials.{commands_on, state_after, summary, ChipStandsBehind, EndsAlong, EndsTrial, Trials, TrialsFormatted, TrialLeaves}
 use Rattle.ipl_cli.specs.Runs.{MakesStore, StartsOpened, IsNotOpened, WasFormatted, StartsFormatted, IsNotStarted, TriesOver, ending_of}
-use Rattle.ipl_cli.proofs.EndLemmas.{Kept, kept, pieces_behind, history_behind, all_done, left_counts, units_told, opened_keeps, opened_each, took_marked, fresh_story, fresh_units, told_format, lawful_format}
+use Rattle.ipl_cli.proofs.EndLemmas.{opened_unused, Kept, kept, pieces_behind, history_behind, all_done, left_counts, units_told, opened_keeps, opened_each, took_marked, fresh_story, fresh_units, told_format, lawful_format}
 use Rattle.script_run.proofs.CompleteLemmas.{completes_more}
 use Rattle.ipl_cli.proofs.StartLemmas.{cause_anew, over_cause, not_started_cause, stopped_end}
 
@@ -65,7 +68,8 @@ behind places commands (line ∷ lines) x stands = stands
 module _ (places : ℕ) (commands : List Command) (h : History) (first : Story)
     (silent : pieces first ≡ [])
     (each : AtEachMoment (λ e. EachStandsIn places (units_on places) (whole empty) (adds_all e h)) first)
-    (lawful : (base : Story) → IsLawful base → IsLawful (first ++ base)) where
+    (lawful : (base : Story) → IsLawful base → IsLawful (first ++ base))
+    (unused : AtEachMoment (λ e. MarksAreUnused places (adds_all e h)) first) where
   abbrev limits : Limits
   limits = limits_of (units_on places)
 
@@ -95,6 +99,7 @@ module _ (places : ℕ) (commands : List Command) (h : History) (first : Story)
     is_prefix = subst (λ (bytes : List ℕ). IsPrefix bytes (joined_text (summary places commands)))
         (sym (ap joined silent)) (joined_text (summary places commands), refl);
     lawful = lawful;
+    unused = unused;
     steady = steady;
     ends = record {
       done = [];
@@ -113,6 +118,7 @@ module _ (places : ℕ) (commands : List Command) (h : History) (first : Story)
       (later : old.write_faults ≤ mid.write_faults)
       (told : mid.history ≡ option_map (adds_all first) old.history)
       (clean : (base : Story) → AreClean ((script_keeping places all_pages).clean before) (first ++ base))
+      (unused_then : (script_keeping places all_pages).unused before (adds_all first h))
       (left : new.beside.left ≡ old.beside.left) where
     module _ (R : History → State → Type 0) (result : Result (Unit {0}) Stop)
         (stays : (k : History) (s : State) → R k s → Stays (script_keeping places all_pages) limits then mid new k s)
@@ -202,6 +208,8 @@ module _ (places : ℕ) (commands : List Command) (h : History) (first : Story)
             (says_prefix (summary places commands) (pieces leaves.added) leaves.lines);
         lawful = λ base good. subst IsLawful (sym (append_assoc leaves.added first base))
             (leaves.lawful.lawful (first ++ base) (lawful base good) (clean base));
+        unused = at_both (λ e. MarksAreUnused places (adds_all e h)) leaves.added first unused
+            (λ later e split. subst (MarksAreUnused places) (twice e first h) (leaves.unused.marks unused_then later e split));
         steady = λ unrisen. subst (λ (k : History). IsSteady k new) all_history
             (steady_by result leaves.ends unrisen);
         ends = ends_by result leaves.ends;
@@ -216,10 +224,11 @@ module _ (places : ℕ) (commands : List Command) (h : History) (first : Story)
 -- ---- over a chip that was opened
 
 -- over a history that leaves what the chip holds and rests on no records, where the chip says that none
--- of its places is spare
+-- of its places is spare, and nothing that is marked was used
 abbrev TrialsOpened : ℕ → ℕ → Told → Told → Ending → Type 0
 TrialsOpened seed count old new ending = (h : History) → IsSteady h old
     → StoryRests old.places (whole empty) h → units_at (now h) old.places ≡ units_on old.places
+    → MarksAreUnused old.places h
     → Trials old.places (commands_on old.places seed count) h [] old new ending
 
 module _ (old mid : Told) (store : ScriptStore) (s : StartsOpened false old store mid)
@@ -252,28 +261,32 @@ module _ (old mid : Told) (store : ScriptStore) (s : StartsOpened false old stor
 
   opened_so : (result : Result (Unit {0}) Stop) → Ran result (units_on old.places)
       → (h : History) → IsSteady h old → StoryRests old.places (whole empty) h
-      → store.store.units ≡ units_on old.places
+      → store.store.units ≡ units_on old.places → MarksAreUnused old.places h
       → Trials old.places (commands_on old.places seed count) h [] old new (ending_of result)
-  opened_so (Ok u) run h steady rests many =
+  opened_so (Ok u) run h steady rests many were =
       let (took, takes, did) = s.tries.steps (whole empty) h steady rests in
       let taken = took_marked false old took h steady takes in
       tried_by old.places (commands_on old.places seed count) h did.added did.does.silent
       (opened_all h steady rests many)
       (λ base good. did.does.lawful.lawful base good (taken base (λ p q none. absurd none)))
+      (λ later e split. did.marks tt later e split were)
       old mid new store then s.tries.accounts.counts.writes
-      did.history (λ base. did.does.clean refl base (taken base (λ p q none. absurd none))) left_alone
+      did.history (λ base. did.does.clean refl base (taken base (λ p q none. absurd none)))
+      (opened_unused old mid store s all_pages h steady empty rests were) left_alone
       (KeepsScript old.places all_pages (limits_of (units_on old.places)) then new) (Ok tt)
       (λ k state held unrisen. held)
       (run (limits_of (units_on old.places)) (at_rest empty) (adds_all did.added h)
       (keeps_none h steady rests many))
-  opened_so (Err e) run h steady rests many =
+  opened_so (Err e) run h steady rests many were =
       let (took, takes, did) = s.tries.steps (whole empty) h steady rests in
       let taken = took_marked false old took h steady takes in
       tried_by old.places (commands_on old.places seed count) h did.added did.does.silent
       (opened_all h steady rests many)
       (λ base good. did.does.lawful.lawful base good (taken base (λ p q none. absurd none)))
+      (λ later e split. did.marks tt later e split were)
       old mid new store then s.tries.accounts.counts.writes
-      did.history (λ base. did.does.clean refl base (taken base (λ p q none. absurd none))) left_alone
+      did.history (λ base. did.does.clean refl base (taken base (λ p q none. absurd none)))
+      (opened_unused old mid store s all_pages h steady empty rests were) left_alone
       (Stays (script_keeping old.places all_pages) (limits_of (units_on old.places)) then mid new) (Err e)
       (λ k state stays. stays)
       (run (limits_of (units_on old.places)) (at_rest empty) (adds_all did.added h)
@@ -282,22 +295,23 @@ module _ (old mid : Told) (store : ScriptStore) (s : StartsOpened false old stor
   opened_trial : (result : Result (Unit {0}) Stop)
       → RunsTrial (script_keeping mid.places all_pages) (trial_commands store.store.units seed count) store
       mid result then new → TrialsOpened seed count old new (ending_of result)
-  opened_trial result run = λ h steady rests all.
+  opened_trial result run = λ h steady rests all were.
       let many = units_told old mid store s h steady ∙ all in
       opened_so result (subst (Ran result) many (subst (λ (n : ℕ). RunsTrial (script_keeping n all_pages)
       (trial_commands store.store.units seed count) store mid result then new)
-      s.tries.accounts.counts.places run)) h steady rests many
+      s.tries.accounts.counts.places run)) h steady rests many were
 
 -- an opening that fails leaves no records
 unopened_trial : (seed count : ℕ) (old new : Told) (end : End)
     → (n : IsNotOpened false end old new) → TrialsOpened seed count old new (Err (Chip n.fault))
-unopened_trial seed count old new end n = λ h steady rests all.
+unopened_trial seed count old new end n = λ h steady rests all were.
     let (took, takes, did) = n.tries.steps (whole empty) h steady rests in
     none_tried old.places (commands_on old.places seed count) h did.added did.does.silent
     (subst (λ (n : ℕ). AtEachMoment (λ e. EachStandsIn old.places n (whole empty) (adds_all e h)) did.added)
     all (moments_as_said old.places (whole empty) h did.added rests did.each_moment))
     (λ base good. did.does.lawful.lawful base good
     (took_marked false old took h steady takes base (λ p q none. absurd none)))
+    (λ later e split. did.marks tt later e split were)
     old new n.fault did.history (left_counts old new n.tries.accounts.counts) did.steady did.ends
 
 -- ---- after a format
@@ -337,6 +351,7 @@ module _ (old mid new : Told) (f : WasFormatted old mid) (seed count : ℕ) wher
     lines = t.lines;
     is_prefix = t.is_prefix;
     lawful = λ base good. t.lawful (first ++ base) (lawful_format old mid new f h base good);
+    unused = t.unused;
     steady = λ unrisen. t.steady (earlier unrisen);
     ends = ends_so (λ s. Unrisen mid new → StoryRests old.places (whole s.map) last) (λ s. Unrisen old new
         → StoryRests old.places (whole s.map) last) old.places commands (pieces t.added)
@@ -357,7 +372,9 @@ module _ (old mid new : Told) (f : WasFormatted old mid) (seed count : ℕ) wher
       (trials (adds_all first h) fresh.0
       (subst (λ (q : ℕ). StoryRests q (whole empty) (adds_all first h)) (sym f.counts.places) fresh.1)
       (subst (λ (q : ℕ). units_at (now (adds_all first h)) q ≡ units_on q) (sym f.counts.places)
-      (fresh_units old mid new f h))))
+      (fresh_units old mid new f h))
+      (subst (λ (q : ℕ). MarksAreUnused q (adds_all first h)) (sym f.counts.places)
+      (format_unused old.places (units_on old.places) h old mid (f.formats h)))))
 
 -- ---- a trial that isn't started
 

@@ -15,6 +15,7 @@ use Rattle.ipl_model.specs.Run.{joined, after_all}
 use Rattle.ipl_format.specs.Sector.{sector_in}
 use Rattle.ipl_meaning.specs.Legible.{whole}
 use Rattle.ipl_meaning.specs.Chart.{chart_of}
+use Rattle.ipl_meaning.specs.Marks.{MarksAreUnused}
 use Rattle.ipl_meaning.specs.Rests.{StoryRests}
 use Rattle.ipl_meaning.specs.Stands.{StandsIn}
 use Rattle.unit_io.specs.Leads.{IsSteady}
@@ -78,7 +79,7 @@ EndsTrial (Err TooLong) Q places commands said = ⊥
 -- history leaves. What the chip tells grew by these events. Whatever moment the power is cut at, the
 -- chip stands for the records after the first of the commands, and after all of them from the first
 -- line on. What is said is a beginning of the summary, line by line. No sector is programmed twice
--- between erases of its place. Where no write failed, the chip holds at the end what the history then
+-- between erases of its place, and nothing that is marked is used at any of these moments. Where no write failed, the chip holds at the end what the history then
 -- leaves, and by how the trial ended that rests on the records of the commands that are done. Of the
 -- script nothing is read. Where all is done, the whole summary is said.
 pub record Trials (places : ℕ) (commands : List Command) (h : History) (first : Story)
@@ -92,6 +93,7 @@ pub record Trials (places : ℕ) (commands : List Command) (h : History) (first 
   pub lines : SaysLines (summary places commands) (pieces added)
   pub is_prefix : IsPrefix (said added) (joined (summary places commands))
   pub lawful : (base : Story) → IsLawful base → IsLawful (added ++ (first ++ base))
+  pub unused : AtEachMoment (λ e. MarksAreUnused places (adds_all e (adds_all first h))) added
   pub steady : Unrisen old new → IsSteady (adds_all added (adds_all first h)) new
   pub ends : EndsTrial ending
       (λ s. Unrisen old new → StoryRests places (whole s.map) (adds_all added (adds_all first h)))

@@ -16,6 +16,7 @@ use Rattle.chip_trait.proofs.SaidLemmas.{pieces-append, silent-part}
 use Rattle.store_trait.specs.Onward.{sayings}
 use Rattle.store_trait.specs.Keeping.{Keeping, Stays, WorkLeaves}
 use Rattle.store_trait.proofs.OnwardLemmas.{unrisen_later}
+use Rattle.store_trait.proofs.UnusedLemmas.{unused_then}
 use Rattle.script_run.specs.declared.fault.Stop.{Stop}
 use Rattle.script_run.specs.declared.fault.Stop.TheVariants as stop
 use Rattle.script_run.specs.Run.{SaysLines, IsUnsaid, IsSaidOr, SayingLeaves}
@@ -74,6 +75,7 @@ module _ {S : Type 0} (k : Keeping S) (limits : Limits) (state : State) (command
     only = all_or_said k.does w.added w.only;
     lawful = w.lawful;
     clean = λ e. cc;
+    unused = w.unused;
     ends = go s of_store;
   }
     where
@@ -115,6 +117,7 @@ module _ {S : Type 0} (k : Keeping S) (limits : Limits) (state : State) (command
     only = all_both (IsSaidOr k.does) more.added w.added more.only (all_or_said k.does w.added w.only);
     lawful = lawful_then (k.clean before) (k.clean mid) more.added w.added w.lawful (w.clean refl) more.lawful;
     clean = λ e. clean_then (k.clean before) (k.clean mid) (k.clean then) more.added w.added w.lawful (w.clean refl) (more.clean e);
+    unused = unused_then k before mid then h (is_ok result) more.added w.added w.unused more.unused;
     ends = ends (more.added ++ w.added) (R (adds_all (more.added ++ w.added) h)) are (record {
       each_command = order_stay k limits state commands h w.added more.added w.silent order more.each_moment;
       rests = subst (λ (g : History). R g (after_all limits state commands)) (twice_added more.added w.added h) r;

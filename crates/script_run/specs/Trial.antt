@@ -10,7 +10,7 @@ use Rattle.chip_trait.specs.Moment.{AtEachMoment, Leaves}
 use Rattle.chip_trait.specs.Lawful.{IsLawfulAfter, LeavesClean}
 use Rattle.chip_trait.specs.Told.{History, Told, adds_all}
 use Rattle.store_trait.specs.Onward.{sayings}
-use Rattle.store_trait.specs.Keeping.{Keeping, AllOf, Stays, WorkLeaves}
+use Rattle.store_trait.specs.Keeping.{Keeping, AllOf, Stays, WorkLeaves, UsesNothingMarked}
 use Rattle.script_run.specs.declared.fault.Stop.{Stop}
 use Rattle.script_run.specs.declared.fault.Stop.TheVariants as stop
 use Rattle.script_run.specs.Run.{SaysLines, IsUnsaid, IsSaidOr}
@@ -163,7 +163,7 @@ module _ {S : Type 0} (k : Keeping S) where
   -- What the chip tells grew by the added events. Whatever moment of them the power is cut at, the
   -- chip stands for the records after the first of the commands, and after all of them from the first
   -- line on. What was said is a beginning of the summary, line by line, and all of it where the trial
-  -- is done. No sector is programmed twice. R says of the history at the end, and of a state, how the
+  -- is done. No sector is programmed twice, and nothing that is marked is used. R says of the history at the end, and of a state, how the
   -- store keeps it then.
   pub record TrialRuns (limits : Limits) (state : State) (commands : List Command) (before : S) (h : History)
       (R : History → State → Type 0) (then : S) (old new : Told) (result : Result (Unit {0}) Stop) : Type 0 where
@@ -175,6 +175,7 @@ module _ {S : Type 0} (k : Keeping S) where
     pub only : AllOf (IsSaidOr k.does) added
     pub lawful : IsLawfulAfter (k.clean before) added
     pub clean : is_ok result ≡ true → LeavesClean (k.clean before) (k.clean then) added
+    pub unused : UsesNothingMarked k before h then (is_ok result) added
     pub ends : TrialEnds result limits state commands h added (R (adds_all added h))
 
   -- a trial of these commands, to its end or to where it stopped
