@@ -438,7 +438,7 @@ took_marked true old first h steady takes base marked p s counted =
 took_marked false old first h steady takes base marked p s counted = absurd (takes.none refl p s counted)
 
 -- what is marked stands at a place of the chip
-marked_within : (places : ℕ) (x : Contents) (p n : ℕ) → IsMarked places x p n → p < places
+pub marked_within : (places : ℕ) (x : Contents) (p n : ℕ) → IsMarked places x p n → p < places
 marked_within places x p n is =
     let inside = (is.laid.each is.unit is.within).chosen.within in
     let at = is.home in omega (arith, at, inside)

@@ -1,3 +1,4 @@
+mod AgeLemmas
 pub mod ChainLemmas
 mod CloseLemmas
 mod CountLemmas

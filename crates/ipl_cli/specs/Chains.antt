@@ -1,12 +1,17 @@
 -- Runs that follow one another over the same desk.
-use Rattle.std.specs.Prelude.{◌≡◌, List, Some, ℕ}
+use Rattle.std.specs.Prelude.{◌≡◌, ◌≢◌, ◌<◌, List, Some, ℕ}
 use Rattle.std.specs.FinMap.{empty}
+use Rattle.chip_trait.specs.Lawful.{Unknown, IsLawful, age}
 use Rattle.chip_trait.specs.Told.{History, Told}
+use Rattle.ipl_base.specs.Places.{units_on}
 use Rattle.ipl_model.specs.State.{Map}
 use Rattle.ipl_meaning.specs.Legible.{Legible, IsToldApart, whole}
+use Rattle.ipl_meaning.specs.Marks.{MarksAreUnused}
 use Rattle.ipl_meaning.specs.Rests.{now, StoryRests}
 use Rattle.unit_io.specs.Leads.{IsSteady}
 use Rattle.ipl_meaning.specs.Chosen.{units_at}
+use Rattle.ipl_cli.specs.Top.{records_after}
+use Rattle.ipl_cli.specs.Trials.{commands_on, state_after}
 
 -- no write has failed, a history that leaves what the chip holds rests on these records, whichever pages don't read well, and
 -- this is left of the script
@@ -29,3 +34,29 @@ units_kept t h = units_at (now h) t.places
 
 abbrev pub no_records : Map
 no_records = empty
+
+-- the records after a trial, and then a script, on all units
+abbrev pub records_tried : ℕ → ℕ → ℕ → List ℕ → Map
+records_tried places seed count script =
+    records_after (units_on places) (state_after places (commands_on places seed count)).map script
+
+-- ---- stories, over runs
+
+-- The story is lawful, each place was erased in it or found worn, and in whatever a power cut leaves, but by chance, no
+-- sector that is marked was used.
+pub record IsLawfulHistory (places : ℕ) (h : History) : Type 0 where
+  pub lawful : IsLawful h.story
+  pub known : (p s : ℕ) → p < places → age h.story p s ≢ Unknown
+  pub unused : MarksAreUnused places h
+
+-- such a history is the one that the chip tells, and it rests on these records
+pub record RestsLawfully (m : Legible) (script : List ℕ) (t : Told) : Type 0 where
+  pub on : RestsOn m script t
+  pub told : t.history ≡ Some on.history
+  pub is : IsLawfulHistory t.places on.history
+
+-- the chip tells a lawful history, of which nothing else is asked
+pub record IsLawfullyFormattable (script : List ℕ) (t : Told) : Type 0 where
+  pub on : IsFormattable script t
+  pub told : t.history ≡ Some on.history
+  pub lawful : IsLawful on.history.story

@@ -1,15 +1,17 @@
 //! What `top` tells at the end of one run is what the next one asks for: shown from its clauses alone,
 //! for every desk. Only where no write failed, and both ended with 0. A chip has as many units as it says,
-//! and after a format all but the spare ones.
+//! and after a format all but the spare ones. From a format on the story that a chip tells stays lawful over all runs,
+//! also where the chip was closed and what a mark says to be clean was programmed after it was opened again.
 ghost use Rattle.std.specs.Prelude.{◌≡◌, true, map, ℕ, List, [], Some};
 ghost use Rattle.std.specs.String.{string_bytes};
 ghost use Rattle.chip_trait.specs.Told.{Unrisen};
+ghost use Rattle.ipl_base.specs.Places.{units_on};
 ghost use Rattle.command_line.specs.Choice.{requested};
-ghost use Rattle.command_line.specs.declared.asked.Request.TheVariants.{Format};
+ghost use Rattle.command_line.specs.declared.asked.Request.TheVariants.{Format, Trial};
 ghost use Rattle.ipl_meaning.specs.Legible.{Legible, of, whole};
-ghost use Rattle.ipl_cli.specs.Ending.{AsksOpened, units_beside};
+ghost use Rattle.ipl_cli.specs.Ending.{AsksOpened, AsksFormatted, units_beside};
 ghost use Rattle.ipl_cli.specs.Top.{records_after};
-ghost use Rattle.ipl_cli.specs.Chains.{RestsOn, IsFormattable, no_records, units_kept};
+ghost use Rattle.ipl_cli.specs.Chains.{RestsOn, RestsLawfully, IsFormattable, IsLawfullyFormattable, no_records, records_tried, units_kept};
 
 use crate::top::top;
 use chip_trait::Desk;
@@ -19,9 +21,13 @@ use std::alloc::Global;
 /// has its premise from what is told of the first.
 pub fn run_twice<D: Desk>(alloc: Global, words: &[String], desk: &mut D) -> bool
     requires { AsksOpened (requested (map string_bytes words.now)) }
-    ensures { (m : Legible) (script : List ℕ) (on : RestsOn m script (D.told desk.old))
+    ensures rests { (m : Legible) (script : List ℕ) (on : RestsOn m script (D.told desk.old))
         → Unrisen (D.told desk.old) (D.told desk.new) → result ≡ true
         → RestsOn (of m.pages (records_after (units_kept (D.told desk.old) on.history) m.map script)) []
+        (D.told desk.new) }
+    ensures lawful { (m : Legible) (script : List ℕ) (before : RestsLawfully m script (D.told desk.old))
+        → Unrisen (D.told desk.old) (D.told desk.new) → result ≡ true
+        → RestsLawfully (of m.pages (records_after (units_kept (D.told desk.old) before.on.history) m.map script)) []
         (D.told desk.new) }
 {
     if top(alloc, words, desk) != 0 {
@@ -38,12 +44,67 @@ pub fn format_and_run<D: Desk>(
     desk: &mut D,
 ) -> bool
     requires { AsksOpened (requested (map string_bytes second.now)) }
-    ensures { (spares : ℕ) (script : List ℕ)
+    ensures rests { (spares : ℕ) (script : List ℕ)
         → requested (map string_bytes first.now) ≡ Some (Format spares)
         → IsFormattable script (D.told desk.old)
         → Unrisen (D.told desk.old) (D.told desk.new) → result ≡ true
         → RestsOn (whole (records_after (units_beside (D.told desk.old).places spares) no_records script)) []
         (D.told desk.new) }
+    ensures lawful { (spares : ℕ) (script : List ℕ)
+        → requested (map string_bytes first.now) ≡ Some (Format spares)
+        → IsLawfullyFormattable script (D.told desk.old)
+        → Unrisen (D.told desk.old) (D.told desk.new) → result ≡ true
+        → RestsLawfully (whole (records_after (units_beside (D.told desk.old).places spares) no_records script)) []
+        (D.told desk.new) }
+{
+    if top(alloc, first, desk) != 0 {
+        return false;
+    }
+    top(alloc, second, desk) == 0
+}
+
+/// Runs the script over a chip that is formatted first, and then opens that and runs what is left of the script.
+pub fn run_anew_and_run<D: Desk>(
+    alloc: Global,
+    first: &[String],
+    second: &[String],
+    desk: &mut D,
+) -> bool
+    requires first { AsksFormatted (requested (map string_bytes first.now)) }
+    requires second { AsksOpened (requested (map string_bytes second.now)) }
+    ensures rests { (script : List ℕ) → IsFormattable script (D.told desk.old)
+        → Unrisen (D.told desk.old) (D.told desk.new) → result ≡ true
+        → RestsOn (whole (records_after (units_on (D.told desk.old).places) no_records script)) []
+        (D.told desk.new) }
+    ensures lawful { (script : List ℕ) → IsLawfullyFormattable script (D.told desk.old)
+        → Unrisen (D.told desk.old) (D.told desk.new) → result ≡ true
+        → RestsLawfully (whole (records_after (units_on (D.told desk.old).places) no_records script)) []
+        (D.told desk.new) }
+{
+    if top(alloc, first, desk) != 0 {
+        return false;
+    }
+    top(alloc, second, desk) == 0
+}
+
+/// Does a trial, which formats the chip and reads no script, and then opens the chip and runs the script.
+pub fn trial_and_run<D: Desk>(
+    alloc: Global,
+    first: &[String],
+    second: &[String],
+    desk: &mut D,
+) -> bool
+    requires { AsksOpened (requested (map string_bytes second.now)) }
+    ensures rests { (seed count frames : ℕ) (script : List ℕ)
+        → requested (map string_bytes first.now) ≡ Some (Trial seed count frames)
+        → IsFormattable script (D.told desk.old)
+        → Unrisen (D.told desk.old) (D.told desk.new) → result ≡ true
+        → RestsOn (whole (records_tried (D.told desk.old).places seed count script)) [] (D.told desk.new) }
+    ensures lawful { (seed count frames : ℕ) (script : List ℕ)
+        → requested (map string_bytes first.now) ≡ Some (Trial seed count frames)
+        → IsLawfullyFormattable script (D.told desk.old)
+        → Unrisen (D.told desk.old) (D.told desk.new) → result ≡ true
+        → RestsLawfully (whole (records_tried (D.told desk.old).places seed count script)) [] (D.told desk.new) }
 {
     if top(alloc, first, desk) != 0 {
         return false;
