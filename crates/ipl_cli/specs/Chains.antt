@@ -4,12 +4,17 @@ use Rattle.std.specs.FinMap.{empty}
 use Rattle.chip_trait.specs.Lawful.{Unknown, IsLawful, age}
 use Rattle.chip_trait.specs.Told.{History, Told}
 use Rattle.ipl_base.specs.Places.{units_on}
-use Rattle.ipl_model.specs.State.{Map}
+use Rattle.ipl_model.specs.State.{Map, State, at_rest}
+use Rattle.ipl_model.specs.Grammar.{commands_of}
+use Rattle.ipl_model.specs.Run.{after_all}
 use Rattle.ipl_meaning.specs.Legible.{Legible, IsToldApart, whole}
 use Rattle.ipl_meaning.specs.Marks.{MarksAreUnused}
 use Rattle.ipl_meaning.specs.Rests.{now, StoryRests}
 use Rattle.unit_io.specs.Leads.{IsSteady}
 use Rattle.ipl_meaning.specs.Chosen.{units_at}
+use Rattle.serial_view.specs.Serial.{serial}
+use Rattle.serial_view.specs.Laws.{picked}
+use Rattle.store_laws.specs.Keeps.{limits_of}
 use Rattle.ipl_cli.specs.Top.{records_after}
 use Rattle.ipl_cli.specs.Trials.{commands_on, state_after}
 
@@ -39,6 +44,17 @@ no_records = empty
 abbrev pub records_tried : ℕ → ℕ → ℕ → List ℕ → Map
 records_tried places seed count script =
     records_after (units_on places) (state_after places (commands_on places seed count)).map script
+
+-- the records after the commands alone that the serial view of a script has, on so many units, from these records on
+abbrev pub records_viewed : ℕ → Map → List ℕ → Map
+records_viewed units m script =
+    let commands = commands_of script in
+    let view = serial (limits_of units) m commands in
+    (after_all (limits_of units) (at_rest m) (picked commands view)).map
+
+-- they are those after all its commands: what a run leaves, also where it goes over transactions one after the other
+abbrev pub ViewKeepsRecords : Type 0
+ViewKeepsRecords = (units : ℕ) (m : Map) (script : List ℕ) → records_viewed units m script ≡ records_after units m script
 
 -- ---- stories, over runs
 

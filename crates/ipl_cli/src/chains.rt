@@ -11,7 +11,7 @@ ghost use Rattle.command_line.specs.declared.asked.Request.TheVariants.{Format, 
 ghost use Rattle.ipl_meaning.specs.Legible.{Legible, of, whole};
 ghost use Rattle.ipl_cli.specs.Ending.{AsksOpened, AsksFormatted, units_beside};
 ghost use Rattle.ipl_cli.specs.Top.{records_after};
-ghost use Rattle.ipl_cli.specs.Chains.{RestsOn, RestsLawfully, IsFormattable, IsLawfullyFormattable, no_records, records_tried, units_kept};
+ghost use Rattle.ipl_cli.specs.Chains.{RestsOn, RestsLawfully, IsFormattable, IsLawfullyFormattable, ViewKeepsRecords, no_records, records_tried, units_kept};
 
 use crate::top::top;
 use chip_trait::Desk;
@@ -111,3 +111,8 @@ pub fn trial_and_run<D: Desk>(
     }
     top(alloc, second, desk) == 0
 }
+
+/// The commands of the serial view of a script, run by themselves, leave the records that the script leaves.
+pub fn view_law()
+    ensures { ViewKeepsRecords }
+{}
