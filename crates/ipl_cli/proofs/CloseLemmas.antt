@@ -61,7 +61,7 @@ module _ (before then : ScriptStore) (old new : Told) (closes : Bool) where
       → ((known : KnownPages) → RunsScript (script_keeping old.places known) before old result then new)
       → LeavesTidy (script_keeping old.places all_pages) before then old new (is_ok result)
       → Draws (script_keeping old.places all_pages) SCRIPT_DRAWS before (IsErrOf result (stop.Store fault.Spent)) then
-      → CompletesOver (script_keeping old.places all_pages) SCRIPT_DRAWS before old result then new
+      → ((known : KnownPages) → CompletesOver (script_keeping old.places known) SCRIPT_DRAWS before old result then new)
       → LearnsAlong (script_keeping old.places all_pages) before old result then new
       → Further old new → EndsScript (script_keeping old.places all_pages) old result new
       → OnOk result (closes ≡ true → ClosesScript before old new)
@@ -71,7 +71,7 @@ module _ (before then : ScriptStore) (old new : Told) (closes : Bool) where
     run = record {
       runs = runs;
       tidy = tidy;
-      completes = λ limits keeps. completes_more (completes limits keeps) (omega arith);
+      completes = λ known limits keeps. completes_more (completes known limits keeps) (omega arith);
       cause = ends.cause;
       learns = learns;
       unspent = numbers_last draws low;
@@ -143,7 +143,8 @@ module _ (before mid then : ScriptStore) (old between new : Told) (closes : Bool
       → ((known : KnownPages) → RunsScript (script_keeping old.places known) before old (Ok tt) mid between)
       → LeavesTidy (script_keeping old.places all_pages) before mid old between true
       → Draws (script_keeping old.places all_pages) SCRIPT_DRAWS before (IsErrOf {T = Unit {0}} (Ok tt) (stop.Store fault.Spent)) mid
-      → CompletesOver (script_keeping old.places all_pages) {T = Unit {0}} SCRIPT_DRAWS before old (Ok tt) mid between
+      → ((known : KnownPages)
+      → CompletesOver (script_keeping old.places known) {T = Unit {0}} SCRIPT_DRAWS before old (Ok tt) mid between)
       → LearnsAlong (script_keeping old.places all_pages) {T = Unit {0}} before old (Ok tt) mid between
       → ReadsAll old between → closes ≡ true → RunsClosing closes (stop_of closed) before old then new
   ran_closing low runs tidy draws completes learns read asked =
@@ -152,8 +153,8 @@ module _ (before mid then : ScriptStore) (old between new : Told) (closes : Bool
           runs = λ known. runs_behind (script_keeping old.places known) before mid then old between new closed further
               (works known) (runs known);
           tidy = tidy_behind k before mid then old between new closed further (works all_pages) tidy;
-          completes = completes_behind k before mid then old between new closed further (works all_pages) SCRIPT_DRAWS
-              completes;
+          completes = λ known. completes_behind (script_keeping old.places known) before mid then old between new closed
+              further (works known) SCRIPT_DRAWS (completes known);
           cause = cause_behind k before mid then old between new closed further (works all_pages);
           learns = learns_behind k before mid then old between new closed further (works all_pages) learns;
           unspent = λ is. both_last low draws.most (spent_so closed is);

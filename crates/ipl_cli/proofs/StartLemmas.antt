@@ -16,7 +16,8 @@ use Rattle.ipl_base.specs.declared.fault.FormatFault.TheVariants as format
 use Rattle.ipl_base.specs.declared.fault.ImageFault.{ImageFault}
 use Rattle.ipl_base.specs.declared.fault.ImageFault.TheVariants as image
 use Rattle.ipl_model.specs.State.{Map, at_rest}
-use Rattle.ipl_meaning.specs.Legible.{whole}
+use Rattle.ipl_meaning.specs.Legible.{of, whole}
+use Rattle.ipl_meaning.proofs.RotLemmas.{every_is_told_apart}
 use Rattle.ipl_meaning.specs.Chart.{Chart, chart_of}
 use Rattle.ipl_meaning.specs.Stands.{Says, Stands}
 use Rattle.ipl_meaning.specs.Rests.{now, StoryRests}
@@ -44,7 +45,7 @@ use Rattle.place_taking.proofs.SpendingLemmas.{or_right}
 use Rattle.selective_merge.specs.Homes.{WearCause}
 use Rattle.restart.specs.Recovers.{FailsByCallAlone, OpeningCause, tells_wear}
 use Rattle.restart.proofs.ReadyLemmas.{layouts_say}
-use Rattle.store_laws.specs.Keeps.{all_pages, IsWornCount, FaultTells, StoreCause, limits_of}
+use Rattle.store_laws.specs.Keeps.{KnownPages, all_pages, IsWornCount, FaultTells, StoreCause, limits_of}
 use Rattle.script_run.specs.declared.fault.Stop.{Stop}
 use Rattle.script_run.specs.declared.fault.Stop.TheVariants as stop
 use Rattle.script_run.specs.Goes.{StopCause, StopWears, LearnsAlong, KeepsSome, CompletesOver, ReadsAll}
@@ -61,7 +62,7 @@ use Rattle.command_line.specs.declared.end.End.{End}
 use Rattle.command_line.specs.declared.end.End.TheVariants.{Words, Chip, OutOfMemory, Script, Output, TooLong}
 use Rattle.command_line.specs.declared.asked.Request.TheVariants.{Run}
 use Rattle.ipl_cli.specs.Ending.{Ending, StopsEarly, StopRose, format_end}
-use Rattle.ipl_cli.specs.Top.{IsLaidWell, RestsWithNumbersLeft, IsMetLater, LaidCause, StrayCause, OpenedCause, WornOutCause, AnewCause, FormattedCause, FindsWorn, IsTooLong, RequestCause, EndCause, RunsOpened, IsRefused, OpenedRuns, FormattedLeaves, OpenedLeaves}
+use Rattle.ipl_cli.specs.Top.{IsLaidWell, RestsWithNumbersLeft, IsMetLater, LaidCause, UsedUpCause, RestsOnSome, IsMetAgain, IsAtFault, StrayCause, OpenedCause, WornOutCause, AnewCause, FormattedCause, FindsWorn, IsTooLong, RequestCause, EndCause, RunsOpened, IsRefused, OpenedRuns, FormattedLeaves, OpenedLeaves}
 use Rattle.ipl_cli.specs.Runs.{RunsFrom, MakesStore, StartsOpened, IsNotOpened, WasFormatted, IsNotFormatted, StartsFormatted, IsNotStarted, RunsOver, end_of, ending_of}
 use Rattle.ipl_cli.proofs.WornLemmas.{format_finds, fresh_finds}
 use Rattle.ipl_cli.proofs.EndLemmas.{left_counts, stopped_early, units_told, opened_keeps, opened_runs, runs_opened, unopened_runs, untouched_stops, formatted_runs, fresh_story, fresh_units}
@@ -151,10 +152,23 @@ module _ (t : Told) (sound : RestsWithNumbersLeft t) where
   sound_fine = stands_fine t.places (now sound.history) sound.map sound_stands
       (omega (arith, sound.left))
 
+  sound_some : RestsOnSome t
+  sound_some = record {
+    legible = whole sound.map;
+    history = sound.history;
+    steady = sound.steady;
+    rests = sound.rests;
+    apart = every_is_told_apart;
+  }
+
   -- so no other fault comes than that of a call of the chip
   pub laid_never : (e : ImageFault) → ¬ LaidCause e t
   laid_never e (inl at_fault) = none_is_some (sym sound_fine ∙ at_fault _ sound_told)
-  laid_never e (inr later) = later.unsound sound
+  laid_never e (inr again) = again.unsound sound_some
+
+  used_never : ¬ UsedUpCause t
+  used_never (inl at_fault) = none_is_some (sym sound_fine ∙ at_fault _ sound_told)
+  used_never (inr later) = later.unsound sound
 
   pub sector_never : ¬ StrayCause t
   sector_never (inl stray) = stray _ sound_told sound.map sound_stands
@@ -172,8 +186,12 @@ module _ (t : Told) (sound : RestsWithNumbersLeft t) where
   opened_excused (image.Chip (Damaged p s stored computed)) new c = absurd (sector_never c.1)
   opened_excused (image.Chip (Malformed p s)) new c = absurd (sector_never c)
   opened_excused (image.Chip (WornOut n)) new c = inr (inr refl)
-  opened_excused image.Spent new c = absurd (laid_never image.Spent c)
+  opened_excused image.Spent new c = absurd (used_never c)
   opened_excused (image.NoSpare n) new c = absurd (laid_never (image.NoSpare n) c)
+
+-- what was met again was met later
+pub again_is_later : (old : Told) → IsMetAgain old → IsMetLater old
+again_is_later old met = record { laid = met.laid; unsound = λ sound. met.unsound (sound_some old sound) }
 
 -- ---- a chip that isn't opened
 
@@ -184,9 +202,9 @@ module _ {marks : Bool} (old new : Told) (end : End) (n : IsNotOpened marks end 
       (record { read = new; reads = looked.0; noted = refl }, looked.1)
 
   -- a fault of how the chip is laid out is its first fault
-  laid_cause : (f : ImageFault) → ((c : ChipFault) → f ≡ image.Chip c → ⊥) → n.fault ≡ f
-      → LaidCause f old
-  laid_cause f apart is = inl (λ x told.
+  first_cause : (f : ImageFault) → ((c : ChipFault) → f ≡ image.Chip c → ⊥) → n.fault ≡ f
+      → IsAtFault old f
+  first_cause f apart is = (λ x told.
       elim (n.tries.tells x told (λ (c, failed, call). apart c (sym is ∙ failed))) [
         | inl first ↦ first ∙ ap Some is
         | inr none ↦ absurd (apart none.1.fault (sym is ∙ none.1.is))
@@ -241,9 +259,9 @@ module _ {marks : Bool} (old new : Told) (end : End) (n : IsNotOpened marks end 
 
   unopened_by : (f : ImageFault) → n.fault ≡ f → OpeningCause n.tables.places f old new
       → OpenedCause f old new
-  unopened_by image.Geometry is cause = laid_cause image.Geometry (λ c same. cc) is
-  unopened_by image.NotFormatted is cause = laid_cause image.NotFormatted (λ c same. cc) is
-  unopened_by (image.Missing u) is cause = laid_cause (image.Missing u) (λ c same. cc) is
+  unopened_by image.Geometry is cause = inl (first_cause image.Geometry (λ c same. cc) is)
+  unopened_by image.NotFormatted is cause = inl (first_cause image.NotFormatted (λ c same. cc) is)
+  unopened_by (image.Missing u) is cause = inl (first_cause (image.Missing u) (λ c same. cc) is)
   unopened_by (image.Chip ReadFault) is cause = cause.read refl
   unopened_by (image.Chip Stopped) is cause = cause.stopped refl
   unopened_by (image.Chip (Damaged p s stored computed)) is cause = (
@@ -252,8 +270,8 @@ module _ {marks : Bool} (old new : Told) (end : End) (n : IsNotOpened marks end 
   )
   unopened_by (image.Chip (Malformed p s)) is cause = sector_cause (Malformed p s) (λ none. none) is
   unopened_by (image.Chip (WornOut k)) is cause = worn_by k is (cause.worn k refl)
-  unopened_by image.Spent is cause = laid_cause image.Spent (λ c same. cc) is
-  unopened_by (image.NoSpare k) is cause = laid_cause (image.NoSpare k) (λ c same. cc) is
+  unopened_by image.Spent is cause = inl (first_cause image.Spent (λ c same. cc) is)
+  unopened_by (image.NoSpare k) is cause = inl (first_cause (image.NoSpare k) (λ c same. cc) is)
 
   pub unopened_cause : OpenedCause n.fault old new
   unopened_cause = unopened_by n.fault refl n.tries.accounts.cause
@@ -288,25 +306,25 @@ module _ {marks : Bool} (old mid : Told) (store : ScriptStore) (s : StartsOpened
 
   module _ (then : ScriptStore) (new : Told) where
     abbrev Completes : Stop → Type 0
-    Completes e = CompletesOver (script_keeping mid.places all_pages) {T = Unit {0}} (SCRIPT_DRAWS + WORK_DRAWS) store mid
-        (Err e) then new
+    Completes e = (known : KnownPages)
+        → CompletesOver (script_keeping mid.places known) {T = Unit {0}} (SCRIPT_DRAWS + WORK_DRAWS) store mid (Err e) then new
 
     -- it keeps the records on which a history rests
-    keeps_some : (m : Map) (h : History) → IsSteady h old → StoryRests old.places (whole m) h
-        → KeepsSome (script_keeping mid.places all_pages) (limits_of store.store.units) store mid
-    keeps_some m h steady rests = subst (λ (n : ℕ).
-        KeepsSome (script_keeping n all_pages) (limits_of store.store.units) store mid)
+    keeps_some : (known : KnownPages) (m : Map) (h : History) → IsSteady h old → StoryRests old.places (of known.pages m) h
+        → KeepsSome (script_keeping mid.places known) (limits_of store.store.units) store mid
+    keeps_some known m h steady rests = subst (λ (n : ℕ).
+        KeepsSome (script_keeping n known) (limits_of store.store.units) store mid)
         (sym s.tries.accounts.counts.places) (record {
           state = at_rest m;
-          history = adds_all (s.tries.steps (whole m) h steady rests).2.added h;
-          holds = opened_keeps old mid store s all_pages m h steady rests;
+          history = adds_all (s.tries.steps (of known.pages m) h steady rests).2.added h;
+          holds = opened_keeps old mid store s known m h steady rests;
         })
 
     -- the store of a sound chip fails only where a call of the chip failed, and says so
     excused : (f : Fault) → Completes (stop.Store f) → RestsWithNumbersLeft old → SaysFailedCall f
     excused f completes sound =
-        let done = completes (limits_of store.store.units)
-        (keeps_some sound.map sound.history sound.steady sound.rests) in
+        let done = completes all_pages (limits_of store.store.units)
+        (keeps_some all_pages sound.map sound.history sound.steady sound.rests) in
         let number : counter_of store.store ≤ greatest_found (now sound.history) old.places + 1 + 2 ^ 14 =
         s.opens.number _ sound.steady.holds in
         let next : next_number store ≡ counter_of store.store = rw s.running.up refl in
@@ -320,15 +338,23 @@ module _ {marks : Bool} (old mid : Told) (store : ScriptStore) (s : StartsOpened
 
     -- a fault of the store tells what it may, wherever a history rests on records
     abbrev Tells : Fault → Type 0
-    Tells f = (m : Map) (h : History) → IsSteady h old → StoryRests old.places (whole m) h
+    Tells f = (known : KnownPages) (m : Map) (h : History) → IsSteady h old → StoryRests old.places (of known.pages m) h
         → FaultTells (spares_on old.places (units_at (now h) old.places)) f
 
     tells_so : (f : Fault) → Completes (stop.Store f) → Tells f
-    tells_so f completes m h steady rests =
+    tells_so f completes known m h steady rests =
         subst (λ (u : ℕ). FaultTells (spares_on old.places u) f) (units_told old mid store s h steady)
         (subst (λ (p : ℕ). FaultTells (spares_on p store.store.units) f)
         s.tries.accounts.counts.places
-        ((completes (limits_of store.store.units) (keeps_some m h steady rests)).tells f refl))
+        ((completes known (limits_of store.store.units) (keeps_some known m h steady rests)).tells f refl))
+
+    -- what never comes so was met where no history rests on records
+    met_again : (f : Fault) → Tells f → ((spares : ℕ) → FaultTells spares f → ⊥) → IsMetAgain old
+    met_again f tells never = record {
+      laid = opened_laid;
+      unsound = λ sound. never (spares_on old.places (units_at (now sound.history) old.places)) (tells (record { pages = sound.legible.pages; apart = sound.apart }) sound.legible.map
+          sound.history sound.steady sound.rests);
+    }
 
     -- so many places are worn
     worn_met : (n : ℕ) → IsWornCount mid.places n → Rose mid.worn_erases new.worn_erases
@@ -350,17 +376,20 @@ module _ {marks : Bool} (old mid : Told) (store : ScriptStore) (s : StartsOpened
     chip_met (Damaged p q stored computed) met tells wears cause =
         (cause, inr (met (λ none. none)))
     chip_met (Malformed p q) met tells wears cause = inr (met (λ none. none))
-    chip_met (WornOut n) met tells wears cause = worn_met n cause.0 cause.1 tells wears
+    chip_met (WornOut n) met tells wears cause = worn_met n cause.0 cause.1 (tells all_pages) wears
 
     image_met : (e : ImageFault) → (¬ SaysFailedCall (fault.Image e) → IsMetLater old)
         → Tells (fault.Image e) → ImageWears old e new
         → StoreCause mid.places (fault.Image e) mid new → OpenedCause e old new
-    image_met image.Geometry met tells wears cause = inr (met (λ none. none))
-    image_met image.NotFormatted met tells wears cause = inr (met (λ none. none))
-    image_met (image.Missing u) met tells wears cause = inr (met (λ none. none))
+    image_met image.Geometry met tells wears cause = inr (met_again (fault.Image image.Geometry) tells (λ spares none. none))
+    image_met image.NotFormatted met tells wears cause =
+        inr (met_again (fault.Image image.NotFormatted) tells (λ spares none. none))
+    image_met (image.Missing u) met tells wears cause =
+        inr (met_again (fault.Image (image.Missing u)) tells (λ spares none. none))
     image_met (image.Chip c) met tells wears cause = chip_met c met tells wears cause
     image_met image.Spent met tells wears cause = inr (met (λ none. none))
-    image_met (image.NoSpare k) met tells wears cause = inr (met (λ none. none))
+    image_met (image.NoSpare k) met tells wears cause =
+        inr (met_again (fault.Image (image.NoSpare k)) tells (λ spares none. none))
 
     -- why the run stops
     stop_cause : (frames : ℕ) (closes : Bool) (e : Stop) → Completes e
@@ -382,7 +411,8 @@ module _ {marks : Bool} (old mid : Told) (store : ScriptStore) (s : StartsOpened
         s.tries.accounts.counts (long refl)
 
     pub over_cause : (frames : ℕ) (closes : Bool) (result : Result (Unit {0}) Stop)
-        → CompletesOver (script_keeping mid.places all_pages) (SCRIPT_DRAWS + WORK_DRAWS) store mid result then new
+        → ((known : KnownPages)
+        → CompletesOver (script_keeping mid.places known) (SCRIPT_DRAWS + WORK_DRAWS) store mid result then new)
         → IfErr result (λ e. StopCause (script_keeping mid.places all_pages) mid new e)
         → LearnsAlong (script_keeping mid.places all_pages) store mid result then new
         → (IsErrOf result (stop.Store fault.Spent) → ⊥)
@@ -575,7 +605,7 @@ module _ (old mid : Told) (f : WasFormatted old mid) where
       found = fresh_finds old mid new f.fits f.counts.places
           (λ h. ((f.formats h).added, (f.formats h).history)) f.contents c.wears;
     }
-    anew_by image.Spent c = laid_anew image.Spent c
+    anew_by image.Spent c = λ h steady. used_never mid (fresh_sound h steady) c
     anew_by (image.NoSpare k) c = laid_anew (image.NoSpare k) c
 
     -- why a run over it ends

@@ -21,10 +21,10 @@ use Rattle.ipl_cli.specs.Ending.{AskedFor, AsksOpened, AsksFormatted, AsksAnew, 
 use Rattle.ipl_cli.specs.Trials.{TrialLeaves}
 use Rattle.ipl_cli.specs.Checks.{CheckLeaves}
 use Rattle.ipl_cli.specs.Views.{ViewsTold, OnlyViews, OnlyHears, SerialLeaves}
-use Rattle.ipl_cli.specs.Top.{HasFault, IsStray, IsLaidWell, LaidCause, FindsWorn, WearsAsAsked, StrayCause, OpenedCause, FormatCause, AnewCause, FormattedCause, ChipCause, IsTooLong, EndCause, RunsOpened, RunsFormatted, LaysOut, OnlyLooks, EndsAtFault, FormatLeaves, FormattedLeaves, OpenedLeaves, EndLeaves, Ends, RefusesFaults, StrayCause, SpentCause, LacksUnits, EndsUnfit, UntouchedOrRuns, IsCalm, Suffices, EndsInTime}
+use Rattle.ipl_cli.specs.Top.{HasFault, IsStray, IsLaidWell, LaidCause, UsedUpCause, FindsWorn, WearsAsAsked, StrayCause, OpenedCause, FormatCause, AnewCause, FormattedCause, ChipCause, IsTooLong, EndCause, RunsOpened, RunsFormatted, LaysOut, OnlyLooks, EndsAtFault, FormatLeaves, FormattedLeaves, OpenedLeaves, EndLeaves, Ends, RefusesFaults, StrayCause, SpentCause, LacksUnits, EndsUnfit, UntouchedOrRuns, IsCalm, Suffices, EndsInTime}
 use Rattle.ipl_cli.proofs.EndLemmas.{stopped_early, untouched_runs}
 use Rattle.ipl_cli.proofs.WornLemmas.{format_finds}
-use Rattle.ipl_cli.proofs.StartLemmas.{stands_well}
+use Rattle.ipl_cli.proofs.StartLemmas.{stands_well, again_is_later}
 use Rattle.ipl_cli.proofs.ViewLemmas.{untouched_hears, hears_views, hears_only}
 use Rattle.ipl_cli.proofs.CheckLemmas.{checked_chip, checked_worn, checked_spent, checked_stray}
 use Rattle.ipl_cli.proofs.StatusLemmas.{chip_status, above_zero, not_zero}
@@ -203,7 +203,7 @@ module _ (old new : Told) where
   laid_image e is (inl first) = inl (λ x told m stands.
       let spent = stands_well old.places (chart_of x) m stands e (first x told) in
       omega (arith, is, ap fault_status spent))
-  laid_image e is (inr met) = inr met
+  laid_image e is (inr met) = inr (again_is_later old met)
 
   -- a status of a fault of the chip is that of an image, or a count rose, or numbers are used up
   opened_image : (e : ImageFault) → OpenedCause e old new → fault_status e ≡ 4 → StrayCause old
@@ -234,7 +234,7 @@ module _ (old new : Told) where
   opened_chip image.Spent c is = absurd (omega (arith, is))
   opened_chip (image.NoSpare n) c is = absurd (omega (arith, is))
 
-  spent_first : LaidCause image.Spent old → SpentCause old
+  spent_first : UsedUpCause old → SpentCause old
   spent_first (inl first) = inl (λ x told. faults_are_caused (chart_of x) old.places image.Spent
       (first x told))
   spent_first (inr met) = inr met

@@ -32,7 +32,7 @@ use Rattle.store_trait.specs.Onward.{Onward}
 use Rattle.store_trait.specs.declared.fault.Fault.TheVariants as fault
 use Rattle.store_trait.proofs.DrawLemmas.{numbers_last}
 use Rattle.store_trait.proofs.OnwardLemmas.{unrisen_later}
-use Rattle.store_laws.specs.Keeps.{all_pages, limits_of}
+use Rattle.store_laws.specs.Keeps.{KnownPages, all_pages, limits_of}
 use Rattle.script_run.specs.declared.fault.Stop.{Stop}
 use Rattle.script_run.specs.declared.fault.Stop.TheVariants as stop
 use Rattle.script_run.specs.Goes.{Along, CompletesOver}
@@ -498,7 +498,7 @@ module _ (old mid : Told) (store : ScriptStore) (s : StartsFormatted old store m
       (cause_by frames t.result t.stops (cause_anew old mid store s then new frames false
       (ending_of t.result)
       (over_cause s.formatted mid store s.opened then new frames false t.result
-      (λ limits keeps. completes_more (t.completes limits keeps) (omega arith)) t.cause t.learns t.unspent (never_long t.result t.stops))))
+      (λ known limits keeps. completes_more (t.completes known limits keeps) (omega arith)) t.cause t.learns t.unspent (never_long t.result t.stops))))
 
 -- ---- as the calls have it
 
@@ -510,7 +510,7 @@ module _ (seed count units : ℕ) (before then : ScriptStore) (old new : Told)
       → RunsTrial (script_keeping old.places all_pages) (trial_commands units seed count) before old result
       then new
       → Along (script_keeping old.places all_pages) Onward SCRIPT_DRAWS before old result then new
-      → CompletesOver (script_keeping old.places all_pages) SCRIPT_DRAWS before old result then new
+      → ((known : KnownPages) → CompletesOver (script_keeping old.places known) SCRIPT_DRAWS before old result then new)
       → IfErr result IsTrialStop → TriesOver seed count (ending_of result) before old then new
   tries_over result run goes completes stops = record {
     result = result;

@@ -129,7 +129,8 @@ pub record HasRun (result : Result (Unit {0}) Stop) (before : ScriptStore) (old 
     : Type 0 where
   pub runs : (known : KnownPages) → RunsScript (script_keeping old.places known) before old result then new
   pub tidy : LeavesTidy (script_keeping old.places all_pages) before then old new (is_ok result)
-  pub completes : CompletesOver (script_keeping old.places all_pages) (SCRIPT_DRAWS + WORK_DRAWS) before old result then new
+  pub completes : (known : KnownPages)
+      → CompletesOver (script_keeping old.places known) (SCRIPT_DRAWS + WORK_DRAWS) before old result then new
   pub cause : IfErr result (λ s. StopCause (script_keeping old.places all_pages) old new s)
   pub learns : LearnsAlong (script_keeping old.places all_pages) before old result then new
   pub unspent : IsErrOf result (stop.Store fault.Spent) → ⊥
@@ -199,7 +200,8 @@ pub record TriesOver (seed count : ℕ) (ending : Ending) (before : ScriptStore)
   pub trial : RunsTrial (script_keeping old.places all_pages) (trial_commands before.store.units seed count)
       before old result then new
   pub tidy : LeavesTidy (script_keeping old.places all_pages) before then old new (is_ok result)
-  pub completes : CompletesOver (script_keeping old.places all_pages) SCRIPT_DRAWS before old result then new
+  pub completes : (known : KnownPages)
+      → CompletesOver (script_keeping old.places known) SCRIPT_DRAWS before old result then new
   pub cause : IfErr result (λ s. StopCause (script_keeping old.places all_pages) old new s)
   pub learns : LearnsAlong (script_keeping old.places all_pages) before old result then new
   pub unspent : IsErrOf result (stop.Store fault.Spent) → ⊥

@@ -103,9 +103,27 @@ pub record IsMetLater (old : Told) : Type 0 where
   pub laid : IsLaidWell old
   pub unsound : ¬ RestsWithNumbersLeft old
 
--- a fault of how the chip is laid out was found when it was opened, or met later
+-- a history leaves what the chip holds, and rests on records, whichever pages don't read well
+pub record RestsOnSome (t : Told) : Type 0 where
+  pub legible : Legible
+  pub history : History
+  pub steady : IsSteady history t
+  pub rests : StoryRests t.places legible history
+  pub apart : IsToldApart legible.pages
+
+-- A restart met the fault: what the chip held had no fault as it was laid out, but no history of it rested on
+-- records, of whatever pages.
+pub record IsMetAgain (old : Told) : Type 0 where
+  pub laid : IsLaidWell old
+  pub unsound : ¬ RestsOnSome old
+
+-- that a chip isn't formatted, misses a unit or has too few places was found when it was opened, or met again
 abbrev pub LaidCause : ImageFault → Told → Type 0
-LaidCause e old = IsAtFault old e ⊎ IsMetLater old
+LaidCause e old = IsAtFault old e ⊎ IsMetAgain old
+
+-- that its numbers are used up was found when it was opened, or met later
+abbrev pub UsedUpCause : Told → Type 0
+UsedUpCause old = IsAtFault old image.Spent ⊎ IsMetLater old
 
 -- what the chip held stands for no map, or the fault was met later
 abbrev pub StrayCause : Told → Type 0
@@ -145,7 +163,7 @@ OpenedCause (image.Chip (Damaged p s stored computed)) old new =
     (stored ≢ computed) × StrayCause old
 OpenedCause (image.Chip (Malformed p s)) old new = StrayCause old
 OpenedCause (image.Chip (WornOut n)) old new = WornOutCause n old new
-OpenedCause image.Spent old new = LaidCause image.Spent old
+OpenedCause image.Spent old new = UsedUpCause old
 OpenedCause (image.NoSpare n) old new = LaidCause (image.NoSpare n) old
 
 -- when a fault of the chip ends a format with so many places to spare

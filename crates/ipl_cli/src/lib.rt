@@ -7,7 +7,7 @@
 //! Proved, by `top`: `survives`, `survives_anew`: the statement. Over a chip that tells what it
 //! holds, wherever the power is cut, what is left stands for the records after the commands whose
 //! replies were said, or after one more: from its own records on, or from none where it was formatted
-//! first.
+//! first. It speaks of the records of the pages that read well, also where others are known not to.
 //!
 //! Proved, by `top`: `lawful`, `opened`, `formatted`, `part`, `stops`: over every desk that tells its
 //! history no sector is programmed twice between erases of its place, whatever the chip holds. The
@@ -35,7 +35,8 @@
 //! more was among it (`unfit`); a failed call is told as such. At 10 an erase found its place worn
 //! (`worn`), and the line says how many are, one more than are spare. Where no count rises, the
 //! script ends in time and the chip is such as the words ask for, the status is 0, or 5. At 0 a run
-//! or a trial was done by a store of as many frames as were asked (`framed`).
+//! or a trial was done by a store of as many frames as were asked, and a run that isn't to close the
+//! chip did nothing behind its last reply (`framed`).
 //!
 //! Proved, by `top`: `closed`: where the words ask to close the chip, at 0 a mark was programmed last
 //! of all. Over a chip that was opened and tells its history, each log sector at a unit's place that
@@ -56,7 +57,9 @@
 //!
 //! Proved, by the laws of `chains`, from the clauses of `top` alone: what these come to for runs one
 //! after another over the same desk, whatever desk it is. A run after a run that ended with 0 begins
-//! with the records that the first one left, and a run after a format with none.
+//! with the records that the first one left, and a run after a format with none. From a format on the
+//! story that the desk tells is lawful over all of them. The commands of the serial view of a script
+//! leave the records that the script leaves.
 #![tactic(auto)]
 
 mod chains;

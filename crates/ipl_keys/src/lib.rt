@@ -18,7 +18,8 @@
 //! lists of writes does, or leaves it where it fails, and no record is found to be no bucket; at each
 //! moment a power cut leaves the keys before, or in a commit those after it. A close is refused
 //! exactly where the store is down, its numbers are used up or a session is open; else it keeps the
-//! keys, and once it is done the store is down. By `key_laws`, without a chip: records have one map
+//! keys, and once it is done the store is down. All this is said of the keys in records of pages that
+//! read well, also where others are known not to. By `key_laws`, without a chip: records have one map
 //! of keys, and each operation on records is one on keys.
 #![tactic(auto)]
 

@@ -9,7 +9,8 @@
 //! Proved, by `run_script`: the loop over any store, with chip events between the replies: said, each
 //! moment of a cut, lawful events, what the store keeps at every end and which commands are done
 //! then, each end's cause, that a fault of the store comes of the chip, how many numbers a script
-//! draws, and what is known of worn places at its end.
+//! draws, and what is known of worn places at its end. Where all is answered, the last event is the
+//! last reply.
 //!
 //! Proved, by `say_serial_view`: a script is read to its end, in whatever pieces, and the lines of
 //! its serial view are said, or a beginning of them; over every desk no sector is touched; each stop
@@ -22,8 +23,8 @@
 //!
 //! Proved, by `run_trial`: a trial over any store: what is said is the summary of its commands by the
 //! model, or a beginning of it, line by line; each moment of a cut, in the order of the commands;
-//! lawful events, what the store keeps at every end and which commands are done then, each end's
-//! cause, that a fault of the store comes of the chip, how many numbers it draws, and what is known
+//! lawful events, that nothing marked is used, what the store keeps at every end and which commands
+//! are done then, each end's cause, that a fault of the store comes of the chip, how many numbers it draws, and what is known
 //! of worn places at its end.
 #![tactic(auto)]
 

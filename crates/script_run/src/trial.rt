@@ -37,7 +37,7 @@ pub fn run_trial<S: Store, D: Desk>(
     // It draws no more numbers than a script may.
     ensures along { Along (S.keeping places S.all) Onward SCRIPT_DRAWS store.old (D.told desk.old) result store.new
         (D.told desk.new) }
-    ensures completes { CompletesOver (S.keeping places S.all) SCRIPT_DRAWS store.old (D.told desk.old) result
+    ensures completes { (known : S.Known) → CompletesOver (S.keeping places known) SCRIPT_DRAWS store.old (D.told desk.old) result
         store.new (D.told desk.new) }
     ensures stops { IfErr result IsTrialStop }
 {

@@ -28,9 +28,9 @@ fn take_one<S: Store, D: Desk>(
         (D.told desk.old) result records.new store.new (D.told desk.new) }
     ensures along { Along (S.keeping places S.all) Onward LOOK_UP_DRAWS store.old (D.told desk.old) result store.new
         (D.told desk.new) }
-    ensures completes { (limits : Limits) → n < limits.names
-        → KeepsSome (S.keeping places S.all) limits store.old (D.told desk.old)
-        → Completes (S.keeping places S.all) limits LOOK_UP_DRAWS store.old (D.told desk.old) result store.new
+    ensures completes { (known : S.Known) (limits : Limits) → n < limits.names
+        → KeepsSome (S.keeping places known) limits store.old (D.told desk.old)
+        → Completes (S.keeping places known) limits LOOK_UP_DRAWS store.old (D.told desk.old) result store.new
         (D.told desk.new) }
     ensures stops { IfErr result IsStoreStop }
     ensures few { records.new.count ≤ records.old.count + 1 }
@@ -56,9 +56,9 @@ fn take_below<S: Store, D: Desk>(
         (D.told desk.old) result records.new store.new (D.told desk.new) }
     ensures along { Along (S.keeping places S.all) Onward (LOOK_UP_DRAWS * names) store.old (D.told desk.old) result
         store.new (D.told desk.new) }
-    ensures completes { (limits : Limits) → names ≤ limits.names
-        → KeepsSome (S.keeping places S.all) limits store.old (D.told desk.old)
-        → Completes (S.keeping places S.all) limits (LOOK_UP_DRAWS * names) store.old (D.told desk.old) result store.new
+    ensures completes { (known : S.Known) (limits : Limits) → names ≤ limits.names
+        → KeepsSome (S.keeping places known) limits store.old (D.told desk.old)
+        → Completes (S.keeping places known) limits (LOOK_UP_DRAWS * names) store.old (D.told desk.old) result store.new
         (D.told desk.new) }
     ensures stops { IfErr result IsStoreStop }
 {
@@ -82,7 +82,7 @@ pub(crate) fn take_all<S: Store, D: Desk>(
         (D.told desk.old) result records.new store.new (D.told desk.new) }
     ensures along { Along (S.keeping places S.all) Onward (LOOK_UP_DRAWS * 983040) store.old (D.told desk.old) result
         store.new (D.told desk.new) }
-    ensures completes { CompletesOver (S.keeping places S.all) (LOOK_UP_DRAWS * 983040) store.old (D.told desk.old)
+    ensures completes { (known : S.Known) → CompletesOver (S.keeping places known) (LOOK_UP_DRAWS * 983040) store.old (D.told desk.old)
         result store.new (D.told desk.new) }
     ensures stops { IfErr result IsStoreStop }
 {

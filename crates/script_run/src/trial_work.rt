@@ -28,7 +28,7 @@ fn do_one<S: Store, D: Desk>(
         tally.new store.new (D.told desk.new) }
     ensures along { Along (S.keeping places S.all) Onward WORK_DRAWS store.old (D.told desk.old) result store.new
         (D.told desk.new) }
-    ensures completes { CompletesOver (S.keeping places S.all) WORK_DRAWS store.old (D.told desk.old) result store.new
+    ensures completes { (known : S.Known) → CompletesOver (S.keeping places known) WORK_DRAWS store.old (D.told desk.old) result store.new
         (D.told desk.new) }
     ensures stops { IfErr result IsStoreStop }
     ensures more { OnOk result (tally.new.commands ≡ tally.old.commands + 1) }
@@ -53,7 +53,7 @@ pub fn do_all<S: Store, D: Desk>(
         (D.told desk.old) result tally.new store.new (D.told desk.new) }
     ensures along { Along (S.keeping places S.all) Onward (WORK_DRAWS * count) store.old (D.told desk.old) result
         store.new (D.told desk.new) }
-    ensures completes { CompletesOver (S.keeping places S.all) (WORK_DRAWS * count) store.old (D.told desk.old) result
+    ensures completes { (known : S.Known) → CompletesOver (S.keeping places known) (WORK_DRAWS * count) store.old (D.told desk.old) result
         store.new (D.told desk.new) }
     ensures stops { IfErr result IsStoreStop }
 {

@@ -1,9 +1,10 @@
 -- A chip that is opened again is the work of a restart.
-use Rattle.std.proofs.Common.{ℕ, ◌≡◌, ◌⊎◌, inl, inr, ◌≤◌, ◌<◌, ◌+◌, ◌^◌, arith, Bool, true, false, [], None, Some, Result, Ok, Err, OnOk, length, if◌then◌else◌, refl, sym, ◌∙◌, ap, subst}
+use Rattle.std.proofs.Common.{ℕ, ◌≡◌, ◌≢◌, ◌⊎◌, inl, inr, ◌≤◌, ◌<◌, ◌+◌, ◌^◌, arith, Bool, true, false, [], None, Some, Result, Ok, Err, OnOk, length, if◌then◌else◌, refl, sym, ◌∙◌, ap, subst}
 use Rattle.std.proofs.lemmas.Bool.{true≢false}
 use Rattle.chip_trait.specs.Lawful.{AreClean}
 use Rattle.chip_trait.specs.Story.{Story, Contents, held}
 use Rattle.chip_trait.specs.Told.{History, Told}
+use Rattle.ipl_base.specs.declared.fault.ChipFault.{ChipFault}
 use Rattle.ipl_base.specs.declared.fault.ChipFault.TheVariants.{ReadFault, Stopped, Damaged, Malformed, WornOut}
 use Rattle.ipl_base.specs.Places.{KeepsUnits, spares_on}
 use Rattle.ipl_base.specs.declared.fault.ImageFault.{ImageFault}
@@ -186,24 +187,37 @@ image_cause places d (image.Missing u) before after all keeps cause = tt
 image_cause places d image.Spent before after all keeps cause = tt
 image_cause places d (image.NoSpare n) before after all keeps cause = tt
 
+-- a chip that is laid out fails with what is wrong with a page, or since its numbers are used up, or where a call failed
+never_laid : (places : ℕ) (x : Contents) (it : Layout) (e : ImageFault) → Laid places (chart_of x) it
+    → (¬ FailsByCallAlone e → IsOpeningFault places x e)
+    → ((f : ChipFault) → e ≢ image.Chip f) → e ≢ image.Spent → ⊥
+never_laid places x it e laid unless apart unspent = elim (unless (λ (f, is, call). apart f is)) [
+  | inl first ↦ elim (laid_is_fine_or_spent (chart_of x) places it laid) [
+    | inl none ↦ (let both : None ≡ Some e = sym none ∙ first in cc both)
+    | inr spent ↦ unspent (let both : Some e ≡ Some image.Spent = sym first ∙ spent in cc both)
+  ]
+  | inr fault ↦ apart fault.1.fault fault.1.is
+]
+
 -- it tells no other number of worn places than one more than are spare, where the tables then have
 -- so many units
 image_tells : (places units : ℕ) (d : Places) (e : ImageFault) (before after : Told)
     → length d.in_use ≡ places → (tells_wear e ≡ true → length d.current ≡ units)
-    → OpeningCause d e before after → ImageTells (spares_on places units) e
-image_tells places units d (image.Chip ReadFault) before after all many cause = tt
-image_tells places units d (image.Chip Stopped) before after all many cause = tt
-image_tells places units d (image.Chip (Damaged p s stored computed)) before after all many cause =
+    → OpeningCause d e before after → (((f : ChipFault) → e ≢ image.Chip f) → e ≢ image.Spent → ⊥)
+    → ImageTells (spares_on places units) e
+image_tells places units d (image.Chip ReadFault) before after all many cause never = tt
+image_tells places units d (image.Chip Stopped) before after all many cause never = tt
+image_tells places units d (image.Chip (Damaged p s stored computed)) before after all many cause never =
     tt
-image_tells places units d (image.Chip (Malformed p s)) before after all many cause = tt
-image_tells places units d (image.Chip (WornOut n)) before after all many cause =
+image_tells places units d (image.Chip (Malformed p s)) before after all many cause never = tt
+image_tells places units d (image.Chip (WornOut n)) before after all many cause never =
     (cause.worn n refl).0 ∙ ap (λ (k : ℕ). 1 + spares_on k (length d.current)) all
     ∙ ap (λ (k : ℕ). 1 + spares_on places k) (many refl)
-image_tells places units d image.Geometry before after all many cause = tt
-image_tells places units d image.NotFormatted before after all many cause = tt
-image_tells places units d (image.Missing u) before after all many cause = tt
-image_tells places units d image.Spent before after all many cause = tt
-image_tells places units d (image.NoSpare n) before after all many cause = tt
+image_tells places units d image.Geometry before after all many cause never = never (λ f is. cc is) (λ is. cc is)
+image_tells places units d image.NotFormatted before after all many cause never = never (λ f is. cc is) (λ is. cc is)
+image_tells places units d (image.Missing u) before after all many cause never = never (λ f is. cc is) (λ is. cc is)
+image_tells places units d image.Spent before after all many cause never = tt
+image_tells places units d (image.NoSpare n) before after all many cause never = never (λ f is. cc is) (λ is. cc is)
 
 -- the fault is that the numbers are used up, or the chart has none
 spent_or_none : (places : ℕ) (x : Contents) (it : Layout) (e : ImageFault)
@@ -355,7 +369,8 @@ module _ (known : KnownPages) (a b : ScriptStore) (before after : Told) (runs : 
         λ low all. rose_for t.places e before after tries.accounts.cause (fails low all),
         image_tells before.places a.store.units t.places e before after tries.all
             (λ worn. tries.costs.units (or_right false (tells_wear e) worn) x told
-            ∙ as_many state h keeps) tries.accounts.cause,
+            ∙ as_many state h keeps) tries.accounts.cause
+            (never_laid before.places x shown.layout e laid (tries.tells x told)),
       )
         where
           x : Contents

@@ -8,7 +8,9 @@
 //! script uses it are the work of their commands, as the store's trait has it: wherever the power
 //! is cut, the chip stands for the records before the command or after it; done, the store keeps
 //! the model's next state, and the reply is the model's; few numbers are drawn, and a fault has its
-//! excuse and its cause. So is looking a committed record up. A clean close aborts all sessions, and is
+//! excuse and its cause. That is so of the records of each choice of pages of which none is neither
+//! known to read well nor known not to: what a call does to the others is a fault. So is looking a
+//! committed record up. A clean close aborts all sessions, and is
 //! work behind the script that says nothing: the chip stands for the same records, and done, its last two
 //! events are the program of a mark and a barrier. Each log sector at a unit's place that was erased since the
 //! chip was opened, and not programmed, is marked then.

@@ -136,13 +136,14 @@ ChipTells spares (Damaged p s stored computed) = Unit {0}
 ChipTells spares (Malformed p s) = Unit {0}
 ChipTells spares (WornOut n) = n ≡ 1 + spares
 
+-- and what stands for records, whichever pages read well, is formatted, misses no unit and has as many places as it needs
 abbrev pub ImageTells : ℕ → ImageFault → Type 0
-ImageTells spares image.Geometry = Unit {0}
-ImageTells spares image.NotFormatted = Unit {0}
-ImageTells spares (image.Missing u) = Unit {0}
+ImageTells spares image.Geometry = ⊥
+ImageTells spares image.NotFormatted = ⊥
+ImageTells spares (image.Missing u) = ⊥
 ImageTells spares (image.Chip e) = ChipTells spares e
 ImageTells spares image.Spent = Unit {0}
-ImageTells spares (image.NoSpare n) = Unit {0}
+ImageTells spares (image.NoSpare n) = ⊥
 
 abbrev pub FaultTells : ℕ → Fault → Type 0
 FaultTells spares (Chip e) = ChipTells spares e

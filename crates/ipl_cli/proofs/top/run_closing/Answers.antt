@@ -12,7 +12,7 @@ returns-in_err-run_script g c =
     let did = c.in_err-run_script.ensures in record {
       runs = rw (e.1, e.2) (ran_alone c.args.store.now c.run_script.new.store (g.D.Chip.told c.args.desk.now)
           (g.D.Chip.told c.run_script.new.desk) c.args.closes (Err c.in_err-run_script.field-0.0) c.requires.left
-          did.run (did.tidy all_pages) (did.draws all_pages) (did.completes all_pages) (did.learns all_pages) did.further (did.ends all_pages) tt);
+          did.run (did.tidy all_pages) (did.draws all_pages) did.completes (did.learns all_pages) did.further (did.ends all_pages) tt);
     }
 
 pub returns-else-closes : goal.returns-else-closes
@@ -20,7 +20,7 @@ returns-else-closes g c =
     let did = c.in_ok-run_script.ensures in record {
       runs = ran_alone c.args.store.now c.run_script.new.store (g.D.Chip.told c.args.desk.now)
           (g.D.Chip.told c.run_script.new.desk) c.args.closes (Ok tt) c.requires.left did.run (did.tidy all_pages) (did.draws all_pages)
-          (did.completes all_pages) (did.learns all_pages) did.further (did.ends all_pages)
+          did.completes (did.learns all_pages) did.further (did.ends all_pages)
           (λ is. absurd (let clash : true ≡ false = sym is ∙ c.if-closes.false in cc clash));
     }
 
@@ -36,7 +36,7 @@ returns-in_err-close_behind g c =
           c.close_behind.new.store new) (sym closing.result_is)
           (ran_closing c.args.store.now c.run_script.new.store c.close_behind.new.store old
           (g.D.Chip.told c.run_script.new.desk) new c.args.closes closing.closed did.further closing.closes
-          c.requires.left did.run (did.tidy all_pages) (did.draws all_pages) (did.completes all_pages) (did.learns all_pages) (did.ends all_pages).all c.if-closes.true));
+          c.requires.left did.run (did.tidy all_pages) (did.draws all_pages) did.completes (did.learns all_pages) (did.ends all_pages).all c.if-closes.true));
     }
 
 pub returns-in_ok-close_behind : goal.returns-in_ok-close_behind
@@ -49,5 +49,5 @@ returns-in_ok-close_behind g c =
           c.close_behind.new.store new) (sym closing.result_is)
           (ran_closing c.args.store.now c.run_script.new.store c.close_behind.new.store old
           (g.D.Chip.told c.run_script.new.desk) new c.args.closes closing.closed did.further closing.closes
-          c.requires.left did.run (did.tidy all_pages) (did.draws all_pages) (did.completes all_pages) (did.learns all_pages) (did.ends all_pages).all c.if-closes.true);
+          c.requires.left did.run (did.tidy all_pages) (did.draws all_pages) did.completes (did.learns all_pages) (did.ends all_pages).all c.if-closes.true);
     }

@@ -27,9 +27,9 @@ returns-in_err-do_all-clause-run g c = λ limits state h holds.
     c.of-commands.ensures (failed.does limits state h holds))))
 
 pub returns-in_err-do_all-clause-completes : goal.returns-in_err-do_all-clause-completes
-returns-in_err-do_all-clause-completes g c = λ limits keeps.
+returns-in_err-do_all-clause-completes g c = λ known limits keeps.
     completes_more (completes_stop c.from_residual.result c.from_residual.ensures.1
-    (c.in_err-do_all.ensures.completes limits keeps)) (omega arith)
+    (c.in_err-do_all.ensures.completes known limits keeps)) (omega arith)
 
 pub returns-in_err-take_all-clause-run : goal.returns-in_err-take_all-clause-run
 returns-in_err-take_all-clause-run g c = λ limits state h holds.
@@ -51,10 +51,10 @@ returns-in_err-take_all-clause-run g c = λ limits state h holds.
     (failed.takes limits (after_all limits state commands) (adds_all done.leaves.added h) done.holds)))
 
 pub returns-in_err-take_all-clause-completes : goal.returns-in_err-take_all-clause-completes
-returns-in_err-take_all-clause-completes g c = λ limits keeps.
+returns-in_err-take_all-clause-completes g c = λ known limits keeps.
     let residual = c.from_residual-in_err-take_all in
-    completes_more (completes_then (c.in_ok-do_all.ensures.completes limits keeps) (further_onward _ _ c.in_ok-do_all.ensures.along.beside)
-    (λ now. completes_stop residual.result residual.ensures.1 (c.in_err-take_all.ensures.completes limits now)))
+    completes_more (completes_then (c.in_ok-do_all.ensures.completes known limits keeps) (further_onward _ _ c.in_ok-do_all.ensures.along.beside)
+    (λ now. completes_stop residual.result residual.ensures.1 (c.in_err-take_all.ensures.completes known limits now)))
     (omega arith)
 
 pub returns-clause-run : goal.returns-clause-run
@@ -76,10 +76,10 @@ returns-clause-run g c = λ limits state h holds.
     c.say_lines.ensures.stop
 
 pub returns-clause-completes : goal.returns-clause-completes
-returns-clause-completes g c = λ limits keeps.
-    completes_saying (g.S.Store.keeping g.places g.S.Store.all) limits _ _ _ _ _ _ _ _ _
-    (completes_then (c.in_ok-do_all.ensures.completes limits keeps) (further_onward _ _ c.in_ok-do_all.ensures.along.beside)
-    (λ now. c.in_ok-take_all.ensures.completes limits now)) c.say_lines.ensures.says c.say_lines.ensures.stop (omega arith)
+returns-clause-completes g c = λ known limits keeps.
+    completes_saying (g.S.Store.keeping g.places known) limits _ _ _ _ _ _ _ _ _
+    (completes_then (c.in_ok-do_all.ensures.completes known limits keeps) (further_onward _ _ c.in_ok-do_all.ensures.along.beside)
+    (λ now. c.in_ok-take_all.ensures.completes known limits now)) c.say_lines.ensures.says c.say_lines.ensures.stop (omega arith)
 
 pub returns-in_err-take_all-clause-along : goal.returns-in_err-take_all-clause-along
 returns-in_err-take_all-clause-along g c =

@@ -16,7 +16,7 @@ loop-n-init g c = record {
   takes = λ limits named state h holds.
       taken_none (g.S.Store.keeping g.places g.S.Store.all) limits state c.args.records.now c.args.store.now h _ holds;
   along = along_none;
-  completes = λ limits named keeps. completes_none keeps;
+  completes = λ known limits named keeps. completes_none keeps;
   few = omega arith;
 }
 
@@ -46,10 +46,10 @@ loop-n-preserved g c =
           new.records
           (c.in_ok-take_one.ensures.takes limits (omega arith) state (adds_all so_far.leaves.added h) so_far.holds));
       along = along_more (along_then c.loop-n.invariant.along c.in_ok-take_one.ensures.along) (omega arith);
-      completes = λ limits named keeps.
-          completes_more (completes_then (c.loop-n.invariant.completes limits named keeps)
+      completes = λ known limits named keeps.
+          completes_more (completes_then (c.loop-n.invariant.completes known limits named keeps)
           (further_onward _ _ c.loop-n.invariant.along.beside)
-          (λ now. c.in_ok-take_one.ensures.completes limits (omega arith) now)) (omega arith);
+          (λ now. c.in_ok-take_one.ensures.completes known limits (omega arith) now)) (omega arith);
       few = omega (arith, c.loop-n.invariant.few, c.in_ok-take_one.ensures.few);
     }
 
@@ -67,8 +67,12 @@ returns-in_err-take_one-clause-along g c =
     (along_stop c.from_residual.result c.from_residual.ensures.1 c.in_err-take_one.ensures.along)) (omega arith)
 
 pub returns-in_err-take_one-clause-completes : goal.returns-in_err-take_one-clause-completes
-returns-in_err-take_one-clause-completes g c = λ limits named keeps.
-    completes_more (completes_then (c.loop-n.invariant.completes limits named keeps)
+returns-in_err-take_one-clause-completes g c = λ known limits named keeps.
+    completes_more (completes_then (c.loop-n.invariant.completes known limits named keeps)
     (further_onward _ _ c.loop-n.invariant.along.beside)
     (λ now. completes_stop c.from_residual.result c.from_residual.ensures.1
-    (c.in_err-take_one.ensures.completes limits (omega arith) now))) (omega arith)
+    (c.in_err-take_one.ensures.completes known limits (omega arith) now))) (omega arith)
+
+pub returns-clause-completes : goal.returns-clause-completes
+returns-clause-completes g c = λ known limits named keeps.
+    completes_more (c.loop-n.invariant.completes known limits named keeps) (omega arith)

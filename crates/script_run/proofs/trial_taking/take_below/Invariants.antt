@@ -19,8 +19,8 @@ invariant-loop-n g l =
           → k.holds limits l.fn.store (told l.fn.desk) h state
           → AreLinesTaken k limits state (record_lines state.map l.n) l.fn.records l.fn.store h l.records l.store (told l.fn.desk) (told l.desk);
       along : SoFar k (LOOK_UP_DRAWS * l.n) l.fn.store (told l.fn.desk) l.store (told l.desk);
-      completes : (limits : Limits) → l.names ≤ limits.names → KeepsSome k limits l.fn.store (told l.fn.desk)
-          → CompletesSoFar k limits (LOOK_UP_DRAWS * l.n) l.fn.store (told l.fn.desk) l.store (told l.desk);
+      completes : (known : g.S.Store.Known) (limits : Limits) → l.names ≤ limits.names → KeepsSome (g.S.Store.keeping g.places known) limits l.fn.store (told l.fn.desk)
+          → CompletesSoFar (g.S.Store.keeping g.places known) limits (LOOK_UP_DRAWS * l.n) l.fn.store (told l.fn.desk) l.store (told l.desk);
       few : l.records.count ≤ l.n;
     }
 

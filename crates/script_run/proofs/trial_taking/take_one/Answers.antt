@@ -33,9 +33,9 @@ returns-in_default-clause-takes g c = rw (← c.requires.1.1.1.places) (λ limit
     taken_absent k limits state c.args.n c.args.records.now c.args.store.now c.look_up.new.self h old new found)
 
 pub returns-in-Some-clause-completes : goal.returns-in-Some-clause-completes
-returns-in-Some-clause-completes g c = rw (← c.requires.1.1.1.places) (λ limits named keeps.
-    completes_look (c.in_ok-value.ensures.looks_up g.S.Store.all limits keeps.state keeps.history keeps.holds named))
+returns-in-Some-clause-completes g c = rw (← c.requires.1.1.1.places) (λ known limits named keeps.
+    completes_look (c.in_ok-value.ensures.looks_up known limits keeps.state keeps.history keeps.holds named))
 
 pub returns-in_default-clause-completes : goal.returns-in_default-clause-completes
-returns-in_default-clause-completes g c = rw (← c.requires.1.1.1.places) (λ limits named keeps.
-    completes_look (c.in_ok-value.ensures.looks_up g.S.Store.all limits keeps.state keeps.history keeps.holds named))
+returns-in_default-clause-completes g c = rw (← c.requires.1.1.1.places) (λ known limits named keeps.
+    completes_look (c.in_ok-value.ensures.looks_up known limits keeps.state keeps.history keeps.holds named))

@@ -25,7 +25,7 @@ loop-i-init g c =
           (sym (commands_none c.args.commands.now))
           (done_none k limits state c.args.tally.now c.args.store.now h at holds);
       along = along_none;
-      completes = λ limits keeps. completes_none keeps;
+      completes = λ known limits keeps. completes_none keeps;
       few = omega (arith, c.requires.1.1.0);
     }
 
@@ -54,11 +54,11 @@ returns-in_err-do_one-clause-does g c = λ limits state h holds.
     (c.in_err-do_one.ensures.does limits _ (adds_all so_far.leaves.added h) so_far.holds))))
 
 pub returns-in_err-do_one-clause-completes : goal.returns-in_err-do_one-clause-completes
-returns-in_err-do_one-clause-completes g c = λ limits keeps.
-    completes_more (completes_then (c.loop-i.invariant.completes limits keeps)
+returns-in_err-do_one-clause-completes g c = λ known limits keeps.
+    completes_more (completes_then (c.loop-i.invariant.completes known limits keeps)
     (further_onward _ _ c.loop-i.invariant.along.beside)
     (λ now. completes_stop c.from_residual.result c.from_residual.ensures.1
-    (c.in_err-do_one.ensures.completes limits now))) (omega arith)
+    (c.in_err-do_one.ensures.completes known limits now))) (omega arith)
 
 pub loop-i-preserved : goal.loop-i-preserved
 loop-i-preserved g c =
@@ -81,10 +81,10 @@ loop-i-preserved g c =
           c.args.store.now c.loop-i.store new.store h _ _ _ so_far new.tally
           (c.in_ok-do_one.ensures.does limits _ (adds_all so_far.leaves.added h) so_far.holds));
       along = along_more (along_then c.loop-i.invariant.along c.in_ok-do_one.ensures.along) (omega arith);
-      completes = λ limits keeps.
-          completes_more (completes_then (c.loop-i.invariant.completes limits keeps)
+      completes = λ known limits keeps.
+          completes_more (completes_then (c.loop-i.invariant.completes known limits keeps)
           (further_onward _ _ c.loop-i.invariant.along.beside)
-          (λ now. c.in_ok-do_one.ensures.completes limits now)) (omega arith);
+          (λ now. c.in_ok-do_one.ensures.completes known limits now)) (omega arith);
       few = omega (arith, c.loop-i.invariant.few, c.in_ok-do_one.ensures.more);
     }
 
@@ -97,7 +97,7 @@ returns-clause-does g c = λ limits state h holds.
     (c.loop-i.invariant.does limits state h holds)
 
 pub returns-clause-completes : goal.returns-clause-completes
-returns-clause-completes g c = λ limits keeps. completes_more (c.loop-i.invariant.completes limits keeps) (omega arith)
+returns-clause-completes g c = λ known limits keeps. completes_more (c.loop-i.invariant.completes known limits keeps) (omega arith)
 
 pub returns-in_err-do_one-clause-along : goal.returns-in_err-do_one-clause-along
 returns-in_err-do_one-clause-along g c =

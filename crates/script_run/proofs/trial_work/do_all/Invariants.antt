@@ -20,8 +20,8 @@ invariant-loop-i g l =
       does : (limits : Limits) (state : State) (h : History) → k.holds limits l.fn.store (told l.fn.desk) h state
           → IsDone k limits state (commands_from l.fn.commands l.i) l.fn.tally l.fn.store h l.tally l.store (told l.fn.desk) (told l.desk);
       along : SoFar k (WORK_DRAWS * l.i) l.fn.store (told l.fn.desk) l.store (told l.desk);
-      completes : (limits : Limits) → KeepsSome k limits l.fn.store (told l.fn.desk)
-          → CompletesSoFar k limits (WORK_DRAWS * l.i) l.fn.store (told l.fn.desk) l.store (told l.desk);
+      completes : (known : g.S.Store.Known) (limits : Limits) → KeepsSome (g.S.Store.keeping g.places known) limits l.fn.store (told l.fn.desk)
+          → CompletesSoFar (g.S.Store.keeping g.places known) limits (WORK_DRAWS * l.i) l.fn.store (told l.fn.desk) l.store (told l.desk);
       few : l.tally.commands ≤ l.i;
     }
 

@@ -10,9 +10,9 @@ returns-in_err-reply-clause-does g c = rw (← c.requires.1.1.1.1.places) (λ li
     (c.in_err-reply.ensures.works g.S.Store.all limits state h holds)))
 
 pub returns-in_err-reply-clause-completes : goal.returns-in_err-reply-clause-completes
-returns-in_err-reply-clause-completes g c = rw (← c.requires.1.1.1.1.places) (λ limits keeps.
+returns-in_err-reply-clause-completes g c = rw (← c.requires.1.1.1.1.places) (λ known limits keeps.
     completes_fault c.from_residual.result c.from_residual.ensures.1
-    (c.in_err-reply.ensures.works g.S.Store.all limits keeps.state keeps.history keeps.holds))
+    (c.in_err-reply.ensures.works known limits keeps.state keeps.history keeps.holds))
 
 pub returns-clause-does : goal.returns-clause-does
 returns-clause-does g c = rw (← c.requires.1.1.1.1.places) (λ limits state h holds.
@@ -20,5 +20,5 @@ returns-clause-does g c = rw (← c.requires.1.1.1.1.places) (λ limits state h 
     c.work.new.self h _ _ _ (c.in_ok-reply.ensures.works g.S.Store.all limits state h holds) c.note.ensures.counts)
 
 pub returns-clause-completes : goal.returns-clause-completes
-returns-clause-completes g c = rw (← c.requires.1.1.1.1.places) (λ limits keeps.
-    completes_work (c.in_ok-reply.ensures.works g.S.Store.all limits keeps.state keeps.history keeps.holds))
+returns-clause-completes g c = rw (← c.requires.1.1.1.1.places) (λ known limits keeps.
+    completes_work (c.in_ok-reply.ensures.works known limits keeps.state keeps.history keeps.holds))
