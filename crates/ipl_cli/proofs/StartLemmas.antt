@@ -35,6 +35,7 @@ use Rattle.ipl_meaning.proofs.FormatFaultLemmas.{formatted_bytes}
 use Rattle.ipl_meaning.proofs.LaidLemmas.{laid_is_fine_or_spent}
 use Rattle.ipl_meaning.proofs.NoFaultLemmas.{no_fault_is_laid}
 use Rattle.ipl_meaning.proofs.NumberLemmas.{greatest_is_found}
+use Rattle.restart.proofs.CompleteLemmas.{completes_whole}
 use Rattle.restart.specs.Events.{format_events}
 use Rattle.restart.specs.Fresh.{IsFresh, Formats, TellsFresh}
 use Rattle.restart.proofs.LookLemmas.{reads_none}
@@ -235,7 +236,7 @@ module _ {marks : Bool} (old new : Told) (end : End) (n : IsNotOpened marks end 
     sector_cause : StrayCause old
     sector_cause = inl (λ x told m stands. elim (n.tries.tells x told unfailed) [
       | inl first ↦ chip_unspent (sym is ∙ stands_well old.places (chart_of x) m stands n.fault first)
-      | inr none ↦ unfailed (n.tries.complete x told m none.0 (says x told m none.0 stands))
+      | inr none ↦ unfailed (completes_whole old.places (Err n.fault) old n.tries.complete x told m none.0 (says x told m none.0 stands))
     ])
 
   -- too many places are worn, by the tables that it left

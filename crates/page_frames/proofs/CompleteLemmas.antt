@@ -1,5 +1,6 @@
 -- Calls over contents that stand for a state fail only where a call of the chip failed.
-use Rattle.std.proofs.Common.{◌≡◌, ◌≢◌, ◌≤◌, ◌<◌, ℕ, Bool, length, Option, None, Result, Ok, Err, IfErr, refl, sym, subst, arith}
+use Rattle.std.proofs.Common.{◌≡◌, ◌≢◌, ◌≤◌, ◌<◌, ℕ, Bool, false, [], length, Option, None, Result, Ok, Err, IfErr, refl, sym, subst, arith}
+use Rattle.std.proofs.lemmas.Bool.{false≢true}
 use Rattle.chip_trait.specs.Story.{Contents}
 use Rattle.chip_trait.specs.Told.{Told}
 use Rattle.ipl_base.specs.Calls.{IsFailedCall}
@@ -18,7 +19,6 @@ use Rattle.unit_io.specs.Faults.{TellsChipFault}
 use Rattle.selective_merge.specs.Faults.{IsMergeable, IsTheFault}
 use Rattle.selective_merge.proofs.FaultLemmas.{said_units_are_mergeable, by_chip_alone}
 use Rattle.selective_merge.specs.Merging.{CompletesMerge}
-use Rattle.restart.proofs.CompleteLemmas.{complete_where_all}
 use Rattle.restart.specs.Passes.{CompletesRenewal}
 use Rattle.number_set.specs.Numbers.{among}
 use Rattle.page_ops.specs.Pending.{fill_by}
@@ -55,9 +55,10 @@ merge_completes u pages result told low complete x there slots it state fits say
 pub renew_completes : (pages : Pages) (result : Result (Unit {0}) ChipFault) (told : Told)
     → CompletesRenewal told.places (tables_in pages) result told → FailsByChip pages result told
 renew_completes pages result told complete x there slots it state fits says =
-    complete_where_all told.places (tables_in pages) result told complete x there it fits.mirrors (λ u low.
-    all_mergeable told.places (chart_of x) it (tables_in pages) (frames_in pages) slots state u fits
+    complete x there it fits.mirrors (λ u. false)
+    (λ u low other. all_mergeable told.places (chart_of x) it (tables_in pages) (frames_in pages) slots state u fits
     says low)
+    ([], omega arith, λ u tid low one. absurd (false≢true one))
 
 -- ---- loads
 

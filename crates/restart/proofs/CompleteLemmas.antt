@@ -8,7 +8,9 @@ use Rattle.ipl_base.specs.Calls.{IsFailedCall}
 use Rattle.ipl_base.specs.declared.fault.ImageFault.{ImageFault}
 use Rattle.ipl_base.specs.declared.fault.ImageFault.TheVariants.{Chip}
 use Rattle.ipl_format.specs.Record.{Record}
-use Rattle.ipl_meaning.specs.Legible.{Legible}
+use Rattle.ipl_model.specs.State.{Map}
+use Rattle.ipl_meaning.specs.Legible.{Legible, whole}
+use Rattle.ipl_meaning.specs.LaidOut.{layout_in}
 use Rattle.ipl_meaning.specs.Chart.{Chart, chart_of}
 use Rattle.ipl_meaning.specs.Last.{carried, carried_count}
 use Rattle.ipl_meaning.specs.Layout.{Layout, records_of}
@@ -21,11 +23,11 @@ use Rattle.ipl_meaning.specs.Faults.{first_fault, is_image}
 use Rattle.restart.specs.Looks.{HasCause}
 use Rattle.place_taking.specs.Takes.{IsNotTaken}
 use Rattle.unit_io.specs.Leads.{IsStopped}
-use Rattle.restart.specs.Passes.{AreMergeable, AreMergeableBut, CompletesRenewal, FailsAsRenewal, FitTogether, IsRenewalFault}
+use Rattle.restart.specs.Passes.{AreMergeableBut, CompletesRenewal, FailsAsRenewal, FitTogether, IsRenewalFault}
 use Rattle.restart.specs.Stuck.{HasFault}
 use Rattle.chip_trait.specs.Story.{Contents}
 use Rattle.ipl_meaning.specs.Mirrors.{Mirrors}
-use Rattle.restart.specs.Recovers.{FailsByCallAlone}
+use Rattle.restart.specs.Recovers.{CompletesOpening, SaysAllBut, FailsByCallAlone}
 
 -- ---- units
 
@@ -62,14 +64,6 @@ fault_completes places t (Ok v) told fails x is it mirrors some all fit = tt
 fault_completes places t (Err e) told fails x is it mirrors some all fit =
     failed_so e (λ unfailed. never places x it t mirrors some all fit e (fails x is it mirrors unfailed))
 
--- where all units can be merged
-pub complete_where_all : (places : ℕ) (t : Tables) (result : Result (Unit {0}) ChipFault) (told : Told)
-    → CompletesRenewal places t result told → (x : Contents) → told.contents ≡ Some x → (it : Layout)
-    → Mirrors places (chart_of x) it t → AreMergeable (chart_of x) it t → FailsByChipAlone result
-complete_where_all places t result told complete x is it mirrors all =
-    complete x is it mirrors (λ u. false) (λ u low other. all u low)
-    ([], omega arith, λ u tid low one. absurd (false≢true one))
-
 -- a place that wasn't taken is a call of the chip that failed
 pub not_taken_failed : (after : Places) (fault : ChipFault) (old new : Told)
     → IsNotTaken after fault old new → IsFailedCall fault
@@ -88,12 +82,21 @@ pub carried_none : (records : List Record) → carried (among []) records ≡ []
 carried_none [] = refl
 carried_none (r ∷ records) = carried_none records
 
-pub all_mergeable : (places : ℕ) (c : Chart) (it : Layout) (m : Legible) (t : Tables)
-    → Says places c it m → ((u page : ℕ) → u < it.count → page < 15 → m.pages.reads u page ≡ true) → t.active ≡ [] → AreMergeable c it t
-all_mergeable places c it m t says all none u low =
-    said_units_are_mergeable places c it m t u says low (λ page few. all u page low few)
+pub mergeable_but : (places : ℕ) (c : Chart) (it : Layout) (m : Legible) (some : ℕ → Bool) (t : Tables)
+    → Says places c it m → SaysAllBut some it.count m.pages → t.active ≡ [] → AreMergeableBut some c it t
+mergeable_but places c it m some t says all none u low other =
+    said_units_are_mergeable places c it m t u says low (λ page few. all u page low few other)
     (subst (λ (a : List ℕ). carried_count (among a) (it.units u).log ≤ 12) (sym none)
     (rw (carried_none (records_of (it.units u).log)) (omega arith)))
+
+-- where all pages say a map
+pub completes_whole : (places : ℕ) (result : Result (Unit {0}) ImageFault) (told : Told)
+    → CompletesOpening places result told → (x : Contents) → told.contents ≡ Some x → (m : Map)
+    → first_fault (chart_of x) places ≡ None
+    → Says places (chart_of x) (layout_in (chart_of x) places) (whole m) → IfErr result FailsByCallAlone
+completes_whole places result told complete x is m none says =
+    complete x is (whole m) (λ u. false) none says (λ u page low few other. refl)
+    ([], omega arith, λ u tid low one. absurd (false≢true one))
 
 pub call_failed : (fault : ChipFault) → IsFailedCall fault → FailsByCallAlone (Chip fault)
 call_failed fault failed = (fault, refl, failed)

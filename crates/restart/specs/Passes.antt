@@ -221,10 +221,6 @@ abbrev pub AreMergeableBut : (ℕ → Bool) → Chart → Layout → Tables → 
 AreMergeableBut some c it t = (u : ℕ) → u < it.count → some u ≡ false
     → IsMergeable c it.committed t (it.units u) u
 
--- it is so of all units
-abbrev pub AreMergeable : Chart → Layout → Tables → Type 0
-AreMergeable c it t = (u : ℕ) → u < it.count → IsMergeable c it.committed t (it.units u) u
-
 -- over contents that the tables mirror, where all units can be merged but some, and the numbers of those fit
 -- together, it fails only where a call of the chip failed
 abbrev pub CompletesRenewal : ℕ → Tables → Result (Unit {0}) ChipFault → Told → Type 0

@@ -1,6 +1,6 @@
 -- What an opening leaves that ends with a new status place.
 use Rattle.std.specs.Prelude.{ℕ, ◌≡◌, ◌≢◌, ◌⊎◌, ◌↔◌, ◌<◌, ◌≤◌, ◌+◌, ◌*◌, ◌^◌, ◌||◌, [], Bool, true, false, IsTrue, is_ok, List, length, Contains, Some, None, Result, Ok, Err, MatchResult, OnOk, IfErr}
-use Rattle.ipl_base.specs.declared.limits.TheConstants.{KEPT_NUMBERS}
+use Rattle.ipl_base.specs.declared.limits.TheConstants.{PAGES, KEPT_NUMBERS}
 use Rattle.chip_trait.specs.Story.{Story, Contents}
 use Rattle.chip_trait.specs.Told.{History, Told, Rose}
 use Rattle.ipl_base.specs.declared.fault.ChipFault.{ChipFault}
@@ -8,8 +8,7 @@ use Rattle.ipl_base.specs.Calls.{IsFailedCall}
 use Rattle.ipl_base.specs.declared.fault.ChipFault.TheVariants.{ReadFault, Stopped, Damaged, WornOut}
 use Rattle.ipl_base.specs.declared.fault.ImageFault.{ImageFault}
 use Rattle.ipl_base.specs.declared.fault.ImageFault.TheVariants.{Geometry, NotFormatted, Missing, Chip, Spent, NoSpare}
-use Rattle.ipl_model.specs.State.{Map}
-use Rattle.ipl_meaning.specs.Legible.{Legible, whole}
+use Rattle.ipl_meaning.specs.Legible.{Legible, Legibility}
 use Rattle.ipl_meaning.specs.Agrees.{IsTidy}
 use Rattle.ipl_meaning.specs.Chart.{Chart, chart_of}
 use Rattle.ipl_meaning.specs.Layout.{Layout, Laid, HasNoMark}
@@ -39,7 +38,7 @@ use Rattle.unit_io.specs.Leads.{IsSteady}
 use Rattle.unit_io.specs.Reads.{OfContents}
 use Rattle.unit_io.specs.Unread.{ReadsEachOnce}
 use Rattle.restart.specs.Keeps.{IsLoggedBelow}
-use Rattle.restart.specs.Passes.{HasErased, TellsChart, ListsRetired}
+use Rattle.restart.specs.Passes.{FitTogether, HasErased, TellsChart, ListsRetired}
 use Rattle.restart.specs.Securing.{knows_logs, waits_for, NoneMarked}
 
 -- ---- what the chip holds
@@ -93,11 +92,18 @@ LooksAtFaults places old result new = OfContents old (λ x. (e : ImageFault)
     → first_fault (chart_of x) places ≡ Some e
     → OnlyReads old new × IfErr result (λ f. (f ≡ e) ⊎ (f ≡ Chip ReadFault)))
 
--- over contents that have no fault and whose pages say a map, it fails only so
+-- of all units but these each page is said of
+abbrev pub SaysAllBut : (ℕ → Bool) → ℕ → Legibility → Type 0
+SaysAllBut some count pages = (u page : ℕ) → u < count → page < PAGES → some u ≡ false → pages.reads u page ≡ true
+
+-- Over contents that have no fault, and of which all pages say a map but those of some units, it fails only so, if the
+-- numbers of these units fit together.
 abbrev pub CompletesOpening : ℕ → Result (Unit {0}) ImageFault → Told → Type 0
-CompletesOpening places result told = OfContents told (λ x. (m : Map)
+CompletesOpening places result told = OfContents told (λ x. (m : Legible) (some : ℕ → Bool)
     → first_fault (chart_of x) places ≡ None
-    → Says places (chart_of x) (layout_in (chart_of x) places) (whole m)
+    → Says places (chart_of x) (layout_in (chart_of x) places) m
+    → SaysAllBut some (layout_in (chart_of x) places).count m.pages
+    → FitTogether (layout_in (chart_of x) places) some
     → IfErr result FailsByCallAlone)
 
 -- ---- how often it reads

@@ -32,6 +32,7 @@ use Rattle.unit_io.specs.Leads.{IsSteady}
 use Rattle.page_frames.specs.Pages.{tables_in}
 use Rattle.unit_io.specs.StepLaws.{Preserves}
 use Rattle.place_taking.proofs.SpendingLemmas.{or_right}
+use Rattle.restart.proofs.CompleteLemmas.{completes_whole}
 use Rattle.restart.specs.Recovers.{IsOpeningFault, FailsByCallAlone, OpeningCause, tells_wear}
 use Rattle.restart.proofs.ReadyLemmas.{layouts_say}
 use Rattle.store_trait.specs.declared.fault.Fault.{Fault}
@@ -400,7 +401,7 @@ module _ (known : KnownPages) (a b : ScriptStore) (before after : Told) (runs : 
               let none = laid_has_no_fault (chart_of x) before.places shown.layout bytes laid
               (above low) in
               let in_it = no_fault_is_laid (chart_of x) before.places bytes none in
-              tries.complete x told state.map none
+              completes_whole before.places (Err e) before tries.complete x told state.map none
               (layouts_say before.places (chart_of x) (layout_in (chart_of x) before.places)
               (whole state.map) in_it (record {
                 layout = shown.layout;

@@ -5,7 +5,6 @@ use Rattle.chip_trait.proofs.CountsLemmas.{counts_then}
 use Rattle.ipl_base.specs.declared.fault.ChipFault.{ChipFault}
 use Rattle.ipl_base.specs.declared.fault.ImageFault.TheVariants.{Chip}
 use Rattle.ipl_meaning.specs.Chart.{chart_of}
-use Rattle.ipl_meaning.specs.Legible.{whole}
 use Rattle.ipl_meaning.specs.TableSteps.{without_marks}
 use Rattle.selective_merge.specs.Known.{KnowsPlaces}
 use Rattle.ipl_meaning.specs.LaidOut.{layout_in}
@@ -22,7 +21,7 @@ use Rattle.restart.specs.Recovers.{HasOpened, ErasesOpening, ErasesWaiting, Leav
 use Rattle.restart.specs.Passes.{TellsChart, KeepsAll, RenewCause, RenewsTold, KeepsInSteps, FailsAsRenewal, CompletesRenewal}
 use Rattle.restart.proofs.CostLemmas.{erases_more, waiting_alone, waiting_then, waiting_ended, waiting_then_renewed, reads_then_wait}
 use Rattle.restart.proofs.RecoverLemmas.{of_parts, opened_parts, reading_cause, reading_not_worn, renewing_cause, opens_told, opens_done, fault_looks, sound_looks, reads_recover, securing_failed, recovers_done, recovers_failed, tidies_settled, tidies_renewed, tidies_ended}
-use Rattle.restart.proofs.CompleteLemmas.{all_mergeable, call_failed, reading_failed, stopped_failed, complete_where_all}
+use Rattle.restart.proofs.CompleteLemmas.{mergeable_but, call_failed, reading_failed, stopped_failed}
 use Rattle.restart.proofs.FaultLemmas.{opening_fault}
 use Rattle.restart.proofs.FoundLemmas.{all_kept, once_where_fit, unread_first}
 use Rattle.restart.proofs.SecuringLemmas.{forgotten, homes_forgotten, no_waits, none_known, unknown_logs, wait_contents, wait_unread, wait_costs, known_ended, none_marked}
@@ -61,7 +60,7 @@ returns-in_err-found-clause-fails g c =
         c.read_tables.ensures.looks.only.reads,
         fault_looks old.places x fault first old mid (says.fault x told) says.looks.only.cause is,
       );
-      complete = λ x told m none pages. reading_failed old.places (chart_of x) fault old mid
+      complete = λ x told m some none pages all fit. reading_failed old.places (chart_of x) fault old mid
           (says.fault x told) says.looks.only.cause none;
       bytes = λ x told. says.bytes x told;
     })
@@ -155,7 +154,7 @@ returns-in_err-secure_marks-clause-fails g c =
     c.from_residual-in_err-secure_marks.ensures.1 in
     rw (e.1 ∙ ap Err e.2) (record {
       looks = sound_looks old.places old (Err (Chip fault)) settled c.in_ok-found.ensures.fault;
-      complete = λ x told m none says. stopped_failed fault mid settled
+      complete = λ x told m some none says all fit. stopped_failed fault mid settled
           c.in_err-secure_marks.ensures.accounts.cause;
       bytes = λ x told no_read no_stop why. c.in_ok-found.ensures.bytes x told;
     })
@@ -312,18 +311,19 @@ returns-in_err-renew_with-clause-fails g c =
     c.from_residual-in_err-renew_with.ensures.1 in
     rw (e.1 ∙ ap Err e.2) (record {
       looks = sound_looks old.places old (Err (Chip fault)) new c.in_ok-found.ensures.fault;
-      complete = λ x told m none says.
+      complete = λ x told m some none says all fit.
           let it = layout_in (chart_of x) old.places in
           let parts = opened_parts old.places (chart_of x) c.read_tables.new.parts.directory
           c.read_tables.new.parts.overflow c.read_tables.new.parts.status c.read_tables.new.parts.counter active (c.read_tables.ensures.active ∙ c.requires.active)
           (found.opened x told) (found.mirrors x told) in
           call_failed fault
-          (complete_where_all old.places t (Err fault) settled (subst (λ n. CompletesRenewal n t (Err fault) settled)
+          (subst (λ n. CompletesRenewal n t (Err fault) settled)
           (c.secure_marks.ensures.accounts.counts.places ∙ reads.counts.places)
-          c.in_err-renew_with.ensures.renews.fails.complete) x
+          c.in_err-renew_with.ensures.renews.fails.complete x
           (wait_contents (knows_logs c.read_tables.new.parts.directory) mid settled
           c.in_ok-secure_marks.ensures.waits ∙ reads.contents ∙ told) it parts.1
-          (all_mergeable old.places (chart_of x) it (whole m) t says (λ u page low few. refl) (c.read_tables.ensures.active ∙ c.requires.active)));
+          some (mergeable_but old.places (chart_of x) it m some t says all (c.read_tables.ensures.active ∙ c.requires.active))
+          fit);
       bytes = λ x told no_read no_stop why. c.in_ok-found.ensures.bytes x told;
     })
 
@@ -455,7 +455,7 @@ returns-clause-fails g c =
     let old = g.C.Chip.told c.args.chip.now in record {
       looks = sound_looks old.places old (Ok tt) (g.C.Chip.told c.renew_with.new.chip)
           c.in_ok-found.ensures.fault;
-      complete = λ x told m none says. tt;
+      complete = λ x told m some none says all fit. tt;
       bytes = λ x told. c.in_ok-found.ensures.bytes x told;
     }
 
