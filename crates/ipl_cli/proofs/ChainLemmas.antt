@@ -1,5 +1,5 @@
 -- The end of one run is the start of the next.
-use Rattle.std.proofs.Common.{ℕ, ◌≡◌, true, false, [], ◌++◌, ◌∷◌, List, Option, Some, Ok, inl, inr, refl, sym, ◌∙◌, ap, subst, arith, eqb}
+use Rattle.std.proofs.Common.{ℕ, ◌≡◌, true, false, [], ◌++◌, ◌∷◌, List, Option, Some, Ok, inl, inr, refl, sym, ◌∙◌, ap, subst, arith, eqb, append_assoc}
 use Rattle.std.proofs.lemmas.Bool.Decides.{nat_tests}
 use Rattle.std.specs.Option.{option_map}
 use Rattle.chip_trait.specs.Chart.{says}
@@ -7,13 +7,14 @@ use Rattle.chip_trait.specs.Lawful.{IsLawful, AreClean, age}
 use Rattle.chip_trait.specs.Moment.{Leaves}
 use Rattle.chip_trait.specs.Story.{Story, held, pieces, said}
 use Rattle.chip_trait.specs.Told.{History, Told, Unrisen, adds_all}
+use Rattle.chip_trait.proofs.HistoryLemmas.{same_history, history_then}
 use Rattle.chip_trait.proofs.ImageLemmas.{held_is_image}
 use Rattle.chip_trait.proofs.MomentLemmas.{at_end}
 use Rattle.ipl_base.specs.Places.{units_on}
 use Rattle.ipl_model.specs.State.{Map}
 use Rattle.ipl_model.specs.declared.command.Command.{Command}
 use Rattle.ipl_format.specs.Sector.{sector_in}
-use Rattle.ipl_meaning.specs.Marks.{MarksAreUnused}
+use Rattle.ipl_meaning.specs.Marks.{IsMarked, MarksAreUnused}
 use Rattle.ipl_meaning.proofs.RotLemmas.{every_is_told_apart}
 use Rattle.ipl_meaning.specs.Legible.{Legible, of, whole}
 use Rattle.ipl_meaning.specs.Chosen.{units_at}
@@ -21,11 +22,12 @@ use Rattle.ipl_meaning.specs.Rests.{now, StoryRests}
 use Rattle.ipl_meaning.specs.Stands.{StandsIn}
 use Rattle.ipl_meaning.proofs.LaidLemmas.{laid_says_its_units}
 use Rattle.restart.specs.Events.{format_events}
-use Rattle.ipl_cli.specs.Ending.{Ending, AtStatus, units_beside}
+use Rattle.ipl_cli.specs.Ending.{AskedFor, AsksOpened, Ending, AtStatus, units_beside}
+use Rattle.ipl_cli.specs.Frames.{AddsCleanly}
 use Rattle.ipl_cli.proofs.StatusLemmas.{done_at_zero}
 use Rattle.ipl_cli.specs.Top.{NoneFalls, AreMarked, LaysOut, Runs, RunsOpened, RunsFormatted, StandsAbout, records_after}
 use Rattle.ipl_cli.specs.Trials.{Trials, TrialsFormatted, TrialLeaves, ChipStandsBehind, commands_on, state_after}
-use Rattle.ipl_cli.specs.Chains.{RestsOn, IsFormattable, IsLawfulHistory, RestsLawfully, no_records, units_kept}
+use Rattle.ipl_cli.specs.Chains.{AddsLawfully, AsksClosed, RestsOn, IsFormattable, IsLawfulHistory, RestsLawfully, no_records, units_kept}
 use Rattle.ipl_cli.proofs.AgeLemmas.{known_later, quiet_unerased, clean_else, format_known}
 use Rattle.ipl_cli.proofs.EndLemmas.{marked_within}
 
@@ -118,6 +120,32 @@ module _ (old new : Told) (m : Legible) (script : List ℕ) (on : RestsOn m scri
     on = run_rests;
     told = told_anew old new [] ran.added on.history ran.history told;
     is = subst (λ (q : ℕ). IsLawfulHistory q (adds_all ran.added on.history)) (sym falls.places) (run_is_lawful is);
+  }
+
+-- ---- a run that closes, and one behind it
+
+-- who asks for both, asks that the chip is opened
+pub closed_is_opened : (asked : AskedFor) → AsksClosed asked → AsksOpened asked
+closed_is_opened asked (frames, is) = (frames, true, is)
+
+module _ (old mid new : Told) (m : Legible) (script : List ℕ) (on : RestsOn m script old)
+    (adds : AddsCleanly old.places on.history old mid) (places : mid.places ≡ old.places)
+    (after : Map) (begun : RestsOn (of m.pages after) [] mid) (then : Ending) (runs : RunsOpened mid new then) where
+  ran_behind : Runs true mid.places (units_kept mid begun.history) (of m.pages after) [] begun.history [] mid new then
+  ran_behind = runs begun.history [] begun.steady begun.left (of m.pages after) begun.rests begun.apart
+
+  pub both_lawful : AddsLawfully old.places on.history old new
+  both_lawful = record {
+    added = ran_behind.added ++ adds.added;
+    history = ran_behind.history
+        ∙ ap (option_map (adds_all ran_behind.added)) (sym (same_history mid.history) ∙ adds.history)
+        ∙ history_then ran_behind.added adds.added old.history;
+    lawful = record {
+      lawful = λ base good clean. subst IsLawful (sym (append_assoc ran_behind.added adds.added base))
+          (ran_behind.lawful (adds.added ++ base) (adds.lawful.lawful base good clean) (λ p s marked.
+          (adds.clean (held begun.history.start begun.history.story) begun.steady.holds).clean base good clean p s
+          (subst (λ (q : ℕ). IsMarked q (held begun.history.start begun.history.story) p s) places marked)));
+    };
   }
 
 -- ---- a format

@@ -22,11 +22,13 @@ use Rattle.script_run.specs.Goes.{LearnsAlong, CompletesOver, EndsScript, ReadsA
 use Rattle.script_run.proofs.BehindLemmas.{runs_behind, tidy_behind, cause_behind, learns_behind, completes_behind, further_both}
 use Rattle.script_run.proofs.CompleteLemmas.{completes_more}
 use Rattle.script_store.specs.declared.store.ScriptStore.{ScriptStore}
-use Rattle.script_store.specs.Closes.{MarksRecalled, MarksSince, ClosesAtEnd}
+use Rattle.script_store.specs.Closes.{MarksRecalled, MarksSince, ClosesAtEnd, CountsClean, CountsMarked}
+use Rattle.ipl_meaning.specs.Marks.{IsMarked}
+use Rattle.unit_io.specs.Reads.{OfContents}
 use Rattle.store_laws.specs.Keeps.{KnownPages, all_pages}
 use Rattle.script_store.specs.Keeps.{KeepsScript, script_keeping, next_number}
 use Rattle.ipl_cli.specs.Top.{IsTooLong}
-use Rattle.ipl_cli.specs.Runs.{EndsClosed, MarksBehind, ClosesScript, RunsClosing, RunsOver, ending_of}
+use Rattle.ipl_cli.specs.Runs.{EndsClosed, MarksBehind, CountsBehind, ClosesScript, RunsClosing, RunsOver, ending_of}
 
 -- ---- the last two events
 
@@ -64,7 +66,7 @@ module _ (before then : ScriptStore) (old new : Told) (closes : Bool) where
       → ((known : KnownPages) → CompletesOver (script_keeping old.places known) SCRIPT_DRAWS before old result then new)
       → LearnsAlong (script_keeping old.places all_pages) before old result then new
       → Further old new → EndsScript (script_keeping old.places all_pages) old result new
-      → OnOk result (closes ≡ true → ClosesScript before old new)
+      → OnOk result (closes ≡ true → ClosesScript before old then new)
       → RunsClosing closes result before old then new
   ran_alone result low runs tidy draws completes learns further ends closed = record {
     last = on_ok_weaker result (λ replied is. replied) ends.last;
@@ -125,19 +127,33 @@ module _ (before mid then : ScriptStore) (old between new : Told) (closes : Bool
       (ended.leaves.history ∙ ap (option_map (adds_all ended.leaves.added)) is)
       (subst (λ (n : ℕ). KeepsScript n known limits mid between l last) (sym further.places) ended.holds))
 
+  -- and what is marked then, the store counts as clean
+  counts_behind : ((known : KnownPages) → RunsScript (script_keeping old.places known) before old (Ok tt) mid between)
+      → ((known : KnownPages) → CountsMarked known mid between then new) → CountsBehind before old then new
+  counts_behind runs counted known script left limits state k keeps =
+      let ended = runs known limits state k keeps script left in
+      let last = after_all limits state (commands_of script) in
+      let l = adds_all ended.leaves.added k in
+      subst (λ (n : ℕ). OfContents new (λ x. (p s : ℕ) → IsMarked n x p s → CountsClean then p s)) further.places
+      (counted known limits last l
+      (subst (λ (n : ℕ). KeepsScript n known limits mid between l last) (sym further.places) ended.holds))
+
   closes_script : (first : Story) → between.history ≡ option_map (adds_all first) old.history
       → ((known : KnownPages) → RunsScript (script_keeping old.places known) before old (Ok tt) mid between)
-      → OnOk (stop_of closed) (closes ≡ true → ClosesScript before old new)
-  closes_script first history runs = by_end closed (did all_pages).last (λ known. (did known).marked)
+      → OnOk (stop_of closed) (closes ≡ true → ClosesScript before old then new)
+  closes_script first history runs =
+      by_end closed (did all_pages).last (λ known. (did known).marked) (λ known. (did known).counted)
     where
       by_end : (r : Result (Unit {0}) Fault) → OnOk r (EndsClosed between new)
           → ((known : KnownPages) → OnOk r (MarksRecalled known mid between new))
-          → OnOk (stop_of r) (closes ≡ true → ClosesScript before old new)
-      by_end (Ok v) last marks = λ is. record {
+          → ((known : KnownPages) → OnOk r (CountsMarked known mid between then new))
+          → OnOk (stop_of r) (closes ≡ true → ClosesScript before old then new)
+      by_end (Ok v) last marks counted = λ is. record {
         ends = closed_since first old between new history last;
         marked = marks_behind runs marks;
+        counted = counts_behind runs counted;
       }
-      by_end (Err e) last marks = tt
+      by_end (Err e) last marks counted = tt
 
   pub ran_closing : next_number before ≤ FOUND_NUMBER
       → ((known : KnownPages) → RunsScript (script_keeping old.places known) before old (Ok tt) mid between)

@@ -8,7 +8,7 @@ use Rattle.chip_trait.specs.Story.{Contents, Story, held, pieces, said, joined}
 use Rattle.chip_trait.specs.Chart.{says}
 use Rattle.chip_trait.specs.Image.{IsNoChanceImage}
 use Rattle.chip_trait.specs.Moment.{AtEachMoment, Leaves}
-use Rattle.chip_trait.specs.Lawful.{IsLawful, AreClean}
+use Rattle.chip_trait.specs.Lawful.{IsLawful, AreClean, Clean, age}
 use Rattle.chip_trait.specs.Told.{History, Told, Beside, Counts, SayCounts, Appends, FailsToSay, IsPrefix, adds_all, Unrisen}
 use Rattle.chip_trait.proofs.HistoryLemmas.{same_history, history_then}
 use Rattle.chip_trait.proofs.MomentLemmas.{at_start, at_both, at_weaker}
@@ -54,15 +54,17 @@ use Rattle.script_run.specs.Goes.{Ended, Stopped, RunsScript}
 use Rattle.script_run.proofs.EndLemmas.{between_none, ends_weaker}
 use Rattle.script_run.proofs.RunLemmas.{says_none, says_prefix}
 use Rattle.script_store.specs.declared.store.ScriptStore.{ScriptStore}
-use Rattle.script_store.specs.Closes.{MarksSince}
+use Rattle.script_store.specs.Closes.{CountsClean, MarksSince}
 use Rattle.script_store.specs.Keeps.{KeepsScript, script_keeping}
 use Rattle.script_store.proofs.RecallLemmas.{opening_recalls}
 use Rattle.command_line.specs.declared.end.End.{End}
 use Rattle.command_line.specs.declared.end.End.TheVariants.{Words, Chip, OutOfMemory, Script, Output, TooLong}
 use Rattle.ipl_cli.specs.Ending.{Ending, IsFormatStopped, StopRose, IsLeftAlone, format_end, units_beside}
 use Rattle.ipl_cli.specs.Top.{AreMarked, WereUnused, Runs, RunsOpened, RunsFormatted, IsLaidOut, LaysOut, IsAbout, StandsAbout, IsBetween, EndsBy, answers, ok_line}
-use Rattle.ipl_cli.specs.Runs.{RunsFrom, StartsOpened, IsNotOpened, WasFormatted, MarksBehind, ending_of}
-use Rattle.ipl_cli.specs.Frames.{MarksWhatWasErased}
+use Rattle.store_trait.specs.Keeping.{LeavesTidy}
+use Rattle.unit_io.specs.Reads.{OfContents}
+use Rattle.ipl_cli.specs.Runs.{CountsBehind, RunsFrom, RunsOver, StartsOpened, IsNotOpened, WasFormatted, MarksBehind, ending_of}
+use Rattle.ipl_cli.specs.Frames.{MarksWhatWasErased, CleansWhatIsMarked}
 use Rattle.ipl_cli.proofs.UnusedLemmas.{were_unused, format_unused, said_unused}
 
 -- what stands beside the chip is left as it was
@@ -447,6 +449,11 @@ marked_within places x p n is =
 abbrev pub known_of : (m : Legible) → IsToldApart m.pages → KnownPages
 known_of m apart = record { pages = m.pages; apart = apart }
 
+-- what ended with nothing was done
+ended_ok : (result : Result (Unit {0}) Stop) → Ok tt ≡ ending_of result → is_ok result ≡ true
+ended_ok (Ok u) is = refl
+ended_ok (Err e) is = absurd (cc is)
+
 module _ {marks : Bool} (old mid : Told) (store : ScriptStore) (s : StartsOpened marks old store mid) where
   -- the store has as many units as the chip says
   pub units_told : (h : History) → IsSteady h old
@@ -505,6 +512,42 @@ module _ {marks : Bool} (old mid : Told) (store : ScriptStore) (s : StartsOpened
       (did.history ∙ ap (option_map (adds_all did.added)) at)
       (subst (λ (n : ℕ). KeepsScript n known (limits_of store.store.units) store mid k (at_rest m.map)) (sym same)
       (opened_keeps known m.map h steady rests)))
+
+  -- what is marked behind a close is clean, after lawful events that leave clean what was marked before
+  pub opened_clean : (then : ScriptStore) (new : Told) → RunsOver (Ok tt) store mid then new
+      → CountsBehind store mid then new → CleansWhatIsMarked old new
+  opened_clean then new r behind h script steady left m rests apart =
+      let tidy = subst (λ (done : Bool). LeavesTidy (script_keeping mid.places all_pages) store then mid new done)
+      (ended_ok r.result r.ending_is) r.run.tidy in
+      let known = known_of m apart in
+      let same = s.tries.accounts.counts.places in
+      let did = (s.tries.steps m h steady rests).2 in
+      let opening = s.tries.tidy in
+      let x = held h.start h.story in
+      let marked : ℕ → ℕ → Type 0 = IsMarked old.places x in
+      let taken : (base : Story) → AreClean marked base → AreClean (IsCountedClean opening.first) base =
+      λ base clean p n counted. clean p n (opening.takes.marked x steady.holds p n counted) in
+      let first = opening.tidies.added in
+      let counted = subst (λ (n : ℕ). OfContents new (λ y. (p s : ℕ) → IsMarked n y p s → CountsClean then p s)) same
+      (behind known script (left_counts old mid s.tries.accounts.counts ∙ left) (limits_of store.store.units) (at_rest m.map)
+      (adds_all did.added h)
+      (subst (λ (n : ℕ). KeepsScript n known (limits_of store.store.units) store mid (adds_all did.added h) (at_rest m.map))
+      (sym same) (opened_keeps known m.map h steady rests))) in record {
+        added = tidy.added ++ first;
+        history = tidy.history ∙ ap (option_map (adds_all tidy.added)) opening.tidies.history
+            ∙ history_then tidy.added first old.history;
+        lawful = record {
+          lawful = λ base good clean. subst (λ (story : Story). IsLawful story) (sym (append_assoc tidy.added first base))
+              (tidy.lawful.lawful (first ++ base) (opening.tidies.does.lawful.lawful base good (taken base clean))
+              (opening.tidies.does.clean refl base (taken base clean)));
+        };
+        clean = λ y told. record {
+          clean = λ base good clean p n is.
+              subst (λ (story : Story). age story p n ≡ Clean) (sym (append_assoc tidy.added first base))
+              ((tidy.clean refl).clean (first ++ base) (opening.tidies.does.lawful.lawful base good (taken base clean))
+              (opening.tidies.does.clean refl base (taken base clean)) p n (counted y told p n is));
+        };
+      }
 
   module _ (then : ScriptStore) (new : Told) where
     opened_so : (known : KnownPages) (result : Result (Unit {0}) Stop)

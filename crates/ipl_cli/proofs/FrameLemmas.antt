@@ -4,7 +4,7 @@ use Rattle.chip_trait.specs.Told.{Told}
 use Rattle.command_line.specs.declared.asked.Request.TheVariants.{Format, Run, Serial, Check, Trial}
 use Rattle.script_store.specs.declared.store.ScriptStore.{ScriptStore}
 use Rattle.ipl_cli.specs.Ending.{AskedFor, Ending, but_noted, status_at}
-use Rattle.ipl_cli.specs.Frames.{DoesWith, DoesAsAsked, MarksWhatWasErased, ClosesAsAsked}
+use Rattle.ipl_cli.specs.Frames.{DoesWith, DoesAsAsked, MarksWhatWasErased, CleansWhatIsMarked, ClosesAsAsked}
 use Rattle.ipl_cli.specs.Runs.{EndsClosed}
 use Rattle.ipl_cli.proofs.StatusLemmas.{done_at_zero}
 
@@ -47,12 +47,25 @@ module _ (old mid new : Told) (only : new ≡ but_noted mid new.beside.noted) wh
         marked = since.marked;
       }
 
+  cleans_noted : CleansWhatIsMarked old mid → CleansWhatIsMarked old new
+  cleans_noted cleans h script steady left m rests apart =
+      let adds = cleans h script steady left m rests apart in record {
+        added = adds.added;
+        history = ap (λ (t : Told). t.history) only ∙ adds.history;
+        lawful = adds.lawful;
+        clean = λ x is. adds.clean x (sym (ap (λ (t : Told). t.contents) only) ∙ is);
+      }
+
   closed_noted : (asked : AskedFor) → ClosesAsAsked asked old mid → ClosesAsAsked asked old new
   closed_noted None d = tt
   closed_noted (Some (Format spares)) d = tt
   closed_noted (Some (Run frames true closes)) d = λ is. ends_noted (d is)
   closed_noted (Some (Run frames false closes)) d = λ is.
-      let closes = d is in record { ends = ends_noted closes.ends; marked = marks_noted closes.marked }
+      let closes = d is in record {
+        ends = ends_noted closes.ends;
+        marked = marks_noted closes.marked;
+        clean = cleans_noted closes.clean;
+      }
   closed_noted (Some Serial) d = tt
   closed_noted (Some Check) d = tt
   closed_noted (Some (Trial seed count frames)) d = tt

@@ -1,20 +1,24 @@
 -- Runs that follow one another over the same desk.
-use Rattle.std.specs.Prelude.{◌≡◌, ◌≢◌, ◌<◌, List, Some, ℕ}
+use Rattle.std.specs.Prelude.{◌≡◌, ◌≢◌, ◌<◌, true, false, List, Some, ℕ}
 use Rattle.std.specs.FinMap.{empty}
-use Rattle.chip_trait.specs.Lawful.{Unknown, IsLawful, age}
-use Rattle.chip_trait.specs.Told.{History, Told}
+use Rattle.std.specs.Option.{option_map}
+use Rattle.chip_trait.specs.Lawful.{Unknown, IsLawful, IsLawfulAfter, age}
+use Rattle.chip_trait.specs.Story.{Story, held}
+use Rattle.chip_trait.specs.Told.{History, Told, adds_all}
 use Rattle.ipl_base.specs.Places.{units_on}
 use Rattle.ipl_model.specs.State.{Map, State, at_rest}
 use Rattle.ipl_model.specs.Grammar.{commands_of}
 use Rattle.ipl_model.specs.Run.{after_all}
 use Rattle.ipl_meaning.specs.Legible.{Legible, IsToldApart, whole}
-use Rattle.ipl_meaning.specs.Marks.{MarksAreUnused}
+use Rattle.ipl_meaning.specs.Marks.{IsMarked, MarksAreUnused}
 use Rattle.ipl_meaning.specs.Rests.{now, StoryRests}
 use Rattle.unit_io.specs.Leads.{IsSteady}
 use Rattle.ipl_meaning.specs.Chosen.{units_at}
 use Rattle.serial_view.specs.Serial.{serial}
 use Rattle.serial_view.specs.Laws.{picked}
 use Rattle.store_laws.specs.Keeps.{limits_of}
+use Rattle.command_line.specs.declared.asked.Request.TheVariants.{Run}
+use Rattle.ipl_cli.specs.Ending.{AskedFor}
 use Rattle.ipl_cli.specs.Top.{records_after}
 use Rattle.ipl_cli.specs.Trials.{commands_on, state_after}
 
@@ -76,3 +80,13 @@ pub record IsLawfullyFormattable (script : List ℕ) (t : Told) : Type 0 where
   pub on : IsFormattable script t
   pub told : t.history ≡ Some on.history
   pub lawful : IsLawful on.history.story
+
+-- what was added is lawful after lawful events that leave clean what was marked behind this history
+pub record AddsLawfully (places : ℕ) (h : History) (old new : Told) : Type 0 where
+  pub added : Story
+  pub history : new.history ≡ option_map (adds_all added) old.history
+  pub lawful : IsLawfulAfter (IsMarked places (held h.start h.story)) added
+
+-- it is asked to run a script over a chip that is opened, and to close that behind it
+abbrev pub AsksClosed : AskedFor → Type 0
+AsksClosed asked = (frames : ℕ) × (asked ≡ Some (Run frames false true))

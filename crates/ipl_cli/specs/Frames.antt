@@ -1,11 +1,16 @@
 -- With how many page frames what was asked was done, and whether the chip was closed.
 use Rattle.std.specs.Prelude.{ℕ, ◌≡◌, true, false, None, Some, Ok}
-use Rattle.chip_trait.specs.Told.{Told}
+use Rattle.std.specs.Option.{option_map}
+use Rattle.chip_trait.specs.Lawful.{IsLawfulAfter, LeavesClean}
+use Rattle.chip_trait.specs.Story.{Story, held}
+use Rattle.chip_trait.specs.Told.{History, Told, adds_all}
 use Rattle.command_line.specs.declared.asked.Request.TheVariants.{Format, Run, Serial, Check, Trial}
 use Rattle.ipl_model.specs.Grammar.{commands_of}
 use Rattle.ipl_model.specs.State.{Map}
 use Rattle.ipl_meaning.specs.Legible.{Legible, IsToldApart}
+use Rattle.ipl_meaning.specs.Marks.{IsMarked}
 use Rattle.ipl_meaning.specs.Rests.{StoryRests}
+use Rattle.unit_io.specs.Reads.{OfContents}
 use Rattle.script_store.specs.declared.store.ScriptStore.{ScriptStore}
 use Rattle.script_store.specs.Closes.{MarksSince}
 use Rattle.store_trait.specs.Keeping.{restarts}
@@ -47,10 +52,24 @@ MarksWhatWasErased old new = OverTold
     (λ places script h. old.history ≡ Some h → (m : Legible) → StoryRests places m h → IsToldApart m.pages
     → restarts (commands_of script) ≡ false → MarksSince places h new) old
 
+-- What is added is lawful after lawful events that leave clean what was marked behind this history; and after all of them
+-- what is marked then is clean.
+pub record AddsCleanly (places : ℕ) (h : History) (old new : Told) : Type 0 where
+  pub added : Story
+  pub history : new.history ≡ option_map (adds_all added) old.history
+  pub lawful : IsLawfulAfter (IsMarked places (held h.start h.story)) added
+  pub clean : OfContents new (λ x. LeavesClean (IsMarked places (held h.start h.story)) (IsMarked places x) added)
+
+-- so it is over each history that leaves what the chip holds, and rests on records
+abbrev pub CleansWhatIsMarked : Told → Told → Type 0
+CleansWhatIsMarked old new = OverTold
+    (λ places script h. (m : Legible) → StoryRests places m h → IsToldApart m.pages → AddsCleanly places h old new) old
+
 -- what a close leaves of a chip that was opened
 pub record ClosesOpened (old new : Told) : Type 0 where
   pub ends : EndsClosed old new
   pub marked : MarksWhatWasErased old new
+  pub clean : CleansWhatIsMarked old new
 
 -- a run that is to close the chip did so last of all
 abbrev pub ClosesAsAsked : AskedFor → Told → Told → Type 0

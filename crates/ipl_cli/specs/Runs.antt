@@ -28,7 +28,7 @@ use Rattle.ipl_store.specs.Openings.{OpensStore, Tries}
 use Rattle.script_store.specs.declared.store.ScriptStore.{ScriptStore}
 use Rattle.store_laws.specs.Keeps.{KnownPages, all_pages}
 use Rattle.script_store.specs.Keeps.{IsRunning, script_keeping}
-use Rattle.script_store.specs.Closes.{MarksRecalled, ClosesAtEnd}
+use Rattle.script_store.specs.Closes.{MarksRecalled, ClosesAtEnd, CountsMarked}
 use Rattle.restart.specs.Closing.{EndsWithMark}
 use Rattle.unit_io.specs.Costs.{Spends}
 use Rattle.script_run.specs.TrialWords.{trial_commands}
@@ -171,17 +171,23 @@ abbrev pub MarksBehind : ScriptStore → Told → Told → Type 0
 MarksBehind before old new = (known : KnownPages) (script : List ℕ) → old.beside.left ≡ Some script
     → restarts (commands_of script) ≡ false → MarksRecalled known before old new
 
+-- What is marked then, the store counts as clean.
+abbrev pub CountsBehind : ScriptStore → Told → ScriptStore → Told → Type 0
+CountsBehind before old then new = (known : KnownPages) (script : List ℕ) → old.beside.left ≡ Some script
+    → CountsMarked known before old then new
+
 -- what a close leaves behind a script
-pub record ClosesScript (before : ScriptStore) (old new : Told) : Type 0 where
+pub record ClosesScript (before : ScriptStore) (old : Told) (then : ScriptStore) (new : Told) : Type 0 where
   pub ends : EndsClosed old new
   pub marked : MarksBehind before old new
+  pub counted : CountsBehind before old then new
 
 -- The script was run to its end, and the chip closed behind it where that is asked, where else nothing is done behind the
 -- last reply; or it stopped.
 pub record RunsClosing (closes : Bool) (result : Result (Unit {0}) Stop) (before : ScriptStore) (old : Told)
     (then : ScriptStore) (new : Told) : Type 0 where
   pub run : HasRun result before old then new
-  pub closed : OnOk result (closes ≡ true → ClosesScript before old new)
+  pub closed : OnOk result (closes ≡ true → ClosesScript before old then new)
   pub last : OnOk result (closes ≡ false → EndsReplied old new)
 
 -- The script was run to its end by a store: where no close is asked, nothing was done behind the last reply.

@@ -1,7 +1,8 @@
 //! What `top` tells at the end of one run is what the next one asks for: shown from its clauses alone,
 //! for every desk. Only where no write failed, and both ended with 0. A chip has as many units as it says,
 //! and after a format all but the spare ones. From a format on the story that a chip tells stays lawful over all runs,
-//! also where the chip was closed and what a mark says to be clean was programmed after it was opened again.
+//! also where the chip was closed and what a mark says to be clean was programmed after it was opened again. From
+//! any start at rest it is lawful over a run that closes its chip and the next one, after what left the marks clean.
 ghost use Rattle.std.specs.Prelude.{◌≡◌, true, map, ℕ, List, [], Some};
 ghost use Rattle.std.specs.String.{string_bytes};
 ghost use Rattle.chip_trait.specs.Told.{Unrisen};
@@ -11,7 +12,7 @@ ghost use Rattle.command_line.specs.declared.asked.Request.TheVariants.{Format, 
 ghost use Rattle.ipl_meaning.specs.Legible.{Legible, of, whole};
 ghost use Rattle.ipl_cli.specs.Ending.{AsksOpened, AsksFormatted, units_beside};
 ghost use Rattle.ipl_cli.specs.Top.{records_after};
-ghost use Rattle.ipl_cli.specs.Chains.{RestsOn, RestsLawfully, IsFormattable, IsLawfullyFormattable, ViewKeepsRecords, no_records, records_tried, units_kept};
+ghost use Rattle.ipl_cli.specs.Chains.{RestsOn, RestsLawfully, IsFormattable, IsLawfullyFormattable, ViewKeepsRecords, AddsLawfully, AsksClosed, no_records, records_tried, units_kept};
 
 use crate::top::top;
 use chip_trait::Desk;
@@ -34,6 +35,27 @@ pub fn run_twice<D: Desk>(alloc: Global, words: &[String], desk: &mut D) -> bool
         return false;
     }
     top(alloc, words, desk) == 0
+}
+
+/// Runs the script, closes the chip, and opens it again with whatever words a run has, to whatever end. From any start
+/// that rests on records what both runs add is lawful, after lawful events that leave clean what was marked at the start.
+pub fn close_and_run<D: Desk>(
+    alloc: Global,
+    first: &[String],
+    second: &[String],
+    desk: &mut D,
+) -> bool
+    requires first { AsksClosed (requested (map string_bytes first.now)) }
+    requires second { AsksOpened (requested (map string_bytes second.now)) }
+    ensures { (m : Legible) (script : List ℕ) (on : RestsOn m script (D.told desk.old))
+        → Unrisen (D.told desk.old) (D.told desk.new) → result ≡ true
+        → AddsLawfully (D.told desk.old).places on.history (D.told desk.old) (D.told desk.new) }
+{
+    if top(alloc, first, desk) != 0 {
+        return false;
+    }
+    top(alloc, second, desk);
+    true
 }
 
 /// Formats the chip, with any number of places to spare, and then opens it and runs the script.

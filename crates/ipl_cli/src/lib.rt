@@ -40,7 +40,8 @@
 //!
 //! Proved, by `top`: `closed`: where the words ask to close the chip, at 0 a mark was programmed last
 //! of all. Over a chip that was opened and tells its history, each log sector at a unit's place that
-//! was erased since and not programmed is marked then, if no command opened the chip again.
+//! was erased since and not programmed is marked then, if no command opened the chip again. And what
+//! is marked then is clean, after lawful events that leave clean what was marked before.
 //!
 //! Proved, by `top`: `views`, `untouched`: the serial view of a script, run from no records: over
 //! every desk that tells its script, what is said is a beginning of its lines, one by one, and at 0
@@ -58,7 +59,9 @@
 //! Proved, by the laws of `chains`, from the clauses of `top` alone: what these come to for runs one
 //! after another over the same desk, whatever desk it is. A run after a run that ended with 0 begins
 //! with the records that the first one left, and a run after a format with none. From a format on the
-//! story that the desk tells is lawful over all of them. The commands of the serial view of a script
+//! story that the desk tells is lawful over all of them; from any start that rests on records, what a
+//! run that closes its chip and the next one add is lawful, after lawful events that leave clean what
+//! was marked at the start. The commands of the serial view of a script
 //! leave the records that the script leaves.
 #![tactic(auto)]
 

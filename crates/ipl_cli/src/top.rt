@@ -184,7 +184,7 @@ fn run_over<D: Desk>(store: &mut ScriptStore, desk: &mut D, closes: bool) -> Res
     requires running { IsRunning (D.told desk.old).places store.old }
     requires left { next_number store.old ≤ FOUND_NUMBER }
     ensures runs { RunsOver result store.old (D.told desk.old) store.new (D.told desk.new) }
-    ensures closed { OnOk result (closes ≡ true → ClosesScript store.old (D.told desk.old) (D.told desk.new)) }
+    ensures closed { OnOk result (closes ≡ true → ClosesScript store.old (D.told desk.old) store.new (D.told desk.new)) }
     ensures last { OnOk result (closes ≡ false → EndsReplied (D.told desk.old) (D.told desk.new)) }
 {
     match run_closing(store, desk, closes) {
@@ -406,7 +406,8 @@ pub fn top<D: Desk>(alloc: Global, words: &[String], desk: &mut D) -> u8
         → DoesAsAsked (requested (map string_bytes words.now)) (D.told desk.old) (D.told desk.new) }
 
     // And where they ask to close the chip, the last two events are the program of a mark and a barrier. What was
-    // opened has each log sector marked then that was erased since and not programmed, if no command opened it again.
+    // opened has each log sector marked then that was erased since and not programmed, if no command opened it again;
+    // and what is marked is clean, after lawful events that leave clean what was marked before.
     ensures closed { result ≡ 0
         → ClosesAsAsked (requested (map string_bytes words.now)) (D.told desk.old) (D.told desk.new) }
 

@@ -22,6 +22,8 @@ use Rattle.unit_io.specs.Accounts.{Accounts}
 use Rattle.unit_io.specs.Costs.{Spends}
 use Rattle.unit_io.specs.Leads.{IsStopped}
 use Rattle.unit_io.proofs.CostLemmas.{spends_then}
+use Rattle.ipl_meaning.specs.Marks.{IsMarked}
+use Rattle.unit_io.specs.Reads.{OfContents}
 use Rattle.unit_io.specs.Steps.{Settled, Tidies}
 use Rattle.place_taking.proofs.CountedLemmas.{keeps_counts}
 use Rattle.place_taking.specs.Wear.{TellsOfWear}
@@ -35,12 +37,12 @@ use Rattle.store_trait.specs.declared.fault.Fault.TheVariants.{Chip, Spent}
 use Rattle.store_trait.specs.Behind.{KeepsBehind, WorksBehind}
 use Rattle.store_trait.specs.Keeping.{LAST_NUMBER, Works, WorkLeaves, StillRecalls, DoneRecalls}
 use Rattle.store_trait.proofs.TidyLemmas.{tidy_then}
-use Rattle.store_laws.specs.Keeps.{KnownPages, IsChipFaultCause, ChipTells, StoreCause}
+use Rattle.store_laws.specs.Keeps.{KnownPages, KeepsStore, IsChipFaultCause, ChipTells, StoreCause}
 use Rattle.ipl_store.specs.declared.store.Store.{Store}
 use Rattle.ipl_store.specs.Calls.{view_of, counter_of, IsSound, entry_fault, early_fault, ends_worn_out, Serves, Calls}
 use Rattle.ipl_store.specs.Closing.{ClosesStore, EndsMarking, MarksStore, ServesClose}
 use Rattle.script_store.specs.declared.store.ScriptStore.{ScriptStore}
-use Rattle.script_store.specs.Closes.{Aborts, MarksRecalled, ClosesAtEnd, closed}
+use Rattle.script_store.specs.Closes.{Aborts, CountsClean, CountsMarked, MarksRecalled, ClosesAtEnd, closed}
 use Rattle.script_store.specs.Keeps.{IsRunning, KeepsScript, script_keeping, ended, DoesCommand}
 use Rattle.script_store.specs.Worn.{KnowsWorn, ChipWears, FaultWears}
 use Rattle.script_store.proofs.KeepLemmas.{works_so, tidy_answered, tidy_so, leaves_so}
@@ -253,6 +255,36 @@ module _ (known : KnownPages) (m : ScriptStore) (between : Store) (before told :
             }
         by_written (Err e) known = tt
 
+    -- done, what is marked is counted as clean
+    marked_counted : OnOk (marked written) (CountsMarked known m before (shut c) after)
+    marked_counted = by_written written counted_after
+      where
+        Counted : Contents → Type 0
+        Counted x = (p s : ℕ) → IsMarked before.places x p s → CountsClean (shut c) p s
+
+        by_end : (w : Result (Unit {0}) ChipFault) (limits : Limits) (state : State) (l : History)
+            → (Settled w told after → KeepsStore before.places known.pages limits (view_of (shut c).store) after l state)
+            → OnOk w (Counted (held l.start l.story)) → OnOk w (OfContents after Counted)
+        by_end (Ok v) limits state l kept counted = λ x is.
+            let both : Some (held l.start l.story) ≡ Some x = sym (kept tt).steady.holds ∙ is in
+            let same : held l.start l.story ≡ x = cc both in subst Counted same counted
+        by_end (Err e) limits state l kept counted = tt
+
+        counted_after : (limits : Limits) (state : State) (k : History) → KeepsScript before.places known limits m before k state
+            → OnOk written (OfContents after Counted)
+        counted_after limits state k keeps =
+            let ready = ready_works v served limits state k keeps in
+            let j = adds_all ready.leaves.added k in
+            let more = marked_leaves limits state j ready.ends.0 in
+            by_end written limits state (adds_all more.leaves.added j) more.keeps more.counted
+
+        by_written : (w : Result (Unit {0}) ChipFault)
+            → ((limits : Limits) (state : State) (k : History) → KeepsScript before.places known limits m before k state
+            → OnOk w (OfContents after Counted))
+            → OnOk (marked w) (CountsMarked known m before (shut c) after)
+        by_written (Ok v) counted = λ limits state k keeps. counted limits state k keeps
+        by_written (Err e) counted = tt
+
     -- done, the mark is the last that was written
     marked_last : OnOk written (Spends EndsWithMark told after) → OnOk (marked written) (Spends EndsWithMark before after)
     marked_last last = by_written written last
@@ -317,6 +349,7 @@ module _ (known : KnownPages) (a m : ScriptStore) (c : Store) (before after : To
           (spent_does known command.Syntax m before aborted.running late))));
       last = tt;
       marked = tt;
+      counted = tt;
     };
   })
 
@@ -335,6 +368,7 @@ module _ (known : KnownPages) (a m : ScriptStore) (c : Store) (before after : To
           (sym same) (aborted_behind known a m between before told (closed (Err fault)) runs.up aborted behind));
       last = subst (λ (f : StoreFault). OnOk (closed (Err f)) (Spends EndsWithMark before after)) (sym served.ends.1) tt;
       marked = subst (λ (f : StoreFault). OnOk (closed (Err f)) (MarksRecalled known a before after)) (sym served.ends.1) tt;
+      counted = subst (λ (f : StoreFault). OnOk (closed (Err f)) (CountsMarked known a before (shut c) after)) (sym served.ends.1) tt;
     };
   })
 
@@ -345,26 +379,35 @@ module _ (known : KnownPages) (a m : ScriptStore) (c : Store) (before after : To
       marks entry h at (aborted.recalls entry recalls) limits first.now (adds_all first.leaves.added k)
       (first.leaves.history ∙ ap (option_map (adds_all first.leaves.added)) is) first.keeps
 
+  -- and what is marked then is counted
+  aborted_counted : CountsMarked known m before (shut c) after → CountsMarked known a before (shut c) after
+  aborted_counted counted limits state k keeps =
+      let first = aborted.keeps limits state k keeps in
+      counted limits first.now (adds_all first.leaves.added k) first.keeps
+
   marked_ends : (written : Result (Unit {0}) ChipFault) → EndsMarking written result
       → WorksBehind (script_keeping before.places known) m before (marked written) (shut c) after
       → OnOk (marked written) (Spends EndsWithMark before after)
-      → OnOk (marked written) (MarksRecalled known m before after) → Ended result
-  marked_ends (Ok v) is behind last marks = subst Ended (sym is) (record {
+      → OnOk (marked written) (MarksRecalled known m before after)
+      → OnOk (marked written) (CountsMarked known m before (shut c) after) → Ended result
+  marked_ends (Ok v) is behind last marks counted = subst Ended (sym is) (record {
     up = λ down. cc down;
     free = λ refusal refused. cc refused;
     closes = record {
       works = aborted_behind known a m c before after (Ok v) runs.up aborted behind;
       last = last;
       marked = aborted_marked marks;
+      counted = aborted_counted counted;
     };
   })
-  marked_ends (Err e) is behind last marks = subst Ended (sym is) (record {
+  marked_ends (Err e) is behind last marks counted = subst Ended (sym is) (record {
     up = λ down. cc down;
     free = λ refusal refused. cc refused;
     closes = record {
       works = aborted_behind known a m c before after (Err (Chip e)) runs.up aborted behind;
       last = last;
       marked = tt;
+      counted = tt;
     };
   })
 
@@ -407,6 +450,8 @@ module _ (known : KnownPages) (a m : ScriptStore) (c : Store) (before after : To
           served.counts marked.steps marked.tidy marked.accounts marked.units (marked_recalls wears marked)
           marked.last)
           (erased_marked known m between before told aborted.running served.units c after marked.written v ready tidy
+          served.counts marked.steps marked.tidy marked.accounts marked.units (marked_recalls wears marked))
+          (marked_counted known m between before told aborted.running served.units c after marked.written v ready tidy
           served.counts marked.steps marked.tidy marked.accounts marked.units (marked_recalls wears marked))
       by_ready (Err fault) ready tidy wears (is, same, still) =
           ready_ends between told fault ready

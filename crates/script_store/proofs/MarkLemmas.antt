@@ -1,8 +1,8 @@
 -- A mark is written behind a store that keeps a state.
-use Rattle.std.proofs.Common.{ℕ, ◌≡◌, ◌++◌, true, false, [], Result, Ok, Err, OnOk, is_ok, refl, sym, ◌∙◌, ap, subst}
+use Rattle.std.proofs.Common.{ℕ, ◌≡◌, ◌++◌, true, false, [], Result, Ok, Err, OnOk, is_ok, slice_index, refl, sym, ◌∙◌, ap, subst}
 use Rattle.chip_trait.specs.Chart.{says}
 use Rattle.chip_trait.specs.Moment.{AtEachMoment}
-use Rattle.chip_trait.specs.Story.{held}
+use Rattle.chip_trait.specs.Story.{Contents, held}
 use Rattle.chip_trait.specs.Told.{History, Told, adds_all}
 use Rattle.chip_trait.proofs.ImageLemmas.{held_is_image}
 use Rattle.chip_trait.proofs.MomentLemmas.{at_end}
@@ -13,12 +13,12 @@ use Rattle.ipl_meaning.specs.Legible.{Legibility, of}
 use Rattle.ipl_meaning.specs.Chart.{chart_of}
 use Rattle.ipl_meaning.specs.Rests.{EachStandsIn, StoryRests}
 use Rattle.ipl_meaning.specs.Stands.{StandsIn}
-use Rattle.ipl_meaning.specs.Marks.{KeepsMarks, MarksAreUnused}
-use Rattle.ipl_meaning.specs.Tables.{Tables}
+use Rattle.ipl_meaning.specs.Marks.{IsMarked, KeepsMarks, MarksAreUnused}
+use Rattle.ipl_meaning.specs.Tables.{Tables, IsCountedClean}
 use Rattle.ipl_meaning.proofs.CarriedLemmas.{unused_is_carried}
 use Rattle.ipl_meaning.proofs.StoryLemmas.{moments_of_one, rests_in_units}
 use Rattle.unit_io.specs.Steps.{Settled, NoOtherEnd, EndsWith}
-use Rattle.restart.specs.Closing.{Closes, ClosesInSteps, MarksUnits, RestsMarked}
+use Rattle.restart.specs.Closing.{Closes, ClosesInSteps, MarksUnits, MarksWhatCounts, RestsMarked}
 use Rattle.store_trait.specs.Keeping.{WorkLeaves}
 use Rattle.store_laws.specs.Keeps.{View, limits_of, KeepsStore, IsUp, UsedNothing, store_keeping}
 use Rattle.store_laws.proofs.KeepLemmas.{all_done, at_limits, done_settles}
@@ -36,6 +36,22 @@ units_marked : (places : ℕ) (pages : Legibility) (m : Map) (t : Tables) (old n
 units_marked places pages m t old new (Ok v) k ends = (ends tt).units
 units_marked places pages m t old new (Err e) k ends = tt
 
+-- what is marked is counted as clean, where exactly that is marked at the units' places
+counted_where : (places : ℕ) (t : Tables) (x : Contents) → MarksWhatCounts places t x → MarksUnits places t x
+    → (p s : ℕ) → IsMarked places x p s → IsCountedClean t p s
+counted_where places t x counts units p s is =
+    let unit = units is.layout is.laid is.unit is.within in
+    let here : slice_index t.places.current is.unit ≡ p = unit.current ∙ sym is.home in
+    subst (λ (q : ℕ). IsCountedClean t q s) here
+    ((counts is.unit s unit.low).0 (subst (λ (q : ℕ). IsMarked places x q s) (sym here) is))
+
+units_counted : (places : ℕ) (pages : Legibility) (m : Map) (t : Tables) (old new : Told) (written : Result (Unit {0}) ChipFault) (k : History)
+    → (Settled written old new → EndsWith written (λ v k. RestsMarked places (of pages m) t k) NoOtherEnd k)
+    → OnOk written ((p s : ℕ) → IsMarked places (held k.start k.story) p s → IsCountedClean t p s)
+units_counted places pages m t old new (Ok v) k ends =
+    counted_where places t (held k.start k.story) (ends tt).marks (ends tt).units
+units_counted places pages m t old new (Err e) k ends = tt
+
 module _ (places : ℕ) (pages : Legibility) (before after : View) (old new : Told) (written : Result (Unit {0}) ChipFault)
     (units : after.units ≡ before.units) (up : before.down ≡ false) (down : after.down ≡ true)
     (same : old.places ≡ places)
@@ -46,6 +62,8 @@ module _ (places : ℕ) (pages : Legibility) (before after : View) (old new : To
         before h after old new (is_ok written)
     pub keeps : Settled written old new → KeepsStore places pages limits after new (adds_all leaves.added h) state
     pub marked : OnOk written (MarksUnits places after.memory.tables (held h.start (leaves.added ++ h.story)))
+    pub counted : OnOk written ((p s : ℕ) → IsMarked places (held h.start (leaves.added ++ h.story)) p s
+        → IsCountedClean after.memory.tables p s)
 
   module _ (state : State) (h : History) (keeps : KeepsStore places pages (limits_of before.units) before old h state) where
     runs : IsUp places pages before h state
@@ -104,6 +122,7 @@ module _ (places : ℕ) (pages : Legibility) (before after : View) (old new : To
             up = λ runs. absurd (let clash : true ≡ false = sym down ∙ runs in cc clash);
           };
       marked = units_marked places pages state.map after.memory.tables old new written (adds_all way.added h) way.ends;
+      counted = units_counted places pages state.map after.memory.tables old new written (adds_all way.added h) way.ends;
     }
 
   pub marks : (limits : Limits) (state : State) (h : History) → KeepsStore places pages limits before old h state

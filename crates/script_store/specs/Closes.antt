@@ -13,13 +13,15 @@ use Rattle.ipl_meaning.specs.Layout.{Layout, Laid}
 use Rattle.ipl_meaning.specs.Marks.{IsMarked}
 use Rattle.ipl_meaning.specs.Rests.{now}
 use Rattle.ipl_meaning.specs.Stands.{StandsIn}
+use Rattle.ipl_meaning.specs.Tables.{IsCountedClean}
 use Rattle.unit_io.specs.Costs.{Spends}
+use Rattle.unit_io.specs.Reads.{OfContents}
 use Rattle.restart.specs.Closing.{EndsWithMark}
 use Rattle.store_trait.specs.declared.fault.Fault.{Fault}
 use Rattle.store_trait.specs.declared.fault.Fault.TheVariants.{Chip, Spent}
 use Rattle.store_trait.specs.Keeping.{LeavesTidy, WorkLeaves, StillRecalls}
 use Rattle.store_trait.specs.Behind.{WorksBehind}
-use Rattle.ipl_store.specs.Calls.{counter_of}
+use Rattle.ipl_store.specs.Calls.{counter_of, view_of}
 use Rattle.script_store.specs.declared.store.ScriptStore.{ScriptStore}
 use Rattle.store_laws.specs.Keeps.{KnownPages}
 use Rattle.script_store.specs.Keeps.{IsRunning, KeepsScript, script_keeping}
@@ -51,6 +53,10 @@ pub record Aborts (known : KnownPages) (old : ScriptStore) (told : Told) (new : 
 
 -- ---- what is marked
 
+-- the store counts the sector as clean
+abbrev pub CountsClean : ScriptStore → ℕ → ℕ → Type 0
+CountsClean s p sector = IsCountedClean (view_of s.store).memory.tables p sector
+
 -- Each log sector at a unit's place that these events erased, and didn't program since, is marked then.
 abbrev pub MarksErased : ℕ → History → Story → Type 0
 MarksErased places k added = (it : Layout) → Laid places (now k) it → (u n : ℕ) → u < it.count
@@ -69,6 +75,12 @@ MarksRecalled known old before after = (entry : Told) (h : History) → entry.hi
     → (limits : Limits) (state : State) (k : History) → before.history ≡ Some k
     → KeepsScript before.places known limits old before k state → MarksSince before.places h after
 
+-- What is marked on the chip then, the store counts as clean, if it kept a state before.
+abbrev pub CountsMarked : KnownPages → ScriptStore → Told → ScriptStore → Told → Type 0
+CountsMarked known old before new after = (limits : Limits) (state : State) (k : History)
+    → KeepsScript before.places known limits old before k state
+    → OfContents after (λ x. (p s : ℕ) → IsMarked before.places x p s → CountsClean new p s)
+
 -- ---- a close
 
 -- the answer of a close; the store isn't down before it, and no session is open, which would have it refused
@@ -80,9 +92,11 @@ closed (Err (store.Refused refusal)) = Err Spent
 closed (Err (store.Chip fault)) = Err (Chip fault)
 
 -- Whatever the chip tells, it works behind the script as what says nothing does; and done, the last two events are the
--- program of a mark and a barrier, and what was erased since an entry and not programmed is marked.
+-- program of a mark and a barrier, what was erased since an entry and not programmed is marked, and what is marked the
+-- store counts as clean.
 pub record ClosesAtEnd (known : KnownPages) (old : ScriptStore) (before : Told) (result : Result (Unit {0}) Fault) (new : ScriptStore)
     (after : Told) : Type 0 where
   pub works : WorksBehind (script_keeping before.places known) old before result new after
   pub last : OnOk result (Spends EndsWithMark before after)
   pub marked : OnOk result (MarksRecalled known old before after)
+  pub counted : OnOk result (CountsMarked known old before new after)

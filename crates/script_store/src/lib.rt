@@ -13,7 +13,7 @@
 //! committed record up. A clean close aborts all sessions, and is
 //! work behind the script that says nothing: the chip stands for the same records, and done, its last two
 //! events are the program of a mark and a barrier. Each log sector at a unit's place that was erased since the
-//! chip was opened, and not programmed, is marked then.
+//! chip was opened, and not programmed, is marked then, and what is marked the store counts as clean.
 #![tactic(auto)]
 
 mod changing;

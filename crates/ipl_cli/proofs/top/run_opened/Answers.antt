@@ -4,7 +4,7 @@ use Rattle.store_trait.proofs.OnwardLemmas.{onward_counts, further_onward, furth
 use Rattle.ipl_cli.proofs.StartLemmas.{opened_left, opened_cause, opened_running, opened_number}
 use Rattle.std.specs.Prelude.{is_ok}
 use Rattle.ipl_cli.proofs.CloseLemmas.{closed_since}
-use Rattle.ipl_cli.proofs.EndLemmas.{opened_marks}
+use Rattle.ipl_cli.proofs.EndLemmas.{opened_marks, opened_clean}
 use Rattle.ipl_cli.proofs.LawfulLemmas.{opened_adds}
 use Rattle.ipl_cli.proofs.top.run_opened.Goals as goal
 
@@ -98,4 +98,7 @@ returns-clause-closed g c = λ is.
           (g.D.Chip.told c.run_over.new.desk) tidies.history closed.ends;
       marked = opened_marks (g.D.Chip.told c.args.desk.now) (g.D.Chip.told c.start_opened.new.desk)
           c.in_ok-store.store c.in_ok-store.ensures.starts (g.D.Chip.told c.run_over.new.desk) closed.marked;
+      clean = opened_clean (g.D.Chip.told c.args.desk.now) (g.D.Chip.told c.start_opened.new.desk)
+          c.in_ok-store.store c.in_ok-store.ensures.starts c.run_over.new.store (g.D.Chip.told c.run_over.new.desk)
+          c.in_ok-run_over.ensures.runs closed.counted;
     }
