@@ -1,5 +1,5 @@
 -- What a clean close of a store leaves.
-use Rattle.std.proofs.Common.{◌≡◌, ℕ, ◌+◌, ◌≤◌, ◌^◌, true, false, List, length, Option, Some, None, Result, Ok, Err, OnOk, refl, sym, ◌∙◌, ap, subst}
+use Rattle.std.proofs.Common.{◌≡◌, ℕ, ◌+◌, ◌<◌, ◌≤◌, ◌^◌, true, false, List, length, Option, Some, None, Result, Ok, Err, OnOk, refl, sym, ◌∙◌, ap, subst}
 use Rattle.std.proofs.lemmas.Bool.{true≢false}
 use Rattle.chip_trait.specs.Told.{Told}
 use Rattle.chip_trait.proofs.CountsLemmas.{counts_then}
@@ -17,6 +17,7 @@ use Rattle.page_frames.specs.declared.pages.Pages.{Pages}
 use Rattle.page_frames.specs.Complete.{FailsByChip}
 use Rattle.page_frames.specs.Faulty.{TellsFaults}
 use Rattle.page_frames.specs.Pages.{tables_in, Upholds}
+use Rattle.txn_status.specs.Status.{room_of}
 use Rattle.ipl_store.specs.declared.store.Store.{Store}
 use Rattle.ipl_store.specs.Calls.{counter_of, EndsAs, Calls, IsMade, IsSound}
 use Rattle.ipl_store.specs.Closing.{ClosesStore, EndsMarking, MarksStore}
@@ -125,8 +126,9 @@ module _ (store : Store) (pages : Pages) (kept : List ℕ) (before told : Told)
 pub closes_unready : (early : Option StoreFault) (store mid : Store) (before told : Told)
     (fault : StoreFault) → early ≡ None
     → Calls {T = Unit {0}} early (λ state. state) (2 ^ 14) store before (Err fault) mid told
+    → (0 < room_of store.transactions.pages.parts.status → told ≡ before)
     → ClosesStore early store before (Err fault) mid told
-closes_unready early store mid before told fault none calls = record {
+closes_unready early store mid before told fault none calls idle = record {
   refuses = λ first is. let no : None ≡ Some first = sym none ∙ is in absurd (cc no);
   serves = λ let_in. record {
     between = mid;
@@ -137,6 +139,7 @@ closes_unready early store mid before told fault none calls = record {
     wears = calls.wears;
     units = calls.units;
     counts = calls.counts;
+    idle = idle;
     then = (refl, refl, refl);
   };
   sound = calls.sound;
@@ -148,9 +151,10 @@ closes_unready early store mid before told fault none calls = record {
 pub closes_marked : (early : Option StoreFault) (store mid new : Store) (before told after : Told)
     (result : Result (Unit {0}) StoreFault) → early ≡ None
     → Calls {T = Unit {0}} early (λ state. state) (2 ^ 14) store before (Ok tt) mid told
+    → (0 < room_of store.transactions.pages.parts.status → told ≡ before)
     → MarksStore mid told result new after → IsMade told.places new
     → ClosesStore early store before result new after
-closes_marked early store mid new before told after result none calls marks made = record {
+closes_marked early store mid new before told after result none calls idle marks made = record {
   refuses = λ first is. let no : None ≡ Some first = sym none ∙ is in absurd (cc no);
   serves = λ let_in. record {
     between = mid;
@@ -161,6 +165,7 @@ closes_marked early store mid new before told after result none calls marks made
     wears = calls.wears;
     units = calls.units;
     counts = calls.counts;
+    idle = idle;
     then = marks;
   };
   sound = down_sound before.places new marks.down

@@ -1,5 +1,5 @@
 -- What a clean close leaves of a store.
-use Rattle.std.specs.Prelude.{◌≡◌, ◌≤◌, ◌+◌, ◌^◌, true, Option, Some, None, Result, Ok, Err, MatchResult, OnOk, is_ok}
+use Rattle.std.specs.Prelude.{◌≡◌, ◌<◌, ◌≤◌, ◌+◌, ◌^◌, true, Option, Some, None, Result, Ok, Err, MatchResult, OnOk, is_ok}
 use Rattle.chip_trait.specs.Told.{Told, Counts}
 use Rattle.ipl_base.specs.declared.fault.ChipFault.{ChipFault}
 use Rattle.ipl_base.specs.declared.fault.StoreFault.{StoreFault}
@@ -9,6 +9,7 @@ use Rattle.unit_io.specs.Costs.{ProgramsAt, Spends}
 use Rattle.unit_io.specs.Leads.{IsStopped}
 use Rattle.unit_io.specs.Steps.{Tidies}
 use Rattle.place_taking.specs.Wear.{TellsOfWear}
+use Rattle.txn_status.specs.Status.{room_of}
 use Rattle.restart.specs.Closing.{ClosesInSteps, EndsWithMark}
 use Rattle.page_frames.specs.Pages.{tables_in}
 use Rattle.ipl_store.specs.declared.store.Store.{Store}
@@ -37,7 +38,8 @@ pub record MarksStore (old : Store) (before : Told) (result : Result (Unit {0}) 
   pub closed : new.closed ≡ true
   pub units : new.units ≡ old.units
 
--- The status place was made ready, as by any call that keeps the state; and then a mark was written.
+-- The status place was made ready, as by any call that keeps the state, for which the chip isn't asked where it has room;
+-- and then a mark was written.
 pub record ServesClose (old : Store) (before : Told) (result : Result (Unit {0}) StoreFault) (new : Store)
     (after : Told) : Type 0 where
   pub between : Store
@@ -49,6 +51,7 @@ pub record ServesClose (old : Store) (before : Told) (result : Result (Unit {0})
       (ends_worn_out readied) before told
   pub units : between.units ≡ old.units
   pub counts : Counts before told
+  pub idle : 0 < room_of old.transactions.pages.parts.status → told ≡ before
   pub then : MatchResult readied (λ _. MarksStore between told result new after)
       (λ fault. (result ≡ Err fault) × (new ≡ between) × (after ≡ told))
 

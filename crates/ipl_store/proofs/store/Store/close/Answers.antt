@@ -23,7 +23,8 @@ returns-in_err-end g c =
           (readies store c.ready_status-ready.new.self c.ready_status-ready.new.kept old told
           c.ready_status-ready.result (Err c.in_err-end.field-0.0) c.end.new.self
           (let_in store refusal none).0 c.requires.sound ready.upholds ready.complete ready.faults
-          c.in_err-end.ensures.rest c.in_err-end.ensures.ends early none);
+          c.in_err-end.ensures.rest c.in_err-end.ensures.ends early none)
+          (λ room. (ready.idle room).2);
     })
 
 pub returns : goal.returns
@@ -43,5 +44,6 @@ returns g c =
           c.ready_status-ready.result (Ok tt) c.end.new.self
           (let_in store refusal none).0 c.requires.sound ready.upholds ready.complete ready.faults
           c.in_ok-end.ensures.rest c.in_ok-end.ensures.ends early none)
+          (λ room. (ready.idle room).2)
           c.write_mark.ensures.marks c.write_mark.ensures.made;
     }
