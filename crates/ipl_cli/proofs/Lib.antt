@@ -5,6 +5,7 @@ mod CountLemmas
 mod UnusedLemmas
 mod EndLemmas
 mod WornLemmas
+mod EarlierLemmas
 mod StartLemmas
 mod TrialLemmas
 mod RecordLemmas

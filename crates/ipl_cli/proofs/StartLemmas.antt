@@ -5,7 +5,7 @@ use Rattle.std.proofs.lemmas.Bool.{cases_Bool, cases_eq, and_parts}
 use Rattle.std.proofs.lemmas.Bool.Decides.{nat_tests}
 use Rattle.std.specs.FinMap.{empty}
 use Rattle.chip_trait.specs.Story.{Story, Contents, held}
-use Rattle.chip_trait.specs.Told.{History, Told, Beside, Counts, Grew, Rose, adds_all}
+use Rattle.chip_trait.specs.Told.{History, Told, Counts, Rose, adds_all}
 use Rattle.ipl_base.specs.Calls.{IsFailedCall}
 use Rattle.ipl_base.specs.Places.{IsGeometry, IsSpared, KeepsUnits, units_on, spares_on}
 use Rattle.ipl_base.proofs.UnitLemmas.{units_are_kept}
@@ -39,7 +39,7 @@ use Rattle.restart.proofs.CompleteLemmas.{completes_whole}
 use Rattle.restart.specs.Events.{format_events}
 use Rattle.restart.specs.Fresh.{IsFresh, Formats, TellsFresh}
 use Rattle.restart.proofs.LookLemmas.{reads_none}
-use Rattle.store_trait.specs.Keeping.{ChipRose, SaysFailedCall, SCRIPT_DRAWS, WORK_DRAWS, FOUND_NUMBER}
+use Rattle.store_trait.specs.Keeping.{SaysFailedCall, SCRIPT_DRAWS, WORK_DRAWS, FOUND_NUMBER}
 use Rattle.store_trait.specs.declared.fault.Fault.{Fault}
 use Rattle.store_trait.specs.declared.fault.Fault.TheVariants as fault
 use Rattle.place_taking.proofs.SpendingLemmas.{or_right}
@@ -65,47 +65,9 @@ use Rattle.command_line.specs.declared.asked.Request.TheVariants.{Run}
 use Rattle.ipl_cli.specs.Ending.{Ending, StopsEarly, StopRose, format_end}
 use Rattle.ipl_cli.specs.Top.{IsLaidWell, RestsWithNumbersLeft, IsMetLater, LaidCause, UsedUpCause, RestsOnSome, IsMetAgain, IsAtFault, StrayCause, OpenedCause, WornOutCause, AnewCause, FormattedCause, FindsWorn, IsTooLong, RequestCause, EndCause, RunsOpened, IsRefused, OpenedRuns, FormattedLeaves, OpenedLeaves}
 use Rattle.ipl_cli.specs.Runs.{RunsFrom, MakesStore, StartsOpened, IsNotOpened, WasFormatted, IsNotFormatted, StartsFormatted, IsNotStarted, RunsOver, end_of, ending_of}
+use Rattle.ipl_cli.proofs.EarlierLemmas.{reads_earlier, writes_earlier, worn_earlier, script_earlier, says_earlier, long_earlier}
 use Rattle.ipl_cli.proofs.WornLemmas.{format_finds, fresh_finds}
 use Rattle.ipl_cli.proofs.EndLemmas.{left_counts, stopped_early, units_told, opened_keeps, opened_runs, runs_opened, unopened_runs, untouched_stops, formatted_runs, fresh_story, fresh_units}
-
--- ---- counts
-
-rose_earlier : (first old new : ℕ) → first ≤ old → Rose old new → Rose first new
-rose_earlier first old new before rose = omega (arith, before, rose)
-
-module _ (old mid new : Told) (counts : Counts old mid) where
-  reads_earlier : Rose mid.read_faults new.read_faults → Rose old.read_faults new.read_faults
-  reads_earlier rose = rose_earlier old.read_faults mid.read_faults new.read_faults counts.reads
-      rose
-
-  writes_earlier : Rose mid.write_faults new.write_faults → Rose old.write_faults new.write_faults
-  writes_earlier rose = rose_earlier old.write_faults mid.write_faults new.write_faults
-      counts.writes rose
-
-  worn_earlier : Rose mid.worn_erases new.worn_erases → Rose old.worn_erases new.worn_erases
-  worn_earlier rose = rose_earlier old.worn_erases mid.worn_erases new.worn_erases counts.worn rose
-
-  chip_earlier : ChipRose mid new → ChipRose old new
-  chip_earlier (inl rose) = inl (reads_earlier rose)
-  chip_earlier (inr (inl rose)) = inr (inl (writes_earlier rose))
-  chip_earlier (inr (inr rose)) = inr (inr (worn_earlier rose))
-
-  script_earlier : Rose mid.beside.script_faults new.beside.script_faults
-      → Rose old.beside.script_faults new.beside.script_faults
-  script_earlier rose = subst (λ (b : Beside). Rose b.script_faults new.beside.script_faults)
-      counts.beside rose
-
-  says_earlier : Rose mid.beside.say_faults new.beside.say_faults
-      → Rose old.beside.say_faults new.beside.say_faults
-  says_earlier rose = subst (λ (b : Beside). Rose b.say_faults new.beside.say_faults) counts.beside
-      rose
-
-  long_earlier : IsTooLong mid new → IsTooLong old new
-  long_earlier long = record {
-    grew = subst (λ (b : Beside). Grew b.script_bytes 4294967295 new.beside.script_bytes)
-        counts.beside long.grew;
-    told = λ source left. long.told source (ap (λ (b : Beside). b.left) counts.beside ∙ left);
-  }
 
 -- ---- what a chip holds that is sound
 

@@ -79,9 +79,10 @@ EndsTrial (Err TooLong) Q places commands said = ⊥
 -- history leaves. What the chip tells grew by these events. Whatever moment the power is cut at, the
 -- chip stands for the records after the first of the commands, and after all of them from the first
 -- line on. What is said is a beginning of the summary, line by line. No sector is programmed twice
--- between erases of its place, and nothing that is marked is used at any of these moments. Where no write failed, the chip holds at the end what the history then
--- leaves, and by how the trial ended that rests on the records of the commands that are done. Of the
--- script nothing is read. Where all is done, the whole summary is said.
+-- between erases of its place, and nothing that is marked is used at any of these moments. Where no
+-- write failed, the chip holds at the end what the history then leaves, and by how the trial ended
+-- that rests on the records of the commands that are done. Of the script nothing is read. Where all is
+-- done, the whole summary is said.
 pub record Trials (places : ℕ) (commands : List Command) (h : History) (first : Story)
     (old new : Told) (ending : Ending) : Type 0 where
   pub added : Story
