@@ -2,11 +2,11 @@
 use Rattle.std.proofs.Common.{◌≡◌, ℕ, List, [], ◌∷◌, ◌++◌, refl, sym, ◌∙◌, ap, append_assoc}
 use Rattle.std.proofs.lemmas.List.{append-nil}
 use Rattle.chip_trait.specs.declared.event.Event.TheVariants.{Read, Program, Erase, Worn, Barrier, Said}
-use Rattle.chip_trait.specs.Story.{Story, pieces, joined, said}
+use Rattle.chip_trait.specs.Story.{Story, pieces, joined_pieces, said}
 
-pub joined-append : (a b : List (List ℕ)) → joined (a ++ b) ≡ joined a ++ joined b
+pub joined-append : (a b : List (List ℕ)) → joined_pieces (a ++ b) ≡ joined_pieces a ++ joined_pieces b
 joined-append [] b = refl
-joined-append (piece ∷ a) b = ap (λ (l : List ℕ). piece ++ l) (joined-append a b) ∙ sym (append_assoc piece (joined a) (joined b))
+joined-append (piece ∷ a) b = ap (λ (l : List ℕ). piece ++ l) (joined-append a b) ∙ sym (append_assoc piece (joined_pieces a) (joined_pieces b))
 
 pub pieces-append : (later earlier : Story) → pieces (later ++ earlier) ≡ pieces earlier ++ pieces later
 pieces-append [] earlier = sym (append-nil (pieces earlier))
@@ -18,7 +18,7 @@ pieces-append (Barrier ∷ later) earlier = pieces-append later earlier
 pieces-append (Said piece ∷ later) earlier = ap (λ (l : List (List ℕ)). l ++ piece ∷ []) (pieces-append later earlier) ∙ append_assoc (pieces earlier) (pieces later) (piece ∷ [])
 
 pub said-append : (later earlier : Story) → said (later ++ earlier) ≡ said earlier ++ said later
-said-append later earlier = ap joined (pieces-append later earlier) ∙ joined-append (pieces earlier) (pieces later)
+said-append later earlier = ap joined_pieces (pieces-append later earlier) ∙ joined-append (pieces earlier) (pieces later)
 
 nil_left : (xs ys : List (List ℕ)) → xs ++ ys ≡ [] → xs ≡ []
 nil_left [] ys e = refl

@@ -42,9 +42,9 @@ pieces (Barrier ∷ story) = pieces story
 pieces (Said piece ∷ story) = pieces story ++ piece ∷ []
 
 -- pieces, joined
-abbrev pub joined : List (List ℕ) → List ℕ
-joined all = flat_map (λ piece. piece) all
+abbrev pub joined_pieces : List (List ℕ) → List ℕ
+joined_pieces all = flat_map (λ piece. piece) all
 
 -- all that was said
 abbrev pub said : Story → List ℕ
-said story = joined (pieces story)
+said story = joined_pieces (pieces story)

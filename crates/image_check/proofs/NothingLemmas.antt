@@ -6,8 +6,8 @@ use Rattle.ipl_meaning.specs.Last.{last_that}
 use Rattle.ipl_meaning.specs.Layout.{Layout, records_of}
 use Rattle.ipl_meaning.specs.Values.{Values, counts_for}
 use Rattle.number_set.specs.Numbers.{among}
-use Rattle.page_ops.specs.Pending.{Pendings, fill_by, mark_of}
-use Rattle.page_ops.proofs.FillLemmas.{unmarked_fill}
+use Rattle.page_ops.specs.Pending.{Pendings, fill_by, peak_of}
+use Rattle.page_ops.proofs.FillLemmas.{unpeaked_fill}
 use Rattle.page_rebuild.specs.Taken.{pending_of}
 use Rattle.page_rebuild.specs.Loaded.{loaded_pending}
 
@@ -29,4 +29,4 @@ nothing_pending it u page slot = ap pending_of (last_none page slot (records_of 
 -- so a page takes what its values do
 pub fills_alone : (values : Values) (pending : Pendings) → ((slot : ℕ) → pending slot ≡ None)
     → fill_by values pending ≤ size_of_values values
-fills_alone values pending none = unmarked_fill (λ slot. mark_of (pending slot)) values (λ slot low. ap mark_of (none slot))
+fills_alone values pending none = unpeaked_fill (λ slot. peak_of (pending slot)) values (λ slot low. ap peak_of (none slot))

@@ -4,7 +4,7 @@ use Rattle.std.proofs.lemmas.List.{append-nil}
 use Rattle.std.specs.Option.{option_map}
 use Rattle.std.specs.FinMap.{empty}
 use Rattle.chip_trait.specs.declared.event.Event.TheVariants.{Said}
-use Rattle.chip_trait.specs.Story.{Contents, Story, held, pieces, said, joined}
+use Rattle.chip_trait.specs.Story.{Contents, Story, held, pieces, said, joined_pieces}
 use Rattle.chip_trait.specs.Chart.{says}
 use Rattle.chip_trait.specs.Image.{IsNoChanceImage}
 use Rattle.chip_trait.specs.Moment.{AtEachMoment, Leaves}
@@ -19,7 +19,7 @@ use Rattle.ipl_base.specs.declared.fault.ImageFault.{ImageFault}
 use Rattle.ipl_model.specs.State.{State, Limits, Map, at_rest}
 use Rattle.ipl_model.specs.declared.command.Command.{Command}
 use Rattle.ipl_model.specs.Grammar.{commands_of}
-use Rattle.ipl_model.specs.Run.{IsNear, joined as joined_text}
+use Rattle.ipl_model.specs.Run.{IsNear, joined_lines as joined_text}
 use Rattle.ipl_model.proofs.RunLemmas.{reply_shows}
 use Rattle.ipl_format.specs.Sector.{sector_in}
 use Rattle.ipl_meaning.proofs.RotLemmas.{every_is_told_apart}
@@ -271,7 +271,7 @@ module _ (known : KnownPages) (marks : Bool) (places units : ℕ) (m : Map) (scr
   near_first : AtEachMoment Found first
   near_first = λ later e is x image.
       let quiet : pieces e ≡ [] = silent-part later e (ap pieces is ∙ silent) in
-      subst (λ (bytes : List ℕ). StandsAbout places units (of known.pages m) script bytes x) (sym (ap joined quiet))
+      subst (λ (bytes : List ℕ). StandsAbout places units (of known.pages m) script bytes x) (sym (ap joined_pieces quiet))
       (near_silent (λ s. StandsIn places units (chart_of x) (of known.pages s.map)) limits (at_rest m) (commands_of script)
       (each later e is x image))
 
@@ -298,12 +298,12 @@ module _ (known : KnownPages) (marks : Bool) (places units : ℕ) (m : Map) (scr
       replies = subst (SaysLines (answers units m script)) (sym silent)
           (says_none (answers units m script));
       is_prefix = subst (λ (bytes : List ℕ). IsPrefix bytes (joined_text (answers units m script)))
-          (sym (ap joined silent)) (joined_text (answers units m script), refl);
+          (sym (ap joined_pieces silent)) (joined_text (answers units m script), refl);
       lawful = lawful;
       unused = unused;
       steady = steady;
       rests = λ unrisen. subst (IsAbout (λ s. StoryRests places (of known.pages s.map) (adds_all first h)) units m
-          script) (sym (ap joined silent))
+          script) (sym (ap joined_pieces silent))
           (near_silent (λ s. StoryRests places (of known.pages s.map) (adds_all first h)) limits (at_rest m)
           (commands_of script) (rests unrisen));
       ends = ends;
@@ -343,7 +343,7 @@ module _ (known : KnownPages) (marks : Bool) (places units : ℕ) (m : Map) (scr
       all_pieces = pieces_behind first leaves.added silent
 
       all_said : said (leaves.added ++ first) ≡ said leaves.added
-      all_said = ap joined all_pieces
+      all_said = ap joined_pieces all_pieces
 
       all_history : last ≡ adds_all (leaves.added ++ first) h
       all_history = history_behind first leaves.added h
@@ -352,7 +352,7 @@ module _ (known : KnownPages) (marks : Bool) (places units : ℕ) (m : Map) (scr
       later_found = at_weaker (λ e. Leaves (says sector_in) (StandsAbout places units (of known.pages m) script (said e))
           (adds_all first h) e) (λ f. Found (f ++ first)) leaves.added (λ f found x image.
           subst (λ (bytes : List ℕ). StandsAbout places units (of known.pages m) script bytes x)
-          (sym (said-append f first ∙ ap (λ (ps : List (List ℕ)). joined ps ++ said f) silent))
+          (sym (said-append f first ∙ ap (λ (ps : List (List ℕ)). joined_pieces ps ++ said f) silent))
           (found x (subst (λ (s : Story). IsNoChanceImage (says sector_in) h.start s x)
           (append_assoc f first h.story) image))) leaves.each_moment
 

@@ -7,7 +7,7 @@ use Rattle.chip_trait.specs.Chart.{says}
 use Rattle.chip_trait.specs.Image.{IsNoChanceImage}
 use Rattle.chip_trait.specs.Lawful.{IsLawful, AreClean}
 use Rattle.chip_trait.specs.Moment.{AtEachMoment, Leaves}
-use Rattle.chip_trait.specs.Story.{Story, Contents, pieces, said, joined}
+use Rattle.chip_trait.specs.Story.{Story, Contents, pieces, said, joined_pieces}
 use Rattle.chip_trait.specs.Told.{History, Told, Beside, IsPrefix, adds_all, Unrisen}
 use Rattle.chip_trait.proofs.HistoryLemmas.{same_history, history_then}
 use Rattle.chip_trait.proofs.MomentLemmas.{at_both, at_weaker}
@@ -16,7 +16,7 @@ use Rattle.ipl_base.specs.Places.{units_on}
 use Rattle.ipl_base.specs.declared.fault.ImageFault.{ImageFault}
 use Rattle.ipl_model.specs.State.{State, Limits, at_rest}
 use Rattle.ipl_model.specs.declared.command.Command.{Command}
-use Rattle.ipl_model.specs.Run.{joined as joined_text}
+use Rattle.ipl_model.specs.Run.{joined_lines as joined_text}
 use Rattle.ipl_format.specs.Sector.{sector_in}
 use Rattle.store_trait.proofs.UnusedLemmas.{twice}
 use Rattle.ipl_cli.proofs.UnusedLemmas.{format_unused}
@@ -97,7 +97,7 @@ module _ (places : ℕ) (commands : List Command) (h : History) (first : Story)
     lines = subst (SaysLines (summary places commands)) (sym silent)
         (says_none (summary places commands));
     is_prefix = subst (λ (bytes : List ℕ). IsPrefix bytes (joined_text (summary places commands)))
-        (sym (ap joined silent)) (joined_text (summary places commands), refl);
+        (sym (ap joined_pieces silent)) (joined_text (summary places commands), refl);
     lawful = lawful;
     unused = unused;
     steady = steady;
@@ -135,7 +135,7 @@ module _ (places : ℕ) (commands : List Command) (h : History) (first : Story)
       all_pieces = pieces_behind first leaves.added silent
 
       all_said : said (leaves.added ++ first) ≡ said leaves.added
-      all_said = ap joined all_pieces
+      all_said = ap joined_pieces all_pieces
 
       all_history : last ≡ adds_all (leaves.added ++ first) h
       all_history = history_behind first leaves.added h

@@ -1,7 +1,7 @@
 -- The view of a script: what its end leaves, and what a note leaves of that.
 use Rattle.std.proofs.Common.{◌≡◌, ℕ, Bool, false, [], List, Option, Some, Result, Ok, Err, refl, ◌∙◌, ap, subst}
 use Rattle.std.specs.Prelude.{IsErrOf, is_ok}
-use Rattle.chip_trait.specs.Story.{joined}
+use Rattle.chip_trait.specs.Story.{joined_pieces}
 use Rattle.chip_trait.specs.Told.{Told}
 use Rattle.chip_trait.proofs.HistoryLemmas.{same_history}
 use Rattle.ipl_base.specs.Places.{units_on}
@@ -132,7 +132,7 @@ module _ (old new : Told) where
   hears_views o = λ script left. record {
     said = [];
     part = says_none (view_on old.places script);
-    is_prefix = (joined (view_on old.places script), refl);
+    is_prefix = (joined_pieces (view_on old.places script), refl);
     history = ap (λ (t : Told). t.history) o.noted ∙ o.reads.history ∙ same_history old.history;
     settled = ap (λ (t : Told). t.settled) o.noted ∙ o.reads.settled;
     contents = ap (λ (t : Told). t.contents) o.noted ∙ o.reads.contents;

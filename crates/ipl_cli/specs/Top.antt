@@ -14,7 +14,7 @@ use Rattle.ipl_base.specs.declared.fault.ImageFault.{ImageFault}
 use Rattle.ipl_base.specs.declared.fault.ImageFault.TheVariants as image
 use Rattle.ipl_model.specs.State.{State, Map, at_rest}
 use Rattle.ipl_model.specs.Grammar.{commands_of}
-use Rattle.ipl_model.specs.Run.{joined, lines, after_all, IsNear}
+use Rattle.ipl_model.specs.Run.{joined_lines, lines, after_all, IsNear}
 use Rattle.ipl_format.specs.Sector.{sector_in}
 use Rattle.ipl_meaning.specs.Legible.{Legible, IsToldApart, of, whole}
 use Rattle.ipl_meaning.specs.Chart.{chart_of}
@@ -326,7 +326,7 @@ pub record Runs (marks : Bool) (places units : ℕ) (m : Legible) (script : List
       (adds_all first h) e)
       added
   pub replies : SaysLines (answers units m.map script) (pieces added)
-  pub is_prefix : IsPrefix (said added) (joined (answers units m.map script))
+  pub is_prefix : IsPrefix (said added) (joined_lines (answers units m.map script))
   pub lawful : (base : Story) → IsLawful base → AreClean (AreMarked marks places h) base
       → IsLawful (added ++ (first ++ base))
   pub unused : WereUnused marks places (adds_all first h)
@@ -343,7 +343,7 @@ pub record Runs (marks : Bool) (places units : ℕ) (m : Legible) (script : List
   pub script_is : script ≡ read ++ unread
   pub left_is : new.beside.left ≡ Some unread
   pub all : ending ≡ Ok tt
-      → (pieces added ≡ answers units m.map script) × (said added ≡ joined (answers units m.map script))
+      → (pieces added ≡ answers units m.map script) × (said added ≡ joined_lines (answers units m.map script))
       × (unread ≡ [])
 
 -- over each history that leaves what the chip holds, where no write has failed, and a script that is

@@ -11,7 +11,7 @@ use Rattle.ipl_base.specs.Places.{IsGeometry, units_on}
 use Rattle.ipl_base.specs.declared.fault.ImageFault.TheVariants as image
 use Rattle.ipl_model.specs.State.{State, at_rest}
 use Rattle.ipl_model.specs.declared.command.Command.{Command}
-use Rattle.ipl_model.specs.Run.{joined, after_all}
+use Rattle.ipl_model.specs.Run.{joined_lines, after_all}
 use Rattle.ipl_format.specs.Sector.{sector_in}
 use Rattle.ipl_meaning.specs.Legible.{whole}
 use Rattle.ipl_meaning.specs.Chart.{chart_of}
@@ -92,7 +92,7 @@ pub record Trials (places : ℕ) (commands : List Command) (h : History) (first 
       (λ e. Leaves (says sector_in) (ChipStandsBehind places commands (pieces e)) (adds_all first h) e)
       added
   pub lines : SaysLines (summary places commands) (pieces added)
-  pub is_prefix : IsPrefix (said added) (joined (summary places commands))
+  pub is_prefix : IsPrefix (said added) (joined_lines (summary places commands))
   pub lawful : (base : Story) → IsLawful base → IsLawful (added ++ (first ++ base))
   pub unused : AtEachMoment (λ e. MarksAreUnused places (adds_all e (adds_all first h))) added
   pub steady : Unrisen old new → IsSteady (adds_all added (adds_all first h)) new
@@ -101,7 +101,7 @@ pub record Trials (places : ℕ) (commands : List Command) (h : History) (first 
       places commands (pieces added)
   pub left_is : new.beside.left ≡ old.beside.left
   pub all : ending ≡ Ok tt → (pieces added ≡ summary places commands)
-      × (said added ≡ joined (summary places commands))
+      × (said added ≡ joined_lines (summary places commands))
 
 -- over each history that leaves what the chip holds, where no write has failed, after a format
 abbrev pub TrialsFormatted : ℕ → ℕ → Told → Told → Ending → Type 0

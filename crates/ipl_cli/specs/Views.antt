@@ -1,7 +1,7 @@
 -- The view of a script: what is said, what is left, and how it ends.
 use Rattle.std.specs.Prelude.{◌≡◌, ℕ, Bool, true, false, List, [], reverse, Some, Ok, Err}
 use Rattle.std.specs.Option.{option_map}
-use Rattle.chip_trait.specs.Story.{joined}
+use Rattle.chip_trait.specs.Story.{joined_pieces}
 use Rattle.chip_trait.specs.Told.{Told, IsPrefix, adds_all}
 use Rattle.ipl_base.specs.Places.{IsGeometry, units_on}
 use Rattle.ipl_base.specs.declared.fault.ImageFault.{ImageFault}
@@ -37,7 +37,7 @@ view_on places script = view_lines (limits_for (units_on places)) script
 pub record Views (places : ℕ) (script : List ℕ) (old new : Told) (done : Bool) : Type 0 where
   pub said : List (List ℕ)
   pub part : SaysLines (view_on places script) said
-  pub is_prefix : IsPrefix (joined said) (joined (view_on places script))
+  pub is_prefix : IsPrefix (joined_pieces said) (joined_pieces (view_on places script))
   pub history : new.history ≡ option_map (adds_all (reverse (sayings said))) old.history
   pub settled : new.settled ≡ old.settled
   pub contents : new.contents ≡ old.contents

@@ -5,7 +5,7 @@ use Rattle.chip_trait.proofs.CountsLemmas.{counts_then}
 use Rattle.ipl_base.specs.declared.fault.Refusal.{Refusal}
 use Rattle.ipl_base.specs.declared.fault.StoreFault.{StoreFault}
 use Rattle.ipl_base.specs.declared.fault.StoreFault.TheVariants as store
-use Rattle.ipl_model.specs.State.{Map, State, is_open}
+use Rattle.ipl_model.specs.State.{Map, State, is_open_session}
 use Rattle.ipl_model.specs.Refusals.{refuses_end}
 use Rattle.ipl_model.specs.Operations.{after_write}
 use Rattle.ipl_meaning.specs.Legible.{of}
@@ -167,7 +167,7 @@ after_home units w pairs home = by_change w.1
 
 module _ (known : KnownPages) (s : ℕ) (w : KeyWrite) (mid b : Store) (told after : Told) (h : History) (state : State)
     (k : KeyState) (result : Result (Unit {0}) KeyFault)
-    (running : is_open state s ≡ true) where
+    (running : is_open_session state s ≡ true) where
   -- what is left from a key state with so many units on so many places
   abbrev WritesServe : ℕ → ℕ → Type 0
   WritesServe places units = (has : HasKeyState units state k)
@@ -216,7 +216,7 @@ module _ (s : ℕ) (w : KeyWrite) (a b : Store) (before after : Told) (result : 
     Serving known r store t h k = ServesFor known Turn AnswersNothing a before r store t h k
 
     module _ (known : KnownPages) (h : History) (k : KeyState) (keeps : KeepsKeys before.places known a before h k) (up : a.down ≡ false)
-        (running : is_open keeps.state s ≡ true) (mid : Store) (told : Told)
+        (running : is_open_session keeps.state s ≡ true) (mid : Store) (told : Told)
         (alike : mid.units ≡ a.units) (counts : Counts before told) where
       abbrev Reading : Result (List ℕ) KeyFault → Type 0
       Reading read = ReadSteps known s name a mid before told h keeps.state k keeps.has up alike keeps.keeps read

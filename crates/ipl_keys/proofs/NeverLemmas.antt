@@ -7,7 +7,7 @@ use Rattle.ipl_base.specs.declared.fault.Refusal.{Refusal}
 use Rattle.ipl_base.specs.declared.fault.Refusal.TheVariants.{BadSession, BadName, TooLong, AlreadyOpen, NotOpen, Conflict, WritesFull, SharesFull, PendingFull, BadUnit, HoldsFull, NotHeld, PageFull, Twice, SessionsOpen}
 use Rattle.ipl_base.specs.declared.fault.StoreFault.{StoreFault}
 use Rattle.ipl_base.specs.declared.fault.StoreFault.TheVariants.{Down, Spent, Refused, Chip}
-use Rattle.ipl_model.specs.State.{State, Limits, is_open, holder_for_write}
+use Rattle.ipl_model.specs.State.{State, Limits, is_open_session, holder_for_write}
 use Rattle.ipl_model.specs.Operations.{after_write}
 use Rattle.ipl_model.specs.Refusals.{refuses_end, conflict, writes_full}
 use Rattle.record_locks.specs.Held.{SessionSlots}
@@ -43,20 +43,20 @@ no_test r is = absurd (cc is)
 end_met : (limits : Limits) (state : State) (s : ℕ) (r : Refusal)
     → refuses_end limits state s ≡ Some r → may_meet r ≡ true
 end_met limits state s r is = first_met (nat_le limits.sessions s) BadSession _ r is (λ t. refl)
-    (λ later. first_met (not (is_open state s)) NotOpen None r later (λ t. refl) (no_test r))
+    (λ later. first_met (not (is_open_session state s)) NotOpen None r later (λ t. refl) (no_test r))
 
 module _ (units : ℕ) (slots : SessionSlots) (s n : ℕ) (low : n < 960 * units) where
   high : nat_le (960 * units) n ≡ true → ⊥
   high past = grind (arith, nat_tests, past, low)
 
   -- the tests behind those of the name and the value
-  locks_met : (size : ℕ) (r : Refusal) → (if not (is_open (state_of slots) s) then Some NotOpen else
+  locks_met : (size : ℕ) (r : Refusal) → (if not (is_open_session (state_of slots) s) then Some NotOpen else
       (if (conflict (holder_for_write (state_of slots) s n)).0
       then Some (conflict (holder_for_write (state_of slots) s n)).1 else
       (if (writes_full (state_of slots) s n).0 then Some WritesFull else
       (if (pending_full slots n size).0 then Some (pending_full slots n size).1 else None)))) ≡ Some r
       → may_meet r ≡ true
-  locks_met size r is = first_met (not (is_open (state_of slots) s)) NotOpen _ r is (λ t. refl)
+  locks_met size r is = first_met (not (is_open_session (state_of slots) s)) NotOpen _ r is (λ t. refl)
       (λ one. first_met (conflict (holder_for_write (state_of slots) s n)).0
       (conflict (holder_for_write (state_of slots) s n)).1 _ r one (λ t. refl)
       (λ two. first_met (writes_full (state_of slots) s n).0 WritesFull _ r two (λ t. refl)

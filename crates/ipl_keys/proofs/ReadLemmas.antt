@@ -9,7 +9,7 @@ use Rattle.ipl_base.specs.declared.fault.Refusal.{Refusal}
 use Rattle.ipl_base.specs.declared.fault.Refusal.TheVariants.{BadSession, BadName, NotOpen}
 use Rattle.ipl_base.specs.declared.fault.StoreFault.{StoreFault}
 use Rattle.ipl_base.specs.declared.fault.StoreFault.TheVariants.{Refused}
-use Rattle.ipl_model.specs.State.{State, Limits, is_open}
+use Rattle.ipl_model.specs.State.{State, Limits, is_open_session}
 use Rattle.ipl_model.specs.Refusals.{refuses_get, refuses_end}
 use Rattle.ipl_meaning.specs.Legible.{of}
 use Rattle.ipl_meaning.specs.Rests.{EachStandsEitherIn}
@@ -88,10 +88,10 @@ get_is_end limits state s n low = by_session (nat_le limits.sessions s)
     high = grind (arith, nat_tests)
 
     by_session : (b : Bool) → (if b then Some BadSession else (if nat_le limits.names n then Some BadName else
-        (if not (is_open state s) then Some NotOpen else None)))
-        ≡ (if b then Some BadSession else (if not (is_open state s) then Some NotOpen else None))
+        (if not (is_open_session state s) then Some NotOpen else None)))
+        ≡ (if b then Some BadSession else (if not (is_open_session state s) then Some NotOpen else None))
     by_session true = refl
-    by_session false = ap (λ t. if t then Some BadName else (if not (is_open state s) then Some NotOpen else None)) high
+    by_session false = ap (λ t. if t then Some BadName else (if not (is_open_session state s) then Some NotOpen else None)) high
 
 pub none_early : (entry : Option StoreFault) (bad : Option KeyFault) (refusal : Option Refusal)
     → first_fault entry bad refusal ≡ None → (entry ≡ None) × (bad ≡ None) × (refusal ≡ None)
@@ -166,10 +166,10 @@ entry_is_up store none = (let_in store None (ap (λ e. early_fault e None) none)
 pub may_end_is_open : (known : KnownPages) (a : Store) (before : Told) (h : History) (state : State) (s : ℕ)
     → a.down ≡ false → KeepsStore before.places known.pages (limits_of a.units) (view_of a) before h state
     → refuses_end (limits_of a.units) (state_of a.transactions.sessions) s ≡ None
-    → is_open state s ≡ true
+    → is_open_session state s ≡ true
 may_end_is_open known a before h state s up keeps none =
     sym (alike (state_of a.transactions.sessions) state (keeps.up up).sessions.names s 0).opens
-    ∙ by_tests (nat_le 32 s) (is_open (state_of a.transactions.sessions) s) none
+    ∙ by_tests (nat_le 32 s) (is_open_session (state_of a.transactions.sessions) s) none
   where
     by_tests : (high running : Bool)
         → (if high then Some BadSession else (if not running then Some NotOpen else None)) ≡ None

@@ -6,7 +6,7 @@ use Rattle.std.specs.Cmp.{nat_cmp_total}
 use Rattle.std.specs.FinMap.{FinMap, get, insert, remove, get-empty, get-insert, get-remove, same_map}
 use Rattle.std.proofs.lemmas.Bool.{both_ways, cases_eq, cond-true, cond-false, eq-eqb, ne_eqb}
 use Rattle.std.proofs.lemmas.Bool.Decides.{nat_tests}
-use Rattle.ipl_model.specs.State.{Map, Session, State, Write, at_rest, is_open, writes_of, last_write, see}
+use Rattle.ipl_model.specs.State.{Map, Session, State, Write, at_rest, is_open_session, writes_of, last_write, see}
 use Rattle.ipl_model.specs.Operations.{new_session, after_begin, after_write, after_commit, after_abort}
 use Rattle.ipl_model.proofs.SeenLemmas.{get-with_writes}
 use Rattle.store_laws.specs.Pending.{wrote}
@@ -229,7 +229,7 @@ module _ (k : KeyState) (s : ℕ) (w : KeyWrite) where
       by_session (Some writes) = put_other k.sessions s t (w ∷ writes) apart
 
 module _ (units : ℕ) (state : State) (k : KeyState) (s : ℕ) (w : KeyWrite) (has : HasKeyState units state k)
-    (running : is_open state s ≡ true)
+    (running : is_open_session state s ≡ true)
     (bucket : IsBucketOf units (bucket_of units w.0) (pairs_after w (pairs_of has s (bucket_of units w.0)))) where
   abbrev n : ℕ
   n = bucket_of units w.0

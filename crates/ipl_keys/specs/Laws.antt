@@ -1,6 +1,6 @@
 -- Laws of keys: what sessions see, and that each operation on names is one on keys.
 use Rattle.std.specs.Prelude.{ℕ, ◌≡◌, true, List}
-use Rattle.ipl_model.specs.State.{Map, State, at_rest, is_open, see}
+use Rattle.ipl_model.specs.State.{Map, State, at_rest, is_open_session, see}
 use Rattle.ipl_model.specs.Operations.{after_begin, after_write, after_commit, after_abort}
 use Rattle.store_laws.specs.PendingLaws.{StateHasOneWriter}
 use Rattle.ipl_keys.specs.BucketPairs.{Pairs, value_at}
@@ -37,7 +37,7 @@ BeginsKeepKeys = (units : ℕ) (state : State) (k : KeyState) (s : ℕ) → HasK
 -- a key is put or deleted: what is written for the bucket that the session sees, with that write
 abbrev pub WritesKeepKeys : Type 0
 WritesKeepKeys = (units : ℕ) (state : State) (k : KeyState) (s : ℕ) (w : KeyWrite)
-    → (has : HasKeyState units state k) → is_open state s ≡ true
+    → (has : HasKeyState units state k) → is_open_session state s ≡ true
     → IsBucketOf units (bucket_of units w.0) (pairs_after w (pairs_of has s (bucket_of units w.0)))
     → HasKeyState units (after_write state s (
       bucket_of units w.0,

@@ -2,7 +2,7 @@
 use Rattle.std.specs.Prelude.{ℕ, ◌≡◌, ◌==◌, Bool, List, [], ◌∷◌, filter, Option, Some, None, is_some}
 use Rattle.std.specs.Option.{option_map_or}
 use Rattle.std.specs.FinMap.{get}
-use Rattle.ipl_model.specs.State.{State, is_open, writes_of, last_write}
+use Rattle.ipl_model.specs.State.{State, is_open_session, writes_of, last_write}
 use Rattle.ipl_keys.specs.BucketPairs.{Pairs, set_pair, remove_pair}
 use Rattle.ipl_keys.specs.Bucket.{bucket_bytes}
 use Rattle.ipl_keys.specs.BucketHome.{bucket_of}
@@ -50,6 +50,6 @@ FollowsWrites units n writes pairs (Some change) = (change ≡ written (pairs_se
 -- wrote follows from its writes on keys.
 pub record HasKeyState (units : ℕ) (state : State) (k : KeyState) : Type 0 where
   pub keys : HasKeys units state.map k.map
-  pub opens : (s : ℕ) → is_some (get k.sessions s) ≡ is_open state s
+  pub opens : (s : ℕ) → is_some (get k.sessions s) ≡ is_open_session state s
   pub follows : (s n : ℕ) → FollowsWrites units n (key_writes_of k s) (keys.pairs n)
       (last_write (writes_of state s) n)

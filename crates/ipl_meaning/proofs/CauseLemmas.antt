@@ -10,7 +10,7 @@ use Rattle.ipl_meaning.specs.Chart.{Chart, IsDataHeader, IsStatusHeader}
 use Rattle.ipl_base.specs.First.{first_below}
 use Rattle.ipl_base.specs.Places.{units_on}
 use Rattle.ipl_meaning.specs.FirstLaws.{IsFirst}
-use Rattle.ipl_meaning.specs.Payloads.{said_in}
+use Rattle.ipl_meaning.specs.Payloads.{units_said_in}
 use Rattle.ipl_meaning.specs.Chosen.{KeptHeader, Winner, units_told, current_at, status_at, units_at}
 use Rattle.ipl_meaning.specs.ChosenLaws.{IsWinnerOf}
 use Rattle.ipl_meaning.specs.Live.{sectors, noted_at}
@@ -82,7 +82,7 @@ module _ (c : Chart) (places : ℕ) (fault : ImageFault) where
   -- ---- headers
 
   -- where the status header says no number, a chip with enough places keeps as many units as without spare places
-  wrong_cause : (winner : Winner) (it : IsWinnerOf c places IsStatusHeader winner) (o : Option ℕ) → said_in it.sector.payload ≡ o
+  wrong_cause : (winner : Winner) (it : IsWinnerOf c places IsStatusHeader winner) (o : Option ℕ) → units_said_in it.sector.payload ≡ o
       → keeps_units places (unwrap_or o (units_on places)) ≡ false → IsCaused c places Geometry
   wrong_cause winner it None said bad = elim (cases_lt places 5) [
     | inl few ↦ inl few
@@ -105,8 +105,8 @@ module _ (c : Chart) (places : ℕ) (fault : ImageFault) where
   status_cause e =
       let (winner, is, bad, same) = status_some places (status_at c places) fault e in
       let it = statuses_are_chosen c places winner is in
-      let said : winner.head.said ≡ said_in it.sector.payload = ap (λ (h : KeptHeader). h.said) it.head in
-      subst (IsCaused c places) same (wrong_cause winner it (said_in it.sector.payload) refl
+      let said : winner.head.said ≡ units_said_in it.sector.payload = ap (λ (h : KeptHeader). h.said) it.head in
+      subst (IsCaused c places) same (wrong_cause winner it (units_said_in it.sector.payload) refl
       (ap (λ (o : Option ℕ). keeps_units places (unwrap_or o (units_on places))) (sym said) ∙ bad))
 
   unit_cause : (u : ℕ) → other_geometry (units_at c places) (current_at c places u) ≡ Some fault → IsCaused c places fault

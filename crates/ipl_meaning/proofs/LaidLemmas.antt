@@ -15,7 +15,7 @@ use Rattle.ipl_meaning.specs.Layout.{Entry, AllRise, IsEntry, IsHomeOrListed, Is
 use Rattle.ipl_meaning.specs.Found.{IsAbove}
 use Rattle.unit_layout.specs.Mark.{is_mark_payload}
 use Rattle.ipl_meaning.specs.First.{passes, count_below}
-use Rattle.ipl_meaning.specs.Payloads.{said_in, is_data_payload, is_status_payload, is_commit_payload, is_log_payload}
+use Rattle.ipl_meaning.specs.Payloads.{units_said_in, is_data_payload, is_status_payload, is_commit_payload, is_log_payload}
 use Rattle.ipl_meaning.specs.Chosen.{KeptHeader, Winner, head_of, header_at, units_told, current_at, status_at, units_at, is_head_payload}
 use Rattle.ipl_meaning.specs.Live.{sectors, is_commit_sector, noted_at, is_overflow_place, live_at, Mark, mark_of, mark_at, marks}
 use Rattle.ipl_meaning.specs.Faults.{malformed, not_formatted, keeps_units, status_geometry, says_other, other_geometry, missing, bad_header, is_noted_payload, noted_test, noted_fault, clashes, shares_overflow, is_full, is_log_well, log_test, greatest_found, is_in, holds_live, overflows_found}
@@ -240,10 +240,10 @@ module _ (c : Chart) (places : ℕ) (it : Layout) (laid : Laid places c it) wher
   unit_low : (u : ℕ) → u < units → u < it.count
   unit_low u low = omega (arith, low, units_are c places it laid)
 
-  status_passes : (is_status_payload it.head.version places it.head.payload ≡ true) × (said_in it.head.payload ≡ Some it.count)
+  status_passes : (is_status_payload it.head.version places it.head.payload ≡ true) × (units_said_in it.head.payload ≡ Some it.count)
   status_passes = let it_is = spelled_status_passes it.head.version places it.count it.head.payload laid.most laid.counts in (it_is.0, it_is.1)
 
-  data_passes : (u : ℕ) → u < units → (is_data_payload (it.units u).head.version (it.units u).head.payload ≡ true) × (said_in (it.units u).head.payload ≡ Some it.count)
+  data_passes : (u : ℕ) → u < units → (is_data_payload (it.units u).head.version (it.units u).head.payload ≡ true) × (units_said_in (it.units u).head.payload ≡ Some it.count)
   data_passes u low =
       let it_is = spelled_data_passes (it.units u).head.version it.count (it.units u).pieces (it.units u).head.payload (laid.each u (unit_low u low)).counts in (it_is.0, it_is.1)
 
@@ -253,8 +253,8 @@ module _ (c : Chart) (places : ℕ) (it : Layout) (laid : Laid places c it) wher
       (sym (units_are c places it laid) ∙ ap (units_told places) (status_is c places it laid)) laid.count))
 
   data_geometry : (u : ℕ) → u < units → other_geometry units (Some (own u)) ≡ None
-  data_geometry u low = cond-false (says_other units (said_in (it.units u).head.payload)) (Some Geometry) None
-      (own_units units it.count (said_in (it.units u).head.payload) (data_passes u low).1 (sym (units_are c places it laid)))
+  data_geometry u low = cond-false (says_other units (units_said_in (it.units u).head.payload)) (Some Geometry) None
+      (own_units units it.count (units_said_in (it.units u).head.payload) (data_passes u low).1 (sym (units_are c places it laid)))
 
   status_good : bad_header (Some status) ≡ None
   status_good = cond-true (is_head_payload it.head.version places it.head.kind it.head.payload) None (Some (malformed it.status 0))

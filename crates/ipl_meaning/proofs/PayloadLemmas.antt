@@ -20,13 +20,13 @@ use Rattle.log_records.proofs.RecordsLemmas.{records_list}
 use Rattle.unit_layout.proofs.HeaderLemmas.{data_read, data_number, data_parts}
 use Rattle.unit_layout.proofs.StatusLemmas.{status_spelled, status_passes, status_retired}
 use Rattle.unit_layout.specs.Retired.{is_status_length, may_be_retired, retired_in}
-use Rattle.ipl_meaning.specs.Payloads.{said_in, pieces_in, is_count, is_data_payload, is_status_payload, numbers_within, is_list_within, is_log_payload}
+use Rattle.ipl_meaning.specs.Payloads.{units_said_in, pieces_in, is_count, is_data_payload, is_status_payload, numbers_within, is_list_within, is_log_payload}
 use Rattle.ipl_meaning.specs.PayloadLaws.{DataPayloadsAreSpelled, SpelledDataPasses, StatusPayloadsAreSpelled, SpelledStatusPasses, CommitPayloadsAreSpelled, SpelledCommitsPass, LogPayloadsAreSpelled, SpelledLogsPass}
 
 -- ---- how many units are said
 
 -- a payload that has room for a number says it
-says : (payload : List ℕ) (units : ℕ) → 4 ≤ length payload → word_at 0 payload ≡ units → said_in payload ≡ Some units
+says : (payload : List ℕ) (units : ℕ) → 4 ≤ length payload → word_at 0 payload ≡ units → units_said_in payload ≡ Some units
 says payload units size number =
     cond-true (leb 4 (length payload)) (Some (word_at 0 payload)) None (le-leb 4 (length payload) size) ∙ ap Some number
 
@@ -48,7 +48,7 @@ data_payloads_are_spelled version payload all is =
     refl refl (counts_are (pieces_in payload) d.0) (leb-true (get_or payload 19 0) 12 d.1)).0
 
 -- what passes says a number of units
-pub data_says : (version : ℕ) (payload : List ℕ) → is_data_payload version payload ≡ true → said_in payload ≡ Some (word_at 0 payload)
+pub data_says : (version : ℕ) (payload : List ℕ) → is_data_payload version payload ≡ true → units_said_in payload ≡ Some (word_at 0 payload)
 data_says version payload is =
     let size = eqb-true (length payload) (20 + erases_size version) (and_parts _ _ is).0 in
     says payload (word_at 0 payload) (omega (arith, size)) refl
@@ -79,7 +79,7 @@ status_room version payload is = room (leb 3 version) is
     room false short = let size = eqb-true (length payload) 4 short in omega (arith, size)
 
 -- what passes says a number of units
-pub status_says : (version places : ℕ) (payload : List ℕ) → is_status_payload version places payload ≡ true → said_in payload ≡ Some (word_at 0 payload)
+pub status_says : (version places : ℕ) (payload : List ℕ) → is_status_payload version places payload ≡ true → units_said_in payload ≡ Some (word_at 0 payload)
 status_says version places payload is = says payload (word_at 0 payload) (status_room version payload (and_parts _ _ is).0) refl
 
 pub spelled_status_passes : SpelledStatusPasses

@@ -7,7 +7,7 @@ use Rattle.ipl_base.specs.declared.fault.ImageFault.TheVariants.{Geometry, NotFo
 use Rattle.ipl_base.specs.Places.{KeepsUnits}
 use Rattle.ipl_format.specs.Sector.{Sector}
 use Rattle.ipl_meaning.specs.Chart.{Chart, IsChosen, IsDataHeader, IsStatusHeader}
-use Rattle.ipl_meaning.specs.Payloads.{said_in}
+use Rattle.ipl_meaning.specs.Payloads.{units_said_in}
 use Rattle.ipl_meaning.specs.Chosen.{Winner, is_head_payload, status_at, units_at}
 use Rattle.ipl_meaning.specs.Live.{sectors, noted_at}
 use Rattle.ipl_meaning.specs.Faults.{malformed, is_noted_payload, greatest_found, overflows_found, first_fault}
@@ -25,7 +25,7 @@ pub record HasWrongUnits (c : Chart) (places : ℕ) : Type 0 where
   pub head : Sector
   pub counts : IsChosen c places IsStatusHeader place head
   pub units : ℕ
-  pub said : said_in head.payload ≡ Some units
+  pub said : units_said_in head.payload ≡ Some units
   pub refused : ¬ KeepsUnits places units
 
 -- the header of a unit says another number of units than the status header
@@ -36,7 +36,7 @@ pub record HasOtherUnits (c : Chart) (places : ℕ) : Type 0 where
   pub head : Sector
   pub counts : IsChosen c places (IsDataHeader unit) place head
   pub units : ℕ
-  pub said : said_in head.payload ≡ Some units
+  pub said : units_said_in head.payload ≡ Some units
   pub other : units ≢ units_at c places
 
 -- the header at this place counts, and its payload is not in the grammar of its kind

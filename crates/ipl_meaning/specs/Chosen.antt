@@ -4,7 +4,7 @@ use Rattle.ipl_base.specs.Places.{units_on}
 use Rattle.ipl_format.specs.Sector.{Sector}
 use Rattle.ipl_format.specs.Header.{erases_said}
 use Rattle.ipl_meaning.specs.Chart.{Chart}
-use Rattle.ipl_meaning.specs.Payloads.{said_in, is_data_payload, is_status_payload}
+use Rattle.ipl_meaning.specs.Payloads.{units_said_in, is_data_payload, is_status_payload}
 
 -- what a table keeps of a header
 pub record KeptHeader : Type 0 where
@@ -39,7 +39,7 @@ head_of places sector = record {
   unit = sector.unit;
   generation = sector.generation;
   serial = sector.serial;
-  said = said_in sector.payload;
+  said = units_said_in sector.payload;
   well = is_head_payload sector.version places sector.kind sector.payload;
   erases = erases_said (Some sector);
 }

@@ -7,7 +7,7 @@ use Rattle.ipl_format.specs.Commit.{SpellsCommit}
 use Rattle.ipl_format.specs.Header.{SpellsDataHeader, SpellsStatusHeader}
 use Rattle.log_records.specs.Reading.{records_of}
 use Rattle.unit_layout.specs.Retired.{retired_in}
-use Rattle.ipl_meaning.specs.Payloads.{said_in, pieces_in, is_data_payload, is_status_payload, numbers_in, is_commit_payload, is_log_payload}
+use Rattle.ipl_meaning.specs.Payloads.{units_said_in, pieces_in, is_data_payload, is_status_payload, numbers_in, is_commit_payload, is_log_payload}
 
 -- bytes that pass as a data header's payload say how many units there are, and how many pieces each page has
 abbrev pub DataPayloadsAreSpelled : Type 0
@@ -19,7 +19,7 @@ DataPayloadsAreSpelled =
 abbrev pub SpelledDataPasses : Type 0
 SpelledDataPasses =
     (version units : ℕ) (pieces payload : List ℕ) → SpellsDataHeader version units pieces payload
-    → (is_data_payload version payload ≡ true) × (said_in payload ≡ Some units) × (pieces_in payload ≡ pieces)
+    → (is_data_payload version payload ≡ true) × (units_said_in payload ≡ Some units) × (pieces_in payload ≡ pieces)
 
 -- bytes that pass as a status header's payload say how many units there are
 abbrev pub StatusPayloadsAreSpelled : Type 0
@@ -32,7 +32,7 @@ abbrev pub SpelledStatusPasses : Type 0
 SpelledStatusPasses =
     (version places units : ℕ) (payload : List ℕ) → places ≤ MOST_PLACES
     → (spelled : SpellsStatusHeader version places units payload)
-    → (is_status_payload version places payload ≡ true) × (said_in payload ≡ Some units)
+    → (is_status_payload version places payload ≡ true) × (units_said_in payload ≡ Some units)
     × (retired_in version payload ≡ spelled.retired)
 
 -- bytes that pass as a commit sector's payload say its numbers

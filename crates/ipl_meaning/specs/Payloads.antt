@@ -12,8 +12,8 @@ use Rattle.log_records.specs.Reading.{record_at, records_of}
 -- ---- headers
 
 -- the number of units that a payload says, which it begins with where it has room for one
-abbrev pub said_in : List ℕ → Option ℕ
-said_in payload = if nat_le 4 (length payload) then Some (word_at 0 payload) else None
+abbrev pub units_said_in : List ℕ → Option ℕ
+units_said_in payload = if nat_le 4 (length payload) then Some (word_at 0 payload) else None
 
 -- how many base sectors each page has
 abbrev pub pieces_in : List ℕ → List ℕ

@@ -3,7 +3,7 @@ pub mod ListLemmas
 pub mod SeenLemmas
 pub mod RuleSlotLemmas
 pub mod SumLemmas
-pub mod RuleMarkLemmas
+pub mod RulePeakLemmas
 pub mod FillLemmas
 pub mod WeightLemmas
 pub mod RefusalLemmas
@@ -12,6 +12,6 @@ mod GreatestLemmas
 mod RecordLemmas
 mod SlotLemmas
 mod LogLemmas
-mod MarkLemmas
+mod PeakLemmas
 mod ChangeLemmas
 mod BatchLemmas

@@ -8,7 +8,7 @@ use Rattle.std.specs.Option.{option_map_or}
 use Rattle.std.specs.Ordering.{nat_cmp, eq_by_cmp}
 use Rattle.std.proofs.lemmas.Bool.{cases_eq, or_parts, leb-false, lt-leb, both_ways, eq-eqb, eqb-true}
 use Rattle.std.proofs.lemmas.Bool.Decides.{nat_tests}
-use Rattle.ipl_model.specs.State.{Write, Session, State, Limits, is_open, writes_of, last_write, with_writes}
+use Rattle.ipl_model.specs.State.{Write, Session, State, Limits, is_open_session, writes_of, last_write, with_writes}
 use Rattle.ipl_model.specs.Refusals.{Test, first_of, refuses_batch, is_twice, least_twice, twice}
 use Rattle.ipl_base.specs.declared.fault.Refusal.TheVariants.{BadSession, NotOpen}
 use Rattle.ipl_model.specs.Operations.{after_commit, after_batch}
@@ -70,7 +70,7 @@ open_then false e = absurd (cc)
 
 pub batches_name_once : BatchesNameOnce
 batches_name_once limits state ss passes =
-    let third_test : Test = (list_any (λ s. not (is_open state s)) ss, NotOpen) in
+    let third_test : Test = (list_any (λ s. not (is_open_session state s)) ss, NotOpen) in
     let second_test : Test = twice (least_twice limits ss) in
     let first_test : Test = (list_any (λ s. nat_le limits.sessions s) ss, BadSession) in
     let first : (first_test.0 ≡ false) × (first_of (second_test ∷ third_test ∷ []) ≡ None) =
@@ -83,7 +83,7 @@ batches_name_once limits state ss passes =
     record {
       within = within;
       once = λ s at. none_found (is_twice ss) 0 limits.sessions s second.0 (omega arith) (omega (arith, within s at));
-      opens = λ s at. open_then (is_open state s) (any_fails (λ s. not (is_open state s)) ss s third.0 at);
+      opens = λ s at. open_then (is_open_session state s) (any_fails (λ s. not (is_open_session state s)) ss s third.0 at);
     }
 
 -- ---- what a session wrote, after another commit
@@ -240,4 +240,4 @@ pub refused_alike : (limits : Limits) (f g : State) (ss : List ℕ)
     → ((t : ℕ) → Contains ss t → get f.sessions t ≡ get g.sessions t) → refuses_batch limits f ss ≡ refuses_batch limits g ss
 refused_alike limits f g ss same =
     ap (λ (b : Bool). first_of ((list_any (λ s. nat_le limits.sessions s) ss, BadSession) ∷ twice (least_twice limits ss) ∷ (b, NotOpen) ∷ []))
-    (any_alike (λ s. not (is_open f s)) (λ s. not (is_open g s)) ss (λ t at. ap (λ (o : Option Session). not (is_some o)) (same t at)))
+    (any_alike (λ s. not (is_open_session f s)) (λ s. not (is_open_session g s)) ss (λ t at. ap (λ (o : Option Session). not (is_some o)) (same t at)))

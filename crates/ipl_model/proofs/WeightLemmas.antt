@@ -10,13 +10,13 @@ use Rattle.ipl_base.specs.declared.limits.TheConstants.{SHORT_SIZE, PENDING_WEIG
 use Rattle.ipl_base.specs.Sizes.{size_in_page}
 use Rattle.ipl_model.specs.State.{Write, State}
 use Rattle.ipl_model.specs.Operations.{new_session, after_begin, after_share, after_write, after_commit, after_batch, after_abort, after_restart}
-use Rattle.ipl_model.specs.Marks.{Marks, with_mark, marks, weight_of_mark, weights, pending, overloads}
-use Rattle.ipl_model.specs.FillLaws.{UnitsFit, OperationsKeepUnitsFit, SmallerMarksAreLess}
+use Rattle.ipl_model.specs.Peaks.{Peaks, with_peak, peaks, weight_of_peak, weights, pending, overloads}
+use Rattle.ipl_model.specs.FillLaws.{UnitsFit, OperationsKeepUnitsFit, SmallerPeaksAreLess}
 use Rattle.ipl_model.proofs.SumLemmas.{sums_less, sums_same, sums_joined, sums_at}
 use Rattle.ipl_model.proofs.FillLemmas.{fill_less}
-use Rattle.ipl_model.proofs.RuleMarkLemmas.{le_trans, inserted_most, removed_most, with_write, shared_less, none_left}
+use Rattle.ipl_model.proofs.RulePeakLemmas.{le_trans, inserted_most, removed_most, with_write, shared_less, none_left}
 
-pub weight_less : (a b : ℕ) → a ≤ b → weight_of_mark a ≤ weight_of_mark b
+pub weight_less : (a b : ℕ) → a ≤ b → weight_of_peak a ≤ weight_of_peak b
 weight_less zero b low = omega arith
 weight_less (suc a) zero low = absurd (omega (arith, low))
 weight_less (suc a) (suc b) low = elim (cases_Bool (nat_lt (1 + SHORT_SIZE) (suc a))) [
@@ -33,45 +33,45 @@ weight_less (suc a) (suc b) low = elim (cases_Bool (nat_lt (1 + SHORT_SIZE) (suc
     at_least true = omega arith
     at_least false = omega arith
 
-pub weights_less : (few more : Marks) (unit : ℕ) → ((n : ℕ) → few n ≤ more n) → weights few unit ≤ weights more unit
+pub weights_less : (few more : Peaks) (unit : ℕ) → ((n : ℕ) → few n ≤ more n) → weights few unit ≤ weights more unit
 unfolding weights
-weights_less few more unit less = sum_by-le-sum_by (λ i. weight_of_mark (few (UNIT_NAMES * unit + i))) (λ i. weight_of_mark (more (UNIT_NAMES * unit + i))) (range_with_len 0 UNIT_NAMES)
+weights_less few more unit less = sum_by-le-sum_by (λ i. weight_of_peak (few (UNIT_NAMES * unit + i))) (λ i. weight_of_peak (more (UNIT_NAMES * unit + i))) (range_with_len 0 UNIT_NAMES)
     (λ i. weight_less (few (UNIT_NAMES * unit + i)) (more (UNIT_NAMES * unit + i)) (less (UNIT_NAMES * unit + i)))
 
-pub smaller_marks_are_less : SmallerMarksAreLess
-smaller_marks_are_less few more values before = record { pages = fill_less few more values before; units = λ less unit. weights_less few more unit less }
+pub smaller_peaks_are_less : SmallerPeaksAreLess
+smaller_peaks_are_less few more values before = record { pages = fill_less few more values before; units = λ less unit. weights_less few more unit less }
 
-fewer_fit : (state after : State) → ((n : ℕ) → marks after n ≤ marks state n) → UnitsFit state → UnitsFit after
-fewer_fit state after less fits unit = le_trans (weights_less (marks after) (marks state) unit less) (fits unit)
+fewer_fit : (state after : State) → ((n : ℕ) → peaks after n ≤ peaks state n) → UnitsFit state → UnitsFit after
+fewer_fit state after less fits unit = le_trans (weights_less (peaks after) (peaks state) unit less) (fits unit)
 
 pub other_unit : (unit n i : ℕ) → i < UNIT_NAMES → unit ≢ n / UNIT_NAMES → n ≢ UNIT_NAMES * unit + i
 other_unit unit n i low other is = other (omega (arith, is, low))
 
-pub unmarked : (ms : Marks) (n m k : ℕ) → n ≢ k → with_mark ms n m k ≡ ms k
-unmarked ms n m k other = let no : (n == k) ≡ false = ne_eqb n k other in rw no refl
+pub unpeaked : (ms : Peaks) (n m k : ℕ) → n ≢ k → with_peak ms n m k ≡ ms k
+unpeaked ms n m k other = let no : (n == k) ≡ false = ne_eqb n k other in rw no refl
 
-unit_less : (few more : Marks) (unit : ℕ) → ((i : ℕ) → i < UNIT_NAMES → few (UNIT_NAMES * unit + i) ≤ more (UNIT_NAMES * unit + i)) → weights few unit ≤ weights more unit
+unit_less : (few more : Peaks) (unit : ℕ) → ((i : ℕ) → i < UNIT_NAMES → few (UNIT_NAMES * unit + i) ≤ more (UNIT_NAMES * unit + i)) → weights few unit ≤ weights more unit
 unfolding weights
-unit_less few more unit less = sums_less (λ i. weight_of_mark (few (UNIT_NAMES * unit + i))) (λ i. weight_of_mark (more (UNIT_NAMES * unit + i))) 0 UNIT_NAMES
+unit_less few more unit less = sums_less (λ i. weight_of_peak (few (UNIT_NAMES * unit + i))) (λ i. weight_of_peak (more (UNIT_NAMES * unit + i))) 0 UNIT_NAMES
     (λ i low. weight_less (few (UNIT_NAMES * unit + i)) (more (UNIT_NAMES * unit + i)) (less i (omega (arith, low))))
 
-write_loads : (state : State) (s : ℕ) (w : Write) → UnitsFit state → overloads (marks state) w.0 (1 + size_in_page w.1) ≡ false → UnitsFit (after_write state s w)
+write_loads : (state : State) (s : ℕ) (w : Write) → UnitsFit state → overloads (peaks state) w.0 (1 + size_in_page w.1) ≡ false → UnitsFit (after_write state s w)
 write_loads state s w fits room unit = elim (cases_eq unit (w.0 / UNIT_NAMES)) [
-  | inl same ↦ le_trans (weights_less (marks (after_write state s w)) with_it unit (with_write state s w))
+  | inl same ↦ le_trans (weights_less (peaks (after_write state s w)) with_it unit (with_write state s w))
       (subst (λ (q : ℕ). weights with_it q ≤ PENDING_WEIGHT) (sym same) (not_above _ room))
   | inr other ↦ le_trans (elsewhere other) (fits unit)
 ]
   where
-    with_it : Marks
-    with_it = with_mark (marks state) w.0 (1 + size_in_page w.1)
+    with_it : Peaks
+    with_it = with_peak (peaks state) w.0 (1 + size_in_page w.1)
 
     not_above : (size : ℕ) → nat_lt PENDING_WEIGHT size ≡ false → size ≤ PENDING_WEIGHT
     not_above size room = grind (arith, nat_tests)
 
     elsewhere : unit ≢ w.0 / UNIT_NAMES → pending (after_write state s w) unit ≤ pending state unit
-    elsewhere other = unit_less (marks (after_write state s w)) (marks state) unit (λ i low.
-        subst (λ (k : ℕ). marks (after_write state s w) (UNIT_NAMES * unit + i) ≤ k)
-        (unmarked (marks state) w.0 (1 + size_in_page w.1) (UNIT_NAMES * unit + i) (other_unit unit w.0 i low other)) (with_write state s w (UNIT_NAMES * unit + i)))
+    elsewhere other = unit_less (peaks (after_write state s w)) (peaks state) unit (λ i low.
+        subst (λ (k : ℕ). peaks (after_write state s w) (UNIT_NAMES * unit + i) ≤ k)
+        (unpeaked (peaks state) w.0 (1 + size_in_page w.1) (UNIT_NAMES * unit + i) (other_unit unit w.0 i low other)) (with_write state s w (UNIT_NAMES * unit + i)))
 
 share_loads : (state : State) (s n : ℕ) → UnitsFit state → UnitsFit (after_share state s n)
 share_loads state s n fits = fewer_fit state (after_share state s n) (λ k. shared_less state s n k) fits
@@ -93,40 +93,40 @@ units_stay_fit state s n w fits = record {
 
 -- ---- sums of weights
 
-pub weights_same : (a b : Marks) (unit : ℕ) → ((i : ℕ) → i < UNIT_NAMES → a (UNIT_NAMES * unit + i) ≡ b (UNIT_NAMES * unit + i)) → weights a unit ≡ weights b unit
+pub weights_same : (a b : Peaks) (unit : ℕ) → ((i : ℕ) → i < UNIT_NAMES → a (UNIT_NAMES * unit + i) ≡ b (UNIT_NAMES * unit + i)) → weights a unit ≡ weights b unit
 unfolding weights
-weights_same a b unit same = sums_same (λ i. weight_of_mark (a (UNIT_NAMES * unit + i))) (λ i. weight_of_mark (b (UNIT_NAMES * unit + i))) 0 UNIT_NAMES (λ i low. ap weight_of_mark (same i (omega (arith, low))))
+weights_same a b unit same = sums_same (λ i. weight_of_peak (a (UNIT_NAMES * unit + i))) (λ i. weight_of_peak (b (UNIT_NAMES * unit + i))) 0 UNIT_NAMES (λ i low. ap weight_of_peak (same i (omega (arith, low))))
 
 pub weights_none : (unit : ℕ) → weights (λ (n : ℕ). 0) unit ≡ 0
 unfolding weights
 weights_none unit = none 0 UNIT_NAMES
   where
-    none : (a k : ℕ) → sum_by (λ (i : ℕ). weight_of_mark 0) (range_with_len a k) ≡ 0
+    none : (a k : ℕ) → sum_by (λ (i : ℕ). weight_of_peak 0) (range_with_len a k) ≡ 0
     none a zero = refl
     none a (suc k) =
-        let sum : sum_by (λ (i : ℕ). weight_of_mark 0) (range_with_len a (suc k)) ≡ weight_of_mark 0 + sum_by (λ (i : ℕ). weight_of_mark 0) (range_with_len (a + 1) k) = sum_by-cons (λ (i : ℕ). weight_of_mark 0) a (range_with_len (a + 1) k) in
+        let sum : sum_by (λ (i : ℕ). weight_of_peak 0) (range_with_len a (suc k)) ≡ weight_of_peak 0 + sum_by (λ (i : ℕ). weight_of_peak 0) (range_with_len (a + 1) k) = sum_by-cons (λ (i : ℕ). weight_of_peak 0) a (range_with_len (a + 1) k) in
         omega (arith, sum, none (a + 1) k)
 
--- marks of which for each name one is 0
-pub weights_joined : (a b : Marks) (unit : ℕ) → ((n : ℕ) → (a n ≡ 0) ⊎ (b n ≡ 0)) → weights (λ n. max (a n) (b n)) unit ≡ weights a unit + weights b unit
+-- peaks of which for each name one is 0
+pub weights_joined : (a b : Peaks) (unit : ℕ) → ((n : ℕ) → (a n ≡ 0) ⊎ (b n ≡ 0)) → weights (λ n. max (a n) (b n)) unit ≡ weights a unit + weights b unit
 unfolding weights
-weights_joined a b unit disjoint = sums_joined (λ i. weight_of_mark (a (UNIT_NAMES * unit + i))) (λ i. weight_of_mark (b (UNIT_NAMES * unit + i))) (λ i. weight_of_mark (max (a (UNIT_NAMES * unit + i)) (b (UNIT_NAMES * unit + i)))) 0 UNIT_NAMES
+weights_joined a b unit disjoint = sums_joined (λ i. weight_of_peak (a (UNIT_NAMES * unit + i))) (λ i. weight_of_peak (b (UNIT_NAMES * unit + i))) (λ i. weight_of_peak (max (a (UNIT_NAMES * unit + i)) (b (UNIT_NAMES * unit + i)))) 0 UNIT_NAMES
     (λ i. one_is_none (a (UNIT_NAMES * unit + i)) (b (UNIT_NAMES * unit + i)) (disjoint (UNIT_NAMES * unit + i)))
   where
-    one_is_none : (x y : ℕ) → (x ≡ 0) ⊎ (y ≡ 0) → weight_of_mark (max x y) ≡ weight_of_mark x + weight_of_mark y
+    one_is_none : (x y : ℕ) → (x ≡ 0) ⊎ (y ≡ 0) → weight_of_peak (max x y) ≡ weight_of_peak x + weight_of_peak y
     one_is_none x y (inl none) =
-        let both : weight_of_mark (max x y) ≡ weight_of_mark y = ap (λ (k : ℕ). weight_of_mark (max k y)) none ∙ ap weight_of_mark (zero-max y) in
-        omega (arith, both, ap weight_of_mark none)
+        let both : weight_of_peak (max x y) ≡ weight_of_peak y = ap (λ (k : ℕ). weight_of_peak (max k y)) none ∙ ap weight_of_peak (zero-max y) in
+        omega (arith, both, ap weight_of_peak none)
     one_is_none x y (inr none) =
-        let both : weight_of_mark (max x y) ≡ weight_of_mark x = ap (λ (k : ℕ). weight_of_mark (max x k)) none ∙ ap weight_of_mark (max-zero x) in
-        omega (arith, both, ap weight_of_mark none)
+        let both : weight_of_peak (max x y) ≡ weight_of_peak x = ap (λ (k : ℕ). weight_of_peak (max x k)) none ∙ ap weight_of_peak (max-zero x) in
+        omega (arith, both, ap weight_of_peak none)
 
 -- no unit's names weigh more than if all were long
-pub weights_most : (a : Marks) (unit : ℕ) → weights a unit ≤ LONG_WEIGHT * UNIT_NAMES
+pub weights_most : (a : Peaks) (unit : ℕ) → weights a unit ≤ LONG_WEIGHT * UNIT_NAMES
 unfolding weights
 weights_most a unit = most 0 UNIT_NAMES
   where
-    light : (m : ℕ) → weight_of_mark m ≤ LONG_WEIGHT
+    light : (m : ℕ) → weight_of_peak m ≤ LONG_WEIGHT
     light m = by_tests (m == 0) (nat_lt (1 + SHORT_SIZE) m)
       where
         by_tests : (b c : Bool) → cond b 0 (cond c LONG_WEIGHT 1) ≤ LONG_WEIGHT
@@ -134,43 +134,43 @@ weights_most a unit = most 0 UNIT_NAMES
         by_tests false true = omega arith
         by_tests false false = omega arith
 
-    most : (b k : ℕ) → sum_by (λ i. weight_of_mark (a (UNIT_NAMES * unit + i))) (range_with_len b k) ≤ LONG_WEIGHT * k
+    most : (b k : ℕ) → sum_by (λ i. weight_of_peak (a (UNIT_NAMES * unit + i))) (range_with_len b k) ≤ LONG_WEIGHT * k
     most b zero = omega arith
-    most b (suc k) = added _ _ _ k (sum_by-cons (λ i. weight_of_mark (a (UNIT_NAMES * unit + i))) b (range_with_len (b + 1) k)) (light (a (UNIT_NAMES * unit + b))) (most (b + 1) k)
+    most b (suc k) = added _ _ _ k (sum_by-cons (λ i. weight_of_peak (a (UNIT_NAMES * unit + i))) b (range_with_len (b + 1) k)) (light (a (UNIT_NAMES * unit + b))) (most (b + 1) k)
       where
         added : (x y z k : ℕ) → x ≡ y + z → y ≤ LONG_WEIGHT → z ≤ LONG_WEIGHT * k → x ≤ LONG_WEIGHT * (suc k)
         added x y z k sum one rest = omega (arith, sum, one, rest)
 
--- one more mark, in its unit and elsewhere
-pub weights_at : (a : Marks) (n m : ℕ) → weights (with_mark a n m) (n / UNIT_NAMES) + weight_of_mark (a n) ≡ weights a (n / UNIT_NAMES) + weight_of_mark (max m (a n))
+-- one more peak, in its unit and elsewhere
+pub weights_at : (a : Peaks) (n m : ℕ) → weights (with_peak a n m) (n / UNIT_NAMES) + weight_of_peak (a n) ≡ weights a (n / UNIT_NAMES) + weight_of_peak (max m (a n))
 unfolding weights
 weights_at a n m =
     let at : UNIT_NAMES * (n / UNIT_NAMES) + n % UNIT_NAMES ≡ n = omega arith in
-    let sum = sums_at (λ i. weight_of_mark (with_mark a n m (UNIT_NAMES * (n / UNIT_NAMES) + i))) (λ i. weight_of_mark (a (UNIT_NAMES * (n / UNIT_NAMES) + i))) 0 UNIT_NAMES (n % UNIT_NAMES) (omega arith) (omega arith)
-    (λ i other. ap weight_of_mark (unmarked a n m (UNIT_NAMES * (n / UNIT_NAMES) + i) (λ is. other (omega (arith, is, at))))) in
-    let old : weight_of_mark (a (UNIT_NAMES * (n / UNIT_NAMES) + n % UNIT_NAMES)) ≡ weight_of_mark (a n) = ap (λ (k : ℕ). weight_of_mark (a k)) at in
-    let new : weight_of_mark (with_mark a n m (UNIT_NAMES * (n / UNIT_NAMES) + n % UNIT_NAMES)) ≡ weight_of_mark (max m (a n)) =
-    ap (λ (k : ℕ). weight_of_mark (with_mark a n m k)) at ∙ ap weight_of_mark (marked a n m) in
+    let sum = sums_at (λ i. weight_of_peak (with_peak a n m (UNIT_NAMES * (n / UNIT_NAMES) + i))) (λ i. weight_of_peak (a (UNIT_NAMES * (n / UNIT_NAMES) + i))) 0 UNIT_NAMES (n % UNIT_NAMES) (omega arith) (omega arith)
+    (λ i other. ap weight_of_peak (unpeaked a n m (UNIT_NAMES * (n / UNIT_NAMES) + i) (λ is. other (omega (arith, is, at))))) in
+    let old : weight_of_peak (a (UNIT_NAMES * (n / UNIT_NAMES) + n % UNIT_NAMES)) ≡ weight_of_peak (a n) = ap (λ (k : ℕ). weight_of_peak (a k)) at in
+    let new : weight_of_peak (with_peak a n m (UNIT_NAMES * (n / UNIT_NAMES) + n % UNIT_NAMES)) ≡ weight_of_peak (max m (a n)) =
+    ap (λ (k : ℕ). weight_of_peak (with_peak a n m k)) at ∙ ap weight_of_peak (peaked a n m) in
     sum_is _ _ _ _ _ _ sum old new
   where
-    marked : (a : Marks) (n m : ℕ) → with_mark a n m n ≡ max m (a n)
-    marked a n m = let is : (n == n) ≡ true = grind (arith, nat_tests) in rw is refl
+    peaked : (a : Peaks) (n m : ℕ) → with_peak a n m n ≡ max m (a n)
+    peaked a n m = let is : (n == n) ≡ true = grind (arith, nat_tests) in rw is refl
 
     sum_is : (x y p q u v : ℕ) → x + p ≡ y + u → p ≡ q → u ≡ v → x + q ≡ y + v
     sum_is x y p q u v sum old new = omega (arith, sum, old, new)
 
-pub weights_elsewhere : (a : Marks) (n m unit : ℕ) → unit ≢ n / UNIT_NAMES → weights (with_mark a n m) unit ≡ weights a unit
-weights_elsewhere a n m unit other = weights_same (with_mark a n m) a unit (λ i low. unmarked a n m (UNIT_NAMES * unit + i) (other_unit unit n i low other))
+pub weights_elsewhere : (a : Peaks) (n m unit : ℕ) → unit ≢ n / UNIT_NAMES → weights (with_peak a n m) unit ≡ weights a unit
+weights_elsewhere a n m unit other = weights_same (with_peak a n m) a unit (λ i low. unpeaked a n m (UNIT_NAMES * unit + i) (other_unit unit n i low other))
 
--- a name that had no mark adds its weight to those of its unit
-pub weights_new : (a : Marks) (n m unit : ℕ) → a n ≡ 0
-    → weights (with_mark a n m) unit ≡ cond (n / UNIT_NAMES == unit) (weight_of_mark m) 0 + weights a unit
+-- a name that had no peak adds its weight to those of its unit
+pub weights_new : (a : Peaks) (n m unit : ℕ) → a n ≡ 0
+    → weights (with_peak a n m) unit ≡ cond (n / UNIT_NAMES == unit) (weight_of_peak m) 0 + weights a unit
 weights_new a n m unit none = elim (cases_eq unit (n / UNIT_NAMES)) [
   | inl here ↦
       let yes : (n / UNIT_NAMES == unit) ≡ true = eq-eqb (n / UNIT_NAMES) unit (sym here) in
-      let nothing : weight_of_mark (a n) ≡ 0 = ap weight_of_mark none in
-      let whole : weight_of_mark (max m (a n)) ≡ weight_of_mark m = ap weight_of_mark (ap (λ (k : ℕ). max m k) none ∙ max-zero m) in
-      rw yes (ap (weights (with_mark a n m)) here
+      let nothing : weight_of_peak (a n) ≡ 0 = ap weight_of_peak none in
+      let whole : weight_of_peak (max m (a n)) ≡ weight_of_peak m = ap weight_of_peak (ap (λ (k : ℕ). max m k) none ∙ max-zero m) in
+      rw yes (ap (weights (with_peak a n m)) here
       ∙ added _ _ _ _ _ (weights_at a n m) nothing whole (ap (weights a) (sym here)))
   | inr other ↦
       let no : (n / UNIT_NAMES == unit) ≡ false = ne_eqb (n / UNIT_NAMES) unit (λ is. other (sym is)) in

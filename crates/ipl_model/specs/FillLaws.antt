@@ -3,7 +3,7 @@ use Rattle.std.specs.Prelude.{ℕ, ◌≡◌, ◌+◌, ◌-◌, ◌/◌, ◌≤�
 use Rattle.ipl_base.specs.declared.limits.TheConstants.{PAGE_LEN, PENDING_WEIGHT, SLOTS}
 use Rattle.ipl_base.specs.Sizes.{size_in_page, size_of_values}
 use Rattle.ipl_model.specs.State.{Write, State}
-use Rattle.ipl_model.specs.Marks.{Marks, marks, values_at, fill_of, fill, overfills, weights, pending, overloads}
+use Rattle.ipl_model.specs.Peaks.{Peaks, peaks, values_at, fill_of, fill, overfills, weights, pending, overloads}
 use Rattle.ipl_model.specs.Operations.{after_begin, after_share, after_write, after_commit, after_batch, after_abort, after_restart}
 
 -- ---- pages
@@ -44,7 +44,7 @@ UnitsFit state = (unit : ℕ) → pending state unit ≤ PENDING_WEIGHT
 pub record UnitsStayFit (state : State) (s n : ℕ) (w : Write) : Type 0 where
   pub begins : UnitsFit (after_begin state s)
   pub shares : UnitsFit (after_share state s n)
-  pub writes : overloads (marks state) w.0 (1 + size_in_page w.1) ≡ false → UnitsFit (after_write state s w)
+  pub writes : overloads (peaks state) w.0 (1 + size_in_page w.1) ≡ false → UnitsFit (after_write state s w)
   pub commits : UnitsFit (after_commit state s)
   pub batches : (ss : List ℕ) → UnitsFit (after_batch state ss)
   pub aborts : UnitsFit (after_abort state s)
@@ -55,10 +55,10 @@ OperationsKeepUnitsFit = (state : State) (s n : ℕ) (w : Write) → UnitsFit st
 
 -- ---- both
 
--- smaller marks, over values that take no more, take no more
-pub record LessIsLess (few more : Marks) (values before : ℕ → Option (List ℕ)) : Type 0 where
+-- smaller peaks, over values that take no more, take no more
+pub record LessIsLess (few more : Peaks) (values before : ℕ → Option (List ℕ)) : Type 0 where
   pub pages : ((slot : ℕ) → max (size_in_page (values slot)) (few slot - 1) ≤ max (size_in_page (before slot)) (more slot - 1)) → fill_of values few ≤ fill_of before more
   pub units : ((n : ℕ) → few n ≤ more n) → (unit : ℕ) → weights few unit ≤ weights more unit
 
-abbrev pub SmallerMarksAreLess : Type 0
-SmallerMarksAreLess = (few more : Marks) (values before : ℕ → Option (List ℕ)) → LessIsLess few more values before
+abbrev pub SmallerPeaksAreLess : Type 0
+SmallerPeaksAreLess = (few more : Peaks) (values before : ℕ → Option (List ℕ)) → LessIsLess few more values before

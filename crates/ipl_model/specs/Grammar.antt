@@ -31,8 +31,8 @@ number_of [] = None
 number_of (d ∷ ds) = if d == 48 && nat_lt 0 (length ds) then None else number_behind 0 (d ∷ ds)
 
 -- the bytes that a word spells: a dash for none, or pairs of hex digits
-abbrev pub value_of : List ℕ → Option (List ℕ)
-value_of word = if bytes_eq word (codes "-") then Some [] else if length word == 0 then None else result_ok (decode_of word)
+abbrev pub value_spelt : List ℕ → Option (List ℕ)
+value_spelt word = if bytes_eq word (codes "-") then Some [] else if length word == 0 then None else result_ok (decode_of word)
 
 -- the words behind a verb: none, or those of the rest of the line behind the space
 abbrev pub words_behind : Option (List ℕ) → List (List ℕ)
@@ -48,7 +48,7 @@ two_numbers (s ∷ n ∷ []) = option_and_then (λ session. option_map (λ name.
 two_numbers words = None
 
 abbrev pub numbers_and_value : List (List ℕ) → Option (ℕ × ℕ × List ℕ)
-numbers_and_value (s ∷ n ∷ v ∷ []) = option_and_then (λ session. option_and_then (λ name. option_map (λ bytes. (session, name, bytes)) (value_of v)) (number_of n)) (number_of s)
+numbers_and_value (s ∷ n ∷ v ∷ []) = option_and_then (λ session. option_and_then (λ name. option_map (λ bytes. (session, name, bytes)) (value_spelt v)) (number_of n)) (number_of s)
 numbers_and_value words = None
 
 -- the numbers that words are, where each is one

@@ -6,7 +6,7 @@ use Rattle.ipl_model.specs.declared.command.Command.{Command}
 use Rattle.ipl_model.specs.declared.command.Command.TheVariants as command
 use Rattle.ipl_model.specs.declared.reply.Reply.TheVariants as reply
 use Rattle.ipl_model.specs.Step.{step, refusal_of}
-use Rattle.ipl_model.specs.Run.{text, after, answered}
+use Rattle.ipl_model.specs.Run.{text, after_first, answered}
 
 -- the first is a beginning of the second
 abbrev pub Begins : List ℕ → List ℕ → Type 0
@@ -41,6 +41,6 @@ OnlyCommitsChangeRecords = (limits : Limits) (state : State) (c : Command) → (
 -- so the records after r + 1 commands are those after r, but where the next command is such a commit
 abbrev pub RecordsChangeByCommits : Type 0
 RecordsChangeByCommits = (limits : Limits) (state : State) (commands : List Command) (r : ℕ)
-    → ((after limits state commands (suc r)).map ≡ (after limits state commands r).map)
+    → ((after_first limits state commands (suc r)).map ≡ (after_first limits state commands r).map)
     ⊎ ((c : Command) × (later : List Command) × (drop r commands ≡ c ∷ later) × (is_commit c ≡ true)
-    × (refusal_of limits (after limits state commands r) c ≡ None))
+    × (refusal_of limits (after_first limits state commands r) c ≡ None))

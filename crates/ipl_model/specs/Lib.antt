@@ -1,6 +1,6 @@
 pub mod State
 pub mod Slots
-pub mod Marks
+pub mod Peaks
 pub mod Refusals
 pub mod Operations
 pub mod FillLaws

@@ -9,7 +9,7 @@ use Rattle.ipl_base.specs.declared.limits.TheConstants.{UNIT_NAMES, SESSIONS, SL
 use Rattle.ipl_base.specs.declared.fault.Refusal.{Refusal}
 use Rattle.ipl_base.specs.Sizes.{size_in_page}
 use Rattle.ipl_model.specs.State as rules
-use Rattle.ipl_model.specs.Marks.{marks_of, values_at, marks_at}
+use Rattle.ipl_model.specs.Peaks.{peaks_of, values_at, peaks_at}
 use Rattle.ipl_model.specs.Slots.{open_from, opened}
 use Rattle.ipl_model.specs.Operations.{after_abort}
 use Rattle.ipl_model.specs.Refusals.{first_of, not_open, conflict, writes_full, pending_full}
@@ -77,7 +77,7 @@ AreRecordSizes committed sizes = (n : ℕ) → n < length sizes → slice_index 
 
 -- what the slots of a page may come to take with the writes of another log
 abbrev pub rooms_in : List Write → List Write → ℕ → List ℕ
-rooms_in committed log page = map (λ slot. max (size_in_page (values_at (records_of committed) page slot)) (marks_at (marks_of (newest_first log)) page slot - 1)) (range_with_len 0 SLOTS)
+rooms_in committed log page = map (λ slot. max (size_in_page (values_at (records_of committed) page slot)) (peaks_at (peaks_of (newest_first log)) page slot - 1)) (range_with_len 0 SLOTS)
 
 -- the state with these writes among the records
 abbrev pub with_records : List rules.Write → rules.State → rules.State

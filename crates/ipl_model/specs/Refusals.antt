@@ -5,8 +5,8 @@ use Rattle.ipl_base.specs.declared.fault.Refusal.{Refusal}
 use Rattle.ipl_base.specs.declared.fault.Refusal.TheVariants.{BadSession, BadName, TooLong, AlreadyOpen, NotOpen, Conflict, WritesFull, SharesFull, PendingFull, BadUnit, PageFull, Twice, SessionsOpen}
 use Rattle.std.specs.List.{list_any, range_with_len}
 use Rattle.ipl_base.specs.Sizes.{size_in_page}
-use Rattle.ipl_model.specs.State.{Write, State, Limits, is_open, writes_of, shared_of, last_write, written_names, holder_for_share, holder_for_write}
-use Rattle.ipl_model.specs.Marks.{marks, overloads, overfills}
+use Rattle.ipl_model.specs.State.{Write, State, Limits, is_open_session, writes_of, shared_of, last_write, written_names, holder_for_share, holder_for_write}
+use Rattle.ipl_model.specs.Peaks.{peaks, overloads, overfills}
 
 -- a test, and the refusal that it gives
 abbrev pub Test : Type 0
@@ -30,10 +30,10 @@ abbrev pub too_long : List ℕ → Test
 too_long bytes = (nat_lt VALUE_LEN (length bytes), TooLong)
 
 abbrev pub already_open : State → ℕ → Test
-already_open state s = (is_open state s, AlreadyOpen)
+already_open state s = (is_open_session state s, AlreadyOpen)
 
 abbrev pub not_open : State → ℕ → Test
-not_open state s = (not (is_open state s), NotOpen)
+not_open state s = (not (is_open_session state s), NotOpen)
 
 -- another session holds the name; the least such session is named
 abbrev pub conflict : Option ℕ → Test
@@ -57,7 +57,7 @@ shares_full state s n = (is_new_share state s n && nat_le SESSION_NAMES (length 
 
 -- with this write the pending names of its unit would weigh more than 48
 abbrev pub pending_full : State → Write → Test
-pending_full state w = (overloads (marks state) w.0 (1 + size_in_page w.1), PendingFull (w.0 / UNIT_NAMES))
+pending_full state w = (overloads (peaks state) w.0 (1 + size_in_page w.1), PendingFull (w.0 / UNIT_NAMES))
 
 -- with this put the page of its name would be too full
 abbrev pub page_full : State → ℕ → List ℕ → Test
@@ -114,11 +114,11 @@ refuses_end limits state s = first_of (bad_session limits s ∷ not_open state s
 -- of a commit of several sessions
 abbrev pub refuses_batch : Limits → State → List ℕ → Option Refusal
 refuses_batch limits state ss = first_of ((list_any (λ s. nat_le limits.sessions s) ss, BadSession)
-    ∷ twice (least_twice limits ss) ∷ (list_any (λ s. not (is_open state s)) ss, NotOpen) ∷ [])
+    ∷ twice (least_twice limits ss) ∷ (list_any (λ s. not (is_open_session state s)) ss, NotOpen) ∷ [])
 
 -- the least session that is open
 abbrev pub least_open : Limits → State → Option ℕ
-least_open limits state = find (is_open state) (range_with_len 0 limits.sessions)
+least_open limits state = find (is_open_session state) (range_with_len 0 limits.sessions)
 
 -- of a clean close
 abbrev pub refuses_close : Limits → State → Option Refusal

@@ -2,7 +2,7 @@
 use Rattle.std.specs.Prelude.{ℕ, ◌≡◌, ◌≢◌, ◌<◌, true, false, List, [], ◌∷◌, Contains, Option, Some, None}
 use Rattle.std.specs.Option.{option_or}
 use Rattle.std.specs.FinMap.{get}
-use Rattle.ipl_model.specs.State.{Map, Write, State, Limits, is_open, writes_of, last_write, see, with_writes, seen_through}
+use Rattle.ipl_model.specs.State.{Map, Write, State, Limits, is_open_session, writes_of, last_write, see, with_writes, seen_through}
 use Rattle.ipl_model.specs.Refusals.{first_of, page_full, refuses_begin, refuses_get, refuses_share, refuses_put_early, refuses_put, refuses_del, refuses_end, refuses_batch, is_twice}
 use Rattle.ipl_model.specs.Operations.{after_batch}
 
@@ -37,7 +37,7 @@ CommitsWhatIsSeen = (writes : List Write) (m : Map) (n : ℕ) → get (with_writ
 pub record NamesOnce (limits : Limits) (state : State) (ss : List ℕ) : Type 0 where
   pub within : (s : ℕ) → Contains ss s → s < limits.sessions
   pub once : (s : ℕ) → Contains ss s → is_twice ss s ≡ false
-  pub opens : (s : ℕ) → Contains ss s → is_open state s ≡ true
+  pub opens : (s : ℕ) → Contains ss s → is_open_session state s ≡ true
 
 abbrev pub BatchesNameOnce : Type 0
 BatchesNameOnce = (limits : Limits) (state : State) (ss : List ℕ) → refuses_batch limits state ss ≡ None → NamesOnce limits state ss

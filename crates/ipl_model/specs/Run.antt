@@ -8,8 +8,8 @@ use Rattle.ipl_model.specs.Text.{reply_text}
 use Rattle.ipl_model.specs.Grammar.{commands_of}
 
 -- lines, joined
-abbrev pub joined : List (List ℕ) → List ℕ
-joined all = flat_map (λ line. line) all
+abbrev pub joined_lines : List (List ℕ) → List ℕ
+joined_lines all = flat_map (λ line. line) all
 
 -- the lines of the reply to a command
 abbrev pub reply_lines : Limits → State → Command → List (List ℕ)
@@ -22,7 +22,7 @@ lines limits state (c ∷ commands) = reply_lines limits state c ++ lines limits
 
 -- the replies to commands, joined
 abbrev pub text : Limits → State → List Command → List ℕ
-text limits state commands = joined (lines limits state commands)
+text limits state commands = joined_lines (lines limits state commands)
 
 -- the state after commands
 abbrev pub after_all : Limits → State → List Command → State
@@ -30,8 +30,8 @@ after_all limits state [] = state
 after_all limits state (c ∷ commands) = after_all limits (step limits state c).0 commands
 
 -- the state after the first r commands, or after all where there are fewer
-abbrev pub after : Limits → State → List Command → ℕ → State
-after limits state commands r = after_all limits state (take r commands)
+abbrev pub after_first : Limits → State → List Command → ℕ → State
+after_first limits state commands r = after_all limits state (take r commands)
 
 -- ---- over a script
 
@@ -41,7 +41,7 @@ script_text limits m script = text limits (at_rest m) (commands_of script)
 
 -- the records after the first r commands of a script, or after all where there are fewer
 abbrev pub map_after : Limits → Map → List ℕ → ℕ → Map
-map_after limits m script r = (after limits (at_rest m) (commands_of script) r).map
+map_after limits m script r = (after_first limits (at_rest m) (commands_of script) r).map
 
 -- ---- how many commands were answered
 
@@ -53,7 +53,7 @@ begins_with (b ∷ bytes) (n ∷ ns) = nat_eq b n && begins_with bytes ns
 
 -- the reply to a command, its lines joined
 abbrev pub reply : Limits → State → Command → List ℕ
-reply limits state c = joined (reply_lines limits state c)
+reply limits state c = joined_lines (reply_lines limits state c)
 
 -- of how many commands the bytes have the whole replies, one behind the other
 abbrev pub answered : Limits → State → List Command → List ℕ → ℕ
@@ -64,4 +64,4 @@ answered limits state (c ∷ commands) bytes = if begins_with bytes (reply limit
 
 -- Q holds of the state after the commands that were answered, or after one more
 abbrev pub IsNear : (State → Type 0) → Limits → State → List Command → List ℕ → Type 0
-IsNear Q limits state commands bytes = Q (after limits state commands (answered limits state commands bytes)) ⊎ Q (after limits state commands (suc (answered limits state commands bytes)))
+IsNear Q limits state commands bytes = Q (after_first limits state commands (answered limits state commands bytes)) ⊎ Q (after_first limits state commands (suc (answered limits state commands bytes)))

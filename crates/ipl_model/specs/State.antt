@@ -56,8 +56,8 @@ seen_through writes m n = option_map_or (λ change. change) (last_write writes n
 
 -- ---- sessions
 
-abbrev pub is_open : State → ℕ → Bool
-is_open state s = is_some (get state.sessions s)
+abbrev pub is_open_session : State → ℕ → Bool
+is_open_session state s = is_some (get state.sessions s)
 
 -- a session's writes, none where it isn't open
 abbrev pub writes_of : State → ℕ → List Write

@@ -15,7 +15,7 @@ mod changes;
 mod copies;
 mod locks;
 mod log;
-mod marks;
+mod peaks;
 mod refusals;
 mod scan;
 mod steps;
@@ -23,7 +23,7 @@ mod steps;
 use crate::{Command, Reply};
 use ipl_base::{Geometry, OutOfMemory, SESSIONS, UNIT_NAMES};
 use log::{LoggedSession, Write};
-use marks::record_sizes;
+use peaks::record_sizes;
 use std::alloc::{AllocError, Global};
 use std::array;
 

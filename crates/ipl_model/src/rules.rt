@@ -1,5 +1,5 @@
 //! The laws of the rules.
-ghost use Rattle.ipl_model.specs.FillLaws.{OperationsKeepPagesFit, PutsMakePagesFit, RecordsHaveRoom, OperationsKeepUnitsFit, SmallerMarksAreLess};
+ghost use Rattle.ipl_model.specs.FillLaws.{OperationsKeepPagesFit, PutsMakePagesFit, RecordsHaveRoom, OperationsKeepUnitsFit, SmallerPeaksAreLess};
 ghost use Rattle.ipl_model.specs.RuleLaws.{RefusalsLookAtSessions, PutsRefuseInTwoParts, SeesItsOwnWrites, CommitsWhatIsSeen, BatchesNameOnce, BatchesWrite, BatchesKeep};
 
 /// Refusals don't depend on the map but where a page is full, and what a session sees is its own
@@ -23,5 +23,5 @@ pub fn fill_laws()
     ensures puts { PutsMakePagesFit }
     ensures room { RecordsHaveRoom }
     ensures units { OperationsKeepUnitsFit }
-    ensures less { SmallerMarksAreLess }
+    ensures less { SmallerPeaksAreLess }
 {}

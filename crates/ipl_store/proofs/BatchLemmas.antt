@@ -8,7 +8,7 @@ use Rattle.std.proofs.lemmas.List.Folds.{list_any_none}
 use Rattle.ipl_base.specs.declared.fault.Refusal.TheVariants.{BadSession, NotOpen}
 use Rattle.ipl_base.specs.declared.limits.TheConstants.{SESSIONS}
 use Rattle.ipl_model.specs.Refusals.{first_of, is_twice, twice}
-use Rattle.ipl_model.specs.State.{is_open}
+use Rattle.ipl_model.specs.State.{is_open_session}
 use Rattle.ipl_model.proofs.RuleBatchLemmas.{any_listed}
 use Rattle.record_locks.specs.Held.{SessionSlots}
 use Rattle.record_locks.specs.Locks.{refuses_batch}
@@ -52,13 +52,13 @@ none_found test fails a (suc n) =
 pub batch_unrefused : (slots : SessionSlots) (ss : List ℕ) → AreOpenSessions slots ss
     → refuses_batch slots ss ≡ None
 batch_unrefused slots ss are =
-    let closed : ℕ → Bool = λ s. not (is_open (state_of slots) s) in
+    let closed : ℕ → Bool = λ s. not (is_open_session (state_of slots) s) in
     let least : Option ℕ = find (is_twice ss) (range_with_len 0 SESSIONS) in
     let low : list_any (λ s. nat_le SESSIONS s) ss ≡ false =
     none_passes (λ s. nat_le SESSIONS s) ss (λ s at. lt-leb SESSIONS s (are.opens s at).low) in
     let opened : list_any closed ss ≡ false =
     none_passes closed ss (λ s at. ap not
-    (is_open_then (is_open (state_of slots) s) None (are.opens s at).may_end)) in
+    (is_open_then (is_open_session (state_of slots) s) None (are.opens s at).may_end)) in
     ap (λ (b : Bool). first_of ((b, BadSession) ∷ twice least ∷ (list_any closed ss, NotOpen) ∷ []))
     low
     ∙ ap (λ (o : Option ℕ). first_of (twice o ∷ (list_any closed ss, NotOpen) ∷ []))

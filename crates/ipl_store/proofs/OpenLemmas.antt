@@ -4,7 +4,7 @@ use Rattle.std.specs.Option.{option_map}
 use Rattle.std.specs.Result.{result_err}
 use Rattle.ipl_base.specs.declared.fault.Refusal.{Refusal}
 use Rattle.ipl_base.specs.declared.fault.Refusal.TheVariants.{AlreadyOpen, NotOpen}
-use Rattle.ipl_model.specs.State.{is_open}
+use Rattle.ipl_model.specs.State.{is_open_session}
 use Rattle.record_locks.specs.Held.{Held, SessionSlots, held_at, number_of}
 use Rattle.record_locks.specs.Standing.{state_of}
 use Rattle.record_locks.specs.Locks.{refuses_begin, refuses_write, refuses_end}
@@ -19,7 +19,7 @@ numbered : (o : Option Held) → is_some o ≡ true
 numbered None is = absurd (cc is)
 numbered (Some h) is = (h.number, refl)
 
-open_numbered : (slots : SessionSlots) (s : ℕ) → is_open (state_of slots) s ≡ true → HasNumber slots s
+open_numbered : (slots : SessionSlots) (s : ℕ) → is_open_session (state_of slots) s ≡ true → HasNumber slots s
 open_numbered slots s is = numbered (held_at slots s) (sym (open_at slots s) ∙ is)
 
 pub is_open_then : (b : Bool) (rest : Option Refusal)
@@ -29,12 +29,12 @@ is_open_then false rest none = absurd (cc none)
 
 pub ends_numbered : (slots : SessionSlots) (s : ℕ) → refuses_end slots s ≡ None → HasNumber slots s
 ends_numbered slots s none =
-    open_numbered slots s (is_open_then (is_open (state_of slots) s) None none)
+    open_numbered slots s (is_open_then (is_open_session (state_of slots) s) None none)
 
 pub writes_numbered : (slots : SessionSlots) (s n size : ℕ) → refuses_write slots s n size ≡ None
     → HasNumber slots s
 writes_numbered slots s n size none =
-    open_numbered slots s (is_open_then (is_open (state_of slots) s) _ none)
+    open_numbered slots s (is_open_then (is_open_session (state_of slots) s) _ none)
 
 -- one that may be opened has none
 pub begins_unnumbered : (slots : SessionSlots) (s : ℕ) → refuses_begin slots s ≡ None

@@ -12,7 +12,7 @@ use Rattle.ipl_format.specs.Record.{Change}
 use Rattle.ipl_meaning.specs.Last.{size_of_all}
 use Rattle.ipl_model.specs.Operations.{after_write}
 use Rattle.ipl_model.specs.State.{State}
-use Rattle.record_locks.specs.Held.{SessionSlots, marks_in, numbers_in}
+use Rattle.record_locks.specs.Held.{SessionSlots, peaks_in, numbers_in}
 use Rattle.unit_io.specs.Costs.{Costs, Spends}
 use Rattle.buffer_pool.specs.Holding.{KeepsPins}
 use Rattle.buffer_pool.specs.Uses.{IsUsedLast}
@@ -137,7 +137,7 @@ pub full_put : (s n : ℕ) (bytes : List ℕ) (old : Store) (before : Told) (new
     (after : Told) → put_fault old s n bytes ≡ None → IsSound before.places old
     → Fetches None (λ state. state) n old before (Ok tt) new after → AsksFor n old before after
     → (did : HasBrought (home_of n).unit (home_of n).page old before new after)
-    → overfills_at (marks_in old.transactions.sessions) n bytes did.frame.values ≡ true
+    → overfills_at (peaks_in old.transactions.sessions) n bytes did.frame.values ≡ true
     → Puts s n bytes old before (Ok false) new after
 full_put s n bytes old before new after none sound first asks did full = record {
   calls = calls_as (put_fault old s n bytes) (λ state. state) 14 old before tt false new after
@@ -306,7 +306,7 @@ pub written_put : (s n : ℕ) (bytes : List ℕ) (old : Store) (before : Told) (
     → put_fault old s n bytes ≡ None → old.down ≡ false → IsSound before.places old
     → Fetches None (λ state. state) n old before (Ok tt) mid between
     → (did : HasBrought (home_of n).unit (home_of n).page old before mid between)
-    → overfills_at (marks_in old.transactions.sessions) n bytes did.frame.values ≡ false
+    → overfills_at (peaks_in old.transactions.sessions) n bytes did.frame.values ≡ false
     → length bytes ≤ VALUE_LEN → HasWritten s n bytes mid.transactions between done t after
     → new ≡ record mid { transactions = t; down = new.down }
     → EndsAs done mid.down result new.down

@@ -10,11 +10,11 @@ use Rattle.ipl_base.specs.declared.fault.StoreFault.TheVariants.{Down, Spent, Re
 use Rattle.ipl_base.specs.declared.fault.ChipFault.{ChipFault}
 use Rattle.ipl_base.specs.Places.{home_of}
 use Rattle.ipl_format.proofs.ListLemmas.{both_true}
-use Rattle.ipl_model.specs.Marks.{overfills}
+use Rattle.ipl_model.specs.Peaks.{overfills}
 use Rattle.ipl_base.specs.Sizes.{size_in_page}
 use Rattle.ipl_model.specs.Refusals.{Test, first_of, bad_session, bad_name, too_long, not_open, conflict, writes_full}
 use Rattle.ipl_model.specs.State.{State, Limits, holder_for_write}
-use Rattle.record_locks.specs.Held.{SessionSlots, marks_in}
+use Rattle.record_locks.specs.Held.{SessionSlots, peaks_in}
 use Rattle.record_locks.specs.Locks.{pending_full}
 use Rattle.record_locks.specs.Standing.{state_of}
 use Rattle.ipl_meaning.specs.Legible.{Legibility, IsToldApart}
@@ -95,7 +95,7 @@ chip_found fault e is = subst (λ (f : StoreFault). found_room (Err f) ≡ Err f
 pub full_told : (n : ℕ) (bytes : List ℕ) (old : Store) (before : Told) (t : Tables)
     (frames : Frames) (f : PageFrame) (after : Told)
     → BringsPageOf n old before t frames f after → (full : Bool)
-    → overfills_at (marks_in old.transactions.sessions) n bytes f.values ≡ full
+    → overfills_at (peaks_in old.transactions.sessions) n bytes f.values ≡ full
     → OfContents before (λ x. (pages : Legibility) (state : State) → IsToldApart pages → ShowsState before.places pages (view_of old) state x
     → overfills state n bytes ≡ full)
 full_told n bytes old before t frames f after did full is x told pages state apart shown =

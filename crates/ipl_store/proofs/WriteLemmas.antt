@@ -11,7 +11,7 @@ use Rattle.ipl_base.specs.declared.spot.Home.{Home}
 use Rattle.ipl_format.specs.Record.{Change, Record, IsRecord}
 use Rattle.ipl_model.specs.Operations as rules
 use Rattle.ipl_model.specs.State.{State}
-use Rattle.record_locks.specs.Held.{marks_in, number_of, numbers_in, after_write}
+use Rattle.record_locks.specs.Held.{peaks_in, number_of, numbers_in, after_write}
 use Rattle.ipl_meaning.specs.Chart.{chart_of}
 use Rattle.chip_trait.specs.Story.{Contents}
 use Rattle.ipl_meaning.specs.Layout.{Layout}
@@ -21,13 +21,13 @@ use Rattle.selective_merge.specs.declared.parts.Parts.{Parts}
 use Rattle.selective_merge.specs.Moving.{tables_of}
 use Rattle.selective_merge.specs.Spotting.{HasHomeSpot}
 use Rattle.buffer_pool.specs.Holding.{KeepsPins}
-use Rattle.page_ops.specs.Pending.{mark_of}
+use Rattle.page_ops.specs.Pending.{peak_of}
 use Rattle.store_laws.specs.Pending.{name_at}
 use Rattle.store_laws.specs.Frames.{PageFrame, Frames, with_frame_at, IsWrittenFrame}
 use Rattle.store_laws.specs.Fits.{LocksHold}
-use Rattle.store_laws.specs.Room.{PageHasRoomFor, fill_at, marked_by}
+use Rattle.store_laws.specs.Room.{PageHasRoomFor, fill_at, peaked_by}
 use Rattle.store_laws.proofs.FullLemmas.{puts_that_pass_have_room, same_values_have_room}
-use Rattle.store_laws.proofs.PendingRoomLemmas.{frames_keep_marks}
+use Rattle.store_laws.proofs.PendingRoomLemmas.{frames_keep_peaks}
 use Rattle.store_laws.proofs.MemoryLemmas.{cases_page}
 use Rattle.store_laws.proofs.SameLemmas.{frame_here, frame_other}
 use Rattle.unit_io.specs.Costs.{Spends}
@@ -36,7 +36,7 @@ use Rattle.unit_io.proofs.TablesLemmas.{tables_none}
 use Rattle.store_laws.specs.Advances.{Memory, memory_of, MemoryFits, KeepsState, LeadsTo}
 use Rattle.store_laws.proofs.SessionLemmas.{writes_lead}
 use Rattle.page_frames.specs.Changes.{FrameChanges, MayPut, PutHasRoom}
-use Rattle.page_frames.proofs.FrameRoomLemmas.{puts_by_marks_have_room}
+use Rattle.page_frames.proofs.FrameRoomLemmas.{puts_by_peaks_have_room}
 use Rattle.page_frames.specs.Spending.{ErasesAndLogs}
 use Rattle.page_frames.specs.declared.pages.Pages.{Pages}
 use Rattle.page_frames.specs.Pages.{tables_in, frames_in, IsFramed, KeepsValues, Upholds}
@@ -117,13 +117,13 @@ prepared_idle pages mid first worn_out n at r before after home page worn asks r
 pub page_has_room : (n : ℕ) (at : Home) (r : Record) (it : Transactions) (mid : Pages) (now : PageFrame)
     → at ≡ home_of n → r.page ≡ at.page → r.slot ≡ at.slot → MayTake it n r.change
     → KeepsValues at.unit r.page it.pages mid → frames_in mid at.unit r.page ≡ Some now
-    → PageHasRoomFor (marks_in it.sessions) at.unit r now.values
+    → PageHasRoomFor (peaks_in it.sessions) at.unit r now.values
 page_has_room n at r it mid now home page slot may kept there = go r.change refl may
   where
     go : (o : Change) → r.change ≡ o → MayTake it n o
-        → PageHasRoomFor (marks_in it.sessions) at.unit r now.values
+        → PageHasRoomFor (peaks_in it.sessions) at.unit r now.values
     go None is room = subst (λ (o : Change). IfSome o (λ bytes.
-        fill_at (marked_by (marks_in it.sessions) at.unit r) at.unit r.page now.values ≤ PAGE_LEN))
+        fill_at (peaked_by (peaks_in it.sessions) at.unit r) at.unit r.page now.values ≤ PAGE_LEN))
         (sym is) tt
     go (Some bytes) is (f, was, fits) =
         let here : frames_in it.pages at.unit r.page ≡ Some f =
@@ -133,21 +133,21 @@ page_has_room n at r it mid now home page slot may kept there = go r.change refl
         let one : Some g ≡ Some now = sym found ∙ there in
         let which : g ≡ now = cc one in
         let values : now.values ≡ f.values = ap (λ (h : PageFrame). h.values) (sym which) ∙ same in
-        same_values_have_room (marks_in it.sessions) at.unit r f.values now.values
+        same_values_have_room (peaks_in it.sessions) at.unit r f.values now.values
         (λ slot low. ap (λ (v : Values). v slot) values)
-        (subst (λ (h : Home). PageHasRoomFor (marks_in it.sessions) h.unit r f.values) (sym home)
-        (puts_that_pass_have_room (marks_in it.sessions) n bytes f.values r
+        (subst (λ (h : Home). PageHasRoomFor (peaks_in it.sessions) h.unit r f.values) (sym home)
+        (puts_that_pass_have_room (peaks_in it.sessions) n bytes f.values r
         (page ∙ ap (λ (h : Home). h.page) home) (slot ∙ ap (λ (h : Home). h.slot) home) is fits))
 
 -- A put was answered no: its page was made ready, and its frame has no room for it. The page has room
--- by the sessions' marks.
+-- by the sessions' peaks.
 pub record IsRefused (u : ℕ) (r : Record) (old : Transactions) (mid : Pages) (before after : Told)
     : Type 0 where
   pub now : PageFrame
   pub there : frames_in mid u r.page ≡ Some now
   pub keeps : KeepsState {T = Unit {0}} {E = ChipFault} (tables_in old.pages) (frames_in old.pages)
       before (Ok tt) (tables_in mid) (frames_in mid) after
-  pub room : PageHasRoomFor (marks_in old.sessions) u r now.values
+  pub room : PageHasRoomFor (peaks_in old.sessions) u r now.values
   pub some : r.change ≢ None
   pub full : ¬ PutHasRoom now r
 
@@ -159,15 +159,15 @@ module _ (u : ℕ) (r : Record) (old : Transactions) (mid : Pages) (before after
   fits_none x told layout state fits =
       let (y, held, had) = (is.keeps old.sessions).fits before.places refl tt x told in
       let on = had layout state fits in
-      by_change r.change refl (λ slot low. frames_keep_marks before.places (chart_of y) on.layout
+      by_change r.change refl (λ slot low. frames_keep_peaks before.places (chart_of y) on.layout
       (tables_in mid) (frames_in mid) old.sessions state u r.page slot is.now on.fits is.there low)
     where
       by_change : (o : Change) → r.change ≡ o
           → ((slot : ℕ) → slot < SLOTS
-          → mark_of (is.now.pending slot) ≤ marks_in old.sessions (name_at u r.page slot)) → ⊥
+          → peak_of (is.now.pending slot) ≤ peaks_in old.sessions (name_at u r.page slot)) → ⊥
       by_change None none less = is.some none
       by_change (Some bytes) some less =
-          is.full (puts_by_marks_have_room (marks_in old.sessions) u r is.now bytes less some
+          is.full (puts_by_peaks_have_room (peaks_in old.sessions) u r is.now bytes less some
           is.room)
 
   pub refused_completes : (e : ChipFault) → CompletesFor {T = Unit {0}} old (Err e) before
@@ -193,7 +193,7 @@ pub was_put : (s n u : ℕ) (r : Record) (old new : Transactions) (told : Told)
     → new.sessions ≡ after_write old.sessions s n (size_in_page r.change) → LocksHold new.sessions
     → new.pages.parts ≡ old.pages.parts
     → (did : FrameChanges (IsWrittenFrame r) (frames_in old.pages) (frames_in new.pages) u r.page)
-    → PageHasRoomFor (marks_in old.sessions) u r did.was.values
+    → PageHasRoomFor (peaks_in old.sessions) u r did.was.values
     → KeepsPins old.pages.pool new.pages.pool
     → Turns {T = Unit {0}} (λ state. rules.after_write state s (n, r.change)) 0 old told (Ok tt)
     new told
@@ -242,7 +242,7 @@ pub was_written : (s n u : ℕ) (r : Record) (old new : Transactions) (mid : Pag
     → new.sessions ≡ after_write old.sessions s n (size_in_page r.change) → LocksHold new.sessions
     → new.pages.parts ≡ mid.parts
     → (put : FrameChanges (IsWrittenFrame r) (frames_in mid) (frames_in new.pages) u r.page)
-    → PageHasRoomFor (marks_in old.sessions) u r put.was.values
+    → PageHasRoomFor (peaks_in old.sessions) u r put.was.values
     → KeepsPins mid.pool new.pages.pool
     → Turns {T = Unit {0}} (λ state. rules.after_write state s (n, r.change)) 14 old before (Ok tt)
     new after

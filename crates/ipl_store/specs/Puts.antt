@@ -8,10 +8,10 @@ use Rattle.ipl_base.specs.declared.fault.Refusal.TheVariants.{BadSession, BadNam
 use Rattle.ipl_base.specs.declared.fault.StoreFault.{StoreFault}
 use Rattle.ipl_base.specs.declared.fault.StoreFault.TheVariants.{Down, Spent, Refused, Chip}
 use Rattle.ipl_base.specs.Places.{home_of}
-use Rattle.ipl_model.specs.Marks.{overfills}
+use Rattle.ipl_model.specs.Peaks.{overfills}
 use Rattle.ipl_model.specs.Operations.{after_write}
 use Rattle.ipl_model.specs.State.{State}
-use Rattle.record_locks.specs.Held.{marks_in}
+use Rattle.record_locks.specs.Held.{peaks_in}
 use Rattle.ipl_meaning.specs.Legible.{Legibility, IsToldApart}
 use Rattle.ipl_meaning.specs.Tables.{Tables}
 use Rattle.unit_io.specs.Reads.{OfContents}
@@ -102,7 +102,7 @@ pub record FindsFull (n : ℕ) (bytes : List ℕ) (old : Store) (before : Told) 
   pub frame : PageFrame
   pub brings : BringsPageOf n old before (tables_in new.transactions.pages)
       (frames_in new.transactions.pages) frame after
-  pub full : overfills_at (marks_in old.transactions.sessions) n bytes frame.values ≡ true
+  pub full : overfills_at (peaks_in old.transactions.sessions) n bytes frame.values ≡ true
   pub sessions : new.transactions.sessions ≡ old.transactions.sessions
 
 -- it had room, and the write was done
@@ -113,7 +113,7 @@ pub record WritesInRoom (s n : ℕ) (bytes : List ℕ) (old : Store) (before : T
   pub frame : PageFrame
   pub mid : Told
   pub brings : BringsPageOf n old before tables frames frame mid
-  pub room : overfills_at (marks_in old.transactions.sessions) n bytes frame.values ≡ false
+  pub room : overfills_at (peaks_in old.transactions.sessions) n bytes frame.values ≡ false
   pub leads : LeadsTo {T = Unit {0}} {E = ChipFault} (λ state. after_write state s (n, Some bytes))
       (memory_of tables frames old.transactions.sessions) mid (Ok tt) (memory_of_store new) after
 

@@ -6,7 +6,7 @@ use Rattle.ipl_base.specs.declared.fault.ChipFault.{ChipFault}
 use Rattle.ipl_base.specs.Places.{home_of}
 use Rattle.ipl_format.specs.Record.{Change}
 use Rattle.ipl_model.specs.State.{State}
-use Rattle.record_locks.specs.Held.{marks_in, numbers_in, written_by}
+use Rattle.record_locks.specs.Held.{peaks_in, numbers_in, written_by}
 use Rattle.ipl_meaning.specs.Legible.{whole}
 use Rattle.ipl_meaning.specs.Chart.{chart_of}
 use Rattle.ipl_meaning.specs.Layout.{Layout}
@@ -48,7 +48,7 @@ pub record MayAddNumbers (it : Transactions) (ss : List ℕ) : Type 0 where
 abbrev pub MayTake : Transactions → ℕ → Change → Type 0
 MayTake it n change = IfSome change (λ bytes. (f : PageFrame)
     × (frames_in it.pages (home_of n).unit (home_of n).page ≡ Some f)
-    × (overfills_at (marks_in it.sessions) n bytes f.values ≡ false))
+    × (overfills_at (peaks_in it.sessions) n bytes f.values ≡ false))
 
 -- Where the chip tells what it holds, and that with the memory stands for a state, the call fails
 -- only where a call of the chip failed. It is `Completes` with the memory's own sessions: a put has

@@ -31,7 +31,7 @@ use Rattle.unit_io.proofs.FaultLemmas.{undamaged}
 use Rattle.number_set.specs.Numbers.{among}
 use Rattle.selective_merge.specs.Faults.{page_fault_from}
 use Rattle.selective_merge.specs.Merged.{source_in}
-use Rattle.page_ops.specs.Pending.{Pendings, fill_by, mark_of}
+use Rattle.page_ops.specs.Pending.{Pendings, fill_by, peak_of}
 use Rattle.page_ops.specs.Rebuilt.{full_fault}
 use Rattle.page_ops.proofs.FillLemmas.{room_in_fill}
 use Rattle.page_rebuild.specs.Taken.{last_changes}
@@ -173,8 +173,8 @@ full_with place values pending e found =
     by_test (nat_lt PAGE_LEN (size_of_values values)) refl found
   where
     fewer : size_of_values values ≤ fill_by values pending
-    fewer = room_in_fill (λ slot. mark_of (pending slot)) values values (λ slot low.
-        le-max_left (size_in_page (values slot)) (mark_of (pending slot) - 1))
+    fewer = room_in_fill (λ slot. peak_of (pending slot)) values values (λ slot low.
+        le-max_left (size_in_page (values slot)) (peak_of (pending slot) - 1))
 
     by_test : (a : Bool) → nat_lt PAGE_LEN (size_of_values values) ≡ a
         → (if a then Some (Malformed place 0) else None) ≡ Some e

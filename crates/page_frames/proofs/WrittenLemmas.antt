@@ -4,8 +4,8 @@ use Rattle.std.specs.Prelude.{slice_index, if◌then◌else◌}
 use Rattle.std.proofs.lemmas.Bool.{cases_Bool, cases_eq, cases_lt}
 use Rattle.std.proofs.lemmas.List.{get_or_past, get_or-replicate}
 use Rattle.ipl_base.specs.declared.limits.TheConstants.{SESSIONS, SLOTS}
-use Rattle.record_locks.specs.Held.{Held, SessionSlots, held_at, written_of, is_among, slot_marks, marks_in}
-use Rattle.record_locks.proofs.MarkLemmas.{absent_slot, all_at_most}
+use Rattle.record_locks.specs.Held.{Held, SessionSlots, held_at, written_of, is_among, slot_peaks, peaks_in}
+use Rattle.record_locks.proofs.PeakLemmas.{absent_slot, all_at_most}
 
 -- ---- the names of one session
 
@@ -54,23 +54,23 @@ writers_more slots first s now new within so noted = record {
         ap (λ (j : ℕ). is_among (first + k) (written_of slots j)) new_is
         ∙ so.wrote k low (omega (arith, new_is, known))
 
--- ---- marks
+-- ---- peaks
 
--- a name that no session wrote has no mark
+-- a name that no session wrote has no peak
 unwritten : (slots : SessionSlots) (n : ℕ) → length slots ≡ SESSIONS
-    → ((s : ℕ) → s < SESSIONS → is_among n (written_of slots s) ≡ false) → marks_in slots n ≡ 0
+    → ((s : ℕ) → s < SESSIONS → is_among n (written_of slots s) ≡ false) → peaks_in slots n ≡ 0
 unwritten slots n all none = omega (arith, all_at_most slots n 0 each)
   where
-    each : (s : ℕ) → slot_marks (held_at slots s) n ≤ 0
+    each : (s : ℕ) → slot_peaks (held_at slots s) n ≤ 0
     each s = elim (cases_lt s SESSIONS) [
       | inl low ↦ omega (arith, absent_slot (held_at slots s) n (none s low))
       | inr past ↦
           let empty : held_at slots s ≡ None = get_or_past slots s None (omega (arith, all, past)) in
-          omega (arith, ap (λ (o : Option Held). slot_marks o n) empty)
+          omega (arith, ap (λ (o : Option Held). slot_peaks o n) empty)
     ]
 
 pub writers_done : (slots : SessionSlots) (first s : ℕ) (now : List ℕ) → length slots ≡ SESSIONS → SESSIONS ≤ s
     → AreWriters slots first s now
-    → (k : ℕ) → k < SLOTS → SESSIONS ≤ slice_index now k → marks_in slots (first + k) ≡ 0
+    → (k : ℕ) → k < SLOTS → SESSIONS ≤ slice_index now k → peaks_in slots (first + k) ≡ 0
 writers_done slots first s now all past so k low none =
     unwritten slots (first + k) all (λ t before. so.none k low none t (omega (arith, before, past)))

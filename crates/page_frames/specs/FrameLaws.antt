@@ -1,11 +1,11 @@
 -- What the calls of a pool make of its frames.
 use Rattle.std.specs.Prelude.{ℕ, ◌≡◌, ◌≤◌, ◌<◌, List, [], Some, None}
 use Rattle.ipl_base.specs.declared.limits.TheConstants.{SLOTS}
-use Rattle.ipl_model.specs.Marks.{Marks}
+use Rattle.ipl_model.specs.Peaks.{Peaks}
 use Rattle.ipl_format.specs.Record.{Record}
 use Rattle.slab.specs.Slab.{get, Updates}
 use Rattle.page_ops.specs.Frames.{empty_frame}
-use Rattle.page_ops.specs.Pending.{mark_of}
+use Rattle.page_ops.specs.Pending.{peak_of}
 use Rattle.buffer_pool.specs.declared.pool.Buffer.{Buffer}
 use Rattle.buffer_pool.specs.Pools.{PoolView, HasPage, IsAbsent, AreOnce, Changes, new_buffer, with_buffers}
 use Rattle.buffer_pool.specs.Lending.{changed_at}
@@ -50,9 +50,9 @@ LoansChangeAFrame = (p : PoolView) (unit page key : ℕ) (change : Buffer → Bu
     → frames_of (with_buffers p (changed_at p.buffers key change))
     ≡ with_frame_at (frames_of p) unit page (Some (frame_in (change has.buffer)))
 
--- where what is pending in a frame takes no more than these marks, a put for which its page has room
+-- where what is pending in a frame takes no more than these peaks, a put for which its page has room
 -- by them has room there
-abbrev pub PutsByMarksHaveRoom : Type 0
-PutsByMarksHaveRoom = (marks : Marks) (u : ℕ) (r : Record) (f : PageFrame) (bytes : List ℕ)
-    → ((slot : ℕ) → slot < SLOTS → mark_of (f.pending slot) ≤ marks (name_at u r.page slot))
-    → r.change ≡ Some bytes → PageHasRoomFor marks u r f.values → PutHasRoom f r
+abbrev pub PutsByPeaksHaveRoom : Type 0
+PutsByPeaksHaveRoom = (peaks : Peaks) (u : ℕ) (r : Record) (f : PageFrame) (bytes : List ℕ)
+    → ((slot : ℕ) → slot < SLOTS → peak_of (f.pending slot) ≤ peaks (name_at u r.page slot))
+    → r.change ≡ Some bytes → PageHasRoomFor peaks u r f.values → PutHasRoom f r

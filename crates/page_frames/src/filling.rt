@@ -3,9 +3,9 @@ ghost use Rattle.std.specs.Prelude.{◌≡◌, ◌≤◌, ◌<◌, ◌+◌, ◌-
 ghost use Rattle.ipl_base.specs.declared.limits.TheConstants.{SESSIONS, VALUE_LEN};
 ghost use Rattle.ipl_base.specs.Places.{home_of};
 ghost use Rattle.ipl_base.specs.Sizes.{size_in_page};
-ghost use Rattle.ipl_model.specs.Marks.{with_mark};
+ghost use Rattle.ipl_model.specs.Peaks.{with_peak};
 ghost use Rattle.ipl_format.specs.Page.{value_in};
-ghost use Rattle.record_locks.specs.Held.{is_among, marks_in, written_of};
+ghost use Rattle.record_locks.specs.Held.{is_among, peaks_in, written_of};
 ghost use Rattle.page_ops.specs.Frames.{values_in};
 ghost use Rattle.store_laws.specs.Frames.{PageFrame};
 ghost use Rattle.store_laws.specs.Room.{fill_at, overfills_at};
@@ -28,7 +28,7 @@ pub fn overfills(pool: &Pool, sessions: &Sessions, name: Name, value: &[u8]) -> 
     requires short { length value.now ≤ VALUE_LEN }
     ensures exact { (f : PageFrame)
         → frames_of pool.now (home_of name.0).unit (home_of name.0).page ≡ Some f
-        → result ≡ overfills_at (marks_in sessions.now) name.0 value.now f.values }
+        → result ≡ overfills_at (peaks_in sessions.now) name.0 value.now f.values }
     ensures none { frames_of pool.now (home_of name.0).unit (home_of name.0).page ≡ None
         → result ≡ false }
 {
@@ -44,7 +44,7 @@ pub fn overfills(pool: &Pool, sessions: &Sessions, name: Name, value: &[u8]) -> 
 /// written what it may come to take more: the values of the others aren't looked at.
 fn fill_with(frame: &Frame, sessions: &Sessions, name: Name, size: usize) -> usize
     requires { size ≤ HEAD + VALUE_LEN }
-    ensures { result ≡ fill_at (with_mark (marks_in sessions.now) name.0 (1 + size))
+    ensures { result ≡ fill_at (with_peak (peaks_in sessions.now) name.0 (1 + size))
         (home_of name.0).unit (home_of name.0).page (values_in frame.now) }
 {
     let first = name.0 - name.0 % SLOTS;
@@ -78,9 +78,9 @@ fn slot_size(page: &PageMap, slot: u32) -> usize
 /// session alone is asked for the size.
 fn written_size(sessions: &Sessions, name: Name, writer: u8, other: Name, size: usize) -> usize
     requires few { size ≤ HEAD + VALUE_LEN }
-    requires none { SESSIONS ≤ writer → marks_in sessions.now name.0 ≡ 0 }
+    requires none { SESSIONS ≤ writer → peaks_in sessions.now name.0 ≡ 0 }
     requires wrote { writer < SESSIONS → is_among name.0 (written_of sessions.now writer) ≡ true }
-    ensures size { result ≡ with_mark (marks_in sessions.now) other.0 (1 + size) name.0 - 1 }
+    ensures size { result ≡ with_peak (peaks_in sessions.now) other.0 (1 + size) name.0 - 1 }
     ensures few { result < 2 ^ 32 }
 {
     let s = u32::from(writer);

@@ -4,7 +4,7 @@ ghost use Rattle.page_frames.specs.FrameLaws.{
   EvictionsTakeAFrame,
   PinsKeepFrames,
   LoansChangeAFrame,
-  PutsByMarksHaveRoom,
+  PutsByPeaksHaveRoom,
 };
 
 /// What the calls of a pool make of its frames: a page brought in has an empty one, a page evicted has
@@ -16,8 +16,8 @@ pub fn buffer_laws()
     ensures loans { LoansChangeAFrame }
 {}
 
-/// What the marks of open sessions tell of a frame: where what is pending there takes no more than these,
+/// What the peaks of open sessions tell of a frame: where what is pending there takes no more than these,
 /// a put for which the page has room by them has room in the frame.
 pub fn room_laws()
-    ensures { PutsByMarksHaveRoom }
+    ensures { PutsByPeaksHaveRoom }
 {}

@@ -45,7 +45,7 @@
 //!
 //! Proved, by its calls, `buffer_laws`, `room_laws`: a put changes the frame of its page by its record
 //! and no other, exactly where the page has room for all that may become values then; whether a put
-//! might come to take more than its page has, by the frame's values and the sessions' marks; the end of
+//! might come to take more than its page has, by the frame's values and the sessions' peaks; the end of
 //! a session makes its changes values, or drops them and its records, in the frames of the names'
 //! pages; a slot's value is that of the frame; all pins and holds are kept, and no use of a page is
 //! counted.

@@ -1,7 +1,7 @@
 //! Which session wrote which name of a page.
 ghost use Rattle.std.specs.Prelude.{◌≡◌, ◌≤◌, ◌<◌, ◌+◌, ℕ, true, map, slice_index, if◌then◌else◌};
 ghost use Rattle.ipl_base.specs.declared.limits.TheConstants.{SESSIONS, SLOTS};
-ghost use Rattle.record_locks.specs.Held.{is_among, marks_in, written_of};
+ghost use Rattle.record_locks.specs.Held.{is_among, peaks_in, written_of};
 
 use ipl_base::{Name, SESSIONS, SLOTS};
 use record_locks::Sessions;
@@ -10,7 +10,7 @@ use record_locks::Sessions;
 /// did. It goes once over the names that sessions wrote, and not once for each of the 64.
 pub(crate) fn written_slots(sessions: &Sessions, first: u32) -> [u8; 64]
     ensures none { (k : ℕ) → k < SLOTS → SESSIONS ≤ slice_index result k
-        → marks_in sessions.now (first + k) ≡ 0 }
+        → peaks_in sessions.now (first + k) ≡ 0 }
     ensures wrote { (k : ℕ) → k < SLOTS → slice_index result k < SESSIONS
         → is_among (first + k) (written_of sessions.now (slice_index result k)) ≡ true }
 {

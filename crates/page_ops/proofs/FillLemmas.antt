@@ -7,7 +7,7 @@ use Rattle.std.proofs.lemmas.Bool.{false≢true, eq-eqb, ne_eqb}
 use Rattle.std.proofs.lemmas.List.Sums.{sum_by-cons}
 use Rattle.ipl_base.specs.declared.limits.TheConstants.{PAGE_LEN, SLOTS, VERSION}
 use Rattle.ipl_base.specs.Sizes.{size_in_page, size_of_values}
-use Rattle.ipl_model.specs.Marks.{Marks, fill_of}
+use Rattle.ipl_model.specs.Peaks.{Peaks, fill_of}
 use Rattle.ipl_model.proofs.SumLemmas.{sums_less, sums_same, sums_joined, sums_at}
 use Rattle.ipl_format.specs.Page.{Slots, SpellsPage, value_in}
 use Rattle.ipl_meaning.specs.Values.{Values}
@@ -16,8 +16,8 @@ use Rattle.ipl_meaning.proofs.SizeLemmas.{texts_have_sizes}
 -- ---- sums
 
 -- what a slot may come to take
-abbrev pub room_of : Values → Marks → ℕ → ℕ
-room_of values marks slot = max (size_in_page (values slot)) (marks slot - 1)
+abbrev pub room_of : Values → Peaks → ℕ → ℕ
+room_of values peaks slot = max (size_in_page (values slot)) (peaks slot - 1)
 
 -- one slot more
 pub one_more : (g : ℕ → ℕ) (k : ℕ)
@@ -51,51 +51,51 @@ one_more g k =
         added x y p u v q r left right rest same = omega (arith, left, right, rest, same)
 
 -- so far the sum of the first k slots
-pub record IsFillSoFar (values : Values) (marks : Marks) (k fill : ℕ) : Type 0 where
-  pub sum : fill ≡ sum_by (room_of values marks) (range_with_len 0 k)
+pub record IsFillSoFar (values : Values) (peaks : Peaks) (k fill : ℕ) : Type 0 where
+  pub sum : fill ≡ sum_by (room_of values peaks) (range_with_len 0 k)
   pub few : fill ≤ 467 * k
 
-pub fill_first : (values : Values) (marks : Marks) → IsFillSoFar values marks 0 0
-fill_first values marks = record { sum = refl; few = omega arith }
+pub fill_first : (values : Values) (peaks : Peaks) → IsFillSoFar values peaks 0 0
+fill_first values peaks = record { sum = refl; few = omega arith }
 
-pub fill_more : (values : Values) (marks : Marks) (k fill size coming greater : ℕ)
-    → IsFillSoFar values marks k fill → size ≡ size_in_page (values k) → size ≤ 467
-    → 1 + coming ≡ marks k → coming ≤ 467 → greater ≡ max size coming
-    → IsFillSoFar values marks (k + 1) (fill + greater)
-fill_more values marks k fill size coming greater so here small mark few is_max = record {
+pub fill_more : (values : Values) (peaks : Peaks) (k fill size coming greater : ℕ)
+    → IsFillSoFar values peaks k fill → size ≡ size_in_page (values k) → size ≤ 467
+    → 1 + coming ≡ peaks k → coming ≤ 467 → greater ≡ max size coming
+    → IsFillSoFar values peaks (k + 1) (fill + greater)
+fill_more values peaks k fill size coming greater so here small peak few is_max = record {
   sum = sums;
   few = let most : max size coming ≤ 467 = max-le small few in omega (arith, so.few, most, is_max);
 }
   where
-    same : room_of values marks k ≡ max size coming
-    same = let is : marks k - 1 ≡ coming = omega (arith, mark) in
-        ap (λ (n : ℕ). max n (marks k - 1)) (sym here) ∙ ap (λ (n : ℕ). max size n) is
+    same : room_of values peaks k ≡ max size coming
+    same = let is : peaks k - 1 ≡ coming = omega (arith, peak) in
+        ap (λ (n : ℕ). max n (peaks k - 1)) (sym here) ∙ ap (λ (n : ℕ). max size n) is
 
-    sums : fill + greater ≡ sum_by (room_of values marks) (range_with_len 0 (k + 1))
-    sums = omega (arith, so.sum, one_more (room_of values marks) k, same, is_max)
+    sums : fill + greater ≡ sum_by (room_of values peaks) (range_with_len 0 (k + 1))
+    sums = omega (arith, so.sum, one_more (room_of values peaks) k, same, is_max)
 
-pub fill_done : (values : Values) (marks : Marks) (k fill : ℕ) → k ≡ SLOTS
-    → IsFillSoFar values marks k fill → fill ≡ fill_of values marks
+pub fill_done : (values : Values) (peaks : Peaks) (k fill : ℕ) → k ≡ SLOTS
+    → IsFillSoFar values peaks k fill → fill ≡ fill_of values peaks
 unfolding fill_of
-fill_done values marks k fill all so =
-    so.sum ∙ ap (λ (n : ℕ). sum_by (room_of values marks) (range_with_len 0 n)) all
+fill_done values peaks k fill all so =
+    so.sum ∙ ap (λ (n : ℕ). sum_by (room_of values peaks) (range_with_len 0 n)) all
 
 -- the sum is small
-pub fill_few : (values : Values) (marks : Marks) (k fill size coming : ℕ)
-    → IsFillSoFar values marks k fill → k < SLOTS → size ≤ 467 → coming ≤ 467
+pub fill_few : (values : Values) (peaks : Peaks) (k fill size coming : ℕ)
+    → IsFillSoFar values peaks k fill → k < SLOTS → size ≤ 467 → coming ≤ 467
     → fill + max size coming ≤ 467 * SLOTS
-fill_few values marks k fill size coming so low small few =
+fill_few values peaks k fill size coming so low small few =
     let most : max size coming ≤ 467 = max-le small few in omega (arith, so.few, most, low)
 
 -- where no slot takes more, no page does
-pub fills_less : (few more : Marks) (v w : Values)
+pub fills_less : (few more : Peaks) (v w : Values)
     → ((slot : ℕ) → slot < SLOTS → room_of v few slot ≤ room_of w more slot)
     → fill_of v few ≤ fill_of w more
 unfolding fill_of
 fills_less few more v w less =
     sums_less (room_of v few) (room_of w more) 0 SLOTS (λ slot low. less slot (omega (arith, low)))
 
-pub fills_same : (few more : Marks) (v w : Values)
+pub fills_same : (few more : Peaks) (v w : Values)
     → ((slot : ℕ) → slot < SLOTS → room_of v few slot ≡ room_of w more slot)
     → fill_of v few ≡ fill_of w more
 unfolding fill_of
@@ -103,7 +103,7 @@ fills_same few more v w same =
     sums_same (room_of v few) (room_of w more) 0 SLOTS (λ slot low. same slot (omega (arith, low)))
 
 -- values that take no more than a page may come to take have room where that has
-pub room_in_fill : (ms : Marks) (v w : Values)
+pub room_in_fill : (ms : Peaks) (v w : Values)
     → ((slot : ℕ) → slot < SLOTS → size_in_page (v slot) ≤ room_of w ms slot)
     → size_of_values v ≤ fill_of w ms
 unfolding fill_of size_of_values
@@ -111,11 +111,11 @@ room_in_fill ms v w less =
     sums_less (λ slot. size_in_page (v slot)) (room_of w ms) 0 SLOTS
     (λ slot low. less slot (omega (arith, low)))
 
--- with no marks a page takes what its values do
-pub unmarked_fill : (ms : Marks) (v : Values) → ((slot : ℕ) → slot < SLOTS → ms slot ≡ 0)
+-- with no peaks a page takes what its values do
+pub unpeaked_fill : (ms : Peaks) (v : Values) → ((slot : ℕ) → slot < SLOTS → ms slot ≡ 0)
     → fill_of v ms ≤ size_of_values v
 unfolding fill_of size_of_values
-unmarked_fill ms v none =
+unpeaked_fill ms v none =
     sums_less (room_of v ms) (λ slot. size_in_page (v slot)) 0 SLOTS (λ slot low.
     max-le (omega arith) (zero_less (none slot (omega (arith, low)))))
   where

@@ -6,15 +6,15 @@ use Rattle.std.proofs.lemmas.Bool.{cases_eq, eq-eqb, ne_eqb}
 use Rattle.std.proofs.lemmas.List.{get_or-set_other}
 use Rattle.ipl_base.specs.declared.limits.TheConstants.{PAGE_LEN, SLOTS, VERSION}
 use Rattle.ipl_base.specs.Sizes.{size_in_page, size_of_values}
-use Rattle.ipl_model.specs.Marks.{fill_of}
-use Rattle.ipl_model.proofs.RuleMarkLemmas.{le_trans}
+use Rattle.ipl_model.specs.Peaks.{fill_of}
+use Rattle.ipl_model.proofs.RulePeakLemmas.{le_trans}
 use Rattle.ipl_format.specs.Page.{Slots, IsPage, empty_page, value_in}
 use Rattle.ipl_meaning.specs.Values.{Values}
 use Rattle.ipl_meaning.proofs.SizeLemmas.{texts_have_sizes}
-use Rattle.page_ops.specs.Pending.{Pending, Pendings, mark_of, fill_by, with_pending}
+use Rattle.page_ops.specs.Pending.{Pending, Pendings, peak_of, fill_by, with_pending}
 use Rattle.page_ops.specs.Frames.{FrameView, AreOfPending, IsFrame, HasNonePending, IsRoomy, empty_frame, values_in, pending_in, pending_of, pendings_of}
 use Rattle.page_ops.proofs.SlotLemmas.{pending_slot, none_pending, none_tidy, none_in_all, changed_here, changed_others, own_changed, noted}
-use Rattle.page_ops.proofs.FillLemmas.{fills_less, fills_same, room_in_fill, unmarked_fill}
+use Rattle.page_ops.proofs.FillLemmas.{fills_less, fills_same, room_in_fill, unpeaked_fill}
 
 -- a slot that is set takes no more than its value
 set_most : (xs : Slots) (i : ℕ) (v : Option (List ℕ))
@@ -29,8 +29,8 @@ set_most (x ∷ xs) (suc i) v = set_most xs i v
 pub idle_roomy : (f : FrameView) → HasNonePending f → IsRoomy f
 idle_roomy f idle is =
     let fits = is.fits in
-    let less = unmarked_fill (λ slot. mark_of (pending_in f slot)) (values_in f)
-    (λ slot low. ap mark_of (idle slot low)) in
+    let less = unpeaked_fill (λ slot. peak_of (pending_in f slot)) (values_in f)
+    (λ slot low. ap peak_of (idle slot low)) in
     omega (arith, fits, less, texts_have_sizes f.page is.slots)
 
 -- of an empty frame nothing is
@@ -49,31 +49,31 @@ fresh page numbers values empty none = record {
 
 -- where no slot takes more, no page does
 pub fills_by_less : (v w : Values) (few more : Pendings)
-    → ((slot : ℕ) → slot < SLOTS → max (size_in_page (v slot)) (mark_of (few slot) - 1)
-    ≤ max (size_in_page (w slot)) (mark_of (more slot) - 1))
+    → ((slot : ℕ) → slot < SLOTS → max (size_in_page (v slot)) (peak_of (few slot) - 1)
+    ≤ max (size_in_page (w slot)) (peak_of (more slot) - 1))
     → fill_by v few ≤ fill_by w more
 fills_by_less v w few more less =
-    fills_less (λ k. mark_of (few k)) (λ k. mark_of (more k)) v w less
+    fills_less (λ k. peak_of (few k)) (λ k. peak_of (more k)) v w less
 
 -- what a slot of a frame may come to take
 both_same : {a b : Option (List ℕ)} {p q : Option Pending} → a ≡ b → p ≡ q
-    → max (size_in_page a) (mark_of p - 1) ≤ max (size_in_page b) (mark_of q - 1)
+    → max (size_in_page a) (peak_of p - 1) ≤ max (size_in_page b) (peak_of q - 1)
 both_same {a} {b} {p} {q} value change =
-    let same : max (size_in_page a) (mark_of p - 1) ≡ max (size_in_page b) (mark_of q - 1) =
-    ap (λ (o : Option (List ℕ)). max (size_in_page o) (mark_of p - 1)) value
-    ∙ ap (λ (o : Option Pending). max (size_in_page b) (mark_of o - 1)) change in
+    let same : max (size_in_page a) (peak_of p - 1) ≡ max (size_in_page b) (peak_of q - 1) =
+    ap (λ (o : Option (List ℕ)). max (size_in_page o) (peak_of p - 1)) value
+    ∙ ap (λ (o : Option Pending). max (size_in_page b) (peak_of o - 1)) change in
     omega (arith, same)
 
 -- the pending change of a slot takes what the value does that stands for it
 module _ {numbers : List (Option ℕ)} {values : Slots} (own : AreOfPending numbers values) where
-  pub mark_size : (k : ℕ) → mark_of (get_or (pendings_of numbers values) k None) - 1
+  pub peak_size : (k : ℕ) → peak_of (get_or (pendings_of numbers values) k None) - 1
       ≡ size_in_page (get_or values k None)
-  mark_size k =
-      ap (λ (p : Option Pending). mark_of p - 1) (pending_slot numbers values k)
+  peak_size k =
+      ap (λ (p : Option Pending). peak_of p - 1) (pending_slot numbers values k)
       ∙ by_number (get_or numbers k None) refl
     where
       by_number : (n : Option ℕ) → get_or numbers k None ≡ n
-          → mark_of (pending_of n (get_or values k None)) - 1 ≡ size_in_page (get_or values k None)
+          → peak_of (pending_of n (get_or values k None)) - 1 ≡ size_in_page (get_or values k None)
       by_number None is = sym (ap size_in_page (own.tidy k is))
       by_number (Some tid) is = omega arith
 
@@ -114,10 +114,10 @@ module _ (page : Slots) (numbers later : List (Option ℕ)) (values now : Slots)
         omega (arith, room, less);
   }
     where
-      fewer : (k : ℕ) → is k ≡ None → max (size_in_page (value_in page k)) (mark_of (is k) - 1)
-          ≤ max (size_in_page (value_in page k)) (mark_of (was k) - 1)
+      fewer : (k : ℕ) → is k ≡ None → max (size_in_page (value_in page k)) (peak_of (is k) - 1)
+          ≤ max (size_in_page (value_in page k)) (peak_of (was k) - 1)
       fewer k none =
-          let gone : mark_of (is k) - 1 ≡ 0 = ap (λ (p : Option Pending). mark_of p - 1) none in
+          let gone : peak_of (is k) - 1 ≡ 0 = ap (λ (p : Option Pending). peak_of p - 1) none in
           max-le (le-max_left _ _) (omega (arith, gone))
 
 -- the pending change of a slot becomes its value
@@ -128,7 +128,7 @@ module _ (page next : Slots) (numbers : List (Option ℕ)) (values : Slots) (slo
   before k = get_or (pendings_of numbers values) k None
 
   grown : (k : ℕ) → size_in_page (value_in next k)
-      ≤ max (size_in_page (value_in page k)) (mark_of (before k) - 1)
+      ≤ max (size_in_page (value_in page k)) (peak_of (before k) - 1)
   grown k = elim (cases_eq k slot) [
     | inl same ↦
         let at : size_in_page (value_in next k)
@@ -136,23 +136,23 @@ module _ (page next : Slots) (numbers : List (Option ℕ)) (values : Slots) (slo
         ap (λ (i : ℕ). size_in_page (value_in next i)) same
         ∙ ap (λ (p : Slots). size_in_page (value_in p slot)) next_is in
         let most = set_most page slot (get_or values slot None) in
-        let mark : mark_of (before k) - 1 ≡ size_in_page (get_or values slot None) =
-        mark_size frame.own k ∙ ap (λ (i : ℕ). size_in_page (get_or values i None)) same in
-        le_trans (omega (arith, at, most, mark))
-        (le-max_right (size_in_page (value_in page k)) (mark_of (before k) - 1))
+        let peak : peak_of (before k) - 1 ≡ size_in_page (get_or values slot None) =
+        peak_size frame.own k ∙ ap (λ (i : ℕ). size_in_page (get_or values i None)) same in
+        le_trans (omega (arith, at, most, peak))
+        (le-max_right (size_in_page (value_in page k)) (peak_of (before k) - 1))
     | inr other ↦
         let at : size_in_page (value_in next k) ≡ size_in_page (value_in page k) =
         ap (λ (p : Slots). size_in_page (value_in p k)) next_is
         ∙ ap size_in_page (get_or-set_other page slot k (get_or values slot None) None other) in
         le_trans (omega (arith, at))
-        (le-max_left (size_in_page (value_in page k)) (mark_of (before k) - 1))
+        (le-max_left (size_in_page (value_in page k)) (peak_of (before k) - 1))
   ]
 
   -- the page has room for it
   pub room_to_apply : IsPage VERSION page → size_of_values (value_in next) ≤ PAGE_LEN
   room_to_apply known =
       let room = frame.room known in
-      let less = room_in_fill (λ k. mark_of (before k)) (value_in next) (value_in page)
+      let less = room_in_fill (λ k. peak_of (before k)) (value_in next) (value_in page)
       (λ k few. grown k) in
       omega (arith, room, less)
 
@@ -163,7 +163,7 @@ module _ (page next : Slots) (numbers : List (Option ℕ)) (values : Slots) (slo
         let room = frame.room known in
         let less = fills_by_less (value_in next) (value_in page) before before
         (λ k few. max-le (grown k)
-        (le-max_right (size_in_page (value_in page k)) (mark_of (before k) - 1))) in
+        (le-max_right (size_in_page (value_in page k)) (peak_of (before k) - 1))) in
         omega (arith, room, less);
   }
 
@@ -182,16 +182,16 @@ fill_told page numbers values own f view slot size tid change size_is =
     (λ k. 1 + (if k == slot then size else size_in_page (value_in values k)))
     ≡ fill_by (values_in g) (with_pending (pending_in g) slot (tid, change))) view
     (fills_same (λ k. 1 + (if k == slot then size else size_in_page (value_in values k)))
-    (λ k. mark_of (with_pending was slot (tid, change) k)) (value_in page) (value_in page)
+    (λ k. peak_of (with_pending was slot (tid, change) k)) (value_in page) (value_in page)
     (λ k low. ap (λ (m : ℕ). max (size_in_page (value_in page k)) m) (by_test k (k == slot))))
   where
     was : Pendings
     was k = get_or (pendings_of numbers values) k None
 
     by_test : (k : ℕ) (b : Bool) → (1 + (if b then size else size_in_page (value_in values k))) - 1
-        ≡ mark_of (if b then Some (tid, change) else was k) - 1
+        ≡ peak_of (if b then Some (tid, change) else was k) - 1
     by_test k true = omega (arith, size_is)
-    by_test k false = let mark = mark_size own k in omega (arith, mark)
+    by_test k false = let peak = peak_size own k in omega (arith, peak)
 
 -- the values with the change have room in a page of their own
 pub values_fit : (page values : Slots) (slot size : ℕ) (change : Option (List ℕ))

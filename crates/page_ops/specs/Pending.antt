@@ -1,7 +1,7 @@
 -- Changes of a page's slots that are pending: their transactions aren't committed yet.
 use Rattle.std.specs.Prelude.{ℕ, ◌+◌, ◌==◌, List, Option, Some, None, if◌then◌else◌}
 use Rattle.ipl_base.specs.Sizes.{size_in_page}
-use Rattle.ipl_model.specs.Marks.{fill_of}
+use Rattle.ipl_model.specs.Peaks.{fill_of}
 use Rattle.ipl_format.specs.Record.{Change}
 use Rattle.ipl_meaning.specs.Values.{Values}
 
@@ -27,12 +27,12 @@ without_pending tid (Some p) = if p.0 == tid then None else Some p
 abbrev pub with_pending : Pendings → ℕ → Pending → Pendings
 with_pending pending slot p k = if k == slot then Some p else pending k
 
--- the mark of a pending change: one more than what it takes in a page, 0 for none
-abbrev pub mark_of : Option Pending → ℕ
-mark_of None = 0
-mark_of (Some p) = 1 + size_in_page p.1
+-- the peak of a pending change: one more than what it takes in a page, 0 for none
+abbrev pub peak_of : Option Pending → ℕ
+peak_of None = 0
+peak_of (Some p) = 1 + size_in_page p.1
 
 -- what a page of these values may come to take: each slot its value or its pending change, whichever
 -- takes more
 abbrev pub fill_by : Values → Pendings → ℕ
-fill_by values pending = fill_of values (λ slot. mark_of (pending slot))
+fill_by values pending = fill_of values (λ slot. peak_of (pending slot))

@@ -3,7 +3,7 @@ ghost use Rattle.std.specs.Prelude.{◌≡◌, ◌≤◌, ◌<◌, ◌+◌, ◌=
 ghost use Rattle.std.specs.Bool.{OnTrue};
 ghost use Rattle.ipl_base.specs.declared.limits.TheConstants.{PAGE_LEN, SLOTS, VALUE_LEN};
 ghost use Rattle.ipl_base.specs.Sizes.{size_in_page};
-ghost use Rattle.ipl_model.specs.Marks.{fill_of};
+ghost use Rattle.ipl_model.specs.Peaks.{fill_of};
 ghost use Rattle.ipl_format.specs.Page.{value_in};
 ghost use Rattle.log_records.specs.View.{change_of};
 ghost use Rattle.page_ops.specs.declared.filling.TheConstants.{HEAD};

@@ -7,16 +7,16 @@ use Rattle.std.proofs.lemmas.Bool.Decides.{nat_tests}
 use Rattle.std.proofs.lemmas.List.{get_or_read}
 use Rattle.ipl_model.specs.State as rules
 use Rattle.ipl_model.specs.Refusals as tests
-use Rattle.record_locks.specs.Held.{Held, SessionSlots, held_at, written_of, is_among, raised, slot_marks, marks_in, with_written, with_shared}
+use Rattle.record_locks.specs.Held.{Held, SessionSlots, held_at, written_of, is_among, raised, slot_peaks, peaks_in, with_written, with_shared}
 use Rattle.ipl_model.specs.Slots.{open_from}
 use Rattle.record_locks.specs.Standing.{state_of, slot_of, keeps_from}
 use Rattle.record_locks.specs.Locks.{AreSoundSlots, IsSized, total, written_in, pending_full, refuses_share, refuses_write, holder_of}
 use Rattle.ipl_model.proofs.RuleSlotLemmas.{entries-opened}
 use Rattle.record_locks.proofs.StandingLemmas.{new_write_at, new_share_at, shares_counted}
 use Rattle.record_locks.proofs.TotalLemmas.{names_counted, nobody_wrote, total_set}
-use Rattle.record_locks.proofs.MarkLemmas.{written_marks, written_sized, sized_at}
+use Rattle.record_locks.proofs.PeakLemmas.{written_peaks, written_sized, sized_at}
 use Rattle.record_locks.proofs.SoundLemmas.{sound_less, sound_more, once_more}
-use Rattle.ipl_model.specs.Marks.{with_mark, overloads}
+use Rattle.ipl_model.specs.Peaks.{with_peak, overloads}
 
 pub holder_at : (slots : SessionSlots) (s n : ℕ) (for_write : Bool)
     → option_map (λ e. e.0) (find (λ e. not (e.0 == s) && keeps_from for_write n e.1) (open_from 0 (map slot_of slots))) ≡ holder_of slots s n for_write
@@ -72,7 +72,7 @@ pub record MayWrite (slots : SessionSlots) (s n : ℕ) (h : Held) : Type 0 where
 record Passed (slots : SessionSlots) (s n size : ℕ) : Type 0 where
   nobody : rules.holder_for_write (state_of slots) s n ≡ None
   not_full : (tests.writes_full (state_of slots) s n).0 ≡ false
-  light : overloads (marks_in slots) n (1 + size) ≡ false
+  light : overloads (peaks_in slots) n (1 + size) ≡ false
 
 write_passes : (slots : SessionSlots) (s n size : ℕ) → refuses_write slots s n size ≡ None → Passed slots s n size
 write_passes slots s n size none =
@@ -114,7 +114,7 @@ pub sound_written : (slots : SessionSlots) (s n size : ℕ) (o : Option Held) �
 sound_written slots s n size None sound within none is = sound_less slots s None sound within (λ p. omega arith) refl (λ q. omega arith)
 sound_written slots s n size (Some h) sound within none is =
     sound_more slots s n (1 + size) (Some (with_written n size h)) sound within (once (is_among n h.written) refl) (written_sized n size h sized)
-    (λ q. written_marks n size h q sized ∙ ap (λ (o : Option Held). with_mark (slot_marks o) n (1 + size) q) (sym is)) (write_passes slots s n size none).light
+    (λ q. written_peaks n size h q sized ∙ ap (λ (o : Option Held). with_peak (slot_peaks o) n (1 + size) q) (sym is)) (write_passes slots s n size none).light
   where
     sized : IsSized (Some h)
     sized = subst IsSized is (sized_at slots s sound.sized)
@@ -135,7 +135,7 @@ sound_shared slots s n None sound within is = sound_less slots s None sound with
 sound_shared slots s n (Some h) sound within is =
     sound_less slots s (Some (with_shared n h)) sound within (λ p. omega (arith, ap (written_in p) is, same p (is_among n h.written) (is_among n h.shared)))
     (sized_still (is_among n h.written) (is_among n h.shared) (subst IsSized is (sized_at slots s sound.sized)))
-    (λ q. omega (arith, ap (λ (o : Option Held). slot_marks o q) is, marks_same q (is_among n h.written) (is_among n h.shared)))
+    (λ q. omega (arith, ap (λ (o : Option Held). slot_peaks o q) is, peaks_same q (is_among n h.written) (is_among n h.shared)))
   where
     same : (p : ℕ → Bool) (a b : Bool) → written_in p (Some (cond a h (cond b h (record h { shared = h.shared ++ n ∷ [] })))) ≡ count_by p h.written
     same p true b = refl
@@ -147,10 +147,10 @@ sound_shared slots s n (Some h) sound within is =
     sized_still false true is = is
     sized_still false false is = is
 
-    marks_same : (q : ℕ) (a b : Bool) → slot_marks (Some (cond a h (cond b h (record h { shared = h.shared ++ n ∷ [] })))) q ≡ slot_marks (Some h) q
-    marks_same q true b = refl
-    marks_same q false true = refl
-    marks_same q false false = refl
+    peaks_same : (q : ℕ) (a b : Bool) → slot_peaks (Some (cond a h (cond b h (record h { shared = h.shared ++ n ∷ [] })))) q ≡ slot_peaks (Some h) q
+    peaks_same q true b = refl
+    peaks_same q false true = refl
+    peaks_same q false false = refl
 
 -- what is read of a slot is what it holds
 pub slot_held : (slots : SessionSlots) (s : ℕ) (o : Option Held) → s < length slots → o ≡ get_or slots s o → held_at slots s ≡ o

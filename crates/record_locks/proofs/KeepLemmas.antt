@@ -10,13 +10,13 @@ use Rattle.std.proofs.lemmas.List.{reverse-append}
 use Rattle.ipl_model.specs.State.{State, Session, Write, last_write, written_names}
 use Rattle.ipl_model.specs.Refusals.{is_new_share}
 use Rattle.ipl_model.specs.Operations as rules
-use Rattle.record_locks.specs.Held.{Held, SessionSlots, held_at, is_among, raised, slot_marks, with_written, with_shared, new_held, after_share, after_write, after_end}
+use Rattle.record_locks.specs.Held.{Held, SessionSlots, held_at, is_among, raised, slot_peaks, with_written, with_shared, new_held, after_share, after_write, after_end}
 use Rattle.record_locks.specs.Standing.{state_of, slot_of, session_of, write_of}
-use Rattle.record_locks.specs.Names.{names_of, SameNames, SameMarks, KeepsNames, KeepsNameMarks, CallsKeepNames, CallsKeepMarks}
+use Rattle.record_locks.specs.Names.{names_of, SameNames, SamePeaks, KeepsNames, KeepsNamePeaks, CallsKeepNames, CallsKeepPeaks}
 use Rattle.record_locks.specs.Locks.{IsSized}
 use Rattle.ipl_base.specs.Sizes.{size_in_page}
-use Rattle.ipl_model.specs.Marks.{marks_of}
-use Rattle.record_locks.proofs.MarkLemmas.{written_marks, sized_at}
+use Rattle.ipl_model.specs.Peaks.{peaks_of}
+use Rattle.record_locks.proofs.PeakLemmas.{written_peaks, sized_at}
 use Rattle.std.specs.List.{All}
 use Rattle.record_locks.proofs.NameLemmas.{among_reversed}
 use Rattle.ipl_model.proofs.RuleSlotLemmas.{get_or-set}
@@ -173,68 +173,68 @@ module _ (slots : SessionSlots) (state : State) (s : ℕ) (within : s < length s
 pub keeps_names : CallsKeepNames
 keeps_names slots state s within same = keeps slots state s within same
 
--- ---- marks
+-- ---- peaks
 
-abbrev marks_in_state : Option Session → ℕ → ℕ
-marks_in_state o n = marks_of (option_map_or (λ x. x.writes) o []) n
+abbrev peaks_in_state : Option Session → ℕ → ℕ
+peaks_in_state o n = peaks_of (option_map_or (λ x. x.writes) o []) n
 
-keep_marks : (slots : SessionSlots) (state later : State) (s : ℕ) (o : Option Held) (x : Option Session) → s < length slots → SameMarks slots state
-    → ((q : ℕ) → get later.sessions q ≡ cond (eq_by_cmp nat_cmp q s) x (get state.sessions q)) → ((n : ℕ) → slot_marks o n ≡ marks_in_state x n)
-    → SameMarks (set slots s o) later
-keep_marks slots state later s o x within same gets marks q n =
-    ap (λ (k : Option Held). slot_marks k n) (get_or-set slots s o q within) ∙ by_key (eq_by_cmp nat_cmp q s) ∙ sym (ap (λ (k : Option Session). marks_in_state k n) (gets q))
+keep_peaks : (slots : SessionSlots) (state later : State) (s : ℕ) (o : Option Held) (x : Option Session) → s < length slots → SamePeaks slots state
+    → ((q : ℕ) → get later.sessions q ≡ cond (eq_by_cmp nat_cmp q s) x (get state.sessions q)) → ((n : ℕ) → slot_peaks o n ≡ peaks_in_state x n)
+    → SamePeaks (set slots s o) later
+keep_peaks slots state later s o x within same gets peaks q n =
+    ap (λ (k : Option Held). slot_peaks k n) (get_or-set slots s o q within) ∙ by_key (eq_by_cmp nat_cmp q s) ∙ sym (ap (λ (k : Option Session). peaks_in_state k n) (gets q))
   where
-    by_key : (b : Bool) → slot_marks (cond b o (get_or slots q None)) n ≡ marks_in_state (cond b x (get state.sessions q)) n
-    by_key true = marks n
+    by_key : (b : Bool) → slot_peaks (cond b o (get_or slots q None)) n ≡ peaks_in_state (cond b x (get state.sessions q)) n
+    by_key true = peaks n
     by_key false = same q n
 
-pub commits_mark : (slots : SessionSlots) (state : State) (s : ℕ) → s < length slots → SameMarks slots state → SameMarks (after_end slots s) (rules.after_commit state s)
-commits_mark slots state s within same = keep_marks slots state (rules.after_commit state s) s None None within same (get-remove nat_cmp_total state.sessions s) (λ n. refl)
+pub commits_peak : (slots : SessionSlots) (state : State) (s : ℕ) → s < length slots → SamePeaks slots state → SamePeaks (after_end slots s) (rules.after_commit state s)
+commits_peak slots state s within same = keep_peaks slots state (rules.after_commit state s) s None None within same (get-remove nat_cmp_total state.sessions s) (λ n. refl)
 
-module _ (slots : SessionSlots) (state : State) (s : ℕ) (within : s < length slots) (sized : All IsSized slots) (names : SameNames (state_of slots) state) (same : SameMarks slots state) where
+module _ (slots : SessionSlots) (state : State) (s : ℕ) (within : s < length slots) (sized : All IsSized slots) (names : SameNames (state_of slots) state) (same : SamePeaks slots state) where
   -- the session is open in both, or in neither
   both_open : option_map names_of (slot_of (held_at slots s)) ≡ option_map names_of (get state.sessions s)
   both_open = here slots state s within names
 
-  shares_mark : (n : ℕ) → SameMarks (after_share slots s n) (rules.after_share state s n)
+  shares_peak : (n : ℕ) → SamePeaks (after_share slots s n) (rules.after_share state s n)
   unfolding shared_more
-  shares_mark n = keep_marks slots state (rules.after_share state s n) s (option_map (with_shared n) (held_at slots s)) (option_map (λ x. cond (is_new_share state s n) (shared_more n x) x) (get state.sessions s)) within same
+  shares_peak n = keep_peaks slots state (rules.after_share state s n) s (option_map (with_shared n) (held_at slots s)) (option_map (λ x. cond (is_new_share state s n) (shared_more n x) x) (get state.sessions s)) within same
       (after_shared state s n) (λ q. slot_same (held_at slots s) q ∙ same s q ∙ sym (state_same (get state.sessions s) (is_new_share state s n) q))
     where
-      slot_same : (o : Option Held) (q : ℕ) → slot_marks (option_map (with_shared n) o) q ≡ slot_marks o q
+      slot_same : (o : Option Held) (q : ℕ) → slot_peaks (option_map (with_shared n) o) q ≡ slot_peaks o q
       slot_same None q = refl
       slot_same (Some h) q = by_tests (is_among n h.written) (is_among n h.shared)
         where
-          by_tests : (a b : Bool) → slot_marks (Some (cond a h (cond b h (record h { shared = h.shared ++ n ∷ [] })))) q ≡ slot_marks (Some h) q
+          by_tests : (a b : Bool) → slot_peaks (Some (cond a h (cond b h (record h { shared = h.shared ++ n ∷ [] })))) q ≡ slot_peaks (Some h) q
           by_tests true b = refl
           by_tests false true = refl
           by_tests false false = refl
 
-      state_same : (o : Option Session) (t : Bool) (q : ℕ) → marks_in_state (option_map (λ x. cond t (shared_more n x) x) o) q ≡ marks_in_state o q
+      state_same : (o : Option Session) (t : Bool) (q : ℕ) → peaks_in_state (option_map (λ x. cond t (shared_more n x) x) o) q ≡ peaks_in_state o q
       state_same None t q = refl
       state_same (Some x) true q = refl
       state_same (Some x) false q = refl
 
-  writes_mark : (n : ℕ) (change : Option (List ℕ)) → SameMarks (after_write slots s n (size_in_page change)) (rules.after_write state s (n, change))
-  writes_mark n change = keep_marks slots state (rules.after_write state s (n, change)) s (option_map (with_written n (size_in_page change)) (held_at slots s)) (option_map (written_more (n, change)) (get state.sessions s)) within same
+  writes_peak : (n : ℕ) (change : Option (List ℕ)) → SamePeaks (after_write slots s n (size_in_page change)) (rules.after_write state s (n, change))
+  writes_peak n change = keep_peaks slots state (rules.after_write state s (n, change)) s (option_map (with_written n (size_in_page change)) (held_at slots s)) (option_map (written_more (n, change)) (get state.sessions s)) within same
       (λ q. after_written state s q (n, change)) (by_slot (held_at slots s) (get state.sessions s) both_open (same s) (sized_at slots s sized))
     where
-      by_slot : (o : Option Held) (y : Option Session) → option_map names_of (slot_of o) ≡ option_map names_of y → ((q : ℕ) → slot_marks o q ≡ marks_in_state y q) → IsSized o
-          → (q : ℕ) → slot_marks (option_map (with_written n (size_in_page change)) o) q ≡ marks_in_state (option_map (written_more (n, change)) y) q
-      by_slot None None is marks sized q = refl
-      by_slot None (Some x) is marks sized q = absurd (cc is)
-      by_slot (Some h) None is marks sized q = absurd (cc is)
-      by_slot (Some h) (Some x) is marks sized q = written_marks n (size_in_page change) h q sized ∙ ap (λ (k : ℕ). cond (n == q) (max (1 + size_in_page change) k) k) (marks q)
+      by_slot : (o : Option Held) (y : Option Session) → option_map names_of (slot_of o) ≡ option_map names_of y → ((q : ℕ) → slot_peaks o q ≡ peaks_in_state y q) → IsSized o
+          → (q : ℕ) → slot_peaks (option_map (with_written n (size_in_page change)) o) q ≡ peaks_in_state (option_map (written_more (n, change)) y) q
+      by_slot None None is peaks sized q = refl
+      by_slot None (Some x) is peaks sized q = absurd (cc is)
+      by_slot (Some h) None is peaks sized q = absurd (cc is)
+      by_slot (Some h) (Some x) is peaks sized q = written_peaks n (size_in_page change) h q sized ∙ ap (λ (k : ℕ). cond (n == q) (max (1 + size_in_page change) k) k) (peaks q)
 
-  marks_kept : KeepsNameMarks slots state s
-  marks_kept = record {
-    begins = λ number. keep_marks slots state (rules.after_begin state s) s (Some (new_held number)) (Some rules.new_session) within same (get-insert nat_cmp_total state.sessions s rules.new_session) (λ n. refl);
-    shares = shares_mark;
-    writes = writes_mark;
-    commits = commits_mark slots state s within same;
-    aborts = keep_marks slots state (rules.after_abort state s) s None None within same (get-remove nat_cmp_total state.sessions s) (λ n. refl);
-    restarts = λ q n. ap (λ (o : Option Held). slot_marks o n) (none_of 32 q) ∙ sym (ap (λ (o : Option Session). marks_in_state o n) (get-empty nat_cmp q));
+  peaks_kept : KeepsNamePeaks slots state s
+  peaks_kept = record {
+    begins = λ number. keep_peaks slots state (rules.after_begin state s) s (Some (new_held number)) (Some rules.new_session) within same (get-insert nat_cmp_total state.sessions s rules.new_session) (λ n. refl);
+    shares = shares_peak;
+    writes = writes_peak;
+    commits = commits_peak slots state s within same;
+    aborts = keep_peaks slots state (rules.after_abort state s) s None None within same (get-remove nat_cmp_total state.sessions s) (λ n. refl);
+    restarts = λ q n. ap (λ (o : Option Held). slot_peaks o n) (none_of 32 q) ∙ sym (ap (λ (o : Option Session). peaks_in_state o n) (get-empty nat_cmp q));
   }
 
-pub keeps_marks : CallsKeepMarks
-keeps_marks slots state s within sized names same = marks_kept slots state s within sized names same
+pub keeps_peaks : CallsKeepPeaks
+keeps_peaks slots state s within sized names same = peaks_kept slots state s within sized names same

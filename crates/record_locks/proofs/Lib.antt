@@ -2,7 +2,7 @@ pub mod NameLemmas
 pub mod SlotLemmas
 pub mod StandingLemmas
 pub mod TotalLemmas
-pub mod MarkLemmas
+pub mod PeakLemmas
 pub mod RankLemmas
 pub mod SoundLemmas
 pub mod CallLemmas

@@ -8,16 +8,16 @@ use Rattle.std.specs.Option.{option_map, option_map_or}
 use Rattle.std.specs.Ordering.{nat_cmp, eq_by_cmp, is_lt}
 use Rattle.std.proofs.lemmas.Bool.Decides.{nat_tests}
 use Rattle.ipl_base.specs.declared.fault.Refusal.TheVariants.{AlreadyOpen, NotOpen, WritesFull, SharesFull, PendingFull}
-use Rattle.ipl_model.specs.State.{State, Session, Write, is_open, last_write, written_names, writes_of, shared_of}
+use Rattle.ipl_model.specs.State.{State, Session, Write, is_open_session, last_write, written_names, writes_of, shared_of}
 use Rattle.ipl_base.specs.Sizes.{size_in_page}
 use Rattle.ipl_base.specs.declared.limits.TheConstants.{PENDING_WEIGHT, UNIT_NAMES}
-use Rattle.ipl_model.specs.Marks.{Marks, with_mark, marks_of, marks, overloads}
-use Rattle.ipl_model.proofs.RuleMarkLemmas.{own_most, by_number}
+use Rattle.ipl_model.specs.Peaks.{Peaks, with_peak, peaks_of, peaks, overloads}
+use Rattle.ipl_model.proofs.RulePeakLemmas.{own_most, by_number}
 use Rattle.ipl_model.proofs.WeightLemmas.{weights_same}
-use Rattle.record_locks.proofs.MarkLemmas.{one_of_all, all_at_most}
+use Rattle.record_locks.proofs.PeakLemmas.{one_of_all, all_at_most}
 use Rattle.ipl_model.specs.Refusals.{first_of, conflict, is_new_write, is_new_share}
-use Rattle.record_locks.specs.Held.{is_among, marks_in}
-use Rattle.record_locks.specs.Names.{names_of, SameNames, TestsAlike, SessionsRefuseAsStates, MarksAreTheStates}
+use Rattle.record_locks.specs.Held.{is_among, peaks_in}
+use Rattle.record_locks.specs.Names.{names_of, SameNames, TestsAlike, SessionsRefuseAsStates, PeaksAreTheStates}
 use Rattle.record_locks.specs.Standing.{state_of}
 
 abbrev Names : Type 0
@@ -93,7 +93,7 @@ least-mapped test on_names is s (e ∷ rest) =
 -- ---- the tests
 
 module _ (a b : State) (same : SameNames a b) where
-  opens_alike : (s : ℕ) → is_open a s ≡ is_open b s
+  opens_alike : (s : ℕ) → is_open_session a s ≡ is_open_session b s
   opens_alike s = by_map (get a.sessions s) ∙ ap is_some (same s) ∙ sym (by_map (get b.sessions s))
     where
       by_map : (o : Option Session) → is_some o ≡ is_some (option_map names_of o)
@@ -134,33 +134,33 @@ module _ (a b : State) (same : SameNames a b) where
     full_shares = λ i. (new_shares_alike s n i && nat_le 256 (length (shares_alike s i)), SharesFull);
   }
 
--- ---- marks
+-- ---- peaks
 
-pub marks_are : MarksAreTheStates
-marks_are slots state same n =
-    let less = all_at_most slots n (marks state n) (λ s. omega (arith, same s n, own_most state s n)) in
-    let more = by_number state.sessions n (marks_in slots n) (λ q v is. at_most q v is) in
+pub peaks_are : PeaksAreTheStates
+peaks_are slots state same n =
+    let less = all_at_most slots n (peaks state n) (λ s. omega (arith, same s n, own_most state s n)) in
+    let more = by_number state.sessions n (peaks_in slots n) (λ q v is. at_most q v is) in
     omega (arith, less, more)
   where
-    at_most : (q : ℕ) (v : Session) → get state.sessions q ≡ Some v → marks_of v.writes n ≤ marks_in slots n
+    at_most : (q : ℕ) (v : Session) → get state.sessions q ≡ Some v → peaks_of v.writes n ≤ peaks_in slots n
     at_most q v is =
-        let here : marks_of (writes_of state q) n ≡ marks_of v.writes n = ap (λ (o : Option Session). marks_of (option_map_or (λ x. x.writes) o []) n) is in
+        let here : peaks_of (writes_of state q) n ≡ peaks_of v.writes n = ap (λ (o : Option Session). peaks_of (option_map_or (λ x. x.writes) o []) n) is in
         omega (arith, here, same q n, one_of_all slots q n)
 
-overloads_alike : (a b : Marks) → ((n : ℕ) → a n ≡ b n) → (n m : ℕ) → overloads a n m ≡ overloads b n m
-overloads_alike a b same n m = ap (λ (w : ℕ). nat_lt PENDING_WEIGHT w) (weights_same (with_mark a n m) (with_mark b n m) (n / UNIT_NAMES) (λ i low. by_name (n == UNIT_NAMES * (n / UNIT_NAMES) + i) (same (UNIT_NAMES * (n / UNIT_NAMES) + i))))
+overloads_alike : (a b : Peaks) → ((n : ℕ) → a n ≡ b n) → (n m : ℕ) → overloads a n m ≡ overloads b n m
+overloads_alike a b same n m = ap (λ (w : ℕ). nat_lt PENDING_WEIGHT w) (weights_same (with_peak a n m) (with_peak b n m) (n / UNIT_NAMES) (λ i low. by_name (n == UNIT_NAMES * (n / UNIT_NAMES) + i) (same (UNIT_NAMES * (n / UNIT_NAMES) + i))))
   where
     by_name : (t : Bool) {x y : ℕ} → x ≡ y → cond t (max m x) x ≡ cond t (max m y) y
     by_name t is = ap (λ (k : ℕ). cond t (max m k) k) is
 
--- sessions that have the names and marks of a state refuse as that state does
+-- sessions that have the names and peaks of a state refuse as that state does
 pub refuse_as : SessionsRefuseAsStates
-refuse_as slots state same marked s n =
+refuse_as slots state same peaked s n =
     let tests = alike (state_of slots) state same s n in
     record {
       begins = λ i. first_of ((tests.opens i, AlreadyOpen) ∷ []);
       shares = λ i. first_of ((not (tests.opens i), NotOpen) ∷ conflict (tests.shares i) ∷ tests.full_shares i ∷ []);
       writes = λ change. λ i. first_of ((not (tests.opens i), NotOpen) ∷ conflict (tests.writes i) ∷ tests.full_writes i
-          ∷ (overloads_alike (marks_in slots) (marks state) (marks_are slots state marked) n (1 + size_in_page change) i, PendingFull (n / UNIT_NAMES)) ∷ []);
+          ∷ (overloads_alike (peaks_in slots) (peaks state) (peaks_are slots state peaked) n (1 + size_in_page change) i, PendingFull (n / UNIT_NAMES)) ∷ []);
       ends = λ i. first_of ((not (tests.opens i), NotOpen) ∷ []);
     }

@@ -5,41 +5,41 @@ use Rattle.std.proofs.lemmas.List.Elements.{All-nil, All-cons}
 use Rattle.std.proofs.lemmas.Bool.{cases_eq}
 use Rattle.std.proofs.lemmas.Bool.Decides.{nat_tests}
 use Rattle.std.proofs.Math.ListN.{length-set}
-use Rattle.ipl_model.specs.Marks.{weights, with_mark, overloads}
+use Rattle.ipl_model.specs.Peaks.{weights, with_peak, overloads}
 use Rattle.ipl_base.specs.declared.limits.TheConstants.{PENDING_WEIGHT, SESSIONS, UNIT_NAMES}
-use Rattle.ipl_model.proofs.RuleMarkLemmas.{le_trans}
+use Rattle.ipl_model.proofs.RulePeakLemmas.{le_trans}
 use Rattle.ipl_model.proofs.WeightLemmas.{weights_same, weights_none, weights_less, weights_elsewhere}
-use Rattle.record_locks.specs.Held.{Held, SessionSlots, held_at, slot_marks, marks_in}
+use Rattle.record_locks.specs.Held.{Held, SessionSlots, held_at, slot_peaks, peaks_in}
 use Rattle.record_locks.specs.Locks.{AreSoundSlots, IsSized, total, written_in}
 use Rattle.record_locks.proofs.TotalLemmas.{total_set, total_cons, one_more}
-use Rattle.record_locks.proofs.MarkLemmas.{set_less, set_written, all_sized_set}
+use Rattle.record_locks.proofs.PeakLemmas.{set_less, set_written, all_sized_set}
 
--- a slot in which no more names pass, and whose marks are no greater, keeps all sound
+-- a slot in which no more names pass, and whose peaks are no greater, keeps all sound
 pub sound_less : (slots : SessionSlots) (s : ℕ) (o : Option Held) → AreSoundSlots slots → s < length slots → ((p : ℕ → Bool) → written_in p o ≤ written_in p (get_or slots s None))
-    → IsSized o → ((n : ℕ) → slot_marks o n ≤ slot_marks (held_at slots s) n) → AreSoundSlots (set slots s o)
-sound_less slots s o sound within less sized marks = record {
+    → IsSized o → ((n : ℕ) → slot_peaks o n ≤ slot_peaks (held_at slots s) n) → AreSoundSlots (set slots s o)
+sound_less slots s o sound within less sized peaks = record {
   all = length-set slots s o ∙ sound.all;
   once = λ n. omega (arith, total_set (λ k. k == n) slots s o within, less (λ k. k == n), sound.once n);
   sized = all_sized_set slots s o sound.sized sized;
-  few = λ unit. le_trans (weights_less (marks_in (set slots s o)) (marks_in slots) unit (λ n. set_less slots s o n (marks n))) (sound.few unit);
+  few = λ unit. le_trans (weights_less (peaks_in (set slots s o)) (peaks_in slots) unit (λ n. set_less slots s o n (peaks n))) (sound.few unit);
 }
 
 -- a slot with a write that isn't refused
 pub sound_more : (slots : SessionSlots) (s n m : ℕ) (o : Option Held) → AreSoundSlots slots → s < length slots → ((k : ℕ) → total (λ j. j == k) (set slots s o) ≤ 1)
-    → IsSized o → ((q : ℕ) → slot_marks o q ≡ with_mark (slot_marks (held_at slots s)) n m q) → overloads (marks_in slots) n m ≡ false → AreSoundSlots (set slots s o)
-sound_more slots s n m o sound within once sized marks room = record {
+    → IsSized o → ((q : ℕ) → slot_peaks o q ≡ with_peak (slot_peaks (held_at slots s)) n m q) → overloads (peaks_in slots) n m ≡ false → AreSoundSlots (set slots s o)
+sound_more slots s n m o sound within once sized peaks room = record {
   all = length-set slots s o ∙ sound.all;
   once = once;
   sized = all_sized_set slots s o sound.sized sized;
-  few = λ unit. le_trans (weights_less (marks_in (set slots s o)) (with_mark (marks_in slots) n m) unit (λ q. set_written slots s n m o q (marks q))) (by_unit unit (cases_eq unit (n / UNIT_NAMES)));
+  few = λ unit. le_trans (weights_less (peaks_in (set slots s o)) (with_peak (peaks_in slots) n m) unit (λ q. set_written slots s n m o q (peaks q))) (by_unit unit (cases_eq unit (n / UNIT_NAMES)));
 }
   where
     not_above : (size : ℕ) → nat_lt PENDING_WEIGHT size ≡ false → size ≤ PENDING_WEIGHT
     not_above size is = grind (arith, nat_tests)
 
-    by_unit : (unit : ℕ) → (unit ≡ n / UNIT_NAMES) ⊎ (unit ≢ n / UNIT_NAMES) → weights (with_mark (marks_in slots) n m) unit ≤ PENDING_WEIGHT
-    by_unit unit (inl same) = subst (λ (u : ℕ). weights (with_mark (marks_in slots) n m) u ≤ PENDING_WEIGHT) (sym same) (not_above _ room)
-    by_unit unit (inr other) = subst (λ (k : ℕ). k ≤ PENDING_WEIGHT) (sym (weights_elsewhere (marks_in slots) n m unit other)) (sound.few unit)
+    by_unit : (unit : ℕ) → (unit ≡ n / UNIT_NAMES) ⊎ (unit ≢ n / UNIT_NAMES) → weights (with_peak (peaks_in slots) n m) unit ≤ PENDING_WEIGHT
+    by_unit unit (inl same) = subst (λ (u : ℕ). weights (with_peak (peaks_in slots) n m) u ≤ PENDING_WEIGHT) (sym same) (not_above _ room)
+    by_unit unit (inr other) = subst (λ (k : ℕ). k ≤ PENDING_WEIGHT) (sym (weights_elsewhere (peaks_in slots) n m unit other)) (sound.few unit)
 
 -- no name is written twice where a new one is added that nobody wrote
 pub once_more : (slots : SessionSlots) (s n : ℕ) (h new : Held) → AreSoundSlots slots → s < length slots → get_or slots s None ≡ Some h
@@ -67,9 +67,9 @@ none_total : (p : ℕ → Bool) (k : ℕ) → total p (replicate k None) ≡ 0
 none_total p zero = refl
 none_total p (suc k) = omega (arith, none_total p k, total_cons p None (replicate k None))
 
-none_marks : (k n : ℕ) → marks_in (replicate k None) n ≡ 0
-none_marks zero n = refl
-none_marks (suc k) n = ap (λ (m : ℕ). max 0 m) (none_marks k n)
+none_peaks : (k n : ℕ) → peaks_in (replicate k None) n ≡ 0
+none_peaks zero n = refl
+none_peaks (suc k) n = ap (λ (m : ℕ). max 0 m) (none_peaks k n)
 
 none_sized : (k : ℕ) → All IsSized (replicate k None)
 none_sized zero = All-nil IsSized
@@ -80,7 +80,7 @@ sound_none = record {
   all = refl;
   once = λ n. omega (arith, none_total (λ k. k == n) SESSIONS);
   sized = none_sized SESSIONS;
-  few = λ unit. omega (arith, weights_same (marks_in (replicate SESSIONS None)) (λ (n : ℕ). 0) unit (λ i low. none_marks SESSIONS (UNIT_NAMES * unit + i)), weights_none unit);
+  few = λ unit. omega (arith, weights_same (peaks_in (replicate SESSIONS None)) (λ (n : ℕ). 0) unit (λ i low. none_peaks SESSIONS (UNIT_NAMES * unit + i)), weights_none unit);
 }
 
 pub lighter : (a b p w : ℕ) → w + a ≡ p + b → nat_lt (PENDING_WEIGHT + a) (p + b) ≡ nat_lt PENDING_WEIGHT w

@@ -17,7 +17,7 @@ pub session_at : (slots : SessionSlots) (s : ℕ) → get (state_of slots).sessi
 unfolding state_of
 session_at slots s = opened_at (map slot_of slots) s ∙ get_or-map slot_of slots s None
 
-pub open_at : (slots : SessionSlots) (s : ℕ) → rules.is_open (state_of slots) s ≡ is_some (held_at slots s)
+pub open_at : (slots : SessionSlots) (s : ℕ) → rules.is_open_session (state_of slots) s ≡ is_some (held_at slots s)
 open_at slots s = ap is_some (session_at slots s) ∙ by_slot (held_at slots s)
   where
     by_slot : (o : Option Held) → is_some (slot_of o) ≡ is_some o

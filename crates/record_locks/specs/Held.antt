@@ -3,7 +3,7 @@ use Rattle.std.specs.Prelude.{ℕ, suc, ◌+◌, ◌==◌, ◌/◌, max, drop, s
 use Rattle.std.specs.List.{list_any}
 use Rattle.std.specs.Option.{option_map, option_map_or}
 use Rattle.ipl_base.specs.declared.limits.TheConstants.{UNIT_NAMES}
-use Rattle.ipl_model.specs.Marks.{Marks, weight_of_mark}
+use Rattle.ipl_model.specs.Peaks.{Peaks, weight_of_peak}
 
 -- an open session: its transaction number, the names that it wrote and those that it shares, the oldest first, and
 -- beside each name that it wrote the most bytes that a write of it takes in its page
@@ -59,12 +59,12 @@ numbers_in [] = []
 numbers_in (None ∷ slots) = numbers_in slots
 numbers_in (Some h ∷ slots) = h.number ∷ numbers_in slots
 
--- ---- marks
+-- ---- peaks
 
 -- one more than the size that stands beside a name, 0 where it isn't there
-abbrev pub mark_in : List ℕ → List ℕ → Marks
-mark_in [] sizes n = 0
-mark_in (k ∷ names) sizes n = if k == n then 1 + slice_index sizes 0 else mark_in names (drop 1 sizes) n
+abbrev pub peak_in : List ℕ → List ℕ → Peaks
+peak_in [] sizes n = 0
+peak_in (k ∷ names) sizes n = if k == n then 1 + slice_index sizes 0 else peak_in names (drop 1 sizes) n
 
 -- where a name stands first, or how many there are
 abbrev pub rank_of : ℕ → List ℕ → ℕ
@@ -75,7 +75,7 @@ rank_of n (k ∷ names) = if k == n then 0 else suc (rank_of n names)
 abbrev pub weight_listed : List ℕ → List ℕ → ℕ → ℕ
 weight_listed [] sizes unit = 0
 weight_listed (k ∷ names) sizes unit =
-    (if k / UNIT_NAMES == unit then weight_of_mark (1 + slice_index sizes 0) else 0) + weight_listed names (drop 1 sizes) unit
+    (if k / UNIT_NAMES == unit then weight_of_peak (1 + slice_index sizes 0) else 0) + weight_listed names (drop 1 sizes) unit
 
 -- of those that the session in a slot wrote
 abbrev pub slot_weight : Option Held → ℕ → ℕ
@@ -88,15 +88,15 @@ raised [] sizes n size = sizes
 raised (k ∷ names) sizes n size =
     if k == n then max size (slice_index sizes 0) ∷ drop 1 sizes else slice_index sizes 0 ∷ raised names (drop 1 sizes) n size
 
--- the marks of the session in a slot
-abbrev pub slot_marks : Option Held → Marks
-slot_marks None n = 0
-slot_marks (Some h) n = mark_in h.written h.sizes n
+-- the peaks of the session in a slot
+abbrev pub slot_peaks : Option Held → Peaks
+slot_peaks None n = 0
+slot_peaks (Some h) n = peak_in h.written h.sizes n
 
 -- those of all sessions
-abbrev pub marks_in : SessionSlots → Marks
-marks_in [] n = 0
-marks_in (o ∷ slots) n = max (slot_marks o n) (marks_in slots n)
+abbrev pub peaks_in : SessionSlots → Peaks
+peaks_in [] n = 0
+peaks_in (o ∷ slots) n = max (slot_peaks o n) (peaks_in slots n)
 
 -- ---- what the calls do
 

@@ -6,10 +6,10 @@ use Rattle.ipl_base.specs.declared.limits.TheConstants.{UNIT_NAMES, SESSIONS, PE
 use Rattle.ipl_base.specs.declared.fault.Refusal.{Refusal}
 use Rattle.ipl_base.specs.declared.fault.Refusal.TheVariants.{PendingFull}
 use Rattle.ipl_model.specs.State.{holder_for_share, holder_for_write}
-use Rattle.ipl_model.specs.Marks.{overloads, weights}
+use Rattle.ipl_model.specs.Peaks.{overloads, weights}
 use Rattle.ipl_model.specs.Refusals as refusals
 use Rattle.ipl_model.specs.Refusals.{Test, first_of, already_open, not_open, conflict, writes_full, shares_full}
-use Rattle.record_locks.specs.Held.{Held, SessionSlots, written_of, is_among, marks_in}
+use Rattle.record_locks.specs.Held.{Held, SessionSlots, written_of, is_among, peaks_in}
 use Rattle.record_locks.specs.Standing.{state_of}
 
 -- why a begin is refused, if it is
@@ -23,7 +23,7 @@ refuses_share slots s n = first_of (not_open (state_of slots) s ∷ conflict (ho
 
 -- with a write of this size the pending names of its unit would weigh more than 48
 abbrev pub pending_full : SessionSlots → ℕ → ℕ → Test
-pending_full slots n size = (overloads (marks_in slots) n (1 + size), PendingFull (n / UNIT_NAMES))
+pending_full slots n size = (overloads (peaks_in slots) n (1 + size), PendingFull (n / UNIT_NAMES))
 
 -- why a write of a name, of this size, is refused, if it is
 abbrev pub refuses_write : SessionSlots → ℕ → ℕ → ℕ → Option Refusal
@@ -54,7 +54,7 @@ OneWriter slots = (s t n : ℕ) → is_among n (written_of slots s) ≡ true →
 
 -- the pending names of each unit weigh at most 48
 abbrev pub FewPending : SessionSlots → Type 0
-FewPending slots = (unit : ℕ) → weights (marks_in slots) unit ≤ PENDING_WEIGHT
+FewPending slots = (unit : ℕ) → weights (peaks_in slots) unit ≤ PENDING_WEIGHT
 
 -- beside each name that a session wrote stands a size
 abbrev pub IsSized : Option Held → Type 0

@@ -1,18 +1,18 @@
 //! Laws of locks, proved: a body that does nothing, and a contract that is the law.
-ghost use Rattle.record_locks.specs.Names.{LocksLookAtNames, MarksAreTheStates, SessionsRefuseAsStates, CallsKeepNames, CallsKeepMarks, BatchesRefuseAsStates, BatchesKeepNames, BatchesKeepMarks};
+ghost use Rattle.record_locks.specs.Names.{LocksLookAtNames, PeaksAreTheStates, SessionsRefuseAsStates, CallsKeepNames, CallsKeepPeaks, BatchesRefuseAsStates, BatchesKeepNames, BatchesKeepPeaks};
 
 /// The tests of locks look at names alone, and not at what was put; that of a unit's pending names
-/// looks at the marks. So sessions that have the names and marks of a state refuse as that state
-/// does, and after each call they have the names and marks of the state then.
+/// looks at the peaks. So sessions that have the names and peaks of a state refuse as that state
+/// does, and after each call they have the names and peaks of the state then.
 pub fn lock_laws()
     ensures names { LocksLookAtNames }
     ensures refusals { SessionsRefuseAsStates }
     ensures calls { CallsKeepNames }
-    ensures marks { MarksAreTheStates }
-    ensures keeps { CallsKeepMarks }
+    ensures peaks { PeaksAreTheStates }
+    ensures keeps { CallsKeepPeaks }
 
     // commits of several sessions
     ensures batches { BatchesRefuseAsStates }
     ensures closes { BatchesKeepNames }
-    ensures leaves { BatchesKeepMarks }
+    ensures leaves { BatchesKeepPeaks }
 {}

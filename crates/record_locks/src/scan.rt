@@ -3,7 +3,7 @@ ghost use Rattle.std.specs.Prelude.{◌≡◌, ◌≤◌, ◌<◌, ◌*◌, ◌^
 ghost use Rattle.std.specs.List.{sum_by};
 ghost use Rattle.std.specs.Option.{option_map_or};
 ghost use Rattle.ipl_base.specs.declared.limits.TheConstants.{LONG_WEIGHT, SESSION_NAMES, SESSIONS};
-ghost use Rattle.record_locks.specs.Held.{marks_in, slot_marks, slot_weight};
+ghost use Rattle.record_locks.specs.Held.{peaks_in, slot_peaks, slot_weight};
 ghost use Rattle.record_locks.specs.Standing.{slot_of, session_of, keeps_from, least_holder};
 ghost use Rattle.record_locks.specs.Locks.{IsSized};
 
@@ -36,29 +36,29 @@ pub(crate) fn weigh_pending(slots: &[Option<OpenSession>], unit: u32) -> u32
     weight
 }
 
-/// The mark of a name in a slot.
-pub(crate) fn mark_in_slot(slot: &Option<OpenSession>, name: Name) -> u64
+/// The peak of a name in a slot.
+pub(crate) fn peak_in_slot(slot: &Option<OpenSession>, name: Name) -> u64
     requires { IsSized slot.now }
-    ensures mark { result ≡ slot_marks slot.now name.0 }
+    ensures peak { result ≡ slot_peaks slot.now name.0 }
     ensures fits { result ≤ 2 ^ 32 }
 {
     match slot {
-        Some(session) => session.mark(name),
+        Some(session) => session.peak(name),
         None => 0,
     }
 }
 
-/// The mark of a name among all sessions: one more than the greatest size of the writes on it.
-pub fn mark_of(slots: &[Option<OpenSession>], name: Name) -> u64
+/// The peak of a name among all sessions: one more than the greatest size of the writes on it.
+pub fn peak_of(slots: &[Option<OpenSession>], name: Name) -> u64
     requires { All IsSized slots.now }
-    ensures mark { result ≡ marks_in slots.now name.0 }
+    ensures peak { result ≡ peaks_in slots.now name.0 }
     ensures fits { result ≤ 2 ^ 32 }
 {
     let mut left = slots.len();
     let mut most = 0;
     while left > 0 {
         left -= 1;
-        most = most.max(mark_in_slot(&slots[left], name));
+        most = most.max(peak_in_slot(&slots[left], name));
     }
     most
 }

@@ -2,8 +2,8 @@
 ghost use Rattle.std.specs.Prelude.{◌≡◌, ◌≤◌, ◌<◌, ◌^◌, ◌+◌, ◌*◌, ◌++◌, ◌∷◌, ◌==◌, ◌/◌, [], length, map, false, IfSome, if◌then◌else◌};
 ghost use Rattle.std.specs.Option.{option_map};
 ghost use Rattle.ipl_base.specs.declared.limits.TheConstants.{LONG_WEIGHT, SESSION_NAMES, UNIT_NAMES};
-ghost use Rattle.ipl_model.specs.Marks.{weight_of_mark};
-ghost use Rattle.record_locks.specs.Held.{is_among, mark_in, new_held, raised, rank_of, weight_listed, with_written, with_shared};
+ghost use Rattle.ipl_model.specs.Peaks.{weight_of_peak};
+ghost use Rattle.record_locks.specs.Held.{is_among, peak_in, new_held, raised, rank_of, weight_listed, with_written, with_shared};
 
 use arrayvec::ArrayVec;
 use ipl_base::{Name, UNIT_NAMES};
@@ -104,13 +104,13 @@ impl OpenSession {
         weigh(self.written(), self.sizes(), unit)
     }
 
-    /// The mark of a name: one more than the greatest size of its writes on it, 0 where there is none.
-    pub fn mark(&self, name: Name) -> u64
+    /// The peak of a name: one more than the greatest size of its writes on it, 0 where there is none.
+    pub fn peak(&self, name: Name) -> u64
         requires { length self.now.sizes ≡ length self.now.written }
-        ensures mark { result ≡ mark_in self.now.written self.now.sizes name.0 }
+        ensures peak { result ≡ peak_in self.now.written self.now.sizes name.0 }
         ensures fits { result ≤ 2 ^ 32 }
     {
-        mark_of(self.written(), self.sizes(), name)
+        peak_of(self.written(), self.sizes(), name)
     }
 
     /// Raises the size of a name that it wrote.
@@ -207,10 +207,10 @@ fn rank_of(names: &[Name], name: Name) -> usize
     rank
 }
 
-/// The mark of a name: one more than the size that stands beside it, 0 where it isn't there.
-fn mark_of(names: &[Name], sizes: &[u32], name: Name) -> u64
+/// The peak of a name: one more than the size that stands beside it, 0 where it isn't there.
+fn peak_of(names: &[Name], sizes: &[u32], name: Name) -> u64
     requires { length sizes.now ≡ length names.now }
-    ensures mark { result ≡ mark_in (map (λ n. n.0) names.now) sizes.now name.0 }
+    ensures peak { result ≡ peak_in (map (λ n. n.0) names.now) sizes.now name.0 }
     ensures fits { result ≤ 2 ^ 32 }
 {
     let rank = rank_of(names, name);
@@ -223,7 +223,7 @@ fn mark_of(names: &[Name], sizes: &[u32], name: Name) -> u64
 /// What one name weighs, where it is of a unit.
 fn weight_at(name: Name, size: u32, unit: u32) -> u32
     ensures weight { result
-        ≡ (if name.0 / UNIT_NAMES == unit then weight_of_mark (1 + size) else 0) }
+        ≡ (if name.0 / UNIT_NAMES == unit then weight_of_peak (1 + size) else 0) }
     ensures few { result ≤ LONG_WEIGHT }
 {
     if name.0 / UNIT_NAMES == unit {

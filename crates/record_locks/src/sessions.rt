@@ -2,14 +2,14 @@
 ghost use Rattle.std.specs.Prelude.{◌≡◌, ◌≤◌, ◌<◌, ◌^◌, ◌-◌, ℕ, true, None, map, length, All, Contains, IfOk, OnOk, OnErr, replicate};
 ghost use Rattle.std.specs.Result.{result_err};
 ghost use Rattle.ipl_base.specs.declared.limits.TheConstants.{PENDING_WEIGHT, SESSIONS};
-ghost use Rattle.ipl_model.specs.Marks.{weights};
-ghost use Rattle.record_locks.specs.Held.{is_among, marks_in, number_of, written_of, shared_of, after_begin, after_share, after_write, after_end, after_batch};
+ghost use Rattle.ipl_model.specs.Peaks.{weights};
+ghost use Rattle.record_locks.specs.Held.{is_among, peaks_in, number_of, written_of, shared_of, after_begin, after_share, after_write, after_end, after_batch};
 ghost use Rattle.record_locks.specs.Standing.{state_of};
 ghost use Rattle.record_locks.specs.Locks.{refuses_begin, refuses_share, refuses_write, refuses_end, refuses_batch, holder_of, IsSized, OneWriter, FewPending};
 
 mod refusals;
 
-use crate::scan::{fill, find_holder, mark_in_slot, mark_of, weigh_pending};
+use crate::scan::{fill, find_holder, peak_in_slot, peak_of, weigh_pending};
 use crate::session::{OpenSession, share_in, write_in};
 use ipl_base::{Name, OutOfMemory, Refusal, SESSIONS};
 use std::alloc::Global;
@@ -133,26 +133,26 @@ impl Sessions {
 
     /// What the names of a unit that open sessions wrote weigh.
     pub fn pending(&self, unit: u32) -> u32
-        ensures weight { result ≡ weights (marks_in self.now) unit }
+        ensures weight { result ≡ weights (peaks_in self.now) unit }
         ensures few { result ≤ PENDING_WEIGHT }
     {
         weigh_pending(&self.slots, unit)
     }
 
-    /// The mark of a name: one more than the greatest size of the writes of open sessions on it, 0
+    /// The peak of a name: one more than the greatest size of the writes of open sessions on it, 0
     /// where none wrote it.
-    pub fn mark(&self, name: Name) -> u64
-        ensures mark { result ≡ marks_in self.now name.0 }
+    pub fn peak(&self, name: Name) -> u64
+        ensures peak { result ≡ peaks_in self.now name.0 }
         ensures fits { result ≤ 2 ^ 32 }
     {
-        mark_of(&self.slots, name)
+        peak_of(&self.slots, name)
     }
 
     /// The greatest size of the writes of open sessions on a name, 0 where none wrote it.
     pub fn size(&self, name: Name) -> u32
-        ensures { result ≡ marks_in self.now name.0 - 1 }
+        ensures { result ≡ peaks_in self.now name.0 - 1 }
     {
-        self.mark(name).saturating_sub(1) as u32
+        self.peak(name).saturating_sub(1) as u32
     }
 
     /// The greatest size of the writes of a session on a name that it wrote. No other session wrote the
@@ -160,9 +160,9 @@ impl Sessions {
     pub fn size_by(&self, s: u32, name: Name) -> u32
         requires session { s < SESSIONS }
         requires wrote { is_among name.0 (written_of self.now s) ≡ true }
-        ensures { result ≡ marks_in self.now name.0 - 1 }
+        ensures { result ≡ peaks_in self.now name.0 - 1 }
     {
-        mark_in_slot(&self.slots[s as usize], name).saturating_sub(1) as u32
+        peak_in_slot(&self.slots[s as usize], name).saturating_sub(1) as u32
     }
 
     /// What always holds: there are 32 slots, no name is written by two sessions, each that is written

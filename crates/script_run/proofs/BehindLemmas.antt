@@ -2,7 +2,7 @@
 use Rattle.std.proofs.Common.{◌≡◌, ◌≤◌, ◌+◌, inl, ℕ, true, false, List, [], ◌++◌, Some, Result, Ok, Err, IfErr, MatchResult, is_ok, sym, ◌∙◌, ap, subst}
 use Rattle.std.proofs.lemmas.Bool.{false≢true}
 use Rattle.std.proofs.lemmas.List.{append-nil}
-use Rattle.chip_trait.specs.Story.{Story, pieces, joined, said}
+use Rattle.chip_trait.specs.Story.{Story, pieces, joined_pieces, said}
 use Rattle.chip_trait.specs.Told.{History, Told, adds_all}
 use Rattle.chip_trait.proofs.SaidLemmas.{silent-part}
 use Rattle.ipl_model.specs.declared.command.Command.{Command}
@@ -28,7 +28,7 @@ use Rattle.script_run.proofs.RunLemmas.{all_or_said, says_none, run_more}
 
 -- silent events say no bytes
 no_bytes : (added later e : Story) → pieces added ≡ [] → later ++ e ≡ added → said e ≡ []
-no_bytes added later e silent split = ap joined (silent-part later e (ap pieces split ∙ silent))
+no_bytes added later e silent split = ap joined_pieces (silent-part later e (ap pieces split ∙ silent))
 
 module _ {S : Type 0} (k : Keeping S) (limits : Limits) where
   -- ---- work with no command
@@ -52,7 +52,7 @@ module _ {S : Type 0} (k : Keeping S) (limits : Limits) where
     clean = did.clean;
     unused = did.unused;
     recalls = λ e calm. recalls e;
-    rests = subst (λ (bytes : List ℕ). IsNear (R (adds_all did.added h)) limits state [] bytes) (sym (ap joined did.silent)) (inl r);
+    rests = subst (λ (bytes : List ℕ). IsNear (R (adds_all did.added h)) limits state [] bytes) (sym (ap joined_pieces did.silent)) (inl r);
     ends = rw did.silent ends;
   }
 

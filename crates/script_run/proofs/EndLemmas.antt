@@ -4,7 +4,7 @@ use Rattle.std.specs.Prelude.{false}
 use Rattle.ipl_model.specs.State.{State, Limits}
 use Rattle.ipl_model.specs.declared.command.Command.{Command}
 use Rattle.ipl_model.specs.Step.{step}
-use Rattle.ipl_model.specs.Run.{joined, reply_lines, lines, after_all, begins_with}
+use Rattle.ipl_model.specs.Run.{joined_lines, reply_lines, lines, after_all, begins_with}
 use Rattle.ipl_model.proofs.RunLemmas.{lines-append, after_all-append, reply_shows}
 use Rattle.chip_trait.specs.Told.{IsPrefix}
 use Rattle.script_run.specs.declared.fault.Stop.{Stop}
@@ -75,7 +75,7 @@ unended_before all said last (line ∷ rest, is) =
 -- ---- replies
 
 -- no reply is without a line
-shown_lines : (all : List (List ℕ)) → begins_with [] (joined all) ≡ false → IsUnended all []
+shown_lines : (all : List (List ℕ)) → begins_with [] (joined_lines all) ≡ false → IsUnended all []
 shown_lines [] shows = absurd (cc shows)
 shown_lines (line ∷ rest) shows = record { line = line; rest = rest; lines_are = refl }
 

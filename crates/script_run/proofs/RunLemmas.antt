@@ -10,7 +10,7 @@ use Rattle.ipl_model.specs.Run.{reply_lines, lines, text, after_all, IsNear}
 use Rattle.ipl_model.proofs.RunLemmas.{found_after, found_longer, found_said, found_silent, lines-append}
 use Rattle.chip_trait.specs.declared.event.Event.{Event}
 use Rattle.chip_trait.specs.declared.event.Event.TheVariants.{Read, Program, Erase, Worn, Barrier, Said}
-use Rattle.chip_trait.specs.Story.{Story, Contents, pieces, joined, said}
+use Rattle.chip_trait.specs.Story.{Story, Contents, pieces, joined_pieces, said}
 use Rattle.chip_trait.specs.Image.{IsNoChanceImage}
 use Rattle.chip_trait.specs.Moment.{Leaves}
 use Rattle.chip_trait.specs.Told.{History, Told, IsPrefix, IsBeside, Appends, FailsToSay, adds, adds_all}
@@ -68,20 +68,20 @@ says_behind front all said s = record {
   is_cut = s.is_cut;
 }
 
-cut_prefix : (cut rest : List (List ℕ)) → IsCut cut rest → IsPrefix (joined cut) (joined rest)
-cut_prefix [] rest is = (joined rest, refl)
+cut_prefix : (cut rest : List (List ℕ)) → IsCut cut rest → IsPrefix (joined_pieces cut) (joined_pieces rest)
+cut_prefix [] rest is = (joined_pieces rest, refl)
 cut_prefix (piece ∷ []) [] is = absurd is
 cut_prefix (piece ∷ []) (line ∷ rest) is =
-    (is.0 ++ joined rest, ap (λ (l : List ℕ). l ++ (is.0 ++ joined rest)) (append-nil piece) ∙ sym (append_assoc piece is.0 (joined rest)) ∙ ap (λ (l : List ℕ). l ++ joined rest) is.1)
+    (is.0 ++ joined_pieces rest, ap (λ (l : List ℕ). l ++ (is.0 ++ joined_pieces rest)) (append-nil piece) ∙ sym (append_assoc piece is.0 (joined_pieces rest)) ∙ ap (λ (l : List ℕ). l ++ joined_pieces rest) is.1)
 cut_prefix (piece ∷ next ∷ cut) rest is = absurd is
 
 -- so what was said is a beginning of the lines, joined
-pub says_prefix : (all said : List (List ℕ)) → SaysLines all said → IsPrefix (joined said) (joined all)
+pub says_prefix : (all said : List (List ℕ)) → SaysLines all said → IsPrefix (joined_pieces said) (joined_pieces all)
 says_prefix all said s =
     let part = cut_prefix s.cut s.rest s.is_cut in (
       part.0,
-      ap (λ (l : List (List ℕ)). joined l ++ part.0) s.said_is ∙ ap (λ (l : List ℕ). l ++ part.0) (joined-append s.whole s.cut) ∙ append_assoc (joined s.whole) (joined s.cut) part.0
-          ∙ ap (λ (l : List ℕ). joined s.whole ++ l) part.1 ∙ sym (joined-append s.whole s.rest) ∙ ap joined (sym s.lines_are),
+      ap (λ (l : List (List ℕ)). joined_pieces l ++ part.0) s.said_is ∙ ap (λ (l : List ℕ). l ++ part.0) (joined-append s.whole s.cut) ∙ append_assoc (joined_pieces s.whole) (joined_pieces s.cut) part.0
+          ∙ ap (λ (l : List ℕ). joined_pieces s.whole ++ l) part.1 ∙ sym (joined-append s.whole s.rest) ∙ ap joined_pieces (sym s.lines_are),
     )
 
 prefix_of_said : (later e : Story) (t : List ℕ) → IsPrefix (said (later ++ e)) t → IsPrefix (said e) t
@@ -252,7 +252,7 @@ module _ {S : Type 0} (k : Keeping S) where
     added = more.added ++ did.added;
     history = more.history ∙ ap (option_map (adds_all more.added)) did.history ∙ history_then more.added did.added old.history;
     each_moment = at_both (Moment limits state (c ∷ []) h) more.added did.added
-        (λ later e split x is. found_silent limits state c (said e) (λ s. k.stands limits x s.map) (ap joined (silent-part later e (ap pieces split ∙ did.silent))) (did.each_moment later e split x is))
+        (λ later e split x is. found_silent limits state c (said e) (λ s. k.stands limits x s.map) (ap joined_pieces (silent-part later e (ap pieces split ∙ did.silent))) (did.each_moment later e split x is))
         (λ later f split x is. found_said limits state c (said (f ++ did.added)) (λ s. k.stands limits x s.map) (more.each_moment later f split x (regrouped k.checks h f did.added x is)));
     replies = subst (SaysLines (reply_lines limits state c ++ [])) (sym all_said) (says_longer (reply_lines limits state c) [] part front);
     all = λ e. all_said ∙ all e ∙ sym (append-nil (reply_lines limits state c));
@@ -275,7 +275,7 @@ module _ {S : Type 0} (k : Keeping S) where
   run_failed limits state c before then h R old new fault did r = record {
     added = did.added;
     history = did.history;
-    each_moment = λ later e split x is. found_silent limits state c (said e) (λ s. k.stands limits x s.map) (ap joined (silent-part later e (ap pieces split ∙ did.silent))) (did.each_moment later e split x is);
+    each_moment = λ later e split x is. found_silent limits state c (said e) (λ s. k.stands limits x s.map) (ap joined_pieces (silent-part later e (ap pieces split ∙ did.silent))) (did.each_moment later e split x is);
     replies = subst (SaysLines (lines limits state (c ∷ []))) (sym did.silent) (says_none (lines limits state (c ∷ [])));
     all = λ e. cc;
     only = all_or_said k.does did.added did.only;
@@ -283,7 +283,7 @@ module _ {S : Type 0} (k : Keeping S) where
     clean = λ e. cc;
     unused = did.unused;
     recalls = λ e. absurd (false≢true e);
-    rests = found_silent limits state c (said did.added) (R (adds_all did.added h)) (ap joined did.silent) (inl r);
+    rests = found_silent limits state c (said did.added) (R (adds_all did.added h)) (ap joined_pieces did.silent) (inl r);
     ends = subst (λ (l : List (List ℕ)). EndsAt (Err (Store fault)) limits state (c ∷ []) l (R (adds_all did.added h))) (sym did.silent) (between_none limits state (c ∷ []) (R (adds_all did.added h)) r);
   }
 
@@ -325,7 +325,7 @@ module _ {S : Type 0} (k : Keeping S) where
       both_pieces = pieces-append two.added first.added ∙ ap (λ (l : List (List ℕ)). l ++ pieces two.added) (first.all refl)
 
       both_said : (f : Story) → said (f ++ first.added) ≡ text limits state cs ++ said f
-      both_said f = said-append f first.added ∙ ap (λ (l : List (List ℕ)). joined l ++ said f) (first.all refl)
+      both_said f = said-append f first.added ∙ ap (λ (l : List (List ℕ)). joined_pieces l ++ said f) (first.all refl)
 
   -- and where the run ends, the commands that were not begun
   pub run_longer : (limits : Limits) (state : State) (cs ds : List Command) (before then : S) (h : History) (R : History → State → Type 0) (old new : Told) (s : Stop)

@@ -5,7 +5,7 @@ use Rattle.std.specs.Option.{option_map}
 use Rattle.crc_sum.specs.Crc.{crc}
 use Rattle.ipl_model.specs.State.{State, Limits}
 use Rattle.ipl_model.specs.declared.command.Command.{Command}
-use Rattle.ipl_model.specs.Run.{joined, after_all}
+use Rattle.ipl_model.specs.Run.{joined_lines, after_all}
 use Rattle.chip_trait.specs.Story.{Story, Contents, pieces}
 use Rattle.chip_trait.specs.Moment.{Leaves}
 use Rattle.chip_trait.specs.Told.{History, Told, adds_all}
@@ -172,12 +172,12 @@ module _ {S : Type 0} (k : Keeping S) (limits : Limits) (state : State) (command
       then between asked)
       (at_first : counts ≡ counts_of []) (none_taken : HasTaken sum [])
       (are : (seen : List (List ℕ)) → HasTaken summed seen
-      → lines ≡ summary_lines counted (length seen) (crc (joined seen))) where
+      → lines ≡ summary_lines counted (length seen) (crc (joined_lines seen))) where
     these : lines ≡ trial_lines limits state commands
     these =
         let seen = record_lines (after_all limits state commands).map limits.names in
         are seen (taken.taking [] none_taken)
-        ∙ ap (λ (c : TrialCounts). summary_lines c (length seen) (crc (joined seen))) (done.counting [] at_first)
+        ∙ ap (λ (c : TrialCounts). summary_lines c (length seen) (crc (joined_lines seen))) (done.counting [] at_first)
 
     abbrev worked : WorkLeaves k (StandsAlong k limits state commands) before h then old asked true
     worked = then_looked mid then old between asked counts counted done true taken.leaves

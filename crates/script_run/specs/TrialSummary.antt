@@ -15,7 +15,7 @@ use Rattle.ipl_model.specs.declared.reply.Reply.TheVariants as reply
 use Rattle.ipl_model.specs.Step.{step, row_reply}
 use Rattle.ipl_model.specs.Laws.{is_commit}
 use Rattle.ipl_model.specs.Text.{reply_text}
-use Rattle.ipl_model.specs.Run.{joined, after_all}
+use Rattle.ipl_model.specs.Run.{joined_lines, after_all}
 
 -- a command, and a line of its reply
 abbrev pub Exchange : Type 0
@@ -111,7 +111,7 @@ pub record RecordSum : Type 0 where
 -- these lines were taken
 pub record HasTaken (taken : RecordSum) (lines : List (List ℕ)) : Type 0 where
   pub count : taken.count ≡ length lines
-  pub register : HasFed taken.register (joined lines)
+  pub register : HasFed taken.register (joined_lines lines)
 
 -- ---- the lines
 
@@ -142,4 +142,4 @@ summary_lines counts records sum =
 abbrev pub trial_lines : Limits → State → List Command → List (List ℕ)
 trial_lines limits state commands =
     let lines = record_lines (after_all limits state commands).map limits.names in
-    summary_lines (counts_of (exchanges limits state commands)) (length lines) (crc (joined lines))
+    summary_lines (counts_of (exchanges limits state commands)) (length lines) (crc (joined_lines lines))

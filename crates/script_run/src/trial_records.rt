@@ -1,7 +1,7 @@
 //! How many records there are, and the sum of their lines.
 ghost use Rattle.std.specs.Prelude.{◌≡◌, ◌∷◌, ◌++◌, ◌+◌, ◌<◌, [], ℕ, List};
 ghost use Rattle.crc_sum.specs.Crc.{crc};
-ghost use Rattle.ipl_model.specs.Run.{joined};
+ghost use Rattle.ipl_model.specs.Run.{joined_lines};
 ghost use Rattle.ipl_model.specs.declared.reply.Reply.TheVariants as reply;
 ghost use Rattle.ipl_model.specs.Text.{reply_text};
 ghost use Rattle.script_run.specs.TrialSummary.{HasTaken, RecordSum};
@@ -60,7 +60,7 @@ impl Records {
 
     /// The CRC-32 of the lines that were taken, joined.
     pub fn sum(&self) -> u32
-        ensures { (lines : List (List ℕ)) → HasTaken self.now lines → result ≡ crc (joined lines) }
+        ensures { (lines : List (List ℕ)) → HasTaken self.now lines → result ≡ crc (joined_lines lines) }
     {
         self.lines.sum()
     }

@@ -1,7 +1,7 @@
 //! The lines of a summary.
 ghost use Rattle.std.specs.Prelude.{◌≡◌, ◌≤◌, ℕ, List, length, All};
 ghost use Rattle.crc_sum.specs.Crc.{crc};
-ghost use Rattle.ipl_model.specs.Run.{joined};
+ghost use Rattle.ipl_model.specs.Run.{joined_lines};
 ghost use Rattle.script_run.specs.TrialSummary.{HasByte, HasTaken, number_line, sum_line, summary_lines};
 
 use crate::trial_records::Records;
@@ -42,7 +42,7 @@ fn sum_line(word: &[u8], sum: u32) -> TextLine
 /// how many records were taken, and the CRC-32 of their lines.
 pub fn summary_lines(tally: &Tally, records: &Records) -> [TextLine; 6]
     ensures lines { (lines : List (List ℕ)) → HasTaken records.now lines
-        → result ≡ summary_lines tally.now (length lines) (crc (joined lines)) }
+        → result ≡ summary_lines tally.now (length lines) (crc (joined_lines lines)) }
     ensures some { All HasByte result }
 {
     [

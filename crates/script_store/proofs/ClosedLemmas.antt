@@ -6,7 +6,7 @@ use Rattle.std.proofs.lemmas.Bool.Decides.{nat_tests}
 use Rattle.ipl_base.specs.declared.fault.Refusal.{Refusal}
 use Rattle.ipl_base.specs.declared.fault.Refusal.TheVariants.{BadSession, NotOpen}
 use Rattle.ipl_model.specs.Refusals.{first_of, sessions_open, refuses_end}
-use Rattle.ipl_model.specs.State.{is_open}
+use Rattle.ipl_model.specs.State.{is_open_session}
 use Rattle.record_locks.specs.Held.{Held, SessionSlots, held_at, after_end}
 use Rattle.record_locks.specs.Locks.{refuses_close}
 use Rattle.record_locks.specs.Standing.{state_of}
@@ -41,10 +41,10 @@ refused_is_closed units slots s r low refused = by_slot (held_at slots s) refl
     by_slot : (o : Option Held) → held_at slots s ≡ o → o ≡ None
     by_slot None is = refl
     by_slot (Some h) is =
-        let opened : is_open (state_of slots) s ≡ true = open_at slots s ∙ ap is_some is in
+        let opened : is_open_session (state_of slots) s ≡ true = open_at slots s ∙ ap is_some is in
         let within : nat_le 32 s ≡ false = grind (arith, nat_tests, low) in
         let free : refuses_end (limits_of units) (state_of slots) s ≡ None =
-        ap (λ (b : Bool). if b then Some BadSession else (if not (is_open (state_of slots) s) then Some NotOpen else None)) within
+        ap (λ (b : Bool). if b then Some BadSession else (if not (is_open_session (state_of slots) s) then Some NotOpen else None)) within
         ∙ ap (λ (b : Bool). if not b then Some NotOpen else None) opened in
         let clash : None ≡ Some r = sym free ∙ refused in absurd (cc clash)
 
@@ -77,5 +77,5 @@ found_none test a (suc n) fails =
 -- a close isn't refused
 pub closes_free : (n : ℕ) (slots : SessionSlots) → 32 ≤ n → AreClosedBelow n slots → refuses_close slots ≡ None
 closes_free n slots all below = ap (λ (o : Option ℕ). first_of (sessions_open o ∷ []))
-    (found_none (is_open (state_of slots)) 0 32
+    (found_none (is_open_session (state_of slots)) 0 32
     (λ s low. open_at slots s ∙ ap is_some (below s (omega (arith, all, low)))))

@@ -2,14 +2,14 @@
 ghost use Rattle.std.specs.Prelude.{◌≡◌, ◌≤◌, length, IfSome};
 ghost use Rattle.std.specs.Option.{option_copied};
 ghost use Rattle.std.specs.List.{slice_split};
-ghost use Rattle.ipl_model.specs.Grammar.{value_of, is_space, words_with};
+ghost use Rattle.ipl_model.specs.Grammar.{value_spelt, is_space, words_with};
 
 use ipl_model::PutBytes;
 
 /// The bytes that a word spells: `-` for none, or pairs of hex digits.
 pub fn value(word: &[u8]) -> Option<PutBytes>
     requires { length word.now ≤ 1024 }
-    ensures { result ≡ value_of word.now }
+    ensures { result ≡ value_spelt word.now }
 {
     if word == b"-".as_slice() {
         return Some(PutBytes::of(&[]));

@@ -4,7 +4,7 @@ ghost use Rattle.std.specs.List.{list_all};
 ghost use Rattle.ipl_base.specs.declared.limits.TheConstants.{PAYLOAD_LEN};
 ghost use Rattle.chip_trait.specs.Story.{blank};
 ghost use Rattle.crc_sum.specs.Crc.{tail_sum};
-ghost use Rattle.ipl_format.specs.Sector.{computed_sum, is_formed, is_marked, is_zero, used_length};
+ghost use Rattle.ipl_format.specs.Sector.{computed_sum, is_formed, has_magic, is_zero, used_length};
 ghost use Rattle.sector_format.specs.Decode.{head_in};
 
 use crate::Head;
@@ -51,8 +51,8 @@ pub(crate) fn is_erased(bytes: &[u8; 512]) -> bool
     is_all(bytes, 0xFF)
 }
 
-fn is_marked(bytes: &[u8; 512]) -> bool
-    ensures { result ≡ is_marked bytes.now }
+fn has_magic(bytes: &[u8; 512]) -> bool
+    ensures { result ≡ has_magic bytes.now }
 {
     bytes[0] == b'I' && bytes[1] == b'P' && bytes[2] == b'L' && bytes[3] == b'1'
 }
@@ -93,7 +93,7 @@ pub(crate) fn is_formed(bytes: &[u8; 512]) -> bool
     ensures { result ≡ is_formed bytes.now }
 {
     let used = used_length(bytes);
-    is_marked(bytes)
+    has_magic(bytes)
         && bytes[4] >= 1
         && bytes[4] <= 7
         && (bytes[5] >= 1 && bytes[5] <= VERSION)

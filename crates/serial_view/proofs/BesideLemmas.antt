@@ -12,11 +12,11 @@ use Rattle.ipl_base.specs.declared.fault.Refusal.{Refusal}
 use Rattle.ipl_base.specs.declared.limits.TheConstants.{PAGE_LEN, PENDING_WEIGHT, SLOTS, UNIT_NAMES}
 use Rattle.ipl_base.specs.Sizes.{size_in_page}
 use Rattle.ipl_model.specs.State.{Map, Write, Session, State, Limits, last_write, written_names, has_written, has_shared, least_other}
-use Rattle.ipl_model.specs.Marks.{Marks, with_mark, marks_of, marks, fill_with, overfills, overloads}
+use Rattle.ipl_model.specs.Peaks.{Peaks, with_peak, peaks_of, peaks, fill_with, overfills, overloads}
 use Rattle.ipl_model.specs.FillLaws.{PageFits, UnitsFit}
 use Rattle.ipl_model.specs.Refusals.{refuses_begin, refuses_get, refuses_share, refuses_put, refuses_del, Test, bad_session, bad_name, already_open, not_open, page_full}
 use Rattle.ipl_model.specs.Operations.{new_session}
-use Rattle.ipl_model.proofs.RuleMarkLemmas.{le_trans, more_than}
+use Rattle.ipl_model.proofs.RulePeakLemmas.{le_trans, more_than}
 use Rattle.ipl_model.proofs.FillLemmas.{fills_less}
 use Rattle.ipl_model.proofs.WeightLemmas.{weights_less}
 use Rattle.ipl_model.specs.declared.command.Command.{Command}
@@ -29,10 +29,10 @@ use Rattle.serial_view.proofs.SessionLemmas.{Sessions, insert_twice, with_sessio
 use Rattle.serial_view.proofs.TestLemmas.{worker, Fail, all_fail, none_holds, share_tests, write_tests, put_tests, del_tests}
 use Rattle.serial_view.proofs.StepLemmas.{changed, said, Gives, does, step_accepted}
 
--- marks that are no greater, over the same records, take no more of a page
-marks_less : (few more : Marks) (m : Map) (page : ℕ) → ((n : ℕ) → few n ≤ more n)
+-- peaks that are no greater, over the same records, take no more of a page
+peaks_less : (few more : Peaks) (m : Map) (page : ℕ) → ((n : ℕ) → few n ≤ more n)
     → fill_with few m page ≤ fill_with more m page
-marks_less few more m page less = fills_less few more m m page (λ n. max-le (le-max_left _ _)
+peaks_less few more m page less = fills_less few more m m page (λ n. max-le (le-max_left _ _)
     (omega (arith, less n, le-max_right (size_in_page (get m n)) (more n - 1))))
 
 -- the one holds no name that the other wrote, and wrote none that the other shares
@@ -101,31 +101,31 @@ put_on (command.Put s k bytes) x page e = ap (λ (b : Bool). (k / SLOTS == page)
 put_on other x page e = e
 
 -- what its writes leave is no less after it
-marked_on : (c : Command) (x : Session) (n : ℕ) → marks_of x.writes n ≤ marks_of (changed c x).writes n
-marked_on (command.Share s k) x n = go (is_unheld x k)
+peaked_on : (c : Command) (x : Session) (n : ℕ) → peaks_of x.writes n ≤ peaks_of (changed c x).writes n
+peaked_on (command.Share s k) x n = go (is_unheld x k)
   where
-    go : (b : Bool) → marks_of x.writes n ≤ marks_of (cond b (shared_too x k) x).writes n
+    go : (b : Bool) → peaks_of x.writes n ≤ peaks_of (cond b (shared_too x k) x).writes n
     go true = omega arith
     go false = omega arith
-marked_on (command.Put s k bytes) x n = more_than (k, Some bytes) x.writes n
-marked_on (command.Del s k) x n = more_than (k, None) x.writes n
-marked_on other x n = omega arith
+peaked_on (command.Put s k bytes) x n = more_than (k, Some bytes) x.writes n
+peaked_on (command.Del s k) x n = more_than (k, None) x.writes n
+peaked_on other x n = omega arith
 
--- a state whose marks are no greater has the room that the other has, in its units and, over the same records, in pages
-pub fewer_fit : (state after : State) → ((n : ℕ) → marks after n ≤ marks state n) → UnitsFit state → UnitsFit after
-fewer_fit state after less fits unit = le_trans (weights_less (marks after) (marks state) unit less) (fits unit)
+-- a state whose peaks are no greater has the room that the other has, in its units and, over the same records, in pages
+pub fewer_fit : (state after : State) → ((n : ℕ) → peaks after n ≤ peaks state n) → UnitsFit state → UnitsFit after
+fewer_fit state after less fits unit = le_trans (weights_less (peaks after) (peaks state) unit less) (fits unit)
 
-pub page_fits : (state after : State) → after.map ≡ state.map → ((n : ℕ) → marks after n ≤ marks state n) → (page : ℕ)
+pub page_fits : (state after : State) → after.map ≡ state.map → ((n : ℕ) → peaks after n ≤ peaks state n) → (page : ℕ)
     → PageFits state page → PageFits after page
 page_fits state after same less page fits =
-    le_trans (subst (λ (m : Map). fill_with (marks after) m page ≤ fill_with (marks state) state.map page) (sym same)
-    (marks_less (marks after) (marks state) state.map page less)) fits
+    le_trans (subst (λ (m : Map). fill_with (peaks after) m page ≤ fill_with (peaks state) state.map page) (sym same)
+    (peaks_less (peaks after) (peaks state) state.map page less)) fits
 
 -- so it could stand there before the command too
 pub beside_before : (B : State) (s : ℕ) (c : Command) (x : Session) → Beside B s (changed c x) → Beside B s x
 beside_before B s c x free =
-    let less : (n : ℕ) → marks (with_session B s x) n ≤ marks (with_session B s (changed c x)) n =
-    λ n. inserted_less B.sessions s x (changed c x) n (marked_on c x n) in
+    let less : (n : ℕ) → peaks (with_session B s x) n ≤ peaks (with_session B s (changed c x)) n =
+    λ n. inserted_less B.sessions s x (changed c x) n (peaked_on c x n) in
     record {
       shut = free.shut;
       apart = λ t y found. record {
@@ -232,12 +232,12 @@ module _ (limits : Limits) (state B : State) (s : ℕ) (x : Session) (found : ge
       )
 
   module _ (w : Write) (free : Beside B s (written x w)) where
-    -- with the write the marks are no more than those of the session behind it
-    no_more : (n : ℕ) → with_mark (marks st) w.0 (1 + size_in_page w.1) n ≤ marks (with_session B s (written x w)) n
+    -- with the write the peaks are no more than those of the session behind it
+    no_more : (n : ℕ) → with_peak (peaks st) w.0 (1 + size_in_page w.1) n ≤ peaks (with_session B s (written x w)) n
     no_more n = with_write_less B.sessions s x w n
 
     -- so the names of its unit aren't too heavy
-    light : overloads (marks st) w.0 (1 + size_in_page w.1) ≡ false
+    light : overloads (peaks st) w.0 (1 + size_in_page w.1) ≡ false
     light = not_above _ (le_trans (weights_less _ _ (w.0 / UNIT_NAMES) no_more) (free.few (w.0 / UNIT_NAMES)))
       where
         not_above : (weight : ℕ) → weight ≤ PENDING_WEIGHT → nat_lt PENDING_WEIGHT weight ≡ false
@@ -265,7 +265,7 @@ module _ (limits : Limits) (state B : State) (s : ℕ) (x : Session) (found : ge
   roomy n bytes free =
       let put : puts_on ((n, Some bytes) ∷ x.writes) (n / SLOTS) ≡ true =
       ap (λ (b : Bool). b || puts_on x.writes (n / SLOTS)) (eq-eqb (n / SLOTS) (n / SLOTS) refl) in
-      let less = marks_less _ _ B.map (n / SLOTS) (no_more (n, Some bytes) free) in
+      let less = peaks_less _ _ B.map (n / SLOTS) (no_more (n, Some bytes) free) in
       not_above _ (le_trans less (free.room (n / SLOTS) put))
     where
       not_above : (size : ℕ) → size ≤ PAGE_LEN → nat_lt PAGE_LEN size ≡ false

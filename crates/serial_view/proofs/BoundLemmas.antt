@@ -6,10 +6,10 @@ use Rattle.std.specs.FinMap.{get, insert, empty}
 use Rattle.std.proofs.lemmas.Bool.{cases_eq, eqb-true, or_cases, or_parts}
 use Rattle.ipl_base.specs.declared.limits.TheConstants.{SLOTS}
 use Rattle.ipl_model.specs.State.{Map, Session, State, Limits, at_rest, has_written, has_shared, least_other}
-use Rattle.ipl_model.specs.Marks.{marks, overfills}
+use Rattle.ipl_model.specs.Peaks.{peaks, overfills}
 use Rattle.ipl_model.specs.FillLaws.{PageFits, UnitsFit}
 use Rattle.ipl_model.specs.Operations.{after_write}
-use Rattle.ipl_model.proofs.RuleMarkLemmas.{by_number}
+use Rattle.ipl_model.proofs.RulePeakLemmas.{by_number}
 use Rattle.ipl_model.proofs.FillLemmas.{pages_stay_fit, puts_make_pages_fit}
 use Rattle.ipl_model.proofs.WeightLemmas.{weights_less, weights_none, units_stay_fit}
 use Rattle.ipl_model.specs.declared.command.Command.{Command}
@@ -37,9 +37,9 @@ pub none_sole : Sole empty
 none_sole s u x y here there other n is = absurd (none_open s x here)
 
 pub none_heavy : (m : Map) → UnitsFit (at_rest m)
-none_heavy m unit = omega (arith, weights_less (marks (at_rest m)) (λ n. 0) unit none, weights_none unit)
+none_heavy m unit = omega (arith, weights_less (peaks (at_rest m)) (λ n. 0) unit none, weights_none unit)
   where
-    none : (n : ℕ) → marks (at_rest m) n ≤ 0
+    none : (n : ℕ) → peaks (at_rest m) n ≤ 0
     none n = by_number empty n 0 (λ s x found. absurd (none_open s x found))
 
 pub none_filled : (m : Map) → Filled (at_rest m)
@@ -220,5 +220,5 @@ may_stand B state s x locked sole light filled maps part found shut = record {
             ∙ sym (ap (get (insert B.sessions s x)) same ∙ get_inserted B.sessions s x) ∙ there
         go (inr other) = part t y (sym (get_other B.sessions s t x other) ∙ there)
 
-    less : (n : ℕ) → marks (with_session B s x) n ≤ marks state n
+    less : (n : ℕ) → peaks (with_session B s x) n ≤ peaks state n
     less n = part_less (with_session B s x).sessions state.sessions n with_it

@@ -11,10 +11,10 @@ use Rattle.std.proofs.lemmas.List.{get_or_past, get_or-replicate, length-replica
 use Rattle.ipl_base.specs.Sizes.{size_in_page}
 use Rattle.ipl_base.specs.declared.limits.TheConstants.{SESSIONS, UNIT_NAMES}
 use Rattle.ipl_model.specs.State.{Map, Write, Session, State, Limits, at_rest, last_write, writes_of}
-use Rattle.ipl_model.specs.Marks.{marks_of}
+use Rattle.ipl_model.specs.Peaks.{peaks_of}
 use Rattle.ipl_model.specs.Operations.{after_abort, after_restart}
 use Rattle.ipl_model.specs.Plain.{limits_for, writes_in}
-use Rattle.record_locks.specs.Held.{Held, held_at, slot_marks}
+use Rattle.record_locks.specs.Held.{Held, held_at, slot_peaks}
 use Rattle.record_locks.specs.Names.{names_of}
 use Rattle.record_locks.specs.Standing.{slot_of}
 use Rattle.record_locks.proofs.StandingLemmas.{session_at}
@@ -49,16 +49,16 @@ tracks_first units records m long sizes = record {
   names = λ q.
       ap (option_map names_of) (session_at (replicate SESSIONS None) q ∙ ap slot_of (none_held SESSIONS q)
       ∙ sym (get-empty nat_cmp q));
-  marks = λ q n.
-      ap (λ (o : Option Held). slot_marks o n) (none_held SESSIONS q)
-      ∙ sym (ap (λ (ws : List Write). marks_of ws n) (nothing_written m q));
+  peaks = λ q n.
+      ap (λ (o : Option Held). slot_peaks o n) (none_held SESSIONS q)
+      ∙ sym (ap (λ (ws : List Write). peaks_of ws n) (nothing_written m q));
   places = (long, length-replicate (limits_for units).names 0, length-replicate (limits_for units).names 0);
   records = sizes;
   last = λ t n change low is.
       absurd (let clash = sym (ap (λ (ws : List Write). last_write ws n) (nothing_written m t)) ∙ is in cc clash);
   most = λ n low.
       let least = all_most (at_rest m) n 0 (λ t.
-      let none = ap (λ (ws : List Write). marks_of ws n) (nothing_written m t) in omega (arith, none)) in
+      let none = ap (λ (ws : List Write). peaks_of ws n) (nothing_written m t) in omega (arith, none)) in
       let zero = get_or-replicate {A = ℕ} (limits_for units).names n 0 0 low in
       omega (arith, least, zero);
 }

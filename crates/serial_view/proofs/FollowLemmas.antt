@@ -6,7 +6,7 @@ use Rattle.std.proofs.lemmas.List.{take_more, take_all}
 use Rattle.ipl_base.specs.declared.fault.Refusal.{Refusal}
 use Rattle.ipl_base.specs.declared.fault.Refusal.TheVariants.{NotOpen}
 use Rattle.ipl_base.specs.declared.limits.TheConstants.{SESSIONS}
-use Rattle.ipl_model.specs.State.{State, is_open, writes_of, with_writes}
+use Rattle.ipl_model.specs.State.{State, is_open_session, writes_of, with_writes}
 use Rattle.ipl_model.specs.Operations.{after_commit, after_batch, after_abort, after_restart}
 use Rattle.record_locks.specs.Held.{Held, SessionSlots, held_at, written_of, after_end}
 use Rattle.record_locks.specs.Locks.{refuses_end}
@@ -40,7 +40,7 @@ pub ended : (slots new : SessionSlots) (s : ℕ) (r : Result Unit Refusal) → r
 ended slots new s (Ok u) is ok err = ok
 ended slots new s (Err why) is ok err = err ∙ sym (shut_slot slots s (by_test (held_at slots s) (open_at slots s)))
   where
-    by_test : (o : Option Held) → is_open (state_of slots) s ≡ is_some o → o ≡ None
+    by_test : (o : Option Held) → is_open_session (state_of slots) s ≡ is_some o → o ≡ None
     by_test None at = refl
     by_test (Some h) at =
         let passes : refuses_end slots s ≡ None = ap (λ (b : Bool). cond (not b) (Some NotOpen) None) at in

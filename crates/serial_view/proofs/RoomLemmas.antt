@@ -7,7 +7,7 @@ use Rattle.std.specs.FinMap.{get}
 use Rattle.ipl_base.specs.Sizes.{size_in_page}
 use Rattle.ipl_base.specs.declared.limits.TheConstants.{PAGE_LEN, SLOTS, UNIT_NAMES}
 use Rattle.ipl_model.specs.State.{State}
-use Rattle.ipl_model.specs.Marks.{marks, with_mark, fill_of, fill_with, overfills}
+use Rattle.ipl_model.specs.Peaks.{peaks, with_peak, fill_of, fill_with, overfills}
 use Rattle.ipl_model.proofs.SumLemmas.{sums_same}
 use Rattle.serial_view.specs.Running.{KeptRun, run_limits, Tracks, room_in, fill_in}
 use Rattle.serial_view.proofs.MostLemmas.{less_one}
@@ -37,20 +37,20 @@ neighbour n units slot named low = omega (arith, named, low)
 module _ (state : State) (run : KeptRun) (tracks : Tracks state run)
     (n : ℕ) (named : n < (run_limits run).names) (size : ℕ) where
   room_is : (k : ℕ) → k < (run_limits run).names
-      → room_in run n size k ≡ max (size_in_page (get state.map k)) (with_mark (marks state) n (1 + size) k - 1)
+      → room_in run n size k ≡ max (size_in_page (get state.map k)) (with_peak (peaks state) n (1 + size) k - 1)
   room_is k low = ap₂ max (tracks.records k low) (by_name (n == k) (slice_index run.most k) (tracks.most k low))
     where
-      by_name : (b : Bool) (most : ℕ) → most ≡ marks state k - 1
-          → cond b (max size most) most ≡ cond b (max (1 + size) (marks state k)) (marks state k) - 1
-      by_name true most is = ap (max size) is ∙ sym (less_one size (marks state k))
+      by_name : (b : Bool) (most : ℕ) → most ≡ peaks state k - 1
+          → cond b (max size most) most ≡ cond b (max (1 + size) (peaks state k)) (peaks state k) - 1
+      by_name true most is = ap (max size) is ∙ sym (less_one size (peaks state k))
       by_name false most is = is
 
-  fill_is : fill_in run n size ≡ fill_with (with_mark (marks state) n (1 + size)) state.map (n / SLOTS)
+  fill_is : fill_in run n size ≡ fill_with (with_peak (peaks state) n (1 + size)) state.map (n / SLOTS)
   unfolding fill_in fill_of
   fill_is = sums_same
       (λ slot. room_in run n size (n / SLOTS * SLOTS + slot))
       (λ slot. max (size_in_page (get state.map (SLOTS * (n / SLOTS) + slot)))
-      (with_mark (marks state) n (1 + size) (SLOTS * (n / SLOTS) + slot) - 1)) 0 SLOTS
+      (with_peak (peaks state) n (1 + size) (SLOTS * (n / SLOTS) + slot) - 1)) 0 SLOTS
       (λ slot low.
       let at : n / SLOTS * SLOTS + slot ≡ SLOTS * (n / SLOTS) + slot = omega arith in
       ap (room_in run n size) at ∙ room_is (SLOTS * (n / SLOTS) + slot) (neighbour n run.units slot named low))

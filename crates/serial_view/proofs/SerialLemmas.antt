@@ -5,7 +5,7 @@ use Rattle.std.proofs.Common.{◌≡◌, inl, inr, ℕ, zero, suc, Bool, true, f
 use Rattle.std.specs.Ordering.{nat_cmp}
 use Rattle.std.specs.FinMap.{get, empty, get-empty, same_map, nat_cmp-IsAntisymmetric}
 use Rattle.std.proofs.lemmas.Bool.{cases_Bool, cases_eq, or_parts, both_ways, eq-eqb}
-use Rattle.ipl_model.specs.State.{Map, Session, State, Limits, at_rest, has_shared, is_open, with_writes}
+use Rattle.ipl_model.specs.State.{Map, Session, State, Limits, at_rest, has_shared, is_open_session, with_writes}
 use Rattle.ipl_model.specs.Operations.{new_session}
 use Rattle.ipl_model.specs.declared.command.Command.{Command}
 use Rattle.ipl_model.specs.declared.command.Command.TheVariants as command
@@ -267,11 +267,11 @@ module _ (limits : Limits) (m : Map) (commands : List Command) where
       those : (t : ℕ) → Contains ss t → get after.sessions t ≡ get st.sessions t
       others : (t : ℕ) → list_any (λ u. u == t) ss ≡ false → get after.sessions t ≡ get B.sessions t
 
-    opened_at : (s : ℕ) → is_open st s ≡ true → (x : Session) × (get st.sessions s ≡ Some x)
+    opened_at : (s : ℕ) → is_open_session st s ≡ true → (x : Session) × (get st.sessions s ≡ Some x)
     opened_at s e = go (get st.sessions s) refl
       where
         go : (o : Option Session) → get st.sessions s ≡ o → (x : Session) × (get st.sessions s ≡ Some x)
-        go None none = (let shut : is_open st s ≡ false = ap is_some none in absurd (cc))
+        go None none = (let shut : is_open_session st s ≡ false = ap is_some none in absurd (cc))
         go (Some x) found = (x, found)
 
     part_on : (B : State) (s : ℕ) (x : Session) → get st.sessions s ≡ Some x → PartOf B.sessions st.sessions
@@ -283,7 +283,7 @@ module _ (limits : Limits) (m : Map) (commands : List Command) where
       | inr other ↦ part t y (sym (get_other B.sessions s t x other) ∙ there)
     ]
 
-    together : Before → (ss : List ℕ) → Distinct ss → ((t : ℕ) → Contains ss t → is_open st t ≡ true) → (B : State)
+    together : Before → (ss : List ℕ) → Distinct ss → ((t : ℕ) → Contains ss t → is_open_session st t ≡ true) → (B : State)
         → B.map ≡ st.map → PartOf B.sessions st.sessions → ((t : ℕ) → Contains ss t → get B.sessions t ≡ None)
         → Together ss B
     together old [] each opens B maps part shut = record {

@@ -9,7 +9,7 @@ use Rattle.ipl_base.specs.Sizes.{size_in_page}
 use Rattle.ipl_base.specs.declared.fault.Refusal.{Refusal}
 use Rattle.ipl_base.specs.declared.fault.Refusal.TheVariants.{NotOpen}
 use Rattle.ipl_base.specs.declared.limits.TheConstants.{PAGE_LEN, SESSIONS, VALUE_LEN}
-use Rattle.ipl_model.specs.State.{Session, State, is_open, writes_of, last_write, has_written, has_shared, holder_for_write}
+use Rattle.ipl_model.specs.State.{Session, State, is_open_session, writes_of, last_write, has_written, has_shared, holder_for_write}
 use Rattle.ipl_model.specs.Operations.{after_commit, after_batch, after_abort, after_restart}
 use Rattle.ipl_model.specs.Refusals as rules
 use Rattle.ipl_model.specs.Refusals.{Test, first_of, bad_session, bad_name, too_long, already_open, not_open, conflict, writes_full, pending_full, page_full}
@@ -134,21 +134,21 @@ module _ (state : State) (run : KeptRun) (tracks : Tracks state run) (s : ℕ) (
   in_range = lt-leb SESSIONS s slot
 
   begin_refused : refusal_of (run_limits run) state (command.Begin s) ≡ refuses_begin run.slots s
-  begin_refused = rw in_range (sym (refuse_as run.slots state tracks.names tracks.marks s 0).begins)
+  begin_refused = rw in_range (sym (refuse_as run.slots state tracks.names tracks.peaks s 0).begins)
 
   end_refused : rules.refuses_end (run_limits run) state s ≡ refuses_end run.slots s
-  end_refused = rw in_range (sym (refuse_as run.slots state tracks.names tracks.marks s 0).ends)
+  end_refused = rw in_range (sym (refuse_as run.slots state tracks.names tracks.peaks s 0).ends)
 
   module _ (n : ℕ) (named : n < (run_limits run).names) where
     known : nat_le (run_limits run).names n ≡ false
     known = lt-leb (run_limits run).names n named
 
     share_refused : refusal_of (run_limits run) state (command.Share s n) ≡ refuses_share run.slots s n
-    share_refused = rw (in_range, known) (sym (refuse_as run.slots state tracks.names tracks.marks s n).shares)
+    share_refused = rw (in_range, known) (sym (refuse_as run.slots state tracks.names tracks.peaks s n).shares)
 
     writes : (change : Option (List ℕ))
         → refuses_write run.slots s n (size_in_page change) ≡ first_of (write_tests state s (n, change) [])
-    writes change = (refuse_as run.slots state tracks.names tracks.marks s n).writes change
+    writes change = (refuse_as run.slots state tracks.names tracks.peaks s n).writes change
 
     del_refused : refusal_of (run_limits run) state (command.Del s n) ≡ refuses_write run.slots s n 0
     del_refused = rw (in_range, known) (sym (writes None))
@@ -174,8 +174,8 @@ or_none false b is = is
 
 -- a session that may write a name is open, and no other wrote it
 module _ (state : State) (s n : ℕ) where
-  opened : not (is_open state s) ≡ false → is_open state s ≡ true
-  opened none = by_test (is_open state s) none
+  opened : not (is_open_session state s) ≡ false → is_open_session state s ≡ true
+  opened none = by_test (is_open_session state s) none
     where
       by_test : (b : Bool) → not b ≡ false → b ≡ true
       by_test true is = refl
@@ -254,7 +254,7 @@ overfull run s n slot named bytes short full =
     ∙ lt-ltb PAGE_LEN (fill_in run n (size_in_page (Some bytes))) full))
 
 -- an end
-module _ (run new : KeptRun) (s : ℕ) (slot : s < SESSIONS) (opens : is_open (state_of run.slots) s ≡ true) where
+module _ (run new : KeptRun) (s : ℕ) (slot : s < SESSIONS) (opens : is_open_session (state_of run.slots) s ≡ true) where
   end_passes : (state : State) → Tracks state run → rules.refuses_end (run_limits run) state s ≡ None
   end_passes state tracks =
       end_refused state run tracks s slot ∙ ap (λ (b : Bool). cond (not b) (Some NotOpen) None) opens

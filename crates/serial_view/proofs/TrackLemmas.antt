@@ -8,23 +8,23 @@ use Rattle.std.proofs.lemmas.Bool.{cases_eq, eq-eqb, ne_eqb}
 use Rattle.std.proofs.lemmas.List.{length-set}
 use Rattle.ipl_base.specs.Sizes.{size_in_page}
 use Rattle.ipl_base.specs.declared.limits.TheConstants.{SESSIONS}
-use Rattle.ipl_model.specs.State.{Map, Write, State, is_open, last_write, writes_of, with_writes}
-use Rattle.ipl_model.specs.Marks.{marks, marks_of}
+use Rattle.ipl_model.specs.State.{Map, Write, State, is_open_session, last_write, writes_of, with_writes}
+use Rattle.ipl_model.specs.Peaks.{peaks, peaks_of}
 use Rattle.ipl_model.specs.Operations as rules
 use Rattle.ipl_model.proofs.SeenLemmas.{get-with_writes}
 use Rattle.ipl_model.proofs.RuleBatchLemmas.{closed_writes, other_writes}
 use Rattle.ipl_model.specs.declared.command.Command.TheVariants as command
 use Rattle.record_locks.specs.Held.{SessionSlots, written_of, is_among, after_begin, after_share, after_end}
 use Rattle.record_locks.specs.Locks.{IsSized, OneWriter}
-use Rattle.record_locks.specs.Names.{SameNames, SameMarks}
+use Rattle.record_locks.specs.Names.{SameNames, SamePeaks}
 use Rattle.record_locks.specs.Standing.{state_of}
 use Rattle.record_locks.proofs.StandingLemmas.{new_write_at}
 use Rattle.record_locks.proofs.SameLemmas.{new_writes_alike}
-use Rattle.record_locks.proofs.KeepLemmas.{keeps_names, keeps_marks}
+use Rattle.record_locks.proofs.KeepLemmas.{keeps_names, keeps_peaks}
 use Rattle.serial_view.specs.Running.{KeptRun, run_limits, Tracks, Sets, after_write}
 use Rattle.serial_view.proofs.SessionLemmas.{same_some}
 use Rattle.serial_view.proofs.LockLemmas.{records_kept}
-use Rattle.serial_view.proofs.MostLemmas.{begun_writes, shared_writes, written_here, written_elsewhere, unwritten_mark, all_most, alike_most, written_most, less_one}
+use Rattle.serial_view.proofs.MostLemmas.{begun_writes, shared_writes, written_here, written_elsewhere, unwritten_peak, all_most, alike_most, written_most, less_one}
 
 -- what all sessions together have
 pub record AreSessions (slots : SessionSlots) : Type 0 where
@@ -61,43 +61,43 @@ module _ (state : State) (run : KeptRun) (tracks : Tracks state run) where
 
   -- ---- a begin and a share
 
-  calm : (next : State) (slots : SessionSlots) → SameNames (state_of slots) next → SameMarks slots next
+  calm : (next : State) (slots : SessionSlots) → SameNames (state_of slots) next → SamePeaks slots next
       → next.map ≡ state.map → ((t : ℕ) → writes_of next t ≡ writes_of state t)
       → Tracks next (record run { slots = slots })
-  calm next slots held marked same writes = record {
+  calm next slots held peaked same writes = record {
     names = held;
-    marks = marked;
+    peaks = peaked;
     places = tracks.places;
     records = λ n low. tracks.records n low ∙ ap (λ (m : Map). size_in_page (get m n)) (sym same);
     last = λ t n change low is.
         tracks.last t n change low (ap (λ (ws : List Write). last_write ws n) (sym (writes t)) ∙ is);
     most = λ n low.
         tracks.most n low ∙ ap (λ (m : ℕ). m - 1) (alike_most state next n (λ t.
-        ap (λ (ws : List Write). marks_of ws n) (sym (writes t))));
+        ap (λ (ws : List Write). peaks_of ws n) (sym (writes t))));
   }
 
   module _ (sound : AreSessions run.slots) (s : ℕ) (slot : s < SESSIONS) where
     within : s < length run.slots
     within = omega (arith, slot, sound.all)
 
-    pub begun : is_open state s ≡ false
+    pub begun : is_open_session state s ≡ false
         → Tracks (rules.after_begin state s) (record run { slots = after_begin run.slots s 0 })
     begun shut =
         calm (rules.after_begin state s) (after_begin run.slots s 0)
         ((keeps_names run.slots state s within tracks.names).begins 0)
-        ((keeps_marks run.slots state s within sound.sized tracks.names tracks.marks).begins 0)
+        ((keeps_peaks run.slots state s within sound.sized tracks.names tracks.peaks).begins 0)
         refl (λ t. begun_writes state s t shut)
 
     pub shared : (n : ℕ) → Tracks (rules.after_share state s n) (record run { slots = after_share run.slots s n })
     shared n =
         calm (rules.after_share state s n) (after_share run.slots s n)
         ((keeps_names run.slots state s within tracks.names).shares n)
-        ((keeps_marks run.slots state s within sound.sized tracks.names tracks.marks).shares n)
+        ((keeps_peaks run.slots state s within sound.sized tracks.names tracks.peaks).shares n)
         (records_kept state (command.Share s n) refl) (shared_writes state s n)
 
     -- ---- a write
 
-    module _ (n : ℕ) (change : Option (List ℕ)) (named : n < names) (opened : is_open state s ≡ true)
+    module _ (n : ℕ) (change : Option (List ℕ)) (named : n < names) (opened : is_open_session state s ≡ true)
         (free : (t : ℕ) → t ≢ s → last_write (writes_of state t) n ≡ None) where
       abbrev size : ℕ
       size = size_in_page change
@@ -139,21 +139,21 @@ module _ (state : State) (run : KeptRun) (tracks : Tracks state run) where
           by_name (inr differ) (inr apart) = beside apart ∙ tracks.last t k other low (theirs differ)
 
       most_then : (k : ℕ) → k < names
-          → slice_index (slice_set run.most n (max size (slice_index run.most n))) k ≡ marks next k - 1
+          → slice_index (slice_set run.most n (max size (slice_index run.most n))) k ≡ peaks next k - 1
       most_then k low = by_name (cases_eq n k)
         where
           now : (b : Bool) → (n == k) ≡ b
-              → cond b (max (1 + size) (marks state k)) (marks state k) - 1 ≡ marks next k - 1
+              → cond b (max (1 + size) (peaks state k)) (peaks state k) - 1 ≡ peaks next k - 1
           now b is =
-              ap (λ (t : Bool). cond t (max (1 + size) (marks state k)) (marks state k) - 1) (sym is)
+              ap (λ (t : Bool). cond t (max (1 + size) (peaks state k)) (peaks state k) - 1) (sym is)
               ∙ ap (λ (m : ℕ). m - 1) (sym (written_most state s (n, change) opened k))
 
           by_name : (n ≡ k) ⊎ (n ≢ k)
-              → slice_index (slice_set run.most n (max size (slice_index run.most n))) k ≡ marks next k - 1
+              → slice_index (slice_set run.most n (max size (slice_index run.most n))) k ≡ peaks next k - 1
           by_name (inl here) =
               ap (λ (j : ℕ). slice_index (slice_set run.most j (max size (slice_index run.most j))) k) here
               ∙ get_or-set_same run.most k (max size (slice_index run.most k)) 0 (omega (arith, low, tracks.places.2))
-              ∙ ap (max size) (tracks.most k low) ∙ sym (less_one size (marks state k)) ∙ now true (eq-eqb n k here)
+              ∙ ap (max size) (tracks.most k low) ∙ sym (less_one size (peaks state k)) ∙ now true (eq-eqb n k here)
           by_name (inr apart) =
               get_or-set_other run.most n k (max size (slice_index run.most n)) 0 (λ e. apart (sym e))
               ∙ tracks.most k low ∙ now false (ne_eqb n k apart)
@@ -161,7 +161,7 @@ module _ (state : State) (run : KeptRun) (tracks : Tracks state run) where
       pub written : Tracks (rules.after_write state s (n, change)) (after_write run s n (size_in_page change))
       written = record {
         names = (keeps_names run.slots state s within tracks.names).writes n size change;
-        marks = (keeps_marks run.slots state s within sound.sized tracks.names tracks.marks).writes n change;
+        peaks = (keeps_peaks run.slots state s within sound.sized tracks.names tracks.peaks).writes n change;
         places = (
           tracks.places.0,
           length-set run.last n size ∙ tracks.places.1,
@@ -187,7 +187,7 @@ module _ (state : State) (run : KeptRun) (tracks : Tracks state run) where
         → Tracks (rules.after_abort state s) (record run { slots = after_end run.slots s; most = most })
     closed most sets = record {
       names = (keeps_names run.slots state s within tracks.names).aborts;
-      marks = (keeps_marks run.slots state s within sound.sized tracks.names tracks.marks).aborts;
+      peaks = (keeps_peaks run.slots state s within sound.sized tracks.names tracks.peaks).aborts;
       places = (tracks.places.0, tracks.places.1, sets.long ∙ tracks.places.2);
       records = tracks.records;
       last = last_then;
@@ -207,13 +207,13 @@ module _ (state : State) (run : KeptRun) (tracks : Tracks state run) where
               (sym (ap (λ (ws : List Write). last_write ws n) (other_writes state s 0 t other)) ∙ is)
         ]
 
-        gone : (t n : ℕ) → t ≡ s → marks_of (writes_of ended t) n ≡ 0
+        gone : (t n : ℕ) → t ≡ s → peaks_of (writes_of ended t) n ≡ 0
         gone t n same =
-            ap (λ (k : ℕ). marks_of (writes_of ended k) n) same
-            ∙ ap (λ (ws : List Write). marks_of ws n) (closed_writes state s 0)
+            ap (λ (k : ℕ). peaks_of (writes_of ended k) n) same
+            ∙ ap (λ (ws : List Write). peaks_of ws n) (closed_writes state s 0)
 
-        kept : (t n : ℕ) → t ≢ s → marks_of (writes_of ended t) n ≡ marks_of (writes_of state t) n
-        kept t n other = ap (λ (ws : List Write). marks_of ws n) (other_writes state s 0 t other)
+        kept : (t n : ℕ) → t ≢ s → peaks_of (writes_of ended t) n ≡ peaks_of (writes_of state t) n
+        kept t n other = ap (λ (ws : List Write). peaks_of ws n) (other_writes state s 0 t other)
 
         set_at : (n : ℕ) → n < names → (b : Bool) → is_among n (written_of run.slots s) ≡ b
             → slice_index most n ≡ cond b 0 (slice_index run.most n)
@@ -222,12 +222,12 @@ module _ (state : State) (run : KeptRun) (tracks : Tracks state run) where
             ∙ ap (λ (t : Bool). cond t 0 (slice_index run.most n)) is
 
         most_then : (n : ℕ) → n < names → (b : Bool) → is_among n (written_of run.slots s) ≡ b
-            → slice_index most n ≡ marks ended n - 1
+            → slice_index most n ≡ peaks ended n - 1
         most_then n low true wrote =
-            let none : marks ended n ≡ 0 = zero_then (all_most ended n 0 (λ t. elim (cases_eq t s) [
+            let none : peaks ended n ≡ 0 = zero_then (all_most ended n 0 (λ t. elim (cases_eq t s) [
               | inl same ↦ omega (arith, gone t n same)
               | inr other ↦
-                  let zero = unwritten_mark (writes_of state t) n (alone sound.one_writer s t n wrote other) in
+                  let zero = unwritten_peak (writes_of state t) n (alone sound.one_writer s t n wrote other) in
                   omega (arith, kept t n other, zero)
             ])) in
             set_at n low true wrote ∙ sym (ap (λ (m : ℕ). m - 1) none)
@@ -239,9 +239,9 @@ module _ (state : State) (run : KeptRun) (tracks : Tracks state run) where
             ∙ ap (λ (m : ℕ). m - 1) (alike_most state ended n (λ t. elim (cases_eq t s) [
               | inl same ↦
                   let none = unwritten (last_write (writes_of state s) n) (sym (among s n) ∙ wrote) in
-                  let zero = unwritten_mark (writes_of state s) n none in
-                  let was : marks_of (writes_of state t) n ≡ marks_of (writes_of state s) n =
-                  ap (λ (k : ℕ). marks_of (writes_of state k) n) same in
+                  let zero = unwritten_peak (writes_of state s) n none in
+                  let was : peaks_of (writes_of state t) n ≡ peaks_of (writes_of state s) n =
+                  ap (λ (k : ℕ). peaks_of (writes_of state k) n) same in
                   omega (arith, gone t n same, zero, was)
               | inr other ↦ sym (kept t n other)
             ]))
@@ -255,7 +255,7 @@ module _ (state : State) (run : KeptRun) (tracks : Tracks state run) where
       → Tracks (record state { map = with_writes (writes_of state s) state.map }) (record run { records = records })
   copied s records sets = record {
     names = tracks.names;
-    marks = tracks.marks;
+    peaks = tracks.peaks;
     places = (sets.long ∙ tracks.places.0, tracks.places.1, tracks.places.2);
     records = λ n low.
         sets.sizes n (omega (arith, low, tracks.places.0))

@@ -5,13 +5,13 @@ use Rattle.std.specs.FinMap.{get}
 use Rattle.ipl_base.specs.Sizes.{size_in_page}
 use Rattle.ipl_base.specs.declared.limits.TheConstants.{SLOTS}
 use Rattle.ipl_model.specs.State.{State, Limits, last_write, writes_of}
-use Rattle.ipl_model.specs.Marks as rules
+use Rattle.ipl_model.specs.Peaks as rules
 use Rattle.ipl_model.specs.declared.command.Command.{Command}
 use Rattle.ipl_model.specs.Plain.{limits_for}
 use Rattle.ipl_model.specs.Step.{step}
 use Rattle.record_locks.specs.Held as held
 use Rattle.record_locks.specs.Held.{SessionSlots, is_among}
-use Rattle.record_locks.specs.Names.{SameNames, SameMarks}
+use Rattle.record_locks.specs.Names.{SameNames, SamePeaks}
 use Rattle.record_locks.specs.Standing.{state_of}
 use Rattle.serial_view.specs.declared.running.Running.{Running}
 use Rattle.serial_view.specs.Serial.{accepts}
@@ -44,15 +44,15 @@ run_limits run = limits_for run.units
 abbrev pub CoversNames : KeptRun → ℕ → Type 0
 CoversNames run names = (length run.records ≡ names) × (length run.last ≡ names) × (length run.most ≡ names)
 
--- what is kept is what a state has: its sessions' names and marks, and the sizes of its records and writes
+-- what is kept is what a state has: its sessions' names and peaks, and the sizes of its records and writes
 pub record Tracks (state : State) (run : KeptRun) : Type 0 where
   pub names : SameNames (state_of run.slots) state
-  pub marks : SameMarks run.slots state
+  pub peaks : SamePeaks run.slots state
   pub places : CoversNames run (run_limits run).names
   pub records : (n : ℕ) → n < (run_limits run).names → slice_index run.records n ≡ size_in_page (get state.map n)
   pub last : (s n : ℕ) (change : Option (List ℕ)) → n < (run_limits run).names
       → last_write (writes_of state s) n ≡ Some change → slice_index run.last n ≡ size_in_page change
-  pub most : (n : ℕ) → n < (run_limits run).names → slice_index run.most n ≡ rules.marks state n - 1
+  pub most : (n : ℕ) → n < (run_limits run).names → slice_index run.most n ≡ rules.peaks state n - 1
 
 -- ---- what the calls do
 

@@ -6,7 +6,7 @@ use Rattle.ipl_model.specs.State.{Map, State, Limits, at_rest}
 use Rattle.ipl_model.specs.declared.command.Command.{Command}
 use Rattle.ipl_model.specs.declared.command.Command.TheVariants as command
 use Rattle.ipl_model.specs.Step.{refusal_of}
-use Rattle.ipl_model.specs.Run.{after}
+use Rattle.ipl_model.specs.Run.{after_first}
 
 -- the command at a position
 abbrev pub command_at : List Command → ℕ → Command
@@ -14,7 +14,7 @@ command_at commands k = slice_index_or commands k command.Syntax
 
 -- the state that the command at a position meets, in a run from these records and no open session
 abbrev pub met_at : Limits → Map → List Command → ℕ → State
-met_at limits m commands k = after limits (at_rest m) commands k
+met_at limits m commands k = after_first limits (at_rest m) commands k
 
 -- a command isn't refused in a state
 abbrev pub accepts : Limits → State → Command → Bool

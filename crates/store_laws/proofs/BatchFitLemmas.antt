@@ -7,7 +7,7 @@ use Rattle.ipl_model.proofs.RuleBatchLemmas.{distinct}
 use Rattle.ipl_model.specs.Operations as rules
 use Rattle.ipl_model.specs.State.{State}
 use Rattle.record_locks.specs.Held.{SessionSlots, after_end, after_batch, is_among, number_of, numbers_in}
-use Rattle.record_locks.proofs.BatchLemmas.{batches_keep_names, batches_keep_marks}
+use Rattle.record_locks.proofs.BatchLemmas.{batches_keep_names, batches_keep_peaks}
 use Rattle.ipl_meaning.specs.Chart.{Chart}
 use Rattle.ipl_meaning.specs.Last.{last_that}
 use Rattle.ipl_meaning.specs.Layout.{Layout}
@@ -118,7 +118,7 @@ batches_fit places c y it t later frames after slots state ss committed fits are
           alike waits.framed;
       sessions = record {
         names = batches_keep_names slots state ss are.within fits.sessions.names;
-        marks = batches_keep_marks slots state ss are.within fits.sessions.marks;
+        peaks = batches_keep_peaks slots state ss are.within fits.sessions.peaks;
         locked = locked;
       };
     }

@@ -2,7 +2,7 @@
 use Rattle.std.proofs.Common.{Bool, None, refl, ℕ, ◌≡◌}
 use Rattle.std.specs.List.{filter}
 use Rattle.ipl_model.specs.Operations.{after_abort}
-use Rattle.ipl_model.proofs.RuleMarkLemmas.{removed_most}
+use Rattle.ipl_model.proofs.RulePeakLemmas.{removed_most}
 use Rattle.record_locks.specs.Held.{after_end, number_of}
 use Rattle.record_locks.proofs.KeepLemmas.{keeps_names}
 use Rattle.page_ops.specs.Pending.{without_pending}
@@ -17,7 +17,7 @@ use Rattle.store_laws.proofs.FrameEndLemmas.{aborts_keep_frames}
 use Rattle.store_laws.proofs.ActiveLemmas.{active_ended}
 use Rattle.store_laws.proofs.TableLemmas.{ended_mirrors}
 use Rattle.store_laws.proofs.FitLemmas.{sessions_are_sound}
-use Rattle.store_laws.proofs.MemoryFitLemmas.{keep_marks}
+use Rattle.store_laws.proofs.MemoryFitLemmas.{keep_peaks}
 use Rattle.store_laws.proofs.RoomLemmas.{room_kept}
 use Rattle.store_laws.proofs.SameLemmas.{pending_with_logs, pending_with_numbers, active_with_numbers, frame_as, IsPlaced, both_logs, frames_all}
 use Rattle.ipl_model.specs.Operations as rules
@@ -38,7 +38,7 @@ aborts_fit places c it t frames after slots state s tid fits within mine all loc
       framed;
   sessions = record {
     names = (keeps_names slots state s within fits.sessions.names).aborts;
-    marks = (keep_marks slots state s within fits.sessions).aborts;
+    peaks = (keep_peaks slots state s within fits.sessions).aborts;
     locked = locked;
   };
 }

@@ -7,10 +7,10 @@ use Rattle.std.proofs.lemmas.Bool.{cases_eq, cases_lt}
 use Rattle.std.proofs.lemmas.List.{get_or-append_right, get_or-replicate, get_or_past, length-replicate}
 use Rattle.std.proofs.lemmas.List.FromFn.{get_or-range_with_len, length-range_with_len}
 use Rattle.ipl_base.specs.declared.limits.TheConstants.{SESSIONS}
-use Rattle.ipl_model.specs.Marks.{marks_of}
+use Rattle.ipl_model.specs.Peaks.{peaks_of}
 use Rattle.ipl_model.specs.State.{Session, at_rest}
-use Rattle.record_locks.specs.Held.{Held, slot_marks}
-use Rattle.record_locks.specs.Names.{names_of, SameMarks, SameNames}
+use Rattle.record_locks.specs.Held.{Held, slot_peaks}
+use Rattle.record_locks.specs.Names.{names_of, SamePeaks, SameNames}
 use Rattle.record_locks.specs.Standing.{slot_of, state_of}
 use Rattle.record_locks.proofs.StandingLemmas.{session_at}
 use Rattle.record_locks.proofs.SoundLemmas.{sound_none}
@@ -36,17 +36,17 @@ none_at n s = elim (cases_lt s n) [
 ]
 
 pub empty_slots_are_at_rest : EmptySlotsAreAtRest
-empty_slots_are_at_rest m = record { names = names; marks = marked; locked = locked }
+empty_slots_are_at_rest m = record { names = names; peaks = peaked; locked = locked }
   where
     names : SameNames (state_of (replicate SESSIONS None)) (at_rest m)
     names s =
         ap (option_map names_of)
         (session_at (replicate SESSIONS None) s ∙ ap slot_of (none_at SESSIONS s) ∙ sym (get-empty nat_cmp s))
 
-    marked : SameMarks (replicate SESSIONS None) (at_rest m)
-    marked s n =
-        ap (λ (o : Option Held). slot_marks o n) (none_at SESSIONS s)
-        ∙ sym (ap (λ (o : Option Session). marks_of (writes_in o) n) (get-empty nat_cmp s))
+    peaked : SamePeaks (replicate SESSIONS None) (at_rest m)
+    peaked s n =
+        ap (λ (o : Option Held). slot_peaks o n) (none_at SESSIONS s)
+        ∙ sym (ap (λ (o : Option Session). peaks_of (writes_in o) n) (get-empty nat_cmp s))
 
     locked : LocksHold (replicate SESSIONS None)
     locked = record {

@@ -3,13 +3,13 @@ use Rattle.std.proofs.Common.{Bool, Some, arith, inl, inr, not, refl, subst, sym
 use Rattle.std.specs.List.{Contains}
 use Rattle.std.proofs.lemmas.Bool.{not-false, not_from_true}
 use Rattle.std.proofs.lemmas.List.Elements.{Contains-append_left}
-use Rattle.ipl_model.specs.Marks.{marks, weight_of_mark, weights}
+use Rattle.ipl_model.specs.Peaks.{peaks, weight_of_peak, weights}
 use Rattle.ipl_model.specs.State.{Map, State}
-use Rattle.ipl_model.proofs.RuleMarkLemmas.{le_trans}
+use Rattle.ipl_model.proofs.RulePeakLemmas.{le_trans}
 use Rattle.ipl_model.proofs.WeightLemmas.{weights_less}
-use Rattle.record_locks.specs.Held.{SessionSlots, is_among, marks_in, number_of, written_of}
+use Rattle.record_locks.specs.Held.{SessionSlots, is_among, peaks_in, number_of, written_of}
 use Rattle.record_locks.specs.Standing.{state_of}
-use Rattle.record_locks.proofs.SameLemmas.{marks_are, new_writes_alike}
+use Rattle.record_locks.proofs.SameLemmas.{peaks_are, new_writes_alike}
 use Rattle.record_locks.proofs.StandingLemmas.{new_write_at}
 use Rattle.ipl_meaning.specs.Chart.{Chart, chart_of}
 use Rattle.ipl_meaning.specs.Laws.{AreOneLayout}
@@ -49,13 +49,13 @@ fits_whatever_the_map places c it t frames slots state m fits = record {
     valid = fits.pending.valid;
     in_memory = fits.pending.in_memory;
   };
-  filled = λ u page slot low few less marked.
-      let is = fits.filled u page slot low few less marked in
+  filled = λ u page slot low few less peaked.
+      let is = fits.filled u page slot low few less peaked in
       record { values = is.values; shows = is.shows; room = is.room };
   active = fits.active;
   framed = fits.framed;
   sessions =
-      record { names = fits.sessions.names; marks = fits.sessions.marks; locked = fits.sessions.locked };
+      record { names = fits.sessions.names; peaks = fits.sessions.peaks; locked = fits.sessions.locked };
 }
 
 -- ---- sessions
@@ -76,7 +76,7 @@ pub sessions_are_sound : SessionsAreSound
 sessions_are_sound slots state are = (
   λ s t n by_s by_t.
       are.locked.one_writer s t n (wrote_is slots state are s n by_s) (wrote_is slots state are t n by_t),
-  λ u. le_trans (weights_less (marks state) (marks_in slots) u (λ n. same_less (marks_are slots state are.marks n)))
+  λ u. le_trans (weights_less (peaks state) (peaks_in slots) u (λ n. same_less (peaks_are slots state are.peaks n)))
       (are.locked.few u),
 )
   where
@@ -91,9 +91,9 @@ pub merges_are_small : MergesAreSmall
 unfolding weights
 merges_are_small places c it t frames slots state u fits low =
     let live = records_of (it.units u).log in
-    few_are_carried (is_active t) (it.units u).log (λ i. weight_of_mark (marks state (960 * u + i)))
+    few_are_carried (is_active t) (it.units u).log (λ i. weight_of_peak (peaks state (960 * u + i)))
     (fits.pending.valid u low) ((sessions_are_sound slots state fits.sessions).1 u) (λ r there is.
-    subst (λ (n : ℕ). weight_of r ≤ weight_of_mark (marks state n)) (in_unit u r.page r.slot)
+    subst (λ (n : ℕ). weight_of r ≤ weight_of_peak (peaks state n)) (in_unit u r.page r.slot)
     (records_weigh_no_more it.count it (logs_of frames) (number_of slots) state (is_active t) u r.page r
     fits.pending fits.active low (Contains-append_left live (logs_of frames u r.page) r there) is))
 

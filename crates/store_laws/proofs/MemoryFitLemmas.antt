@@ -9,13 +9,13 @@ use Rattle.std.proofs.lemmas.Option.{none-some}
 use Rattle.ipl_format.proofs.RecordLemmas.{all_stay}
 use Rattle.ipl_base.specs.declared.limits.TheConstants.{VERSION}
 use Rattle.ipl_base.specs.Sizes.{size_in_page}
-use Rattle.ipl_model.specs.Marks.{Marks, marks}
+use Rattle.ipl_model.specs.Peaks.{Peaks, peaks}
 use Rattle.ipl_model.specs.State.{Map, State, at_rest}
-use Rattle.ipl_model.proofs.RuleMarkLemmas.{by_number, inserted_most, shared_less}
-use Rattle.record_locks.specs.Held.{SessionSlots, after_begin, after_share, is_among, marks_in, number_of}
-use Rattle.record_locks.specs.Names.{KeepsNameMarks}
-use Rattle.record_locks.proofs.KeepLemmas.{keeps_marks, keeps_names}
-use Rattle.record_locks.proofs.SameLemmas.{marks_are}
+use Rattle.ipl_model.proofs.RulePeakLemmas.{by_number, inserted_most, shared_less}
+use Rattle.record_locks.specs.Held.{SessionSlots, after_begin, after_share, is_among, peaks_in, number_of}
+use Rattle.record_locks.specs.Names.{KeepsNamePeaks}
+use Rattle.record_locks.proofs.KeepLemmas.{keeps_peaks, keeps_names}
+use Rattle.record_locks.proofs.SameLemmas.{peaks_are}
 use Rattle.ipl_format.specs.Record.{IsRecord, Record}
 use Rattle.ipl_meaning.specs.Chart.{Chart}
 use Rattle.ipl_meaning.specs.Layout.{Laid, Layout, records_of}
@@ -42,13 +42,13 @@ use Rattle.ipl_model.specs.Operations as rules
 
 -- ---- sessions
 
--- what the calls keep of the sessions' marks
-pub keep_marks : (slots : SessionSlots) (state : State) (s : ℕ) → s < length slots → AreSessionsOf slots state
-    → KeepsNameMarks slots state s
-keep_marks slots state s within are = keeps_marks slots state s within are.locked.sized are.names are.marks
+-- what the calls keep of the sessions' peaks
+pub keep_peaks : (slots : SessionSlots) (state : State) (s : ℕ) → s < length slots → AreSessionsOf slots state
+    → KeepsNamePeaks slots state s
+keep_peaks slots state s within are = keeps_peaks slots state s within are.locked.sized are.names are.peaks
 
-begun_marks : (state : State) (s n : ℕ) → marks (rules.after_begin state s) n ≤ marks state n
-begun_marks state s n = inserted_most state s rules.new_session n (marks state n) (omega arith) (omega arith)
+begun_peaks : (state : State) (s n : ℕ) → peaks (rules.after_begin state s) n ≤ peaks state n
+begun_peaks state s n = inserted_most state s rules.new_session n (peaks state n) (omega arith) (omega arith)
 
 pub begins_fit : BeginsFit
 begins_fit places c it t frames slots state s tid fits within closed later locked = record {
@@ -60,7 +60,7 @@ begins_fit places c it t frames slots state s tid fits within closed later locke
       (λ a its. is_new a tid its refl) (new_numbers_wait places c it t.next tid fits.mirrors.laid
       fits.mirrors.numbers.above later).0 no_records);
   filled = room_kept units c c it it state (rules.after_begin state s) (λ u page now low few shows. shows)
-      (λ n. begun_marks state s n) fits.filled;
+      (λ n. begun_peaks state s n) fits.filled;
   active = active_with_numbers (with_number numbers s (Some tid)) (number_of (after_begin slots s tid))
       (is_active (with_active t tid)) begun tells;
   framed = record {
@@ -72,7 +72,7 @@ begins_fit places c it t frames slots state s tid fits within closed later locke
   };
   sessions = record {
     names = (keeps_names slots state s within fits.sessions.names).begins tid;
-    marks = (keep_marks slots state s within fits.sessions).begins tid;
+    peaks = (keep_peaks slots state s within fits.sessions).begins tid;
     locked = locked;
   };
 }
@@ -123,7 +123,7 @@ shares_fit places c it t frames slots state s n fits within locked =
       framed = fits.framed;
       sessions = record {
         names = (keeps_names slots state s within fits.sessions.names).shares n;
-        marks = (keep_marks slots state s within fits.sessions).shares n;
+        peaks = (keep_peaks slots state s within fits.sessions).shares n;
         locked = locked;
       };
     }
@@ -174,12 +174,12 @@ module _ (places : ℕ) (c : Chart) (it : Layout) (t : Tables) (frames : Frames)
         fits.active mine (fits.framed.each u r.page f there)),
   )
 
-  -- the sessions' marks are the state's, and so is the room that they leave
-  room_by_state : PageHasRoomFor (marks_in slots) u r f.values → PageHasRoomFor (marks state) u r f.values
+  -- the sessions' peaks are the state's, and so is the room that they leave
+  room_by_state : PageHasRoomFor (peaks_in slots) u r f.values → PageHasRoomFor (peaks state) u r f.values
   room_by_state room =
-      subst (λ (m : Marks). PageHasRoomFor m u r f.values) (λ i n. marks_are slots state fits.sessions.marks n i) room
+      subst (λ (m : Peaks). PageHasRoomFor m u r f.values) (λ i n. peaks_are slots state fits.sessions.peaks n i) room
 
-  fit : PageHasRoomFor (marks_in slots) u r f.values → LocksHold held
+  fit : PageHasRoomFor (peaks_in slots) u r f.values → LocksHold held
       → Fits places c it t after held (rules.after_write state s (name, r.change))
   fit room locked = record {
     mirrors = fits.mirrors;
@@ -192,7 +192,7 @@ module _ (places : ℕ) (c : Chart) (it : Layout) (t : Tables) (frames : Frames)
         (other_frames it.count c it (is_active t) frames u r.page (Some g) fits.framed);
     sessions = record {
       names = (keeps_names slots state s within fits.sessions.names).writes name (size_in_page r.change) r.change;
-      marks = (keep_marks slots state s within fits.sessions).writes name r.change;
+      peaks = (keep_peaks slots state s within fits.sessions).writes name r.change;
       locked = locked;
     };
   }
@@ -250,9 +250,9 @@ log_valid places c it laid u low =
     all_records (IsRecord VERSION) (it.units u).log
     (λ k d within. all_stay _ _ (log.each k d within).records.valid)
 
--- no name is marked
-unmarked_at_rest : (m : Map) (n : ℕ) → marks (at_rest m) n ≤ 0
-unmarked_at_rest m n =
+-- no name has a peak
+unpeaked_at_rest : (m : Map) (n : ℕ) → peaks (at_rest m) n ≤ 0
+unpeaked_at_rest m n =
     by_number empty n 0 (λ q session is. absurd (let clash = sym (get-empty nat_cmp q) ∙ is in cc clash))
 
 pub openings_fit : OpeningsFit
@@ -261,7 +261,7 @@ openings_fit places c it t slots m mirrors none_lost nothing closed sessions = r
   none_lost = none_lost;
   pending = pending_with_numbers it.count it (λ u page. []) (λ s. None) (number_of slots) (at_rest m) none
       (restarts_leave_none it.count it (at_rest m) (log_valid places c it mirrors.laid));
-  filled = λ u page slot low few less marked. absurd (no_mark (unmarked_at_rest m (name_at u page slot)) marked);
+  filled = λ u page slot low few less peaked. absurd (no_peak (unpeaked_at_rest m (name_at u page slot)) peaked);
   active = active_with_numbers (λ s. None) (number_of slots) (is_active t) none (λ tid. (
     (λ is. absurd (both_ways (is_among tid t.active) (ap (is_among tid) nothing) is)),
     (λ is. absurd (none-some tid is.1)),
@@ -273,8 +273,8 @@ openings_fit places c it t slots m mirrors none_lost nothing closed sessions = r
   sessions = sessions;
 }
   where
-    no_mark : {k : ℕ} → k ≤ 0 → 0 < k → ⊥
-    no_mark none some = omega (arith, none, some)
+    no_peak : {k : ℕ} → k ≤ 0 → 0 < k → ⊥
+    no_peak none some = omega (arith, none, some)
 
     none : number_of slots ≡ (λ s. None)
     none = λ i s. closed s i

@@ -4,7 +4,7 @@ use Rattle.std.specs.List.{Contains, filter}
 use Rattle.std.proofs.lemmas.Bool.{cases_eq, cond-false, eqb-true, ne_eqb, not_from_false}
 use Rattle.std.proofs.lemmas.List.Elements.{Contains-append_cases, Contains-append_left, Contains-append_right}
 use Rattle.ipl_model.specs.Operations.{after_abort}
-use Rattle.ipl_model.specs.State.{State, Write, is_open, last_write, writes_of}
+use Rattle.ipl_model.specs.State.{State, Write, is_open_session, last_write, writes_of}
 use Rattle.ipl_format.specs.Record.{Record}
 use Rattle.ipl_meaning.specs.Last.{NoneIsBehind, is_number, last_that}
 use Rattle.ipl_meaning.specs.Layout.{Layout, records_of}
@@ -23,7 +23,7 @@ use Rattle.store_laws.proofs.FollowLemmas.{one_number}
 
 module _ (units : ℕ) (it : Layout) (logs : Logs) (numbers : SessionNumbers) (state : State) (s tid : ℕ)
     (has : HasPending units it logs numbers state) (mine : numbers s ≡ Some tid) where
-  opens_others : (t : ℕ) → is_some (with_number numbers s None t) ≡ is_open (after_abort state s) t
+  opens_others : (t : ℕ) → is_some (with_number numbers s None t) ≡ is_open_session (after_abort state s) t
   opens_others t = elim (cases_eq t s) [
     | inl same ↦ ap is_some (number_here numbers s None t same) ∙ sym (ap is_some (closed_here state s t same))
     | inr other ↦

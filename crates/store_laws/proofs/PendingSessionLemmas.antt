@@ -6,7 +6,7 @@ use Rattle.std.specs.Ordering.{nat_cmp}
 use Rattle.std.proofs.lemmas.Bool.{cases_eq}
 use Rattle.std.proofs.lemmas.List.Elements.{All-contains, All-nil, Contains-append_left}
 use Rattle.ipl_model.specs.Operations.{after_begin}
-use Rattle.ipl_model.specs.State.{Session, is_open, last_write, writes_of}
+use Rattle.ipl_model.specs.State.{Session, is_open_session, last_write, writes_of}
 use Rattle.ipl_meaning.specs.Last.{NoneIsBehind, is_number}
 use Rattle.ipl_meaning.specs.Layout.{records_of}
 use Rattle.ipl_meaning.specs.Values.{counts_for}
@@ -50,7 +50,7 @@ begins_keep_pending units it logs numbers state s tid has closed fresh waits now
     its_number : (n : ℕ) → Some tid ≡ Some n → tid ≡ n
     its_number n both = cc both
 
-    opens : (t : ℕ) → is_some (with_number numbers s (Some tid) t) ≡ is_open (after_begin state s) t
+    opens : (t : ℕ) → is_some (with_number numbers s (Some tid) t) ≡ is_open_session (after_begin state s) t
     opens t = elim (cases_eq t s) [
       | inl same ↦ ap is_some (number_here numbers s (Some tid) t same) ∙ sym (ap is_some (begun_here state s t same))
       | inr other ↦

@@ -13,7 +13,7 @@ use Rattle.ipl_model.specs.State.{State}
 use Rattle.ipl_model.specs.declared.command.Command.TheVariants as command
 use Rattle.ipl_model.specs.declared.reply.Reply.TheVariants as reply
 use Rattle.ipl_model.specs.Step.{accepted, step}
-use Rattle.record_locks.specs.Held.{SessionSlots, marks_in}
+use Rattle.record_locks.specs.Held.{SessionSlots, peaks_in}
 use Rattle.ipl_meaning.specs.Chart.{chart_of}
 use Rattle.ipl_meaning.specs.Tables.{Tables}
 use Rattle.unit_io.specs.Reads.{OfContents}
@@ -40,7 +40,7 @@ pub puts_answer_on : {T E : Type 0} (pages : Legibility) (v : T) (s n : ℕ) (by
     → sessions_refuse_put (limits_of store.units) store.memory.slots s n bytes ≡ None
     → IsToldApart pages → OfContents old (λ x. (state : State) → ShowsState old.places pages store state x
     → step (limits_of store.units) state (command.Put s n bytes)
-    ≡ (if overfills_at (marks_in store.memory.slots) n bytes f.values
+    ≡ (if overfills_at (peaks_in store.memory.slots) n bytes f.values
     then (state, reply.Refused PageFull ∷ [])
     else (after_write state s (n, Some bytes), reply.Ok ∷ [])))
 puts_answer_on pages v s n bytes store t later f old new keeper there passes apart x told state shown =
@@ -70,7 +70,7 @@ kept_answer : (pages : Legibility) (s n : ℕ) (bytes : List ℕ) (store : View)
     → KeepsState {T = Unit {0}} {E = ChipFault} store.memory.tables store.memory.frames old (Ok tt) t later mid
     → later (home_of n).unit (home_of n).page ≡ Some f
     → sessions_refuse_put (limits_of store.units) store.memory.slots s n bytes ≡ None
-    → overfills_at (marks_in store.memory.slots) n bytes f.values ≡ full
+    → overfills_at (peaks_in store.memory.slots) n bytes f.values ≡ full
     → KeepsStore old.places pages (limits_of store.units) store old h state
     → step (limits_of store.units) state (command.Put s n bytes)
     ≡ (if full then (state, reply.Refused PageFull ∷ [])

@@ -9,20 +9,20 @@ use Rattle.ipl_base.specs.declared.fault.Refusal.TheVariants.{BadSession, BadNam
 use Rattle.ipl_model.specs.Refusals.{Test, first_of, bad_session, bad_name, too_long, already_open, not_open, conflict, writes_full, shares_full, page_full, is_twice, twice, least_twice, early_tests, refuses_begin, refuses_get, refuses_share, refuses_del, refuses_end, refuses_batch, refuses_list, refuses_merge}
 use Rattle.ipl_model.proofs.RuleBatchLemmas.{any_alike, batches_name_once}
 use Rattle.ipl_model.proofs.RefusalLemmas.{first_of-append}
-use Rattle.ipl_model.specs.Marks.{marks, overloads}
+use Rattle.ipl_model.specs.Peaks.{peaks, overloads}
 use Rattle.ipl_base.specs.Sizes.{size_in_page}
 use Rattle.ipl_base.specs.declared.limits.TheConstants.{UNIT_NAMES, VALUE_LEN}
-use Rattle.ipl_model.specs.State.{State, Limits, is_open, holder_for_share, holder_for_write}
+use Rattle.ipl_model.specs.State.{State, Limits, is_open_session, holder_for_share, holder_for_write}
 use Rattle.ipl_model.specs.declared.command.Command.TheVariants as command
 use Rattle.ipl_model.specs.declared.reply.Reply.TheVariants as reply
 use Rattle.ipl_model.specs.declared.command.Command.{Command}
 use Rattle.ipl_model.specs.Step.{Stepped, accepted, step}
-use Rattle.record_locks.specs.Held.{Held, SessionSlots, held_at, marks_in}
+use Rattle.record_locks.specs.Held.{Held, SessionSlots, held_at, peaks_in}
 use Rattle.record_locks.specs.Locks as locks
 use Rattle.record_locks.specs.Names.{TestsAlike}
 use Rattle.record_locks.specs.Standing.{state_of}
 use Rattle.record_locks.proofs.CallLemmas.{passed}
-use Rattle.record_locks.proofs.SameLemmas.{alike, marks_are}
+use Rattle.record_locks.proofs.SameLemmas.{alike, peaks_are}
 use Rattle.record_locks.proofs.StandingLemmas.{open_at}
 use Rattle.store_laws.proofs.ElementLemmas.{contains_cons, contains_nil}
 use Rattle.store_laws.specs.Keeps.{limits_of}
@@ -57,8 +57,8 @@ slots_refuse limits slots state c are = by_command c
     tests : (s n : ℕ) → TestsAlike (state_of slots) state s n
     tests s n = alike (state_of slots) state are.names s n
 
-    marked : marks_in slots ≡ marks state
-    marked = λ i n. marks_are slots state are.marks n i
+    peaked : peaks_in slots ≡ peaks state
+    peaked = λ i n. peaks_are slots state are.peaks n i
 
     by_command : (c : Command) → sessions_refuse limits slots c ≡ early_refusal limits state c
     by_command (command.Begin s) =
@@ -71,17 +71,17 @@ slots_refuse limits slots state c are = by_command c
     by_command (command.Put s n bytes) = λ i. first_of (bad_session limits s ∷ bad_name limits n
         ∷ too_long bytes ∷ (not ((tests s n).opens i), NotOpen) ∷ conflict ((tests s n).writes i)
         ∷ (tests s n).full_writes i
-        ∷ (overloads (marked i) n (1 + size_in_page (Some bytes)), PendingFull (n / UNIT_NAMES)) ∷ [])
+        ∷ (overloads (peaked i) n (1 + size_in_page (Some bytes)), PendingFull (n / UNIT_NAMES)) ∷ [])
     by_command (command.Del s n) = λ i. first_of (bad_session limits s ∷ bad_name limits n
         ∷ (not ((tests s n).opens i), NotOpen) ∷ conflict ((tests s n).writes i)
         ∷ (tests s n).full_writes i
-        ∷ (overloads (marked i) n (1 + size_in_page None), PendingFull (n / UNIT_NAMES)) ∷ [])
+        ∷ (overloads (peaked i) n (1 + size_in_page None), PendingFull (n / UNIT_NAMES)) ∷ [])
     by_command (command.Commit s) =
         λ i. first_of (bad_session limits s ∷ (not ((tests s 0).opens i), NotOpen) ∷ [])
     by_command (command.Batch ss) =
-        let opens : list_any (λ s. not (is_open (state_of slots) s)) ss
-        ≡ list_any (λ s. not (is_open state s)) ss =
-        any_alike (λ s. not (is_open (state_of slots) s)) (λ s. not (is_open state s)) ss
+        let opens : list_any (λ s. not (is_open_session (state_of slots) s)) ss
+        ≡ list_any (λ s. not (is_open_session state s)) ss =
+        any_alike (λ s. not (is_open_session (state_of slots) s)) (λ s. not (is_open_session state s)) ss
         (λ s at. ap not (tests s 0).opens) in
         λ i. first_of ((list_any (λ s. nat_le limits.sessions s) ss, BadSession)
         ∷ twice (least_twice limits ss) ∷ (opens i, NotOpen) ∷ [])
@@ -161,7 +161,7 @@ unnumbered None is = refl
 unnumbered (Some h) is = absurd (cc is)
 
 -- one of the 32 that is open
-open_session : (slots : SessionSlots) (s : ℕ) → s < 32 → is_open (state_of slots) s ≡ true
+open_session : (slots : SessionSlots) (s : ℕ) → s < 32 → is_open_session (state_of slots) s ≡ true
     → IsOpenSession slots s
 open_session slots s low opens =
     let (tid, is) = numbered (held_at slots s) (sym (open_at slots s) ∙ opens) in record {
@@ -172,12 +172,12 @@ open_session slots s low opens =
     }
 
 -- or that passed the test of being open
-is_open_session : (slots : SessionSlots) (s : ℕ) (rest : List Test) → nat_le 32 s ≡ false
+passed_is_open : (slots : SessionSlots) (s : ℕ) (rest : List Test) → nat_le 32 s ≡ false
     → first_of (open_tests slots s rest) ≡ None → IsOpenSession slots s
-is_open_session slots s rest low none =
+passed_is_open slots s rest low none =
     let passes = passed (not_open (state_of slots) s) rest none in
     open_session slots s (grind (arith, nat_tests))
-    (not-false (is_open (state_of slots) s) passes.0)
+    (not-false (is_open_session (state_of slots) s) passes.0)
 
 pub passed_begins : PassedBegins
 passed_begins units slots s none =
@@ -190,7 +190,7 @@ passed_begins units slots s none =
 pub passed_ends : PassedEnds
 passed_ends units slots s none =
     let (low, rest) = passed (bad_session (limits_of units) s) (open_tests slots s []) none in
-    is_open_session slots s [] low rest
+    passed_is_open slots s [] low rest
 
 pub passed_batches : PassedBatches
 passed_batches units slots ss none =
@@ -227,7 +227,7 @@ passed_name units slots s n rest none =
     (bad_name (limits_of units) n ∷ open_tests slots s rest) none in
     let (known, later) = passed (bad_name (limits_of units) n) (open_tests slots s rest) named in
     let in_range : nat_le (960 * units) n ≡ false = known in (
-      record { session = is_open_session slots s rest low later; name = grind (arith, nat_tests) },
+      record { session = passed_is_open slots s rest low later; name = grind (arith, nat_tests) },
       later,
     )
 

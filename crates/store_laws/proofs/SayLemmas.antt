@@ -5,10 +5,10 @@ use Rattle.std.specs.Option.{option_map_or}
 use Rattle.std.proofs.Math.Nat.{le-max_left, le-max_right, max-le}
 use Rattle.ipl_base.specs.Sizes.{size_in_page}
 use Rattle.ipl_base.specs.declared.limits.TheConstants.{PAGE_LEN, PAGES, SLOTS}
-use Rattle.ipl_model.specs.Marks.{marks}
+use Rattle.ipl_model.specs.Peaks.{peaks}
 use Rattle.ipl_model.specs.Operations.{after_commit}
 use Rattle.ipl_model.specs.State.{State, last_write, writes_of}
-use Rattle.ipl_model.proofs.RuleMarkLemmas.{le_trans, last_most, own_most, removed_most}
+use Rattle.ipl_model.proofs.RulePeakLemmas.{le_trans, last_most, own_most, removed_most}
 use Rattle.ipl_model.proofs.SeenLemmas.{get-with_writes}
 use Rattle.ipl_format.specs.Page.{value_in}
 use Rattle.ipl_format.specs.Record.{Change, Record}
@@ -60,20 +60,20 @@ module _ (units : ℕ) (c : Chart) (it : Layout) (logs : Logs) (numbers : Sessio
 
   -- with its changes a slot takes no more than it may come to take
   pub applied_most : (slot : ℕ) (value : Option (List ℕ)) → slot < SLOTS
-      → size_in_page (applied (its_last slot) value) ≤ max (size_in_page value) (marks state (name_at u page slot) - 1)
+      → size_in_page (applied (its_last slot) value) ≤ max (size_in_page value) (peaks state (name_at u page slot) - 1)
   applied_most slot value less = by_last (its_last slot) (is_last slot less)
     where
       one_fewer : {size own most : ℕ} → 1 + size ≤ own → own ≤ most → size ≤ most - 1
       one_fewer own most = omega (arith, own, most)
 
       by_last : (o : Option Record) → change_in o ≡ last_write (writes_of state s) (name_at u page slot)
-          → size_in_page (applied o value) ≤ max (size_in_page value) (marks state (name_at u page slot) - 1)
-      by_last None is = le-max_left (size_in_page value) (marks state (name_at u page slot) - 1)
+          → size_in_page (applied o value) ≤ max (size_in_page value) (peaks state (name_at u page slot) - 1)
+      by_last None is = le-max_left (size_in_page value) (peaks state (name_at u page slot) - 1)
       by_last (Some r) is =
           let own = last_most (writes_of state s) (name_at u page slot) r.change (sym is) in
           let most = own_most state s (name_at u page slot) in
           le_trans (one_fewer own most)
-          (le-max_right (size_in_page value) (marks state (name_at u page slot) - 1))
+          (le-max_right (size_in_page value) (peaks state (name_at u page slot) - 1))
 
   -- the page shows its values with the session's changes, for which it has room
   pub applied_shows : (values now : Values)
@@ -87,7 +87,7 @@ module _ (units : ℕ) (c : Chart) (it : Layout) (logs : Logs) (numbers : Sessio
         ∙ ap (applied (its_last slot)) (shows.says slot less)
         ∙ sym (commits_apply_the_last it.committed after tid (records_of (it.units u).log) joins
         (has.none_behind s tid u mine low) page slot (value_in shows.base slot));
-    room = le_trans (room_in_fill (λ slot. marks state (name_at u page slot)) now values (λ slot less.
+    room = le_trans (room_in_fill (λ slot. peaks state (name_at u page slot)) now values (λ slot less.
         same_size (is slot less) (applied_most slot (values slot) less)))
         (shown_fill units c it state u page values filled low few shows);
   }
@@ -97,12 +97,12 @@ module _ (units : ℕ) (c : Chart) (it : Layout) (logs : Logs) (numbers : Sessio
 
   -- and they have room with all that is written then
   applied_fill : (values : Values) → Shows c it.committed u (it.units u) page values
-      → fill_at (marks (after_commit state s)) u page (λ slot. applied (its_last slot) (values slot)) ≤ PAGE_LEN
+      → fill_at (peaks (after_commit state s)) u page (λ slot. applied (its_last slot) (values slot)) ≤ PAGE_LEN
   applied_fill values shows =
       le_trans (fills_less _ _ (λ slot. applied (its_last slot) (values slot)) values (λ slot less.
       max-le (applied_most slot (values slot) less)
       (le_trans (one_less (removed_most state.sessions s (name_at u page slot)))
-      (le-max_right (size_in_page (values slot)) (marks state (name_at u page slot) - 1)))))
+      (le-max_right (size_in_page (values slot)) (peaks state (name_at u page slot) - 1)))))
       (shown_fill units c it state u page values filled low few shows)
 
   pub room_applied : PageHasRoom c it state u page
@@ -130,9 +130,9 @@ pub room_committed : (units : ℕ) (c : Chart) (it : Layout) (logs : Logs) (numb
     (after : ℕ → Bool) → HasPending units it logs numbers state → PagesHaveRoom units c it state → numbers s ≡ Some tid
     → IsWrittenOut logs tid → NumberJoins it.committed tid after
     → PagesHaveRoom units c (with_committed it after) (after_commit state s)
-room_committed units c it logs numbers state s tid after has filled mine out joins u page slot low few less marked =
+room_committed units c it logs numbers state s tid after has filled mine out joins u page slot low few less peaked =
     room_applied units c it logs numbers state s tid after has filled mine out joins u page low few
-    (filled u page slot low few less (le_trans marked (removed_most state.sessions s (name_at u page slot))))
+    (filled u page slot low few less (le_trans peaked (removed_most state.sessions s (name_at u page slot))))
 
 pub commits_say_writes : CommitsSayWrites
 commits_say_writes places pages c it logs numbers state s tid after has filled mine out joins says = record {

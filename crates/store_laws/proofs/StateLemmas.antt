@@ -6,7 +6,7 @@ use Rattle.std.specs.Option.{option_map_or}
 use Rattle.std.specs.Ordering.{nat_cmp, eq_by_cmp}
 use Rattle.std.proofs.lemmas.Bool.{both_ways, cases_eq, cond-true, cond-false, eq-eqb, ne_eqb}
 use Rattle.std.proofs.lemmas.Bool.Decides.{nat_tests}
-use Rattle.ipl_model.specs.State.{State, Session, Write, is_open, writes_of, last_write}
+use Rattle.ipl_model.specs.State.{State, Session, Write, is_open_session, writes_of, last_write}
 use Rattle.ipl_model.specs.Refusals.{is_new_share}
 use Rattle.ipl_model.specs.Operations.{new_session, after_begin, after_share, after_write, after_abort}
 
@@ -49,13 +49,13 @@ writing state s w o = option_map_or
     (λ session. record state { sessions = insert state.sessions s (record session { writes = w ∷ session.writes }) })
     o state
 
-pub wrote_here : (state : State) (s : ℕ) (w : Write) → is_open state s ≡ true
-    → (is_open (after_write state s w) s ≡ true) × (writes_of (after_write state s w) s ≡ w ∷ writes_of state s)
+pub wrote_here : (state : State) (s : ℕ) (w : Write) → is_open_session state s ≡ true
+    → (is_open_session (after_write state s w) s ≡ true) × (writes_of (after_write state s w) s ≡ w ∷ writes_of state s)
 wrote_here state s w running = by_session (get state.sessions s) refl
   where
     by_session : (o : Option Session) → get state.sessions s ≡ o
-        → (is_open (writing state s w o) s ≡ true) × (writes_of (writing state s w o) s ≡ w ∷ writes_of state s)
-    by_session None is = absurd (both_ways (is_open state s) (ap is_some is) running)
+        → (is_open_session (writing state s w o) s ≡ true) × (writes_of (writing state s w o) s ≡ w ∷ writes_of state s)
+    by_session None is = absurd (both_ways (is_open_session state s) (ap is_some is) running)
     by_session (Some session) is =
         let now = put_here state s s (record session { writes = w ∷ session.writes }) refl in
         (ap is_some now, ap writes_in now ∙ ap (λ (ws : List Write). w ∷ ws) (sym (ap writes_in is)))
@@ -78,7 +78,7 @@ sharing state s n o = option_map_or
 
 -- a session has the same writes, and is open or not as before
 abbrev WritesStay : State → State → ℕ → Type 0
-WritesStay state later t = (writes_of later t ≡ writes_of state t) × (is_open later t ≡ is_open state t)
+WritesStay state later t = (writes_of later t ≡ writes_of state t) × (is_open_session later t ≡ is_open_session state t)
 
 pub shared_same : (state : State) (s n t : ℕ) → WritesStay state (after_share state s n) t
 shared_same state s n t = by_test (is_new_share state s n)

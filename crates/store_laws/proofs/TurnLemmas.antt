@@ -3,7 +3,7 @@ use Rattle.std.proofs.Common.{Bool, None, Some, ap, false, inl, inr, is_some, re
 use Rattle.std.proofs.lemmas.Bool.{cases_eq}
 use Rattle.ipl_model.specs.Operations.{after_commit}
 use Rattle.ipl_model.specs.State.{State, last_write}
-use Rattle.ipl_model.proofs.RuleMarkLemmas.{removed_most}
+use Rattle.ipl_model.proofs.RulePeakLemmas.{removed_most}
 use Rattle.ipl_meaning.specs.Chart.{Chart}
 use Rattle.ipl_meaning.specs.Layout.{Layout}
 use Rattle.ipl_meaning.specs.Stands.{Shows, page_in}

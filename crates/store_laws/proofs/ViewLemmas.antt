@@ -14,7 +14,7 @@ use Rattle.store_laws.specs.Advances.{Memory, FitsOn}
 use Rattle.store_laws.specs.Fits.{is_active}
 use Rattle.store_laws.proofs.FitLemmas.{sessions_are_sound}
 use Rattle.store_laws.proofs.FrameLemmas.{frames_tell}
-use Rattle.store_laws.proofs.FullLemmas.{marks_tell_full_pages}
+use Rattle.store_laws.proofs.FullLemmas.{peaks_tell_full_pages}
 use Rattle.store_laws.specs.Laws.{FramesTellState, FramesTellFull}
 use Rattle.store_laws.specs.Views.{AppliedFramesAreCommitted, DroppedFramesAreAborted, ChangedFramesAreWritten}
 
@@ -67,6 +67,6 @@ frames_tell_state places c y it m memory state u page slot f on shows there less
 
 pub frames_tell_full : FramesTellFull
 frames_tell_full places c y it m memory state n bytes f on shows there =
-    marks_tell_full_pages memory.slots state n bytes f.values on.fits.sessions (λ slot less.
+    peaks_tell_full_pages memory.slots state n bytes f.values on.fits.sessions (λ slot less.
     (frames_tell_state places c y it m memory state (home_of n).unit (home_of n).page slot f on shows
     there less).committed)

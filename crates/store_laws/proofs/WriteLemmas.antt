@@ -5,7 +5,7 @@ use Rattle.std.proofs.lemmas.Bool.{cases_Bool, cases_eq, cond-false, cond-true, 
 use Rattle.std.proofs.lemmas.List.Elements.{Contains-append_cases, Contains-append_left, Contains-append_right, Contains-push_cases}
 use Rattle.ipl_base.specs.declared.limits.TheConstants.{VERSION}
 use Rattle.ipl_model.specs.Operations.{after_write}
-use Rattle.ipl_model.specs.State.{State, Write, is_open, last_write, writes_of}
+use Rattle.ipl_model.specs.State.{State, Write, is_open_session, last_write, writes_of}
 use Rattle.ipl_format.specs.Record.{IsRecord, Record}
 use Rattle.ipl_meaning.specs.Last.{is_number, last_that}
 use Rattle.ipl_meaning.specs.Layout.{Layout, records_of}
@@ -30,7 +30,7 @@ module _ (units : ℕ) (it : Layout) (logs : Logs) (numbers : SessionNumbers) (s
   abbrev after : Logs
   after = with_records logs u r.page (logs u r.page ++ r ∷ [])
 
-  by_session : (is_open later s ≡ true) × (writes_of later s ≡ put ∷ writes_of state s)
+  by_session : (is_open_session later s ≡ true) × (writes_of later s ≡ put ∷ writes_of state s)
   by_session = wrote_here state s put (sym (has.opens s) ∙ ap is_some mine)
 
   -- another session, or another name
@@ -142,11 +142,11 @@ module _ (units : ℕ) (it : Layout) (logs : Logs) (numbers : SessionNumbers) (s
         newest t v x (has.apart t s x.tid is (mine ∙ ap (λ (y : Record). Some y.tid) new)) same new
   ]
 
-  opens_still : (t : ℕ) → is_some (numbers t) ≡ is_open later t
+  opens_still : (t : ℕ) → is_some (numbers t) ≡ is_open_session later t
   opens_still t = elim (cases_eq t s) [
     | inl same ↦
         ap (λ (k : ℕ). is_some (numbers k)) same ∙ ap is_some mine
-        ∙ sym (ap (λ (k : ℕ). is_open later k) same ∙ by_session.0)
+        ∙ sym (ap (λ (k : ℕ). is_open_session later k) same ∙ by_session.0)
     | inr other ↦ has.opens t ∙ sym (ap is_some (wrote_other state s t put other))
   ]
 

@@ -7,7 +7,7 @@ use Rattle.ipl_model.specs.State.{State}
 use Rattle.record_locks.specs.Held.{SessionSlots, number_of, is_among}
 use Rattle.record_locks.specs.Standing.{state_of}
 use Rattle.record_locks.specs.Locks.{OneWriter, FewPending, IsSized}
-use Rattle.record_locks.specs.Names.{SameNames, SameMarks}
+use Rattle.record_locks.specs.Names.{SameNames, SamePeaks}
 use Rattle.ipl_meaning.specs.Chart.{Chart, chart_of}
 use Rattle.ipl_meaning.specs.Layout.{Layout}
 use Rattle.ipl_meaning.specs.Legible.{Legibility, of}
@@ -31,10 +31,10 @@ pub record LocksHold (slots : SessionSlots) : Type 0 where
   pub sized : All IsSized slots
   pub few : FewPending slots
 
--- the same sessions are open as in the state, with the same names and the same marks, and the locks hold
+-- the same sessions are open as in the state, with the same names and the same peaks, and the locks hold
 pub record AreSessionsOf (slots : SessionSlots) (state : State) : Type 0 where
   pub names : SameNames (state_of slots) state
-  pub marks : SameMarks slots state
+  pub peaks : SamePeaks slots state
   pub locked : LocksHold slots
 
 -- ---- the numbers of open sessions

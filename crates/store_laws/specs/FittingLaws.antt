@@ -5,10 +5,10 @@ use Rattle.ipl_base.specs.declared.limits.TheConstants.{LEAST_PLACES, MOST_PLACE
 use Rattle.chip_trait.specs.Story.{Contents}
 use Rattle.chip_trait.specs.Told.{History}
 use Rattle.ipl_base.specs.Places.{home_of, KeepsUnits, spares_on}
-use Rattle.ipl_model.specs.Marks.{Marks, marks, overfills}
+use Rattle.ipl_model.specs.Peaks.{Peaks, peaks, overfills}
 use Rattle.ipl_model.specs.State.{Map, State, at_rest}
 use Rattle.ipl_format.specs.Record.{Record}
-use Rattle.record_locks.specs.Held.{SessionSlots, marks_in, number_of}
+use Rattle.record_locks.specs.Held.{SessionSlots, peaks_in, number_of}
 use Rattle.ipl_meaning.specs.Chart.{Chart}
 use Rattle.ipl_meaning.specs.Legible.{Legibility, Legible, whole, IsToldApart}
 use Rattle.ipl_meaning.specs.Layout.{Layout, Laid, records_of}
@@ -22,7 +22,7 @@ use Rattle.ipl_meaning.specs.Mirrors.{Mirrors, NoneIsLost}
 use Rattle.ipl_meaning.specs.Formatted.{formatted}
 use Rattle.ipl_meaning.specs.FirstTables.{first_layout, first_tables}
 use Rattle.ipl_model.specs.FillLaws.{PageFits, UnitsFit}
-use Rattle.page_ops.specs.Pending.{fill_by, mark_of}
+use Rattle.page_ops.specs.Pending.{fill_by, peak_of}
 use Rattle.store_laws.specs.Pending.{name_at}
 use Rattle.store_laws.specs.PendingLaws.{StateHasOneWriter}
 use Rattle.store_laws.specs.Room.{PageHasRoomFor, overfills_at}
@@ -59,29 +59,29 @@ SessionsAreSound = (slots : SessionSlots) (state : State) → AreSessionsOf slot
 abbrev pub WrittenPagesFit : Type 0
 WrittenPagesFit =
     (places : ℕ) (c : Chart) (it : Layout) (t : Tables) (frames : Frames) (slots : SessionSlots) (state : State) (n : ℕ)
-    → Fits places c it t frames slots state → Says places c it (whole state.map) → 0 < marks state n
+    → Fits places c it t frames slots state → Says places c it (whole state.map) → 0 < peaks state n
     → PageFits state (n / SLOTS)
 
--- where these are the records of its page, the sessions' marks tell whether a put is refused since the page is full
-abbrev pub MarksTellFullPages : Type 0
-MarksTellFullPages =
+-- where these are the records of its page, the sessions' peaks tell whether a put is refused since the page is full
+abbrev pub PeaksTellFullPages : Type 0
+PeaksTellFullPages =
     (slots : SessionSlots) (state : State) (n : ℕ) (bytes : List ℕ) (values : Values) → AreSessionsOf slots state
     → ((slot : ℕ) → slot < SLOTS → values slot ≡ page_in state.map (home_of n).unit (home_of n).page slot)
-    → overfills state n bytes ≡ overfills_at (marks_in slots) n bytes values
+    → overfills state n bytes ≡ overfills_at (peaks_in slots) n bytes values
 
 -- where it isn't, its record has room there
 abbrev pub PutsThatPassHaveRoom : Type 0
 PutsThatPassHaveRoom =
-    (marks : Marks) (n : ℕ) (bytes : List ℕ) (values : Values) (r : Record) → r.page ≡ (home_of n).page
-    → r.slot ≡ (home_of n).slot → r.change ≡ Some bytes → overfills_at marks n bytes values ≡ false
-    → PageHasRoomFor marks (home_of n).unit r values
+    (peaks : Peaks) (n : ℕ) (bytes : List ℕ) (values : Values) (r : Record) → r.page ≡ (home_of n).page
+    → r.slot ≡ (home_of n).slot → r.change ≡ Some bytes → overfills_at peaks n bytes values ≡ false
+    → PageHasRoomFor peaks (home_of n).unit r values
 
 -- and so it has over the same values
 abbrev pub SameValuesHaveRoom : Type 0
 SameValuesHaveRoom =
-    (marks : Marks) (u : ℕ) (r : Record) (values now : Values)
-    → ((slot : ℕ) → slot < SLOTS → now slot ≡ values slot) → PageHasRoomFor marks u r values
-    → PageHasRoomFor marks u r now
+    (peaks : Peaks) (u : ℕ) (r : Record) (values now : Values)
+    → ((slot : ℕ) → slot < SLOTS → now slot ≡ values slot) → PageHasRoomFor peaks u r values
+    → PageHasRoomFor peaks u r now
 
 -- a page that is read from the chip has room for what it shows and for what is pending there
 abbrev pub LoadedPagesFit : Type 0
@@ -94,12 +94,12 @@ LoadedPagesFit =
     (λ slot. pending_of (last_that (counts_for (is_active t) page slot) (records_of (it.units u).log) None)) ≤ PAGE_LEN
 
 -- a change that is pending in a frame takes no more than the sessions' writes of its name
-abbrev pub FramesKeepMarks : Type 0
-FramesKeepMarks =
+abbrev pub FramesKeepPeaks : Type 0
+FramesKeepPeaks =
     (places : ℕ) (c : Chart) (it : Layout) (t : Tables) (frames : Frames) (slots : SessionSlots) (state : State)
     (u page slot : ℕ) (f : PageFrame)
     → Fits places c it t frames slots state → frames u page ≡ Some f → slot < SLOTS
-    → mark_of (f.pending slot) ≤ marks_in slots (name_at u page slot)
+    → peak_of (f.pending slot) ≤ peaks_in slots (name_at u page slot)
 
 -- a merge of a unit carries at most 12 sectors
 abbrev pub MergesAreSmall : Type 0

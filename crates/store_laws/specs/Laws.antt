@@ -4,12 +4,12 @@ use Rattle.ipl_base.specs.declared.limits.TheConstants.{PAGES, SLOTS}
 use Rattle.chip_trait.specs.Told.{History, Told, Counts}
 use Rattle.ipl_base.specs.Places.{home_of}
 use Rattle.ipl_base.specs.declared.fault.ChipFault.{ChipFault}
-use Rattle.ipl_model.specs.Marks.{overfills}
+use Rattle.ipl_model.specs.Peaks.{overfills}
 use Rattle.ipl_model.specs.State.{Map, State, at_rest}
 use Rattle.ipl_model.specs.Operations.{after_batch, after_restart}
 use Rattle.ipl_model.specs.declared.reply.Reply.{Reply}
 use Rattle.ipl_format.specs.Record.{Record}
-use Rattle.record_locks.specs.Held.{SessionSlots, marks_in, number_of, written_of, written_by, writer_numbers}
+use Rattle.record_locks.specs.Held.{SessionSlots, peaks_in, number_of, written_of, written_by, writer_numbers}
 use Rattle.record_locks.specs.Held.{after_batch as slots_after}
 use Rattle.ipl_meaning.specs.Chart.{Chart, chart_of}
 use Rattle.ipl_meaning.specs.Layout.{Entry, Layout, Laid}
@@ -214,7 +214,7 @@ FramesTellFull = (places : ℕ) (c y : Chart) (it : Layout) (m : Map) (memory : 
     → Shows c it.committed (home_of n).unit (it.units (home_of n).unit) (home_of n).page
     (page_in m (home_of n).unit (home_of n).page)
     → memory.frames (home_of n).unit (home_of n).page ≡ Some f
-    → overfills state n bytes ≡ overfills_at (marks_in memory.slots) n bytes f.values
+    → overfills state n bytes ≡ overfills_at (peaks_in memory.slots) n bytes f.values
 
 -- ---- the end of a commit
 

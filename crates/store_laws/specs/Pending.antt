@@ -2,7 +2,7 @@
 use Rattle.std.specs.Prelude.{ℕ, ◌≡◌, ◌≢◌, ◌<◌, ◌≤◌, ◌+◌, ◌*◌, ◌==◌, ◌&&◌, not, Bool, false, List, ◌++◌, filter, Option, Some, None, is_some, All, Contains, if◌then◌else◌}
 use Rattle.std.specs.Option.{option_map}
 use Rattle.ipl_base.specs.declared.limits.TheConstants.{PAGES, SLOTS, UNIT_NAMES, VERSION}
-use Rattle.ipl_model.specs.State.{State, is_open, writes_of, last_write}
+use Rattle.ipl_model.specs.State.{State, is_open_session, writes_of, last_write}
 use Rattle.ipl_format.specs.Record.{Record, Change, IsRecord}
 use Rattle.ipl_meaning.specs.Values.{counts_for}
 use Rattle.ipl_meaning.specs.Layout.{Layout, records_of}
@@ -73,7 +73,7 @@ ArePending numbers logs = (u page : ℕ) → All (IsPending numbers page) (logs 
 -- its last write there, and it has none where it wrote nothing. Behind none of them stands a committed record on the
 -- same name. What is in memory is of open sessions and of its own page.
 pub record HasPending (units : ℕ) (it : Layout) (logs : Logs) (numbers : SessionNumbers) (state : State) : Type 0 where
-  pub opens : (s : ℕ) → is_some (numbers s) ≡ is_open state s
+  pub opens : (s : ℕ) → is_some (numbers s) ≡ is_open_session state s
   pub apart : (s t tid : ℕ) → numbers s ≡ Some tid → numbers t ≡ Some tid → s ≡ t
   pub waits : (s tid : ℕ) → numbers s ≡ Some tid → it.committed tid ≡ false
   pub among : (s u page : ℕ) (r : Record) → numbers s ≡ Some r.tid → u < units → Contains (records_at it logs u page) r

@@ -2,7 +2,7 @@
 use Rattle.std.specs.Prelude.{ℕ, ◌≡◌, ◌≢◌, ◌↔◌, ◌⊎◌, ◌<◌, ◌≤◌, ◌∷◌, ◌++◌, Bool, true, false, IsTrue, List, [], Some, None, All, Contains, if◌then◌else◌}
 use Rattle.std.specs.List.{list_any}
 use Rattle.ipl_base.specs.declared.limits.TheConstants.{PAGES, SLOTS, VERSION}
-use Rattle.ipl_model.specs.Marks.{weight_of_mark, marks}
+use Rattle.ipl_model.specs.Peaks.{weight_of_peak, peaks}
 use Rattle.ipl_model.specs.State.{State}
 use Rattle.ipl_model.specs.Operations.{after_begin, after_share, after_write, after_commit, after_batch, after_abort, after_restart}
 use Rattle.ipl_format.specs.Record.{Record, IsRecord}
@@ -204,11 +204,11 @@ ChangedPagesSuffice =
     → ((u page : ℕ) → units ≤ u → logs u page ≡ [])
     → IsWrittenOut logs tid
 
--- a record of an open session, on the chip or in memory, weighs at most what its name does by the mark in the state
+-- a record of an open session, on the chip or in memory, weighs at most what its name does by the peak in the state
 abbrev pub RecordsWeighNoMore : Type 0
 RecordsWeighNoMore =
     (units : ℕ) (it : Layout) (logs : Logs) (numbers : SessionNumbers) (state : State) (active : ℕ → Bool) (u page : ℕ)
     (r : Record)
     → HasPending units it logs numbers state → AreActive numbers active → u < units
     → Contains (records_at it logs u page) r → IsTrue (active r.tid)
-    → weight_of r ≤ weight_of_mark (marks state (name_at u r.page r.slot))
+    → weight_of r ≤ weight_of_peak (peaks state (name_at u r.page r.slot))

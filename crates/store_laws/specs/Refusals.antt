@@ -8,7 +8,7 @@ use Rattle.ipl_base.specs.Sizes.{size_in_page}
 use Rattle.ipl_base.specs.declared.fault.ChipFault.{ChipFault}
 use Rattle.ipl_base.specs.declared.fault.Refusal.{Refusal}
 use Rattle.ipl_base.specs.declared.fault.Refusal.TheVariants.{PageFull}
-use Rattle.ipl_model.specs.Marks.{overfills}
+use Rattle.ipl_model.specs.Peaks.{overfills}
 use Rattle.ipl_model.specs.Operations.{after_write}
 use Rattle.ipl_model.specs.Refusals.{first_of, bad_session, bad_name, too_long, not_open, conflict, writes_full, refuses_begin, refuses_get, refuses_share, refuses_put_early, refuses_del, refuses_end, refuses_batch, is_twice, refuses_list, refuses_merge}
 use Rattle.ipl_model.specs.State.{State, Limits, holder_for_write}
@@ -16,7 +16,7 @@ use Rattle.ipl_model.specs.declared.command.Command.{Command}
 use Rattle.ipl_model.specs.declared.command.Command.TheVariants as command
 use Rattle.ipl_model.specs.declared.reply.Reply.TheVariants as reply
 use Rattle.ipl_model.specs.Step.{Stepped, refusal_of, accepted, step}
-use Rattle.record_locks.specs.Held.{SessionSlots, marks_in, number_of}
+use Rattle.record_locks.specs.Held.{SessionSlots, peaks_in, number_of}
 use Rattle.record_locks.specs.Locks as locks
 use Rattle.record_locks.specs.Standing.{state_of}
 use Rattle.ipl_meaning.specs.Legible.{Legibility, IsToldApart}
@@ -126,7 +126,7 @@ PutsAnswer = (pages : Legibility) (s n : ℕ) (bytes : List ℕ) (store : View) 
     → sessions_refuse_put (limits_of store.units) store.memory.slots s n bytes ≡ None
     → IsToldApart pages → OfContents old (λ x. (state : State) → ShowsState old.places pages store state x
     → step (limits_of store.units) state (command.Put s n bytes)
-    ≡ (if overfills_at (marks_in store.memory.slots) n bytes f.values
+    ≡ (if overfills_at (peaks_in store.memory.slots) n bytes f.values
     then (state, reply.Refused PageFull ∷ [])
     else (after_write state s (n, Some bytes), reply.Ok ∷ [])))
 
@@ -139,7 +139,7 @@ FullPutsAreWork = (pages : Legibility) (s n : ℕ) (bytes : List ℕ) (before af
     after.memory.tables after.memory.frames new
     → after.memory.frames (home_of n).unit (home_of n).page ≡ Some f
     → sessions_refuse_put (limits_of before.units) before.memory.slots s n bytes ≡ None
-    → overfills_at (marks_in before.memory.slots) n bytes f.values ≡ true
+    → overfills_at (peaks_in before.memory.slots) n bytes f.values ≡ true
     → DrawsFew WORK_DRAWS before old after
     → Works (store_keeping old.places pages) (command.Put s n bytes) before old (Ok (reply.Refused PageFull)) after new
 
@@ -153,7 +153,7 @@ WrittenPutsAreWork = (pages : Legibility) (s n : ℕ) (bytes : List ℕ) (before
     t later mid
     → later (home_of n).unit (home_of n).page ≡ Some f
     → sessions_refuse_put (limits_of before.units) before.memory.slots s n bytes ≡ None
-    → overfills_at (marks_in before.memory.slots) n bytes f.values ≡ false
+    → overfills_at (peaks_in before.memory.slots) n bytes f.values ≡ false
     → LeadsTo {T = Unit {0}} {E = ChipFault} (λ state. after_write state s (n, Some bytes))
     (memory_of t later before.memory.slots) mid (Ok tt) after.memory new
     → DrawsFew WORK_DRAWS before old after

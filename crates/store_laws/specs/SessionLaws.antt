@@ -5,7 +5,7 @@ use Rattle.chip_trait.specs.Told.{Told}
 use Rattle.ipl_base.specs.declared.fault.ChipFault.{ChipFault}
 use Rattle.ipl_model.specs.Operations as rules
 use Rattle.ipl_format.specs.Record.{Record, IsRecord}
-use Rattle.record_locks.specs.Held.{SessionSlots, marks_in, number_of, numbers_in, written_of, written_by, after_begin, after_share, after_end}
+use Rattle.record_locks.specs.Held.{SessionSlots, peaks_in, number_of, numbers_in, written_of, written_by, after_begin, after_share, after_end}
 use Rattle.record_locks.specs.Held.{after_batch as slots_after}
 use Rattle.ipl_meaning.specs.Tables.{Tables}
 use Rattle.record_locks.specs.Locks.{refuses_end}
@@ -44,7 +44,7 @@ WritesLead = (s u : ℕ) (r : Record) (f g : PageFrame) (before : Memory) (old :
     → s < length before.slots → number_of before.slots s ≡ Some r.tid
     → u < length before.tables.places.current
     → IsRecord VERSION r → before.frames u r.page ≡ Some f → IsWrittenFrame r f g
-    → PageHasRoomFor (marks_in before.slots) u r f.values
+    → PageHasRoomFor (peaks_in before.slots) u r f.values
     → LocksHold (after_record before.slots s u r)
     → LeadsTo {T = Unit {0}} {E = ChipFault}
     (λ state. rules.after_write state s (name_at u r.page r.slot, r.change)) before old (Ok tt)

@@ -6,7 +6,7 @@ use Rattle.ipl_base.specs.Sizes.{size_in_page}
 use Rattle.ipl_model.specs.State.{Map, State, at_rest}
 use Rattle.ipl_model.specs.Refusals.{is_twice}
 use Rattle.ipl_model.specs.Operations as rules
-use Rattle.record_locks.specs.Held.{SessionSlots, number_of, numbers_in, writer_numbers, marks_in, after_begin, after_share, after_write, after_end, after_batch}
+use Rattle.record_locks.specs.Held.{SessionSlots, number_of, numbers_in, writer_numbers, peaks_in, after_begin, after_share, after_write, after_end, after_batch}
 use Rattle.ipl_format.specs.Record.{Record, IsRecord}
 use Rattle.ipl_meaning.specs.Chart.{Chart}
 use Rattle.ipl_meaning.specs.Legible.{every, whole}
@@ -51,7 +51,7 @@ WritesFit =
     (r : Record) (f g : PageFrame)
     → Fits places c it t frames slots state → s < length slots → number_of slots s ≡ Some r.tid → u < it.count
     → IsRecord VERSION r → frames u r.page ≡ Some f → IsWrittenFrame r f g
-    → PageHasRoomFor (marks_in slots) u r f.values → LocksHold (after_record slots s u r)
+    → PageHasRoomFor (peaks_in slots) u r f.values → LocksHold (after_record slots s u r)
     → Fits places c it t (with_frame_at frames u r.page (Some g)) (after_record slots s u r)
     (rules.after_write state s (name_at u r.page r.slot, r.change))
 

@@ -1,7 +1,7 @@
 //! The laws of pending writes.
 ghost use Rattle.store_laws.specs.PendingLaws.{BeginsKeepPending, SharesKeepPending, WritesKeepPending, LogSectorsKeepPending, MergesKeepPending, SameLogsKeepPending, RenewalsKeepPending, CommitsKeepPending, CommitsSayWrites, BatchesKeepPending, BatchesSayWrites, AbortsKeepPending, RestartsLeaveNone, RecordsStayPending, RecordsAreWrites, ChangedPagesSuffice, RecordsWeighNoMore};
 ghost use Rattle.store_laws.specs.FrameLaws.{FramesTell, LoadsMakeFrames, BeginsKeepFrames, WritesKeepFrames, OtherWritesKeepFrames, LogSectorsKeepFrames, MergesKeepFrames, OtherStepsKeepFrames, CommitsKeepFrames, AbortsKeepFrames};
-ghost use Rattle.store_laws.specs.FittingLaws.{SparesAreFreeOrRetired, APlaceIsFree, FitsWhateverTheMap, SessionsAreSound, WrittenPagesFit, LoadedPagesFit, FramesKeepMarks, MarksTellFullPages, PutsThatPassHaveRoom, SameValuesHaveRoom, MergesAreSmall, RestingPagesSay, RestingPagesKeep, FittingFramesTell, FittingContentsTell, EmptySlotsAreAtRest, FirstStoresFit};
+ghost use Rattle.store_laws.specs.FittingLaws.{SparesAreFreeOrRetired, APlaceIsFree, FitsWhateverTheMap, SessionsAreSound, WrittenPagesFit, LoadedPagesFit, FramesKeepPeaks, PeaksTellFullPages, PutsThatPassHaveRoom, SameValuesHaveRoom, MergesAreSmall, RestingPagesSay, RestingPagesKeep, FittingFramesTell, FittingContentsTell, EmptySlotsAreAtRest, FirstStoresFit};
 ghost use Rattle.store_laws.specs.StepLaws.{BeginsFit, SharesFit, WritesFit, AbortsFit, SessionNumbersFit, LoadsFit, EvictionsFit, OpeningsFit, LogSectorsFit, MergesFit, OtherStepsFit, RenewalsFit, BatchesFit};
 
 /// After each step of a store but a commit, the records on the chip and in memory say what its open
@@ -77,8 +77,8 @@ pub fn telling_laws()
 pub fn fill_laws()
     ensures written { WrittenPagesFit }
     ensures loaded { LoadedPagesFit }
-    ensures marks { FramesKeepMarks }
-    ensures full { MarksTellFullPages }
+    ensures peaks { FramesKeepPeaks }
+    ensures full { PeaksTellFullPages }
     ensures room { PutsThatPassHaveRoom }
     ensures same_room { SameValuesHaveRoom }
 {}

@@ -3,15 +3,15 @@ ghost use Rattle.std.specs.Prelude.{◌≡◌, ◌≤◌, ◌+◌, ◌∷◌, �
 ghost use Rattle.std.specs.List.{list_any};
 ghost use Rattle.ipl_base.specs.declared.limits.TheConstants.{VALUE_LEN};
 ghost use Rattle.ipl_base.specs.Sizes.{size_in_page};
-ghost use Rattle.ipl_model.specs.State.{is_open, writes_of, shared_of, last_write, written_names, least_other, pending_writes};
-ghost use Rattle.ipl_model.specs.Marks.{marks, overloads, overfills};
+ghost use Rattle.ipl_model.specs.State.{is_open_session, writes_of, shared_of, last_write, written_names, least_other, pending_writes};
+ghost use Rattle.ipl_model.specs.Peaks.{peaks, overloads, overfills};
 ghost use Rattle.ipl_model.specs.Refusals.{is_new_write, is_new_share};
 ghost use Rattle.ipl_model.specs.Plain.{state_of, limits_of, keeps_from, newest_first};
 
 use super::PlainModel;
 use super::locks::{Lock, holder, pending_writes};
 use super::log::Write;
-use super::marks::{fill, weights};
+use super::peaks::{fill, weights};
 use super::scan::{count_names, newest};
 use crate::numbers::{has_bad_session, least_twice};
 use ipl_base::{
@@ -22,7 +22,7 @@ use std::alloc::AllocError;
 impl PlainModel {
     /// Whether a session is open.
     fn is_open(&self, s: u32) -> bool
-        ensures { result ≡ is_open (state_of self.now) s }
+        ensures { result ≡ is_open_session (state_of self.now) s }
     {
         self.session(s).is_some()
     }
@@ -94,7 +94,7 @@ impl PlainModel {
     /// Whether with one write more the pending names of its unit would weigh more than 48.
     fn overloads(&self, name: u32, value: Option<Value>) -> Result<bool, AllocError>
         ensures { IfOk result (λ answer.
-            answer ≡ overloads (marks (state_of self.now)) name (1 + size_in_page value)) }
+            answer ≡ overloads (peaks (state_of self.now)) name (1 + size_in_page value)) }
     {
         let all = self.pending_with(name, value)?;
         Ok(weights(&all, name / UNIT_NAMES) > PENDING_WEIGHT)
@@ -254,7 +254,7 @@ impl PlainModel {
 
     /// Whether one of these sessions isn't open.
     fn has_closed(&self, sessions: &[u32]) -> bool
-        ensures { result ≡ list_any (λ s. not (is_open (state_of self.now) s)) sessions.now }
+        ensures { result ≡ list_any (λ s. not (is_open_session (state_of self.now) s)) sessions.now }
     {
         sessions.iter().any(|s| !self.is_open(*s))
     }

@@ -2,9 +2,9 @@
 ghost use Rattle.std.specs.Prelude.{◌≡◌, ◌<◌, ◌+◌, length, nat_le, not};
 ghost use Rattle.std.specs.List.{find, list_any, range_with_len};
 ghost use Rattle.ipl_base.specs.declared.limits.TheConstants.{SESSIONS};
-ghost use Rattle.ipl_model.specs.Marks.{overloads};
-ghost use Rattle.record_locks.specs.Held.{marks_in};
-ghost use Rattle.ipl_model.specs.State.{is_open, writes_of, shared_of, written_names};
+ghost use Rattle.ipl_model.specs.Peaks.{overloads};
+ghost use Rattle.record_locks.specs.Held.{peaks_in};
+ghost use Rattle.ipl_model.specs.State.{is_open_session, writes_of, shared_of, written_names};
 ghost use Rattle.ipl_model.specs.Refusals.{is_new_write, is_new_share};
 ghost use Rattle.record_locks.specs.Standing.{state_of};
 ghost use Rattle.record_locks.specs.Locks.{refuses_share, refuses_write, refuses_batch, refuses_close};
@@ -19,14 +19,14 @@ impl Sessions {
     #[tactic(auto, using(crate::proofs::StandingLemmas::open_at))]
     pub fn is_open(&self, s: u32) -> bool
         requires { s < SESSIONS }
-        ensures { result ≡ is_open (state_of self.now) s }
+        ensures { result ≡ is_open_session (state_of self.now) s }
     {
         self.slots[s as usize].is_some()
     }
 
     /// Whether there is no such session, or it isn't open.
     fn is_closed(&self, s: u32) -> bool
-        ensures { result ≡ not (is_open (state_of self.now) s) }
+        ensures { result ≡ not (is_open_session (state_of self.now) s) }
     {
         let _ = &self.slots;
         s >= SESSIONS || !self.is_open(s)
@@ -34,7 +34,7 @@ impl Sessions {
 
     /// Whether one of these sessions isn't open.
     fn has_closed(&self, numbers: &[u32]) -> bool
-        ensures { result ≡ list_any (λ s. not (is_open (state_of self.now) s)) numbers.now }
+        ensures { result ≡ list_any (λ s. not (is_open_session (state_of self.now) s)) numbers.now }
     {
         numbers.iter().any(|s| self.is_closed(*s))
     }
@@ -95,9 +95,9 @@ impl Sessions {
 
     /// Whether with a write of this size the pending names of its unit would weigh more than 48.
     fn overloads(&self, name: Name, size: u32) -> bool
-        ensures { result ≡ overloads (marks_in self.now) name.0 (1 + size) }
+        ensures { result ≡ overloads (peaks_in self.now) name.0 (1 + size) }
     {
-        let old = self.mark(name);
+        let old = self.peak(name);
         let new = old.max(1 + u64::from(size));
         self.pending(name.0 / UNIT_NAMES) + weight_of(new) > PENDING_WEIGHT + weight_of(old)
     }
@@ -140,7 +140,7 @@ impl Sessions {
 
     /// The least session that is open, if one is.
     fn least_open(&self) -> Option<u32>
-        ensures { result ≡ find (is_open (state_of self.now)) (range_with_len 0 SESSIONS) }
+        ensures { result ≡ find (is_open_session (state_of self.now)) (range_with_len 0 SESSIONS) }
     {
         for s in 0..SESSIONS {
             if self.is_open(s) {

@@ -1,5 +1,5 @@
 use Rattle.log_records.specs.View.{record_of}
-use Rattle.ipl_model.proofs.RuleMarkLemmas.{le_trans}
+use Rattle.ipl_model.proofs.RulePeakLemmas.{le_trans}
 use Rattle.page_ops.specs.Frames.{values_in, pending_in}
 use Rattle.page_frames.proofs.FrameRoomLemmas.{delete_fill}
 use Rattle.page_frames.proofs.puts.note_change.Goals as goal

@@ -1,6 +1,6 @@
 use Rattle.std.proofs.Common.{◌≡◌, ◌∙◌, List, ℕ, Some, None, Ok, false, sym, ap, subst, Err}
 use Rattle.std.proofs.lemmas.Result.{err_from_is_err_and}
-use Rattle.record_locks.specs.Held.{SessionSlots, marks_in}
+use Rattle.record_locks.specs.Held.{SessionSlots, peaks_in}
 use Rattle.store_laws.specs.Room.{overfills_at}
 use Rattle.store_laws.specs.Keeps.{limits_of}
 use Rattle.store_laws.specs.Refusals.{sessions_refuse_put}
@@ -103,7 +103,7 @@ full g c =
     full_put c.args.s c.args.n c.args.value.now store (g.C.Chip.told c.args.chip.now)
     c.bring.new.self (g.C.Chip.told c.bring.new.chip) none c.requires.sound
     c.in_ok-bring.ensures.fetches c.in_ok-bring.ensures.asks brought
-    (ap (λ (slots : SessionSlots). overfills_at (marks_in slots) c.args.n c.args.value.now
+    (ap (λ (slots : SessionSlots). overfills_at (peaks_in slots) c.args.n c.args.value.now
     brought.frame.values) (sym c.bring.ensures.sessions)
     ∙ sym (c.overfills.ensures.exact brought.frame brought.there) ∙ c.if-overfills.true)
 
@@ -151,7 +151,7 @@ written g c =
     written_put c.args.s c.args.n bytes store (g.C.Chip.told c.args.chip.now) c.bring.new.self
     between c.write-done.result c.write-done.new.self after c.end.result c.end.new.self none up
     c.requires.sound c.in_ok-bring.ensures.fetches brought
-    (ap (λ (k : SessionSlots). overfills_at (marks_in k) c.args.n bytes brought.frame.values)
+    (ap (λ (k : SessionSlots). overfills_at (peaks_in k) c.args.n bytes brought.frame.values)
     (sym c.bring.ensures.sessions)
     ∙ sym (c.overfills.ensures.exact brought.frame brought.there) ∙ c.if-overfills.false)
     c.in-Some.ensures.some.1

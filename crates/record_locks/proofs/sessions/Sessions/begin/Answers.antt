@@ -1,5 +1,5 @@
 use Rattle.std.proofs.Common.{◌<◌, Some, length, ap, subst, sym, refl, arith}
-use Rattle.record_locks.specs.Held.{Held, slot_marks}
+use Rattle.record_locks.specs.Held.{Held, slot_peaks}
 use Rattle.record_locks.specs.Locks.{IsSized, written_in}
 use Rattle.record_locks.proofs.SoundLemmas.{sound_less}
 use Rattle.record_locks.proofs.sessions.Sessions.begin.Goals as goal
@@ -10,4 +10,4 @@ invariant_of-self c =
     sound_less c.self.inside.slots.items c.args.s (Some c.new.result) c.self.invariant within
     (λ p. omega (arith, ap (λ (h : Held). written_in p (Some h)) c.new.ensures))
     (subst (λ (h : Held). IsSized (Some h)) (sym c.new.ensures) refl)
-    (λ q. omega (arith, ap (λ (h : Held). slot_marks (Some h) q) c.new.ensures))
+    (λ q. omega (arith, ap (λ (h : Held). slot_peaks (Some h) q) c.new.ensures))

@@ -1,8 +1,8 @@
 use Rattle.std.proofs.Common.{◌≡◌, ◌<◌, Option, length, ◌∙◌, ap, subst, sym, arith}
-use Rattle.record_locks.specs.Held.{Held, SessionSlots, held_at, slot_marks}
+use Rattle.record_locks.specs.Held.{Held, SessionSlots, held_at, slot_peaks}
 use Rattle.record_locks.specs.Locks.{AreSoundSlots}
 use Rattle.record_locks.proofs.TotalLemmas.{one_writer}
-use Rattle.record_locks.proofs.MarkLemmas.{one_is_all}
+use Rattle.record_locks.proofs.PeakLemmas.{one_is_all}
 use Rattle.record_locks.proofs.CallLemmas.{slot_held}
 use Rattle.record_locks.proofs.sessions.Sessions.size_by.Goals as goal
 
@@ -17,7 +17,7 @@ returns c =
     omega (
       arith,
       c.saturating_sub.ensures,
-      c.mark_in_slot.ensures.mark,
-      ap (λ (o : Option Held). slot_marks o c.args.name.0) held,
+      c.peak_in_slot.ensures.peak,
+      ap (λ (o : Option Held). slot_peaks o c.args.name.0) held,
       one_is_all c.args.self.now c.args.s c.args.name.0 once c.requires.wrote,
     )

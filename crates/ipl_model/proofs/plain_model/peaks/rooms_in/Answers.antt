@@ -1,9 +1,9 @@
 use Rattle.std.proofs.Common.{◌%◌, max, set, get_or, List, ℕ, ◌∙◌, ap, ap₂}
 use Rattle.ipl_base.specs.declared.limits.TheConstants.{SLOTS}
 use Rattle.ipl_model.specs.Plain.{records_of}
-use Rattle.ipl_model.proofs.MarkLemmas.{rooms_none, log_rooms_more, log_rooms_same}
-use Rattle.ipl_model.proofs.plain_model.marks.rooms_in.Goals.{then-write-page, else-write-page}
-use Rattle.ipl_model.proofs.plain_model.marks.rooms_in.Goals as goal
+use Rattle.ipl_model.proofs.PeakLemmas.{rooms_none, log_rooms_more, log_rooms_same}
+use Rattle.ipl_model.proofs.plain_model.peaks.rooms_in.Goals.{then-write-page, else-write-page}
+use Rattle.ipl_model.proofs.plain_model.peaks.rooms_in.Goals as goal
 
 pub loop-write-init : goal.loop-write-init
 loop-write-init c = c.sizes_in-rooms.ensures ∙ rooms_none (records_of c.args.committed.now) c.args.page

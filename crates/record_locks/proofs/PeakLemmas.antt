@@ -1,4 +1,4 @@
--- Marks of names: what stands beside them, and what a write makes of that.
+-- Peaks of names: what stands beside them, and what a write makes of that.
 use Rattle.std.proofs.Common.{◌≡◌, ◌≢◌, ◌⊎◌, inl, inr, ℕ, zero, suc, ◌+◌, ◌*◌, ◌/◌, ◌≤◌, ◌==◌, max, Bool, true, false, cond, List, [], ◌∷◌, ◌++◌, length, drop, set, Option, Some, None, refl, sym, ◌∙◌, ap, ap₂, arith, length-append}
 use Rattle.std.specs.Prelude.{slice_index}
 use Rattle.std.specs.List.{All, count_by, sum_by}
@@ -7,10 +7,10 @@ use Rattle.std.proofs.Math.Nat.{le-max_left, le-max_right, max-le, max-zero, max
 use Rattle.std.proofs.lemmas.Bool.{cases_Bool, cases_eq, cases_lt, ne_eqb, eq-eqb}
 use Rattle.std.proofs.lemmas.List.Sums.{sum_by-cons}
 use Rattle.std.proofs.lemmas.List.Elements.{All-cons}
-use Rattle.ipl_model.specs.Marks.{with_mark, weight_of_mark, weights}
+use Rattle.ipl_model.specs.Peaks.{with_peak, weight_of_peak, weights}
 use Rattle.ipl_base.specs.declared.limits.TheConstants.{UNIT_NAMES}
 use Rattle.ipl_model.proofs.WeightLemmas.{weights_same, weights_none, weights_joined, weights_new}
-use Rattle.record_locks.specs.Held.{Held, SessionSlots, held_at, written_of, is_among, mark_in, raised, weight_listed, slot_marks, marks_in, slot_weight, with_written}
+use Rattle.record_locks.specs.Held.{Held, SessionSlots, held_at, written_of, is_among, peak_in, raised, weight_listed, slot_peaks, peaks_in, slot_weight, with_written}
 use Rattle.record_locks.specs.Locks.{IsSized, OneWriter, total, written_in}
 use Rattle.record_locks.proofs.NameLemmas.{count_cons, counted_once}
 use Rattle.record_locks.proofs.TotalLemmas.{total_cons}
@@ -20,17 +20,17 @@ head_is z sizes = refl
 
 -- ---- names in a list
 
-absent_mark : (names sizes : List ℕ) (n : ℕ) → is_among n names ≡ false → mark_in names sizes n ≡ 0
-absent_mark [] sizes n none = refl
-absent_mark (k ∷ names) sizes n none = elim (cases_Bool (k == n)) [
+absent_peak : (names sizes : List ℕ) (n : ℕ) → is_among n names ≡ false → peak_in names sizes n ≡ 0
+absent_peak [] sizes n none = refl
+absent_peak (k ∷ names) sizes n none = elim (cases_Bool (k == n)) [
   | inl here ↦ absurd (let clash = rw here at none in cc clash)
-  | inr other ↦ rw other (absent_mark names (drop 1 sizes) n (rw other at none))
+  | inr other ↦ rw other (absent_peak names (drop 1 sizes) n (rw other at none))
 ]
 
 pub absent_slot : (o : Option Held) (n : ℕ) → is_among n (option_map_or (λ h. h.written) o []) ≡ false
-    → slot_marks o n ≡ 0
+    → slot_peaks o n ≡ 0
 absent_slot None n none = refl
-absent_slot (Some h) n none = absent_mark h.written h.sizes n none
+absent_slot (Some h) n none = absent_peak h.written h.sizes n none
 
 -- a name that no test counts
 uncounted : (names : List ℕ) (n : ℕ) → count_by (λ k. k == n) names ≡ 0 → is_among n names ≡ false
@@ -39,61 +39,61 @@ uncounted names n none = elim (cases_Bool (is_among n names)) [
   | inr absent ↦ absent
 ]
 
-pub uncounted_mark : (o : Option Held) (n : ℕ) → written_in (λ k. k == n) o ≡ 0 → slot_marks o n ≡ 0
-uncounted_mark o n none = absent_slot o n (uncounted (option_map_or (λ h. h.written) o []) n none)
+pub uncounted_peak : (o : Option Held) (n : ℕ) → written_in (λ k. k == n) o ≡ 0 → slot_peaks o n ≡ 0
+uncounted_peak o n none = absent_slot o n (uncounted (option_map_or (λ h. h.written) o []) n none)
 
-pub untotaled_mark : (slots : SessionSlots) (n : ℕ) → total (λ k. k == n) slots ≡ 0 → marks_in slots n ≡ 0
-untotaled_mark [] n none = refl
-untotaled_mark (o ∷ slots) n none =
-    let one = uncounted_mark o n (omega (arith, none, total_cons (λ k. k == n) o slots)) in
-    let rest = untotaled_mark slots n (omega (arith, none, total_cons (λ k. k == n) o slots)) in
+pub untotaled_peak : (slots : SessionSlots) (n : ℕ) → total (λ k. k == n) slots ≡ 0 → peaks_in slots n ≡ 0
+untotaled_peak [] n none = refl
+untotaled_peak (o ∷ slots) n none =
+    let one = uncounted_peak o n (omega (arith, none, total_cons (λ k. k == n) o slots)) in
+    let rest = untotaled_peak slots n (omega (arith, none, total_cons (λ k. k == n) o slots)) in
     ap₂ (λ (a b : ℕ). max a b) one rest
 
 -- ---- weights
 
 -- a name in front of others
-front_mark : (k : ℕ) (names sizes : List ℕ) (n : ℕ) → mark_in names (drop 1 sizes) k ≡ 0
-    → mark_in (k ∷ names) sizes n ≡ with_mark (mark_in names (drop 1 sizes)) k (1 + slice_index sizes 0) n
-front_mark k names sizes n none = elim (cases_eq k n) [
+front_peak : (k : ℕ) (names sizes : List ℕ) (n : ℕ) → peak_in names (drop 1 sizes) k ≡ 0
+    → peak_in (k ∷ names) sizes n ≡ with_peak (peak_in names (drop 1 sizes)) k (1 + slice_index sizes 0) n
+front_peak k names sizes n none = elim (cases_eq k n) [
   | inl same ↦
       let is : (k == n) ≡ true = eq-eqb k n same in
-      let zeros : mark_in names (drop 1 sizes) n ≡ 0 = ap (mark_in names (drop 1 sizes)) (sym same) ∙ none in
+      let zeros : peak_in names (drop 1 sizes) n ≡ 0 = ap (peak_in names (drop 1 sizes)) (sym same) ∙ none in
       rw is (sym (ap (λ (m : ℕ). max (1 + slice_index sizes 0) m) zeros ∙ max-zero (1 + slice_index sizes 0)))
   | inr other ↦ let no : (k == n) ≡ false = ne_eqb k n other in rw no refl
 ]
 
-pub list_weighs : (names sizes : List ℕ) (unit : ℕ) → ((n : ℕ) → count_by (λ k. k == n) names ≤ 1) → weights (mark_in names sizes) unit ≡ weight_listed names sizes unit
+pub list_weighs : (names sizes : List ℕ) (unit : ℕ) → ((n : ℕ) → count_by (λ k. k == n) names ≤ 1) → weights (peak_in names sizes) unit ≡ weight_listed names sizes unit
 list_weighs [] sizes unit once = weights_none unit
 list_weighs (k ∷ names) sizes unit once =
-    weights_same _ _ unit (λ i low. front_mark k names sizes (UNIT_NAMES * unit + i) none)
-    ∙ weights_new (mark_in names (drop 1 sizes)) k (1 + slice_index sizes 0) unit none
-    ∙ ap (λ (rest : ℕ). cond (k / UNIT_NAMES == unit) (weight_of_mark (1 + slice_index sizes 0)) 0 + rest) (list_weighs names (drop 1 sizes) unit fewer)
+    weights_same _ _ unit (λ i low. front_peak k names sizes (UNIT_NAMES * unit + i) none)
+    ∙ weights_new (peak_in names (drop 1 sizes)) k (1 + slice_index sizes 0) unit none
+    ∙ ap (λ (rest : ℕ). cond (k / UNIT_NAMES == unit) (weight_of_peak (1 + slice_index sizes 0)) 0 + rest) (list_weighs names (drop 1 sizes) unit fewer)
   where
     -- the others hold each name once, and this one not at all
     fewer : (n : ℕ) → count_by (λ j. j == n) names ≤ 1
     fewer n = omega (arith, once n, count_cons (λ j. j == n) k names)
 
-    none : mark_in names (drop 1 sizes) k ≡ 0
-    none = absent_mark names (drop 1 sizes) k (uncounted names k (own (k == k) refl (eq-eqb k k refl)))
+    none : peak_in names (drop 1 sizes) k ≡ 0
+    none = absent_peak names (drop 1 sizes) k (uncounted names k (own (k == k) refl (eq-eqb k k refl)))
       where
         own : (b : Bool) → (k == k) ≡ b → b ≡ true → count_by (λ j. j == k) names ≡ 0
         own b is counted = omega (arith, once k, count_cons (λ j. j == k) k names, ap {B = ℕ} (λ (t : Bool). cond t 1 0) (is ∙ counted))
 
-slot_weighs : (o : Option Held) (unit : ℕ) → ((n : ℕ) → written_in (λ k. k == n) o ≤ 1) → weights (slot_marks o) unit ≡ slot_weight o unit
+slot_weighs : (o : Option Held) (unit : ℕ) → ((n : ℕ) → written_in (λ k. k == n) o ≤ 1) → weights (slot_peaks o) unit ≡ slot_weight o unit
 slot_weighs None unit once = weights_none unit
 slot_weighs (Some h) unit once = list_weighs h.written h.sizes unit once
 
-pub slots_weigh : (slots : SessionSlots) (unit : ℕ) → ((n : ℕ) → total (λ k. k == n) slots ≤ 1) → weights (marks_in slots) unit ≡ sum_by (λ o. slot_weight o unit) slots
+pub slots_weigh : (slots : SessionSlots) (unit : ℕ) → ((n : ℕ) → total (λ k. k == n) slots ≤ 1) → weights (peaks_in slots) unit ≡ sum_by (λ o. slot_weight o unit) slots
 slots_weigh [] unit once = weights_none unit
 slots_weigh (o ∷ slots) unit once =
     let rest = slots_weigh slots unit (λ n. omega (arith, once n, total_cons (λ k. k == n) o slots)) in
     let one = slot_weighs o unit (λ n. omega (arith, once n, total_cons (λ k. k == n) o slots)) in
-    let both = weights_joined (slot_marks o) (marks_in slots) unit (λ n. one_of n (written_in (λ k. k == n) o) refl) in
+    let both = weights_joined (slot_peaks o) (peaks_in slots) unit (λ n. one_of n (written_in (λ k. k == n) o) refl) in
     both ∙ sums one rest (sum_by-cons (λ x. slot_weight x unit) o slots)
   where
-    one_of : (n c : ℕ) → written_in (λ k. k == n) o ≡ c → (slot_marks o n ≡ 0) ⊎ (marks_in slots n ≡ 0)
-    one_of n zero is = inl (uncounted_mark o n is)
-    one_of n (suc c) is = inr (untotaled_mark slots n (omega (arith, once n, is, total_cons (λ k. k == n) o slots)))
+    one_of : (n c : ℕ) → written_in (λ k. k == n) o ≡ c → (slot_peaks o n ≡ 0) ⊎ (peaks_in slots n ≡ 0)
+    one_of n zero is = inl (uncounted_peak o n is)
+    one_of n (suc c) is = inr (untotaled_peak slots n (omega (arith, once n, is, total_cons (λ k. k == n) o slots)))
 
     sums : {a b u w s : ℕ} → a ≡ u → b ≡ w → s ≡ u + w → a + b ≡ s
     sums one rest sum = omega (arith, one, rest, sum)
@@ -110,11 +110,11 @@ suc_max a b = elim (cases_lt a b) [
     two one other = omega (arith, one, other)
 
 -- a write of a name that is there
-mark_raised : (names sizes : List ℕ) (n size q : ℕ) → length sizes ≡ length names → is_among n names ≡ true
-    → mark_in names (raised names sizes n size) q ≡ with_mark (mark_in names sizes) n (1 + size) q
-mark_raised [] sizes n size q sized there = absurd (cc there)
-mark_raised (k ∷ names) [] n size q sized there = absurd (omega (arith, sized))
-mark_raised (k ∷ names) (z ∷ sizes) n size q sized there = elim (cases_eq k n) [
+peak_raised : (names sizes : List ℕ) (n size q : ℕ) → length sizes ≡ length names → is_among n names ≡ true
+    → peak_in names (raised names sizes n size) q ≡ with_peak (peak_in names sizes) n (1 + size) q
+peak_raised [] sizes n size q sized there = absurd (cc there)
+peak_raised (k ∷ names) [] n size q sized there = absurd (omega (arith, sized))
+peak_raised (k ∷ names) (z ∷ sizes) n size q sized there = elim (cases_eq k n) [
   | inl same ↦ let is : (k == n) ≡ true = eq-eqb k n same in rw is (here same (cases_eq k q))
   | inr other ↦
       let no : (k == n) ≡ false = ne_eqb k n other in
@@ -125,13 +125,13 @@ mark_raised (k ∷ names) (z ∷ sizes) n size q sized there = elim (cases_eq k 
             rw (yes, apart) refl
         | inr away ↦
             let off : (k == q) ≡ false = ne_eqb k q away in
-            rw off (mark_raised names sizes n size q (omega (arith, sized)) (rw no at there))
+            rw off (peak_raised names sizes n size q (omega (arith, sized)) (rw no at there))
       ])
 ]
   where
     here : k ≡ n → (k ≡ q) ⊎ (k ≢ q)
-        → cond (k == q) (1 + max size z) (mark_in names sizes q)
-        ≡ cond (n == q) (max (1 + size) (cond (k == q) (1 + z) (mark_in names sizes q))) (cond (k == q) (1 + z) (mark_in names sizes q))
+        → cond (k == q) (1 + max size z) (peak_in names sizes q)
+        ≡ cond (n == q) (max (1 + size) (cond (k == q) (1 + z) (peak_in names sizes q))) (cond (k == q) (1 + z) (peak_in names sizes q))
     here same (inl at) =
         let yes : (k == q) ≡ true = eq-eqb k q at in
         let too : (n == q) ≡ true = eq-eqb n q (sym same ∙ at) in
@@ -142,15 +142,15 @@ mark_raised (k ∷ names) (z ∷ sizes) n size q sized there = elim (cases_eq k 
         rw (off, apart) refl
 
 -- and of one that isn't
-mark_pushed : (names sizes : List ℕ) (n size q : ℕ) → length sizes ≡ length names → is_among n names ≡ false
-    → mark_in (names ++ n ∷ []) (sizes ++ size ∷ []) q ≡ with_mark (mark_in names sizes) n (1 + size) q
-mark_pushed [] [] n size q sized new = elim (cases_Bool (n == q)) [
+peak_pushed : (names sizes : List ℕ) (n size q : ℕ) → length sizes ≡ length names → is_among n names ≡ false
+    → peak_in (names ++ n ∷ []) (sizes ++ size ∷ []) q ≡ with_peak (peak_in names sizes) n (1 + size) q
+peak_pushed [] [] n size q sized new = elim (cases_Bool (n == q)) [
   | inl at ↦ rw at (sym (max-zero (1 + size)))
   | inr away ↦ rw away refl
 ]
-mark_pushed [] (z ∷ sizes) n size q sized new = absurd (omega (arith, sized))
-mark_pushed (k ∷ names) [] n size q sized new = absurd (omega (arith, sized))
-mark_pushed (k ∷ names) (z ∷ sizes) n size q sized new = elim (cases_Bool (k == n)) [
+peak_pushed [] (z ∷ sizes) n size q sized new = absurd (omega (arith, sized))
+peak_pushed (k ∷ names) [] n size q sized new = absurd (omega (arith, sized))
+peak_pushed (k ∷ names) (z ∷ sizes) n size q sized new = elim (cases_Bool (k == n)) [
   | inl same ↦ absurd (let clash = rw same at new in cc clash)
   | inr other ↦ elim (cases_eq k q) [
     | inl at ↦
@@ -159,7 +159,7 @@ mark_pushed (k ∷ names) (z ∷ sizes) n size q sized new = elim (cases_Bool (k
         rw (yes, apart) refl
     | inr away ↦
         let off : (k == q) ≡ false = ne_eqb k q away in
-        rw off (mark_pushed names sizes n size q (omega (arith, sized)) (rw other at new))
+        rw off (peak_pushed names sizes n size q (omega (arith, sized)) (rw other at new))
   ]
 ]
 
@@ -171,10 +171,10 @@ raised_sized (k ∷ names) (z ∷ sizes) n size sized = elim (cases_Bool (k == n
   | inr other ↦ rw other (let rest = raised_sized names sizes n size (omega (arith, sized)) in omega (arith, rest))
 ]
 
-pub written_marks : (n size : ℕ) (h : Held) (q : ℕ) → IsSized (Some h) → slot_marks (Some (with_written n size h)) q ≡ with_mark (slot_marks (Some h)) n (1 + size) q
-written_marks n size h q sized = elim (cases_Bool (is_among n h.written)) [
-  | inl there ↦ rw there (mark_raised h.written h.sizes n size q sized there)
-  | inr new ↦ rw new (mark_pushed h.written h.sizes n size q sized new)
+pub written_peaks : (n size : ℕ) (h : Held) (q : ℕ) → IsSized (Some h) → slot_peaks (Some (with_written n size h)) q ≡ with_peak (slot_peaks (Some h)) n (1 + size) q
+written_peaks n size h q sized = elim (cases_Bool (is_among n h.written)) [
+  | inl there ↦ rw there (peak_raised h.written h.sizes n size q sized there)
+  | inr new ↦ rw new (peak_pushed h.written h.sizes n size q sized new)
 ]
 
 pub written_sized : (n size : ℕ) (h : Held) → IsSized (Some h) → IsSized (Some (with_written n size h))
@@ -185,47 +185,47 @@ written_sized n size h sized = elim (cases_Bool (is_among n h.written)) [
 
 -- ---- one slot of all
 
-pub one_of_all : (slots : SessionSlots) (s n : ℕ) → slot_marks (held_at slots s) n ≤ marks_in slots n
+pub one_of_all : (slots : SessionSlots) (s n : ℕ) → slot_peaks (held_at slots s) n ≤ peaks_in slots n
 one_of_all [] s n = omega arith
-one_of_all (o ∷ slots) zero n = le-max_left (slot_marks o n) (marks_in slots n)
-one_of_all (o ∷ slots) (suc s) n = let rest = one_of_all slots s n in omega (arith, rest, le-max_right (slot_marks o n) (marks_in slots n))
+one_of_all (o ∷ slots) zero n = le-max_left (slot_peaks o n) (peaks_in slots n)
+one_of_all (o ∷ slots) (suc s) n = let rest = one_of_all slots s n in omega (arith, rest, le-max_right (slot_peaks o n) (peaks_in slots n))
 
-pub all_at_most : (slots : SessionSlots) (n k : ℕ) → ((s : ℕ) → slot_marks (held_at slots s) n ≤ k) → marks_in slots n ≤ k
+pub all_at_most : (slots : SessionSlots) (n k : ℕ) → ((s : ℕ) → slot_peaks (held_at slots s) n ≤ k) → peaks_in slots n ≤ k
 all_at_most [] n k each = omega arith
 all_at_most (o ∷ slots) n k each = max-le (each 0) (all_at_most slots n k (λ s. each (suc s)))
 
 -- a name that one session wrote, and so no other
 pub one_is_all : (slots : SessionSlots) (s n : ℕ) → OneWriter slots → is_among n (written_of slots s) ≡ true
-    → slot_marks (held_at slots s) n ≡ marks_in slots n
+    → slot_peaks (held_at slots s) n ≡ peaks_in slots n
 one_is_all slots s n once wrote =
-    omega (arith, one_of_all slots s n, all_at_most slots n (slot_marks (held_at slots s) n) each)
+    omega (arith, one_of_all slots s n, all_at_most slots n (slot_peaks (held_at slots s) n) each)
   where
-    each : (t : ℕ) → slot_marks (held_at slots t) n ≤ slot_marks (held_at slots s) n
+    each : (t : ℕ) → slot_peaks (held_at slots t) n ≤ slot_peaks (held_at slots s) n
     each t = elim (cases_Bool (is_among n (written_of slots t))) [
-      | inl too ↦ omega (arith, ap (λ (k : ℕ). slot_marks (held_at slots k) n) (once s t n wrote too))
+      | inl too ↦ omega (arith, ap (λ (k : ℕ). slot_peaks (held_at slots k) n) (once s t n wrote too))
       | inr other ↦ omega (arith, absent_slot (held_at slots t) n other)
     ]
 
-pub set_most : (slots : SessionSlots) (s : ℕ) (o : Option Held) (n k : ℕ) → slot_marks o n ≤ k → marks_in slots n ≤ k → marks_in (set slots s o) n ≤ k
+pub set_most : (slots : SessionSlots) (s : ℕ) (o : Option Held) (n k : ℕ) → slot_peaks o n ≤ k → peaks_in slots n ≤ k → peaks_in (set slots s o) n ≤ k
 set_most [] s o n k new old = omega arith
-set_most (x ∷ slots) zero o n k new old = max-le new (omega (arith, old, le-max_right (slot_marks x n) (marks_in slots n)))
+set_most (x ∷ slots) zero o n k new old = max-le new (omega (arith, old, le-max_right (slot_peaks x n) (peaks_in slots n)))
 set_most (x ∷ slots) (suc s) o n k new old =
-    max-le (omega (arith, old, le-max_left (slot_marks x n) (marks_in slots n)))
-    (set_most slots s o n k new (omega (arith, old, le-max_right (slot_marks x n) (marks_in slots n))))
+    max-le (omega (arith, old, le-max_left (slot_peaks x n) (peaks_in slots n)))
+    (set_most slots s o n k new (omega (arith, old, le-max_right (slot_peaks x n) (peaks_in slots n))))
 
-pub set_less : (slots : SessionSlots) (s : ℕ) (o : Option Held) (n : ℕ) → slot_marks o n ≤ slot_marks (held_at slots s) n → marks_in (set slots s o) n ≤ marks_in slots n
-set_less slots s o n less = set_most slots s o n (marks_in slots n) (omega (arith, less, one_of_all slots s n)) (omega arith)
+pub set_less : (slots : SessionSlots) (s : ℕ) (o : Option Held) (n : ℕ) → slot_peaks o n ≤ slot_peaks (held_at slots s) n → peaks_in (set slots s o) n ≤ peaks_in slots n
+set_less slots s o n less = set_most slots s o n (peaks_in slots n) (omega (arith, less, one_of_all slots s n)) (omega arith)
 
 -- a slot with one more write
-pub set_written : (slots : SessionSlots) (s n m : ℕ) (o : Option Held) (q : ℕ) → slot_marks o q ≡ with_mark (slot_marks (held_at slots s)) n m q
-    → marks_in (set slots s o) q ≤ with_mark (marks_in slots) n m q
+pub set_written : (slots : SessionSlots) (s n m : ℕ) (o : Option Held) (q : ℕ) → slot_peaks o q ≡ with_peak (slot_peaks (held_at slots s)) n m q
+    → peaks_in (set slots s o) q ≤ with_peak (peaks_in slots) n m q
 set_written slots s n m o q is = elim (cases_Bool (n == q)) [
   | inl at ↦
-      let new : slot_marks o q ≡ max m (slot_marks (held_at slots s) q) = rw at at is in
-      let top : max m (slot_marks (held_at slots s) q) ≤ max m (marks_in slots q) = max-le (le-max_left _ _) (omega (arith, one_of_all slots s q, le-max_right m (marks_in slots q))) in
+      let new : slot_peaks o q ≡ max m (slot_peaks (held_at slots s) q) = rw at at is in
+      let top : max m (slot_peaks (held_at slots s) q) ≤ max m (peaks_in slots q) = max-le (le-max_left _ _) (omega (arith, one_of_all slots s q, le-max_right m (peaks_in slots q))) in
       rw at (set_most slots s o q _ (omega (arith, new, top)) (le-max_right _ _))
   | inr away ↦
-      let old : slot_marks o q ≡ slot_marks (held_at slots s) q = rw away at is in
+      let old : slot_peaks o q ≡ slot_peaks (held_at slots s) q = rw away at is in
       rw away (set_less slots s o q (omega (arith, old)))
 ]
 

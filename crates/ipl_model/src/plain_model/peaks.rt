@@ -3,7 +3,7 @@ ghost use Rattle.std.specs.Prelude.{◌≡◌, ◌≤◌, ◌+◌, ◌^◌, max,
 ghost use Rattle.std.specs.List.{sum};
 ghost use Rattle.ipl_base.specs.declared.limits.TheConstants.{LONG_WEIGHT, SLOTS, VALUE_LEN};
 ghost use Rattle.ipl_base.specs.Sizes.{size_in_page};
-ghost use Rattle.ipl_model.specs.Marks.{marks_of, weight_of_mark, weights, fill_with};
+ghost use Rattle.ipl_model.specs.Peaks.{peaks_of, weight_of_peak, weights, fill_with};
 ghost use Rattle.ipl_model.specs.Plain.{newest_first, records_of, sizes_in, rooms_in, AreRecordSizes};
 
 use super::log::Write;
@@ -25,9 +25,9 @@ fn size_in_page(value: &Option<Value>) -> u32
     }
 }
 
-/// The mark of a name: one more than the most that a write of it takes, 0 where it isn't written.
-fn mark_of(log: &[Write], name: u32) -> u32
-    ensures mark { result ≡ marks_of (newest_first log.now) name }
+/// The peak of a name: one more than the most that a write of it takes, 0 where it isn't written.
+fn peak_of(log: &[Write], name: u32) -> u32
+    ensures peak { result ≡ peaks_of (newest_first log.now) name }
     ensures fits { result ≤ 4 + VALUE_LEN }
 {
     let mut most = 0;
@@ -41,18 +41,18 @@ fn mark_of(log: &[Write], name: u32) -> u32
 
 /// How much heavier a write makes its name, after the older ones.
 fn weight_added(older: &[Write], write: &Write) -> u32
-    ensures { weight_of_mark (marks_of (newest_first older.now) write.now.name) + result
-        ≡ weight_of_mark (max (1 + size_in_page write.now.value)
-        (marks_of (newest_first older.now) write.now.name)) }
+    ensures { weight_of_peak (peaks_of (newest_first older.now) write.now.name) + result
+        ≡ weight_of_peak (max (1 + size_in_page write.now.value)
+        (peaks_of (newest_first older.now) write.now.name)) }
 {
-    let before = mark_of(older, write.name);
+    let before = peak_of(older, write.name);
     let after = (1 + size_in_page(&write.value)).max(before);
     weight_of(u64::from(after)) - weight_of(u64::from(before))
 }
 
 /// What the names of a unit weigh that are written.
 pub fn weights(log: &[Write], unit: u32) -> u32
-    ensures { result ≡ weights (marks_of (newest_first log.now)) unit }
+    ensures { result ≡ weights (peaks_of (newest_first log.now)) unit }
 {
     let mut total = 0;
     for (i, write) in log.iter().enumerate() {
@@ -124,7 +124,7 @@ fn total(rooms: &[u32]) -> u64
 /// What a page may come to take, whichever of the writes of a log are committed.
 pub fn fill(committed: &[Write], log: &[Write], page: u32) -> u64
     ensures { result
-        ≡ fill_with (marks_of (newest_first log.now)) (records_of committed.now) page }
+        ≡ fill_with (peaks_of (newest_first log.now)) (records_of committed.now) page }
 {
     total(&rooms_in(committed, log, page))
 }

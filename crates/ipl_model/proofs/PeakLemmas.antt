@@ -13,7 +13,7 @@ use Rattle.std.proofs.lemmas.List.FromFn.{length-map-range_with_len, get_or-map-
 use Rattle.ipl_base.specs.declared.limits.TheConstants.{SLOTS, UNIT_NAMES}
 use Rattle.ipl_base.specs.Sizes.{size_in_page}
 use Rattle.ipl_model.specs.State as rules
-use Rattle.ipl_model.specs.Marks.{marks_of, weight_of_mark, weights, values_at, marks_at}
+use Rattle.ipl_model.specs.Peaks.{peaks_of, weight_of_peak, weights, values_at, peaks_at}
 use Rattle.ipl_model.specs.declared.plain_model.log.Write.{Write}
 use Rattle.ipl_model.specs.Plain.{newest_first, records_of, sizes_in, rooms_in, AreRecordSizes}
 use Rattle.ipl_model.proofs.LogLemmas.{newest_first_more}
@@ -23,19 +23,19 @@ use Rattle.ipl_model.proofs.WeightLemmas.{weights_at, weights_elsewhere}
 -- ---- weights
 
 pub weighs_more : (older : List rules.Write) (n unit more : ℕ) (change : Option (List ℕ)) → n / UNIT_NAMES ≡ unit
-    → weight_of_mark (marks_of older n) + more ≡ weight_of_mark (max (1 + size_in_page change) (marks_of older n))
-    → weights (marks_of ((n, change) ∷ older)) unit ≡ weights (marks_of older) unit + more
+    → weight_of_peak (peaks_of older n) + more ≡ weight_of_peak (max (1 + size_in_page change) (peaks_of older n))
+    → weights (peaks_of ((n, change) ∷ older)) unit ≡ weights (peaks_of older) unit + more
 weighs_more older n unit more change here added =
-    ap (weights (marks_of ((n, change) ∷ older))) (sym here)
-    ∙ sums _ _ _ _ (weights_at (marks_of older) n (1 + size_in_page change)) added
-    ∙ ap (λ (u : ℕ). weights (marks_of older) u + more) here
+    ap (weights (peaks_of ((n, change) ∷ older))) (sym here)
+    ∙ sums _ _ _ _ (weights_at (peaks_of older) n (1 + size_in_page change)) added
+    ∙ ap (λ (u : ℕ). weights (peaks_of older) u + more) here
   where
     sums : (x y old new : ℕ) → x + old ≡ y + new → old + more ≡ new → x ≡ y + more
     sums x y old new sum added = omega (arith, sum, added)
 
 pub weighs_same : (older : List rules.Write) (n unit : ℕ) (change : Option (List ℕ)) → n / UNIT_NAMES ≢ unit
-    → weights (marks_of ((n, change) ∷ older)) unit ≡ weights (marks_of older) unit
-weighs_same older n unit change other = weights_elsewhere (marks_of older) n (1 + size_in_page change) unit (λ is. other (sym is))
+    → weights (peaks_of ((n, change) ∷ older)) unit ≡ weights (peaks_of older) unit
+weighs_same older n unit change other = weights_elsewhere (peaks_of older) n (1 + size_in_page change) unit (λ is. other (sym is))
 
 -- ---- lists of numbers by slot
 
@@ -98,12 +98,12 @@ record_there older n k change other =
     ∙ ap (λ (b : Bool). option_map_or (λ c. c) (cond b (Some change) (rules.last_write older k)) (get {R = nat_cmp} empty k)) no
     ∙ sym (get-with_writes older empty k)
 
--- the mark of the name that is written, and of another
-mark_here : (older : List rules.Write) (n k : ℕ) (change : Option (List ℕ)) → n ≡ k → marks_of ((n, change) ∷ older) k ≡ max (1 + size_in_page change) (marks_of older k)
-mark_here older n k change same = let yes : (n == k) ≡ true = eq-eqb n k same in rw yes refl
+-- the peak of the name that is written, and of another
+peak_here : (older : List rules.Write) (n k : ℕ) (change : Option (List ℕ)) → n ≡ k → peaks_of ((n, change) ∷ older) k ≡ max (1 + size_in_page change) (peaks_of older k)
+peak_here older n k change same = let yes : (n == k) ≡ true = eq-eqb n k same in rw yes refl
 
-mark_there : (older : List rules.Write) (n k : ℕ) (change : Option (List ℕ)) → n ≢ k → marks_of ((n, change) ∷ older) k ≡ marks_of older k
-mark_there older n k change other = let no : (n == k) ≡ false = ne_eqb n k other in rw no refl
+peak_there : (older : List rules.Write) (n k : ℕ) (change : Option (List ℕ)) → n ≢ k → peaks_of ((n, change) ∷ older) k ≡ peaks_of older k
+peak_there older n k change other = let no : (n == k) ≡ false = ne_eqb n k other in rw no refl
 
 -- ---- what the records of a page take
 
@@ -140,12 +140,12 @@ records_none names xs is n low =
 -- ---- and may come to take
 
 abbrev rooms : rules.Map → List rules.Write → ℕ → ℕ → ℕ
-rooms m ws page slot = max (size_in_page (values_at m page slot)) (marks_at (marks_of ws) page slot - 1)
+rooms m ws page slot = max (size_in_page (values_at m page slot)) (peaks_at (peaks_of ws) page slot - 1)
 
 pub rooms_none : (m : rules.Map) (page : ℕ) → by_slot (λ slot. size_in_page (values_at m page slot)) ≡ by_slot (rooms m [] page)
 rooms_none m page = slots_alike (λ slot. size_in_page (values_at m page slot)) (rooms m [] page) (λ i low. sym (max-zero (size_in_page (values_at m page i))))
 
--- a mark that is raised raises what its slot may come to take
+-- a peak that is raised raises what its slot may come to take
 raised : (a s m : ℕ) → max (max a (m - 1)) s ≡ max a (max (1 + s) m - 1)
 raised a s m =
     let whole : max (1 + s) m ≤ max (max a (m - 1)) s + 1 = max-le (omega (arith, le-max_right (max a (m - 1)) s)) (omega (arith, le-max_right a (m - 1), le-max_left (max a (m - 1)) s)) in
@@ -161,9 +161,9 @@ pub rooms_more : (m : rules.Map) (older : List rules.Write) (n page v : ℕ) (ch
 rooms_more m older n page v change here is =
     slot_set (rooms m older page) (rooms m ((n, change) ∷ older) page) (n % SLOTS) v low
     (is ∙ ap (λ (k : ℕ). max k (size_in_page change)) (at_slot (rooms m older page) (n % SLOTS) low)
-    ∙ raised (size_in_page (values_at m page (n % SLOTS))) (size_in_page change) (marks_of older (SLOTS * page + n % SLOTS))
-    ∙ sym (ap (λ (k : ℕ). max (size_in_page (values_at m page (n % SLOTS))) (k - 1)) (mark_here older n (SLOTS * page + n % SLOTS) change (sym (slot_name n page here)))))
-    (λ i below other. sym (ap (λ (k : ℕ). max (size_in_page (values_at m page i)) (k - 1)) (mark_there older n (SLOTS * page + i) change (other_slot n page i here other))))
+    ∙ raised (size_in_page (values_at m page (n % SLOTS))) (size_in_page change) (peaks_of older (SLOTS * page + n % SLOTS))
+    ∙ sym (ap (λ (k : ℕ). max (size_in_page (values_at m page (n % SLOTS))) (k - 1)) (peak_here older n (SLOTS * page + n % SLOTS) change (sym (slot_name n page here)))))
+    (λ i below other. sym (ap (λ (k : ℕ). max (size_in_page (values_at m page i)) (k - 1)) (peak_there older n (SLOTS * page + i) change (other_slot n page i here other))))
   where
     low : n % SLOTS < SLOTS
     low = omega arith
@@ -172,7 +172,7 @@ pub rooms_still : (m : rules.Map) (older : List rules.Write) (n page : ℕ) (cha
     → by_slot (rooms m older page) ≡ by_slot (rooms m ((n, change) ∷ older) page)
 rooms_still m older n page change other =
     slots_alike (rooms m older page) (rooms m ((n, change) ∷ older) page)
-    (λ i low. sym (ap (λ (k : ℕ). max (size_in_page (values_at m page i)) (k - 1)) (mark_there older n (SLOTS * page + i) change (other_page n page i low other))))
+    (λ i low. sym (ap (λ (k : ℕ). max (size_in_page (values_at m page i)) (k - 1)) (peak_there older n (SLOTS * page + i) change (other_page n page i low other))))
 
 -- ---- logs with one write more
 
@@ -181,14 +181,14 @@ module _ (log : List Write) (i : ℕ) (w : Write) (within : i < length log) (is 
   more_is = newest_first_more log i w within ∙ ap (λ (x : Write). (x.name, x.value) ∷ newest_first (take i log)) (sym is)
 
   pub log_weighs_more : (unit more : ℕ) → w.name / UNIT_NAMES ≡ unit
-      → weight_of_mark (marks_of (newest_first (take i log)) w.name) + more ≡ weight_of_mark (max (1 + size_in_page w.value) (marks_of (newest_first (take i log)) w.name))
-      → weights (marks_of (newest_first (take i log))) unit + more ≡ weights (marks_of (newest_first (take (i + 1) log))) unit
+      → weight_of_peak (peaks_of (newest_first (take i log)) w.name) + more ≡ weight_of_peak (max (1 + size_in_page w.value) (peaks_of (newest_first (take i log)) w.name))
+      → weights (peaks_of (newest_first (take i log))) unit + more ≡ weights (peaks_of (newest_first (take (i + 1) log))) unit
   log_weighs_more unit more here added =
-      sym (ap (λ (ws : List rules.Write). weights (marks_of ws) unit) more_is ∙ weighs_more (newest_first (take i log)) w.name unit more w.value here added)
+      sym (ap (λ (ws : List rules.Write). weights (peaks_of ws) unit) more_is ∙ weighs_more (newest_first (take i log)) w.name unit more w.value here added)
 
-  pub log_weighs_same : (unit : ℕ) → w.name / UNIT_NAMES ≢ unit → weights (marks_of (newest_first (take i log))) unit ≡ weights (marks_of (newest_first (take (i + 1) log))) unit
+  pub log_weighs_same : (unit : ℕ) → w.name / UNIT_NAMES ≢ unit → weights (peaks_of (newest_first (take i log))) unit ≡ weights (peaks_of (newest_first (take (i + 1) log))) unit
   log_weighs_same unit other =
-      sym (ap (λ (ws : List rules.Write). weights (marks_of ws) unit) more_is ∙ weighs_same (newest_first (take i log)) w.name unit w.value other)
+      sym (ap (λ (ws : List rules.Write). weights (peaks_of ws) unit) more_is ∙ weighs_same (newest_first (take i log)) w.name unit w.value other)
 
   pub log_sizes_more : (page : ℕ) → w.name / SLOTS ≡ page → set (sizes_in (take i log) page) (w.name % SLOTS) (size_in_page w.value) ≡ sizes_in (take (i + 1) log) page
   log_sizes_more page here =

@@ -2,9 +2,9 @@ use Rattle.std.proofs.Common.{◌≡◌, ◌<◌, ◌≤◌, ◌+◌, ◌∙◌,
 use Rattle.std.proofs.Math.ListN.{length-set}
 use Rattle.std.proofs.lemmas.List.{length-replicate}
 use Rattle.ipl_model.specs.Plain.{AreRecordSizes}
-use Rattle.ipl_model.proofs.MarkLemmas.{records_none, log_records_more, log_records_same}
-use Rattle.ipl_model.proofs.plain_model.marks.record_sizes.Goals.{then-name-len, else-name-len}
-use Rattle.ipl_model.proofs.plain_model.marks.record_sizes.Goals as goal
+use Rattle.ipl_model.proofs.PeakLemmas.{records_none, log_records_more, log_records_same}
+use Rattle.ipl_model.proofs.plain_model.peaks.record_sizes.Goals.{then-name-len, else-name-len}
+use Rattle.ipl_model.proofs.plain_model.peaks.record_sizes.Goals as goal
 
 pub loop-write-init : goal.loop-write-init
 loop-write-init c =

@@ -1,8 +1,8 @@
 use Rattle.std.proofs.Common.{◌%◌, set, List, ℕ, ◌∙◌, ap₂}
 use Rattle.ipl_base.specs.declared.limits.TheConstants.{SLOTS}
-use Rattle.ipl_model.proofs.MarkLemmas.{sizes_none, log_sizes_more, log_sizes_same}
-use Rattle.ipl_model.proofs.plain_model.marks.sizes_in.Goals.{then-write-page, else-write-page}
-use Rattle.ipl_model.proofs.plain_model.marks.sizes_in.Goals as goal
+use Rattle.ipl_model.proofs.PeakLemmas.{sizes_none, log_sizes_more, log_sizes_same}
+use Rattle.ipl_model.proofs.plain_model.peaks.sizes_in.Goals.{then-write-page, else-write-page}
+use Rattle.ipl_model.proofs.plain_model.peaks.sizes_in.Goals as goal
 
 pub loop-write-init : goal.loop-write-init
 loop-write-init c = sizes_none c.args.page
