@@ -289,7 +289,7 @@ module _ {marks : Bool} (old mid : Told) (store : ScriptStore) (s : StartsOpened
         let done = completes all_pages (limits_of store.store.units)
         (keeps_some all_pages sound.map sound.history sound.steady sound.rests) in
         let number : counter_of store.store ≤ greatest_found (now sound.history) old.places + 1 + 2 ^ 14 =
-        s.opens.number _ sound.steady.holds in
+        (s.opens.number _ sound.steady.holds).1 in
         let next : next_number store ≡ counter_of store.store = rw s.running.up refl in
         (done.excuse f refl (omega (arith, number, next, sound.left)) refl).1
 

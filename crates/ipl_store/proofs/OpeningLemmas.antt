@@ -35,7 +35,7 @@ use Rattle.unit_io.specs.StepLaws.{Preserves}
 use Rattle.unit_io.specs.Charts.{Charts}
 use Rattle.unit_io.specs.Leads.{IsSteady}
 use Rattle.unit_io.specs.Reads.{OfContents}
-use Rattle.restart.specs.Recovers.{RecoversTold, RecoversInSteps, HoldsOpened}
+use Rattle.restart.specs.Recovers.{IsDrawnBehind, RecoversTold, RecoversInSteps, HoldsOpened}
 use Rattle.restart.proofs.ReadyLemmas.{layouts_say}
 use Rattle.store_laws.proofs.FirstLemmas.{empty_slots_are_at_rest}
 use Rattle.store_laws.proofs.MemoryFitLemmas.{openings_fit}
@@ -263,7 +263,7 @@ module _ (places : ℕ) (store : Store) (made : IsMade places store) (fresh : Is
   pub fresh_opens : (marks : Bool) (old new : Told)
       → RecoversTold places old (Ok tt) (tables_in store.transactions.pages) new
       → RecoversInSteps marks places old (Ok tt) (tables_in store.transactions.pages) new
-      → OfContents old (λ x. counter_of store ≤ greatest_found (chart_of x) places + 1 + 2 ^ 14)
+      → OfContents old (λ x. IsDrawnBehind (greatest_found (chart_of x) places) (counter_of store))
       → counter_of store ≤ 2 ^ 63 + 2 ^ 14 → OpensStore places old store new
   fresh_opens marks old new tells steps number left = record {
     fresh = fresh;

@@ -27,7 +27,7 @@ use Rattle.unit_io.specs.Costs.{Spends}
 use Rattle.unit_io.specs.Leads.{IsSteady}
 use Rattle.unit_io.specs.Reads.{OfContents}
 use Rattle.restart.specs.Passes.{HasErased, ListsRetired}
-use Rattle.restart.specs.Recovers.{CompletesOpening, CountsMarks, ErasesOpening, RecoversTold, LooksAtFaults, RecoversInSteps, TidiesOpening, OpeningCause}
+use Rattle.restart.specs.Recovers.{CompletesOpening, CountsMarks, ErasesOpening, IsDrawnBehind, RecoversTold, LooksAtFaults, RecoversInSteps, TidiesOpening, OpeningCause}
 use Rattle.store_laws.specs.Advances.{Memory, MemoryFits, LeadsTo}
 use Rattle.store_laws.specs.Keeps.{limits_of, ShowsState, KeepsStore}
 use Rattle.page_frames.specs.Pages.{tables_in}
@@ -62,8 +62,7 @@ pub record OpensStore (places : ℕ) (old : Told) (store : Store) (new : Told) :
       → IsSteady k new → StoryRests places (of pages m) k
       → IsTidy k (tables_in store.transactions.pages)
       → KeepsStore places pages (limits_of store.units) (view_of store) new k (at_rest m))
-  pub number : OfContents old (λ x. counter_of store
-      ≤ greatest_found (chart_of x) places + 1 + 2 ^ 14)
+  pub number : OfContents old (λ x. IsDrawnBehind (greatest_found (chart_of x) places) (counter_of store))
   pub left : counter_of store ≤ 2 ^ 63 + 2 ^ 14
 
 -- each state for which the memory and the chip stood is left, with no session open

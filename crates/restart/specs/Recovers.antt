@@ -233,14 +233,17 @@ pub record OpeningFails (places : ℕ) (result : Result (Unit {0}) ImageFault) (
   pub complete : CompletesOpening places result old
   pub bytes : ReadsBytes places old result
 
--- What it leaves: done, the tables know each place of the chip, and few numbers were drawn after the greatest that
+-- the next number comes behind the greatest that was found, and few were drawn in between
+abbrev pub IsDrawnBehind : ℕ → ℕ → Type 0
+IsDrawnBehind found next = (found + 1 ≤ next) × (next ≤ found + 1 + 2 ^ 14)
+
+-- What it leaves: done, the tables know each place of the chip, and few numbers were drawn behind the greatest that
 -- was found, which leaves most of them. What they count as clean is clean after lawful events, and what was marked is
 -- counted so; and where it failed, this is its cause.
 pub record LeavesOpened (marks : Bool) (after : Tables) (result : Result (Unit {0}) ImageFault) (old new : Told)
     : Type 0 where
   pub holds : OnOk result (HoldsOpened old.places after)
-  pub number : OnOk result (OfContents old (λ x. after.next
-      ≤ greatest_found (chart_of x) old.places + 1 + 2 ^ 14))
+  pub number : OnOk result (OfContents old (λ x. IsDrawnBehind (greatest_found (chart_of x) old.places) after.next))
   pub left : OnOk result (after.next ≤ 2 ^ 63 + 2 ^ 14)
   pub tidy : TidiesOpening marks old.places old result after new
   pub marked : OnOk result (CountsMarks marks old.places old after)

@@ -485,7 +485,7 @@ returns-clause-leaves g c =
       };
       number = λ x told.
           let number = (found.found.opened x told).directory.number in
-          omega (arith, number, leaves.draws);
+          (omega (arith, number, leaves.draws), omega (arith, number, leaves.draws));
       left = omega (arith, found.left, leaves.draws);
       tidy = tidies_opened c.args.marks old.places t (without_marks after) (Ok tt) (Ok tt) old new
           (record { none = λ off. (found.found.unmarked off).none; marked = found.found.marked }) refl
