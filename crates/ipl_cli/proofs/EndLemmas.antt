@@ -16,6 +16,7 @@ use Rattle.chip_trait.proofs.SaidLemmas.{pieces-append, said-append, silent-part
 use Rattle.ipl_base.specs.Places.{units_on}
 use Rattle.ipl_base.specs.declared.fault.FormatFault.{FormatFault}
 use Rattle.ipl_base.specs.declared.fault.ImageFault.{ImageFault}
+use Rattle.ipl_base.specs.declared.fault.ImageFault.TheVariants as image
 use Rattle.ipl_model.specs.State.{State, Limits, Map, at_rest}
 use Rattle.ipl_model.specs.declared.command.Command.{Command}
 use Rattle.ipl_model.specs.Grammar.{commands_of}
@@ -40,6 +41,7 @@ use Rattle.ipl_meaning.proofs.MomentLemmas.{moments_as_said}
 use Rattle.ipl_meaning.proofs.StoryLemmas.{held_stands, says_keep}
 use Rattle.unit_io.specs.Leads.{IsSteady}
 use Rattle.unit_io.proofs.LeadsLemmas.{steady_then}
+use Rattle.page_frames.specs.Faulty.{TellsStory}
 use Rattle.restart.specs.Events.{format_events}
 use Rattle.restart.specs.Fresh.{Formats}
 use Rattle.restart.specs.Recovers.{TakesMarks}
@@ -50,17 +52,19 @@ use Rattle.store_laws.specs.Keeps.{KnownPages, all_pages, limits_of}
 use Rattle.script_run.specs.declared.fault.Stop.{Stop}
 use Rattle.script_run.specs.declared.fault.Stop.TheVariants as stop
 use Rattle.script_run.specs.Run.{RunLeaves, SaysLines, EndsAt}
-use Rattle.script_run.specs.Goes.{Ended, Stopped, RunsScript}
+use Rattle.script_run.specs.Goes.{Ended, StaysAt, StopMet, Stopped, RunsScript}
 use Rattle.script_run.proofs.EndLemmas.{between_none, ends_weaker}
 use Rattle.script_run.proofs.RunLemmas.{says_none, says_prefix}
 use Rattle.script_store.specs.declared.store.ScriptStore.{ScriptStore}
 use Rattle.script_store.specs.Closes.{CountsClean, MarksSince}
 use Rattle.script_store.specs.Keeps.{KeepsScript, script_keeping}
+use Rattle.script_store.specs.Met.{ImageMet}
+use Rattle.script_store.proofs.MetLemmas.{opening_met}
 use Rattle.script_store.proofs.RecallLemmas.{opening_recalls}
 use Rattle.command_line.specs.declared.end.End.{End}
 use Rattle.command_line.specs.declared.end.End.TheVariants.{Words, Chip, OutOfMemory, Script, Output, TooLong}
 use Rattle.ipl_cli.specs.Ending.{Ending, IsFormatStopped, StopRose, IsLeftAlone, format_end, units_beside}
-use Rattle.ipl_cli.specs.Top.{AreMarked, WereUnused, Runs, RunsOpened, RunsFormatted, IsLaidOut, LaysOut, IsAbout, StandsAbout, IsBetween, EndsBy, answers, ok_line}
+use Rattle.ipl_cli.specs.Top.{AreMarked, WereUnused, Runs, RunsOpened, RunsFormatted, IsLaidOut, LaysOut, IsAbout, StandsAbout, IsBetween, EndsBy, EndMet, answers, ok_line}
 use Rattle.store_trait.specs.Keeping.{LeavesTidy}
 use Rattle.unit_io.specs.Reads.{OfContents}
 use Rattle.ipl_cli.specs.Runs.{CountsBehind, RunsFrom, RunsOver, StartsOpened, IsNotOpened, WasFormatted, MarksBehind, ending_of}
@@ -256,6 +260,16 @@ pub all_done : (result : Result (Unit {0}) Stop) → ending_of result ≡ Ok tt 
 all_done (Ok u) is = refl
 all_done (Err s) is = absurd cc
 
+-- what a run stops with was met
+stop_met : (places : ℕ) (known : KnownPages) (s : Stop) (t : Told) (k : History)
+    → StopMet (script_keeping places known) s t k → TellsStory t → EndMet places (ending_of (Err s)) k
+stop_met places known (stop.Store (fault.Chip e)) t k met tells = met tells
+stop_met places known (stop.Store (fault.Image e)) t k met tells = met tells
+stop_met places known (stop.Store fault.Spent) t k met tells = tt
+stop_met places known stop.Script t k met tells = tt
+stop_met places known stop.Output t k met tells = tt
+stop_met places known stop.TooLong t k met tells = tt
+
 module _ (known : KnownPages) (marks : Bool) (places units : ℕ) (m : Map) (script : List ℕ) (h : History) (first : Story)
     (silent : pieces first ≡ [])
     (each : AtEachMoment (λ e. EachStandsIn places units (of known.pages m) (adds_all e h)) first)
@@ -290,8 +304,9 @@ module _ (known : KnownPages) (marks : Bool) (places units : ℕ) (m : Map) (scr
 
     pub runs_none : (ending : Ending) → (ending ≡ Ok tt → ⊥)
         → EndsBy ending Resting units m script (pieces first)
+        → (Unrisen old new → TellsStory new → EndMet places ending (adds_all first h))
         → Runs marks places units (of known.pages m) script h [] old new ending
-    runs_none ending unfinished ends = record {
+    runs_none ending unfinished ends met = record {
       added = first;
       history = history ∙ ap (option_map (adds_all first)) (same_history old.history);
       each_moment = near_first;
@@ -307,6 +322,7 @@ module _ (known : KnownPages) (marks : Bool) (places units : ℕ) (m : Map) (scr
           (near_silent (λ s. StoryRests places (of known.pages s.map) (adds_all first h)) limits (at_rest m)
           (commands_of script) (rests unrisen));
       ends = ends;
+      met = met;
       read = [];
       unread = script;
       script_is = refl;
@@ -314,11 +330,12 @@ module _ (known : KnownPages) (marks : Bool) (places units : ℕ) (m : Map) (scr
       all = λ is. absurd (unfinished is);
     }
 
-    pub none_failed : (e : ImageFault) → Runs marks places units (of known.pages m) script h [] old new (Err (Chip e))
-    none_failed e = runs_none (Err (Chip e)) (λ is. cc) none_between
+    pub none_failed : (e : ImageFault) → (Unrisen old new → TellsStory new → ImageMet places e (adds_all first h))
+        → Runs marks places units (of known.pages m) script h [] old new (Err (Chip e))
+    none_failed e met = runs_none (Err (Chip e)) (λ is. cc) none_between met
 
     pub none_wanting : Runs marks places units (of known.pages m) script h [] old new (Err OutOfMemory)
-    none_wanting = runs_none (Err OutOfMemory) (λ is. cc) none_between
+    none_wanting = runs_none (Err OutOfMemory) (λ is. cc) none_between (λ unrisen tells. tt)
 
   -- ---- then the script was run
 
@@ -330,6 +347,7 @@ module _ (known : KnownPages) (marks : Bool) (places units : ℕ) (m : Map) (scr
       (unused_then : WereUnused marks places h → (script_keeping places known).unused before (adds_all first h)) where
     module _ (R : History → State → Type 0) (result : Result (Unit {0}) Stop)
         (stays : (k : History) (s : State) → R k s → Stays (script_keeping places known) limits then mid new k s)
+        (meets : (k : History) (s : State) → R k s → Unrisen mid new → TellsStory new → EndMet places (ending_of result) k)
         (leaves : RunLeaves (script_keeping places known) limits (at_rest m) (commands_of script) before
         (adds_all first h) R then mid new result) where
       abbrev last : History
@@ -370,6 +388,13 @@ module _ (known : KnownPages) (marks : Bool) (places units : ℕ) (m : Map) (scr
         | inr so ↦ inr (kept_last _ so unrisen).rests
       ]
 
+      met_near : IsAbout (R last) units m script (said leaves.added) → Unrisen old new → TellsStory new
+          → EndMet places (ending_of result) last
+      met_near near unrisen = elim near [
+        | inl so ↦ meets last _ so (unrisen_later old mid new later unrisen)
+        | inr so ↦ meets last _ so (unrisen_later old mid new later unrisen)
+      ]
+
       ends_last : EndsBy (ending_of result) (λ s. Unrisen old new → StoryRests places (of known.pages s.map) last)
           units m script (pieces leaves.added)
       ends_last = ends_by (λ s. Unrisen old new → StoryRests places (of known.pages s.map) last) units m script
@@ -406,6 +431,8 @@ module _ (known : KnownPages) (marks : Bool) (places units : ℕ) (m : Map) (scr
             places (of known.pages s.map) k) units m script (pieces (leaves.added ++ first))) all_history
             (subst (EndsBy (ending_of result) (λ s. Unrisen old new → StoryRests places (of known.pages s.map) last)
             units m script) (sym all_pieces) ends_last);
+        met = λ unrisen tells. subst (λ (k : History). EndMet places (ending_of result) k) all_history
+            (met_near leaves.rests unrisen tells);
         read = read;
         unread = unread;
         script_is = script_is;
@@ -421,13 +448,14 @@ module _ (known : KnownPages) (marks : Bool) (places units : ℕ) (m : Map) (scr
     pub runs_ended : Ended (script_keeping places known) limits (at_rest m) script before (adds_all first h) then
         mid new → Runs marks places units (of known.pages m) script h [] old new (Ok tt)
     runs_ended e = runs_by ((script_keeping places known).holds limits then new) (Ok tt) (λ k s held unrisen. held)
-        e.leaves script [] (sym (append-nil script)) e.left_is (λ is. refl)
+        (λ k s held unrisen tells. tt) e.leaves script [] (sym (append-nil script)) e.left_is (λ is. refl)
 
     pub runs_stopped : (s : Stop) → Stopped (script_keeping places known) limits (at_rest m) (commands_of script)
-        script before (adds_all first h) (Stays (script_keeping places known) limits then mid new) then mid new s
+        script before (adds_all first h) (StaysAt (script_keeping places known) limits then mid new s) then mid new s
         → Runs marks places units (of known.pages m) script h [] old new (ending_of (Err s))
-    runs_stopped s e = runs_by (Stays (script_keeping places known) limits then mid new) (Err s)
-        (λ k state stays. stays) e.leaves e.read e.rest e.source_is e.left_is (λ is. absurd cc)
+    runs_stopped s e = runs_by (StaysAt (script_keeping places known) limits then mid new s) (Err s)
+        (λ k state stays unrisen. (stays unrisen).0)
+        (λ k state stays unrisen tells. stop_met places known s new k (stays unrisen).1 tells) e.leaves e.read e.rest e.source_is e.left_is (λ is. absurd cc)
 
 -- ---- over a chip that was opened
 
@@ -600,7 +628,7 @@ unopened_runs {marks} old new end n = λ h script steady left m rests apart besi
     (λ base good marked. did.does.lawful.lawful base good (took_marked marks old took h steady takes base marked))
     (λ were later e split. did.marks tt later e split (were_unused marks old.places h were besides))
     old new did.history (left_counts old new n.tries.accounts.counts ∙ left) did.steady did.ends
-    n.fault
+    n.fault (λ unrisen tells. opening_met marks old.places n.fault old new n.tables n.tries h did.added steady.holds)
 
 -- where marks count nothing is asked besides
 pub runs_opened : {old new : Told} {ending : Ending} → RunsFrom true old new ending → RunsOpened old new ending
@@ -634,14 +662,14 @@ module _ (old new : Told) (is : IsLeftAlone old new) where
       old new told_still (left_still script left) (λ unrisen. steady_still h steady)
       (λ unrisen. rests)
 
-  pub untouched_stops : (e : ImageFault) → RunsOpened old new (Err (Chip e))
-  untouched_stops e = λ h script steady left m rests apart.
+  pub untouched_stops : RunsOpened old new (Err (Chip image.Geometry))
+  untouched_stops = λ h script steady left m rests apart.
       none_failed (known_of m apart) true old.places (units_at (now h) old.places) m.map script h [] refl
       (still_each old.places m h rests)
       (λ base good marked. good)
       (at_start (λ e. MarksAreUnused old.places (adds_all e h)))
       old new told_still (left_still script left) (λ unrisen. steady_still h steady)
-      (λ unrisen. rests) e
+      (λ unrisen. rests) image.Geometry (λ unrisen tells. tt)
 
 -- ---- over a chip that was formatted first
 
@@ -702,6 +730,7 @@ module _ (old mid new : Told) (f : WasFormatted old mid) where
             new → StoryRests old.places (whole s.map) last) (units_on old.places) empty script
             (pieces r.added)
             (λ s so unrisen. so (earlier unrisen)) ending r.ends;
+        met = λ unrisen. r.met (earlier unrisen);
         read = r.read;
         unread = r.unread;
         script_is = r.script_is;

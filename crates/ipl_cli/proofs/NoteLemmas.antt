@@ -108,6 +108,7 @@ module _ (old mid : Told) (noted : Option (List ℕ)) where
     steady = λ unrisen. steady_noted (r.steady unrisen);
     rests = r.rests;
     ends = r.ends;
+    met = r.met;
     read = r.read;
     unread = r.unread;
     script_is = r.script_is;

@@ -441,7 +441,7 @@ module _ (t : Told) where
   pub closed_left : (end : End) → MakesStore t.places (Err end) → OpenedLeaves (Err end) t t
   closed_left Words c = absurd c
   closed_left (Chip e) c = record {
-    runs = untouched_stops t t refl e;
+    runs = subst (λ (f : ImageFault). RunsOpened t t (Err (Chip f))) (sym c.1) (untouched_stops t t refl);
     refused = λ f has. (
       record { read = t; reads = reads_none t; noted = refl },
       inl (c.1 ∙ sym (some_one (sym has.fault ∙ size_first (chart_of has.contents) t.places c.0))),

@@ -29,6 +29,8 @@ use Rattle.restart.specs.Events.{format_events}
 use Rattle.restart.specs.Looks.{OnlyReads}
 use Rattle.place_taking.specs.Spending.{is_found_worn}
 use Rattle.store_laws.specs.Keeps.{IsWornCount, limits_of}
+use Rattle.page_frames.specs.Faulty.{TellsStory}
+use Rattle.script_store.specs.Met.{ImageMet}
 use Rattle.script_store.specs.Worn.{WearsOut}
 use Rattle.script_run.specs.Run.{SaysLines, EndsBetween, EndsUnsaid}
 use Rattle.script_run.specs.Goes.{ReadsAll}
@@ -305,6 +307,16 @@ abbrev pub WereUnused : Bool → ℕ → History → Type 0
 WereUnused false places h = Unit {0}
 WereUnused true places h = MarksAreUnused places h
 
+-- where it ended by a sector at fault, that was met at some moment of the history
+abbrev pub EndMet : ℕ → Ending → History → Type 0
+EndMet places (Ok u) h = Unit {0}
+EndMet places (Err Words) h = Unit {0}
+EndMet places (Err (Chip e)) h = ImageMet places e h
+EndMet places (Err OutOfMemory) h = Unit {0}
+EndMet places (Err Script) h = Unit {0}
+EndMet places (Err Output) h = Unit {0}
+EndMet places (Err TooLong) h = Unit {0}
+
 -- What a run of a script leaves, from these records on and on so many units, after these first events
 -- on a chip of so many places that holds what this history leaves, where its marks count or don't. Of records it says those of
 -- the pages of which these are. What the chip tells grew by these
@@ -314,8 +326,8 @@ WereUnused true places h = MarksAreUnused places h
 -- after events that leave clean what is marked so; and nothing that is marked is used at any of these
 -- moments, where marks count if nothing was before. Where no write failed, the chip holds at the end what
 -- the history then leaves; that rests on such records, and by how the run ended exactly on those of the
--- commands that are done: the next run may begin there. Where all is done, the whole text is said, and the
--- script was read to its end.
+-- commands that are done: the next run may begin there. Where it ended by a sector at fault and the chip tells its story,
+-- at some moment the chip held that. Where all is done, the whole text is said, and the script was read to its end.
 pub record Runs (marks : Bool) (places units : ℕ) (m : Legible) (script : List ℕ) (h : History) (first : Story)
     (old new : Told) (ending : Ending) : Type 0 where
   pub added : Story
@@ -338,6 +350,7 @@ pub record Runs (marks : Bool) (places units : ℕ) (m : Legible) (script : List
   pub ends : EndsBy ending
       (λ s. Unrisen old new → StoryRests places (of m.pages s.map) (adds_all added (adds_all first h)))
       units m.map script (pieces added)
+  pub met : Unrisen old new → TellsStory new → EndMet places ending (adds_all added (adds_all first h))
   pub read : List ℕ
   pub unread : List ℕ
   pub script_is : script ≡ read ++ unread

@@ -380,7 +380,7 @@ pub fn top<D: Desk>(alloc: Global, words: &[String], desk: &mut D) -> u8
 
     // The headline, over a chip that is opened, on as many units as that says: wherever the program ends.
     // At 0 the whole script was run, at 7 a line of a reply couldn't be said, and else it ended between
-    // commands.
+    // commands. A sector at fault that ended it was so on the chip at some moment.
     ensures opened { AsksOpened (requested (map string_bytes words.now))
         → AtStatus (RunsOpened (D.told desk.old) (D.told desk.new)) result }
 

@@ -23,11 +23,11 @@ use Rattle.chip_trait.proofs.LawfulLemmas.{lawful_none, clean_none}
 use Rattle.chip_trait.proofs.MomentLemmas.{at_start}
 use Rattle.store_trait.proofs.UnusedLemmas.{unused_none}
 use Rattle.store_trait.specs.declared.fault.Fault.{Fault}
-use Rattle.store_trait.specs.Keeping.{Keeping, Stays, WorkLeaves, WorksFor, LooksUpFor, StillRecalls, is_restart}
+use Rattle.store_trait.specs.Keeping.{Keeping, WorkLeaves, WorksFor, LooksUpFor, StillRecalls, is_restart}
 use Rattle.script_run.specs.declared.fault.Stop.{Stop}
 use Rattle.script_run.specs.declared.fault.Stop.TheVariants as stop
 use Rattle.script_run.specs.Run.{SaysLines, IsUnsaid, EndsAt, RunLeaves, SayingLeaves}
-use Rattle.script_run.specs.Goes.{SaysPart, SaysSome, row_lines, rows_lines}
+use Rattle.script_run.specs.Goes.{StaysAt, SaysPart, SaysSome, row_lines, rows_lines}
 use Rattle.store_trait.proofs.OnwardLemmas.{unrisen_later}
 use Rattle.script_run.proofs.EndLemmas.{unsaid_line, unsaid_behind, part_longer, part_behind, unsaid_of, ends_in}
 use Rattle.script_run.proofs.RunLemmas.{says_none, says_all, says_cut, says_behind, says_longer, saying_none, saying_work, saying_said, saying_cut, saying_then, run_command, run_failed}
@@ -79,20 +79,20 @@ module _ {S : Type 0} (k : Keeping S) (limits : Limits) (state : State) where
 
   -- the reply couldn't be said
   pub unsaid : (c : Command) (before then : S) (h : History) (old mid new : Told) (r : Reply) → WorksFor k limits state c before h (Ok r) then old mid → (is_restart c ≡ false → StillRecalls k before old then mid) → FailsToSay (reply_text r) mid new
-      → RunLeaves k limits state (c ∷ []) before h (Stays k limits then old new) then old new (Err stop.Output)
+      → RunLeaves k limits state (c ∷ []) before h (StaysAt k limits then old new stop.Output) then old new (Err stop.Output)
   unsaid c before then h old mid new r w recalls did =
       let cut = saying_cut k limits (Next c) then (adds_all w.leaves.added h) mid new (reply_text r) [] w.ends.0 did in
       let line = one_line c r w.ends.1 in
       let g = adds_all cut.2.added (adds_all w.leaves.added h) in
-      let stays : Stays k limits then old new g (Next c) = λ quiet. cut.3 in
-      run_command k limits state c before then then h (Stays k limits then old new) old mid new cut.0 (Err stop.Output) w.leaves recalls cut.2
+      let stays : StaysAt k limits then old new stop.Output g (Next c) = λ quiet. (cut.3, tt) in
+      run_command k limits state c before then then h (StaysAt k limits then old new stop.Output) old mid new cut.0 (Err stop.Output) w.leaves recalls cut.2
       (subst (λ (l : List (List ℕ)). SaysLines l cut.0) line (says_cut (reply_text r) [] cut.0 cut.1)) (λ e. cc) stays
-      (unsaid_of limits state c cut.0 (Stays k limits then old new g) (subst (λ (l : List (List ℕ)). IsUnsaid l cut.0) line (unsaid_line (reply_text r) [] cut.0 cut.1)) stays)
+      (unsaid_of limits state c cut.0 (StaysAt k limits then old new stop.Output g) (subst (λ (l : List (List ℕ)). IsUnsaid l cut.0) line (unsaid_line (reply_text r) [] cut.0 cut.1)) stays)
 
   -- the work failed
   pub failed : (c : Command) (before then : S) (h : History) (old new : Told) (fault : Fault) → WorksFor k limits state c before h (Err fault) then old new
-      → RunLeaves k limits state (c ∷ []) before h (Stays k limits then old new) then old new (Err (stop.Store fault))
-  failed c before then h old new fault w = run_failed k limits state c before then h (Stays k limits then old new) old new fault w.leaves w.ends
+      → RunLeaves k limits state (c ∷ []) before h (StaysAt k limits then old new (stop.Store fault)) then old new (Err (stop.Store fault))
+  failed c before then h old new fault w = run_failed k limits state c before then h (StaysAt k limits then old new (stop.Store fault)) old new fault w.leaves w.ends
 
   -- ---- a row of a list
 
@@ -122,7 +122,7 @@ module _ {S : Type 0} (k : Keeping S) (limits : Limits) (state : State) where
         part = subst (λ (found : Option (List ℕ)). SaysLines (row_lines n found) cut.0) w.ends.1 (says_cut line [] cut.0 cut.1);
         ends = subst (λ (found : Option (List ℕ)). IsUnsaid (row_lines n found) cut.0) w.ends.1 (unsaid_line line [] cut.0 cut.1);
         leaves = all.0;
-        stays = λ quiet. all.1;
+        stays = λ quiet. (all.1, tt);
       }
 
   pub row_failed : (n : ℕ) (before then : S) (h : History) (old new : Told) (fault : Fault) → LooksUpFor k limits state n before h (Err fault) then old new → SaysSome k limits state (row_lines n (get state.map n)) before h then old new (stop.Store fault)
@@ -160,7 +160,7 @@ module _ {S : Type 0} (k : Keeping S) (limits : Limits) (state : State) where
       let all : n + 1 - first + (end - (n + 1)) ≡ end - first = omega arith in
       let are : rows_lines state.map first (end - first) ≡ (rows_lines state.map first (n - first) ++ row_lines n (get state.map n)) ++ rest.0 =
       ap (λ (a : ℕ). rows_lines state.map first a) (sym all) ∙ rest.1 ∙ ap (λ (l : List (List ℕ)). l ++ rest.0) (rows_more state.map first n le) in
-      let joined = saying_then k limits state.map (rows_lines state.map first (n - first)) some.said before mid then h (λ g. Stays k limits then between new g state) old between new false so_far some.leaves some.stays in record {
+      let joined = saying_then k limits state.map (rows_lines state.map first (n - first)) some.said before mid then h (λ g. StaysAt k limits then between new s g state) old between new false so_far some.leaves some.stays in record {
         said = rows_lines state.map first (n - first) ++ some.said;
         part = subst (λ (l : List (List ℕ)). SaysLines l (rows_lines state.map first (n - first) ++ some.said)) (sym are)
             (says_longer (rows_lines state.map first (n - first) ++ row_lines n (get state.map n)) rest.0 (rows_lines state.map first (n - first) ++ some.said)
@@ -242,30 +242,30 @@ module _ {S : Type 0} (k : Keeping S) (limits : Limits) (state : State) where
     -- the end couldn't be said
     pub list_unsaid : (before then : S) (h : History) (old mid new : Told) → a < names → b < names → k.holds limits before old h state
         → Saying (rows_lines state.map a (b + 1 - a)) before h then old mid → FailsToSay (reply_text reply.End) mid new
-        → RunLeaves k limits state (command.List a b ∷ []) before h (Stays k limits then old new) then old new (Err stop.Output)
+        → RunLeaves k limits state (command.List a b ∷ []) before h (StaysAt k limits then old new stop.Output) then old new (Err stop.Output)
     list_unsaid before then h old mid new a_in b_in holds rows did =
         let lines = rows_lines state.map a (b + 1 - a) in
         let end = reply_text reply.End in
         let cut = saying_cut k limits state then (adds_all rows.0.added h) mid new end [] rows.1 did in
         let all = saying_then k limits state.map lines cut.0 before then then h (λ g. k.holds limits then new g state) old mid new false rows.0 cut.2 cut.3 in
         let g = adds_all all.0.added h in
-        let stays : Stays k limits then old new g state = λ quiet. all.1 in
-        run_saying (command.List a b) before then h (Stays k limits then old new) old new (lines ++ cut.0) (Err stop.Output) holds (list_stays a_in b_in) all.0
+        let stays : StaysAt k limits then old new stop.Output g state = λ quiet. (all.1, tt) in
+        run_saying (command.List a b) before then h (StaysAt k limits then old new stop.Output) old new (lines ++ cut.0) (Err stop.Output) holds (list_stays a_in b_in) all.0
         (subst (λ (l : List (List ℕ)). SaysLines l (lines ++ cut.0)) (list_lines a_in b_in) (says_behind lines (end ∷ []) cut.0 (says_cut end [] cut.0 cut.1))) (λ e. cc)
         stays
-        (unsaid_of limits state (command.List a b) (lines ++ cut.0) (Stays k limits then old new g)
-        (subst (λ (l : List (List ℕ)). IsUnsaid l (lines ++ cut.0)) (list_lines a_in b_in) (unsaid_behind lines (end ∷ []) cut.0 (unsaid_line end [] cut.0 cut.1))) (subst (Stays k limits then old new g) (sym (list_stays a_in b_in)) stays))
+        (unsaid_of limits state (command.List a b) (lines ++ cut.0) (StaysAt k limits then old new stop.Output g)
+        (subst (λ (l : List (List ℕ)). IsUnsaid l (lines ++ cut.0)) (list_lines a_in b_in) (unsaid_behind lines (end ∷ []) cut.0 (unsaid_line end [] cut.0 cut.1))) (subst (StaysAt k limits then old new stop.Output g) (sym (list_stays a_in b_in)) stays))
 
     -- it stopped in the rows
     pub list_failed : (before then : S) (h : History) (old new : Told) (s : Stop) → a < names → b < names → k.holds limits before old h state
         → SaysSome k limits state (rows_lines state.map a (b + 1 - a)) before h then old new s
-        → RunLeaves k limits state (command.List a b ∷ []) before h (Stays k limits then old new) then old new (Err s)
+        → RunLeaves k limits state (command.List a b ∷ []) before h (StaysAt k limits then old new s) then old new (Err s)
     list_failed before then h old new s a_in b_in holds some =
         let g = adds_all some.leaves.added h in
-        run_saying (command.List a b) before then h (Stays k limits then old new) old new some.said (Err s) holds (list_stays a_in b_in) some.leaves
+        run_saying (command.List a b) before then h (StaysAt k limits then old new s) old new some.said (Err s) holds (list_stays a_in b_in) some.leaves
         (subst (λ (l : List (List ℕ)). SaysLines l some.said) (list_lines a_in b_in) (says_longer (rows_lines state.map a (b + 1 - a)) (reply_text reply.End ∷ []) some.said some.part)) (λ e. cc) some.stays
-        (ends_in limits state s (command.List a b) (rows_lines state.map a (b + 1 - a)) some.said (reply_text reply.End) (Stays k limits then old new g) (list_lines a_in b_in) some.ends some.stays
-        (subst (Stays k limits then old new g) (sym (list_stays a_in b_in)) some.stays))
+        (ends_in limits state s (command.List a b) (rows_lines state.map a (b + 1 - a)) some.said (reply_text reply.End) (StaysAt k limits then old new s g) (list_lines a_in b_in) some.ends some.stays
+        (subst (StaysAt k limits then old new s g) (sym (list_stays a_in b_in)) some.stays))
 
     pub works_refused : (store : S) (h : History) (t : Told) → (names ≤ a) ⊎ (names ≤ b) → k.holds limits store t h state
         → WorksFor k limits state (command.List a b) store h (Ok (reply.Refused BadName)) store t t

@@ -11,14 +11,14 @@ use Rattle.ipl_model.specs.Run.{after_all, IsNear}
 use Rattle.ipl_model.specs.State.{State, Limits}
 use Rattle.store_trait.specs.declared.fault.Fault.{Fault}
 use Rattle.store_trait.specs.Behind.{KeepsBehind, WorksBehind}
-use Rattle.store_trait.specs.Keeping.{Keeping, WORK_DRAWS, WorkLeaves, LeavesTidy, StillRecalls, DoneRecalls, Stays}
+use Rattle.store_trait.specs.Keeping.{Keeping, WORK_DRAWS, WorkLeaves, LeavesTidy, StillRecalls, DoneRecalls}
 use Rattle.store_trait.specs.Onward.{Further}
 use Rattle.store_trait.proofs.OnwardLemmas.{onward_counts, further_onward, further_then}
 use Rattle.store_trait.proofs.TidyLemmas.{tidy_then}
 use Rattle.script_run.specs.declared.fault.Stop.{Stop}
 use Rattle.script_run.specs.declared.fault.Stop.TheVariants as stop
 use Rattle.script_run.specs.Behind.{stop_of}
-use Rattle.script_run.specs.Goes.{StopCause, LearnsAlong, StopWears, KeepsSome, Completes, CompletesOver, Stopped, Ended, RunsScript}
+use Rattle.script_run.specs.Goes.{StaysAt, StopCause, LearnsAlong, StopWears, KeepsSome, Completes, CompletesOver, Stopped, Ended, RunsScript}
 use Rattle.script_run.specs.Run.{StandsNear, EndsAt, RunLeaves}
 use Rattle.script_run.proofs.CauseLemmas.{cause_earlier}
 use Rattle.script_run.proofs.CompleteLemmas.{completes_then}
@@ -91,12 +91,12 @@ module _ {S : Type 0} (k : Keeping S) (limits : Limits) where
       → old.write_faults ≤ between.write_faults → new.beside ≡ between.beside
       → (ended : Ended k limits state source before h mid old between)
       → KeepsBehind k limits (after_all limits state (commands_of source)) mid (adds_all ended.leaves.added h) (Err fault) then between new
-      → Stopped k limits state (commands_of source) source before h (Stays k limits then old new) then old new (stop.Store fault)
+      → Stopped k limits state (commands_of source) source before h (StaysAt k limits then old new (stop.Store fault)) then old new (stop.Store fault)
   ended_failed state source before mid then h old between new fault writes same ended did =
       let cs = commands_of source in
-      let R = Stays k limits then old new in
+      let R = StaysAt k limits then old new (stop.Store fault) in
       let stays : R (adds_all did.leaves.added (adds_all ended.leaves.added h)) (after_all limits state cs) =
-      stays_later k limits then old between new (adds_all did.leaves.added (adds_all ended.leaves.added h)) (after_all limits state cs) writes did.ends in
+      stays_later k limits then old between new (stop.Store fault) (adds_all did.leaves.added (adds_all ended.leaves.added h)) (after_all limits state cs) writes did.ends in
       record {
         read = source;
         rest = [];
@@ -124,7 +124,7 @@ module _ {S : Type 0} (k : Keeping S) (before mid then : S) (old between new : T
           → DoneRecalls k mid between result then new
           → MatchResult (stop_of result)
           (λ _. Ended k limits state source before h then old new)
-          (λ s. Stopped k limits state (commands_of source) source before h (Stays k limits then old new) then old new s)
+          (λ s. Stopped k limits state (commands_of source) source before h (StaysAt k limits then old new s) then old new s)
       by_end (Ok v) limits state h source ended works recalls = ended_then k limits state source before mid then h old between new did.counts.beside ended works recalls
       by_end (Err fault) limits state h source ended works recalls = ended_failed k limits state source before mid then h old between new fault further.writes did.counts.beside ended works
 

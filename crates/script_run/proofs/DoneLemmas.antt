@@ -102,7 +102,7 @@ module _ {S : Type 0} (k : Keeping S) (limits : Limits) where
         (λ x. k.stands limits x state.map ⊎ k.stands limits x (step limits state c).0.map)
         (StandsAlong k limits state (c ∷ [])) before then h old new false (along_one state c) w.leaves;
     each_command = w.leaves.each_moment;
-    stays = w.ends;
+    stays = λ quiet. (w.ends quiet).0;
   }
 
   module _ (state : State) (cs ds : List Command) (counts mid_counts : TrialCounts) (before mid then : S) (h : History)

@@ -13,10 +13,10 @@ use Rattle.chip_trait.proofs.HistoryLemmas.{same_history}
 use Rattle.script_run.specs.declared.fault.Stop.{Stop}
 use Rattle.script_run.specs.declared.fault.Stop.TheVariants as stop
 use Rattle.store_trait.specs.Onward.{Onward, Still}
-use Rattle.store_trait.specs.Keeping.{Keeping, Stays}
+use Rattle.store_trait.specs.Keeping.{Keeping}
 use Rattle.script_run.specs.Lines.{commands_from, kept}
 use Rattle.script_run.specs.Run.{RunLeaves}
-use Rattle.script_run.specs.Goes.{Answers, Goes, TakesBytes, Took, Stopped, Ended}
+use Rattle.script_run.specs.Goes.{StaysAt, Answers, Goes, TakesBytes, Took, Stopped, Ended}
 use Rattle.script_run.proofs.LineLemmas.{keeping_all, from_start}
 use Rattle.script_run.proofs.FeedLemmas.{feed_in, plain_before, plain_all}
 use Rattle.store_trait.proofs.OnwardLemmas.{unrisen_later}
@@ -26,8 +26,8 @@ use Rattle.script_run.proofs.RunLemmas.{run_none, run_more, run_longer, run_weak
 
 module _ {S : Type 0} (k : Keeping S) (limits : Limits) where
   -- what stays as counted from a later moment on stays as counted from an earlier one
-  pub stays_later : (store : S) (old mid new : Told) (h : History) (s : State) → old.write_faults ≤ mid.write_faults → Stays k limits store mid new h s → Stays k limits store old new h s
-  stays_later store old mid new h s le stays quiet = stays (unrisen_later old mid new le quiet)
+  pub stays_later : (store : S) (old mid new : Told) (e : Stop) (h : History) (s : State) → old.write_faults ≤ mid.write_faults → StaysAt k limits store mid new e h s → StaysAt k limits store old new e h s
+  stays_later store old mid new e h s le stays quiet = stays (unrisen_later old mid new le quiet)
 
   -- no byte more was taken
   pub goes_none : (state : State) (line : List ℕ) (store : S) (h : History) (t : Told) → k.holds limits store t h state → Goes k limits state line [] store h store line t t
@@ -51,12 +51,12 @@ module _ {S : Type 0} (k : Keeping S) (limits : Limits) where
   pub line_takes : (line : List ℕ) (before then : S) (old new : Told) (result : Result (Unit {0}) Stop) (state : State) (h : History)
       → MatchResult result
       (λ _. (leaves : RunLeaves k limits state (commands_in (line_of line)) before h (k.holds limits then new) then old new (Ok tt)) × k.holds limits then new (adds_all leaves.added h) (after_all limits state (commands_in (line_of line))))
-      (λ s. RunLeaves k limits state (commands_in (line_of line)) before h (Stays k limits then old new) then old new (Err s))
+      (λ s. RunLeaves k limits state (commands_in (line_of line)) before h (StaysAt k limits then old new s) then old new (Err s))
       → MatchResult result
       (λ _. Goes k limits state line (10 ∷ []) before h then [] old new)
-      (λ s. (tail : List ℕ) → RunLeaves k limits state (commands_from line ((10 ∷ []) ++ tail)) before h (Stays k limits then old new) then old new (Err s))
+      (λ s. (tail : List ℕ) → RunLeaves k limits state (commands_from line ((10 ∷ []) ++ tail)) before h (StaysAt k limits then old new s) then old new (Err s))
   line_takes line before then old new (Ok u) state h answered = goes_line state line before then h old new answered.0 answered.1
-  line_takes line before then old new (Err e) state h answered = λ tail. run_longer k limits state (commands_in (line_of line)) (commands_from [] tail) before then h (Stays k limits then old new) old new e answered
+  line_takes line before then old new (Err e) state h answered = λ tail. run_longer k limits state (commands_in (line_of line)) (commands_from [] tail) before then h (StaysAt k limits then old new e) old new e answered
 
   -- more bytes were taken
   pub goes_then : (state : State) (line a b : List ℕ) (before mid_store then : S) (h : History) (mid later : List ℕ) (old between new : Told)
@@ -217,7 +217,7 @@ module _ {S : Type 0} (k : Keeping S) (limits : Limits) where
   -- it reached the end, and the last line was answered, or it stopped there
   pub running_ends : (state : State) (source : List ℕ) (before store then : S) (h : History) (line : List ℕ) (old mid new : Told) (result : Result (Unit {0}) Stop) → (r : Running state source before h store line old mid)
       → r.rest ≡ [] → Onward mid new → Answers k (commands_in (line_of line)) store mid result then new
-      → MatchResult result (λ _. Ended k limits state source before h then old new) (λ s. Stopped k limits state (commands_of source) source before h (Stays k limits then mid new) then old new s)
+      → MatchResult result (λ _. Ended k limits state source before h then old new) (λ s. Stopped k limits state (commands_of source) source before h (StaysAt k limits then mid new s) then old new s)
   running_ends state source before store then h line old mid new result r at_end onward answers = by_result result (answers limits now g r.goes.holds)
     where
       now : State
@@ -234,8 +234,8 @@ module _ {S : Type 0} (k : Keeping S) (limits : Limits) where
 
       by_result : (d : Result (Unit {0}) Stop)
           → MatchResult d (λ _. (leaves : RunLeaves k limits now (commands_in (line_of line)) store g (k.holds limits then new) then mid new (Ok tt)) × k.holds limits then new (adds_all leaves.added g) (after_all limits now (commands_in (line_of line))))
-          (λ s. RunLeaves k limits now (commands_in (line_of line)) store g (Stays k limits then mid new) then mid new (Err s))
-          → MatchResult d (λ _. Ended k limits state source before h then old new) (λ s. Stopped k limits state (commands_of source) source before h (Stays k limits then mid new) then old new s)
+          (λ s. RunLeaves k limits now (commands_in (line_of line)) store g (StaysAt k limits then mid new s) then mid new (Err s))
+          → MatchResult d (λ _. Ended k limits state source before h then old new) (λ s. Stopped k limits state (commands_of source) source before h (StaysAt k limits then mid new s) then old new s)
       by_result (Ok u) answered =
           let leaves = subst (λ (cs : List Command). RunLeaves k limits state cs before h (k.holds limits then new) then old new (Ok tt)) all
           (run_more k limits state r.goes.done (commands_in (line_of line)) before store then h (k.holds limits store mid) (k.holds limits then new) old mid new (Ok tt) r.goes.leaves answered.0) in
@@ -245,14 +245,14 @@ module _ {S : Type 0} (k : Keeping S) (limits : Limits) where
         rest = r.rest;
         left_is = left_now;
         source_is = r.source_is;
-        leaves = subst (λ (cs : List Command). RunLeaves k limits state cs before h (Stays k limits then mid new) then old new (Err e)) all
-            (run_more k limits state r.goes.done (commands_in (line_of line)) before store then h (k.holds limits store mid) (Stays k limits then mid new) old mid new (Err e) r.goes.leaves part);
+        leaves = subst (λ (cs : List Command). RunLeaves k limits state cs before h (StaysAt k limits then mid new e) then old new (Err e)) all
+            (run_more k limits state r.goes.done (commands_in (line_of line)) before store then h (k.holds limits store mid) (StaysAt k limits then mid new e) old mid new (Err e) r.goes.leaves part);
       }
 
   pub running_last : (state : State) (source : List ℕ) (before store mid_store then : S) (h : History) (line later : List ℕ) (old between mid new : Told) (n : ℕ) (result : Result (Unit {0}) Stop) → Running state source before h store line old between
       → ((s : State) (g : History) → k.holds limits store between g s → (rest : List ℕ) → between.beside.left ≡ Some rest → Took k limits s line rest store g n mid_store later between mid)
       → n ≡ 0 → Answers k (commands_in (line_of later)) mid_store mid result then new → Onward mid new
-      → MatchResult result (λ _. Ended k limits state source before h then old new) (λ s. Stopped k limits state (commands_of source) source before h (Stays k limits then mid new) then old new s)
+      → MatchResult result (λ _. Ended k limits state source before h then old new) (λ s. Stopped k limits state (commands_of source) source before h (StaysAt k limits then mid new s) then old new s)
   unfolding running_more
   running_last state source before store mid_store then h line later old between mid new n result r next zero answers onward =
       running_ends state source before mid_store then h later old mid new result (running_more state source before store mid_store h line later old between mid n r next)
@@ -264,10 +264,10 @@ module _ {S : Type 0} (k : Keeping S) (limits : Limits) where
       record { read = s.read; rest = s.rest; left_is = s.left_is; source_is = s.source_is; leaves = run_weaker k limits state cs before then h Q R old new (Err e) f s.leaves }
 
   pub ends_later : (state : State) (source : List ℕ) (before then : S) (h : History) (result : Result (Unit {0}) Stop) (old mid new : Told) → old.write_faults ≤ mid.write_faults
-      → MatchResult result (λ _. Ended k limits state source before h then old new) (λ s. Stopped k limits state (commands_of source) source before h (Stays k limits then mid new) then old new s)
-      → MatchResult result (λ _. Ended k limits state source before h then old new) (λ s. Stopped k limits state (commands_of source) source before h (Stays k limits then old new) then old new s)
+      → MatchResult result (λ _. Ended k limits state source before h then old new) (λ s. Stopped k limits state (commands_of source) source before h (StaysAt k limits then mid new s) then old new s)
+      → MatchResult result (λ _. Ended k limits state source before h then old new) (λ s. Stopped k limits state (commands_of source) source before h (StaysAt k limits then old new s) then old new s)
   ends_later state source before then h (Ok u) old mid new le ended = ended
-  ends_later state source before then h (Err e) old mid new le s = stops_weaker state (commands_of source) source before then h (Stays k limits then mid new) (Stays k limits then old new) old new e (λ g n. stays_later then old mid new g n le) s
+  ends_later state source before then h (Err e) old mid new le s = stops_weaker state (commands_of source) source before then h (StaysAt k limits then mid new e) (StaysAt k limits then old new e) old new e (λ g n. stays_later then old mid new e g n le) s
 
 -- the line that a line feed ends was answered, or it stopped in it
 pub takes_line : {S : Type 0} (k : Keeping S) (line bytes later : List ℕ) (before then : S) (old new : Told) (result : Result (Unit {0}) Stop) → bytes ≡ line → later ≡ []

@@ -62,7 +62,7 @@ module _ {S : Type 0} (k : Keeping S) (limits : Limits) (state : State) where
 
   pub lost_one : (n : ℕ) (before then : S) (h : History) (old new : Told) (fault : Fault)
       → LooksUpFor k limits state n before h (Err fault) then old new → IsLost k limits state before h then old new
-  lost_one n before then h old new fault w = record { leaves = w.leaves; stays = w.ends }
+  lost_one n before then h old new fault w = record { leaves = w.leaves; stays = λ quiet. (w.ends quiet).0 }
 
   module _ (lines : List (List ℕ)) (sum mid_sum : RecordSum) (before mid then : S) (h : History)
       (old between new : Told) (first : AreLinesTaken k limits state lines sum before h mid_sum mid old between) where

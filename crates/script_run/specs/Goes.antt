@@ -10,11 +10,11 @@ use Rattle.ipl_model.specs.Step.{row_reply}
 use Rattle.ipl_model.specs.Text.{reply_text}
 use Rattle.ipl_model.specs.Run.{after_all}
 use Rattle.ipl_model.specs.Grammar.{commands_of}
-use Rattle.chip_trait.specs.Told.{History, Told, adds_all, Grew, Rose, IsPrefix}
+use Rattle.chip_trait.specs.Told.{History, Told, Unrisen, adds_all, Grew, Rose, IsPrefix}
 use Rattle.script_run.specs.declared.fault.Stop.{Stop}
 use Rattle.script_run.specs.declared.fault.Stop.TheVariants as stop
 use Rattle.script_run.specs.Lines.{commands_from}
-use Rattle.store_trait.specs.Keeping.{Keeping, FOUND_NUMBER, COMMAND_DRAWS, LeavesTidy, Stays, Draws, Excuses}
+use Rattle.store_trait.specs.Keeping.{Keeping, FOUND_NUMBER, COMMAND_DRAWS, LeavesTidy, Draws, Excuses}
 use Rattle.store_trait.specs.Onward.{Onward}
 use Rattle.store_trait.specs.declared.fault.Fault.{Fault}
 use Rattle.store_trait.specs.declared.fault.Fault.TheVariants.{Spent}
@@ -84,6 +84,17 @@ module _ {S : Type 0} (k : Keeping S) where
   StopWears entry stop.Output new = Unit {0}
   StopWears entry stop.TooLong new = Unit {0}
 
+  -- what the fault of the store says was so at some moment of this history, where a run stops by one
+  abbrev pub StopMet : Stop → Told → History → Type 0
+  StopMet (stop.Store fault) t h = k.met t h fault
+  StopMet stop.Script t h = Unit {0}
+  StopMet stop.Output t h = Unit {0}
+  StopMet stop.TooLong t h = Unit {0}
+
+  -- where a run stops so, the store still keeps the state, and what stopped it was met, unless a write failed
+  abbrev pub StaysAt : Limits → S → Told → Told → Stop → History → State → Type 0
+  StaysAt limits store old new s h state = Unrisen old new → k.holds limits store new h state × StopMet s new h
+
   -- what is worn since an entry is known still behind a part of a run, or it stopped so
   abbrev pub LearnsAlong : {T : Type 0} → S → Told → Result T Stop → S → Told → Type 0
   LearnsAlong before old result then new = (entry : Told) → k.knows entry before old →
@@ -144,7 +155,7 @@ module _ {S : Type 0} (k : Keeping S) where
     pub part : SaysLines lines said
     pub ends : SaysPart s lines said
     pub leaves : SayingLeaves k limits state.map said before h then old new false
-    pub stays : Stays k limits then old new (adds_all leaves.added h) state
+    pub stays : StaysAt limits then old new s (adds_all leaves.added h) state
 
   abbrev pub SaysUnder : Limits → (State → List (List ℕ)) → S → Told → Result (Unit {0}) Stop → S → Told → Type 0
   SaysUnder limits lines before old result then new = (state : State) (h : History)
@@ -170,7 +181,7 @@ module _ {S : Type 0} (k : Keeping S) where
       MatchResult result
       (λ _. (leaves : RunLeaves k limits state commands before h (k.holds limits then new) then old new (Ok tt))
       × k.holds limits then new (adds_all leaves.added h) (after_all limits state commands))
-      (λ s. RunLeaves k limits state commands before h (Stays k limits then old new) then old new (Err s))
+      (λ s. RunLeaves k limits state commands before h (StaysAt limits then old new s) then old new (Err s))
 
   -- Commands were answered, or it stopped in them, with what goes along and what is done with a store that keeps a state.
   -- Nothing is done behind the last reply.
@@ -197,7 +208,7 @@ module _ {S : Type 0} (k : Keeping S) where
       MatchResult result
       (λ _. Goes limits state line bytes before h then later old new)
       (λ s. (tail : List ℕ) → RunLeaves k limits state (commands_from line (bytes ++ tail)) before h
-      (Stays k limits then old new) then old new (Err s))
+      (StaysAt limits then old new s) then old new (Err s))
 
   -- bytes of the script were taken, or it stopped in them, with what goes along and what is done with a store that keeps
   -- a state
@@ -231,7 +242,7 @@ module _ {S : Type 0} (k : Keeping S) where
       → k.holds limits before old h state → (source : List ℕ) → old.beside.left ≡ Some source →
       MatchResult result
       (λ n. Took limits state line source before h n then later old new)
-      (λ s. Stopped limits state (commands_from line source) source before h (Stays k limits then old new) then old new s)
+      (λ s. Stopped limits state (commands_from line source) source before h (StaysAt limits then old new s) then old new s)
 
   -- At the end of the script all of it was read, and all its commands are answered.
   pub record Ended (limits : Limits) (state : State) (source : List ℕ) (before : S) (h : History) (then : S)
@@ -246,4 +257,4 @@ module _ {S : Type 0} (k : Keeping S) where
       → k.holds limits before old h state → (source : List ℕ) → old.beside.left ≡ Some source →
       MatchResult result
       (λ _. Ended limits state source before h then old new)
-      (λ s. Stopped limits state (commands_of source) source before h (Stays k limits then old new) then old new s)
+      (λ s. Stopped limits state (commands_of source) source before h (StaysAt limits then old new s) then old new s)

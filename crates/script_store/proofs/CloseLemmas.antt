@@ -77,7 +77,7 @@ module _ (known : KnownPages) (m : ScriptStore) (between : Store) (before told :
   ready_works v served = works_so known before.places m (over between) before told runs.up units command.Syntax
       (Ok reply.Syntax)
       (accepted_work known (λ v. reply.Syntax) command.Syntax (λ state. state) (2 ^ 14) m (over between) before told runs
-      (omega arith) units refl (λ state. refl) (λ state. refl) (Ok v) served (λ state x told shown. refl))
+      (omega arith) units refl (λ state. refl) (λ state. refl) (Ok v) served (λ state x told shown. refl)) tt
 
   -- it failed, and so did the close
   ready_failed : (fault : StoreFault) → Readied (Err fault) → IsSound before.places between

@@ -1,15 +1,17 @@
 -- How the store of a script keeps a state, from how the store of records does.
 use Rattle.std.proofs.Common.{ℕ, ◌≡◌, ◌≤◌, ◌<◌, ◌+◌, ◌^◌, max, arith, Bool, true, false, ◌∷◌, [], Option, List, Result, MatchResult, Ok, Err, is_ok, if◌then◌else◌, sym, ap, subst}
+use Rattle.std.specs.Prelude.{IfErr}
 use Rattle.std.specs.FinMap.{get}
 use Rattle.std.proofs.lemmas.Bool.{true≢false, false≢true}
 use Rattle.std.proofs.lemmas.Result.{IfErr-weaker}
-use Rattle.chip_trait.specs.Story.{Contents}
+use Rattle.chip_trait.specs.Story.{Story, Contents}
 use Rattle.chip_trait.specs.Told.{History, Told, adds_all}
+use Rattle.ipl_model.specs.State.{State, Limits}
 use Rattle.ipl_model.specs.declared.command.Command.{Command}
 use Rattle.ipl_model.specs.declared.reply.Reply.{Reply}
 use Rattle.ipl_model.specs.Step.{step}
 use Rattle.store_trait.specs.declared.fault.Fault.{Fault}
-use Rattle.store_trait.specs.Keeping.{FOUND_NUMBER, LAST_NUMBER, WORK_DRAWS, LOOK_UP_DRAWS, Excuses, Draws, WorkLeaves, Stays, Works, LooksUp, LeavesTidy}
+use Rattle.store_trait.specs.Keeping.{FOUND_NUMBER, LAST_NUMBER, WORK_DRAWS, LOOK_UP_DRAWS, Excuses, Draws, WorkLeaves, StaysMet, Works, LooksUp, LeavesTidy}
 use Rattle.ipl_base.specs.declared.fault.StoreFault.{StoreFault}
 use Rattle.unit_io.specs.Steps.{Tidies}
 use Rattle.page_frames.specs.Pages.{tables_in}
@@ -17,6 +19,7 @@ use Rattle.store_laws.specs.Keeps.{KnownPages, KeepsStore, store_keeping}
 use Rattle.ipl_store.specs.Calls.{view_of, counter_of}
 use Rattle.script_store.specs.declared.store.ScriptStore.{ScriptStore}
 use Rattle.script_store.specs.Keeps.{KeepsScript, next_number, script_keeping}
+use Rattle.script_store.specs.Met.{FaultMet}
 
 -- ---- numbers
 
@@ -117,13 +120,20 @@ module _ (known : KnownPages) (places : ℕ) (a b : ScriptStore) (old new : Told
   few_so : (n : ℕ) → next_number a + n < 2 ^ 63 → counter_of a.store + n < 2 ^ 63
   few_so n few = subst (λ (k : ℕ). k + n < 2 ^ 63) (counted_up a up) few
 
+  -- a fault of a store that keeps a state, then and behind these events, was met
+  abbrev pub IsMetSince : Fault → Type 0
+  IsMetSince fault = (limits : Limits) (state : State) (h : History) (added : Story)
+      → KeepsStore places known.pages limits (view_of a.store) old h state
+      → KeepsStore places known.pages limits (view_of b.store) new (adds_all added h) state
+      → FaultMet places new (adds_all added h) fault
+
   pub works_so : (c : Command) (result : Result Reply Fault)
       → Works (store_keeping places known.pages) c (view_of a.store) old result (view_of b.store) new
-      → Works (script_keeping places known) c a old result b new
-  works_so c result works limits state h keeps =
+      → IfErr result IsMetSince → Works (script_keeping places known) c a old result b new
+  works_so c result works met limits state h keeps =
       let did = works limits state h keeps.kept in record {
         leaves = leaves_so _ h (is_ok result) did.leaves;
-        ends = by_end result (adds_all did.leaves.added h) did.ends;
+        ends = by_end result did.leaves.added met did.ends;
         drawn = drawn_so WORK_DRAWS did.drawn;
         excuse = IfErr-weaker result
             (Excuses (store_keeping places known.pages) WORK_DRAWS (view_of a.store) old new)
@@ -132,25 +142,26 @@ module _ (known : KnownPages) (places : ℕ) (a b : ScriptStore) (old new : Told
         tells = did.tells;
       }
     where
-      by_end : (r : Result Reply Fault) (k : History) → MatchResult r
-          (λ reply. KeepsStore places known.pages limits (view_of b.store) new k (step limits state c).0
+      by_end : (r : Result Reply Fault) (added : Story) → IfErr r IsMetSince → MatchResult r
+          (λ reply. KeepsStore places known.pages limits (view_of b.store) new (adds_all added h) (step limits state c).0
           × ((step limits state c).1 ≡ reply ∷ []))
-          (λ fault. Stays (store_keeping places known.pages) limits (view_of b.store) old new k state)
+          (λ fault. StaysMet (store_keeping places known.pages) limits (view_of b.store) old new fault (adds_all added h) state)
           → MatchResult r
-          (λ reply. KeepsScript places known limits b new k (step limits state c).0
+          (λ reply. KeepsScript places known limits b new (adds_all added h) (step limits state c).0
           × ((step limits state c).1 ≡ reply ∷ []))
-          (λ fault. Stays (script_keeping places known) limits b old new k state)
-      by_end (Ok reply) k ends = (record { kept = ends.0; few = few_still keeps.few }, ends.1)
-      by_end (Err fault) k stays =
-          λ unrisen. record { kept = stays unrisen; few = few_still keeps.few }
+          (λ fault. StaysMet (script_keeping places known) limits b old new fault (adds_all added h) state)
+      by_end (Ok reply) added met ends = (record { kept = ends.0; few = few_still keeps.few }, ends.1)
+      by_end (Err fault) added met stays = λ unrisen.
+          let kept = (stays unrisen).0 in
+          (record { kept = kept; few = few_still keeps.few }, met limits state h added keeps.kept kept)
 
   pub looks_up_so : (n : ℕ) (result : Result (Option (List ℕ)) Fault)
       → LooksUp (store_keeping places known.pages) n (view_of a.store) old result (view_of b.store) new
-      → LooksUp (script_keeping places known) n a old result b new
-  looks_up_so n result looks limits state h keeps low =
+      → IfErr result IsMetSince → LooksUp (script_keeping places known) n a old result b new
+  looks_up_so n result looks met limits state h keeps low =
       let did = looks limits state h keeps.kept low in record {
         leaves = leaves_so _ h (is_ok result) did.leaves;
-        ends = by_end result (adds_all did.leaves.added h) did.ends;
+        ends = by_end result did.leaves.added met did.ends;
         drawn = drawn_so LOOK_UP_DRAWS did.drawn;
         excuse = IfErr-weaker result
             (Excuses (store_keeping places known.pages) LOOK_UP_DRAWS (view_of a.store) old new)
@@ -159,13 +170,14 @@ module _ (known : KnownPages) (places : ℕ) (a b : ScriptStore) (old new : Told
         tells = did.tells;
       }
     where
-      by_end : (r : Result (Option (List ℕ)) Fault) (k : History) → MatchResult r
-          (λ found. KeepsStore places known.pages limits (view_of b.store) new k state
+      by_end : (r : Result (Option (List ℕ)) Fault) (added : Story) → IfErr r IsMetSince → MatchResult r
+          (λ found. KeepsStore places known.pages limits (view_of b.store) new (adds_all added h) state
           × (found ≡ get state.map n))
-          (λ fault. Stays (store_keeping places known.pages) limits (view_of b.store) old new k state)
+          (λ fault. StaysMet (store_keeping places known.pages) limits (view_of b.store) old new fault (adds_all added h) state)
           → MatchResult r
-          (λ found. KeepsScript places known limits b new k state × (found ≡ get state.map n))
-          (λ fault. Stays (script_keeping places known) limits b old new k state)
-      by_end (Ok found) k ends = (record { kept = ends.0; few = few_still keeps.few }, ends.1)
-      by_end (Err fault) k stays =
-          λ unrisen. record { kept = stays unrisen; few = few_still keeps.few }
+          (λ found. KeepsScript places known limits b new (adds_all added h) state × (found ≡ get state.map n))
+          (λ fault. StaysMet (script_keeping places known) limits b old new fault (adds_all added h) state)
+      by_end (Ok found) added met ends = (record { kept = ends.0; few = few_still keeps.few }, ends.1)
+      by_end (Err fault) added met stays = λ unrisen.
+          let kept = (stays unrisen).0 in
+          (record { kept = kept; few = few_still keeps.few }, met limits state h added keeps.kept kept)

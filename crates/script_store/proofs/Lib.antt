@@ -1,4 +1,5 @@
 pub mod KeepLemmas
+pub mod MetLemmas
 pub mod WornLemmas
 pub mod RecallLemmas
 pub mod ErasedLemmas

@@ -3,14 +3,14 @@ use Rattle.std.proofs.Common.{ℕ, ◌≡◌, ◌≢◌, ◌⊎◌, inl, inr, �
 use Rattle.std.proofs.lemmas.Bool.{true≢false}
 use Rattle.chip_trait.specs.Lawful.{AreClean}
 use Rattle.chip_trait.specs.Story.{Story, Contents, held}
-use Rattle.chip_trait.specs.Told.{History, Told}
+use Rattle.chip_trait.specs.Told.{History, Told, adds_all}
 use Rattle.ipl_base.specs.declared.fault.ChipFault.{ChipFault}
 use Rattle.ipl_base.specs.declared.fault.ChipFault.TheVariants.{ReadFault, Stopped, Damaged, Malformed, WornOut}
 use Rattle.ipl_base.specs.Places.{KeepsUnits, spares_on}
 use Rattle.ipl_base.specs.declared.fault.ImageFault.{ImageFault}
 use Rattle.ipl_base.specs.declared.fault.ImageFault.TheVariants as image
 use Rattle.ipl_model.specs.Operations.{after_restart}
-use Rattle.ipl_model.specs.State.{Map, State}
+use Rattle.ipl_model.specs.State.{Map, State, Limits}
 use Rattle.ipl_model.specs.declared.command.Command.TheVariants as command
 use Rattle.ipl_model.specs.declared.reply.Reply.{Reply}
 use Rattle.ipl_model.specs.declared.reply.Reply.TheVariants as reply
@@ -46,8 +46,10 @@ use Rattle.store_laws.proofs.FaultLemmas.{faults_that_leave_down}
 use Rattle.ipl_store.specs.Calls.{memory_of_store, view_of, counter_of, IsSound}
 use Rattle.ipl_store.specs.Openings.{OpensStore, Reopens, Restarts, Tries}
 use Rattle.script_store.specs.declared.store.ScriptStore.{ScriptStore}
+use Rattle.script_store.specs.Met.{FaultMet}
 use Rattle.script_store.specs.Keeps.{IsRunning, next_number, script_keeping, DoesCommand}
 use Rattle.script_store.proofs.KeepLemmas.{counted_few, works_so, draws_found}
+use Rattle.script_store.proofs.MetLemmas.{opening_met}
 use Rattle.script_store.proofs.ReopenLemmas.{restart_learns_done, restart_learns_failed}
 
 -- ---- the answer
@@ -95,8 +97,10 @@ module _ (known : KnownPages) (a b : ScriptStore) (old new : Told) (up : a.store
 
   pub works_down : (fault : Fault)
       → Works (store_keeping old.places known.pages) command.Restart (view_of a.store) old (Err fault) left new
+      → ((limits : Limits) (state : State) (h : History) (added : Story)
+      → KeepsStore old.places known.pages limits (view_of a.store) old h state → FaultMet old.places new (adds_all added h) fault)
       → Works (script_keeping old.places known) command.Restart a old (Err fault) b new
-  works_down fault works limits state h keeps =
+  works_down fault works met limits state h keeps =
       let did = works limits state h keeps.kept in record {
         leaves = record {
           added = did.leaves.added;
@@ -109,17 +113,20 @@ module _ (known : KnownPages) (a b : ScriptStore) (old new : Told) (up : a.store
           unused = record { marks = did.leaves.unused.marks; counts = λ done. absurd (cc done) };
         };
         ends = λ unrisen.
-            let stays = did.ends unrisen in
-            let few = keeps.few in record {
-              kept = record {
-                limits_are = stays.limits_are;
-                steady = stays.steady;
-                rests = stays.rests;
-                many = stays.many;
-                up = λ runs. absurd (let clash : true ≡ false = sym down ∙ runs in cc clash);
-              };
-              few = omega (arith, few, units);
-            };
+            let stays = (did.ends unrisen).0 in
+            let few = keeps.few in (
+              record {
+                kept = record {
+                  limits_are = stays.limits_are;
+                  steady = stays.steady;
+                  rests = stays.rests;
+                  many = stays.many;
+                  up = λ runs. absurd (let clash : true ≡ false = sym down ∙ runs in cc clash);
+                };
+                few = omega (arith, few, units);
+              },
+              met limits state h did.leaves.added keeps.kept,
+            );
         drawn = let none = none_drawn in omega (arith, none);
         excuse = λ few whole. did.excuse (subst (λ (k : ℕ). k + WORK_DRAWS < 2 ^ 63)
             (ap (λ (is : Bool). if is then 0 else counter_of a.store) up) few) whole;
@@ -275,7 +282,7 @@ module _ (known : KnownPages) (a b : ScriptStore) (before after : Told) (runs : 
         before after units runs.up
         (answers_advance (TurnsMapOf (λ state. after_restart state)) (λ state. after_restart state)
         first.memory last.memory (Ok tt) (Ok reply.Ok) before after refl leads)
-        (λ h state keeps. refl) few tt) limits state h keeps;
+        (λ h state keeps. refl) few tt) tt limits state h keeps;
     tidy = record {
       added = tries.tidy.tidies.added;
       history = tries.tidy.tidies.history;
@@ -318,7 +325,8 @@ module _ (known : KnownPages) (a b : ScriptStore) (before after : Told) (runs : 
         (left known a b before after runs.up units down) (Image e) before after units
         runs.up refl
         (λ h it state steady story. preserved state.map h steady story.rests)
-        (omega arith) excused);
+        (omega arith) excused) (λ limits state h added keeps tells.
+        opening_met false before.places e before after t tries h added keeps.steady.holds);
     tidy = record {
       added = tries.tidy.tidies.added;
       history = tries.tidy.tidies.history;

@@ -36,7 +36,8 @@ use Rattle.script_store.specs.Keeps.{IsRunning, script_keeping, not_found, looke
 use Rattle.script_store.proofs.KeepLemmas.{looks_up_so, draws_few, tidy_so}
 use Rattle.script_store.proofs.RecallLemmas.{calls_recall}
 use Rattle.script_store.proofs.WornLemmas.{look_up_learns}
-use Rattle.script_store.proofs.WorkLemmas.{AreCounted, chip_rose, chip_cause, chip_tells, IsEntry, up_entry}
+use Rattle.script_store.proofs.MetLemmas.{call_met}
+use Rattle.script_store.proofs.WorkLemmas.{stays_up, AreCounted, chip_rose, chip_cause, chip_tells, IsEntry, up_entry}
 
 -- ---- a call that lends what it found, once that is copied
 
@@ -179,7 +180,7 @@ module _ (known : KnownPages) (n : ℕ) (a b : ScriptStore) (before after : Told
   spent_finds : LAST_NUMBER < counter_of a.store → Finds known n a before (Err Spent) a before
   spent_finds late = record {
     looks_up = looks_up_so known before.places a a before before runs.up refl n (Err Spent)
-        (idle_faults_look_up known.pages n first before late);
+        (idle_faults_look_up known.pages n first before late) (λ limits state h added was is tells. tt);
     tidy = tidy_same (script_keeping before.places known) a before before false refl;
     draws = draws_few known before.places LOOK_UP_DRAWS _ a a runs.up (omega arith) (λ is. late);
     running = tt;
@@ -194,7 +195,7 @@ module _ (known : KnownPages) (n : ℕ) (a b : ScriptStore) (before after : Told
   refused_finds r is = record {
     looks_up = looks_up_so known before.places a a before before runs.up refl n (Ok None)
         (λ limits state h keeps low. absurd (low_is_free a.store.units n r is
-        (subst (λ (l : Limits). n < l.names) keeps.limits_are low)));
+        (subst (λ (l : Limits). n < l.names) keeps.limits_are low))) tt;
     tidy = tidy_same (script_keeping before.places known) a before before true refl;
     draws = draws_few known before.places LOOK_UP_DRAWS _ a a runs.up (omega arith)
         (λ spent. absurd (cc spent));
@@ -215,7 +216,7 @@ module _ (known : KnownPages) (n : ℕ) (a b : ScriptStore) (before after : Told
         → StillRecalls (script_keeping before.places known) a before b after
         → (counts : Counts before after) → Finds known n a before (Ok found) b after
     done_finds found framed did committed running tidy learns recalls counts = record {
-      looks_up = looks_up_so known before.places a b before after runs.up units n (Ok found) looks;
+      looks_up = looks_up_so known before.places a b before after runs.up units n (Ok found) looks tt;
       tidy = tidy;
       draws = draws_few known before.places LOOK_UP_DRAWS _ a b runs.up few (λ spent. absurd (cc spent));
       running = running;
@@ -264,7 +265,10 @@ module _ (known : KnownPages) (n : ℕ) (a b : ScriptStore) (before after : Told
         → Learns (script_keeping before.places known) {T = Option (List ℕ)} a before (Err (Chip e)) b after
         → (counts : Counts before after) → Finds known n a before (Err (Chip e)) b after
     failed_finds e did cause sound tidy learns counts = record {
-      looks_up = looks_up_so known before.places a b before after runs.up units n (Err (Chip e)) looks;
+      looks_up = looks_up_so known before.places a b before after runs.up units n (Err (Chip e)) looks
+          (λ limits state h added was is tells unfailed.
+          call_met known before.places a b before after limits state h added was is runs.up (stays_up (Option (List ℕ)) e before after b.store did.ends unfailed) units
+          refl counts.places (Option (List ℕ)) e did.faults tells unfailed);
       tidy = tidy;
       draws = draws_few known before.places LOOK_UP_DRAWS _ a b runs.up few (λ spent. absurd (cc spent));
       running = tt;

@@ -14,13 +14,14 @@ use Rattle.ipl_meaning.specs.Stands.{StandsIn}
 use Rattle.store_trait.specs.declared.fault.Fault.{Fault}
 use Rattle.store_trait.specs.declared.fault.Fault.TheVariants.{Spent}
 use Rattle.store_trait.specs.Behind.{KeepsBehind, WorksBehind}
-use Rattle.store_trait.specs.Keeping.{FOUND_NUMBER, LAST_NUMBER, WORK_DRAWS, Stays, Draws, Excuses}
+use Rattle.store_trait.specs.Keeping.{FOUND_NUMBER, LAST_NUMBER, WORK_DRAWS, StaysMet, Draws, Excuses}
 use Rattle.store_trait.proofs.TidyLemmas.{tidy_then}
 use Rattle.ipl_store.specs.declared.store.Store.{Store}
 use Rattle.ipl_store.specs.Calls.{counter_of}
 use Rattle.script_store.specs.declared.store.ScriptStore.{ScriptStore}
 use Rattle.script_store.specs.Closes.{Aborts}
 use Rattle.store_laws.specs.Keeps.{KnownPages}
+use Rattle.script_store.specs.Met.{FaultMet}
 use Rattle.script_store.specs.Keeps.{KeepsScript, next_number, script_keeping, DoesCommand}
 use Rattle.script_store.proofs.KeepLemmas.{counted_up, counted_few}
 use Rattle.script_store.proofs.PartLemmas.{added_then, leaves_then, leaves_weaker, leaves_failed}
@@ -83,8 +84,10 @@ module _ (known : KnownPages) (m mid : ScriptStore) (before after : Told) (fault
         leaves = leaves_failed (script_keeping before.places known) P m mid (shut mid.store) h before after
             (leaves_weaker (script_keeping before.places known) (λ x. P x ⊎ P x) P m mid h before after false
             (either limits state) did.leaves);
-        ends = λ unrisen. shut_keeps known before.places limits mid after (adds_all did.leaves.added h) state state refl
-            (did.ends unrisen);
+        ends = λ unrisen. (
+          shut_keeps known before.places limits mid after (adds_all did.leaves.added h) state state refl (did.ends unrisen).0,
+          (did.ends unrisen).1,
+        );
         drawn = omega arith;
         excuse = did.excuse;
         tells = did.tells;
@@ -147,15 +150,17 @@ module _ (known : KnownPages) (a m : ScriptStore) (c : Store) (before after : To
       by_end : (r : Result (Unit {0}) Fault) (k l : History) (now : State) → now.map ≡ state.map → k ≡ l
           → MatchResult r
           (λ _. KeepsScript before.places known limits (shut c) after k now)
-          (λ fault. Stays (script_keeping before.places known) limits (shut c) before after k now)
+          (λ fault. StaysMet (script_keeping before.places known) limits (shut c) before after fault k now)
           → MatchResult r
           (λ _. KeepsScript before.places known limits (shut c) after l state)
-          (λ fault. Stays (script_keeping before.places known) limits (shut c) before after l state)
+          (λ fault. StaysMet (script_keeping before.places known) limits (shut c) before after fault l state)
       by_end (Ok v) k l now same is ends = subst (λ (h : History). KeepsScript before.places known limits (shut c) after h state) is
           (shut_keeps known before.places limits (shut c) after k now state same ends)
-      by_end (Err fault) k l now same is stays = λ unrisen.
-          subst (λ (h : History). KeepsScript before.places known limits (shut c) after h state) is
-          (shut_keeps known before.places limits (shut c) after k now state same (stays unrisen))
+      by_end (Err fault) k l now same is stays = λ unrisen. (
+        subst (λ (h : History). KeepsScript before.places known limits (shut c) after h state) is
+            (shut_keeps known before.places limits (shut c) after k now state same (stays unrisen).0),
+        subst (λ (h : History). FaultMet before.places after h fault) is (stays unrisen).1,
+      )
 
   pub aborted_behind : WorksBehind (script_keeping before.places known) a before result (shut c) after
   aborted_behind = record {

@@ -37,10 +37,11 @@ use Rattle.store_laws.proofs.RefusalLemmas.{refusals_answer, accepted_are_done, 
 use Rattle.store_laws.proofs.KeepLemmas.{leads_are_work}
 use Rattle.store_laws.proofs.FaultLemmas.{idle_faults_are_work}
 use Rattle.ipl_store.specs.declared.store.Store.{Store}
-use Rattle.ipl_store.specs.Calls.{view_of, counter_of, IsSound, entry_fault, down_fault, early_fault, IsOfTheChip, EndsFor, Serves, Calls}
+use Rattle.ipl_store.specs.Calls.{view_of, counter_of, IsSound, entry_fault, down_fault, early_fault, IsOfTheChip, EndsFor, Serves, Calls, puts_down}
 use Rattle.script_store.specs.declared.store.ScriptStore.{ScriptStore}
 use Rattle.script_store.specs.Keeps.{IsRunning, script_keeping, ended, answer_of, DoesCommand}
 use Rattle.script_store.proofs.KeepLemmas.{works_so, draws_few, tidy_so}
+use Rattle.script_store.proofs.MetLemmas.{call_met}
 use Rattle.script_store.proofs.RecallLemmas.{calls_recall}
 use Rattle.script_store.proofs.WornLemmas.{spares_at, calls_learn}
 
@@ -176,7 +177,7 @@ module _ (known : KnownPages) (c : Command) (a : ScriptStore) (told : Told) (run
   pub spent_does : LAST_NUMBER < counter_of a.store → DoesCommand known c a told (Err Spent) a told
   spent_does late = record {
     works = works_so known told.places a a told told runs.up refl c (Err Spent)
-        (idle_faults_are_work known.pages c (view_of a.store) told late);
+        (idle_faults_are_work known.pages c (view_of a.store) told late) (λ limits state h added was is tells. tt);
     tidy = tidy_same (script_keeping told.places known) a told told false refl;
     draws = draws_few known told.places WORK_DRAWS _ a a runs.up (omega arith) (λ is. late);
     running = tt;
@@ -197,7 +198,7 @@ module _ (known : KnownPages) (c : Command) (a : ScriptStore) (told : Told) (run
         (λ h state keeps. says_it (step (limits_of a.store.units) state c) _
         (ap (λ (y : Stepped). y.1) (refusals_answer (limits_of a.store.units)
         a.store.transactions.sessions state c r (keeps.up runs.up).sessions is)))
-        (λ pages h state keeps. omega arith) tt);
+        (λ pages h state keeps. omega arith) tt) tt;
     tidy = tidy_same (script_keeping told.places known) a told told true refl;
     draws = draws_few known told.places WORK_DRAWS _ a a runs.up (omega arith)
         (λ spent. absurd (cc spent));
@@ -223,7 +224,7 @@ module _ (known : KnownPages) (a : ScriptStore) (told : Told) (runs : IsRunning 
         (memory_leads (λ state. state) same.memory same.memory told
         (λ places c it state settled fits. fits) (λ places c it state fits. refl)
         (λ p s counted. counted)))
-        (λ h state keeps. refl) (λ pages h state keeps. omega arith) tt);
+        (λ h state keeps. refl) (λ pages h state keeps. omega arith) tt) tt;
     tidy = tidy_same (script_keeping told.places known) a told told true refl;
     draws = draws_few known told.places WORK_DRAWS _ a a runs.up (omega arith)
         (λ spent. absurd (cc spent));
@@ -233,6 +234,20 @@ module _ (known : KnownPages) (a : ScriptStore) (told : Told) (runs : IsRunning 
     counts = counts_none told;
     cause = tt;
   }
+
+-- a store whose call ended with a page's fault isn't down
+pub stays_up : (T : Type 0) (e : ChipFault) (before after : Told) (new : Store)
+    → EndsFor {T = T} before (Err (store.Chip e)) new after → ¬ IsFailedCall e → new.down ≡ false
+stays_up T e before after new ends unfailed =
+    let same : e ≡ ends.0 = cc ends.1 in
+    ends.3 ∙ ap puts_down (sym same) ∙ by_fault e unfailed
+  where
+    by_fault : (f : ChipFault) → ¬ IsFailedCall f → puts_down f ≡ false
+    by_fault ReadFault other = refl
+    by_fault Stopped other = absurd (other tt)
+    by_fault (Damaged p s stored computed) other = refl
+    by_fault (Malformed p s) other = refl
+    by_fault (WornOut n) other = absurd (other tt)
 
 -- ---- a call that is let in
 
@@ -266,7 +281,7 @@ module _ (known : KnownPages) {T : Type 0} (say : T → Reply) (c : Command) (ne
       → StillRecalls (script_keeping before.places known) a before b after
       → (counts : Counts before after) → DoesCommand known c a before (Ok (say found)) b after
   done_does found did works running tidy learns recalls counts = record {
-    works = works_so known before.places a b before after runs.up units c (Ok (say found)) works;
+    works = works_so known before.places a b before after runs.up units c (Ok (say found)) works tt;
     tidy = tidy;
     draws = draws_few known before.places WORK_DRAWS _ a b runs.up (few_drawn did.drawn)
         (λ spent. absurd (cc spent));
@@ -295,7 +310,10 @@ module _ (known : KnownPages) {T : Type 0} (say : T → Reply) (c : Command) (ne
           λ low whole. chip_rose d e before after (did.complete _ keeps.steady.holds state
               (subst (λ (pages : Legibility). ShowsState before.places pages first state (held h.start h.story)) whole (keeps.up runs.up).shows)) cause,
           chip_tells before.places a.store.units d e before after are cause,
-        )));
+        )))
+        (λ limits state h added was is tells unfailed.
+        call_met known before.places a b before after limits state h added was is runs.up (stays_up T e before after b.store did.ends unfailed) units
+        refl counts.places T e did.faults tells unfailed);
     tidy = tidy;
     draws = draws_few known before.places WORK_DRAWS _ a b runs.up (few_drawn did.drawn)
         (λ spent. absurd (cc spent));

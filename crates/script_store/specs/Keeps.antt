@@ -23,6 +23,7 @@ use Rattle.store_trait.specs.Keeping.{Keeping, WORK_DRAWS, LOOK_UP_DRAWS, Draws,
 use Rattle.store_laws.specs.Keeps.{KnownPages, KeepsStore, StoreCause, FaultTells, UsedNothing, keeps_each, keeps_still, said_unused, cause_longer}
 use Rattle.ipl_store.specs.Calls.{view_of, counter_of, IsSound}
 use Rattle.script_store.specs.declared.store.ScriptStore.{ScriptStore}
+use Rattle.script_store.specs.Met.{FaultMet}
 use Rattle.script_store.specs.Recalls.{RecallsErased, erased_still}
 use Rattle.script_store.specs.Worn.{KnowsWorn, FaultWears, worn_still}
 
@@ -70,6 +71,7 @@ script_keeping places known = record {
   wears = FaultWears;
   recalls = RecallsErased;
   tells = λ limits fault. FaultTells (spares_on places limits.units) fault;
+  met = FaultMet places;
   each = λ limits s t h state keeps.
       keeps_each places known.pages limits (view_of s.store) t h state keeps.kept;
   still = script_still places known;

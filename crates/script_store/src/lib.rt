@@ -8,7 +8,9 @@
 //! script uses it are the work of their commands, as the store's trait has it: wherever the power
 //! is cut, the chip stands for the records before the command or after it; done, the store keeps
 //! the model's next state, and the reply is the model's; few numbers are drawn, and a fault has its
-//! excuse and its cause. That is so of the records of each choice of pages of which none is neither
+//! excuse and its cause. A damaged or malformed sector that ended it was met: over a chip that tells its
+//! story it is what is wrong with a page, over what the chip held before the call or holds after it
+//! (`FaultMet`). That is so of the records of each choice of pages of which none is neither
 //! known to read well nor known not to: what a call does to the others is a fault. So is looking a
 //! committed record up. A clean close aborts all sessions, and is
 //! work behind the script that says nothing: the chip stands for the same records, and done, its last two

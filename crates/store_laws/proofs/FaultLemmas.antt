@@ -65,7 +65,7 @@ pub idle_faults_are_work : IdleFaultsAreWork
 idle_faults_are_work pages c store told late limits state h keeps = record {
   leaves = nothing_leaves pages _ store h told
       (λ x image. inl (keeps_each told.places pages limits store told h state keeps x image));
-  ends = λ unrisen. keeps;
+  ends = λ unrisen. (keeps, tt);
   drawn = omega arith;
   excuse = λ few whole. absurd (omega (arith, late, few));
   tells = tt;
@@ -74,7 +74,7 @@ idle_faults_are_work pages c store told late limits state h keeps = record {
 pub idle_faults_look_up : IdleFaultsLookUp
 idle_faults_look_up pages n store told late limits state h keeps low = record {
   leaves = nothing_leaves pages _ store h told (keeps_each told.places pages limits store told h state keeps);
-  ends = λ unrisen. keeps;
+  ends = λ unrisen. (keeps, tt);
   drawn = omega arith;
   excuse = λ few whole. absurd (omega (arith, late, few));
   tells = tt;
@@ -89,7 +89,7 @@ faults_that_leave_down pages c before after fault old new units up down preserve
           (λ v k. StoryRests old.places (of pages state.map) k)
           (λ k. StoryRests old.places (of pages state.map) k) before after h state (Err fault) old new _ here way
           (λ later e split x image. inl (moments later e split x image));
-      ends = λ unrisen. record {
+      ends = λ unrisen. (record {
         limits_are = ap limits_of (sym units);
         steady = way.steady unrisen;
         rests = way.ends unrisen;
@@ -101,7 +101,7 @@ faults_that_leave_down pages c before after fault old new units up down preserve
             rests_in_units old.places (of pages state.map) k is.stands.layout (way.ends unrisen) is.stands.laid
             ∙ is.count ∙ sym units;
         up = λ runs. absurd (let clash : true ≡ false = sym down ∙ runs in cc clash);
-      };
+      }, tt);
       drawn = drawn;
       excuse = (excused h state own).0;
       tells = (excused h state own).1;

@@ -229,13 +229,13 @@ leads_are_work pages c next before after result old new units up leads steps dra
         (λ reply. KeepsStore old.places pages (limits_of before.units) after new then
         (step (limits_of before.units) state c).0
         × ((step (limits_of before.units) state c).1 ≡ reply ∷ []))
-        (λ fault. Unrisen old new → KeepsStore old.places pages (limits_of before.units) after new then state)
+        (λ fault. Unrisen old new → KeepsStore old.places pages (limits_of before.units) after new then state × Unit {0})
     by_end (Ok reply) is kept = (
       subst (λ (s : State). KeepsStore old.places pages (limits_of before.units) after new then s)
           (sym (ap (λ (x : Stepped). x.0) is)) (kept tt),
       ap (λ (x : Stepped). x.1) is,
     )
-    by_end (Err fault) is kept = kept
+    by_end (Err fault) is kept = λ unrisen. (kept unrisen, tt)
 
 pub keepers_look_up : KeepersLookUp
 keepers_look_up pages n before after result old new units up slots keeper finds drawn excused limits
@@ -290,6 +290,6 @@ keepers_look_up pages n before after result old new units up slots keeper finds 
         (state_then r (λ state. state) state))
         → MatchResult r
         (λ found. KeepsStore old.places pages (limits_of before.units) after new then state × (found ≡ get state.map n))
-        (λ fault. Unrisen old new → KeepsStore old.places pages (limits_of before.units) after new then state)
+        (λ fault. Unrisen old new → KeepsStore old.places pages (limits_of before.units) after new then state × Unit {0})
     by_end (Ok found) found_is kept = (kept tt, found_is h state own low_here)
-    by_end (Err fault) found_is kept = kept
+    by_end (Err fault) found_is kept = λ unrisen. (kept unrisen, tt)

@@ -263,8 +263,8 @@ said_unused places store h piece unused = (
 
 -- ---- the seam
 
--- Such a store over a chip of so many places, as a run knows it that is told of the records of these pages. It says nothing of worn places and of
--- what was erased, which a store knows whether or not it keeps a state.
+-- Such a store over a chip of so many places, as a run knows it that is told of the records of these pages. It says nothing of worn places, of
+-- what was erased and of pages at fault: a store's own calls do.
 abbrev pub store_keeping : ℕ → Legibility → Keeping View
 store_keeping places pages = record {
   checks = says sector_in;
@@ -282,6 +282,7 @@ store_keeping places pages = record {
   wears = λ entry fault t. Unit {0};
   recalls = λ entry store t. Unit {0};
   tells = λ limits fault. FaultTells (spares_on places limits.units) fault;
+  met = λ told h fault. Unit {0};
   each = keeps_each places pages;
   still = keeps_still places pages;
   known_still = λ entry store old new still known. tt;

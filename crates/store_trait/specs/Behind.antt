@@ -4,17 +4,17 @@ use Rattle.chip_trait.specs.Told.{History, Told, Counts, adds_all}
 use Rattle.ipl_model.specs.State.{State, Limits}
 use Rattle.store_trait.specs.declared.fault.Fault.{Fault}
 use Rattle.store_trait.specs.declared.fault.Fault.TheVariants.{Spent}
-use Rattle.store_trait.specs.Keeping.{Keeping, WORK_DRAWS, WorkLeaves, LeavesTidy, Stays, Draws, Learns, DoneRecalls, Excuses}
+use Rattle.store_trait.specs.Keeping.{Keeping, WORK_DRAWS, WorkLeaves, LeavesTidy, StaysMet, Draws, Learns, DoneRecalls, Excuses}
 
 module _ {S : Type 0} (k : Keeping S) where
   -- Of a store that keeps a state: wherever the power is cut, the chip stands for the same records. Done, the store keeps
-  -- the state; after a fault it does, unless a write failed. Few numbers are drawn, and a fault has its excuse.
+  -- the state; after a fault it does, and the fault was met, unless a write failed. Few numbers are drawn, and a fault has its excuse.
   pub record KeepsBehind (limits : Limits) (state : State) (before : S) (h : History) (result : Result (Unit {0}) Fault)
       (then : S) (old new : Told) : Type 0 where
     pub leaves : WorkLeaves k (λ x. k.stands limits x state.map) before h then old new (is_ok result)
     pub ends : MatchResult result
         (λ _. k.holds limits then new (adds_all leaves.added h) state)
-        (λ fault. Stays k limits then old new (adds_all leaves.added h) state)
+        (λ fault. StaysMet k limits then old new fault (adds_all leaves.added h) state)
     pub drawn : k.counter then ≤ k.counter before + WORK_DRAWS
     pub excuse : IfErr result (Excuses k WORK_DRAWS before old new)
     pub tells : IfErr result (k.tells limits)

@@ -50,6 +50,8 @@ pub record Keeping (S : Type 0) : Type 1 where
   pub cause : Fault → Told → Told → Type 0
   -- a store that keeps a state under these limits may fail so
   pub tells : Limits → Fault → Type 0
+  -- over a chip that tells this and holds what this history leaves, what the fault says was so at some moment of the history
+  pub met : Told → History → Fault → Type 0
   -- Over a chip that told this at an entry and tells that now, each place that the store takes no more,
   -- or that its chip lists so, is known to be worn.
   pub knows : Told → S → Told → Type 0
@@ -216,14 +218,19 @@ module _ {S : Type 0} (k : Keeping S) where
   abbrev pub Stays : Limits → S → Told → Told → History → State → Type 0
   Stays limits store old new h state = Unrisen old new → k.holds limits store new h state
 
+  -- and the fault was met
+  abbrev pub StaysMet : Limits → S → Told → Told → Fault → History → State → Type 0
+  StaysMet limits store old new fault h state =
+      Unrisen old new → k.holds limits store new h state × k.met new h fault
+
   -- as long as n numbers are left below 2^63, and all records are known, a call of the chip failed, and the fault says so
   abbrev pub Excuses : ℕ → S → Told → Told → Fault → Type 0
   Excuses n before old new fault =
       k.counter before + n < 2 ^ 63 → k.whole → ChipRose old new × SaysFailedCall fault
 
   -- The work for one command: wherever the power is cut, the chip stands for the records before the command or after it.
-  -- Done, the store keeps the model's next state, and the reply is the model's. After a fault it keeps the state, unless a
-  -- write failed. Few numbers are drawn, and a fault has its excuse.
+  -- Done, the store keeps the model's next state, and the reply is the model's. After a fault it keeps the state, and the
+  -- fault was met, unless a write failed. Few numbers are drawn, and a fault has its excuse.
   pub record WorksFor (limits : Limits) (state : State) (c : Command) (before : S) (h : History)
       (result : Result Reply Fault) (then : S) (old new : Told) : Type 0 where
     pub leaves : WorkLeaves
@@ -232,7 +239,7 @@ module _ {S : Type 0} (k : Keeping S) where
     pub ends : MatchResult result
         (λ reply. k.holds limits then new (adds_all leaves.added h) (step limits state c).0
         × ((step limits state c).1 ≡ reply ∷ []))
-        (λ fault. Stays limits then old new (adds_all leaves.added h) state)
+        (λ fault. StaysMet limits then old new fault (adds_all leaves.added h) state)
     pub drawn : k.counter then ≤ k.counter before + WORK_DRAWS
     pub excuse : IfErr result (Excuses WORK_DRAWS before old new)
     pub tells : IfErr result (k.tells limits)
@@ -247,7 +254,7 @@ module _ {S : Type 0} (k : Keeping S) where
     pub leaves : WorkLeaves (λ x. k.stands limits x state.map) before h then old new (is_ok result)
     pub ends : MatchResult result
         (λ found. k.holds limits then new (adds_all leaves.added h) state × (found ≡ get state.map n))
-        (λ fault. Stays limits then old new (adds_all leaves.added h) state)
+        (λ fault. StaysMet limits then old new fault (adds_all leaves.added h) state)
     pub drawn : k.counter then ≤ k.counter before + LOOK_UP_DRAWS
     pub excuse : IfErr result (Excuses LOOK_UP_DRAWS before old new)
     pub tells : IfErr result (k.tells limits)

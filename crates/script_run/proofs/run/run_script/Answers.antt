@@ -2,8 +2,7 @@ use Rattle.std.proofs.Common.{◌≡◌, ℕ, List, true, false, is_ok, refl, sy
 use Rattle.std.proofs.lemmas.List.{length-take}
 use Rattle.std.proofs.lemmas.Result.{err_from_is_err_and, on_ok_weaker}
 use Rattle.ipl_model.specs.Grammar.{line_of, commands_in}
-use Rattle.store_trait.specs.Keeping.{Stays}
-use Rattle.script_run.specs.Goes.{Answers}
+use Rattle.script_run.specs.Goes.{Answers, StaysAt}
 use Rattle.store_trait.proofs.TidyLemmas.{tidy_same, tidy_part, tidy_then}
 use Rattle.store_trait.proofs.OnwardLemmas.{further_none, further_then}
 use Rattle.script_run.proofs.ReadLemmas.{grew_none, grew_then, read_none, read_then, too_many, all_answered}
@@ -57,7 +56,7 @@ loop-total-preserved g c =
 
 pub returns-clause-run : goal.returns-clause-run
 returns-clause-run g c = λ known limits state h holds source left.
-    stops_weaker (g.S.Store.keeping g.places known) limits state _ source c.args.store.now c.loop-total.store h _ _ _ _ _ (λ a s kept quiet. kept)
+    stops_weaker (g.S.Store.keeping g.places known) limits state _ source c.args.store.now c.loop-total.store h _ _ _ _ _ (λ a s kept quiet. (kept, tt))
     (running_stopped (g.S.Store.keeping g.places known) limits state source c.args.store.now c.loop-total.store h c.loop-total.line (g.D.Chip.told c.args.desk.now) (g.D.Chip.told c.loop-total.desk) (c.loop-total.invariant.running known limits state h holds source left))
 
 pub returns-in_err-count-clause-run : goal.returns-in_err-count-clause-run
@@ -66,10 +65,10 @@ returns-in_err-count-clause-run g c = λ known limits state h holds source left.
     let at = g.D.Chip.told in
     let t = c.take_next in
     let stop = err_from_is_err_and c.from_residual.result c.from_residual.ensures.1 in
-    rw stop.1 (rw stop.2 (running_failed k limits state source c.args.store.now c.loop-total.store t.new.store h (Stays k limits t.new.store (at c.args.desk.now) (at t.new.desk)) c.loop-total.line (at c.args.desk.now) (at c.loop-total.desk) (at t.new.desk) _
+    rw stop.1 (rw stop.2 (running_failed k limits state source c.args.store.now c.loop-total.store t.new.store h (StaysAt k limits t.new.store (at c.args.desk.now) (at t.new.desk) _) c.loop-total.line (at c.args.desk.now) (at c.loop-total.desk) (at t.new.desk) _
     (c.loop-total.invariant.running known limits state h holds source left)
     (λ s g' now rest more. stops_weaker k limits s _ rest c.loop-total.store t.new.store g' _ _ (at c.loop-total.desk) (at t.new.desk) _
-    (λ a n. stays_later k limits t.new.store (at c.args.desk.now) (at c.loop-total.desk) (at t.new.desk) a n c.loop-total.invariant.further.writes) (c.in_err-count.ensures.takes known limits s g' now rest more))))
+    (λ a n. stays_later k limits t.new.store (at c.args.desk.now) (at c.loop-total.desk) (at t.new.desk) _ a n c.loop-total.invariant.further.writes) (c.in_err-count.ensures.takes known limits s g' now rest more))))
 
 pub returns-in_err-count-clause-ends : goal.returns-in_err-count-clause-ends
 returns-in_err-count-clause-ends g c = λ known.

@@ -1,7 +1,7 @@
 use Rattle.std.proofs.Common.{arith, take, refl}
 use Rattle.std.proofs.lemmas.List.{length-take}
 use Rattle.std.proofs.lemmas.Result.{err_from_is_err_and}
-use Rattle.store_trait.specs.Keeping.{Stays}
+use Rattle.script_run.specs.Goes.{StaysAt}
 use Rattle.store_trait.proofs.OnwardLemmas.{still_beside}
 use Rattle.script_run.proofs.GoesLemmas.{holds_beside, took, stopped, stopped_at_once, stays_later}
 use Rattle.script_run.proofs.RunLemmas.{run_weaker}
@@ -21,9 +21,9 @@ returns-in_err-take_piece-in-Ok-clause-takes g c = λ known limits state h holds
     let mid = at c.read_script.new.self in
     let new = at t.new.desk in
     let stop = err_from_is_err_and c.from_residual.result c.from_residual.ensures.1 in
-    rw stop.1 (rw stop.2 (stopped k limits state c.args.line.now source (take c.in-Ok.count c.read_script.new.buf) c.read_script.new.buf c.in-Ok.count (Stays k limits t.new.store old new) old mid new c.args.store.now t.new.store h _
+    rw stop.1 (rw stop.2 (stopped k limits state c.args.line.now source (take c.in-Ok.count c.read_script.new.buf) c.read_script.new.buf c.in-Ok.count (StaysAt k limits t.new.store old new _) old mid new c.args.store.now t.new.store h _
     r.chip r.bytes.0 (t.ensures known).along.beside left (r.bytes.2 source left) refl
-    (λ tail. run_weaker k limits state _ c.args.store.now t.new.store h _ _ mid new _ (λ a s. stays_later k limits t.new.store old mid new a s r.chip.writes)
+    (λ tail. run_weaker k limits state _ c.args.store.now t.new.store h _ _ mid new _ (λ a s. stays_later k limits t.new.store old mid new _ a s r.chip.writes)
     ((c.in_err-take_piece-in-Ok.ensures known).takes limits state h (holds_beside k limits c.args.store.now old mid h state r.chip holds) tail))))
 
 pub returns-in_ok-take_piece-in-Ok-clause-takes : goal.returns-in_ok-take_piece-in-Ok-clause-takes
@@ -44,7 +44,7 @@ returns-in-Err-clause-takes g c = λ known limits state h holds source left.
     let old = g.D.Chip.told c.args.desk.now in
     let new = g.D.Chip.told c.read_script.new.self in
     let r = c.in-Err.ensures in
-    stopped_at_once k limits state c.args.line.now source _ old new c.args.store.now h holds (λ quiet. holds_beside k limits c.args.store.now old new h state r.chip holds) r.chip r.bytes left
+    stopped_at_once k limits state c.args.line.now source _ old new c.args.store.now h holds (λ quiet. (holds_beside k limits c.args.store.now old new h state r.chip holds, tt)) r.chip r.bytes left
 
 pub returns-in_err-take_piece-in-Ok-clause-along : goal.returns-in_err-take_piece-in-Ok-clause-along
 returns-in_err-take_piece-in-Ok-clause-along g c = λ known.

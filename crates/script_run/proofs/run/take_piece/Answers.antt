@@ -1,9 +1,8 @@
 use Rattle.std.proofs.Common.{ℕ, [], ◌∷◌, ◌++◌, ◌+◌, List, take, sym, ◌∙◌, ap, subst, arith}
 use Rattle.std.proofs.lemmas.List.{take_more}
 use Rattle.std.proofs.lemmas.Result.{err_from_is_err_and}
-use Rattle.store_trait.specs.Keeping.{Stays}
 use Rattle.store_trait.proofs.OnwardLemmas.{further_onward}
-use Rattle.script_run.specs.Goes.{Goes}
+use Rattle.script_run.specs.Goes.{Goes, StaysAt}
 use Rattle.script_run.proofs.FeedLemmas.{feed_at}
 use Rattle.script_run.proofs.AlongLemmas.{along_none, along_more, along_then, along_stop}
 use Rattle.script_run.proofs.GoesLemmas.{goes_none, goes_then, goes_before, goes_behind, stops_in_piece, stays_later}
@@ -53,12 +52,12 @@ returns-in_err-end_line g c = λ known.
           let t = c.end_line in
           let place = c.loop-count.at + c.in-Some.count in
           let stop = err_from_is_err_and c.from_residual.result c.from_residual.ensures.1 in
-          rw stop.1 (rw stop.2 (stops_in_piece k limits state c.args.line.now c.args.piece.now place c.args.store.now c.loop-count.store t.new.store h (Stays k limits t.new.store (told_of c.args.desk.now) (told_of t.new.desk))
+          rw stop.1 (rw stop.2 (stops_in_piece k limits state c.args.line.now c.args.piece.now place c.args.store.now c.loop-count.store t.new.store h (StaysAt k limits t.new.store (told_of c.args.desk.now) (told_of t.new.desk) _)
           c.extend.new.self (told_of c.args.desk.now) (told_of c.loop-count.desk) (told_of t.new.desk) _ there.0
           (goes_before k limits state c.args.line.now c.args.piece.now c.loop-count.at c.in-Some.count c.args.store.now c.loop-count.store h c.loop-count.line c.extend.new.self (told_of c.args.desk.now) (told_of c.loop-count.desk)
           c.in-Some.ensures c.extend.ensures (c.loop-count.invariant.goes known limits state h holds))
           (λ s g' now tail. rw there.1 (run_weaker k limits s _ c.loop-count.store t.new.store g' _ _ (told_of c.loop-count.desk) (told_of t.new.desk) _
-          (λ a n. stays_later k limits t.new.store (told_of c.args.desk.now) (told_of c.loop-count.desk) (told_of t.new.desk) a n (c.loop-count.invariant.along known).beside.writes) ((c.in_err-end_line.ensures known).takes limits s g' now tail)))));
+          (λ a n. stays_later k limits t.new.store (told_of c.args.desk.now) (told_of c.loop-count.desk) (told_of t.new.desk) _ a n (c.loop-count.invariant.along known).beside.writes) ((c.in_err-end_line.ensures known).takes limits s g' now tail)))));
       along = along_more (along_then (c.loop-count.invariant.along known) (along_stop c.from_residual.result c.from_residual.ensures.1 (c.in_err-end_line.ensures known).along)) (omega (arith, there.0));
       completes = λ limits keeps.
           completes_more (completes_then (c.loop-count.invariant.completes known limits keeps) (further_onward _ _ (c.loop-count.invariant.along known).beside)
