@@ -1,5 +1,6 @@
 mod AgeLemmas
 pub mod ChainLemmas
+mod CleanLemmas
 mod CloseLemmas
 mod CountLemmas
 mod UnusedLemmas

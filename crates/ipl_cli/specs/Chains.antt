@@ -81,6 +81,10 @@ pub record IsLawfullyFormattable (script : List ℕ) (t : Told) : Type 0 where
   pub told : t.history ≡ Some on.history
   pub lawful : IsLawful on.history.story
 
+-- the chip tells its history
+abbrev pub TellsHistory : Told → Type 0
+TellsHistory t = (h : History) × (t.history ≡ Some h)
+
 -- what was added is lawful after lawful events that leave clean what was marked behind this history
 pub record AddsLawfully (places : ℕ) (h : History) (old new : Told) : Type 0 where
   pub added : Story

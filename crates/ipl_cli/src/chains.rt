@@ -2,7 +2,8 @@
 //! for every desk. Only where no write failed, and both ended with 0. A chip has as many units as it says,
 //! and after a format all but the spare ones. From a format on the story that a chip tells stays lawful over all runs,
 //! also where the chip was closed and what a mark says to be clean was programmed after it was opened again. From
-//! any start at rest it is lawful over a run that closes its chip and the next one, after what left the marks clean.
+//! any start at rest it is lawful over runs one after another, to whatever ends and whether they close the chip or
+//! don't, after what left the marks clean.
 ghost use Rattle.std.specs.Prelude.{◌≡◌, true, map, ℕ, List, [], Some};
 ghost use Rattle.std.specs.String.{string_bytes};
 ghost use Rattle.chip_trait.specs.Told.{Unrisen};
@@ -11,8 +12,9 @@ ghost use Rattle.command_line.specs.Choice.{requested};
 ghost use Rattle.command_line.specs.declared.asked.Request.TheVariants.{Format, Trial};
 ghost use Rattle.ipl_meaning.specs.Legible.{Legible, of, whole};
 ghost use Rattle.ipl_cli.specs.Ending.{AsksOpened, AsksFormatted, units_beside};
+ghost use Rattle.ipl_cli.specs.Frames.{AddsCleanly};
 ghost use Rattle.ipl_cli.specs.Top.{records_after};
-ghost use Rattle.ipl_cli.specs.Chains.{RestsOn, RestsLawfully, IsFormattable, IsLawfullyFormattable, ViewKeepsRecords, AddsLawfully, AsksClosed, no_records, records_tried, units_kept};
+ghost use Rattle.ipl_cli.specs.Chains.{RestsOn, RestsLawfully, TellsHistory, IsFormattable, IsLawfullyFormattable, ViewKeepsRecords, AddsLawfully, AsksClosed, no_records, records_tried, units_kept};
 
 use crate::top::top;
 use chip_trait::Desk;
@@ -56,6 +58,21 @@ pub fn close_and_run<D: Desk>(
     }
     top(alloc, second, desk);
     true
+}
+
+/// Runs the script over a chip that is opened, to whatever end, and then what is left of it, with other words. From any start
+/// that rests on records, and where no write failed, what both runs add to the told history is lawful after lawful events
+/// that leave clean what was marked at the start; and behind all of them what is marked then is clean. So any number of
+/// runs is lawful, one after another.
+pub fn run_and_run<D: Desk>(alloc: Global, first: &[String], second: &[String], desk: &mut D)
+    requires first { AsksOpened (requested (map string_bytes first.now)) }
+    requires second { AsksOpened (requested (map string_bytes second.now)) }
+    ensures { (m : Legible) (script : List ℕ) (on : RestsOn m script (D.told desk.old)) → TellsHistory (D.told desk.old)
+        → Unrisen (D.told desk.old) (D.told desk.new)
+        → AddsCleanly (D.told desk.old).places on.history (D.told desk.old) (D.told desk.new) }
+{
+    top(alloc, first, desk);
+    top(alloc, second, desk);
 }
 
 /// Formats the chip, with any number of places to spare, and then opens it and runs the script.

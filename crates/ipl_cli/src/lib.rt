@@ -15,7 +15,8 @@
 //! of each history that leaves what the chip holds and rests on records, by events that a told story
 //! grows by: each moment of a cut; what is said, line by line, and all of it at 0; lawful events;
 //! where no write failed, the chip holds at the end what the history then leaves, which rests on the
-//! records of exactly the commands that are done, so that the next run may begin there. A format that
+//! records of exactly the commands that are done, so that the next run may begin there; and a sector at
+//! fault that ended it was met, at some moment of the history, where the chip tells its story. A format that
 //! was stopped wrote a part of its events, or erased exactly the places below one that is worn, and
 //! nothing is said.
 //!
@@ -59,9 +60,9 @@
 //! Proved, by the laws of `chains`, from the clauses of `top` alone: what these come to for runs one
 //! after another over the same desk, whatever desk it is. A run after a run that ended with 0 begins
 //! with the records that the first one left, and a run after a format with none. From a format on the
-//! story that the desk tells is lawful over all of them; from any start that rests on records, what a
-//! run that closes its chip and the next one add is lawful, after lawful events that leave clean what
-//! was marked at the start. The commands of the serial view of a script
+//! story that the desk tells is lawful over all of them; from any start that rests on records, what
+//! runs add one after another, to whatever ends, is lawful, after lawful events that leave clean what was
+//! marked at the start; and behind them what is marked then is clean. The commands of the serial view of a script
 //! leave the records that the script leaves.
 #![tactic(auto)]
 
