@@ -1,5 +1,5 @@
 -- Each operation on names is one on keys.
-use Rattle.std.proofs.Common.{◌≡◌, ◌≢◌, ◌⊎◌, ℕ, true, false, List, [], ◌∷◌, Option, Some, None, is_some, refl, sym, ◌∙◌, ap, subst, inl, inr, arith}
+use Rattle.std.proofs.Common.{◌≡◌, ◌≢◌, ◌⊎◌, ℕ, Bool, true, false, List, [], ◌∷◌, Option, Some, None, is_some, refl, sym, ◌∙◌, ap, subst, inl, inr, arith}
 use Rattle.std.specs.Ordering.{nat_cmp, eq_by_cmp}
 use Rattle.std.specs.Option.{option_map_or}
 use Rattle.std.specs.Cmp.{nat_cmp_total}
@@ -7,7 +7,7 @@ use Rattle.std.specs.FinMap.{FinMap, get, insert, remove, get-empty, get-insert,
 use Rattle.std.proofs.lemmas.Bool.{both_ways, cases_eq, cond-true, cond-false, eq-eqb, ne_eqb}
 use Rattle.std.proofs.lemmas.Bool.Decides.{nat_tests}
 use Rattle.ipl_model.specs.State.{Map, Session, State, Write, at_rest, is_open_session, writes_of, last_write, see}
-use Rattle.ipl_model.specs.Operations.{new_session, after_begin, after_write, after_commit, after_abort}
+use Rattle.ipl_model.specs.Operations.{new_session, after_begin, after_write, after_commit, after_batch, after_abort}
 use Rattle.ipl_model.proofs.SeenLemmas.{get-with_writes}
 use Rattle.store_laws.specs.Pending.{wrote}
 use Rattle.store_laws.specs.PendingLaws.{StateHasOneWriter}
@@ -16,10 +16,10 @@ use Rattle.ipl_keys.specs.BucketPairs.{Pairs, value_at}
 use Rattle.ipl_keys.specs.BucketHome.{bucket_of}
 use Rattle.ipl_keys.proofs.BucketReadLemmas.{bytes_total, same_key}
 use Rattle.ipl_keys.proofs.BucketLawLemmas.{buckets_spell_once}
-use Rattle.ipl_keys.specs.KeyState.{KeyWrite, KeyState, keys_at_rest, key_writes_of, see_key, after_key_begin, after_key_write, after_key_commit, after_key_abort}
+use Rattle.ipl_keys.specs.KeyState.{KeyWrite, KeyState, keys_at_rest, key_writes_of, see_key, after_key_begin, after_key_write, after_key_commit, after_key_batch, after_key_abort}
 use Rattle.ipl_keys.specs.Records.{bytes_of, IsBucketOf, HoldsPairs, HasKeys}
 use Rattle.ipl_keys.specs.Sessions.{writes_on, pairs_after, pairs_with, pairs_seen, written, FollowsWrites, HasKeyState}
-use Rattle.ipl_keys.specs.Laws.{KeysAreOne, pairs_of, SessionsSeeKeys, RestingStatesHaveKeys, BeginsKeepKeys, WritesKeepKeys, CommitsKeepKeys, AbortsKeepKeys}
+use Rattle.ipl_keys.specs.Laws.{KeysAreOne, pairs_of, SessionsSeeKeys, RestingStatesHaveKeys, BeginsKeepKeys, WritesKeepKeys, CommitsKeepKeys, BatchesKeepKeys, AbortsKeepKeys}
 use Rattle.ipl_keys.proofs.WriteLemmas.{written_values, get-with_key_writes, written_bytes, writes_on_here, writes_on_other}
 
 -- ---- maps of sessions
@@ -195,6 +195,27 @@ module _ (units : ℕ) (state : State) (k : KeyState) (s : ℕ) (one : StateHasO
 
 pub commits_keep_keys : CommitsKeepKeys
 commits_keep_keys units state k s one has = commit_keeps units state k s one has
+
+-- what a session wrote behind a commit, it wrote before
+wrote_before : (state : State) (s t n : ℕ) → wrote (after_commit state s) t n ≡ true → wrote state t n ≡ true
+wrote_before state s t n wrote_it = by_session (cases_eq t s)
+  where
+    writes_then : Option Session → Bool
+    writes_then o = is_some (last_write (option_map_or (λ session. session.writes) o []) n)
+
+    by_session : (t ≡ s) ⊎ (t ≢ s) → wrote state t n ≡ true
+    by_session (inl here) =
+        absurd (let none : writes_then None ≡ true = subst (λ (o : Option Session). writes_then o ≡ true)
+        (gone_here state.sessions s t here) wrote_it in cc none)
+    by_session (inr apart) =
+        subst (λ (o : Option Session). writes_then o ≡ true) (gone_other state.sessions s t apart) wrote_it
+
+pub batches_keep_keys : BatchesKeepKeys
+batches_keep_keys units state k [] one has = has
+batches_keep_keys units state k (s ∷ ss) one has =
+    batches_keep_keys units (after_commit state s) (after_key_commit k s) ss
+    (λ t u n mine other. one t u n (wrote_before state s t n mine) (wrote_before state s u n other))
+    (commits_keep_keys units state k s one has)
 
 -- ---- a write
 

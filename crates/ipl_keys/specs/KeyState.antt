@@ -63,5 +63,10 @@ abbrev pub after_key_commit : KeyState → ℕ → KeyState
 after_key_commit k s =
     record { map = with_key_writes (key_writes_of k s) k.map; sessions = remove k.sessions s }
 
+-- so it is of each of these sessions, one after the other
+abbrev pub after_key_batch : KeyState → List ℕ → KeyState
+after_key_batch k [] = k
+after_key_batch k (s ∷ ss) = after_key_batch (after_key_commit k s) ss
+
 abbrev pub after_key_abort : KeyState → ℕ → KeyState
 after_key_abort k s = record k { sessions = remove k.sessions s }

@@ -1,11 +1,11 @@
 -- Laws of keys: what sessions see, and that each operation on names is one on keys.
 use Rattle.std.specs.Prelude.{ℕ, ◌≡◌, true, List}
 use Rattle.ipl_model.specs.State.{Map, State, at_rest, is_open_session, see}
-use Rattle.ipl_model.specs.Operations.{after_begin, after_write, after_commit, after_abort}
+use Rattle.ipl_model.specs.Operations.{after_begin, after_write, after_commit, after_batch, after_abort}
 use Rattle.store_laws.specs.PendingLaws.{StateHasOneWriter}
 use Rattle.ipl_keys.specs.BucketPairs.{Pairs, value_at}
 use Rattle.ipl_keys.specs.BucketHome.{bucket_of}
-use Rattle.ipl_keys.specs.KeyState.{KeyMap, KeyWrite, KeyState, keys_at_rest, key_writes_of, see_key, after_key_begin, after_key_write, after_key_commit, after_key_abort}
+use Rattle.ipl_keys.specs.KeyState.{KeyMap, KeyWrite, KeyState, keys_at_rest, key_writes_of, see_key, after_key_begin, after_key_write, after_key_commit, after_key_batch, after_key_abort}
 use Rattle.ipl_keys.specs.Records.{IsBucketOf, HoldsPairs, HasKeys}
 use Rattle.ipl_keys.specs.Sessions.{pairs_after, pairs_seen, written, HasKeyState}
 
@@ -49,7 +49,12 @@ abbrev pub CommitsKeepKeys : Type 0
 CommitsKeepKeys = (units : ℕ) (state : State) (k : KeyState) (s : ℕ) → StateHasOneWriter state
     → HasKeyState units state k → HasKeyState units (after_commit state s) (after_key_commit k s)
 
--- or aborted
+-- several are, together
+abbrev pub BatchesKeepKeys : Type 0
+BatchesKeepKeys = (units : ℕ) (state : State) (k : KeyState) (ss : List ℕ) → StateHasOneWriter state
+    → HasKeyState units state k → HasKeyState units (after_batch state ss) (after_key_batch k ss)
+
+-- or one is aborted
 abbrev pub AbortsKeepKeys : Type 0
 AbortsKeepKeys = (units : ℕ) (state : State) (k : KeyState) (s : ℕ) → HasKeyState units state k
     → HasKeyState units (after_abort state s) (after_key_abort k s)

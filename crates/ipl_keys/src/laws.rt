@@ -6,6 +6,7 @@ ghost use Rattle.ipl_keys.specs.Laws.{
   BeginsKeepKeys,
   WritesKeepKeys,
   CommitsKeepKeys,
+  BatchesKeepKeys,
   AbortsKeepKeys,
 };
 ghost use Rattle.ipl_keys.specs.Keeps.{KeptKeysLast};
@@ -21,6 +22,7 @@ pub fn key_laws()
     ensures begins { BeginsKeepKeys }
     ensures writes { WritesKeepKeys }
     ensures commits { CommitsKeepKeys }
+    ensures batches { BatchesKeepKeys }
     ensures aborts { AbortsKeepKeys }
 
     // over a chip

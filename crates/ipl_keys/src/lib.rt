@@ -16,7 +16,8 @@
 //! bucket, the bucket is full, or the store refuses the write of the changed bytes; it never refuses
 //! them for their name or their length. Else a call answers and changes the key state as a map with
 //! lists of writes does, or leaves it where it fails, and no record is found to be no bucket; at each
-//! moment a power cut leaves the keys before, or in a commit those after it. A close is refused
+//! moment a power cut leaves the keys before, or in a commit those after it, of one session or of several
+//! together. A merge of a unit leaves all keys as they are. A close is refused
 //! exactly where the store is down, its numbers are used up or a session is open; else it keeps the
 //! keys, and once it is done the store is down. All this is said of the keys in records of pages that
 //! read well, also where others are known not to. By `key_laws`, without a chip: records have one map
@@ -35,6 +36,7 @@ mod closing;
 mod fault;
 mod keys;
 mod laws;
+mod merging;
 mod opening;
 mod reading;
 mod sessions;

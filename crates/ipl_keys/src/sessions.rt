@@ -1,11 +1,12 @@
 //! Sessions begin, and end.
-ghost use Rattle.std.specs.Prelude.{◌^◌};
-ghost use Rattle.ipl_model.specs.Operations.{after_begin, after_commit, after_abort};
-ghost use Rattle.ipl_model.specs.Refusals.{refuses_begin, refuses_end};
+ghost use Rattle.std.specs.Prelude.{◌^◌, ◌≤◌, length};
+ghost use Rattle.ipl_base.specs.declared.limits.TheConstants.{SESSIONS};
+ghost use Rattle.ipl_model.specs.Operations.{after_begin, after_commit, after_batch, after_abort};
+ghost use Rattle.ipl_model.specs.Refusals.{refuses_begin, refuses_batch, refuses_end};
 ghost use Rattle.record_locks.specs.Standing.{state_of};
 ghost use Rattle.store_laws.specs.Keeps.{limits_of};
 ghost use Rattle.ipl_store.specs.Calls.{Calls, IsSound, down_fault, early_fault, entry_fault};
-ghost use Rattle.ipl_keys.specs.KeyState.{after_key_begin, after_key_commit, after_key_abort};
+ghost use Rattle.ipl_keys.specs.KeyState.{after_key_begin, after_key_commit, after_key_batch, after_key_abort};
 ghost use Rattle.ipl_keys.specs.Calls.{HandsOn, AnswersNothing, ServesKeys};
 
 use crate::changing::handed;
@@ -39,6 +40,22 @@ impl Keys {
             self.old.store (C.told chip.old) result self.new.store (C.told chip.new) }
     {
         handed(self.store.commit(chip, s))
+    }
+
+    /// Commits several sessions (2 to 32, each named once) together: once it answers, all their writes
+    /// last, and all are closed. A power cut before leaves the writes of all of them or of none.
+    pub fn commit_all<C: Chip>(&mut self, chip: &mut C, sessions: &[u32]) -> Result<(), KeyFault>
+        requires sound { IsSound (C.told chip.old).places self.old.store }
+        requires few { length sessions.now ≤ SESSIONS }
+        ensures calls { HandsOn (λ answer. Calls (early_fault (entry_fault self.old.store)
+            (refuses_batch (limits_of self.old.store.units)
+            (state_of self.old.store.transactions.sessions) sessions.now))
+            (λ state. after_batch state sessions.now) (2 ^ 15)
+            self.old.store (C.told chip.old) answer self.new.store (C.told chip.new)) result }
+        ensures serves { ServesKeys (λ k. after_key_batch k sessions.now) AnswersNothing
+            self.old.store (C.told chip.old) result self.new.store (C.told chip.new) }
+    {
+        handed(self.store.commit_all(chip, sessions))
     }
 
     /// Aborts a session: its writes are dropped, and it is closed. The chip isn't asked.
