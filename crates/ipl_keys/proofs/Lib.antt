@@ -14,3 +14,4 @@ pub mod ReadLemmas
 pub mod ChangeLemmas
 pub mod OpenLemmas
 pub mod CloseLemmas
+pub mod SharingLemmas

@@ -1,5 +1,5 @@
 -- Each operation on names is one on keys.
-use Rattle.std.proofs.Common.{◌≡◌, ◌≢◌, ◌⊎◌, ℕ, Bool, true, false, List, [], ◌∷◌, Option, Some, None, is_some, refl, sym, ◌∙◌, ap, subst, inl, inr, arith}
+use Rattle.std.proofs.Common.{◌≡◌, ◌≢◌, ◌⊎◌, ℕ, Bool, true, false, List, [], ◌∷◌, Option, Some, None, is_some, cond, refl, sym, ◌∙◌, ap, subst, inl, inr, arith}
 use Rattle.std.specs.Ordering.{nat_cmp, eq_by_cmp}
 use Rattle.std.specs.Option.{option_map_or}
 use Rattle.std.specs.Cmp.{nat_cmp_total}
@@ -7,7 +7,8 @@ use Rattle.std.specs.FinMap.{FinMap, get, insert, remove, get-empty, get-insert,
 use Rattle.std.proofs.lemmas.Bool.{both_ways, cases_eq, cond-true, cond-false, eq-eqb, ne_eqb}
 use Rattle.std.proofs.lemmas.Bool.Decides.{nat_tests}
 use Rattle.ipl_model.specs.State.{Map, Session, State, Write, at_rest, is_open_session, writes_of, last_write, see}
-use Rattle.ipl_model.specs.Operations.{new_session, after_begin, after_write, after_commit, after_batch, after_abort}
+use Rattle.ipl_model.specs.Operations.{new_session, after_begin, after_share, after_write, after_commit, after_abort}
+use Rattle.ipl_model.specs.Refusals.{is_new_share}
 use Rattle.ipl_model.proofs.SeenLemmas.{get-with_writes}
 use Rattle.store_laws.specs.Pending.{wrote}
 use Rattle.store_laws.specs.PendingLaws.{StateHasOneWriter}
@@ -16,7 +17,7 @@ use Rattle.ipl_keys.specs.BucketPairs.{Pairs, value_at}
 use Rattle.ipl_keys.specs.BucketHome.{bucket_of}
 use Rattle.ipl_keys.proofs.BucketReadLemmas.{bytes_total, same_key}
 use Rattle.ipl_keys.proofs.BucketLawLemmas.{buckets_spell_once}
-use Rattle.ipl_keys.specs.KeyState.{KeyWrite, KeyState, keys_at_rest, key_writes_of, see_key, after_key_begin, after_key_write, after_key_commit, after_key_batch, after_key_abort}
+use Rattle.ipl_keys.specs.KeyState.{KeyWrite, KeyState, keys_at_rest, key_writes_of, see_key, after_key_begin, after_key_write, after_key_commit, after_key_abort}
 use Rattle.ipl_keys.specs.Records.{bytes_of, IsBucketOf, HoldsPairs, HasKeys}
 use Rattle.ipl_keys.specs.Sessions.{writes_on, pairs_after, pairs_with, pairs_seen, written, FollowsWrites, HasKeyState}
 use Rattle.ipl_keys.specs.Laws.{KeysAreOne, pairs_of, SessionsSeeKeys, RestingStatesHaveKeys, BeginsKeepKeys, WritesKeepKeys, CommitsKeepKeys, BatchesKeepKeys, AbortsKeepKeys}
@@ -144,6 +145,37 @@ aborts_keep_keys units state k s has =
     by_session t (inr apart) = session_as units has.keys.pairs (get k.sessions t) _ (get state.sessions t) _
         (gone_other k.sessions s t apart) (gone_other state.sessions s t apart)
         (session_at units state k has t)
+
+-- a name is shared: nothing that is written changes
+pub shares_keep_keys : (units : ℕ) (state : State) (k : KeyState) (s n : ℕ) → HasKeyState units state k
+    → HasKeyState units (after_share state s n) k
+shares_keep_keys units state k s n has = by_test (is_new_share state s n) (get state.sessions s) refl
+  where
+    shared : Session → Session
+    shared session = record session { shared = n ∷ session.shared }
+
+    with : Session → State
+    with session = record state { sessions = insert state.sessions s (shared session) }
+
+    as_it_was : (session : Session) (o : Option (List KeyWrite)) → IsSession units has.keys.pairs o (Some session)
+        → IsSession units has.keys.pairs o (Some (shared session))
+    as_it_was session o is = record { opens = is.opens; follows = is.follows }
+
+    by_session : (session : Session) → get state.sessions s ≡ Some session → (t : ℕ) → (t ≡ s) ⊎ (t ≢ s)
+        → IsSession units has.keys.pairs (get k.sessions t) (get (insert state.sessions s (shared session)) t)
+    by_session session is t (inl here) = session_as units has.keys.pairs (get k.sessions t) _ (Some (shared session)) _
+        refl (put_here state.sessions s t (shared session) here)
+        (as_it_was session (get k.sessions t) (subst (IsSession units has.keys.pairs (get k.sessions t))
+        (ap (get state.sessions) here ∙ is) (session_at units state k has t)))
+    by_session session is t (inr apart) = session_as units has.keys.pairs (get k.sessions t) _ (get state.sessions t) _
+        refl (put_other state.sessions s t (shared session) apart) (session_at units state k has t)
+
+    by_test : (new : Bool) (o : Option Session) → get state.sessions s ≡ o
+        → HasKeyState units (cond new (option_map_or with o state) state) k
+    by_test false o is = has
+    by_test true None is = has
+    by_test true (Some session) is =
+        state_from units (with session) k has.keys (λ t. by_session session is t (cases_eq t s))
 
 -- ---- a commit
 

@@ -17,7 +17,8 @@
 //! them for their name or their length. Else a call answers and changes the key state as a map with
 //! lists of writes does, or leaves it where it fails, and no record is found to be no bucket; at each
 //! moment a power cut leaves the keys before, or in a commit those after it, of one session or of several
-//! together. A merge of a unit leaves all keys as they are. A close is refused
+//! together. A merge of a unit leaves all keys as they are, and so does a share, by which no other session
+//! may write a key of the same bucket. A close is refused
 //! exactly where the store is down, its numbers are used up or a session is open; else it keeps the
 //! keys, and once it is done the store is down. All this is said of the keys in records of pages that
 //! read well, also where others are known not to. By `key_laws`, without a chip: records have one map
@@ -40,6 +41,7 @@ mod merging;
 mod opening;
 mod reading;
 mod sessions;
+mod sharing;
 
 pub use bucket_laws::{home_laws, map_laws, pair_laws, spelling_laws};
 pub use fault::KeyFault;
