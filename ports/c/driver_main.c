@@ -1,4 +1,4 @@
-/* The tries of driver_test.h as a program, over the driver that it is linked with. IT DESTROYS ALL THAT
+/* The tries of driver_test.h as a program, over the driver that ipl_driver_to_try answers. IT DESTROYS ALL THAT
  * THE PART HOLDS. It ends with 0 where all laws hold.
  * usage: PROGRAM test PLACES [SEED [PART]]
  *        PROGRAM cut PLACES SEED PART [NOTED]: after a test that ended well. Cut the power of the part
@@ -23,7 +23,7 @@ static void print_place(const struct ipl_driver_result *r) {
             printf(": it is as place %" PRIu32 ", sector %" PRIu32 " was programmed", r->found_place,
                    r->found_sector);
     }
-    printf("; the last write was of place %" PRIu32 ", sector %" PRIu32 "; the last answer %" PRId32 "\n",
+    printf("; the last write was of place %" PRIu32 ", sector %" PRIu32 "; the last answer %d\n",
            r->written_place, r->written_sector, r->answer);
 }
 
@@ -33,6 +33,7 @@ static uint64_t number_of(int argc, char **argv, int which, uint64_t otherwise) 
 
 int main(int argc, char **argv) {
     struct ipl_driver_result r;
+    const struct ipl_driver *driver;
     int cuts = argc > 1 && strcmp(argv[1], "cut") == 0;
     uint32_t places = (uint32_t)number_of(argc, argv, 2, 0), part = (uint32_t)number_of(argc, argv, 4, 0);
     uint64_t seed = number_of(argc, argv, 3, 1);
@@ -40,8 +41,13 @@ int main(int argc, char **argv) {
         fprintf(stderr, "usage: %s test PLACES [SEED [PART]] | cut PLACES SEED PART [NOTED]\n", argv[0]);
         return 2;
     }
-    if (cuts) ipl_driver_cut_test(part, places, seed, UINT32_MAX, number_of(argc, argv, 5, 0), note, &r);
-    else ipl_driver_test(part, places, seed, &r);
+    driver = ipl_driver_to_try(part);
+    if (driver == NULL) {
+        fprintf(stderr, "%s: there is no part %" PRIu32 "\n", argv[0], part);
+        return 2;
+    }
+    if (cuts) ipl_driver_cut_test(driver, places, seed, UINT32_MAX, number_of(argc, argv, 5, 0), note, &r);
+    else ipl_driver_test(driver, places, seed, &r);
     printf("driver: %s; %" PRIu32 " of %" PRIu32 " places worn, %" PRIu64 " reads, %" PRIu64
            " programs, %" PRIu64 " erases, %" PRIu64 " barriers\n", ipl_driver_law_text(r.law), r.worn,
            places, r.reads, r.programs, r.erases, r.barriers);

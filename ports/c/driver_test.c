@@ -22,7 +22,8 @@ struct holding {
 };
 
 static struct {
-    uint32_t part, places, shift, turned;
+    const struct ipl_driver *driver;
+    uint32_t places, shift, turned;
     uint64_t seed;
     enum ipl_driver_law alone; /* what it says when a place changed that wasn't written */
     struct ipl_driver_result *result;
@@ -118,7 +119,7 @@ static int is_untouched_beside(const uint8_t *lent) {
 static int read_one(uint32_t place, uint32_t sector, const uint8_t **found) {
     uint8_t *into = lend();
     test.result->reads++;
-    test.result->answer = ipl_nand_read(test.part, place, sector, into, SECTOR);
+    test.result->answer = test.driver->read(test.driver->context, place, sector, into);
     if (test.result->answer != IPL_NAND_DONE) return breaks(IPL_LAW_READ_PASSES, place, sector);
     if (!is_untouched_beside(into)) return breaks(IPL_LAW_LENT, place, sector);
     *found = into;
@@ -168,7 +169,7 @@ static int look_at_all(void) {
 
 static int pass_barrier(void) {
     test.result->barriers++;
-    test.result->answer = ipl_nand_barrier(test.part);
+    test.result->answer = test.driver->barrier(test.driver->context);
     return test.result->answer == IPL_NAND_DONE || breaks(IPL_LAW_BARRIER_PASSES, 0, 0);
 }
 
@@ -177,7 +178,7 @@ static int erase_one(uint32_t place, uint32_t serial) {
     test.result->erases++;
     test.result->written_place = place;
     test.result->written_sector = 0;
-    test.result->answer = ipl_nand_erase(test.part, place);
+    test.result->answer = test.driver->erase(test.driver->context, place);
     if (test.result->answer == IPL_NAND_WORN) {
         it->is_worn = 1;
         return (++test.result->worn <= MOST_SPARES && test.result->worn < test.places)
@@ -198,7 +199,7 @@ static int program_one(uint32_t place, uint32_t sector) {
     test.result->programs++;
     test.result->written_place = place;
     test.result->written_sector = sector;
-    test.result->answer = ipl_nand_program(test.part, place, sector, from, SECTOR);
+    test.result->answer = test.driver->program(test.driver->context, place, sector, from);
     if (test.result->answer != IPL_NAND_DONE) return breaks(IPL_LAW_PROGRAM_PASSES, place, sector);
     make(test.should_be, it->serial, place, sector);
     if (!is_untouched_beside(from) || bits_between(from, test.should_be) != 0)
@@ -289,10 +290,10 @@ static int pass_round(const struct round *it) {
     return look_at_all();
 }
 
-static int start(uint32_t part, uint32_t places, uint64_t seed, struct ipl_driver_result *result) {
+static int start(const struct ipl_driver *driver, uint32_t places, uint64_t seed, struct ipl_driver_result *result) {
     memset(&test, 0, sizeof test);
     memset(result, 0, sizeof *result);
-    test.part = part;
+    test.driver = driver;
     test.places = places;
     test.seed = seed;
     test.result = result;
@@ -302,9 +303,9 @@ static int start(uint32_t part, uint32_t places, uint64_t seed, struct ipl_drive
     return 1;
 }
 
-enum ipl_driver_law ipl_driver_test(uint32_t part, uint32_t places, uint64_t seed,
+enum ipl_driver_law ipl_driver_test(const struct ipl_driver *driver, uint32_t places, uint64_t seed,
                                     struct ipl_driver_result *result) {
-    if (!start(part, places, seed, result)) return result->law;
+    if (!start(driver, places, seed, result)) return result->law;
     for (size_t i = 0; i < sizeof rounds / sizeof *rounds; i++)
         if (!pass_round(&rounds[i])) break;
     return result->law;
@@ -384,12 +385,12 @@ static int fill_one(uint32_t place, uint32_t serial, void (*note)(uint64_t numbe
     }
 }
 
-enum ipl_driver_law ipl_driver_cut_test(uint32_t part, uint32_t places, uint64_t seed,
+enum ipl_driver_law ipl_driver_cut_test(const struct ipl_driver *driver, uint32_t places, uint64_t seed,
                                         uint32_t fills, uint64_t noted, void (*note)(uint64_t number),
                                         struct ipl_driver_result *result) {
     uint32_t hit, highest;
     uint64_t sum;
-    if (!start(part, places, seed, result)) return result->law;
+    if (!start(driver, places, seed, result)) return result->law;
     begin_round("what a power cut left", IPL_LAW_LASTS);
     if (!look_after_cut(noted, &hit, &highest)) return result->law;
     /* What was torn has to be read too, and the same each time. */

@@ -1,7 +1,7 @@
 /* driver_test.h: tries the four functions of a driver by what ipl.h asks of them.
  *
- * It DESTROYS ALL THAT THE PART HOLDS. Link driver_test.c with the driver: it wants nothing of
- * libipl_port.a, no heap, no stdio, and of the C library memset alone; it has 9,336 bytes of memory of
+ * It DESTROYS ALL THAT THE PART HOLDS. Link driver_test.c with the driver: it wants nothing of the
+ * store, no heap, no stdio, and of the C library memset alone; it has 9,344 bytes of memory of
  * its own, for one test at a time. driver_main.c makes a program of it that prints what it found.
  */
 #ifndef IPL_DRIVER_TEST_H
@@ -45,7 +45,7 @@ struct ipl_driver_result {
     enum ipl_driver_law law;
     const char *round;                      /* what the test was about, in words */
     uint32_t place, sector;                 /* where; of a barrier 0 */
-    int32_t answer;                         /* what the last call of the driver answered */
+    int answer;                             /* what the last call of the driver answered */
     uint32_t bits;                          /* how many bits are wrong there; 0: it isn't about bits */
     enum ipl_driver_found found;            /* where bits are wrong */
     uint32_t found_place, found_sector;     /* of IPL_FOUND_A_SECTOR */
@@ -57,7 +57,7 @@ struct ipl_driver_result {
 /* Tries the laws that need no power cut, over all places: some 22 reads and two programs of each
  * sector, and two erases of each place. Answers the first law that doesn't hold. Where all hold, all
  * places but worn ones are full, as ipl_driver_cut_test wants them. */
-enum ipl_driver_law ipl_driver_test(uint32_t part, uint32_t places, uint64_t seed,
+enum ipl_driver_law ipl_driver_test(const struct ipl_driver *driver, uint32_t places, uint64_t seed,
                                     struct ipl_driver_result *result);
 
 /* Looks at what the last run left, and then fills one place after another, `fills` of them or until the
@@ -69,9 +69,12 @@ enum ipl_driver_law ipl_driver_test(uint32_t part, uint32_t places, uint64_t see
  * battery feeds. Hand the last one in as `noted` after the cut: then only the sector or the place that
  * was being written may hold anything. With 0 one place may hold anything, and the others are whole and
  * in their order; a loss of the last programs isn't found then. */
-enum ipl_driver_law ipl_driver_cut_test(uint32_t part, uint32_t places, uint64_t seed,
+enum ipl_driver_law ipl_driver_cut_test(const struct ipl_driver *driver, uint32_t places, uint64_t seed,
                                         uint32_t fills, uint64_t noted, void (*note)(uint64_t number),
                                         struct ipl_driver_result *result);
+
+/* What driver_main.c asks for, and you write: the driver of the part of this number, or NULL. */
+const struct ipl_driver *ipl_driver_to_try(uint32_t part);
 
 /* A law in words: what doesn't hold. */
 const char *ipl_driver_law_text(enum ipl_driver_law law);

@@ -41,7 +41,6 @@ enum ipl_op {
     IPL_OP_MERGE = 10,     /* name: a unit */
     IPL_OP_HOLD = 11,      /* name: a unit; page */
     IPL_OP_RELEASE = 12,   /* name: a unit; page */
-    IPL_OP_REOPEN = 13,    /* nothing */
     IPL_OP_UNITS = 14,     /* nothing: name */
     IPL_OP_SHUTDOWN = 15   /* nothing */
 };
@@ -61,7 +60,7 @@ IPL_ENGINE size_t ipl_engine_check_memory(uint32_t places);
 IPL_ENGINE size_t ipl_engine_format_memory(void);
 
 /* Makes an engine of memory, whatever that held before: an engine that was there is gone, also one whose
- * driver left a call by longjmp. `size` is at least what the call wants that comes next. `driver` stays
+ * driver left a call by longjmp. The request is all zeros. `size` is at least what the call wants that comes next. `driver` stays
  * where it is as long as the engine is used; all calls of the part go through it, with plain pointers. */
 IPL_ENGINE struct ipl_engine *ipl_engine_raise(void *at, size_t size, const struct ipl_driver *driver);
 
@@ -82,9 +81,9 @@ IPL_ENGINE uint32_t ipl_engine_open(struct ipl_engine *e, enum ipl_engine_kind k
 IPL_ENGINE uint32_t ipl_engine_call(struct ipl_engine *e);
 
 /* An engine that can find that it left its memory, or that a check of its own failed, answers IPL_TRAPPED
- * to the call that did, also to an opening, a format or a check, and to each call after it, also to a
- * reopen, until it is raised again; it stops no program. An engine isn't closed: it takes nothing but its
- * memory, so that the memory is simply used for something else. */
+ * to the call that did, also to an opening, a format or a check, and to each call after it until it is
+ * raised again; it stops no program. An engine is neither closed nor reopened: it takes nothing but its
+ * memory, which is used for something else, or raised and opened anew. */
 
 #ifdef __cplusplus
 }

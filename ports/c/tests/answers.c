@@ -1,7 +1,6 @@
 /* Each answer by itself, over two parts at once: how many units, frames and records there are, each fault of
  * a get, batches of no session and of one. Of the part that isn't asked nothing changes. usage: answers */
-#include "../ipl.h"
-#include "part.h"
+#include "store.h"
 #include <stdio.h>
 #include <stdlib.h>
 #include <string.h>
@@ -19,11 +18,11 @@ static void must(int holds, const char *what) {
     exit(1);
 }
 
-static void opens(uint32_t frames) { must(ipl_open(store, PART, PLACES, frames) == IPL_OK, "an opening"); }
+static void opens(uint32_t frames) { must(part_open(store, PART, PLACES, frames) == IPL_OK, "an opening"); }
 
-static int gets(uint32_t name, uint32_t *len) {
+static enum ipl_answer gets(uint32_t name, uint32_t *len) {
     uint8_t bytes[IPL_VALUE];
-    return ipl_get(store, 0, name, bytes, len);
+    return ipl_get(store, 0, name, bytes, sizeof bytes, len);
 }
 
 /* Commits a byte at a name, or that there is none. */
@@ -37,7 +36,7 @@ static void writes(struct ipl *s, uint32_t name, int there) {
 static int has(struct ipl *s, uint32_t name) {
     uint8_t bytes[IPL_VALUE];
     uint32_t len;
-    int answer = ipl_committed(s, name, bytes, &len);
+    enum ipl_answer answer = ipl_committed(s, name, bytes, sizeof bytes, &len);
     must(answer == IPL_NOTHING || (answer == IPL_OK && len == 1 && bytes[0] == 0x61), "a record");
     return answer == IPL_OK;
 }
@@ -45,7 +44,7 @@ static int has(struct ipl *s, uint32_t name) {
 /* Each spare place is a unit less. The last format here has none to spare. */
 static void try_units(void) {
     for (uint32_t spares = 3; spares-- > 0;) {
-        must(ipl_format(PART, PLACES, spares, NULL) == IPL_OK, "a format");
+        must(part_format(PART, PLACES, spares, NULL) == IPL_OK, "a format");
         opens(2);
         must(ipl_unit_count(store) == PLACES - 4 - spares, "four places and the spare ones are no units");
         must(ipl_merge(store, PLACES - 5 - spares) == IPL_OK, "a merge of the last unit");
@@ -69,7 +68,7 @@ static void try_frames(void) {
 
 static void counts(uint32_t wanted) {
     uint32_t found = 7;
-    must(ipl_check(PART, PLACES, &found, NULL) == IPL_OK && found == wanted, "as many records as were put");
+    must(part_check(PART, PLACES, &found, NULL) == IPL_OK && found == wanted, "as many records as were put");
 }
 
 static void try_records(void) {
@@ -91,14 +90,14 @@ static void try_records(void) {
 }
 
 /* A get, a share and a get of what is committed have this answer, and no value. */
-static void all_answer(int wanted, const char *what) {
+static void all_answer(enum ipl_answer wanted, const char *what) {
     uint8_t bytes[IPL_VALUE];
     uint32_t len = 7;
     must(gets(NAME, &len) == wanted && len == 0, what);
     len = 7;
-    must(ipl_share(store, 0, NAME, bytes, &len) == wanted && len == 0, what);
+    must(ipl_share(store, 0, NAME, bytes, sizeof bytes, &len) == wanted && len == 0, what);
     len = 7;
-    must(ipl_committed(store, NAME, bytes, &len) == wanted && len == 0, what);
+    must(ipl_committed(store, NAME, bytes, sizeof bytes, &len) == wanted && len == 0, what);
 }
 
 /* A read that fails, and one that has other bytes: the store goes on. */
@@ -112,7 +111,7 @@ static void try_reads(void) {
         part_set_ills(PART, unread);
         all_answer(IPL_READ_FAULT, "a read that fails");
         part_set_ills(PART, lying);
-        int answer = gets(NAME, &len);
+        enum ipl_answer answer = gets(NAME, &len);
         const uint32_t *d = ipl_detail(store);
         part_set_ills(PART, none);
         /* Half of the reads lie, and the sector that a lie shows may be the right one. */
@@ -164,8 +163,8 @@ int main(void) {
     any_begin(1);
     part_new(OTHER, PLACES);
     part_new(PART, PLACES);
-    must(ipl_format(OTHER, PLACES, 0, NULL) == IPL_OK, "a format of the other part");
-    must(ipl_open(&other, OTHER, PLACES, 4) == IPL_OK, "an opening of the other part");
+    must(part_format(OTHER, PLACES, 0, NULL) == IPL_OK, "a format of the other part");
+    must(part_open(&other, OTHER, PLACES, 4) == IPL_OK, "an opening of the other part");
     writes(&other, 8, 1);
     struct part_counts before = part_counts(OTHER), after;
     try_units();

@@ -5,7 +5,7 @@
 #include <stdlib.h>
 #include <string.h>
 
-enum { PLACES = 9, SECTORS = 256, SECTOR = 512 };
+enum { PLACES = 9, SECTORS = IPL_SECTORS, SECTOR = IPL_SECTOR };
 
 enum fault {
     NOTHING, ERASE_CLEARS_THE_NEXT, ERASE_CLEARS_THE_NEXT_BUT_ONE, ERASE_CLEARS_THE_LAST_BUT_ONE,
@@ -42,9 +42,8 @@ static uint32_t key_of(uint32_t place, uint32_t sector) {
     return sector / 4 + (fault == READ_IS_OF_A_PAGE_OF_ANY_PLACE ? 0 : place * SECTORS);
 }
 
-int32_t ipl_nand_read(uint32_t part, uint32_t place, uint32_t sector, uint8_t *into,
-                      size_t length) {
-    (void)part;
+static int broken_read(void *context, uint32_t place, uint32_t sector, uint8_t *into) {
+    (void)context;
     if (is_off) return IPL_NAND_FAILED;
     place = wired(place);
     if (fault == TORN_SECTOR_FAILS && torn == bytes[place][sector]) return IPL_NAND_FAILED;
@@ -57,8 +56,8 @@ int32_t ipl_nand_read(uint32_t part, uint32_t place, uint32_t sector, uint8_t *i
     if (fault == READ_DISTURBS && ++reads_of[place][sector] == 100) bytes[place][sector ^ 1][7] ^= 16;
     if (fault == READ_DOES_NOTHING) return IPL_NAND_DONE;
     if (fault == READ_WANTS_ALIGNED_BYTES) into -= (uintptr_t)into % 4;
-    memcpy(into, fault == READ_DISTURBS ? bytes[place][sector] : page[sector % 4], length);
-    if (fault == READ_WRITES_MORE) into[length] = 0;
+    memcpy(into, fault == READ_DISTURBS ? bytes[place][sector] : page[sector % 4], SECTOR);
+    if (fault == READ_WRITES_MORE) into[SECTOR] = 0;
     return IPL_NAND_DONE;
 }
 
@@ -77,9 +76,8 @@ static int is_cut(uint32_t place, uint32_t sector) {
     return 1;
 }
 
-int32_t ipl_nand_program(uint32_t part, uint32_t place, uint32_t sector, const uint8_t *from,
-                         size_t length) {
-    (void)part;
+static int broken_program(void *context, uint32_t place, uint32_t sector, const uint8_t *from) {
+    (void)context;
     place = wired(place);
     if (is_off) return IPL_NAND_FAILED;
     if (used[place][sector]) {
@@ -90,8 +88,8 @@ int32_t ipl_nand_program(uint32_t part, uint32_t place, uint32_t sector, const u
     last_sector = sector;
     used[place][sector] = 1;
     if (fault != READ_IS_STALE) page_of = UINT32_MAX;
-    memcpy(bytes[place][sector], from, length);
-    if (fault == PROGRAM_HITS_THE_NEXT) memcpy(bytes[place][(sector + 1) % SECTORS], from, length);
+    memcpy(bytes[place][sector], from, SECTOR);
+    if (fault == PROGRAM_HITS_THE_NEXT) memcpy(bytes[place][(sector + 1) % SECTORS], from, SECTOR);
     if (fault == PROGRAM_LOSES_A_BIT && sector == 200) bytes[place][sector][300] &= 0x7F;
     if (fault == PROGRAM_CHANGES_ITS_SOURCE) ((uint8_t *)(uintptr_t)from)[17] ^= 1;
     if (is_cut(place, sector)) return IPL_NAND_FAILED;
@@ -109,8 +107,8 @@ static int is_worn(uint32_t place) {
     }
 }
 
-int32_t ipl_nand_erase(uint32_t part, uint32_t place) {
-    (void)part;
+static int broken_erase(void *context, uint32_t place) {
+    (void)context;
     if (is_off) return IPL_NAND_FAILED;
     place = wired(place);
     erases++;
@@ -134,13 +132,19 @@ int32_t ipl_nand_erase(uint32_t part, uint32_t place) {
     return worn ? IPL_NAND_WORN : IPL_NAND_DONE;
 }
 
-int32_t ipl_nand_barrier(uint32_t part) {
-    (void)part;
+static int broken_barrier(void *context) {
+    (void)context;
     if (is_off || (fault == BARRIER_FAILS && ++barriers == 30)) return IPL_NAND_FAILED;
     return IPL_NAND_DONE;
 }
 
-#ifndef FAULT
+static const struct ipl_driver driver = {NULL, broken_read, broken_program, broken_erase, broken_barrier};
+
+#ifdef FAULT
+
+const struct ipl_driver *ipl_driver_to_try(uint32_t part) { return part == 0 ? &driver : NULL; }
+
+#else
 
 static void new_part(enum fault of_it) {
     fault = of_it;
@@ -208,7 +212,7 @@ static void must(int holds, const char *name, const struct ipl_driver_result *r)
 static void try_driver(size_t i) {
     struct ipl_driver_result r;
     new_part(tries[i].fault);
-    ipl_driver_test(0, PLACES, 7, &r);
+    ipl_driver_test(&driver, PLACES, 7, &r);
     must(r.law == tries[i].law, tries[i].name, &r);
     if (tries[i].fault == WORN_AT_ONCE) must(r.worn == 1, "how many are worn", &r);
     if (tries[i].fault == PROGRAM_HITS_THE_NEXT) must(r.programs == 2, "that it is told at once", &r);
@@ -218,13 +222,13 @@ static void try_driver(size_t i) {
 static void try_cut(size_t i) {
     struct ipl_driver_result r;
     new_part(NOTHING);
-    must(ipl_driver_test(0, PLACES, 7, &r) == IPL_LAWS_HOLD, "before the cut", &r);
+    must(ipl_driver_test(&driver, PLACES, 7, &r) == IPL_LAWS_HOLD, "before the cut", &r);
     fault = at_cuts[i].fault;
     until_cut = 700;
-    ipl_driver_cut_test(0, PLACES, 7, UINT32_MAX, 0, keep_number, &r);
+    ipl_driver_cut_test(&driver, PLACES, 7, UINT32_MAX, 0, keep_number, &r);
     must(is_off && r.law == IPL_LAW_PROGRAM_PASSES, "the cut", &r);
     is_off = 0;
-    ipl_driver_cut_test(0, PLACES, 7, 0, at_cuts[i].knows ? noted : 0, NULL, &r);
+    ipl_driver_cut_test(&driver, PLACES, 7, 0, at_cuts[i].knows ? noted : 0, NULL, &r);
     must(r.law == at_cuts[i].law, at_cuts[i].name, &r);
 }
 
@@ -232,11 +236,11 @@ static void try_cut(size_t i) {
 static void try_number(void) {
     struct ipl_driver_result r;
     new_part(NOTHING);
-    ipl_driver_test(0, PLACES, 7, &r);
-    ipl_driver_cut_test(0, PLACES, 7, 1, 0, keep_number, &r);
-    must(ipl_driver_cut_test(0, PLACES, 7, 0, noted, NULL, &r) == IPL_LAWS_HOLD, "the number noted", &r);
+    ipl_driver_test(&driver, PLACES, 7, &r);
+    ipl_driver_cut_test(&driver, PLACES, 7, 1, 0, keep_number, &r);
+    must(ipl_driver_cut_test(&driver, PLACES, 7, 0, noted, NULL, &r) == IPL_LAWS_HOLD, "the number noted", &r);
     noted += PLACES * (SECTORS + 1);
-    must(ipl_driver_cut_test(0, PLACES, 7, 0, noted, NULL, &r) == IPL_LAW_LASTS, "a later one", &r);
+    must(ipl_driver_cut_test(&driver, PLACES, 7, 0, noted, NULL, &r) == IPL_LAW_LASTS, "a later one", &r);
 }
 
 int main(void) {

@@ -27,7 +27,7 @@ static struct ipl_driver_result try_part(uint32_t places, struct part_ills ills)
     struct ipl_driver_result r;
     part_new(0, places);
     part_set_ills(0, ills);
-    must(ipl_driver_test(0, places, any_number(), &r) == r.law, "what it answers", &r);
+    must(ipl_driver_test(part_driver(0), places, any_number(), &r) == r.law, "what it answers", &r);
     part_free(0);
     return r;
 }
@@ -41,8 +41,8 @@ static void try_whole(void) {
         must(r.programs == 2u * SECTORS * places && r.erases == 2u * places, "what it asks for", &r);
     }
     struct ipl_driver_result few;
-    must(ipl_driver_test(0, 4, 1, &few) == IPL_LAW_PLACES, "four places", &few);
-    must(ipl_driver_test(0, 1029, 1, &few) == IPL_LAW_PLACES, "1,029 places", &few);
+    must(ipl_driver_test(part_driver(0), 4, 1, &few) == IPL_LAW_PLACES, "four places", &few);
+    must(ipl_driver_test(part_driver(0), 1029, 1, &few) == IPL_LAW_PLACES, "1,029 places", &few);
 }
 
 static uint32_t try_worn(void) {
@@ -80,17 +80,17 @@ static void try_failures(void) {
 static void try_cuts(uint64_t cuts, uint64_t seed) {
     struct ipl_driver_result r;
     part_new(0, PLACES);
-    must(ipl_driver_test(0, PLACES, seed, &r) == IPL_LAWS_HOLD, "a part before its cuts", &r);
+    must(ipl_driver_test(part_driver(0), PLACES, seed, &r) == IPL_LAWS_HOLD, "a part before its cuts", &r);
     for (uint64_t i = 0; i < cuts; i++) {
         part_cut_after(0, 1 + any_below(any_below(2) ? 5 : 3000));
         uint64_t before = any_below(4) ? noted : 0;
         begun = 0;
-        ipl_driver_cut_test(0, PLACES, seed, UINT32_MAX, before, keep_number, &r);
+        ipl_driver_cut_test(part_driver(0), PLACES, seed, UINT32_MAX, before, keep_number, &r);
         must(r.law >= IPL_LAW_READ_PASSES && r.law <= IPL_LAW_BARRIER_PASSES, "a cut", &r);
         must(part_power_on(0), "the power", &r);
         must(begun == 0 || begun > before, "a serial that was used before", &r);
     }
-    ipl_driver_cut_test(0, PLACES, seed, 0, noted, NULL, &r);
+    ipl_driver_cut_test(part_driver(0), PLACES, seed, 0, noted, NULL, &r);
     must(r.law == IPL_LAWS_HOLD, "what the last cut left", &r);
     part_free(0);
 }

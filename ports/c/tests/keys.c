@@ -1,7 +1,6 @@
 /* Values by keys over a part in memory, with power cuts; they are compared with a plain copy of all
  * values. usage: keys [COMMITS [SEED]] */
-#include "../ipl.h"
-#include "part.h"
+#include "store.h"
 #include <stdio.h>
 #include <stdlib.h>
 #include <string.h>
@@ -14,7 +13,7 @@ struct session { int is_open, count; uint32_t keys[MOST]; struct value now[MOST]
 static struct value kept[KEYS];
 static struct session sessions[OPEN];
 static struct ipl_keys memory, *keys = &memory;
-static uint64_t seed, commits, cuts, wholes, full, shutdowns;
+static uint64_t seed, commits, cuts, wholes, full, shutdowns, openings;
 
 static void die(const char *what, int answer) {
     const uint32_t *d = ipl_keys_detail(keys);
@@ -44,13 +43,13 @@ static void keep(uint32_t s) {
     for (int i = 0; i < sessions[s].count; i++) kept[sessions[s].keys[i]] = sessions[s].now[i];
 }
 
-static int get_one(uint32_t s, uint32_t number, uint8_t *bytes, uint32_t *len) {
+static enum ipl_answer get_one(uint32_t s, uint32_t number, uint8_t *bytes, uint32_t *len) {
     uint8_t key[IPL_KEY];
     uint32_t key_len = key_of(number, key);
-    return ipl_keys_get(keys, s, key, key_len, bytes, len);
+    return ipl_keys_get(keys, s, key, key_len, bytes, IPL_KEY_VALUE, len);
 }
 
-static int is_equal(const struct value *v, int answer, const uint8_t *bytes, uint32_t len) {
+static int is_equal(const struct value *v, enum ipl_answer answer, const uint8_t *bytes, uint32_t len) {
     if (answer != (v->there ? IPL_OK : IPL_NOTHING)) return 0;
     return !v->there || (len == v->len && memcmp(bytes, v->bytes, len) == 0);
 }
@@ -62,7 +61,7 @@ static int has(const struct value *all) {
     must(ipl_keys_begin(keys, 31) == IPL_OK, "a begin after a cut", 0);
     for (uint32_t number = 0; number < KEYS && same; number++) {
         uint32_t len;
-        int answer = get_one(31, number, bytes, &len);
+        enum ipl_answer answer = get_one(31, number, bytes, &len);
         must(answer == IPL_OK || answer == IPL_NOTHING, "a value after a cut", answer);
         same = is_equal(&all[number], answer, bytes, len);
     }
@@ -74,8 +73,14 @@ static void open_again(void) {
     for (;;) {
         part_power_on(0);
         if (any_below(4) == 0) part_cut_after(0, 1 + any_below(60));
-        ipl_keys_close(keys);
-        int answer = ipl_keys_open(keys, 0, PLACES, 2 + any_below(7));
+        uint32_t frames = 2 + any_below(7);
+        enum ipl_answer answer;
+        if (is_open(&keys->store) && openings++ % 2) {
+            answer = ipl_keys_reopen(keys);
+        } else {
+            ipl_keys_close(keys);
+            answer = part_open_keys(keys, 0, PLACES, frames);
+        }
         if (part_power_on(0)) {
             cuts++;
             continue;
@@ -104,7 +109,7 @@ static int goes_on(int answer, int commits_it, uint32_t s) {
 static void look_up(uint32_t s) {
     uint8_t bytes[IPL_KEY_VALUE];
     uint32_t number = any_below(KEYS), len;
-    int answer = get_one(s, number, bytes, &len);
+    enum ipl_answer answer = get_one(s, number, bytes, &len);
     if (!goes_on(answer, 0, s)) return;
     int i = written_at(&sessions[s], number);
     must(is_equal(i < 0 ? &kept[number] : &sessions[s].now[i], answer, bytes, len),
@@ -116,7 +121,7 @@ static void write_one(uint32_t s) {
     uint8_t key[IPL_KEY];
     uint32_t number = any_below(KEYS), key_len = key_of(number, key);
     struct value v = {0, 0, {0}};
-    int answer;
+    enum ipl_answer answer;
     if (it->count == MOST) return;
     if (any_below(3) == 0) {
         answer = ipl_keys_del(keys, s, key, key_len);
@@ -139,7 +144,7 @@ static void write_one(uint32_t s) {
 }
 
 static void end_one(uint32_t s, int commits_it) {
-    int answer = commits_it ? ipl_keys_commit(keys, s) : ipl_keys_abort(keys, s);
+    enum ipl_answer answer = commits_it ? ipl_keys_commit(keys, s) : ipl_keys_abort(keys, s);
     if (!goes_on(answer, commits_it, s)) return;
     must(answer == IPL_OK, "the end of a session", answer);
     if (commits_it) {
@@ -153,7 +158,7 @@ static void end_one(uint32_t s, int commits_it) {
 static void shut_down(void) {
     uint32_t least = 0;
     while (least < OPEN && !sessions[least].is_open) least++;
-    int answer = ipl_keys_shutdown(keys);
+    enum ipl_answer answer = ipl_keys_shutdown(keys, 0);
     if (!goes_on(answer, 0, 0)) return;
     if (least < OPEN) {
         must(answer == IPL_SESSIONS_OPEN && ipl_keys_detail(keys)[0] == least, "a session is open", answer);
@@ -170,13 +175,13 @@ static void ask_badly(void) {
     static const uint8_t bytes[IPL_VALUE];
     uint8_t into[IPL_KEY_VALUE];
     uint32_t len;
-    must(ipl_keys_get(keys, 0, bytes, 0, into, &len) == IPL_BAD_KEY, "no key", 0);
-    must(ipl_keys_get(keys, 0, bytes, 17, into, &len) == IPL_BAD_KEY, "a key of 17 bytes", 0);
+    must(ipl_keys_get(keys, 0, bytes, 0, into, sizeof into, &len) == IPL_BAD_KEY, "no key", 0);
+    must(ipl_keys_get(keys, 0, bytes, 17, into, sizeof into, &len) == IPL_BAD_KEY, "a key of 17 bytes", 0);
     must(ipl_keys_del(keys, 0, bytes, UINT32_MAX) == IPL_BAD_KEY, "a key of 2^32 - 1 bytes", 0);
     must(ipl_keys_put(keys, 0, bytes, 1, bytes, 201) == IPL_LONG_VALUE, "201 bytes", 0);
     must(ipl_keys_put(keys, 0, bytes, 1, bytes, UINT32_MAX) == IPL_LONG_VALUE, "2^32 - 1 bytes", 0);
     must(ipl_keys_begin(keys, 32) == IPL_BAD_SESSION, "session 32", 0);
-    must(ipl_keys_get(keys, 30, bytes, 1, into, &len) == IPL_NOT_OPEN, "a closed session", 0);
+    must(ipl_keys_get(keys, 30, bytes, 1, into, sizeof into, &len) == IPL_NOT_OPEN, "a closed session", 0);
 }
 
 int main(int argc, char **argv) {
@@ -184,8 +189,8 @@ int main(int argc, char **argv) {
     seed = argc > 2 ? strtoull(argv[2], NULL, 10) : 1;
     any_begin(seed);
     part_new(0, PLACES);
-    must(ipl_format(0, PLACES, 0, NULL) == IPL_OK, "a format", 0);
-    must(ipl_keys_open(keys, 0, PLACES, 4) == IPL_OK, "an opening", 0);
+    must(part_format(0, PLACES, 0, NULL) == IPL_OK, "a format", 0);
+    must(part_open_keys(keys, 0, PLACES, 4) == IPL_OK, "an opening", 0);
     while (commits < wanted) {
         uint32_t s = any_below(OPEN);
         if (any_below(30) == 0) part_cut_after(0, 1 + any_below(any_below(3) ? 8 : 200));
@@ -194,7 +199,7 @@ int main(int argc, char **argv) {
         } else if (any_below(100) == 0) {
             shut_down();
         } else if (!sessions[s].is_open) {
-            int answer = ipl_keys_begin(keys, s);
+            enum ipl_answer answer = ipl_keys_begin(keys, s);
             if (!goes_on(answer, 0, s)) continue;
             must(answer == IPL_OK, "a begin", answer);
             sessions[s].is_open = 1;
@@ -209,7 +214,7 @@ int main(int argc, char **argv) {
     part_cut_after(0, 0);
     memset(sessions, 0, sizeof sessions);
     ipl_keys_close(keys);
-    must(ipl_keys_open(keys, 0, PLACES, 8) == IPL_OK && has(kept), "the last opening", 0);
+    must(part_open_keys(keys, 0, PLACES, 8) == IPL_OK && has(kept), "the last opening", 0);
     ipl_keys_close(keys);
     printf("keys: %llu commits, %llu power cuts, %llu commits whole by a cut, %llu writes refused for room "
            "or another session's bucket, %llu shutdowns\n", (unsigned long long)commits,

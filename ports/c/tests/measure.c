@@ -1,5 +1,5 @@
 /* What a store takes: memory, stack and processor time; with -DWITH_SQLITE -lsqlite3 also SQLite's on the
- * same records. Linked with -Wl,--wrap=malloc,--wrap=realloc,--wrap=free and -pthread. usage: measure */
+ * same records. Linked with -pthread. usage: measure */
 #define _GNU_SOURCE
 #include "../ipl.h"
 #include <pthread.h>
@@ -11,69 +11,41 @@
 #include <sqlite3.h>
 #endif
 
-enum { SECTORS = 256, SECTOR = 512, TIMED_PLACES = 8, NAMES = 960 * (TIMED_PLACES - 4), FRAMES = 16 };
+enum { SECTORS = IPL_SECTORS, SECTOR = IPL_SECTOR, UNWRITTEN = 0x96, TIMED_PLACES = 8, NAMES = 960 * (TIMED_PLACES - 4), FRAMES = 16 };
 
 /* ---- a driver that does nothing but its copies */
 
 static uint8_t (*bytes)[SECTORS][SECTOR];
 static uint64_t reads, programs, erases, barriers;
 
-int32_t ipl_nand_read(uint32_t part, uint32_t place, uint32_t sector, uint8_t *into,
-                      size_t length) {
-    (void)part;
+static int read_sector(void *context, uint32_t place, uint32_t sector, uint8_t *into) {
+    (void)context;
     reads++;
-    memcpy(into, bytes[place][sector], length);
+    memcpy(into, bytes[place][sector], SECTOR);
     return IPL_NAND_DONE;
 }
 
-int32_t ipl_nand_program(uint32_t part, uint32_t place, uint32_t sector, const uint8_t *from,
-                         size_t length) {
-    (void)part;
+static int program_sector(void *context, uint32_t place, uint32_t sector, const uint8_t *from) {
+    (void)context;
     programs++;
-    memcpy(bytes[place][sector], from, length);
+    memcpy(bytes[place][sector], from, SECTOR);
     return IPL_NAND_DONE;
 }
 
-int32_t ipl_nand_erase(uint32_t part, uint32_t place) {
-    (void)part;
+static int erase_place(void *context, uint32_t place) {
+    (void)context;
     erases++;
     memset(bytes[place], 0xFF, sizeof bytes[place]);
     return IPL_NAND_DONE;
 }
 
-int32_t ipl_nand_barrier(uint32_t part) {
-    (void)part;
+static int wait_for_writes(void *context) {
+    (void)context;
     barriers++;
     return IPL_NAND_DONE;
 }
 
-/* ---- memory: what is asked of malloc */
-
-void *__real_malloc(size_t n);
-void *__real_realloc(void *p, size_t n);
-void __real_free(void *p);
-void *__wrap_malloc(size_t n);
-void *__wrap_realloc(void *p, size_t n);
-void __wrap_free(void *p);
-
-static size_t taken, blocks, freed;
-
-void *__wrap_malloc(size_t n) {
-    taken += n;
-    blocks++;
-    return __real_malloc(n);
-}
-
-void *__wrap_realloc(void *p, size_t n) {
-    taken += n;
-    blocks++;
-    return __real_realloc(p, n);
-}
-
-void __wrap_free(void *p) {
-    if (p != NULL) freed++;
-    __real_free(p);
-}
+static const struct ipl_driver driver = {NULL, read_sector, program_sector, erase_place, wait_for_writes};
 
 static void must(int holds, const char *what) {
     if (holds) return;
@@ -98,22 +70,33 @@ static void commit_puts(uint32_t names, int puts, uint32_t len, uint32_t in_turn
 
 struct size { uint32_t places, frames; };
 
+/* The last bytes of the memory that nothing was written to. */
+static size_t unwritten(const uint8_t *memory, size_t size) {
+    size_t n = 0;
+    while (n < size && memory[size - 1 - n] == UNWRITTEN) n++;
+    return n;
+}
+
 static void *use(void *it) {
     struct size *size = it;
+    struct ipl_config config = IPL_CONFIG(size->places, size->frames, 0);
     uint32_t names = (size->places - 4) * 960, found;
-    taken = blocks = freed = 0;
-    must(ipl_format(0, size->places, 0, NULL) == IPL_OK && blocks == 0, "format");
-    must(ipl_open(&store, 0, size->places, size->frames) == IPL_OK, "open");
-    size_t opened = taken, count = blocks;
+    size_t wanted = ipl_memory(&config), checked = ipl_check_memory(&config), left;
+    uint8_t *memory = malloc(wanted);
+    must(memory != NULL, "room for a store");
+    must(ipl_format(&store, &driver, &config, memory, wanted) == IPL_OK, "format");
+    memset(memory, UNWRITTEN, wanted);
+    must(ipl_open(&store, &driver, &config, memory, wanted) == IPL_OK, "open");
     for (uint32_t i = 0; i < 2000; i++) commit_puts(names, 3, 100, i);
     must(ipl_merge(&store, 0) == IPL_OK && ipl_reopen(&store) == IPL_OK, "merge and reopen");
-    must(blocks == count, "memory that is taken later");
-    ipl_close(&store);
-    must(freed == count, "memory that isn't given back");
-    taken = blocks = 0;
-    must(ipl_check(0, size->places, &found, NULL) == IPL_OK, "check");
-    printf("memory: %u places, %u frames: %zu bytes in %zu blocks; a check %zu in %zu\n", size->places,
-           size->frames, opened, count, taken, blocks);
+    must(ipl_close(&store) == IPL_OK, "close");
+    left = unwritten(memory, wanted);
+    memset(memory, UNWRITTEN, wanted);
+    must(ipl_check(&store, &driver, &config, memory, checked, &found) == IPL_OK, "check");
+    printf("memory: %u places, %u frames: %zu bytes, of which the last %zu were never written; a check %zu, %zu; "
+           "a format %zu\n", size->places, size->frames, wanted, left, checked, unwritten(memory, checked),
+           ipl_format_memory(&config));
+    free(memory);
     return NULL;
 }
 
@@ -149,9 +132,12 @@ static uint32_t name_in_turn(int i, uint32_t len) {
     return len > 100 ? (uint32_t)i % 16 * 64 + (uint32_t)i / 16 % 16 : (uint32_t)i % NAMES;
 }
 
+static const struct ipl_config timed = IPL_CONFIG(TIMED_PLACES, FRAMES, 0);
+static uint8_t timed_memory[IPL_MEMORY(TIMED_PLACES, FRAMES)];
+
 static double time_store(int commits, int puts, uint32_t len) {
-    must(ipl_format(0, TIMED_PLACES, 0, NULL) == IPL_OK, "format");
-    must(ipl_open(&store, 0, TIMED_PLACES, FRAMES) == IPL_OK, "open");
+    must(ipl_format(&store, &driver, &timed, timed_memory, sizeof timed_memory) == IPL_OK, "format");
+    must(ipl_open(&store, &driver, &timed, timed_memory, sizeof timed_memory) == IPL_OK, "open");
     x = 12345;
     reads = programs = erases = barriers = 0;
     double start = seconds();

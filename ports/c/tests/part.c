@@ -1,5 +1,4 @@
 #include "part.h"
-#include "../ipl.h"
 #include <stdio.h>
 #include <stdlib.h>
 #include <string.h>
@@ -105,10 +104,10 @@ static int is_cut(struct part *it, enum part_kind kind) {
     return 1;
 }
 
-static int32_t failure(struct part *it, enum part_kind kind) {
+static int failure(struct part *it, enum part_kind kind) {
     it->counts.failed[kind]++;
     if (!happens(it->ills.odd)) return IPL_NAND_FAILED;
-    int32_t any = (int32_t)any_number();
+    int any = (int)any_number();
     return any == IPL_NAND_DONE || any == IPL_NAND_WORN ? -1 : any;
 }
 
@@ -118,17 +117,16 @@ static void must(int holds, const char *what) {
     abort();
 }
 
-static struct part *called(uint32_t part, uint32_t place, uint32_t sector, enum part_kind kind) {
-    must(part < PARTS && parts[part].now != NULL, "no such part");
-    must(place < parts[part].places && sector < SECTORS, "no such sector");
-    parts[part].counts.calls[kind]++;
-    return &parts[part];
+static struct part *called(void *context, uint32_t place, uint32_t sector, enum part_kind kind) {
+    struct part *it = context;
+    must(it->now != NULL, "no such part");
+    must(place < it->places && sector < SECTORS, "no such sector");
+    it->counts.calls[kind]++;
+    return it;
 }
 
-int32_t ipl_nand_read(uint32_t part, uint32_t place, uint32_t sector, uint8_t *into,
-                      size_t length) {
-    struct part *it = called(part, place, sector, READ);
-    must(length == SECTOR, "a read of another length");
+static int part_read(void *context, uint32_t place, uint32_t sector, uint8_t *into) {
+    struct part *it = called(context, place, sector, READ);
     if (it->off || happens(it->ills.fails[READ])) {
         if (happens(it->ills.odd)) fill_with_any(into, SECTOR);
         return failure(it, READ);
@@ -146,11 +144,9 @@ int32_t ipl_nand_read(uint32_t part, uint32_t place, uint32_t sector, uint8_t *i
     return IPL_NAND_DONE;
 }
 
-int32_t ipl_nand_program(uint32_t part, uint32_t place, uint32_t sector, const uint8_t *from,
-                         size_t length) {
-    struct part *it = called(part, place, sector, PROGRAM);
+static int part_program(void *context, uint32_t place, uint32_t sector, const uint8_t *from) {
+    struct part *it = called(context, place, sector, PROGRAM);
     size_t i = (size_t)place * SECTORS + sector;
-    must(length == SECTOR, "a program of another length");
     if (it->off) return failure(it, PROGRAM);
     must(!it->used[i], "a second program of a sector");
     int fails = happens(it->ills.fails[PROGRAM]);
@@ -161,8 +157,8 @@ int32_t ipl_nand_program(uint32_t part, uint32_t place, uint32_t sector, const u
     return IPL_NAND_DONE;
 }
 
-int32_t ipl_nand_erase(uint32_t part, uint32_t place) {
-    struct part *it = called(part, place, 0, ERASE);
+static int part_erase(void *context, uint32_t place) {
+    struct part *it = called(context, place, 0, ERASE);
     size_t i = (size_t)place * SECTORS;
     if (it->off) return failure(it, ERASE);
     memset(it->open + i, 1, SECTORS);
@@ -180,8 +176,8 @@ int32_t ipl_nand_erase(uint32_t part, uint32_t place) {
     return IPL_NAND_DONE;
 }
 
-int32_t ipl_nand_barrier(uint32_t part) {
-    struct part *it = called(part, 0, 0, BARRIER);
+static int part_barrier(void *context) {
+    struct part *it = called(context, 0, 0, BARRIER);
     if (it->off || happens(it->ills.fails[BARRIER]) || is_cut(it, BARRIER))
         return failure(it, BARRIER);
     for (size_t i = 0; i < (size_t)it->places * SECTORS; i++) {
@@ -190,4 +186,11 @@ int32_t ipl_nand_barrier(uint32_t part) {
         it->open[i] = 0;
     }
     return IPL_NAND_DONE;
+}
+
+const struct ipl_driver *part_driver(uint32_t part) {
+    static struct ipl_driver drivers[PARTS];
+    struct ipl_driver driver = {&parts[part], part_read, part_program, part_erase, part_barrier};
+    drivers[part] = driver;
+    return &drivers[part];
 }

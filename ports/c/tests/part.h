@@ -2,9 +2,9 @@
 #ifndef PART_H
 #define PART_H
 
-#include <stdint.h>
+#include "../ipl.h"
 
-enum { PARTS = 2, SECTORS = 256, SECTOR = 512 };
+enum { PARTS = 2, SECTORS = IPL_SECTORS, SECTOR = IPL_SECTOR };
 enum part_kind { PROGRAM, ERASE, BARRIER, READ, KINDS };
 
 /* How often a call of the part goes wrong, of 65,536. */
@@ -21,6 +21,8 @@ struct part_counts {
 
 /* A part with rubbish in all its places. */
 void part_new(uint32_t part, uint32_t places);
+/* Its driver, which is the same for good. */
+const struct ipl_driver *part_driver(uint32_t part);
 void part_free(uint32_t part);
 /* No place is worn any more. */
 void part_mend(uint32_t part);

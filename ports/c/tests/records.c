@@ -1,7 +1,6 @@
 /* Sessions over a part in memory, with power cuts in the midst of all calls. What the store answers
  * is compared with a plain copy of the records. usage: records [COMMITS [SEED]] */
-#include "../ipl.h"
-#include "part.h"
+#include "store.h"
 #include <stdio.h>
 #include <stdlib.h>
 #include <string.h>
@@ -70,7 +69,7 @@ static void keep(uint32_t s) {
 
 static void forget(uint32_t s) { memset(&sessions[s], 0, sizeof sessions[s]); }
 
-static int is_equal(const struct record *r, int answer, const uint8_t *bytes, uint32_t len) {
+static int is_equal(const struct record *r, enum ipl_answer answer, const uint8_t *bytes, uint32_t len) {
     if (answer != (r->there ? IPL_OK : IPL_NOTHING)) return 0;
     return !r->there || (len == r->len && memcmp(bytes, r->bytes, len) == 0);
 }
@@ -82,7 +81,7 @@ static int has(const struct record *all) {
     for (uint32_t name = 0; name < NAMES; name++) {
         uint8_t bytes[IPL_VALUE];
         uint32_t len;
-        int answer = ipl_committed(store, name, bytes, &len);
+        enum ipl_answer answer = ipl_committed(store, name, bytes, sizeof bytes, &len);
         must(answer == IPL_OK || answer == IPL_NOTHING, "a record after a cut", answer);
         if (!is_equal(&all[name], answer, bytes, len)) return 0;
     }
@@ -93,13 +92,13 @@ static void open_again(void) {
     for (;;) {
         part_power_on(0);
         if (any_below(4) == 0) part_cut_after(0, 1 + any_below(70));
-        int answer;
-        if (store->at != NULL && any_below(2)) {
+        enum ipl_answer answer;
+        if (is_open(store) && any_below(2)) {
             answer = ipl_reopen(store);
         } else {
             ipl_close(store);
             frames = 2 + any_below(7);
-            answer = ipl_open(store, 0, PLACES, frames);
+            answer = part_open(store, 0, PLACES, frames);
         }
         if (part_power_on(0)) {
             cuts[OPENING]++;
@@ -144,8 +143,8 @@ static void look_up(uint32_t s, int shares) {
     uint32_t name = any_name(), len;
     uint8_t bytes[IPL_VALUE];
     if (shares && it->shares == MOST) return;
-    int answer = shares ? ipl_share(store, s, name, bytes, &len)
-                        : ipl_get(store, s, name, bytes, &len);
+    enum ipl_answer answer = shares ? ipl_share(store, s, name, bytes, sizeof bytes, &len)
+                        : ipl_get(store, s, name, bytes, sizeof bytes, &len);
     if (!goes_on(shares ? SHARE : GET, answer, NULL, 0)) return;
     if (!it->is_open) {
         must(answer == IPL_NOT_OPEN, "a session that isn't open", answer);
@@ -162,7 +161,8 @@ static void write_one(uint32_t s) {
     uint32_t name = any_name();
     struct record r = {0, 0, {0}};
     if (it->count == MOST) return;
-    int deletes = any_below(6) == 0, answer;
+    int deletes = any_below(6) == 0;
+    enum ipl_answer answer;
     if (!deletes) {
         r.there = 1;
         r.len = any_below(4) ? any_below(109) : any_below(IPL_VALUE + 1);
@@ -187,7 +187,7 @@ static void write_one(uint32_t s) {
 
 static void end_one(uint32_t s, int commits_it) {
     struct session *it = &sessions[s];
-    int answer = commits_it ? ipl_commit(store, s) : ipl_abort(store, s);
+    enum ipl_answer answer = commits_it ? ipl_commit(store, s) : ipl_abort(store, s);
     if (!goes_on(commits_it ? COMMIT : ABORT, answer, &s, (uint32_t)commits_it)) return;
     must(answer == (it->is_open ? IPL_OK : IPL_NOT_OPEN), "the end of a session", answer);
     if (commits_it && it->is_open) {
@@ -202,7 +202,7 @@ static void commit_several(void) {
     for (uint32_t s = 0; s < OPEN; s++)
         if (sessions[s].is_open && any_below(4)) named[count++] = s;
     if (count < 2) return;
-    int answer = ipl_commit_all(store, named, count);
+    enum ipl_answer answer = ipl_commit_all(store, named, count);
     if (!goes_on(BATCH, answer, named, count)) return;
     must(answer == IPL_OK, "a batch", answer);
     for (uint32_t i = 0; i < count; i++) {
@@ -216,12 +216,12 @@ static void commit_several(void) {
 static void hold_one(void) {
     uint32_t unit = any_below(UNITS), page = any_below(15), len;
     uint8_t bytes[IPL_VALUE];
-    int answer = ipl_hold(store, unit, page);
+    enum ipl_answer answer = ipl_hold(store, unit, page);
     if (!goes_on(HOLD, answer, NULL, 0)) return;
     must(answer == IPL_OK, "a hold", answer);
     uint64_t before = part_counts(0).calls[READ];
     uint32_t name = unit * 960 + page * 64 + any_below(64);
-    answer = ipl_committed(store, name, bytes, &len);
+    answer = ipl_committed(store, name, bytes, sizeof bytes, &len);
     must(is_equal(&kept[name], answer, bytes, len), "a record in a page that is held", answer);
     must(part_counts(0).calls[READ] == before, "a read for a page that is held", 0);
     reads_held++;
@@ -234,14 +234,14 @@ static void hold_one(void) {
 static void shut_down(void) {
     uint32_t least = 0;
     while (least < OPEN && !sessions[least].is_open) least++;
-    int answer = ipl_shutdown(store);
+    enum ipl_answer answer = ipl_shutdown(store, 0);
     if (!goes_on(SHUTDOWN, answer, NULL, 0)) return;
     if (least < OPEN) {
         must(answer == IPL_SESSIONS_OPEN && ipl_detail(store)[0] == least, "a session is open", answer);
         return;
     }
     must(answer == IPL_OK, "a shutdown", answer);
-    must(ipl_begin(store, 0) == IPL_DOWN && ipl_shutdown(store) == IPL_DOWN, "a store that is down", 0);
+    must(ipl_begin(store, 0) == IPL_DOWN && ipl_shutdown(store, 0) == IPL_DOWN, "a store that is down", 0);
     open_again();
     must(has(kept), "the records behind a shutdown", 0);
     shutdowns++;
@@ -259,7 +259,7 @@ static uint64_t erases_of_commit(void) {
 /* The first commit behind an opening merges the unit, and behind a shutdown too it doesn't. */
 static void try_shutdown(void) {
     must(erases_of_commit() == 1, "a commit behind an opening merges", 0);
-    must(ipl_shutdown(store) == IPL_OK && ipl_reopen(store) == IPL_OK, "a shutdown at the end", 0);
+    must(ipl_shutdown(store, 0) == IPL_OK && ipl_reopen(store) == IPL_OK, "a shutdown at the end", 0);
     must(erases_of_commit() == 0, "a commit behind a shutdown merges nothing", 0);
 }
 
@@ -270,13 +270,13 @@ static void ask_badly(void) {
     uint32_t len, twice[3] = {0, 1, 0}, open = 0;
     must(ipl_begin(store, IPL_SESSIONS) == IPL_BAD_SESSION, "session 32", 0);
     must(ipl_commit(store, UINT32_MAX) == IPL_BAD_SESSION, "session 2^32 - 1", 0);
-    must(ipl_get(store, 0, NAMES, into, &len) == IPL_BAD_NAME && len == 0, "no such name", 0);
+    must(ipl_get(store, 0, NAMES, into, sizeof into, &len) == IPL_BAD_NAME && len == 0, "no such name", 0);
     must(ipl_put(store, 0, 0, bytes, sizeof bytes) == IPL_TOO_LONG, "465 bytes", 0);
     must(ipl_put(store, 0, 0, bytes, UINT32_MAX) == IPL_TOO_LONG, "2^32 - 1 bytes", 0);
     must(ipl_merge(store, UNITS) == IPL_BAD_UNIT, "no such unit", 0);
     must(ipl_hold(store, 0, 15) == IPL_BAD_UNIT, "no such page", 0);
     must(ipl_release(store, UNITS, 0) == IPL_BAD_UNIT, "no such unit to release", 0);
-    must(ipl_commit_all(store, twice, 33) == IPL_BAD_CALL, "33 sessions", 0);
+    must(ipl_commit_all(store, twice, 33) == IPL_MANY_SESSIONS, "33 sessions", 0);
     for (uint32_t s = 0; s < 2; s++) open += (uint32_t)sessions[s].is_open;
     if (open == 2)
         must(ipl_commit_all(store, twice, 3) == IPL_TWICE && ipl_detail(store)[0] == 0, "twice", 0);
@@ -284,7 +284,7 @@ static void ask_badly(void) {
 
 static void step(void) {
     uint32_t s = any_below(OPEN);
-    int answer;
+    enum ipl_answer answer;
     maybe_cut();
     switch (any_below(100)) {
     case 0: ask_badly(); break;
@@ -318,14 +318,14 @@ int main(int argc, char **argv) {
     any_begin(seed);
     part_new(0, PLACES);
     frames = 4;
-    must(ipl_open(store, 0, PLACES, frames) == IPL_NOT_FORMATTED, "an unformatted part", 0);
-    must(ipl_format(0, 4, 0, NULL) == IPL_GEOMETRY, "four places", 0);
-    must(ipl_format(0, PLACES, PLACES - 4, NULL) == IPL_GEOMETRY, "no unit left", 0);
-    must(ipl_format(0, PLACES, 65, NULL) == IPL_GEOMETRY, "65 spare places", 0);
-    must(ipl_format(0, PLACES, SPARES, NULL) == IPL_OK, "a format", 0);
-    must(ipl_open(store, 0, PLACES, 1) == IPL_BAD_CALL, "one frame", 0);
-    must(ipl_open(store, 0, PLACES, 65) == IPL_BAD_CALL, "65 frames", 0);
-    must(ipl_open(store, 0, PLACES, frames) == IPL_OK, "an opening", 0);
+    must(part_open(store, 0, PLACES, frames) == IPL_NOT_FORMATTED, "an unformatted part", 0);
+    must(part_format(0, 4, 0, NULL) == IPL_BAD_PLACES, "four places", 0);
+    must(part_format(0, PLACES, PLACES - 4, NULL) == IPL_BAD_SPARES, "no unit left", 0);
+    must(part_format(0, PLACES, 65, NULL) == IPL_BAD_SPARES, "65 spare places", 0);
+    must(part_format(0, PLACES, SPARES, NULL) == IPL_OK, "a format", 0);
+    must(part_open(store, 0, PLACES, 1) == IPL_BAD_FRAMES, "one frame", 0);
+    must(part_open(store, 0, PLACES, 65) == IPL_BAD_FRAMES, "65 frames", 0);
+    must(part_open(store, 0, PLACES, frames) == IPL_OK, "an opening", 0);
     while (commits < wanted) step();
 
     /* The checker finds as many records as the copy has. */
@@ -335,9 +335,9 @@ int main(int argc, char **argv) {
     must(ipl_reopen(store) == IPL_OK && has(kept), "the last opening", 0);
     try_shutdown();
     ipl_close(store);
-    must(ipl_begin(store, 0) == IPL_BAD_CALL && ipl_unit_count(store) == 0, "a closed store", 0);
+    must(ipl_begin(store, 0) == IPL_NO_STORE && ipl_unit_count(store) == 0, "a closed store", 0);
     for (uint32_t name = 0; name < NAMES; name++) records += kept[name].there;
-    must(ipl_check(0, PLACES, &found, NULL) == IPL_OK && found == records, "the check", (int)found);
+    must(part_check(0, PLACES, &found, NULL) == IPL_OK && found == records, "the check", (int)found);
 
     struct part_counts counts = part_counts(0);
     uint64_t all = 0;

@@ -1,7 +1,6 @@
 /* Parts whose places wear out, two parts at a time: nothing that was answered is lost, and one place
  * more than are spare puts a store down. usage: wear [ROUNDS [SEED]] */
-#include "../ipl.h"
-#include "part.h"
+#include "store.h"
 #include <stdio.h>
 #include <stdlib.h>
 #include <string.h>
@@ -22,7 +21,7 @@ static void look_at_all(uint32_t part) {
     for (uint32_t name = 0; name < NAMES; name++) {
         uint8_t value[IPL_VALUE];
         uint32_t len, number;
-        int answer = ipl_committed(&stores[part], name, value, &len);
+        enum ipl_answer answer = ipl_committed(&stores[part], name, value, sizeof value, &len);
         must(answer == (kept[part][name] ? IPL_OK : IPL_NOTHING), "a record", answer);
         if (answer == IPL_NOTHING) continue;
         memcpy(&number, value, sizeof number);
@@ -36,7 +35,7 @@ static int commit_one(uint32_t part) {
     uint32_t name = any_below(NAMES), number = 1 + any_below(UINT32_MAX);
     uint8_t value[100] = {0};
     memcpy(value, &number, sizeof number);
-    int answer = ipl_begin(s, 5);
+    enum ipl_answer answer = ipl_begin(s, 5);
     if (answer == IPL_OK) answer = ipl_put(s, 5, name, value, sizeof value);
     if (answer == IPL_OK) answer = ipl_commit(s, 5);
     if (answer == IPL_OK) {
@@ -50,12 +49,12 @@ static int commit_one(uint32_t part) {
     uint32_t records = 0, found, was = kept[part][name] != 0;
     for (uint32_t i = 0; i < NAMES; i++) records += kept[part][i] != 0;
     ipl_close(s);
-    answer = ipl_check(part, PLACES, &found, NULL);
+    answer = part_check(part, PLACES, &found, NULL);
     must(answer == IPL_OK && (found == records || (!was && found == records + 1)), "the check",
          answer);
     /* An opening takes a place too, as a rule the one that was found worn. */
-    answer = ipl_open(s, part, PLACES, 3);
-    must(answer == IPL_OK || (answer == IPL_WORN_OUT && ipl_detail(s)[0] == SPARES + 1),
+    answer = part_open(s, part, PLACES, 3);
+    must(answer == IPL_OK || (answer == IPL_PART_WORN_OUT && ipl_detail(s)[0] == SPARES + 1),
          "an opening of a worn part", answer);
     shut += answer != IPL_OK;
     ipl_close(s);
@@ -73,8 +72,8 @@ int main(int argc, char **argv) {
             part_new(part, PLACES);
             ills.wears = 0;
             part_set_ills(part, ills);
-            must(ipl_format(part, PLACES, SPARES, NULL) == IPL_OK, "a format", 0);
-            must(ipl_open(&stores[part], part, PLACES, 3) == IPL_OK, "an opening", 0);
+            must(part_format(part, PLACES, SPARES, NULL) == IPL_OK, "a format", 0);
+            must(part_open(&stores[part], part, PLACES, 3) == IPL_OK, "an opening", 0);
             must(ipl_unit_count(&stores[part]) == PLACES - 4 - SPARES, "as many units", 0);
             ills.wears = 65536 / 60;
             part_set_ills(part, ills);

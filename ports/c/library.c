@@ -1,0 +1,142 @@
+/* The engine over libipl_port.a: its exports, its heap and its driver, all in the memory that is handed in. */
+#include "engine.h"
+#include <string.h>
+
+/* As handle.rt of ipl_port has them. The allocator takes no bytes, and a struct of one pointer is passed as that
+ * pointer. `part` comes back in each call of the driver. */
+struct ipl_handle { void *at; };
+uint32_t ipl_port_format(uint64_t part, uint32_t places, uint32_t spares, struct ipl_request *r);
+uint32_t ipl_port_check(uint64_t part, uint32_t places, struct ipl_request *r);
+uint32_t ipl_port_open_records(uint64_t part, uint32_t places, uint32_t frames, struct ipl_request *r, void **out);
+uint32_t ipl_port_open_keys(uint64_t part, uint32_t places, uint32_t frames, struct ipl_request *r, void **out);
+uint32_t ipl_port_call(struct ipl_handle handle, struct ipl_request *r, void **out);
+
+typedef char ipl_pointers_have_64_bits[sizeof(void *) == 8 ? 1 : -1];
+
+/* The heap begins behind it, and hands out one block after the other. */
+struct ipl_engine {
+    struct ipl_request request;
+    const struct ipl_driver *driver;
+    struct ipl_handle handle;
+    uint8_t *next, *end;
+};
+
+/* Each block is aligned so, whatever is asked. */
+enum { IPL_BLOCK = IPL_ENGINE_ALIGNMENT };
+enum { IPL_HEAD = (sizeof(struct ipl_engine) + IPL_BLOCK - 1) / IPL_BLOCK * IPL_BLOCK };
+
+/* ---- how much memory: as COSTS.md has it, and less than IPL_BLOCK more for each block */
+
+enum { IPL_OPEN_BLOCKS = 23, IPL_CHECK_BLOCKS = 17 };
+
+size_t ipl_engine_memory(uint32_t places, uint32_t frames) {
+    return (size_t)IPL_HEAD + 341176 + (size_t)504 * places + (size_t)16728 * frames + IPL_OPEN_BLOCKS * IPL_BLOCK;
+}
+
+size_t ipl_engine_check_memory(uint32_t places) {
+    return (size_t)IPL_HEAD + 197632 + (size_t)504 * places + IPL_CHECK_BLOCKS * IPL_BLOCK;
+}
+
+size_t ipl_engine_format_memory(void) { return IPL_HEAD; }
+
+/* ---- the heap: it is asked in an opening and a check alone, of which there is one at a time */
+
+struct tried { uint8_t ok; void *p; };
+
+struct tried rattle_alloc(size_t n, size_t align);
+struct tried rattle_realloc(void *p, size_t kept, size_t n, size_t align);
+void rattle_dealloc(void *p);
+
+static struct ipl_engine *taking;
+
+/* A block of no bytes has one of its own all the same. Where there is none, `p` isn't read, and isn't NULL. */
+struct tried rattle_alloc(size_t n, size_t align) {
+    struct tried t = {0, taking};
+    size_t left = (size_t)(taking->end - taking->next), size = n != 0 ? n : 1;
+    if (align > IPL_BLOCK || size > left) return t;
+    t.ok = 1;
+    t.p = taking->next;
+    size = (size + IPL_BLOCK - 1) / IPL_BLOCK * IPL_BLOCK;
+    taking->next += size < left ? size : left;
+    return t;
+}
+
+struct tried rattle_realloc(void *p, size_t kept, size_t n, size_t align) {
+    struct tried t = rattle_alloc(n, align);
+    if (t.ok) memcpy(t.p, p, kept < n ? kept : n);
+    return t;
+}
+
+void rattle_dealloc(void *p) { (void)p; }
+
+/* ---- the driver of the store that is called */
+
+int32_t ipl_nand_read(uint64_t part, uint32_t place, uint32_t sector, uint8_t *into, size_t length);
+int32_t ipl_nand_program(uint64_t part, uint32_t place, uint32_t sector, const uint8_t *from, size_t length);
+int32_t ipl_nand_erase(uint64_t part, uint32_t place);
+int32_t ipl_nand_barrier(uint64_t part);
+
+static const struct ipl_driver *driver_of(uint64_t part) {
+    return (const struct ipl_driver *)(uintptr_t)part;
+}
+
+static uint64_t part_of(const struct ipl_engine *e) { return (uint64_t)(uintptr_t)e->driver; }
+
+int32_t ipl_nand_read(uint64_t part, uint32_t place, uint32_t sector, uint8_t *into, size_t length) {
+    (void)length;
+    return driver_of(part)->read(driver_of(part)->context, place, sector, into);
+}
+
+int32_t ipl_nand_program(uint64_t part, uint32_t place, uint32_t sector, const uint8_t *from, size_t length) {
+    (void)length;
+    return driver_of(part)->program(driver_of(part)->context, place, sector, from);
+}
+
+int32_t ipl_nand_erase(uint64_t part, uint32_t place) {
+    return driver_of(part)->erase(driver_of(part)->context, place);
+}
+
+int32_t ipl_nand_barrier(uint64_t part) { return driver_of(part)->barrier(driver_of(part)->context); }
+
+/* ---- the engine */
+
+struct ipl_engine *ipl_engine_raise(void *at, size_t size, const struct ipl_driver *driver) {
+    struct ipl_engine *e = (struct ipl_engine *)at;
+    memset(e, 0, sizeof *e);
+    e->driver = driver;
+    e->next = (uint8_t *)at + IPL_HEAD;
+    e->end = (uint8_t *)at + size;
+    return e;
+}
+
+struct ipl_request *ipl_engine_request(struct ipl_engine *e) { return &e->request; }
+
+uint32_t ipl_engine_format(struct ipl_engine *e, uint32_t places, uint32_t spares) {
+    return ipl_port_format(part_of(e), places, spares, &e->request);
+}
+
+uint32_t ipl_engine_check(struct ipl_engine *e, uint32_t places) {
+    struct ipl_engine *outer = taking;
+    uint32_t answer;
+    taking = e;
+    answer = ipl_port_check(part_of(e), places, &e->request);
+    taking = outer;
+    return answer;
+}
+
+uint32_t ipl_engine_open(struct ipl_engine *e, enum ipl_engine_kind kind, uint32_t places, uint32_t frames) {
+    struct ipl_engine *outer = taking;
+    uint32_t answer;
+    taking = e;
+    if (kind == IPL_ENGINE_KEYS)
+        answer = ipl_port_open_keys(part_of(e), places, frames, &e->request, &e->handle.at);
+    else
+        answer = ipl_port_open_records(part_of(e), places, frames, &e->request, &e->handle.at);
+    taking = outer;
+    return answer;
+}
+
+uint32_t ipl_engine_call(struct ipl_engine *e) {
+    struct ipl_handle handle = e->handle;
+    return ipl_port_call(handle, &e->request, &e->handle.at);
+}

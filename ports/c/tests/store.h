@@ -1,0 +1,15 @@
+/* A store over a part in memory: its config is made here, and its memory, which has as many bytes as are
+ * wanted and not one more, begins at an odd address and holds rubbish. */
+#ifndef STORE_H
+#define STORE_H
+
+#include "../ipl.h"
+#include "part.h"
+
+enum ipl_answer part_format(uint32_t part, uint32_t places, uint32_t spares, uint32_t *detail);
+enum ipl_answer part_check(uint32_t part, uint32_t places, uint32_t *records, uint32_t *detail);
+enum ipl_answer part_open(struct ipl *s, uint32_t part, uint32_t places, uint32_t frames);
+enum ipl_answer part_open_keys(struct ipl_keys *k, uint32_t part, uint32_t places, uint32_t frames);
+/* Whether it is open. */
+int is_open(const struct ipl *s);
+#endif
