@@ -184,7 +184,7 @@ int ipl_is_up(enum ipl_answer answer);
  * Two stores may be used at the same time if their drivers may, but for the calls that open, close, abandon,
  * format and check: those are one at a time over all stores, since they share a list of the open ones.
  */
-struct ipl_state {
+struct ipl_facts {
     uint32_t places, frames, units;
     uint32_t is_down;  /* 1: the store does nothing until it is opened again */
     uint32_t worn;     /* so many erases found a place worn since the opening, and it was retired */
@@ -199,7 +199,7 @@ struct ipl {
     void *memory;
     size_t size;
     struct ipl_driver driver, counting;
-    struct ipl_state state;
+    struct ipl_facts facts;
     uint32_t tag, kind, is_busy, is_gone;
     uint32_t detail[4];
 };
@@ -243,7 +243,7 @@ enum ipl_answer ipl_abandon(struct ipl *s);
 /* How many units the part has: 960 names each, in 15 pages. 0 where no store is open. */
 uint32_t ipl_unit_count(const struct ipl *s);
 /* What is known of a store without asking the part. */
-enum ipl_answer ipl_state(const struct ipl *s, struct ipl_state *state);
+enum ipl_answer ipl_state(const struct ipl *s, struct ipl_facts *facts);
 /* The four numbers that go with the last answer, zeros but for what the table says. A call that answers 23 to
  * 28 leaves them as they were. Of NULL they are zeros. */
 const uint32_t *ipl_detail(const struct ipl *s);
@@ -293,7 +293,7 @@ enum ipl_answer ipl_keys_shutdown(struct ipl_keys *k, int drops);
 enum ipl_answer ipl_keys_reopen(struct ipl_keys *k);
 enum ipl_answer ipl_keys_abandon(struct ipl_keys *k);
 /* `units` is 0 here: a store of keys doesn't tell. */
-enum ipl_answer ipl_keys_state(const struct ipl_keys *k, struct ipl_state *state);
+enum ipl_answer ipl_keys_state(const struct ipl_keys *k, struct ipl_facts *facts);
 const uint32_t *ipl_keys_detail(const struct ipl_keys *k);
 
 enum ipl_answer ipl_keys_begin(struct ipl_keys *k, uint32_t session);

@@ -92,32 +92,32 @@ static enum ipl_answer ipl_answered(uint32_t number) { return (enum ipl_answer)n
 
 static int ipl_count(struct ipl *s, uint64_t *calls, int done) {
     *calls += 1;
-    if (done != IPL_NAND_DONE) s->state.failures++;
+    if (done != IPL_NAND_DONE) s->facts.failures++;
     return done;
 }
 
 static int ipl_read(void *context, uint32_t place, uint32_t sector, uint8_t *into) {
     struct ipl *s = (struct ipl *)context;
-    return ipl_count(s, &s->state.reads, s->driver.read(s->driver.context, place, sector, into));
+    return ipl_count(s, &s->facts.reads, s->driver.read(s->driver.context, place, sector, into));
 }
 
 static int ipl_program(void *context, uint32_t place, uint32_t sector, const uint8_t *from) {
     struct ipl *s = (struct ipl *)context;
-    return ipl_count(s, &s->state.programs, s->driver.program(s->driver.context, place, sector, from));
+    return ipl_count(s, &s->facts.programs, s->driver.program(s->driver.context, place, sector, from));
 }
 
 static int ipl_erase(void *context, uint32_t place) {
     struct ipl *s = (struct ipl *)context;
     int done = s->driver.erase(s->driver.context, place);
-    s->state.erases++;
-    if (done == IPL_NAND_WORN) s->state.worn++;
-    else if (done != IPL_NAND_DONE) s->state.failures++;
+    s->facts.erases++;
+    if (done == IPL_NAND_WORN) s->facts.worn++;
+    else if (done != IPL_NAND_DONE) s->facts.failures++;
     return done;
 }
 
 static int ipl_barrier(void *context) {
     struct ipl *s = (struct ipl *)context;
-    return ipl_count(s, &s->state.barriers, s->driver.barrier(s->driver.context));
+    return ipl_count(s, &s->facts.barriers, s->driver.barrier(s->driver.context));
 }
 
 /* ---- how much memory */
@@ -238,8 +238,8 @@ static enum ipl_answer ipl_start(struct ipl *s, const struct ipl_driver *driver,
     s->counting.program = ipl_program;
     s->counting.erase = ipl_erase;
     s->counting.barrier = ipl_barrier;
-    s->state.places = config->places;
-    s->state.frames = config->frames;
+    s->facts.places = config->places;
+    s->facts.frames = config->frames;
     IPL_LOCK();
     answer = ipl_list(s);
     IPL_UNLOCK();
@@ -266,7 +266,7 @@ static enum ipl_answer ipl_tell(struct ipl *s, uint32_t number) {
 static int ipl_is_blank(struct ipl *s) {
     uint8_t *bytes = (uint8_t *)s->memory;
     uint32_t place, i;
-    for (place = 0; place < s->state.places; place++) {
+    for (place = 0; place < s->facts.places; place++) {
         if (ipl_read(s, place, 0, bytes) != IPL_NAND_DONE) return 0;
         for (i = 0; i < IPL_SECTOR; i++)
             if (bytes[i] != 0xFF) return 0;
@@ -290,7 +290,7 @@ static enum ipl_answer ipl_tell_blank(struct ipl *s, enum ipl_answer answer) {
 
 static enum ipl_answer ipl_format_part(struct ipl *s, uint32_t spares) {
     ipl_raise(s);
-    return ipl_tell(s, ipl_engine_format(s->engine, s->state.places, spares));
+    return ipl_tell(s, ipl_engine_format(s->engine, s->facts.places, spares));
 }
 
 /* Opens the part in the store's memory, also where that had an engine before. */
@@ -298,11 +298,11 @@ static enum ipl_answer ipl_open_part(struct ipl *s) {
     enum ipl_answer answer;
     struct ipl_request *r;
     ipl_raise(s);
-    answer = ipl_tell(s, ipl_engine_open(s->engine, (enum ipl_engine_kind)s->kind, s->state.places, s->state.frames));
+    answer = ipl_tell(s, ipl_engine_open(s->engine, (enum ipl_engine_kind)s->kind, s->facts.places, s->facts.frames));
     if (answer == IPL_OK && s->kind == IPL_ENGINE_RECORDS) {
         r = ipl_engine_request(s->engine);
         r->op = IPL_OP_UNITS;
-        s->state.units = ipl_engine_call(s->engine) == IPL_OK ? r->name : 0;
+        s->facts.units = ipl_engine_call(s->engine) == IPL_OK ? r->name : 0;
     }
     return ipl_tell_blank(s, answer);
 }
@@ -324,7 +324,7 @@ enum ipl_answer ipl_check(struct ipl *s, const struct ipl_driver *driver, const 
     answer = ipl_start(s, driver, config, memory, size, IPL_WORK_CHECK);
     if (answer != IPL_OK) return answer;
     ipl_raise(s);
-    answer = ipl_tell(s, ipl_engine_check(s->engine, s->state.places));
+    answer = ipl_tell(s, ipl_engine_check(s->engine, s->facts.places));
     if (answer == IPL_OK) *records = ipl_engine_request(s->engine)->name;
     answer = ipl_tell_blank(s, answer);
     ipl_end(s);
@@ -381,7 +381,7 @@ static void ipl_begin_call(struct ipl *s) {
 }
 
 static enum ipl_answer ipl_end_call(struct ipl *s, enum ipl_answer answer) {
-    if (!ipl_is_up(answer)) s->state.is_down = 1;
+    if (!ipl_is_up(answer)) s->facts.is_down = 1;
     s->is_busy = 0;
     return answer;
 }
@@ -484,7 +484,7 @@ enum ipl_answer ipl_shutdown(struct ipl *s, int drops) {
     ipl_begin_call(s);
     if (drops) answer = ipl_abort_each(s);
     if (answer == IPL_OK) answer = ipl_ask(s, IPL_OP_SHUTDOWN, 0, 0);
-    if (answer == IPL_OK) s->state.is_down = 1;
+    if (answer == IPL_OK) s->facts.is_down = 1;
     return ipl_end_call(s, answer);
 }
 
@@ -492,13 +492,13 @@ enum ipl_answer ipl_reopen(struct ipl *s) {
     uint32_t units;
     enum ipl_answer answer = ipl_admit_any(s);
     if (answer != IPL_OK) return answer;
-    units = s->state.units;
+    units = s->facts.units;
     ipl_begin_call(s);
     s->is_gone = 1;
     answer = ipl_open_part(s);
     s->is_gone = answer != IPL_OK;
-    s->state.is_down = answer != IPL_OK;
-    if (answer != IPL_OK) s->state.units = units;
+    s->facts.is_down = answer != IPL_OK;
+    if (answer != IPL_OK) s->facts.units = units;
     s->is_busy = 0;
     return answer;
 }
@@ -513,22 +513,22 @@ enum ipl_answer ipl_abandon(struct ipl *s) {
     if (s->tag != IPL_TAG_OPEN) return IPL_NO_STORE;
     if (s->is_busy) {
         s->is_gone = 1;
-        s->state.is_down = 1;
+        s->facts.is_down = 1;
     }
     s->is_busy = 0;
     return IPL_OK;
 }
 
 uint32_t ipl_unit_count(const struct ipl *s) {
-    return s != NULL && s->self == s && s->tag == IPL_TAG_OPEN ? s->state.units : 0;
+    return s != NULL && s->self == s && s->tag == IPL_TAG_OPEN ? s->facts.units : 0;
 }
 
-enum ipl_answer ipl_state(const struct ipl *s, struct ipl_state *state) {
+enum ipl_answer ipl_state(const struct ipl *s, struct ipl_facts *facts) {
     enum ipl_answer answer;
-    if (state == NULL) return IPL_NULL_POINTER;
-    memset(state, 0, sizeof *state);
+    if (facts == NULL) return IPL_NULL_POINTER;
+    memset(facts, 0, sizeof *facts);
     answer = ipl_admit_any(s);
-    if (answer == IPL_OK) *state = s->state;
+    if (answer == IPL_OK) *facts = s->facts;
     return answer;
 }
 
@@ -630,8 +630,8 @@ enum ipl_answer ipl_keys_shutdown(struct ipl_keys *k, int drops) { return ipl_sh
 enum ipl_answer ipl_keys_reopen(struct ipl_keys *k) { return ipl_reopen(ipl_below(k)); }
 enum ipl_answer ipl_keys_abandon(struct ipl_keys *k) { return ipl_abandon(ipl_below(k)); }
 
-enum ipl_answer ipl_keys_state(const struct ipl_keys *k, struct ipl_state *state) {
-    return ipl_state(ipl_below_const(k), state);
+enum ipl_answer ipl_keys_state(const struct ipl_keys *k, struct ipl_facts *facts) {
+    return ipl_state(ipl_below_const(k), facts);
 }
 
 const uint32_t *ipl_keys_detail(const struct ipl_keys *k) { return ipl_detail(ipl_below_const(k)); }
