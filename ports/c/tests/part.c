@@ -57,6 +57,17 @@ void part_new(uint32_t part, uint32_t places) {
     it->worn = room(places, 0);
 }
 
+void part_new_blank(uint32_t part, uint32_t places) {
+    size_t size = (size_t)places * SECTORS * SECTOR;
+    part_new(part, places);
+    memset(parts[part].now, 0xFF, size);
+    memset(parts[part].lasting, 0xFF, size);
+}
+
+uint8_t *part_sector(uint32_t part, uint32_t place, uint32_t sector) {
+    return parts[part].now + ((size_t)place * SECTORS + sector) * SECTOR;
+}
+
 void part_free(uint32_t part) {
     struct part *it = &parts[part];
     free(it->now);

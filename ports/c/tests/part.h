@@ -23,7 +23,11 @@ struct part_counts {
 void part_new(uint32_t part, uint32_t places);
 /* Its driver, which is the same for good. */
 const struct ipl_driver *part_driver(uint32_t part);
+/* The same with bytes FF, as a part comes from its maker. */
+void part_new_blank(uint32_t part, uint32_t places);
 void part_free(uint32_t part);
+/* What a sector holds, to be looked at and changed beside the driver. */
+uint8_t *part_sector(uint32_t part, uint32_t place, uint32_t sector);
 /* No place is worn any more. */
 void part_mend(uint32_t part);
 /* The power goes in the k-th program, erase or barrier from now on (1: the next; 0: it stays on). */

@@ -56,6 +56,6 @@ enum ipl_answer part_open_keys(struct ipl_keys *k, uint32_t part, uint32_t place
 }
 
 int is_open(const struct ipl *s) {
-    struct ipl_state state;
+    struct ipl_facts state;
     return ipl_state(s, &state) == IPL_OK;
 }
