@@ -185,10 +185,12 @@ int ipl_is_up(enum ipl_answer answer);
  * format and check: those are one at a time over all stores, since they share a list of the open ones.
  */
 struct ipl_facts {
-    uint32_t places, frames, units;
+    uint32_t places, frames;
+    uint32_t units;    /* of a store of keys 0, and `spares` too, which isn't told */
+    uint32_t spares;   /* so many places were to spare when the part was formatted */
     uint32_t is_down;  /* 1: the store does nothing until it is opened again */
-    uint32_t worn;     /* so many erases found a place worn since the opening, and it was retired */
-    uint64_t reads, programs, erases, barriers; /* so often the part was asked since the opening, and by it */
+    uint32_t worn;     /* so many erases found a place worn since the opening, also through reopens */
+    uint64_t reads, programs, erases, barriers; /* so often the part was asked since then, the opening among it */
     uint64_t failures; /* so many of these failed */
 };
 
@@ -292,7 +294,6 @@ enum ipl_answer ipl_keys_close(struct ipl_keys *k);
 enum ipl_answer ipl_keys_shutdown(struct ipl_keys *k, int drops);
 enum ipl_answer ipl_keys_reopen(struct ipl_keys *k);
 enum ipl_answer ipl_keys_abandon(struct ipl_keys *k);
-/* `units` is 0 here: a store of keys doesn't tell. */
 enum ipl_answer ipl_keys_state(const struct ipl_keys *k, struct ipl_facts *facts);
 const uint32_t *ipl_keys_detail(const struct ipl_keys *k);
 

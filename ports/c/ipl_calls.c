@@ -293,6 +293,9 @@ static enum ipl_answer ipl_format_part(struct ipl *s, uint32_t spares) {
     return ipl_tell(s, ipl_engine_format(s->engine, s->facts.places, spares));
 }
 
+/* Each other place is a unit, or was to spare at the format. */
+enum { IPL_NO_UNITS = 4 };
+
 /* Opens the part in the store's memory, also where that had an engine before. */
 static enum ipl_answer ipl_open_part(struct ipl *s) {
     enum ipl_answer answer;
@@ -303,6 +306,7 @@ static enum ipl_answer ipl_open_part(struct ipl *s) {
         r = ipl_engine_request(s->engine);
         r->op = IPL_OP_UNITS;
         s->facts.units = ipl_engine_call(s->engine) == IPL_OK ? r->name : 0;
+        s->facts.spares = s->facts.places - IPL_NO_UNITS - s->facts.units;
     }
     return ipl_tell_blank(s, answer);
 }
@@ -489,16 +493,13 @@ enum ipl_answer ipl_shutdown(struct ipl *s, int drops) {
 }
 
 enum ipl_answer ipl_reopen(struct ipl *s) {
-    uint32_t units;
     enum ipl_answer answer = ipl_admit_any(s);
     if (answer != IPL_OK) return answer;
-    units = s->facts.units;
     ipl_begin_call(s);
     s->is_gone = 1;
     answer = ipl_open_part(s);
     s->is_gone = answer != IPL_OK;
     s->facts.is_down = answer != IPL_OK;
-    if (answer != IPL_OK) s->facts.units = units;
     s->is_busy = 0;
     return answer;
 }

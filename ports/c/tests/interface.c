@@ -480,7 +480,7 @@ static void try_state(void) {
     must(ipl_put(&store, 3, 9, "abc", 3) == IPL_OK && ipl_commit(&store, 3) == IPL_OK, "a commit");
     must(ipl_begin(&store, 4) == IPL_OK && ipl_put(&store, 4, 9, "xyz", 3) == IPL_OK, "a put that isn't committed");
     must(ipl_state(&store, &state) == IPL_OK && state.is_down == 0, "a store that is up");
-    must(state.places == PLACES && state.frames == FRAMES && state.units == PLACES - 5 && state.worn == 0, "its sizes");
+    must(state.places == PLACES && state.frames == FRAMES && state.units == PLACES - 5 && state.spares == 1 && state.worn == 0, "its sizes");
     after = part_counts(PART);
     must(state.reads == after.calls[READ] - before.calls[READ] && state.failures == 0, "its reads");
     must(state.programs == after.calls[PROGRAM] - before.calls[PROGRAM], "its programs");
