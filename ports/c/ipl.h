@@ -181,8 +181,8 @@ int ipl_is_up(enum ipl_answer answer);
  * open.
  *
  * A store is used by one call at a time, from any thread; not from an interrupt, and not from its driver.
- * Two stores may be used at the same time if their drivers may, but for the calls that open, close, abandon,
- * format and check: those are one at a time over all stores, since they share a list of the open ones.
+ * Two stores may be used at the same time if their drivers may, but for the calls that open, reopen, close,
+ * abandon, format and check: those are one at a time over all stores, since they share a list of the open ones.
  */
 struct ipl_facts {
     uint32_t places, frames;
@@ -246,8 +246,8 @@ enum ipl_answer ipl_abandon(struct ipl *s);
 uint32_t ipl_unit_count(const struct ipl *s);
 /* What is known of a store without asking the part. */
 enum ipl_answer ipl_state(const struct ipl *s, struct ipl_facts *facts);
-/* The four numbers that go with the last answer, zeros but for what the table says. A call that answers 23 to
- * 28 leaves them as they were. Of NULL they are zeros. */
+/* The four numbers that go with the last answer, zeros but for what the table says. A call of an open store
+ * that answers 23, 24, 26 or 27 leaves them as they were. Of NULL they are zeros. */
 const uint32_t *ipl_detail(const struct ipl *s);
 
 enum ipl_answer ipl_begin(struct ipl *s, uint32_t session);

@@ -2,18 +2,12 @@
 #include "engine.h"
 #include <string.h>
 
-/* The list of open stores is read and changed between these. A program whose threads open and close stores at
- * the same time defines them. */
-#ifndef IPL_LOCK
-#define IPL_LOCK()
-#define IPL_UNLOCK()
-#endif
-
 typedef char ipl_request_has_no_gaps[sizeof(struct ipl_request) == 648 ? 1 : -1];
 
 /* A struct that is no store's has another number there, as good as always, and another address. */
 enum ipl_tag { IPL_TAG_CLOSED = 0, IPL_TAG_OPENING = 0x69706C31, IPL_TAG_OPEN = 0x69706C32 };
 
+/* The one thing that stores share: the calls that read and change it are one at a time. */
 static struct ipl *ipl_open_stores;
 
 uint32_t ipl_version(void) { return IPL_VERSION; }
@@ -186,13 +180,11 @@ static enum ipl_answer ipl_list(struct ipl *s) {
 
 static void ipl_unlist(struct ipl *s) {
     struct ipl **at;
-    IPL_LOCK();
     for (at = &ipl_open_stores; *at != NULL; at = &(*at)->next)
         if (*at == s) {
             *at = s->next;
             break;
         }
-    IPL_UNLOCK();
     s->next = NULL;
 }
 
@@ -216,12 +208,8 @@ static enum ipl_answer ipl_start(struct ipl *s, const struct ipl_driver *driver,
                                  void *memory, size_t size, enum ipl_work work) {
     enum ipl_answer answer;
     size_t wanted;
-    int listed;
     if (s == NULL) return IPL_NULL_POINTER;
-    IPL_LOCK();
-    listed = ipl_is_listed(s);
-    IPL_UNLOCK();
-    if (listed) return IPL_STORE_IN_USE;
+    if (ipl_is_listed(s)) return IPL_STORE_IN_USE;
     memset(s, 0, sizeof *s);
     if (driver == NULL || config == NULL || memory == NULL) return IPL_NULL_POINTER;
     if (driver->read == NULL || driver->program == NULL || driver->erase == NULL || driver->barrier == NULL)
@@ -240,9 +228,7 @@ static enum ipl_answer ipl_start(struct ipl *s, const struct ipl_driver *driver,
     s->counting.barrier = ipl_barrier;
     s->facts.places = config->places;
     s->facts.frames = config->frames;
-    IPL_LOCK();
     answer = ipl_list(s);
-    IPL_UNLOCK();
     if (answer != IPL_OK) return answer;
     s->self = s;
     s->tag = IPL_TAG_OPENING;

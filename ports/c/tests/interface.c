@@ -81,7 +81,7 @@ static void try_memory(void) {
         format_it();
         for (size_t distance = 0; distance < 16; distance += i == 0 ? 1 : 15) open_exactly(&it, distance);
     }
-    /* The greatest part; a 32nd of that is enough to see that the places are counted. */
+    /* Also of a part with more places. */
     part_free(PART);
     part_new(PART, 40);
     struct ipl_config many = IPL_CONFIG(40, 2, 0);
