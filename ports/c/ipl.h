@@ -81,7 +81,7 @@ struct ipl_config {
     uint32_t spares;  /* of a format alone: places for those that wear out, 0 to 64, at most places - 5 */
 };
 /* A config, as in: struct ipl_config config = IPL_CONFIG(1024, 16, 20); */
-#define IPL_CONFIG(places, frames, spares) { IPL_VERSION, (places), (frames), (spares) }
+#define IPL_CONFIG(places, frames, spares) { IPL_VERSION, (uint32_t)(places), (uint32_t)(frames), (uint32_t)(spares) }
 
 /* How many bytes an opening wants, which do for a format and a check too; a check alone; a format alone.
  * 0: the config isn't one that an opening takes, or a check, or a format. */
@@ -176,9 +176,9 @@ int ipl_is_up(enum ipl_answer answer);
 /* ---- a store ------------------------------------------------------------------------------------
  *
  * Memory of yours, which stays where it is while the store is open, as the memory that was handed in does;
- * the driver and the config may go after the call. Don't touch it, nor copy it: a copy is no store. Before
- * an opening, a format or a check it may hold anything; for the other calls, zeros are a store that isn't
- * open.
+ * the driver and the config may go after the call. Don't touch it, nor copy it: a copy is no store; and
+ * close it before it goes. Before an opening, a format or a check it may hold anything; for the other calls,
+ * zeros are a store that isn't open.
  *
  * A store is used by one call at a time, from any thread; not from an interrupt, and not from its driver.
  * Two stores may be used at the same time if their drivers may, but for the calls that open, reopen, close,
@@ -208,8 +208,8 @@ struct ipl {
 
 /* ---- a part -------------------------------------------------------------------------------------
  *
- * No pointer may be NULL, here and below, but where it is said. `memory` begins at any address; it is the
- * store's until the store is closed, and of a format and a check until they return. Two drivers are of one
+ * No pointer may be NULL, here and below, but where it is said. `memory` begins at any address; as many bytes as
+ * are wanted are the store's until it is closed, or until a format or a check returns. Two drivers are of one
  * part where they have the same context and a function in common.
  */
 /* Formats a part. All that it held is gone. Nothing is open then. */

@@ -156,11 +156,14 @@ static int ipl_overlap(const void *a, size_t a_size, const void *b, size_t b_siz
     return x < y ? y - x < a_size : x - y < b_size;
 }
 
-static int ipl_is_listed(const struct ipl *s) {
+/* Whether a struct may be written to: no open store's bytes are in it. */
+static enum ipl_answer ipl_look_at_struct(const struct ipl *s) {
     const struct ipl *it;
-    for (it = ipl_open_stores; it != NULL; it = it->next)
-        if (it == s) return 1;
-    return 0;
+    for (it = ipl_open_stores; it != NULL; it = it->next) {
+        if (ipl_overlap(it, sizeof *it, s, sizeof *s)) return IPL_STORE_IN_USE;
+        if (ipl_overlap(it->memory, it->size, s, sizeof *s)) return IPL_MEMORY_IN_USE;
+    }
+    return IPL_OK;
 }
 
 /* Puts a store on the list, unless what it wants is another's. */
@@ -169,8 +172,7 @@ static enum ipl_answer ipl_list(struct ipl *s) {
     if (ipl_overlap(s, sizeof *s, s->memory, s->size)) return IPL_MEMORY_IN_USE;
     for (it = ipl_open_stores; it != NULL; it = it->next) {
         if (ipl_is_one_part(&it->driver, &s->driver)) return IPL_PART_IN_USE;
-        if (ipl_overlap(it->memory, it->size, s->memory, s->size) || ipl_overlap(it, sizeof *it, s->memory, s->size)
-            || ipl_overlap(s, sizeof *s, it->memory, it->size))
+        if (ipl_overlap(it->memory, it->size, s->memory, s->size) || ipl_overlap(it, sizeof *it, s->memory, s->size))
             return IPL_MEMORY_IN_USE;
     }
     s->next = ipl_open_stores;
@@ -209,7 +211,8 @@ static enum ipl_answer ipl_start(struct ipl *s, const struct ipl_driver *driver,
     enum ipl_answer answer;
     size_t wanted;
     if (s == NULL) return IPL_NULL_POINTER;
-    if (ipl_is_listed(s)) return IPL_STORE_IN_USE;
+    answer = ipl_look_at_struct(s);
+    if (answer != IPL_OK) return answer;
     memset(s, 0, sizeof *s);
     if (driver == NULL || config == NULL || memory == NULL) return IPL_NULL_POINTER;
     if (driver->read == NULL || driver->program == NULL || driver->erase == NULL || driver->barrier == NULL)
@@ -219,7 +222,7 @@ static enum ipl_answer ipl_start(struct ipl *s, const struct ipl_driver *driver,
     wanted = ipl_wanted(config, work);
     if (size < wanted) return ipl_refuse(s, IPL_SMALL_MEMORY, (uint32_t)wanted);
     s->memory = memory;
-    s->size = size;
+    s->size = wanted;
     s->driver = *driver;
     s->counting.context = s;
     s->counting.read = ipl_read;

@@ -222,8 +222,12 @@ static void try_list(void) {
     must(ipl_format(&store, other, &config, more, sizeof more) == IPL_STORE_IN_USE, "also for another part");
     must(ipl_check(&store, other, &config, more, sizeof more, &records) == IPL_STORE_IN_USE, "and for a check");
     must(ipl_format(&second, other, &config, memory, sizeof memory) == IPL_MEMORY_IN_USE, "memory that is a store's");
-    must(ipl_format(&second, other, &config, memory + sizeof memory - 1, sizeof memory) == IPL_MEMORY_IN_USE,
+    must(ipl_format(&second, other, &config, memory + ipl_memory(&config) - 1, sizeof memory) == IPL_MEMORY_IN_USE,
          "the last byte of it");
+    must(ipl_open((struct ipl *)(void *)(memory + 4096), other, &config, more, sizeof more) == IPL_MEMORY_IN_USE,
+         "a struct in another's memory");
+    must(ipl_format((struct ipl *)(void *)((uint8_t *)&store + sizeof store - 8), other, &config, more, sizeof more)
+             == IPL_STORE_IN_USE, "a struct that begins in another");
     must(ipl_open((struct ipl *)(void *)(more + 64), other, &config, more, sizeof more) == IPL_MEMORY_IN_USE,
          "a struct in its own memory");
     after = part_counts(PART);
@@ -352,6 +356,7 @@ static void try_bad_input(void) {
 /* ---- records and keys */
 
 static void try_kinds(void) {
+    struct ipl_facts state;
     uint8_t value[8];
     uint32_t len, session = 0;
     format_it();
@@ -370,7 +375,14 @@ static void try_kinds(void) {
     must(ipl_keys_commit(&keys, 0) == IPL_OK && ipl_keys_reopen(&keys) == IPL_OK, "a reopen of keys");
     must(ipl_keys_begin(&keys, 0) == IPL_OK, "a begin of keys");
     must(ipl_keys_get(&keys, 0, "k", 1, value, 8, &len) == IPL_OK && value[0] == 'v', "a committed value");
+    must(ipl_keys_abandon(&keys) == IPL_OK && ipl_keys_del(&keys, 0, "k", 1) == IPL_OK, "no call to abandon");
     must(ipl_keys_abort_all(&keys) == IPL_OK && ipl_keys_abort(&keys, 0) == IPL_NOT_OPEN, "an abort of all");
+    must(ipl_keys_begin(&keys, 7) == IPL_OK && ipl_keys_shutdown(&keys, 0) == IPL_SESSIONS_OPEN, "a session of keys");
+    must(ipl_keys_detail(&keys)[0] == 7 && ipl_keys_shutdown(&keys, 1) == IPL_OK, "a shutdown that drops it");
+    must(ipl_keys_state(&keys, &state) == IPL_OK && state.is_down == 1 && state.units == 0, "what is known of keys");
+    must(ipl_keys_begin(&keys, 0) == IPL_DOWN && ipl_keys_reopen(&keys) == IPL_OK, "a reopen behind it");
+    must(ipl_keys_begin(&keys, 0) == IPL_OK, "a begin behind it");
+    must(ipl_keys_get(&keys, 0, "k", 1, value, 8, &len) == IPL_OK && value[0] == 'v', "the value is there");
     must(ipl_keys_close(&keys) == IPL_OK, "a close of keys");
     must(open_it() == IPL_OK, "an opening of records");
     must(ipl_keys_begin((struct ipl_keys *)(void *)&store, 0) == IPL_NO_SUCH_CALL, "a key of records");
