@@ -186,7 +186,7 @@ int ipl_is_up(enum ipl_answer answer);
  */
 struct ipl_facts {
     uint32_t places, frames;
-    uint32_t units;    /* of a store of keys 0, and `spares` too, which isn't told */
+    uint32_t units;
     uint32_t spares;   /* so many places were to spare when the part was formatted */
     uint32_t is_down;  /* 1: the store does nothing until it is opened again */
     uint32_t worn;     /* so many erases found a place worn since the opening, also through reopens */
@@ -294,6 +294,7 @@ enum ipl_answer ipl_keys_close(struct ipl_keys *k);
 enum ipl_answer ipl_keys_shutdown(struct ipl_keys *k, int drops);
 enum ipl_answer ipl_keys_reopen(struct ipl_keys *k);
 enum ipl_answer ipl_keys_abandon(struct ipl_keys *k);
+uint32_t ipl_keys_unit_count(const struct ipl_keys *k);
 enum ipl_answer ipl_keys_state(const struct ipl_keys *k, struct ipl_facts *facts);
 const uint32_t *ipl_keys_detail(const struct ipl_keys *k);
 
@@ -306,8 +307,10 @@ enum ipl_answer ipl_keys_put(struct ipl_keys *k, uint32_t session, const void *k
                              const void *value, uint32_t len);
 enum ipl_answer ipl_keys_del(struct ipl_keys *k, uint32_t session, const void *key, uint32_t key_len);
 enum ipl_answer ipl_keys_commit(struct ipl_keys *k, uint32_t session);
+enum ipl_answer ipl_keys_commit_all(struct ipl_keys *k, const uint32_t *sessions, uint32_t count);
 enum ipl_answer ipl_keys_abort(struct ipl_keys *k, uint32_t session);
 enum ipl_answer ipl_keys_abort_all(struct ipl_keys *k);
+enum ipl_answer ipl_keys_merge(struct ipl_keys *k, uint32_t unit);
 
 #ifdef __cplusplus
 }

@@ -291,7 +291,7 @@ static enum ipl_answer ipl_open_part(struct ipl *s) {
     struct ipl_request *r;
     ipl_raise(s);
     answer = ipl_tell(s, ipl_engine_open(s->engine, (enum ipl_engine_kind)s->kind, s->facts.places, s->facts.frames));
-    if (answer == IPL_OK && s->kind == IPL_ENGINE_RECORDS) {
+    if (answer == IPL_OK) {
         r = ipl_engine_request(s->engine);
         r->op = IPL_OP_UNITS;
         s->facts.units = ipl_engine_call(s->engine) == IPL_OK ? r->name : 0;
@@ -562,9 +562,10 @@ enum ipl_answer ipl_commit(struct ipl *s, uint32_t session) {
     return ipl_call(s, IPL_ENGINE_RECORDS, IPL_OP_COMMIT, session, 0);
 }
 
-enum ipl_answer ipl_commit_all(struct ipl *s, const uint32_t *sessions, uint32_t count) {
+static enum ipl_answer ipl_commit_each(struct ipl *s, enum ipl_engine_kind kind, const uint32_t *sessions,
+                                       uint32_t count) {
     struct ipl_request *r;
-    enum ipl_answer answer = ipl_admit(s, IPL_ENGINE_RECORDS);
+    enum ipl_answer answer = ipl_admit(s, kind);
     if (answer != IPL_OK) return answer;
     if (ipl_lacks(sessions, count, IPL_SESSIONS)) return IPL_NULL_POINTER;
     ipl_begin_call(s);
@@ -572,6 +573,10 @@ enum ipl_answer ipl_commit_all(struct ipl *s, const uint32_t *sessions, uint32_t
     r->len = count;
     if (count != 0 && count <= IPL_SESSIONS) memcpy(r->sessions, sessions, count * sizeof *sessions);
     return ipl_end_call(s, ipl_ask(s, IPL_OP_COMMIT_ALL, 0, 0));
+}
+
+enum ipl_answer ipl_commit_all(struct ipl *s, const uint32_t *sessions, uint32_t count) {
+    return ipl_commit_each(s, IPL_ENGINE_RECORDS, sessions, count);
 }
 
 enum ipl_answer ipl_abort(struct ipl *s, uint32_t session) {
@@ -620,6 +625,8 @@ enum ipl_answer ipl_keys_shutdown(struct ipl_keys *k, int drops) { return ipl_sh
 enum ipl_answer ipl_keys_reopen(struct ipl_keys *k) { return ipl_reopen(ipl_below(k)); }
 enum ipl_answer ipl_keys_abandon(struct ipl_keys *k) { return ipl_abandon(ipl_below(k)); }
 
+uint32_t ipl_keys_unit_count(const struct ipl_keys *k) { return ipl_unit_count(ipl_below_const(k)); }
+
 enum ipl_answer ipl_keys_state(const struct ipl_keys *k, struct ipl_facts *facts) {
     return ipl_state(ipl_below_const(k), facts);
 }
@@ -666,6 +673,14 @@ enum ipl_answer ipl_keys_del(struct ipl_keys *k, uint32_t session, const void *k
 
 enum ipl_answer ipl_keys_commit(struct ipl_keys *k, uint32_t session) {
     return ipl_call(ipl_below(k), IPL_ENGINE_KEYS, IPL_OP_COMMIT, session, 0);
+}
+
+enum ipl_answer ipl_keys_commit_all(struct ipl_keys *k, const uint32_t *sessions, uint32_t count) {
+    return ipl_commit_each(ipl_below(k), IPL_ENGINE_KEYS, sessions, count);
+}
+
+enum ipl_answer ipl_keys_merge(struct ipl_keys *k, uint32_t unit) {
+    return ipl_call(ipl_below(k), IPL_ENGINE_KEYS, IPL_OP_MERGE, 0, unit);
 }
 
 enum ipl_answer ipl_keys_abort(struct ipl_keys *k, uint32_t session) {

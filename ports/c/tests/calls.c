@@ -123,6 +123,7 @@ static void call_records(struct ipl *s) {
 }
 
 static void call_keys(struct ipl_keys *k) {
+    static const uint32_t sessions[] = {31, 30};
     static const uint8_t bytes[IPL_KEY_VALUE] = {1, 2, 3};
     uint8_t value[IPL_KEY_VALUE];
     uint32_t len;
@@ -136,7 +137,11 @@ static void call_keys(struct ipl_keys *k) {
     was(ipl_keys_del(k, 3, NULL, IPL_KEY + 1), 6, 3, 0, "del by a long key, which isn't read");
     was(ipl_keys_del(k, 3, NULL, 0), 6, 3, 0, "del by no key");
     was(ipl_keys_commit(k, 3), 7, 3, 0, "commit of keys");
+    was(ipl_keys_commit_all(k, sessions, 2), 8, 0, 0, "commit of several of keys");
+    must(asked.len == 2 && asked.sessions[1] == 30, "which sessions of keys");
+    was(ipl_keys_commit_all(k, NULL, IPL_SESSIONS + 1), 8, 0, 0, "commit of too many of keys");
     was(ipl_keys_abort(k, 3), 9, 3, 0, "abort of keys");
+    was(ipl_keys_merge(k, 8), 10, 0, 8, "merge of keys");
     was(ipl_keys_shutdown(k, 0), 15, 0, 0, "shutdown of keys");
 }
 
@@ -195,7 +200,7 @@ static void try_parts(struct ipl *s, struct ipl_keys *k) {
     must(given[0] == 7 && given[1] == 8 && given[2] == IPL_ENGINE_RECORDS, "what an opening is asked");
     must(ipl_unit_count(s) == unit_count, "how many units");
     must(ipl_keys_open(k, &second, &config, second_memory, sizeof second_memory) == IPL_OK, "an opening for keys");
-    must(given[2] == IPL_ENGINE_KEYS, "which is of keys");
+    must(given[2] == IPL_ENGINE_KEYS && ipl_keys_unit_count(k) == unit_count, "which is of keys");
 }
 
 /* A store that didn't open again asks its engine nothing. */

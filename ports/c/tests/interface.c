@@ -358,7 +358,7 @@ static void try_bad_input(void) {
 static void try_kinds(void) {
     struct ipl_facts state;
     uint8_t value[8];
-    uint32_t len, session = 0;
+    uint32_t len, session = 0, twice[] = {0, 1, 0};
     format_it();
     must(ipl_keys_open(&keys, part_driver(PART), &config, memory, sizeof memory) == IPL_OK, "an opening of keys");
     must(ipl_keys_begin(&keys, 0) == IPL_OK && ipl_keys_put(&keys, 0, "k", 1, "v", 1) == IPL_OK, "a put by key");
@@ -379,11 +379,23 @@ static void try_kinds(void) {
     must(ipl_keys_abort_all(&keys) == IPL_OK && ipl_keys_abort(&keys, 0) == IPL_NOT_OPEN, "an abort of all");
     must(ipl_keys_begin(&keys, 7) == IPL_OK && ipl_keys_shutdown(&keys, 0) == IPL_SESSIONS_OPEN, "a session of keys");
     must(ipl_keys_detail(&keys)[0] == 7 && ipl_keys_shutdown(&keys, 1) == IPL_OK, "a shutdown that drops it");
-    must(ipl_keys_state(&keys, &state) == IPL_OK && state.is_down == 1 && state.units == 0, "what is known of keys");
+    must(ipl_keys_state(&keys, &state) == IPL_OK && state.is_down == 1 && state.units == PLACES - 5, "what is known of keys");
     must(ipl_keys_begin(&keys, 0) == IPL_DOWN && ipl_keys_reopen(&keys) == IPL_OK, "a reopen behind it");
     must(ipl_keys_begin(&keys, 0) == IPL_OK, "a begin behind it");
     must(ipl_keys_get(&keys, 0, "k", 1, value, 8, &len) == IPL_OK && value[0] == 'v', "the value is there");
-    must(ipl_keys_close(&keys) == IPL_OK, "a close of keys");
+    must(ipl_keys_abort(&keys, 0) == IPL_OK && ipl_keys_unit_count(&keys) == PLACES - 5, "units of keys");
+    must(ipl_keys_merge(&keys, PLACES - 6) == IPL_OK && ipl_keys_merge(&keys, PLACES - 5) == IPL_BAD_UNIT, "a merge of keys");
+    for (uint32_t s = 0; s < 2; s++) {
+        must(ipl_keys_begin(&keys, s) == IPL_OK, "two sessions of keys");
+        must(ipl_keys_put(&keys, s, s == 0 ? "one" : "two", 3, "w", 1) == IPL_OK, "which write");
+    }
+    must(ipl_keys_commit_all(&keys, twice, 3) == IPL_TWICE && ipl_keys_detail(&keys)[0] == 0, "one of them twice");
+    must(ipl_keys_commit_all(&keys, NULL, 33) == IPL_MANY_SESSIONS, "more than there are");
+    must(ipl_keys_commit_all(&keys, NULL, 2) == IPL_NULL_POINTER && ipl_keys_commit_all(&keys, NULL, 0) == IPL_OK, "none");
+    must(ipl_keys_commit_all(&keys, twice, 2) == IPL_OK && ipl_keys_abort(&keys, 1) == IPL_NOT_OPEN, "both of them");
+    must(ipl_keys_begin(&keys, 0) == IPL_OK, "a begin behind them");
+    must(ipl_keys_get(&keys, 0, "two", 3, value, 8, &len) == IPL_OK && value[0] == 'w', "what both wrote");
+    must(ipl_keys_close(&keys) == IPL_OK && ipl_keys_unit_count(&keys) == 0, "a close of keys");
     must(open_it() == IPL_OK, "an opening of records");
     must(ipl_keys_begin((struct ipl_keys *)(void *)&store, 0) == IPL_NO_SUCH_CALL, "a key of records");
     must(ipl_close(&store) == IPL_OK, "a close");
