@@ -31,7 +31,7 @@ struct ipl_request {
 enum ipl_op {
     IPL_OP_BEGIN = 1,      /* session */
     IPL_OP_GET = 2,        /* session; name or key, key_len: len, value */
-    IPL_OP_SHARE = 3,      /* session, name: len, value */
+    IPL_OP_SHARE = 3,      /* session; name: len, value; or key, key_len, and nothing comes back */
     IPL_OP_COMMITTED = 4,  /* name: len, value */
     IPL_OP_PUT = 5,        /* session; name or key, key_len; len, value: of more than 464 bytes the len alone */
     IPL_OP_DEL = 6,        /* session; name or key, key_len */

@@ -305,6 +305,9 @@ enum ipl_answer ipl_keys_get(struct ipl_keys *k, uint32_t session, const void *k
 /* Of 0 to 200 bytes; of none `value` isn't read, and may be NULL. */
 enum ipl_answer ipl_keys_put(struct ipl_keys *k, uint32_t session, const void *key, uint32_t key_len,
                              const void *value, uint32_t len);
+/* Keeps the key as it is for all others: no other session may write it, nor another key of the same bucket,
+ * until this one ends. It tells no value; a get does. */
+enum ipl_answer ipl_keys_share(struct ipl_keys *k, uint32_t session, const void *key, uint32_t key_len);
 enum ipl_answer ipl_keys_del(struct ipl_keys *k, uint32_t session, const void *key, uint32_t key_len);
 enum ipl_answer ipl_keys_commit(struct ipl_keys *k, uint32_t session);
 enum ipl_answer ipl_keys_commit_all(struct ipl_keys *k, const uint32_t *sessions, uint32_t count);

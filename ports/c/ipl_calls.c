@@ -661,14 +661,21 @@ enum ipl_answer ipl_keys_put(struct ipl_keys *k, uint32_t session, const void *k
     return ipl_end_call(s, ipl_ask(s, IPL_OP_PUT, session, 0));
 }
 
-enum ipl_answer ipl_keys_del(struct ipl_keys *k, uint32_t session, const void *key, uint32_t key_len) {
-    struct ipl *s = ipl_below(k);
+static enum ipl_answer ipl_call_key(struct ipl *s, enum ipl_op op, uint32_t session, const void *key, uint32_t key_len) {
     enum ipl_answer answer = ipl_admit(s, IPL_ENGINE_KEYS);
     if (answer != IPL_OK) return answer;
     if (ipl_lacks(key, key_len, IPL_KEY)) return IPL_NULL_POINTER;
     ipl_begin_call(s);
     ipl_take_key(s, key, key_len);
-    return ipl_end_call(s, ipl_ask(s, IPL_OP_DEL, session, 0));
+    return ipl_end_call(s, ipl_ask(s, op, session, 0));
+}
+
+enum ipl_answer ipl_keys_share(struct ipl_keys *k, uint32_t session, const void *key, uint32_t key_len) {
+    return ipl_call_key(ipl_below(k), IPL_OP_SHARE, session, key, key_len);
+}
+
+enum ipl_answer ipl_keys_del(struct ipl_keys *k, uint32_t session, const void *key, uint32_t key_len) {
+    return ipl_call_key(ipl_below(k), IPL_OP_DEL, session, key, key_len);
 }
 
 enum ipl_answer ipl_keys_commit(struct ipl_keys *k, uint32_t session) {

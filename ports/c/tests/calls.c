@@ -130,6 +130,8 @@ static void call_keys(struct ipl_keys *k) {
     was(ipl_keys_begin(k, 3), 1, 3, 0, "begin of keys");
     was(ipl_keys_get(k, 3, "key", 3, value, sizeof value, &len), 2, 3, 0, "get by key");
     must(asked.key_len == 3 && memcmp(asked.key, "key", 3) == 0, "which key");
+    was(ipl_keys_share(k, 3, "keep", 4), 3, 3, 0, "share of a key");
+    must(asked.key_len == 4 && memcmp(asked.key, "keep", 4) == 0, "which key is shared");
     was(ipl_keys_put(k, 3, "other", 5, bytes, 7), 5, 3, 0, "put by key");
     must(asked.key_len == 5 && asked.len == 7 && memcmp(asked.value, bytes, 7) == 0, "what by key");
     was(ipl_keys_put(k, 3, "other", 5, NULL, IPL_KEY_VALUE + 1), 5, 3, 0, "put of too much by key, which isn't read");

@@ -389,6 +389,10 @@ static void try_kinds(void) {
         must(ipl_keys_begin(&keys, s) == IPL_OK, "two sessions of keys");
         must(ipl_keys_put(&keys, s, s == 0 ? "one" : "two", 3, "w", 1) == IPL_OK, "which write");
     }
+    must(ipl_keys_share(&keys, 1, "k", 1) == IPL_OK && ipl_keys_put(&keys, 0, "k", 1, "x", 1) == IPL_CONFLICT, "a share of a key");
+    must(ipl_keys_detail(&keys)[0] == 1 && ipl_keys_share(&keys, 0, "k", 1) == IPL_OK, "whose it is, and another share");
+    must(ipl_keys_share(&keys, 0, "two", 3) == IPL_CONFLICT && ipl_keys_share(&keys, 0, NULL, 0) == IPL_BAD_KEY, "none of a key that is written, nor of none");
+    must(ipl_keys_share(&keys, 0, NULL, 1) == IPL_NULL_POINTER && ipl_keys_share(&keys, 2, "k", 1) == IPL_NOT_OPEN, "nor so");
     must(ipl_keys_commit_all(&keys, twice, 3) == IPL_TWICE && ipl_keys_detail(&keys)[0] == 0, "one of them twice");
     must(ipl_keys_commit_all(&keys, NULL, 33) == IPL_MANY_SESSIONS, "more than there are");
     must(ipl_keys_commit_all(&keys, NULL, 2) == IPL_NULL_POINTER && ipl_keys_commit_all(&keys, NULL, 0) == IPL_OK, "none");
