@@ -1,0 +1,107 @@
+/* The memory of an engine: an opening and a check take what is said for each number of places and frames, and nothing is written past
+ * it; in less an opening answers that it is out of memory, or a trap. It has ipl.c within, to see the engine. */
+#include "ipl.c"
+#include <stdio.h>
+#include <stdlib.h>
+
+enum { PLACE = IPL_SECTORS * IPL_SECTOR, GUARD = 64 };
+
+/* A part in memory, whose bytes are turned, so that it begins erased. */
+static uint8_t *part;
+
+static int part_read(void *context, uint32_t place, uint32_t sector, uint8_t *into) {
+    const uint8_t *from = part + (size_t)place * PLACE + sector * IPL_SECTOR;
+    int i;
+    (void)context;
+    for (i = 0; i < IPL_SECTOR; i++) into[i] = (uint8_t)~from[i];
+    return IPL_NAND_DONE;
+}
+
+static int part_program(void *context, uint32_t place, uint32_t sector, const uint8_t *from) {
+    uint8_t *to = part + (size_t)place * PLACE + sector * IPL_SECTOR;
+    int i;
+    (void)context;
+    for (i = 0; i < IPL_SECTOR; i++) to[i] = (uint8_t)~from[i];
+    return IPL_NAND_DONE;
+}
+
+static int part_erase(void *context, uint32_t place) {
+    (void)context;
+    memset(part + (size_t)place * PLACE, 0, PLACE);
+    return IPL_NAND_DONE;
+}
+
+static int part_barrier(void *context) {
+    (void)context;
+    return IPL_NAND_DONE;
+}
+
+static const struct ipl_driver driver = {NULL, part_read, part_program, part_erase, part_barrier};
+
+static void must(int holds, const char *what, unsigned long number) {
+    if (holds) return;
+    printf("memory: %s: %lu\n", what, number);
+    exit(1);
+}
+
+/* An engine in so many bytes, with bytes of another kind behind them. */
+static uint8_t *memory;
+static size_t handed;
+
+static struct ipl_engine *raise_in(size_t size) {
+    handed = size;
+    free(memory);
+    memory = (uint8_t *)malloc(size + GUARD);
+    must(memory != NULL, "no memory", (unsigned long)size);
+    memset(memory, 0xE7, size + GUARD);
+    return ipl_engine_raise(memory, size, &driver);
+}
+
+static void nothing_is_written_behind(void) {
+    size_t i;
+    for (i = handed; i < handed + GUARD; i++) must(memory[i] == 0xE7, "written behind the memory", (unsigned long)i);
+}
+
+/* What of the memory an engine hasn't handed out of its heap. */
+static size_t left(const struct ipl_engine *e) { return (size_t)(e->end - e->heap); }
+
+static unsigned long in_less;
+
+static void in_too_little(uint32_t places, uint32_t frames) {
+    size_t whole = ipl_engine_memory(places, frames), size;
+    for (size = ipl_engine_format_memory(); size < whole; size += 1531) {
+        uint32_t answer = ipl_engine_open(raise_in(size), IPL_ENGINE_RECORDS, places, frames);
+        nothing_is_written_behind();
+        must(answer == IPL_OUT_OF_MEMORY || answer == IPL_TRAPPED, "too little memory is answered", answer);
+        in_less++;
+    }
+}
+
+int main(int argc, char **argv) {
+    static const uint32_t many[] = {5, 6, 9, 57, 257, 1028};
+    uint32_t most = argc > 1 ? (uint32_t)atoi(argv[1]) : 1028, i, frames, tried = 0;
+    for (i = 0; i < sizeof many / sizeof *many && many[i] <= most; i++) {
+        uint32_t places = many[i];
+        struct ipl_engine *e;
+        part = (uint8_t *)calloc(places, PLACE);
+        must(part != NULL, "no memory for a part of places", places);
+        e = raise_in(ipl_engine_format_memory());
+        must(ipl_engine_format(e, places, 0) == IPL_OK, "format of places", places);
+        nothing_is_written_behind();
+        e = raise_in(ipl_engine_check_memory(places));
+        must(ipl_engine_check(e, places) == IPL_OK, "check of places", places);
+        must(left(e) < 16, "bytes that a check leaves", (unsigned long)left(e));
+        nothing_is_written_behind();
+        for (frames = IPL_FRAMES_LEAST; frames <= IPL_FRAMES_MOST; frames += 1 + frames / 4) {
+            e = raise_in(ipl_engine_memory(places, frames));
+            must(ipl_engine_open(e, tried % 2 ? IPL_ENGINE_KEYS : IPL_ENGINE_RECORDS, places, frames) == IPL_OK, "opening", frames);
+            must(left(e) < 16, "bytes that an opening leaves", (unsigned long)left(e));
+            nothing_is_written_behind();
+            tried++;
+        }
+        if (places == 9) in_too_little(places, 3);
+        free(part);
+    }
+    printf("memory: %u openings that leave less than 16 bytes, %lu in too little memory\n", (unsigned)tried, in_less);
+    return 0;
+}
