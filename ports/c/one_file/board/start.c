@@ -1,0 +1,71 @@
+/* What a program needs to run on a Cortex-M under qemu's board mps2-an386: a start, and the few calls below newlib. What it prints
+ * and how it ends goes to the host by semihosting. BOARD_TRAPS_UNALIGNED: an access that isn't aligned stops it, as a Cortex-M0 does. */
+#include <stddef.h>
+#include <stdint.h>
+
+extern uint32_t board_bss, board_bss_end, board_data, board_data_end, board_data_load, board_stack_top;
+extern char board_heap;
+int main(int argc, char **argv);
+
+enum { SAYS = 0x04, ENDS = 0x20, APPLICATION_EXIT = 0x20026, FAULT_STATUS = 99 };
+
+static int host(int operation, const void *argument) {
+    register int r0 __asm("r0") = operation;
+    register const void *r1 __asm("r1") = argument;
+    __asm volatile("bkpt 0xab" : "+r"(r0) : "r"(r1) : "memory");
+    return r0;
+}
+
+__attribute__((noreturn)) void _exit(int status) {
+    uint32_t block[2] = {APPLICATION_EXIT, (uint32_t)status};
+    for (;;) host(ENDS, block);
+}
+
+static void reset(void) {
+    static char name[] = "test", count[] = BOARD_COUNT, seed[] = "2";
+    static char *words[] = {name, count, seed, NULL};
+    uint32_t *to = &board_data, *from = &board_data_load;
+    while (to < &board_data_end) *to++ = *from++;
+    for (to = &board_bss; to < &board_bss_end; to++) *to = 0;
+#ifdef BOARD_TRAPS_UNALIGNED
+    *(volatile uint32_t *)0xE000ED14 |= 8; /* UNALIGN_TRP of the control register */
+#endif
+    _exit(main(3, words));
+}
+
+static void fault(void) {
+    host(SAYS, "a fault of the processor\n");
+    _exit(FAULT_STATUS);
+}
+
+__attribute__((section(".vectors"), used)) static void (*const vectors[16])(void) = {
+    (void (*)(void))(uintptr_t)&board_stack_top, reset, fault, fault, fault, fault, fault};
+
+int _write(int file, const char *from, int count) {
+    char line[129];
+    int done = 0;
+    (void)file;
+    while (done < count) {
+        int n = 0;
+        while (n < 128 && done < count) line[n++] = from[done++];
+        line[n] = 0;
+        host(SAYS, line);
+    }
+    return count;
+}
+
+/* The heap is memory of the board's own: the test's part is there. */
+void *_sbrk(int count) {
+    static char *end = &board_heap;
+    char *start = end;
+    end += count;
+    return start;
+}
+
+int _close(int file) { (void)file; return -1; }
+int _fstat(int file, void *about) { (void)file; (void)about; return -1; }
+int _isatty(int file) { (void)file; return 1; }
+int _lseek(int file, int offset, int from) { (void)file; (void)offset; (void)from; return 0; }
+int _read(int file, char *into, int count) { (void)file; (void)into; (void)count; return 0; }
+int _kill(int process, int signal) { (void)process; (void)signal; return -1; }
+int _getpid(void) { return 1; }
