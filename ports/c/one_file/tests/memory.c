@@ -1,42 +1,9 @@
 /* The memory of an engine: an opening and a check take what is said for each number of places and frames, and nothing is written past
  * it; in less an opening answers that it is out of memory, or a trap. It has ipl.c within, to see the engine. */
 #include "ipl.c"
-#include <stdio.h>
-#include <stdlib.h>
+#include "turned_part.h"
 
-enum { PLACE = IPL_SECTORS * IPL_SECTOR, GUARD = 64 };
-
-/* A part in memory, whose bytes are turned, so that it begins erased. */
-static uint8_t *part;
-
-static int part_read(void *context, uint32_t place, uint32_t sector, uint8_t *into) {
-    const uint8_t *from = part + (size_t)place * PLACE + sector * IPL_SECTOR;
-    int i;
-    (void)context;
-    for (i = 0; i < IPL_SECTOR; i++) into[i] = (uint8_t)~from[i];
-    return IPL_NAND_DONE;
-}
-
-static int part_program(void *context, uint32_t place, uint32_t sector, const uint8_t *from) {
-    uint8_t *to = part + (size_t)place * PLACE + sector * IPL_SECTOR;
-    int i;
-    (void)context;
-    for (i = 0; i < IPL_SECTOR; i++) to[i] = (uint8_t)~from[i];
-    return IPL_NAND_DONE;
-}
-
-static int part_erase(void *context, uint32_t place) {
-    (void)context;
-    memset(part + (size_t)place * PLACE, 0, PLACE);
-    return IPL_NAND_DONE;
-}
-
-static int part_barrier(void *context) {
-    (void)context;
-    return IPL_NAND_DONE;
-}
-
-static const struct ipl_driver driver = {NULL, part_read, part_program, part_erase, part_barrier};
+enum { GUARD = 64 };
 
 static void must(int holds, const char *what, unsigned long number) {
     if (holds) return;
