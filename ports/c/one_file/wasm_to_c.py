@@ -515,8 +515,8 @@ def translation(module):
         raise Refused('%d globals and %d pieces of data' % (len(module.globals), len(module.data)))
     module.data_at, module.bytes = module.data[0] if module.data else (LEAST_DATA, b'\0')
     module.data_size = len(module.bytes)
-    if not LEAST_DATA <= module.data_at < 1 << 31:
-        raise Refused('data at an address that may be of memory')
+    if not LEAST_DATA <= module.data_at < 1 << 31 or module.data_at % 16:
+        raise Refused('data at an address that may be of memory, or is not aligned')
     yield 'enum { IPL_STACK = %d };' % module.globals[0]
     yield from data_of(module)
     for i, signature in enumerate(module.functions):
