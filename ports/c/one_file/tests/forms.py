@@ -67,11 +67,11 @@ HELPERS = '''
 (func $mix (param i64 i64) (result i64)
   (i64.xor (i64.rotl (local.get 0) (i64.const 7)) (i64.mul (local.get 1) (i64.const 1099511628211))))
 (func $writes (param i64 i64) (result i64)
-  (i64.store (i64.and (local.get 0) (i64.const 504)) (local.get 1))
+  (i64.store (i64.and (local.get 0) (i64.const 120)) (local.get 1))
   (global.set $g (i64.add (global.get $g) (i64.const 3)))
   (i64.add (local.get 0) (global.get $g)))
 (func $quiet (param i64)
-  (i32.store8 (i64.and (local.get 0) (i64.const 511)) (i32.wrap_i64 (local.get 0))))
+  (i32.store8 (i64.and (local.get 0) (i64.const 127)) (i32.wrap_i64 (local.get 0))))
 (func $sum (result i64) (local $i i64) (local $h i64)
   (loop $l
     (local.set $h (call $mix (local.get $h) (i64.load (local.get $i))))
@@ -185,6 +185,30 @@ def outside(text):
     text.export('unreachable', '(unreachable)')
 
 
+# What may stand on the stack, and what may come between it and what takes it.
+PENDING = ['(i64.load (call $a64 (i64.const 64)))', '(i64.load32_s offset=56 (i64.add (local.get 0) (i64.const 8)))',
+           '(i64.add (local.get 0) (i64.const 1))', '(i64.extend_i32_u (i64.lt_u (local.get 0) (i64.const 100)))', '(global.get $g)',
+           '(i64.div_u (i64.const 10000) (local.get 0))', '(local.get 0)', '(local.tee 0 (i64.const 72))']
+BETWEEN = ['(i64.store (call $a64 (i64.const 64)) (i64.const 999))', '(i32.store8 offset=4 (local.get 0) (i32.const 9))',
+           '(drop (call $writes (i64.const 64) (i64.const 777)))', '(call $quiet (i64.const 64))',
+           '(memory.fill (call $a64 (i64.const 60)) (i32.const 7) (call $a64 (i64.const 80)))',
+           '(memory.copy (call $a64 (i64.const 64)) (call $a64 (i64.const 200)) (call $a64 (i64.const 64)))',
+           '(local.set 0 (i64.const 200))', '(drop (local.tee 0 (i64.const 200)))', '(global.set $g (i64.const 5))',
+           '(block (br_if 0 (call $a32 (i32.const 0))) (i64.store (call $a64 (i64.const 64)) (i64.const 1)) (local.set 0 (i64.const 4)))',
+           '(loop $l (i64.store (local.get 0) (i64.const 3)) (local.set 0 (i64.add (local.get 0) (i64.const 8)))'
+           ' (br_if $l (i64.lt_u (local.get 0) (i64.const 128))))',
+           '(drop (block (result i64) (local.get 0) (br_if 0 (call $a32 (i32.const 1))) (drop) (local.set 0 (i64.const 9)) (i64.const 2)))']
+
+
+def orders(text):
+    """Each of what may stand on the stack, and each of what may come behind it, and change what it reads."""
+    for pending in PENDING:
+        for between in BETWEEN:
+            text.export('order', '(local.set 0 (i64.const 64)) (global.set $g (i64.const 1234))\n(i64.store (call $a64 (i64.const 64))'
+                        ' (i64.const 0x1122334455667788)) (i64.store (call $a64 (i64.const 120)) (i64.const 0x99AABBCCDDEEFF))\n'
+                        + pending + between + '(local.get 0) call $mix (global.get $g) call $mix (call $sum) call $mix', locals_='(local i64)')
+
+
 class Chance:
     """A function of a chance's choosing: instructions in the order of the stack, so that what stands there meets what changes it."""
 
@@ -230,7 +254,7 @@ class Chance:
 
     def address(self):
         self.want(64)
-        self.out('i64.const 1016 i64.and')
+        self.out('i64.const 120 i64.and')
 
     def number(self):
         bits = self.rng.choice((32, 64))
@@ -258,12 +282,12 @@ class Chance:
         if self.rng.random() < 0.6:
             load, _ = access('load', bits, self.rng.choice(LOADS[bits].split()))
             self.address()
-            self.gives('%s offset=%d' % (load, 8 * self.rng.randrange(64)), 1, bits)
+            self.gives('%s offset=%d' % (load, 8 * self.rng.randrange(8)), 1, bits)
         else:
             store, _ = access('store', bits, self.rng.choice(STORES[bits].split()))
             self.address()
             self.wants_more(bits)
-            self.gives('%s offset=%d align=1' % (store, self.rng.randrange(64)), 2)
+            self.gives('%s offset=%d align=1' % (store, self.rng.randrange(16)), 2)
 
     def wants_more(self, bits):
         self.out('local.get %d' % self.rng.choice([i for i, b in enumerate(self.LOCALS) if b == bits]))
@@ -294,7 +318,7 @@ class Chance:
             self.stack.pop()
         elif which == 6:
             self.address()
-            self.out('local.get 3 i64.const 504 i64.and local.get 5 i64.const 63 i64.and memory.copy')
+            self.out('local.get 3 i64.const 120 i64.and local.get 5 i64.const 63 i64.and memory.copy')
             self.stack.pop()
         elif len(self.stack) > self.floor():
             self.gives('drop', 1)
@@ -514,6 +538,7 @@ def main():
     rng = random.Random(seed)
     parts = [compare('operations', operations), compare('accesses', accesses), compare('copies and fills', spans),
              compare('addresses outside', outside, may_refuse=True),
+             compare('orders', orders),
              compare('functions by chance', lambda text: chances(text, rng, 300)), refusals()]
     print('forms: as the interpreter has them: ' + '; '.join(parts))
 
