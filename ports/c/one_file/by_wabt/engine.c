@@ -1,5 +1,6 @@
 /* engine.h over the module as wasm2c has it, for the tests alone, on a 64-bit host whose bytes go up. The data of the module stands at
  * 1.5 GB, so each engine has a memory of as many bytes by mmap, of which few are touched. */
+#define _GNU_SOURCE /* of mmap, that it may have no memory behind it */
 #include "../../engine.h"
 #include "ipl_wabt.h"
 #include <setjmp.h>
