@@ -170,13 +170,14 @@ def spans(text):
 
 def outside(text):
     """Addresses at and past the end of the memory. In C the last 4,096 bytes are out of reach too, but for an offset."""
-    for at in (PAGE - 8, PAGE - 7, PAGE, PAGE + 1, 2**31, 2**32 - 4, 2**63, 2**64 - 8, 2**64 - 1):
+    for at in (PAGE - 4352, PAGE - 4096, PAGE - 8, PAGE - 7, PAGE, PAGE + 1, 2**31, 2**32 - 4, 2**63, 2**64 - 8, 2**64 - 1):
         for offset in (0, 8, 4096, 5000, 65536):
             a = operand(at, 64, True)
             text.export('outside load %d %d' % (at, offset), '(i64.load offset=%d align=1 %s)' % (offset, a))
             text.export('outside store %d %d' % (at, offset), '(i32.store8 offset=%d %s (i32.const 1)) (i64.const 0)' % (offset, a))
-        text.export('outside sum %d' % at, '(i64.load align=1 (i64.add (local.tee $a %s) (i64.const 200)))' % operand(at, 64, True),
-                    locals_='(local $a i64)')
+        for offset in (0, 3900, 4090):
+            text.export('outside sum %d %d' % (at, offset), '(i64.load offset=%d align=1 (i64.add (local.tee $a %s) (i64.const 256)))'
+                        % (offset, operand(at, 64, True)), locals_='(local $a i64)')
         for n in (1, 8, 2**63, 2**64 - 1):
             text.export('outside fill %d %d' % (at, n), '(memory.fill %s (i32.const 0) %s) (i64.const 0)'
                         % (operand(at, 64, True), operand(n, 64, True)))
@@ -191,8 +192,8 @@ PENDING = ['(i64.load (call $a64 (i64.const 64)))', '(i64.load32_s offset=56 (i6
            '(i64.div_u (i64.const 10000) (local.get 0))', '(local.get 0)', '(local.tee 0 (i64.const 72))']
 BETWEEN = ['(i64.store (call $a64 (i64.const 64)) (i64.const 999))', '(i32.store8 offset=4 (local.get 0) (i32.const 9))',
            '(drop (call $writes (i64.const 64) (i64.const 777)))', '(call $quiet (i64.const 64))',
-           '(memory.fill (call $a64 (i64.const 60)) (i32.const 7) (call $a64 (i64.const 80)))',
-           '(memory.copy (call $a64 (i64.const 64)) (call $a64 (i64.const 200)) (call $a64 (i64.const 64)))',
+           '(memory.fill (local.get 0) (i32.const 7) (i64.const 80))',
+           '(memory.copy (local.get 0) (i64.const 200) (i64.const 64))',
            '(local.set 0 (i64.const 200))', '(drop (local.tee 0 (i64.const 200)))', '(global.set $g (i64.const 5))',
            '(block (br_if 0 (call $a32 (i32.const 0))) (i64.store (call $a64 (i64.const 64)) (i64.const 1)) (local.set 0 (i64.const 4)))',
            '(loop $l (i64.store (local.get 0) (i64.const 3)) (local.set 0 (i64.add (local.get 0) (i64.const 8)))'
@@ -512,6 +513,12 @@ REFUSED = {
                                       ' (local.get 0))))', 'bounds'),
     'a read by a bound that wraps': ('(func (export "f") (param i64) (result i32) (i32.load8_u offset=1610612736 (i64.add (i64.const -4)'
                                      ' (i64.and (local.get 0) (i64.const 3)))))', 'bounds'),
+    'a read by a sum whose bounds wrap': ('(func (export "f") (param i64) (result i32) (i32.load8_u (i64.add (i64.add (i64.const'
+                                          ' 1610612736) (i64.const -2)) (i64.and (local.get 0) (i64.const 3)))))', 'bounds'),
+    'a read by a product': ('(func (export "f") (param i64) (result i32) (i32.load8_u offset=1610612736 (i64.mul (i64.and (local.get 0)'
+                            ' (i64.const 1)) (i64.const 4))))', 'bounds'),
+    'a read by a shift that wraps': ('(func (export "f") (param i64) (result i32) (i32.load8_u offset=1610612736 (i64.extend_i32_u'
+                                     ' (i32.shl (i32.wrap_i64 (local.get 0)) (i32.const 31)))))', 'bounds'),
     'a fixed address of the memory': ('(func (export "f") (result i64) (i64.load (i64.const 64)))', 'bounds'),
     'a large offset': ('(func (export "f") (param i64) (result i64) (i64.load offset=2000000 (local.get 0)))', 'bounds'),
 }
