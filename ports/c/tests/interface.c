@@ -46,10 +46,12 @@ static void try_versions(void) {
 /* Opens and checks in exactly as many bytes as are wanted, from this distance of a multiple of 16 on. */
 static void open_exactly(const struct ipl_config *some, size_t distance) {
     size_t wanted = ipl_memory(some);
-    uint8_t *room = malloc(wanted + 2 * EDGE + 16), *at;
+    /* Up to 15 bytes come before a multiple of 16, and as many are its distance. */
+    size_t size = EDGE + 15 + distance + wanted + EDGE;
+    uint8_t *room = malloc(size), *at;
     uint32_t records;
     must(room != NULL, "room");
-    memset(room, GUARD, wanted + 2 * EDGE + 16);
+    memset(room, GUARD, size);
     at = room + EDGE + (16 - (uintptr_t)(room + EDGE) % 16) % 16 + distance;
     must(ipl_open(&store, part_driver(PART), some, at, wanted) == IPL_OK, "an opening in as much as is wanted");
     must(ipl_begin(&store, 0) == IPL_OK && ipl_put(&store, 0, 3, "abc", 3) == IPL_OK, "a put in it");
