@@ -89,19 +89,22 @@ faults_that_leave_down pages c before after fault old new units up down preserve
           (λ v k. StoryRests old.places (of pages state.map) k)
           (λ k. StoryRests old.places (of pages state.map) k) before after h state (Err fault) old new _ here way
           (λ later e split x image. inl (moments later e split x image));
-      ends = λ unrisen. (record {
-        limits_are = ap limits_of (sym units);
-        steady = way.steady unrisen;
-        rests = way.ends unrisen;
-        many =
-            let k = adds_all way.added h in
-            let is = at_end (λ e. EachStandsIn old.places before.units (of pages state.map) (adds_all e h))
-            way.added moments (held k.start k.story)
-            (held_is_image (says sector_in) k.start k.story) in
-            rests_in_units old.places (of pages state.map) k is.stands.layout (way.ends unrisen) is.stands.laid
-            ∙ is.count ∙ sym units;
-        up = λ runs. absurd (let clash : true ≡ false = sym down ∙ runs in cc clash);
-      }, tt);
+      ends = λ unrisen. (
+        record {
+          limits_are = ap limits_of (sym units);
+          steady = way.steady unrisen;
+          rests = way.ends unrisen;
+          many =
+              let k = adds_all way.added h in
+              let is = at_end (λ e. EachStandsIn old.places before.units (of pages state.map) (adds_all e h))
+              way.added moments (held k.start k.story)
+              (held_is_image (says sector_in) k.start k.story) in
+              rests_in_units old.places (of pages state.map) k is.stands.layout (way.ends unrisen) is.stands.laid
+              ∙ is.count ∙ sym units;
+          up = λ runs. absurd (let clash : true ≡ false = sym down ∙ runs in cc clash);
+        },
+        tt,
+      );
       drawn = drawn;
       excuse = (excused h state own).0;
       tells = (excused h state own).1;
