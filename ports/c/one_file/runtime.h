@@ -193,6 +193,50 @@ IPL_IN void ipl_fill(ipl_u8 *m, ipl_a end, ipl_u64 to, ipl_u32 x, ipl_u64 n) {
     IPL_SPAN(to, n);
     memset(m + (ipl_a)to, (ipl_u8)x, (size_t)n);
 }
+/* What a loop over bytes does, which goes at least once: of no bytes it would leave the memory. A move from the first byte on, or from
+ * the last one down, may read what it has written; else it is memmove's. */
+IPL_IN void ipl_spans(ipl_u8 *m, ipl_a end, ipl_u64 a, ipl_u64 b, ipl_u64 n) {
+    if (IPL_RARE(n == 0)) ipl_trap(m);
+    IPL_SPAN(a, n);
+    IPL_SPAN(b, n);
+}
+IPL_IN void ipl_rise(ipl_u8 *m, ipl_a end, ipl_u64 to, ipl_u64 from, ipl_u64 n) {
+    ipl_a i;
+    ipl_spans(m, end, to, from, n);
+    if (to - from >= n) memmove(m + (ipl_a)to, m + (ipl_a)from, (size_t)n);
+    else for (i = 0; i < n; i++) m[(ipl_a)to + i] = m[(ipl_a)from + i];
+}
+IPL_IN void ipl_fall(ipl_u8 *m, ipl_a end, ipl_u64 to, ipl_u64 from, ipl_u64 n) {
+    ipl_a i;
+    ipl_spans(m, end, to, from, n);
+    if (from - to >= n) memmove(m + (ipl_a)to, m + (ipl_a)from, (size_t)n);
+    else for (i = (ipl_a)n; i > 0; i--) m[(ipl_a)to + i - 1u] = m[(ipl_a)from + i - 1u];
+}
+IPL_IN ipl_u32 ipl_differ(ipl_u8 *m, ipl_a end, ipl_u64 a, ipl_u64 b, ipl_u64 n) {
+    const ipl_u8 *p, *q;
+    ipl_u64 bits = 0;
+    ipl_spans(m, end, a, b, n);
+    p = m + (ipl_a)a;
+    q = m + (ipl_a)b;
+    for (; n >= 8u; n -= 8u, p += 8, q += 8) bits |= ipl_get64u(p) ^ ipl_get64u(q);
+    for (; n != 0; n--) bits |= (ipl_u64)(*p++ ^ *q++);
+    return bits != 0;
+}
+IPL_IN ipl_u32 ipl_bits(ipl_u8 *m, ipl_a end, ipl_u64 a, ipl_u64 n) {
+    const ipl_u8 *p;
+    ipl_u64 bits = 0;
+    ipl_spans(m, end, a, a, n);
+    p = m + (ipl_a)a;
+    for (; n >= 8u; n -= 8u, p += 8) bits |= ipl_get64u(p);
+    for (; n != 0; n--) bits |= *p++;
+    bits |= bits >> 32;
+    bits |= bits >> 16;
+    return (ipl_u32)((bits | bits >> 8) & 255u);
+}
+#define IPL_RISE(to, from, n) ipl_rise(m, end, to, from, n)
+#define IPL_FALL(to, from, n) ipl_fall(m, end, to, from, n)
+#define IPL_DIFFER(a, b, n) ipl_differ(m, end, a, b, n)
+#define IPL_BITS(a, n) ipl_bits(m, end, a, n)
 #define IPL_COPY(to, from, n) ipl_copy(m, end, to, from, n)
 #define IPL_FILL(to, x, n) ipl_fill(m, end, to, x, n)
 

@@ -11,6 +11,9 @@ What a read or a division does where it isn't allowed is a trap, which ends the 
 than the module says, or not at all where nothing takes the number; but never after a write, a call or a copy that the module
 has behind it.
 
+A loop that moves, compares or joins bytes one by one becomes one such operation, which looks at its addresses once. The module is
+made for a processor without vectors, so that its compiler leaves such loops as they are.
+
 The data of the module stands at an address that no memory has. Each use of it has to be a read whose bounds are known here; it
 becomes a read of an array of constants. Any other use of such an address is refused."""
 import re
@@ -28,6 +31,30 @@ TYPE = {32: 'ipl_u32', 64: 'ipl_u64'}
 WRAPPING = {'add': '+', 'sub': '-', 'mul': '*', 'and': '&', 'or': '|', 'xor': '^'}
 COMPARING = {'eq': '==', 'ne': '!=', 'lt': '<', 'gt': '>', 'le': '<=', 'ge': '>='}
 EXTENDING = {'extend8_s': 8, 'extend16_s': 16, 'extend32_s': 32}
+# The lines of a loop over bytes, and what is written for it. Each word is a local, another one for each, and K is a number.
+LOOPS_OVER_BYTES = (
+    # A move from the first byte on; both addresses are counted up.
+    (('IPL_S8(to, 0u, IPL_L8(from, 0u));', 'to = (to + 1u);', 'from = (from + 1u);', 'n = (n - 1u);', 'if (n != 0u)'),
+     ('IPL_RISE(to, from, n);', 'to = (to + n);', 'from = (from + n);', 'n = 0u;')),
+    # The same, of addresses that are always as far apart.
+    (('IPL_S8(to, 0u, IPL_L8((to + apart), 0u));', 'to = (to + 1u);', 'n = (n - 1u);', 'if (n != 0u)'),
+     ('IPL_RISE(to, (to + apart), n);', 'to = (to + n);', 'n = 0u;')),
+    # The same, by an index.
+    (('IPL_S8((to + i), 0u, IPL_L8((from + i), 0u));', 'i = (i + 1u);', 'if (i != K)'),
+     ('IPL_RISE((to + i), (from + i), (K - i));', 'i = K;')),
+    # From the last byte down, by an index that ends at the first's, 0.
+    (('IPL_S8((to + i), 0u, IPL_L8((from + i), 0u));', 'i = (i - 1u);', 'if (i != 18446744073709551615ull)'),
+     ('IPL_FALL(to, from, (i + 1u));', 'i = 18446744073709551615ull;')),
+    # The same, by one that ends where a sum with it is 0.
+    (('i = (i - 1u);', 'IPL_S8((i + to), 0u, IPL_L8((i + from), 0u));', 'if ((less + i) != 0u)'),
+     ('IPL_FALL((to - less), (from - less), (less + i));', 'i = (0u - less);')),
+    # Whether bytes differ.
+    (('r = (r | (ipl_u32)(IPL_L8((one + i), 0u) != IPL_L8((other + i), 0u)));', 'i = (i + 1u);', 'if (i != K)'),
+     ('r = (r | IPL_DIFFER((one + i), (other + i), (K - i)));', 'i = K;')),
+    # Which bits bytes have.
+    (('r = (IPL_L8((from + i), 0u) | r);', 'i = (i + 1u);', 'if (i != K)'),
+     ('r = (IPL_BITS((from + i), (K - i)) | r);', 'i = K;')),
+)
 # Bytes of the access, by the name of a load or a store behind its type; else all bytes of the type.
 BYTES = {'8': 1, '16': 2, '32': 4}
 
@@ -450,7 +477,7 @@ class Function:
         for instruction in self.instructions:
             if self.translate(*instruction):
                 self.skip()
-        lines, unread = without_unread(self.lines)
+        lines, unread = without_unread(with_spans(self.lines))
         lines = [line.written() for line in lines if not line.text.endswith(':;') or line.text[:-2] in self.jumped_to]
         start = ['    IPL_ENDS'] if self.looks_at_addresses else []
         return '\n'.join([self.header() + ' {'] + self.declarations(unread) + start + lines + ['}'])
@@ -468,6 +495,50 @@ class Function:
             if 't%d' % (i + 1) not in unread:
                 names[bits].append('t%d' % (i + 1))
         return ['    %s %s;' % (TYPE[bits], ', '.join(names[bits][k:k + 16])) for bits in names for k in range(0, len(names[bits]), 16)]
+
+
+def pattern_of(lines):
+    names = set()
+
+    def piece(word):
+        name = word.group()
+        if name in names:
+            return '(?P=%s)' % name
+        names.add(name)
+        return r'(?P<K>\d+u(?:ll)?)' if name == 'K' else r'(?P<%s>l\d+)' % name
+
+    return re.compile(re.sub(r'\b(?:to|from|apart|less|one|other|n|i|r|K)\b', piece, re.escape(''.join(lines))))
+
+
+PATTERNS = [(pattern_of(lines), re.sub(r'\b(to|from|apart|less|one|other|n|i|r|K)\b', r'{\1}', '\n'.join(written)))
+            for lines, written in LOOPS_OVER_BYTES]
+
+
+def instead_of(loop):
+    """What is written for the lines of a loop, the last without its jump, where it is one over bytes."""
+    text = re.sub(r'if \(!\((l\d+) == 0\)\)', r'if (\1 != 0u)', ''.join(loop))
+    for pattern, written in PATTERNS:
+        found = pattern.fullmatch(text)
+        if found and len(set(found.groups())) == len(found.groups()):
+            return written.format(**found.groupdict()).split('\n')
+    return None
+
+
+def with_spans(lines):
+    """The lines with what looks at its addresses once for each loop over bytes."""
+    result, start = [], None
+    for line in lines:
+        if line.text.endswith(':;'):
+            start = len(result)
+        result.append(line)
+        if start is not None and line.text.endswith(' goto %s;' % result[start].text[:-2]):
+            loop = [it.written().strip() for it in result[start + 1:]]
+            loop[-1] = loop[-1].rsplit(' goto ', 1)[0]
+            written = instead_of(loop)
+            if written:
+                result[start:] = [Line('    ' + text) for text in written]
+                start = None
+    return result
 
 
 def without_unread(lines):

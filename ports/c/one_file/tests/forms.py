@@ -3,8 +3,8 @@
 
 Each module is run by wasm-interp, and as C that wasm_to_c.py makes of it, sanitized; what each export answers has to be the same. It
 has every operation over numbers at the edges of their types; every load and store, at each alignment; code of a chance's choosing,
-whose blocks, branches, locals, memory and calls change one another's operands; addresses past the end; and forms that have to be
-refused. It wants wabt (wat2wasm, wasm-interp) and a compiler of C, $CC."""
+whose blocks, branches, locals, memory and calls change one another's operands; addresses past the end; loops over bytes that lie over one
+another; and forms that have to be refused. It wants wabt (wat2wasm, wasm-interp) and a compiler of C, $CC."""
 import os
 import random
 import re
@@ -168,6 +168,65 @@ def spans(text):
         text.export('fill %d %d' % (to, n), '(memory.fill %s (i32.const %d) %s) (call $sum)' % (a, 0x1A5 + at, c))
 
 
+# Loops over bytes, as a compiler leaves them: locals 0, 1 are addresses, 2 counts, 3 is a distance, 4 has 32 bits. What stands first sets
+# them, from two addresses and a number of bytes.
+MORE = '(local.set %d (i64.add (local.get %d) (i64.const 1)))'
+LOOPS = {
+    'rise': ('(local.set 0 TO) (local.set 1 FROM) (local.set 2 N)', '(i32.store8 (local.get 0) (i32.load8_u (local.get 1)))'
+             + MORE % (0, 0) + MORE % (1, 1) + '(br_if $l (i64.ne (local.tee 2 (i64.add (local.get 2) (i64.const -1))) (i64.const 0)))'),
+    'rise apart': ('(local.set 0 TO) (local.set 3 (i64.sub FROM TO)) (local.set 2 N)',
+                   '(i32.store8 (local.get 0) (i32.load8_u (i64.add (local.get 0) (local.get 3))))' + MORE % (0, 0)
+                   + '(br_if $l (i32.eqz (i64.eqz (local.tee 2 (i64.add (local.get 2) (i64.const -1))))))'),
+    'rise to a number': ('(local.set 2 (i64.sub (i64.const 300) N)) (local.set 0 (i64.sub TO (local.get 2))) (local.set 1 (i64.sub FROM'
+                         ' (local.get 2)))', '(i32.store8 (i64.add (local.get 0) (local.get 2)) (i32.load8_u (i64.add (local.get 1)'
+                         ' (local.get 2))))' + MORE % (2, 2) + '(br_if $l (i64.ne (local.get 2) (i64.const 300)))'),
+    'fall': ('(local.set 0 TO) (local.set 1 FROM) (local.set 2 (i64.sub N (i64.const 1)))',
+             '(i32.store8 (i64.add (local.get 0) (local.get 2)) (i32.load8_u (i64.add (local.get 1) (local.get 2))))'
+             '(br_if $l (i64.ne (local.tee 2 (i64.add (local.get 2) (i64.const -1))) (i64.const -1)))'),
+    'fall to a sum': ('(local.set 3 (i64.const 77)) (local.set 2 (i64.sub N (local.get 3))) (local.set 0 (i64.add TO (local.get 3)))'
+                      ' (local.set 1 (i64.add FROM (local.get 3)))', '(local.set 2 (i64.add (local.get 2) (i64.const -1)))'
+                      '(i32.store8 (i64.add (local.get 2) (local.get 0)) (i32.load8_u (i64.add (local.get 2) (local.get 1))))'
+                      '(br_if $l (i64.ne (i64.add (local.get 3) (local.get 2)) (i64.const 0)))'),
+    'differ': ('(local.set 2 (i64.sub (i64.const 300) N)) (local.set 0 (i64.sub TO (local.get 2))) (local.set 1 (i64.sub FROM (local.get 2)))',
+               '(local.set 4 (i32.or (local.get 4) (i32.ne (i32.load8_u (i64.add (local.get 0) (local.get 2))) (i32.load8_u (i64.add'
+               ' (local.get 1) (local.get 2))))))' + MORE % (2, 2) + '(br_if $l (i64.ne (local.get 2) (i64.const 300)))'),
+    'bits': ('(local.set 2 (i64.sub (i64.const 300) N)) (local.set 0 (i64.sub FROM (local.get 2)))',
+             '(local.set 4 (i32.or (i32.load8_u (i64.add (local.get 0) (local.get 2))) (local.get 4)))' + MORE % (2, 2)
+             + '(br_if $l (i64.ne (local.get 2) (i64.const 300)))'),
+}
+# What looks like one of these, and isn't: an address that is its own other one.
+LIKE_LOOPS = {
+    'one address': ('(local.set 0 TO) (local.set 2 N)', '(i32.store8 (local.get 0) (i32.load8_u (local.get 0)))' + MORE % (0, 0) * 2
+                    + '(br_if $l (i64.ne (local.tee 2 (i64.add (local.get 2) (i64.const -1))) (i64.const 0)))'),
+    'a number counts both': ('(local.set 0 TO) (local.set 2 N)', '(i32.store8 (i64.add (local.get 0) (local.get 2)) (i32.load8_u (i64.add'
+                             ' (local.get 2) (local.get 2))))' + MORE % (2, 2) + '(br_if $l (i64.ne (local.get 2) (i64.const 300)))'),
+}
+
+
+def loop(text, name, parts, to, at, n):
+    first, body = parts
+    for word, number in (('TO', to), ('FROM', at), ('N', n)):
+        first = re.sub(r'\b%s\b' % word, operand(number, 64, True), first)
+    text.export('%s %d %d %d' % (name, to, at, n), first + '(loop $l %s)' % body + mixed(
+        ['(local.get %d)' % i for i in range(4)] + ['(i64.extend_i32_u (local.get 4))', '(call $sum)']).replace('$h', '5'),
+        locals_='(local i64 i64 i64 i64 i32 i64)')
+
+
+def loops(text):
+    """Each loop over bytes, of bytes that lie over one another at each small distance, behind and in front."""
+    for name, parts in LOOPS.items():
+        for n in (1, 2, 7, 8, 9, 31, 300):
+            for apart in (-300, -9, -8, -7, -1, 0, 1, 2, 7, 8, 9, 30, 31, 299, 300):
+                loop(text, name, parts, 700, 700 + apart, n)
+    return len(text.names)
+
+
+def like_loops(text):
+    for name, parts in LIKE_LOOPS.items():
+        loop(text, name, parts, 700, 600, 9)
+    return 0
+
+
 def outside(text):
     """Addresses at and past the end of the memory. In C the last 4,096 bytes are out of reach too, but for an offset."""
     for at in (PAGE - 4352, PAGE - 4096, PAGE - 8, PAGE - 7, PAGE, PAGE + 1, 2**31, 2**32 - 4, 2**63, 2**64 - 8, 2**64 - 1):
@@ -183,6 +242,9 @@ def outside(text):
                         % (operand(at, 64, True), operand(n, 64, True)))
             text.export('outside copy %d %d' % (at, n), '(memory.copy (i64.const 8) %s %s) (i64.const 0)'
                         % (operand(at, 64, True), operand(n, 64, True)))
+    for name, parts in LOOPS.items():
+        for to, at, n in ((64, 64, 0), (PAGE - 5, 64, 9), (64, PAGE - 5, 9), (PAGE + 9, 64, 9), (64, 2**64 - 3, 9), (2**63, 64, 300)):
+            loop(text, 'outside ' + name, parts, to, at, n)
     text.export('unreachable', '(unreachable)')
 
 
@@ -477,11 +539,16 @@ def answers_of_c(room, text):
 
 
 def compare(name, fill, may_refuse=False):
-    """Runs one module by both. May refuse: where the interpreter answers, C may have a trap, as in the last bytes of the memory."""
+    """Runs one module by both. May refuse: where the interpreter answers, C may have a trap, as in the last bytes of the memory. What
+    fills it may say how many loops over bytes are to become one operation."""
     text = Text()
-    fill(text)
+    count = fill(text)
     with tempfile.TemporaryDirectory() as room:
         expected, found = answers_of_interpreter(room, text), answers_of_c(room, text)
+        with open(os.path.join(room, 'functions.c'), encoding='utf-8') as file:
+            spans_made = len(re.findall(r'IPL_(?:RISE|FALL|DIFFER|BITS)\(', file.read()))
+    if count not in (None, spans_made):
+        sys.exit('forms: %s: %d loops became an operation, not %d' % (name, spans_made, count))
     wrong = len(expected) != len(text.names) or len(found) != len(text.names)
     for a, b in zip(expected, found):
         if a != b and not (may_refuse and b.endswith('error')):
@@ -544,6 +611,7 @@ def main():
     seed = int(sys.argv[1]) if len(sys.argv) > 1 else 1
     rng = random.Random(seed)
     parts = [compare('operations', operations), compare('accesses', accesses), compare('copies and fills', spans),
+             compare('loops over bytes', loops), compare('what looks like one', like_loops),
              compare('addresses outside', outside, may_refuse=True),
              compare('orders', orders),
              compare('functions by chance', lambda text: chances(text, rng, 300)), refusals()]
