@@ -1,6 +1,7 @@
 -- What calls of a store leave.
-use Rattle.std.proofs.Common.{◌≡◌, inl, inr, ℕ, ◌+◌, ◌≤◌, ◌||◌, nat_lt, Bool, true, false, List, length, Option, Some, None, Result, Ok, Err, IfErr, OnOk, is_ok, if◌then◌else◌, refl, sym, ◌∙◌, ap, subst, arith}
+use Rattle.std.proofs.Common.{◌≡◌, inl, inr, ℕ, ◌+◌, ◌≤◌, ◌||◌, nat_lt, Bool, true, false, length, Option, Some, None, Result, Ok, Err, IfErr, OnOk, is_ok, if◌then◌else◌, refl, sym, ◌∙◌, ap, subst, arith}
 use Rattle.std.proofs.lemmas.Bool.Decides.{nat_tests}
+use Rattle.number_set.specs.Flags.{Flags}
 use Rattle.chip_trait.specs.Told.{History, Told}
 use Rattle.chip_trait.proofs.CountsLemmas.{counts_none}
 use Rattle.ipl_base.specs.Places.{KeepsUnits}
@@ -265,7 +266,7 @@ blamed_so Finds x it (Err e) was is result ends a new same blamed =
     (e, refl, subst (λ (t : Tables). FailsByPage (Finds t) x it t e) same blamed)
 
 -- whether the chip tells its story or not
-pub blamed_surely : (old new : Store) (t : Transactions) (kept : List ℕ) (before after : Told)
+pub blamed_surely : (old new : Store) (t : Transactions) (kept : Flags) (before after : Told)
     (done : Result (Unit {0}) ChipFault) (result : Result (Unit {0}) StoreFault)
     → new ≡ record old { transactions = t; kept = kept; down = new.down }
     → EndsAs done old.down result new.down
@@ -284,7 +285,7 @@ shown_complete : (store : Store) (before : Told) (done : Result (Unit {0}) ChipF
 shown_complete store before done complete x told state shown =
     complete x told shown.layout state shown.fits shown.says
 
-module _ (next : State → State) (most : ℕ) (old : Store) (t : Transactions) (kept : List ℕ)
+module _ (next : State → State) (most : ℕ) (old : Store) (t : Transactions) (kept : Flags)
     (before after : Told) (done : Result (Unit {0}) ChipFault)
     (result : Result (Unit {0}) StoreFault) (new : Store) (up : old.down ≡ false)
     (sound : IsSound before.places old)
@@ -379,7 +380,7 @@ memory_calls next most old t told early sound up did least drawn none =
 
 -- ---- which pages are held, and which sessions are open
 
-pub kept_holds : (old new : Store) (t : Transactions) (kept : List ℕ)
+pub kept_holds : (old new : Store) (t : Transactions) (kept : Flags)
     → new ≡ record old { transactions = t; kept = kept; down = new.down }
     → KeepsPins old.transactions.pages.pool t.pages.pool → KeepsHolds old new
 kept_holds old new t kept rest pins =
@@ -497,7 +498,7 @@ throughout_done F G (Ok v) old new tells = tells
 throughout_done F G (Err e) old new tells = tt
 
 -- pages that stay in their frames
-pub kept_framed : (old new : Store) (t : Transactions) (kept : List ℕ)
+pub kept_framed : (old new : Store) (t : Transactions) (kept : Flags)
     → new ≡ record old { transactions = t; kept = kept; down = new.down }
     → KeepsFramed old.transactions.pages t.pages
     → KeepsFramed old.transactions.pages new.transactions.pages
@@ -506,7 +507,7 @@ kept_framed old new t kept rest framed =
     (sym (ap (λ (s : Store). s.transactions) rest)) framed
 
 -- and one that leaves its frame for a page
-pub kept_for : (u page : ℕ) (old new : Store) (t : Transactions) (kept : List ℕ)
+pub kept_for : (u page : ℕ) (old new : Store) (t : Transactions) (kept : Flags)
     → new ≡ record old { transactions = t; kept = kept; down = new.down }
     → KeepsFramedFor u page old.transactions.pages t.pages
     → KeepsFramedFor u page old.transactions.pages new.transactions.pages
@@ -515,7 +516,7 @@ kept_for u page old new t kept rest framed =
     (sym (ap (λ (s : Store). s.transactions) rest)) framed
 
 -- a page that the work leaves in a frame
-pub ended_framed : (u page : ℕ) (old new : Store) (t : Transactions) (kept : List ℕ)
+pub ended_framed : (u page : ℕ) (old new : Store) (t : Transactions) (kept : Flags)
     (done : Result (Unit {0}) ChipFault) (result : Result (Unit {0}) StoreFault)
     → new ≡ record old { transactions = t; kept = kept; down = new.down }
     → EndsAs done old.down result new.down → OnOk done (IsFramed t.pages u page)
@@ -526,7 +527,7 @@ ended_framed u page old new t kept done result rest ends framed =
     (sym (ap (λ (s : Store). s.transactions) rest)) framed)
 
 -- and as the one used last
-pub ended_used : (u page : ℕ) (old new : Store) (t : Transactions) (kept : List ℕ)
+pub ended_used : (u page : ℕ) (old new : Store) (t : Transactions) (kept : Flags)
     (done : Result (Unit {0}) ChipFault) (result : Result (Unit {0}) StoreFault)
     → new ≡ record old { transactions = t; kept = kept; down = new.down }
     → EndsAs done old.down result new.down → OnOk done (IsUsedLast t.pages.pool u page)
@@ -537,7 +538,7 @@ ended_used u page old new t kept done result rest ends used =
     (sym (ap (λ (s : Store). s.transactions) rest)) used)
 
 -- what its work asks of the chip, by the pages then
-pub ended_asks : (Asks : Bool → Pages → Type 0) (old new : Store) (t : Transactions) (kept : List ℕ)
+pub ended_asks : (Asks : Bool → Pages → Type 0) (old new : Store) (t : Transactions) (kept : Flags)
     (done : Result (Unit {0}) ChipFault) (result : Result (Unit {0}) StoreFault)
     → new ≡ record old { transactions = t; kept = kept; down = new.down }
     → EndsAs done old.down result new.down → Asks (is_worn_out done) t.pages
@@ -549,7 +550,7 @@ ended_asks Asks old new t kept done result rest ends asks =
     (sym (ap (λ (s : Store). s.transactions) rest)) asks)
 
 -- and what it costs
-pub ended_costs : (old new : Store) (t : Transactions) (kept : List ℕ) (before after : Told)
+pub ended_costs : (old new : Store) (t : Transactions) (kept : Flags) (before after : Told)
     (done : Result (Unit {0}) ChipFault) (result : Result (Unit {0}) StoreFault)
     → new ≡ record old { transactions = t; kept = kept; down = new.down }
     → EndsAs done old.down result new.down

@@ -1,6 +1,7 @@
 -- What a clean close of a store leaves.
 use Rattle.std.proofs.Common.{◌≡◌, ℕ, ◌+◌, ◌<◌, ◌≤◌, ◌^◌, true, false, List, length, Option, Some, None, Result, Ok, Err, OnOk, refl, sym, ◌∙◌, ap, subst}
 use Rattle.std.proofs.lemmas.Bool.{true≢false}
+use Rattle.number_set.specs.Flags.{Flags}
 use Rattle.chip_trait.specs.Told.{Told}
 use Rattle.chip_trait.proofs.CountsLemmas.{counts_then}
 use Rattle.ipl_base.specs.declared.fault.ChipFault.{ChipFault}
@@ -100,7 +101,7 @@ marks_store store parts before after written result ends steps tidy last costs a
 
 -- ---- the status place is made ready
 
-module _ (store : Store) (pages : Pages) (kept : List ℕ) (before told : Told)
+module _ (store : Store) (pages : Pages) (kept : Flags) (before told : Told)
     (done : Result (Unit {0}) ChipFault) (readied : Result (Unit {0}) StoreFault) (mid : Store)
     (up : store.down ≡ false) (sound : IsSound before.places store)
     (upholds : Upholds (2 ^ 14) store.transactions.pages before done pages told)

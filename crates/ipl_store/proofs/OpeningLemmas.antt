@@ -4,6 +4,7 @@ use Rattle.std.specs.FinMap.{empty}
 use Rattle.std.specs.Option.{option_map}
 use Rattle.std.proofs.lemmas.Bool.{cases_lt}
 use Rattle.std.proofs.lemmas.List.{get_or-replicate, get_or_past, length-replicate}
+use Rattle.number_set.specs.Flags.{Flags}
 use Rattle.chip_trait.specs.Story.{Contents}
 use Rattle.chip_trait.specs.Told.{History, Told}
 use Rattle.ipl_base.specs.Places.{KeepsUnits}
@@ -308,7 +309,7 @@ module _ (places : ℕ) (store : Store) (made : IsMade places store) (fresh : Is
 
 -- ---- a store whose tables an opening wrote
 
-abbrev pub recovered : Store → Parts → List ℕ → ℕ → ℕ → Bool → Store
+abbrev pub recovered : Store → Parts → Flags → ℕ → ℕ → Bool → Store
 recovered store parts kept scratch units down = record store {
   transactions = record store.transactions {
     pages = record store.transactions.pages { parts = parts };
@@ -319,7 +320,7 @@ recovered store parts kept scratch units down = record store {
   down = down;
 }
 
-pub made_recovered : (places : ℕ) (store : Store) (parts : Parts) (kept : List ℕ)
+pub made_recovered : (places : ℕ) (store : Store) (parts : Parts) (kept : Flags)
     (scratch units : ℕ) (down : Bool) → IsMade places store
     → (scratch ≡ store.scratch) × (length parts.directory.in_use ≡ places)
     × (parts.overflow.places ≡ places)

@@ -195,7 +195,7 @@ fn opens(rt: &impl Abort, alloc: Global, chip: &mut MemChip) -> Result<Found, Fa
         next: parts.counter.next(),
         listed: parts.overflow.count(0),
         has_twenty: parts.status.is_committed(20),
-        kept: kept.as_slice().len(),
+        kept: kept.flags().len(),
         erases: erases_of(rt, &parts.directory, geometry),
     })
 }

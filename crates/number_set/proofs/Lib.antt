@@ -1,3 +1,6 @@
 pub mod NumberLemmas
 mod SearchLemmas
 pub mod AmongLemmas
+mod BitLemmas
+mod GatherLemmas
+pub mod FlagLemmas

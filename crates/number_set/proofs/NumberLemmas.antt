@@ -123,11 +123,11 @@ with_numbers_grow (n ∷ more) l =
 
 -- ---- their order
 
-rise_tail : (k : ℕ) (l : List ℕ) → AreRising (k ∷ l) → AreRising l
+pub rise_tail : (k : ℕ) (l : List ℕ) → AreRising (k ∷ l) → AreRising l
 rise_tail k l rise = λ i j d less within. rise (suc i) (suc j) d (omega (arith, less))
     (omega (arith, within))
 
-rise_head : (k : ℕ) (l : List ℕ) → AreRising (k ∷ l) → All (IsLess k) l
+pub rise_head : (k : ℕ) (l : List ℕ) → AreRising (k ∷ l) → All (IsLess k) l
 rise_head k l rise = λ i d within. rise 0 (suc i) d (omega arith) (omega (arith, within))
 
 still_above : (k n : ℕ) (l : List ℕ) → k < n → All (IsLess k) l → All (IsLess k) (with_number n l)

@@ -1,8 +1,13 @@
 //! A set of numbers, in rising order.
-ghost use Rattle.std.specs.Prelude.{◌≡◌, ◌≤◌, ◌<◌, ◌+◌, ◌↔◌, [], length, Contains, IfOk, IsTrue};
+ghost use Rattle.std.specs.Prelude.{◌≡◌, ◌≤◌, ◌<◌, ◌+◌, ◌^◌, ◌↔◌, ℕ, [], length, take, drop, slice_index, vec_capacity, Contains, IfOk, IfSome, IsTrue};
+ghost use Rattle.std.specs.Option.{is_some};
+ghost use Rattle.ipl_base.specs.declared.limits.TheConstants.{COMMIT_NUMBERS};
+ghost use Rattle.number_set.specs.Flags.{flagged};
 ghost use Rattle.number_set.specs.Numbers.{with_list, with_number, with_numbers, empty_numbers, among, AreRising};
 
-use ipl_base::OutOfMemory;
+use crate::flags::Flags;
+use arrayvec::ArrayVec;
+use ipl_base::{COMMIT_NUMBERS, OutOfMemory};
 use std::alloc::Global;
 use std::marker::Model;
 
@@ -25,6 +30,58 @@ impl Model for NumberSet {
     ghost invariant = { λ s. AreRising s.items.items
         × (length s.items.items ≤ s.most)
         × (s.most ≤ vec_capacity s.items) };
+}
+
+/// Keeps those of the numbers that have a flag.
+fn compact(items: &mut Vec<u64>, flags: &Flags)
+    ensures flagged { items.new.items ≡ flagged flags.now items.old.items }
+    ensures capacity { vec_capacity items.old ≤ vec_capacity items.new }
+{
+    let mut kept = 0;
+    for i in 0..items.len() {
+        if flags.has(i) {
+            items[kept] = items[i];
+            kept += 1;
+        }
+    }
+    items.truncate(kept);
+}
+
+/// How many of the numbers have a flag.
+fn count(items: &[u64], flags: &Flags) -> usize
+    ensures { result ≡ length (flagged flags.now items.now) }
+{
+    let mut seen = 0;
+    for i in 0..items.len() {
+        if flags.has(i) {
+            seen += 1;
+        }
+    }
+    seen
+}
+
+/// That each number has 64 bits.
+fn fit(items: &[u64])
+    ensures { (i : ℕ) → i < length items.now → slice_index items.now i < 2 ^ 64 }
+{
+    let _ = items;
+}
+
+/// At most 60 of the numbers that have a flag: the first ones behind so many of these.
+fn gather(items: &[u64], flags: &Flags, start: usize) -> ArrayVec<u64, COMMIT_NUMBERS>
+    ensures { result.items ≡ take COMMIT_NUMBERS (drop start (flagged flags.now items.now)) }
+{
+    let mut part = ArrayVec::new();
+    let mut seen = 0;
+    for i in 0..items.len() {
+        if flags.has(i) {
+            if start <= seen && part.len() < COMMIT_NUMBERS {
+                part.push(items[i]);
+            }
+            seen += 1;
+        }
+    }
+    part
 }
 
 impl NumberSet {
@@ -51,26 +108,52 @@ impl NumberSet {
         let _ = &self.items;
     }
 
-    /// How many there are.
-    pub fn len(&self) -> usize
-        ensures { result ≡ length self.now.list }
-    {
-        self.items.len()
-    }
-
-    /// The numbers, in rising order.
-    pub fn as_slice(&self) -> &[u64]
-        ensures { result.now ≡ self.now.list }
-    {
-        &self.items
-    }
-
     /// Whether a number is one of them.
     pub fn has(&self, number: u64) -> bool
         ensures among { result ≡ among self.now.list number }
         ensures there { IsTrue result ↔ Contains self.now.list number }
     {
         self.items.binary_search(&number).is_ok()
+    }
+
+    /// The rank of a number, from 0, where it is one of them.
+    pub fn rank(&self, number: u64) -> Option<usize>
+        ensures among { is_some result ≡ among self.now.list number }
+        ensures there { IfSome result (λ at. (at < length self.now.list)
+            × (slice_index self.now.list at ≡ number)) }
+    {
+        match self.items.binary_search(&number) {
+            Ok(at) => Some(at),
+            Err(_) => None,
+        }
+    }
+
+    /// That each has 64 bits.
+    pub fn fit(&self)
+        ensures { (i : ℕ) → i < length self.now.list → slice_index self.now.list i < 2 ^ 64 }
+    {
+        fit(&self.items);
+    }
+
+    /// How many of them have a flag.
+    pub fn count(&self, flags: &Flags) -> usize
+        ensures { result ≡ length (flagged flags.now self.now.list) }
+    {
+        count(&self.items, flags)
+    }
+
+    /// At most 60 of those that have a flag: the first ones behind so many of these.
+    pub fn part(&self, flags: &Flags, start: usize) -> ArrayVec<u64, COMMIT_NUMBERS>
+        ensures { result.items ≡ take COMMIT_NUMBERS (drop start (flagged flags.now self.now.list)) }
+    {
+        gather(&self.items, flags, start)
+    }
+
+    /// Keeps those that have a flag.
+    pub fn keep(&mut self, flags: &Flags)
+        ensures { self.new ≡ with_list self.old (flagged flags.now self.old.list) }
+    {
+        compact(&mut self.items, flags);
     }
 
     /// Adds a number, unless it is one of them. That the set isn't full is a condition.
@@ -92,15 +175,5 @@ impl NumberSet {
         for number in numbers {
             self.add(*number);
         }
-    }
-
-    /// Makes these the numbers, which rise and are no more than there is room for.
-    pub fn take(&mut self, numbers: &[u64])
-        requires rising { AreRising numbers.now }
-        requires few { length numbers.now ≤ self.old.most }
-        ensures { self.new ≡ with_list self.old numbers.now }
-    {
-        self.clear();
-        let _ = self.items.extend_from_slice(numbers);
     }
 }

@@ -12,6 +12,7 @@ use Rattle.ipl_meaning.specs.Tables.{Places, OverflowLists, StatusTable, Tables,
 use Rattle.ipl_meaning.specs.TableSteps.{without_marks}
 use Rattle.ipl_meaning.proofs.MarkLemmas.{counted_follow_ends_of_marks}
 use Rattle.unit_directory.proofs.AsideLemmas.{next_places_are_aside}
+use Rattle.restart.specs.Joins.{Kept}
 use Rattle.restart.specs.Collected.{AreCollected}
 use Rattle.unit_io.specs.Reads.{OfContents}
 use Rattle.restart.specs.Opened.{CountsExactly, CountsWhole, KnowsWhole}
@@ -65,7 +66,7 @@ counted_still t after p s none keeps (small, inr (inl (first, has, high))) = (
 counted_still t after p s none keeps (small, inr (inr (is, high))) = absurd (omega (arith, small, high, none))
 
 -- where the numbers fit, they were found
-found_where_fit : (places : ℕ) (c : Chart) (fits : Bool) (numbers : List ℕ) → AreCollected places c fits numbers
+found_where_fit : (places : ℕ) (c : Chart) (fits : Bool) (numbers : Kept) → AreCollected places c fits numbers
     → NumbersFit places c → fits ≡ true
 found_where_fit places c true numbers it fit = refl
 found_where_fit places c false numbers it (most, few, has_all) =
@@ -74,7 +75,7 @@ found_where_fit places c false numbers it (most, few, has_all) =
     absurd (omega (arith, it.kept.more, within, few))
 
 -- what was counted by a mark is counted once no mark stands any more
-marks_counted : (places : ℕ) (fits : Bool) (numbers : List ℕ) (t after : Tables) (x : Contents)
+marks_counted : (places : ℕ) (fits : Bool) (numbers : Kept) (t after : Tables) (x : Contents)
     → CountsExactly places x t → AreCollected places (chart_of x) fits numbers → t.status.first ≡ 256
     → (fits ≡ true → KeepsLogs t after) → NumbersFit places (chart_of x) → CountsWhole places x (without_marks after)
 marks_counted places fits numbers t after x exact collected none keeps fit p s marked whole =
@@ -95,7 +96,7 @@ marks_known places t after x laid units homes knows p s it whole unknown =
     knows p s it whole (homes it.unit low still.unknown).unknown
 
 -- all of it
-pub takes_marks : (marks : Bool) (places : ℕ) (fits : Bool) (numbers : List ℕ) (t after : Tables) (old : Told)
+pub takes_marks : (marks : Bool) (places : ℕ) (fits : Bool) (numbers : Kept) (t after : Tables) (old : Told)
     → (marks ≡ true → OfContents old (λ x. CountsExactly places x t))
     → (marks ≡ true → OfContents old (λ x. KnowsWhole places x t))
     → OfContents old (λ x. AreCollected places (chart_of x) fits numbers) → OfContents old (λ x. t.status.first ≡ 256)

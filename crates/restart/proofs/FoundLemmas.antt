@@ -12,7 +12,7 @@ use Rattle.ipl_meaning.specs.Tables.{Tables}
 use Rattle.ipl_meaning.proofs.OnceLemmas.{laid_once}
 use Rattle.number_set.specs.Numbers.{with_numbers, AreRising}
 use Rattle.number_set.proofs.NumberLemmas.{numbers_are_a_union, length_with_numbers, with_numbers_grow, rising_with_numbers, rising_lists_are_one}
-use Rattle.restart.specs.Joins.{committed_in, joined}
+use Rattle.restart.specs.Joins.{Kept, committed_in, joined}
 use Rattle.restart.specs.Keeps.{IsLogged, KeepsBelow}
 use Rattle.restart.proofs.KeepsLemmas.{none_are_kept, units_join, joined_numbers_join}
 use Rattle.ipl_meaning.specs.LaidOut.{layout_in}
@@ -139,9 +139,9 @@ module _ (places : ℕ) (x : Contents) (it : Layout) (t : Tables)
 -- ---- what an opening collected
 
 -- it is so for each layout of the chart
-collected_keeps : (places : ℕ) (c : Chart) (it : Layout) (numbers : List ℕ)
+collected_keeps : (places : ℕ) (c : Chart) (it : Layout) (numbers : Kept)
     → AreCollected places c true numbers → Laid places c (layout_in c places) → Laid places c it
-    → KeepsBelow it.count it numbers
+    → KeepsBelow it.count it numbers.list
 collected_keeps places c it numbers all laid also tid =
     let one = laid_once places c (layout_in c places) it laid also in
     let count : (layout_in c places).count ≡ it.count = one.count in (
@@ -164,12 +164,12 @@ collected_keeps places c it numbers all laid also tid =
           )),
     )
 
-pub all_kept : (places : ℕ) (t : Tables) (fits : Bool) (numbers : List ℕ) (old mid : Told)
+pub all_kept : (places : ℕ) (t : Tables) (fits : Bool) (numbers : Kept) (old mid : Told)
     → mid.contents ≡ old.contents
     → ((x : Contents) → old.contents ≡ Some x → AreCollected places (chart_of x) fits numbers)
     → ((x : Contents) → old.contents ≡ Some x
     → Laid places (chart_of x) (layout_in (chart_of x) places))
-    → fits ≡ true → KeepsAll places t numbers mid
+    → fits ≡ true → KeepsAll places t numbers.list mid
 all_kept places t true numbers old mid same collected laid fit x told it mirrors =
     let there = sym same ∙ told in
     collected_keeps places (chart_of x) it numbers (collected x there) (laid x there) mirrors.laid
@@ -189,7 +189,7 @@ pub unread_first : (found : Bool) (old mid new : Told) → Spends ReadsNothing o
 unread_first true old mid new first second = unread_then old mid new first second
 unread_first false old mid new first second = tt
 
-pub once_where_fit : (places : ℕ) (fits : Bool) (numbers : List ℕ) (old mid new : Told)
+pub once_where_fit : (places : ℕ) (fits : Bool) (numbers : Kept) (old mid new : Told)
     → ReadsOnce Anywhere old mid → OnTrue fits (Spends ReadsNothing mid new)
     → ((x : Contents) → old.contents ≡ Some x → AreCollected places (chart_of x) fits numbers)
     → ReadsOnceWhereFit places old new

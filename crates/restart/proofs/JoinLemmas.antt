@@ -1,12 +1,16 @@
 -- The committed numbers of records join a list.
-use Rattle.std.proofs.Common.{◌≡◌, ◌↔◌, inl, inr, ℕ, ◌<◌, ◌≤◌, ◌+◌, Bool, true, false, IsTrue, List, [], ◌∷◌, ◌++◌, length, nat_lt, eqb, refl, sym, ◌∙◌, ap, subst, arith}
+use Rattle.std.proofs.Common.{◌≡◌, ◌↔◌, inl, inr, ℕ, ◌<◌, ◌≤◌, ◌+◌, Bool, true, false, IsTrue, List, [], ◌∷◌, ◌++◌, length, get_or, nat_lt, eqb, refl, sym, ◌∙◌, ap, subst, arith}
 use Rattle.std.specs.List.{Contains}
 use Rattle.std.proofs.lemmas.Bool.{cases_Bool, cases_lt, eqb-true}
 use Rattle.ipl_format.specs.Record.{Record}
-use Rattle.number_set.specs.Numbers.{Numbers, with_list, with_number, among, AreRising}
+use Rattle.std.specs.Prelude.{◌||◌, ◌==◌}
+use Rattle.std.proofs.lemmas.List.Elements.{Contains-get_or}
+use Rattle.number_set.specs.Flags.{Flags, has_flag, flagged}
+use Rattle.number_set.specs.Numbers.{with_number, among, AreRising}
+use Rattle.number_set.proofs.FlagLemmas.{flagged_more, flagged_has, flagged_rise}
 use Rattle.number_set.proofs.AmongLemmas.{among_is_contains}
 use Rattle.number_set.proofs.NumberLemmas.{contains_cons, contains_here, contains_there, with_numbers_grow, there_already}
-use Rattle.restart.specs.Joins.{committed_in, joined}
+use Rattle.restart.specs.Joins.{committed_in, joined, kept_of, IsExact}
 
 -- ---- which numbers there are
 
@@ -113,46 +117,91 @@ joined_both numbers (r ∷ xs) ys kept = elim (cases_Bool (among numbers r.tid))
   | inr other ↦ rw other (joined_both numbers xs ys kept)
 ]
 
--- the records that are left make of the set now what all of them make of the first one
-pub record AreLeft (numbers : List ℕ) (left all : List Record) (now first : Numbers) : Type 0 where
-  pub list : joined numbers left now.list ≡ joined numbers all first.list
+-- the records that are left make of the flags now what all of them make of the first ones
+pub record AreLeft (numbers : List ℕ) (left all : List Record) (now first : Flags) : Type 0 where
+  pub list : joined numbers left (flagged now numbers) ≡ joined numbers all (flagged first numbers)
   pub most : now.most ≡ first.most
+  pub room : now.room ≡ first.room
+  pub exact : IsExact (kept_of numbers first) → IsExact (kept_of numbers now)
 
-pub left_first : (numbers : List ℕ) (left all : List Record) (first : Numbers) → left ≡ all
+pub left_first : (numbers : List ℕ) (left all : List Record) (first : Flags) → left ≡ all
     → AreLeft numbers left all first first
 left_first numbers left all first same = record {
-  list = ap (λ (l : List Record). joined numbers l first.list) same;
+  list = ap (λ (l : List Record). joined numbers l (flagged first numbers)) same;
   most = refl;
+  room = refl;
+  exact = λ so. so;
 }
 
-module _ (numbers : List ℕ) (left part after all : List Record) (now first : Numbers)
+module _ (numbers : List ℕ) (left part after all : List Record) (now first : Flags)
     (step : left ≡ part ++ after) (so : AreLeft numbers left all now first) where
-  parted : joined numbers after (joined numbers part now.list) ≡ joined numbers all first.list
+  parted : joined numbers after (joined numbers part (flagged now numbers))
+      ≡ joined numbers all (flagged first numbers)
   parted =
-      sym (joined_both numbers part after now.list)
-      ∙ ap (λ (l : List Record). joined numbers l now.list) (sym step) ∙ so.list
+      sym (joined_both numbers part after (flagged now numbers))
+      ∙ ap (λ (l : List Record). joined numbers l (flagged now numbers)) (sym step) ∙ so.list
 
-  pub left_part : (next : Numbers) → next ≡ with_list now (joined numbers part now.list)
+  pub left_part : (next : Flags) → flagged next numbers ≡ joined numbers part (flagged now numbers)
+      → next.most ≡ now.most → next.room ≡ now.room
+      → (IsExact (kept_of numbers now) → IsExact (kept_of numbers next))
       → AreLeft numbers after all next first
-  left_part next is = record {
-    list = ap (λ (s : Numbers). joined numbers after s.list) is ∙ parted;
-    most = ap (λ (s : Numbers). s.most) is ∙ so.most;
+  left_part next is most room exact = record {
+    list = ap (joined numbers after) is ∙ parted;
+    most = most ∙ so.most;
+    room = room ∙ so.room;
+    exact = λ first_so. exact (so.exact first_so);
   }
 
   -- a part that doesn't fit
-  pub left_full : 3840 < length (joined numbers part now.list)
-      → 3840 < length (joined numbers all first.list)
-  left_full full =
-      let more = with_numbers_grow (committed_in numbers after) (joined numbers part now.list) in
-      let same = ap (λ (l : List ℕ). length l) parted in omega (arith, full, more, same)
+  pub left_full : (IsExact (kept_of numbers now) → 3840 < length (joined numbers part (flagged now numbers)))
+      → IsExact (kept_of numbers first) → 3840 < length (joined numbers all (flagged first numbers))
+  left_full full exact =
+      let more = with_numbers_grow (committed_in numbers after) (joined numbers part (flagged now numbers)) in
+      let same = ap (λ (l : List ℕ). length l) parted in omega (arith, full (so.exact exact), more, same)
 
-pub left_none : (numbers : List ℕ) (left all : List Record) (now first : Numbers) → left ≡ []
-    → AreLeft numbers left all now first → now ≡ with_list first (joined numbers all first.list)
+pub left_none : (numbers : List ℕ) (left all : List Record) (now first : Flags) → left ≡ []
+    → AreLeft numbers left all now first → flagged now numbers ≡ joined numbers all (flagged first numbers)
 left_none numbers left all now first none so =
-    let list : now.list ≡ joined numbers all first.list =
-    ap (λ (l : List Record). joined numbers l now.list) (sym none) ∙ so.list in
-    ap (λ (l : List ℕ). with_list now l) list
-    ∙ ap (λ (n : ℕ). record { list = joined numbers all first.list; most = n }) so.most
+    ap (λ (l : List Record). joined numbers l (flagged now numbers)) (sym none) ∙ so.list
+
+-- ---- a flag for one
+
+module _ (numbers : List ℕ) (r : Record) (set : Flags) (at : ℕ) (rise : AreRising numbers)
+    (low : at < length numbers) (is : get_or numbers at 0 ≡ r.tid) where
+  counts : among numbers r.tid ≡ true
+  counts = (among_is_contains numbers r.tid).1 (subst (Contains numbers) is (Contains-get_or numbers at 0 low))
+
+  has_it : IsTrue (has_flag set.bytes at) ↔ Contains (flagged set numbers) r.tid
+  has_it = flagged_has (has_flag set.bytes) 0 at at r.tid numbers rise low is (omega arith)
+
+  pub flagged_joins : has_flag set.bytes at ≡ true
+      → flagged set numbers ≡ joined numbers (r ∷ []) (flagged set numbers)
+  flagged_joins there = sym (known_joins numbers r (flagged set numbers)
+      (flagged_rise (has_flag set.bytes) 0 numbers rise) (has_it.0 there))
+
+  not_there : has_flag set.bytes at ≡ false → ¬ Contains (flagged set numbers) r.tid
+  not_there none has = let no_way : true ≡ false = sym (has_it.1 has) ∙ none in cc no_way
+
+  pub one_more_joins : has_flag set.bytes at ≡ false
+      → length (joined numbers (r ∷ []) (flagged set numbers)) ≡ length (flagged set numbers) + 1
+  one_more_joins none = full_joins numbers r (flagged set numbers) counts (not_there none)
+
+  pub raise_joins : (next : Flags) → ((j : ℕ) → has_flag next.bytes j ≡ ((j == at) || has_flag set.bytes j))
+      → flagged next numbers ≡ joined numbers (r ∷ []) (flagged set numbers)
+  raise_joins next more =
+      flagged_more (has_flag set.bytes) (has_flag next.bytes) 0 at at r.tid numbers rise low is (omega arith) more
+      ∙ sym (committed_joins numbers r (flagged set numbers) counts)
+
+  pub raise_exact : has_flag set.bytes at ≡ false → (next : Flags)
+      → ((j : ℕ) → has_flag next.bytes j ≡ ((j == at) || has_flag set.bytes j))
+      → next.count ≡ set.count + 1 → IsExact (kept_of numbers set) → IsExact (kept_of numbers next)
+  raise_exact none next more count exact = omega (
+    arith,
+    count,
+    exact,
+    ap (λ (l : List ℕ). length l) (raise_joins next more),
+    one_more_joins none,
+  )
 
 -- a test that says whether they fit, where they don't
 pub too_many : (fits : Bool) (n : ℕ) → (IsTrue fits ↔ (n ≤ 3840)) → fits ≡ false → 3840 < n

@@ -11,7 +11,7 @@ use Rattle.ipl_meaning.specs.Chart.{Chart}
 use Rattle.ipl_meaning.specs.Layout.{Entry, records_of}
 use Rattle.number_set.specs.Numbers.{AreRising}
 use Rattle.number_set.proofs.NumberLemmas.{contains_cons, contains_here, contains_there, numbers_are_a_union, rising_with_numbers}
-use Rattle.restart.specs.Joins.{committed_in, joined}
+use Rattle.restart.specs.Joins.{Kept, committed_in, joined}
 use Rattle.restart.specs.Keeps.{IsLogged, KeepsBelow}
 use Rattle.restart.proofs.JoinLemmas.{IsNumberOf, committed_is_logged}
 use Rattle.ipl_meaning.specs.First.{at}
@@ -184,7 +184,7 @@ module _ (c : Chart) (places : ℕ) (heads : List (Option KeptHeader)) (current 
         found_to numbers (header_at c places) (current_at c places) c (places * 256) tid k sector ((committed_are tid).0 is) within live own,
   )
 
-  pub all_collected : (fits : Bool) (kept : List ℕ) → AreKept (numbers_below numbers (at heads) (at current) c (places * 256)) fits kept
+  pub all_collected : (fits : Bool) (kept : Kept) → AreKept (numbers_below numbers (at heads) (at current) c (places * 256)) fits kept
       → AreCollected places c fits kept
   unfolding all_numbers
   all_collected fits kept are = record {

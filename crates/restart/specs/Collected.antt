@@ -7,7 +7,7 @@ use Rattle.ipl_format.specs.Sector.{Sector}
 use Rattle.log_records.specs.Reading.{records_of}
 use Rattle.ipl_meaning.specs.Chart.{Chart}
 use Rattle.number_set.specs.Numbers.{AreRising}
-use Rattle.restart.specs.Joins.{joined}
+use Rattle.restart.specs.Joins.{Kept, joined, IsExact}
 use Rattle.restart.specs.Keeps.{KeepsBelow}
 use Rattle.ipl_meaning.specs.Chosen.{KeptHeader, Winner}
 use Rattle.ipl_meaning.specs.LaidOut.{layout_in}
@@ -25,14 +25,15 @@ numbers_below committed heads current c zero = []
 numbers_below committed heads current c (suc k) =
     joined committed (records_at (live_at heads current c k)) (numbers_below committed heads current c k)
 
--- the numbers that were found are those that are kept, at most 3,840; or they don't fit, and are more
-pub record AreKept (found : List ℕ) (fits : Bool) (numbers : List ℕ) : Type 0 where
-  pub all : OnTrue fits (numbers ≡ found)
+-- the numbers that were found are those that are kept, at most 3,840, a flag for each; or they don't fit, and are more
+pub record AreKept (found : List ℕ) (fits : Bool) (numbers : Kept) : Type 0 where
+  pub all : OnTrue fits (numbers.list ≡ found)
+  pub exact : OnTrue fits (IsExact numbers)
   pub few : OnTrue fits (length found ≤ KEPT_NUMBERS)
   pub more : OnFalse fits (KEPT_NUMBERS < length found)
 
 -- the committed numbers that a live log record of the chart has, in rising order: they are kept, or they don't fit
-pub record AreCollected (places : ℕ) (c : Chart) (fits : Bool) (numbers : List ℕ) : Type 0 where
+pub record AreCollected (places : ℕ) (c : Chart) (fits : Bool) (numbers : Kept) : Type 0 where
   pub found : List ℕ
   pub rising : AreRising found
   pub exact : KeepsBelow (layout_in c places).count (layout_in c places) found

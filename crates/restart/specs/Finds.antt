@@ -1,5 +1,5 @@
 -- What an opening finds.
-use Rattle.std.specs.Prelude.{ℕ, ◌≡◌, Bool, true, false, List}
+use Rattle.std.specs.Prelude.{ℕ, ◌≡◌, Bool, true, false}
 use Rattle.chip_trait.specs.Told.{Told}
 use Rattle.ipl_meaning.specs.Chart.{chart_of}
 use Rattle.ipl_meaning.specs.Layout.{Laid}
@@ -9,6 +9,7 @@ use Rattle.unit_io.specs.Reads.{OfContents}
 use Rattle.selective_merge.specs.Known.{KnowsPlaces}
 use Rattle.ipl_meaning.specs.LaidOut.{layout_in}
 use Rattle.ipl_meaning.specs.Opened.{AreOpened}
+use Rattle.restart.specs.Joins.{Kept}
 use Rattle.restart.specs.Collected.{AreCollected}
 use Rattle.restart.specs.Opened.{HasFree, IsUnmarked, CountsMarked, CountsExactly, KnowsWhole}
 
@@ -17,7 +18,7 @@ use Rattle.restart.specs.Opened.{HasFree, IsUnmarked, CountsMarked, CountsExactl
 -- the tables know each of its places, and a place may be taken, however many of the spare ones are worn. What they
 -- count as clean is marked; where marks count, it is exactly what is marked of whole logs, of whose units something is
 -- known; and where they don't, it is nothing, and nothing is known of log sectors, whatever the chip tells.
-pub record FindsStore (places : ℕ) (told : Told) (marks : Bool) (t : Tables) (fits : Bool) (numbers : List ℕ)
+pub record FindsStore (places : ℕ) (told : Told) (marks : Bool) (t : Tables) (fits : Bool) (numbers : Kept)
     : Type 0 where
   pub opened : OfContents told (λ x. AreOpened places (chart_of x) t)
   pub laid : OfContents told (λ x. Laid places (chart_of x) (layout_in (chart_of x) places))

@@ -1,7 +1,8 @@
--- The committed numbers of records join a list.
-use Rattle.std.specs.Prelude.{ℕ, List, map}
+-- The committed numbers of records join those that are kept.
+use Rattle.std.specs.Prelude.{ℕ, ◌≡◌, List, length, map}
 use Rattle.std.specs.List.{filter}
 use Rattle.ipl_format.specs.Record.{Record}
+use Rattle.number_set.specs.Flags.{Flags, flagged}
 use Rattle.number_set.specs.Numbers.{with_numbers, among}
 
 -- the number of a record
@@ -15,3 +16,16 @@ committed_in numbers records = filter (among numbers) (map number_of records)
 -- those that are kept, and these
 abbrev pub joined : List ℕ → List Record → List ℕ → List ℕ
 joined numbers records kept = with_numbers (committed_in numbers records) kept
+
+-- the numbers that are kept, and how many flags were made for them
+pub record Kept : Type 0 where
+  pub list : List ℕ
+  pub count : ℕ
+
+-- those of these numbers that have a flag
+abbrev pub kept_of : List ℕ → Flags → Kept
+kept_of numbers flags = record { list = flagged flags numbers; count = flags.count }
+
+-- each flag stands beside a number
+abbrev pub IsExact : Kept → Type 0
+IsExact kept = kept.count ≡ length kept.list

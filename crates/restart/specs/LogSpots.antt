@@ -16,7 +16,7 @@ use Rattle.restart.specs.declared.collecting.Gathered.{Gathered}
 use Rattle.restart.specs.declared.findings.Findings.{Findings}
 use Rattle.restart.specs.declared.findings.Heads.{Heads}
 use Rattle.restart.specs.Collected.{records_at, AreKept}
-use Rattle.restart.specs.Joins.{joined}
+use Rattle.restart.specs.Joins.{joined, kept_of}
 use Rattle.restart.specs.Notes.{AreSized, IsNoted, FitsNotes}
 use Rattle.restart.specs.Masked.{SamePlaces, IsMasked}
 use Rattle.restart.specs.Counted.{SameHomes, StaysUnknown, AreHomes, AreReadLogs}
@@ -76,8 +76,8 @@ pub record TakesLog {T : Type 0} (result : Result T ImageFault) (heads : Heads) 
 -- the committed numbers of what was found, a live log sector or none, join those that are kept, where all of them fitted
 -- so far and do still
 abbrev pub JoinsRecords : Option Sector → Bool → Findings → Bool → Findings → Type 0
-JoinsRecords found before old after new = (numbers : List ℕ) → AreKept numbers before old.numbers.now
-    → AreKept (joined old.status.now.numbers (records_at found) numbers) after new.numbers.now
+JoinsRecords found before old after new = (numbers : List ℕ) → AreKept numbers before (kept_of old.status.now.numbers old.numbers.now)
+    → AreKept (joined old.status.now.numbers (records_at found) numbers) after (kept_of old.status.now.numbers new.numbers.now)
 
 -- what was known of each unit's log sectors by those below the number k is known by those below the number n then; of a
 -- unit of which nothing was known, nothing is; each has the place that it had; and the same is filled still
@@ -94,7 +94,7 @@ pub record ReadsLogs {T E : Type 0} (result : Result T E) (told : Told) (heads :
 -- those below the number k are found
 abbrev pub AreScanned : Contents → Heads → ℕ → ℕ → Gathered → Findings → Type 0
 AreScanned x heads least k gathered it = IsScanned x (at heads.all.now) (at heads.current.now) it.status.now.numbers least k
-    it.noted.now it.directory.now it.overflow.now it.numbers.now gathered.fits gathered.greatest
+    it.noted.now it.directory.now it.overflow.now (kept_of it.status.now.numbers it.numbers.now) gathered.fits gathered.greatest
 
 -- Once those below the number k were found, those below the number n are; or it fails with the fault of the first that
 -- has one, unless a call of the chip failed.

@@ -15,6 +15,7 @@ use Rattle.restart.specs.declared.findings.Heads.{Heads}
 use Rattle.restart.specs.Bytes.{IsRestWhole}
 use Rattle.restart.specs.Notes.{NotesHaveRoom, AreSized, IsNoted}
 use Rattle.restart.specs.Masked.{NoneNamed, mask_by, IsMasked}
+use Rattle.restart.specs.Joins.{kept_of}
 use Rattle.restart.specs.Collected.{numbers_below, AreKept}
 use Rattle.restart.specs.Counted.{NoneKnown, AreHomes, AreReadLogs, mark_for}
 use Rattle.restart.specs.Shown.{is_held, number_by}
@@ -43,7 +44,7 @@ pub record FindsRest (places : ℕ) (told : Told) (marks : Bool) (heads : Heads)
   pub number : OfContents told (λ x. all.greatest
       ≡ number_by (chart_of x) (at heads.all.now) (at heads.current.now) (Some winner) places)
   pub collected : OfContents told (λ x. AreKept (numbers_below it.status.now.numbers
-      (at heads.all.now) (at heads.current.now) (chart_of x) (places * 256)) all.fits it.numbers.now)
+      (at heads.all.now) (at heads.current.now) (chart_of x) (places * 256)) all.fits (kept_of it.status.now.numbers it.numbers.now))
   pub noted : OfContents told (λ x. IsNoted it.noted.now it.overflow.now
       (live_marks (at heads.all.now) (at heads.current.now) (chart_of x) (places * 256)))
   pub masked : OfContents told (λ x. IsMasked (at heads.all.now) (at heads.current.now)

@@ -2,7 +2,7 @@
 ghost use Rattle.std.specs.Prelude.{◌≡◌, ◌≤◌, ℕ, List, true, length};
 ghost use Rattle.ipl_base.specs.declared.limits.TheConstants.{PAYLOAD_LEN};
 ghost use Rattle.log_records.specs.Reading.{records_of};
-ghost use Rattle.restart.specs.Joins.{joined};
+ghost use Rattle.restart.specs.Joins.{joined, kept_of};
 ghost use Rattle.ipl_meaning.specs.Payloads.{is_log_payload};
 ghost use Rattle.restart.specs.Collected.{AreKept};
 
@@ -30,8 +30,9 @@ pub(crate) fn collect(
 ) -> bool
     requires list { is_log_payload version payload.now ≡ true }
     requires fits { length payload.now ≤ PAYLOAD_LEN }
-    ensures { (found : List ℕ) → AreKept found fits numbers.old
-        → AreKept (joined status.now.numbers (records_of version payload.now) found) result numbers.new }
+    ensures { (found : List ℕ) → AreKept found fits (kept_of status.now.numbers numbers.old)
+        → AreKept (joined status.now.numbers (records_of version payload.now) found) result
+        (kept_of status.now.numbers numbers.new) }
 {
     if !fits {
         return false;

@@ -1,77 +1,94 @@
-//! The committed numbers of log records join a set of numbers.
+//! The committed numbers of log records join those that are kept.
 ghost use Rattle.std.specs.Prelude.{◌≡◌, ◌<◌, [], ◌∷◌, length};
 ghost use Rattle.std.specs.Bool.{OnTrue, OnFalse};
-ghost use Rattle.ipl_base.specs.declared.limits.TheConstants.{KEPT_NUMBERS};
+ghost use Rattle.ipl_base.specs.declared.limits.TheConstants.{KEPT_NUMBERS, STATUS_NUMBERS};
 ghost use Rattle.log_records.specs.Reading.{records_of};
 ghost use Rattle.log_records.specs.View.{record_of};
-ghost use Rattle.number_set.specs.Numbers.{with_list, among};
+ghost use Rattle.number_set.specs.Flags.{flagged};
 ghost use Rattle.unit_log.specs.Kept.{records_kept};
-ghost use Rattle.restart.specs.Joins.{joined};
+ghost use Rattle.restart.specs.Joins.{joined, kept_of, IsExact};
 
 use ipl_base::KEPT_NUMBERS;
 use log_records::{Payload, Record, records};
-use number_set::NumberSet;
+use number_set::Flags;
 use txn_status::Status;
 use unit_log::LogSector;
 
-/// Whether a number is committed.
-fn is_committed(status: &Status, tid: u64) -> bool
-    ensures { result ≡ among status.now.numbers tid }
+/// Gives a flag to the number of a record, where it is committed. False exactly where it doesn't fit.
+fn add_number(kept: &mut Flags, logged: &Record, status: &Status) -> bool
+    requires most { kept.old.most ≡ KEPT_NUMBERS }
+    requires room { kept.old.room ≡ STATUS_NUMBERS }
+    ensures joined { OnTrue result (flagged kept.new status.now.numbers
+        ≡ joined status.now.numbers (record_of logged.now ∷ [])
+        (flagged kept.old status.now.numbers)) }
+    ensures full { OnFalse result (IsExact (kept_of status.now.numbers kept.old)
+        → KEPT_NUMBERS < length (joined status.now.numbers (record_of logged.now ∷ [])
+        (flagged kept.old status.now.numbers))) }
+    ensures exact { IsExact (kept_of status.now.numbers kept.old)
+        → IsExact (kept_of status.now.numbers kept.new) }
+    ensures most { kept.new.most ≡ kept.old.most }
+    ensures room { kept.new.room ≡ kept.old.room }
 {
-    status.is_committed(tid)
+    status.facts();
+    match status.rank(logged.tid) {
+        None => true,
+        Some(at) => {
+            if kept.has(at) {
+                return true;
+            }
+            kept.facts();
+            if kept.len() == KEPT_NUMBERS {
+                return false;
+            }
+            kept.raise(at);
+            true
+        }
+    }
 }
 
-/// Adds the number of a record, where it is committed. False exactly where it doesn't fit.
-fn add_number(set: &mut NumberSet, logged: &Record, status: &Status) -> bool
-    requires { set.old.most ≡ KEPT_NUMBERS }
-    ensures joined { OnTrue result (set.new ≡ with_list set.old
-        (joined status.now.numbers (record_of logged.now ∷ []) set.old.list)) }
-    ensures full { OnFalse result
-        (KEPT_NUMBERS < length (joined status.now.numbers (record_of logged.now ∷ []) set.old.list)) }
-    ensures most { set.new.most ≡ set.old.most }
-{
-    set.rises();
-    if !is_committed(status, logged.tid) || set.has(logged.tid) {
-        return true;
-    }
-    if set.len() == KEPT_NUMBERS {
-        return false;
-    }
-    set.add(logged.tid);
-    true
-}
-
-/// Adds the committed numbers of the records of a payload. False exactly where they don't all fit,
-/// and then it may have added some of them.
-pub(crate) fn add_payload(set: &mut NumberSet, payload: &Payload, status: &Status) -> bool
-    requires { set.old.most ≡ KEPT_NUMBERS }
-    ensures joined { OnTrue result (set.new ≡ with_list set.old
-        (joined status.now.numbers (records_of payload.now.version payload.now.bytes) set.old.list)) }
-    ensures full { OnFalse result
-        (KEPT_NUMBERS < length (joined status.now.numbers (records_of payload.now.version payload.now.bytes) set.old.list)) }
-    ensures most { set.new.most ≡ set.old.most }
+/// Gives a flag to each committed number of the records of a payload. False exactly where they don't
+/// all fit, and then some of them may have theirs.
+pub(crate) fn add_payload(kept: &mut Flags, payload: &Payload, status: &Status) -> bool
+    requires most { kept.old.most ≡ KEPT_NUMBERS }
+    requires room { kept.old.room ≡ STATUS_NUMBERS }
+    ensures joined { OnTrue result (flagged kept.new status.now.numbers
+        ≡ joined status.now.numbers (records_of payload.now.version payload.now.bytes)
+        (flagged kept.old status.now.numbers)) }
+    ensures full { OnFalse result (IsExact (kept_of status.now.numbers kept.old)
+        → KEPT_NUMBERS < length (joined status.now.numbers
+        (records_of payload.now.version payload.now.bytes) (flagged kept.old status.now.numbers))) }
+    ensures exact { IsExact (kept_of status.now.numbers kept.old)
+        → IsExact (kept_of status.now.numbers kept.new) }
+    ensures most { kept.new.most ≡ kept.old.most }
+    ensures room { kept.new.room ≡ kept.old.room }
 {
     let _ = payload.bytes();
     for logged in records(payload) {
-        if !add_number(set, &logged, status) {
+        if !add_number(kept, &logged, status) {
             return false;
         }
     }
     true
 }
 
-/// Adds the committed numbers of the records of log sectors. False exactly where they don't all fit,
-/// and then it may have added some of them.
-pub(crate) fn add_sectors(set: &mut NumberSet, sectors: &[LogSector], status: &Status) -> bool
-    requires { set.old.most ≡ KEPT_NUMBERS }
-    ensures joined { OnTrue result (set.new ≡ with_list set.old
-        (joined status.now.numbers (records_kept sectors.now) set.old.list)) }
-    ensures full { OnFalse result
-        (KEPT_NUMBERS < length (joined status.now.numbers (records_kept sectors.now) set.old.list)) }
-    ensures most { set.new.most ≡ set.old.most }
+/// Gives a flag to each committed number of the records of log sectors. False exactly where they don't
+/// all fit, and then some of them may have theirs.
+pub(crate) fn add_sectors(kept: &mut Flags, sectors: &[LogSector], status: &Status) -> bool
+    requires most { kept.old.most ≡ KEPT_NUMBERS }
+    requires room { kept.old.room ≡ STATUS_NUMBERS }
+    ensures joined { OnTrue result (flagged kept.new status.now.numbers
+        ≡ joined status.now.numbers (records_kept sectors.now)
+        (flagged kept.old status.now.numbers)) }
+    ensures full { OnFalse result (IsExact (kept_of status.now.numbers kept.old)
+        → KEPT_NUMBERS < length (joined status.now.numbers (records_kept sectors.now)
+        (flagged kept.old status.now.numbers))) }
+    ensures exact { IsExact (kept_of status.now.numbers kept.old)
+        → IsExact (kept_of status.now.numbers kept.new) }
+    ensures most { kept.new.most ≡ kept.old.most }
+    ensures room { kept.new.room ≡ kept.old.room }
 {
     for sector in sectors {
-        if !add_payload(set, &sector.payload, status) {
+        if !add_payload(kept, &sector.payload, status) {
             return false;
         }
     }

@@ -7,11 +7,13 @@ ghost use Rattle.chip_trait.specs.Story.{Contents};
 ghost use Rattle.ipl_meaning.specs.Chart.{chart_of};
 ghost use Rattle.ipl_meaning.specs.Layout.{Layout};
 ghost use Rattle.ipl_meaning.specs.Mirrors.{Mirrors};
+ghost use Rattle.number_set.specs.Flags.{flagged};
 ghost use Rattle.number_set.specs.Numbers.{AreRising};
 ghost use Rattle.selective_merge.specs.Known.{KnowsPlaces};
 ghost use Rattle.selective_merge.specs.Moving.{tables_of};
 ghost use Rattle.unit_io.specs.Costs.{Spends};
 ghost use Rattle.unit_io.specs.Unread.{ReadsNothing};
+ghost use Rattle.restart.specs.Joins.{kept_of, IsExact};
 ghost use Rattle.restart.specs.Leaving.{LeavesPassed, RenewalFails};
 ghost use Rattle.restart.specs.Passes.{KeepsAll, HasFound, PassEnds, GoesOnTelling, KeepsInSteps};
 ghost use Rattle.restart.specs.Passing.{AreLeft, Grows, HoldsStuck, HoldsUnit, JoinsUnit, MakesRoom, TakesUnit, TakesUnits, TriesPass, Walks};
@@ -47,17 +49,20 @@ fn join_unit<C: Chip>(
 ) -> Result<bool, ChipFault>
     requires known { KnowsPlaces (C.told chip.old).places (tables_of parts.old) }
     requires unit { unit < length parts.old.directory.current }
-    ensures joins { JoinsUnit (C.told chip.old).places unit (tables_of parts.old) kept.old kept.new result
-        (C.told chip.old) }
+    requires exact { IsExact (kept_of parts.old.status.numbers kept.old) }
+    ensures joins { JoinsUnit (C.told chip.old).places unit (tables_of parts.old)
+        (flagged kept.old parts.old.status.numbers)
+        (flagged kept.new parts.new.status.numbers) result (C.told chip.old) }
+    ensures exact { IsExact (kept_of parts.new.status.numbers kept.new) }
     ensures same { tables_of parts.new ≡ tables_of parts.old }
-    ensures rising { AreRising kept.old }
+    ensures rising { AreRising (flagged kept.old parts.old.status.numbers) }
     ensures walks { (turns : Turns) → Walks turns turns (tables_of parts.old) (tables_of parts.new)
         result (C.told chip.old) (C.told chip.new) }
     ensures still { ((C.told chip.new).contents ≡ (C.told chip.old).contents)
         × ((C.told chip.new).places ≡ (C.told chip.old).places) }
 {
     let scratch = &mut parts.scratch;
-    kept.rises();
+    parts.status.facts();
     read_live(
         chip,
         &parts.directory,
@@ -80,8 +85,11 @@ fn hold_unit<C: Chip>(
     requires known { KnowsPlaces (C.told chip.old).places (tables_of parts.old) }
     requires unit { unit < length parts.old.directory.current }
     requires held { IsHeldFault turns.now.fault }
-    ensures holds { HoldsUnit unit turns.now kept.old kept.new (tables_of parts.old)
+    requires exact { IsExact (kept_of parts.old.status.numbers kept.old) }
+    ensures holds { HoldsUnit unit turns.now (flagged kept.old parts.old.status.numbers)
+        (flagged kept.new parts.new.status.numbers) (tables_of parts.old)
         (tables_of parts.new) result (C.told chip.old) (C.told chip.new) }
+    ensures exact { IsExact (kept_of parts.new.status.numbers kept.new) }
     ensures walks { Walks turns.now turns.now (tables_of parts.old) (tables_of parts.new)
         result (C.told chip.old) (C.told chip.new) }
 {
@@ -104,8 +112,11 @@ fn hold_stuck<C: Chip>(
 ) -> Result<(), ChipFault>
     requires known { KnowsPlaces (C.told chip.old).places (tables_of parts.old) }
     requires held { IsHeldFault turns.now.fault }
-    ensures holds { HoldsStuck turns.now kept.old kept.new (tables_of parts.old)
+    requires exact { IsExact (kept_of parts.old.status.numbers kept.old) }
+    ensures holds { HoldsStuck turns.now (flagged kept.old parts.old.status.numbers)
+        (flagged kept.new parts.new.status.numbers) (tables_of parts.old)
         (tables_of parts.new) result (C.told chip.old) (C.told chip.new) }
+    ensures exact { IsExact (kept_of parts.new.status.numbers kept.new) }
     ensures walks { Walks turns.now turns.now (tables_of parts.old) (tables_of parts.new)
         result (C.told chip.old) (C.told chip.new) }
 {
@@ -161,8 +172,11 @@ fn take_unit<C: Chip>(
     requires known { KnowsPlaces (C.told chip.old).places (tables_of parts.old) }
     requires unit { unit < length parts.old.directory.current }
     requires left { AreLeft parts.old.counter parts.old.directory turns.old }
-    ensures takes { TakesUnit unit turns.old turns.new kept.old kept.new (tables_of parts.old)
+    requires exact { IsExact (kept_of parts.old.status.numbers kept.old) }
+    ensures takes { TakesUnit unit turns.old turns.new (flagged kept.old parts.old.status.numbers)
+        (flagged kept.new parts.new.status.numbers) (tables_of parts.old)
         (tables_of parts.new) result (C.told chip.old) (C.told chip.new) }
+    ensures exact { IsExact (kept_of parts.new.status.numbers kept.new) }
     ensures walks { Walks turns.old turns.new (tables_of parts.old) (tables_of parts.new)
         result (C.told chip.old) (C.told chip.new) }
     ensures grows { Grows turns.old turns.new parts.old.directory result }
@@ -186,8 +200,11 @@ fn take_units<C: Chip>(
 ) -> Result<bool, ChipFault>
     requires known { KnowsPlaces (C.told chip.old).places (tables_of parts.old) }
     requires left { AreLeft parts.old.counter parts.old.directory turns.old }
-    ensures takes { TakesUnits turns.old turns.new kept.old kept.new (tables_of parts.old)
+    requires exact { IsExact (kept_of parts.old.status.numbers kept.old) }
+    ensures takes { TakesUnits turns.old turns.new (flagged kept.old parts.old.status.numbers)
+        (flagged kept.new parts.new.status.numbers) (tables_of parts.old)
         (tables_of parts.new) result (C.told chip.old) (C.told chip.new) }
+    ensures exact { IsExact (kept_of parts.new.status.numbers kept.new) }
     ensures walks { Walks turns.old turns.new (tables_of parts.old) (tables_of parts.new)
         result (C.told chip.old) (C.told chip.new) }
     ensures grows { Grows turns.old turns.new parts.old.directory result }
@@ -211,8 +228,8 @@ fn try_pass<C: Chip>(
     requires known { KnowsPlaces (C.told chip.old).places (tables_of parts.old) }
     requires left { AreLeft parts.old.counter parts.old.directory turns.old }
     requires held { IsHeldFault turns.old.fault }
-    ensures tries { TriesPass turns.old turns.new kept.new (tables_of parts.old)
-        (tables_of parts.new) result (C.told chip.old) (C.told chip.new) }
+    ensures tries { TriesPass turns.old turns.new (flagged kept.new parts.new.status.numbers)
+        (tables_of parts.old) (tables_of parts.new) result (C.told chip.old) (C.told chip.new) }
     ensures walks { Walks turns.old turns.new (tables_of parts.old) (tables_of parts.new)
         result (C.told chip.old) (C.told chip.new) }
     ensures grows { Grows turns.old turns.new parts.old.directory result }
@@ -233,15 +250,15 @@ pub(crate) fn find_numbers<C: Chip>(
 ) -> Result<(), ChipFault>
     requires known { KnowsPlaces (C.told chip.old).places (tables_of parts.old) }
     requires left { parts.old.counter + 13 * MOST_UNITS < 2 ^ 64 }
-    requires exact { found ≡ true → KeepsAll (C.told chip.old).places (tables_of parts.old) kept.old
-        (C.told chip.old) }
+    requires exact { found ≡ true → KeepsAll (C.told chip.old).places (tables_of parts.old)
+        (flagged kept.old parts.old.status.numbers) (C.told chip.old) }
     ensures passes { (places : ℕ) (x : Contents) (it : Layout)
         → (C.told chip.old).places ≡ places → (C.told chip.old).contents ≡ Some x
         → Mirrors places (chart_of x) it (tables_of parts.old)
         → PassEnds places (chart_of x) it (tables_of parts.old) result (C.told chip.new)
         (tables_of parts.new)
-        (HasFound places (chart_of x) it (tables_of parts.old) kept.new
-        (C.told chip.new) (tables_of parts.new)) }
+        (HasFound places (chart_of x) it (tables_of parts.old)
+        (flagged kept.new parts.new.status.numbers) (C.told chip.new) (tables_of parts.new)) }
     ensures goes_on { GoesOnTelling result (C.told chip.old) (C.told chip.new) }
     ensures fails { RenewalFails (C.told chip.old).places (tables_of parts.old)
         (tables_of parts.new) result (C.told chip.old) }
@@ -254,7 +271,8 @@ pub(crate) fn find_numbers<C: Chip>(
     ensures same { OnOk result (found ≡ true → tables_of parts.new ≡ tables_of parts.old) }
 {
     if found {
-        kept.rises();
+        parts.status.facts();
+        kept.flags();
         return Ok(());
     }
     parts.directory.facts();

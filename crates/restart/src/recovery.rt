@@ -16,6 +16,7 @@ ghost use Rattle.unit_io.specs.ReadsAt.{Anywhere, ReadsOnce};
 ghost use Rattle.restart.specs.Looks.{OnlyLooksAt, LooksOnce, HasCause, HasCauseFor, IsHeaderSpot, IsBehindHeader, MayHoldLog};
 ghost use Rattle.restart.specs.Memory.{HasScratch, AreMadeFor, KeepsMemory, KeepsPlaces};
 ghost use Rattle.restart.specs.Rest.{HaveHeaders, AreUnread, FindsRest, FillsTables};
+ghost use Rattle.restart.specs.Joins.{kept_of};
 ghost use Rattle.restart.specs.Finds.{FindsStore};
 ghost use Rattle.selective_merge.specs.Known.{KnowsPlaces};
 ghost use Rattle.ipl_meaning.specs.Opened.{tables_of};
@@ -132,7 +133,8 @@ fn read_chip<C: Chip>(
         TellsImageFault (fault_for aim.draws (chart_of x) geometry.places) result) }
     ensures found { IfOk result (λ all. FindsStore geometry.places (C.told chip.old) aim.marks
         (tables_of findings.new.directory.now findings.new.overflow.now findings.new.status.now
-        (all.greatest + 1)) all.fits findings.new.numbers.now) }
+        (all.greatest + 1)) all.fits
+        (kept_of findings.new.status.now.numbers findings.new.numbers.now)) }
     ensures bytes { ReadsBytesFor aim.draws geometry.places (C.told chip.old) result }
     ensures left { IfOk result (λ all. aim.draws ≡ true → all.greatest < 2 ^ 63) }
     ensures memory { KeepsMemory geometry.places table.old table.new findings.old findings.new }
@@ -232,7 +234,7 @@ pub fn read_tables<C: Chip>(
     // Else it finds what the chip holds, and numbers are left.
     ensures found { IfOk result (λ fits. FindsStore (C.told chip.old).places (C.told chip.old) marks
         (tables_of parts.new.directory parts.new.overflow parts.new.status parts.new.counter)
-        fits numbers.new) }
+        fits (kept_of parts.new.status.numbers numbers.new)) }
     ensures left { OnOk result (parts.new.counter ≤ 2 ^ 63) }
 
     // What it read is bytes, also where it fails since the numbers are used up.

@@ -1,5 +1,6 @@
 //! The status place, renewed in all tables.
 ghost use Rattle.std.specs.Prelude.{◌≡◌, ◌<◌, ◌+◌, ◌^◌, length, slice_index, OnOk};
+ghost use Rattle.number_set.specs.Flags.{flagged};
 ghost use Rattle.selective_merge.specs.Throughout.{ChartsThroughout};
 ghost use Rattle.txn_status.specs.Status.{FitStatusPlace};
 ghost use Rattle.txn_status.specs.Switching.{ListsAt};
@@ -8,6 +9,7 @@ ghost use Rattle.restart.specs.Renewed.{KeepsRenewed, MayMoveStatus, PlacesStatu
 
 use chip_trait::Chip;
 use ipl_base::{ChipFault, Counter};
+use number_set::Flags;
 use place_taking::take_place;
 use txn_status::Status;
 use unit_directory::{Directory, directory_laws};
@@ -26,10 +28,11 @@ fn header_of(directory: &Directory, place: u32) -> StatusHeader
     }
 }
 
-/// Makes the least worn free place the status place, the lowest on a tie, with exactly these numbers,
-/// at most 3,840 in rising order: the place is taken, erased and written, and the old status place is
-/// free then. A place that is found worn is retired, and the next one is taken. The header says how often
-/// the place was erased, and lists exactly the places that are retired then, also those of this call. It
+/// Makes the least worn free place the status place, the lowest on a tie, with exactly those
+/// committed numbers that have a flag, at most 3,840: the place is taken, erased and written, and the
+/// old status place is free then. A place that is found worn is retired, and the next one is taken. The
+/// header says how often the place was erased, and lists exactly the places that are retired then, also
+/// those of this call. It
 /// fails only where a write failed or more places are worn than are spare, and the place that was tried
 /// last is given back then.
 ///
@@ -41,29 +44,30 @@ pub(crate) fn renew_place<C: Chip>(
     directory: &mut Directory,
     status: &mut Status,
     counter: &mut Counter,
-    kept: &[u64],
+    kept: &Flags,
 ) -> Result<(), ChipFault>
     requires may { MayMoveStatus (C.told chip.old).places directory.old status.old }
-    requires fits { FitStatusPlace kept.now }
+    requires fits { FitStatusPlace (flagged kept.now status.old.numbers) }
     requires left { counter.old + 65 < 2 ^ 64 }
 
     // What the tables have, whatever the chip tells.
-    ensures moves { PlacesStatus directory.old status.old counter.old kept.now result
-        directory.new status.new counter.new }
+    ensures moves { PlacesStatus directory.old status.old counter.old
+        (flagged kept.now status.old.numbers) result directory.new status.new counter.new }
     ensures tables { KeepsRenewed directory.old status.old counter.old result
         directory.new status.new counter.new (C.told chip.old) (C.told chip.new) }
 
     // What the chip holds then, and what a power cut leaves.
     ensures tells { ChartsThroughout
-        (λ done. Renews (C.told chip.old).places directory.old status.old counter.old kept.now
-        directory.new status.new counter.new) (λ c y. y ≡ c)
+        (λ done. Renews (C.told chip.old).places directory.old status.old counter.old
+        (flagged kept.now status.old.numbers) directory.new status.new counter.new) (λ c y. y ≡ c)
         result (C.told chip.old) (C.told chip.new) }
     // Whatever it held before, the new header lists exactly the places that are retired then.
     ensures lists { OnOk result (Charts
         (λ c y. ListsAt status.new.place directory.new.retired y)
         (C.told chip.old) (C.told chip.new)) }
     ensures steps { RenewsInSteps (C.told chip.old).places directory.old status.old counter.old
-        kept.now directory.new status.new counter.new result (C.told chip.old) (C.told chip.new) }
+        (flagged kept.now status.old.numbers) directory.new status.new counter.new result
+        (C.told chip.old) (C.told chip.new) }
     ensures writes { WritesStatus directory.old directory.new status.new result
         (C.told chip.old) (C.told chip.new) }
 {

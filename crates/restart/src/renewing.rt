@@ -5,6 +5,7 @@ ghost use Rattle.selective_merge.specs.Known.{KnowsPlaces};
 ghost use Rattle.selective_merge.specs.Moving.{tables_of};
 ghost use Rattle.unit_io.specs.Costs.{Spends};
 ghost use Rattle.unit_io.specs.Unread.{ReadsNothing};
+ghost use Rattle.number_set.specs.Flags.{flagged};
 ghost use Rattle.restart.specs.Leaving.{LeavesRenewed, RenewalFails, RenewalSpends, RenewsStatus};
 ghost use Rattle.restart.specs.Passes.{KeepsAll, RenewsTold, KeepsInSteps};
 ghost use Rattle.restart.specs.Renewed.{KeepsLogs};
@@ -26,8 +27,8 @@ pub(crate) fn renew_with<C: Chip>(
 ) -> Result<(), ChipFault>
     requires known { KnowsPlaces (C.told chip.old).places (tables_of parts.old) }
     requires left { parts.old.counter + 2 ^ 14 < 2 ^ 64 }
-    requires exact { found ≡ true → KeepsAll (C.told chip.old).places (tables_of parts.old) kept.old
-        (C.told chip.old) }
+    requires exact { found ≡ true → KeepsAll (C.told chip.old).places (tables_of parts.old)
+        (flagged kept.old parts.old.status.numbers) (C.told chip.old) }
     ensures renews { RenewsStatus (tables_of parts.old) (tables_of parts.new) result
         (C.told chip.old) (C.told chip.new) }
     ensures unread { OnTrue found (Spends ReadsNothing (C.told chip.old) (C.told chip.new)) }
@@ -36,12 +37,13 @@ pub(crate) fn renew_with<C: Chip>(
 {
     find_numbers(chip, parts, kept, found)?;
     known_laws();
+    parts.status.facts();
     renew_place(
         chip,
         &mut parts.directory,
         &mut parts.status,
         &mut parts.counter,
-        kept.as_slice(),
+        kept.flags(),
     )
 }
 

@@ -1,17 +1,9 @@
--- Numbers cut into parts, and the sector of a part.
-use Rattle.std.proofs.Common.{◌≡◌, ℕ, ◌≤◌, ◌+◌, ◌-◌, min, List, length, take, drop, ◌∙◌, ap, arith}
-use Rattle.std.proofs.lemmas.List.{take_min, length-drop}
+-- The sector of a part of numbers.
+use Rattle.std.proofs.Common.{◌≡◌, ℕ, List, ◌∙◌, ap}
 use Rattle.sector_format.specs.declared.sector.Head.{Head}
 use Rattle.sector_format.specs.Decode.{sector_of}
 use Rattle.sector_format.specs.Written.{written_head}
 use Rattle.txn_status.specs.Commits.{commit_bytes, commit_sector}
-
-pub part_is : (xs : List ℕ) (at end : ℕ) → end ≡ min (length xs) (at + 60) → at ≤ length xs
-    → take (end - at) (drop at xs) ≡ take 60 (drop at xs)
-part_is xs at end is within =
-    let few : end - at ≡ min 60 (length (drop at xs)) =
-    omega (arith, is, within, length-drop at xs) in
-    ap (λ (n : ℕ). take n (drop at xs)) few ∙ take_min 60 (drop at xs)
 
 pub same_sector : (head : Head) (payload : List ℕ) (generation serial : ℕ) (numbers : List ℕ)
     → head ≡ written_head 6 0 generation serial

@@ -5,6 +5,7 @@ ghost use Rattle.ipl_format.specs.Header.{AreRetired};
 ghost use Rattle.unit_io.specs.Costs.{ProgramsAt};
 ghost use Rattle.unit_io.specs.Charts.{Charts};
 ghost use Rattle.unit_io.specs.Spots.{IsSpot};
+ghost use Rattle.number_set.specs.Flags.{flagged};
 ghost use Rattle.txn_status.specs.Commits.{part_of};
 ghost use Rattle.txn_status.specs.Status.{parts_of};
 ghost use Rattle.txn_status.specs.Switching.{HasParts, IsPartSpot};
@@ -12,58 +13,61 @@ ghost use Rattle.unit_io.specs.Writing.{OnlyPrograms};
 ghost use Rattle.txn_status.specs.Writing.{LeadsParts, LeadsHeader, IsHeaded};
 
 use crate::commits::CommitSector;
+use arrayvec::ArrayVec;
 use chip_trait::Chip;
 use ipl_base::{COMMIT_NUMBERS, ChipFault, Counter, Spot};
+use number_set::{Flags, NumberSet};
 use sector_format::Head;
 use unit_io::{prepare_commit, seal};
 use unit_layout::{StatusHeader, write_status_header};
 
-/// How many commit sectors numbers fill, at most 3,840 of them.
-pub(crate) fn part_count(numbers: &[u64]) -> u32
-    requires { length numbers.now ≤ KEPT_NUMBERS }
-    ensures parts { result ≡ parts_of numbers.now }
+/// How many commit sectors the numbers with a flag fill, at most 3,840 of them.
+pub(crate) fn part_count(numbers: &NumberSet, kept: &Flags) -> u32
+    requires few { length (flagged kept.now numbers.now.list) ≤ KEPT_NUMBERS }
+    ensures parts { result ≡ parts_of (flagged kept.now numbers.now.list) }
     ensures few { result ≤ 64 }
 {
-    numbers.len().div_ceil(COMMIT_NUMBERS) as u32
+    numbers.count(kept).div_ceil(COMMIT_NUMBERS) as u32
 }
 
-/// The numbers of the i-th of the commit sectors that they fill.
-fn part_of(numbers: &[u64], i: u32) -> &[u64]
-    requires { 60 * i ≤ length numbers.now }
-    ensures part { result.now ≡ part_of numbers.now i }
-    ensures few { length result.now ≤ 60 }
+/// The numbers of the i-th of the commit sectors that those with a flag fill.
+fn part_of(numbers: &NumberSet, kept: &Flags, i: u32) -> ArrayVec<u64, COMMIT_NUMBERS>
+    requires few { i < 64 }
+    ensures { result.items ≡ part_of (flagged kept.now numbers.now.list) i }
 {
-    let start = COMMIT_NUMBERS * i as usize;
-    let end = numbers.len().min(start + COMMIT_NUMBERS);
-    &numbers[start..end]
+    numbers.part(kept, COMMIT_NUMBERS * i as usize)
 }
 
-/// Programs numbers, at most 3,840, into a place without a header, 60 to a commit sector, from
-/// sector 1 on, with a serial drawn for each.
+/// Programs the numbers with a flag, at most 3,840, into a place without a header, 60 to a commit
+/// sector, from sector 1 on, with a serial drawn for each.
 pub(crate) fn write_parts<C: Chip>(
     chip: &mut C,
     counter: &mut Counter,
     place: u32,
     generation: u64,
-    numbers: &[u64],
+    numbers: &NumberSet,
+    kept: &Flags,
 ) -> Result<(), ChipFault>
     requires place { place < (C.told chip.old).places }
-    requires few { length numbers.now ≤ KEPT_NUMBERS }
+    requires few { length (flagged kept.now numbers.now.list) ≤ KEPT_NUMBERS }
     requires left { counter.old + 64 < 2 ^ 64 }
-    ensures keeps { LeadsParts (C.told chip.old).places place generation counter.old numbers.now
-        (C.told chip.old) result (C.told chip.new) }
+    ensures keeps { LeadsParts (C.told chip.old).places place generation counter.old
+        (flagged kept.now numbers.now.list) (C.told chip.old) result (C.told chip.new) }
     ensures tells { OnOk result (Charts
-        (HasParts place generation counter.old numbers.now (parts_of numbers.now))
+        (HasParts place generation counter.old (flagged kept.now numbers.now.list)
+        (parts_of (flagged kept.now numbers.now.list)))
         (C.told chip.old) (C.told chip.new)) }
-    ensures drawn { OnOk result (counter.new ≡ counter.old + parts_of numbers.now) }
+    ensures drawn { OnOk result (counter.new ≡ counter.old + parts_of (flagged kept.now numbers.now.list)) }
     ensures draws { (counter.old ≤ counter.new) × (counter.new ≤ counter.old + 64) }
     ensures writes { OnlyPrograms (ProgramsAt place 64 0 6) place
-        (IsPartSpot (parts_of numbers.now)) result (C.told chip.old) (C.told chip.new) }
+        (IsPartSpot (parts_of (flagged kept.now numbers.now.list))) result
+        (C.told chip.old) (C.told chip.new) }
 {
-    let count = part_count(numbers);
+    let count = part_count(numbers, kept);
     for i in 0..count {
         let serial = counter.draw();
-        let part = CommitSector::of(generation, serial, part_of(numbers, i));
+        let own = part_of(numbers, kept, i);
+        let part = CommitSector::of(generation, serial, own.as_slice());
         let spot = Spot {
             place,
             sector: 1 + i,

@@ -1,5 +1,6 @@
 //! The status of transactions.
-ghost use Rattle.std.specs.Prelude.{◌≡◌, ◌≤◌, ◌<◌, ◌+◌, ◌^◌, ◌↔◌, ℕ, length, Contains, IfOk, IfErr, IsTrue, OnOk};
+ghost use Rattle.std.specs.Prelude.{◌≡◌, ◌≤◌, ◌<◌, ◌+◌, ◌^◌, ◌↔◌, ℕ, length, slice_index, Contains, IfOk, IfErr, IfSome, IsTrue, OnOk};
+ghost use Rattle.std.specs.Option.{is_some};
 ghost use Rattle.ipl_base.specs.declared.limits.TheConstants.{MOST_UNITS, STATUS_NUMBERS, VERSION};
 ghost use Rattle.ipl_format.specs.Header.{AreRetired};
 ghost use Rattle.ipl_format.specs.Sector.{Sector};
@@ -10,6 +11,8 @@ ghost use Rattle.unit_io.specs.Spots.{AddsSector};
 ghost use Rattle.unit_io.specs.Reads.{OfContents};
 ghost use Rattle.unit_io.specs.ReadsAt.{ReadsAt, IsCauseAt};
 ghost use Rattle.ipl_format.specs.Whole.{IsWhole};
+ghost use Rattle.number_set.specs.Numbers.{among};
+ghost use Rattle.number_set.specs.Flags.{flagged};
 ghost use Rattle.txn_status.specs.ReadingIn.{IsReadIn, IsCommitSpot, IsOfPlace, IsStatusAt, LooksOnceAt};
 ghost use Rattle.txn_status.specs.Marks.{marks_in};
 ghost use Rattle.txn_status.specs.Marking.{mark_sector, MarksInSteps};
@@ -27,7 +30,7 @@ use crate::parts::{part_count, seal_status, write_parts};
 use crate::reading::{read_commits, read_generation};
 use chip_trait::Chip;
 use ipl_base::{ChipFault, Counter, Geometry, OutOfMemory, SECTORS, STATUS_NUMBERS, Spot};
-use number_set::NumberSet;
+use number_set::{Flags, NumberSet};
 use std::alloc::Global;
 use std::marker::Model;
 use unit_io::add_commit;
@@ -98,6 +101,16 @@ impl Status {
     {
         let numbers = &self.numbers;
         numbers.has(tid)
+    }
+
+    /// The rank of a number among those that are committed, from 0, where it is one of them.
+    pub fn rank(&self, tid: u64) -> Option<usize>
+        ensures among { is_some result ≡ among self.now.numbers tid }
+        ensures there { IfSome result (λ at. (at < length self.now.numbers)
+            × (slice_index self.now.numbers at ≡ tid)) }
+        ensures room { IfSome result (λ at. at < STATUS_NUMBERS) }
+    {
+        self.numbers.rank(tid)
     }
 
     /// The status place.
@@ -286,8 +299,8 @@ impl Status {
         Ok(())
     }
 
-    /// Writes a new status place with exactly these numbers, at most 3,840, in rising order: the
-    /// numbers are programmed, 60 to a commit sector and with a serial drawn for each sector, and the
+    /// Writes a new status place with exactly those of its numbers that have a flag, at most 3,840:
+    /// they are programmed, 60 to a commit sector and with a serial drawn for each sector, and the
     /// status header of this generation makes them count. It lists exactly these places as retired. That
     /// a chip of so many units may have retired them, that the generation is the number that was drawn
     /// last, that 64 are left to draw, and that the place was taken and erased for this, are conditions.
@@ -303,38 +316,42 @@ impl Status {
         retired: &[u32],
         place: u32,
         generation: u64,
-        kept: &[u64],
+        kept: &Flags,
     ) -> Result<(), ChipFault>
         requires place { place < (C.told chip.old).places }
         requires listed { AreRetired VERSION (C.told chip.old).places header.now.units retired.now }
-        requires fits { FitStatusPlace kept.now }
+        requires fits { FitStatusPlace (flagged kept.now self.old.numbers) }
         requires last { counter.old ≡ generation + 1 }
         requires left { counter.old + 64 < 2 ^ 64 }
-        ensures moved { SwitchesTo place generation kept.now result self.old self.new
-            counter.old counter.new }
+        ensures moved { SwitchesTo place generation (flagged kept.now self.old.numbers) result
+            self.old self.new counter.old counter.new }
 
         // What the chip holds then, and what a power cut leaves.
         ensures switches { OnOk result (Charts
             (Switches (C.told chip.old).places header.now.units header.now.erases retired.now self.old
-            generation place kept.now)
+            generation place (flagged kept.now self.old.numbers))
             (C.told chip.old) (C.told chip.new)) }
         // Whatever it held before, the new header lists exactly these places.
         ensures lists { OnOk result (Charts (λ c y. ListsAt place retired.now y)
             (C.told chip.old) (C.told chip.new)) }
         ensures steps { SwitchesInSteps (C.told chip.old).places header.now.units header.now.erases
-            retired.now self.old generation place kept.now result (C.told chip.old) (C.told chip.new) }
+            retired.now self.old generation place (flagged kept.now self.old.numbers) result
+            (C.told chip.old) (C.told chip.new) }
         // Programs of the place alone, and two barriers. Whatever the chip holds, each sector is
         // programmed once, and none of those behind.
-        ensures writes { OnlyPrograms (FillsAt place 2) place (IsStatusSpot (parts_of kept.now)) result
+        ensures writes { OnlyPrograms (FillsAt place 2) place
+            (IsStatusSpot (parts_of (flagged kept.now self.old.numbers))) result
             (C.told chip.old) (C.told chip.new) }
     {
-        write_parts(chip, counter, place, generation, kept)?;
+        let parts = part_count(&self.numbers, kept);
+        self.numbers.fit();
+        write_parts(chip, counter, place, generation, &self.numbers, kept)?;
         seal_status(chip, place, generation, header, retired)?;
         // Only now: until the header is made sure of, the old place counts.
         self.place = place;
         self.generation = generation;
-        self.numbers.take(kept);
-        self.first = 1 + part_count(kept);
+        self.numbers.keep(kept);
+        self.first = 1 + parts;
         Ok(())
     }
 }

@@ -3,7 +3,7 @@ use Rattle.std.specs.Prelude.{◌↔◌, IsTrue}
 use Rattle.std.specs.Bool.{OnTrue}
 use Rattle.log_records.specs.View.{Versioned}
 use Rattle.log_records.specs.Reading.{records_of}
-use Rattle.restart.specs.Joins.{joined}
+use Rattle.restart.specs.Joins.{joined, kept_of, IsExact}
 use Rattle.ipl_meaning.proofs.PayloadLemmas.{log_payloads_are_spelled}
 use Rattle.restart.proofs.CollectedLemmas.{kept_over, kept_joined}
 use Rattle.restart.proofs.collecting.collect.Goals as goal
@@ -13,12 +13,15 @@ of-requires-clause-list c = (records_of c.args.version c.args.payload.now, log_p
 
 pub returns-then-not-fits : goal.returns-then-not-fits
 returns-then-not-fits c = λ found are.
-    kept_over c.args.status.now.numbers (records_of c.args.version c.args.payload.now) found c.args.numbers.now c.args.fits c.if-not-fits.true are
+    kept_over c.args.status.now.numbers (records_of c.args.version c.args.payload.now) found
+    (kept_of c.args.status.now.numbers c.args.numbers.now) c.args.fits c.if-not-fits.true are
 
 pub returns : goal.returns
 returns c = λ found are.
     let numbers = c.args.status.now.numbers in
-    let old = c.args.numbers.now in
-    kept_joined numbers (records_of c.args.version c.args.payload.now) found old c.add.new.self c.args.fits c.add.result c.if-not-fits.false are
-    (subst (λ (p : Versioned). IsTrue c.add.result ↔ (length (joined numbers (records_of p.version p.bytes) old) ≤ 3840)) c.of.ensures c.add.ensures.fits)
-    (subst (λ (p : Versioned). OnTrue c.add.result (c.add.new.self ≡ joined numbers (records_of p.version p.bytes) old)) c.of.ensures c.add.ensures.joined)
+    let old = kept_of numbers c.args.numbers.now in
+    let new = kept_of numbers c.add.new.self in
+    kept_joined numbers (records_of c.args.version c.args.payload.now) found old new c.args.fits c.add.result c.if-not-fits.false are
+    (subst (λ (p : Versioned). IsExact old → (IsTrue c.add.result ↔ (length (joined numbers (records_of p.version p.bytes) old.list) ≤ 3840))) c.of.ensures c.add.ensures.fits)
+    (subst (λ (p : Versioned). OnTrue c.add.result (new.list ≡ joined numbers (records_of p.version p.bytes) old.list)) c.of.ensures c.add.ensures.joined)
+    c.add.ensures.exact

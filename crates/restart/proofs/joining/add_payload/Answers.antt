@@ -11,11 +11,11 @@ loop-logged-init c =
     let all = records_list c.args.payload.now.version (records_of c.records-logged-items.result.version c.records-logged-items.result.bytes) c.args.payload.now.bytes
     c.records-logged-items.ensures in
     left_first c.args.status.now.numbers (records_of c.into_iter-logged-iterator.result.version c.into_iter-logged-iterator.result.bytes)
-    (records_of c.args.payload.now.version c.args.payload.now.bytes) c.args.set.now (gives ∙ sym all)
+    (records_of c.args.payload.now.version c.args.payload.now.bytes) c.args.kept.now (gives ∙ sym all)
 
 pub returns-then-not-add_number-clause-full : goal.returns-then-not-add_number-clause-full
 returns-then-not-add_number-clause-full c =
     left_full c.args.status.now.numbers (records_of c.loop-logged.logged-iterator.version c.loop-logged.logged-iterator.bytes)
     (record_of c.in-Some.logged ∷ []) (records_of c.next.new.self.version c.next.new.self.bytes)
-    (records_of c.args.payload.now.version c.args.payload.now.bytes) c.loop-logged.set c.args.set.now c.in-Some.ensures.steps
+    (records_of c.args.payload.now.version c.args.payload.now.bytes) c.loop-logged.kept c.args.kept.now c.in-Some.ensures.steps
     c.loop-logged.invariant c.if-not-add_number.ensures.full

@@ -4,4 +4,4 @@ use Rattle.restart.proofs.joining.add_payload.Given as goal
 
 abbrev pub invariant-loop-logged : goal.invariant-loop-logged
 invariant-loop-logged l = AreLeft l.status.numbers (records_of l.logged-iterator.version l.logged-iterator.bytes)
-    (records_of l.payload.version l.payload.bytes) l.set l.fn.set
+    (records_of l.payload.version l.payload.bytes) l.kept l.fn.kept

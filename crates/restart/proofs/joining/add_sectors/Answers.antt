@@ -20,7 +20,7 @@ returns-then-not-add_payload-clause-full c =
     let i = c.loop-sector.sector-index in
     let item : LogSector = c.sector-item.result in
     left_full c.args.status.now.numbers (records_kept (drop i sectors)) (records_of item.payload.version item.payload.bytes)
-    (records_kept (drop (i + 1) sectors)) (records_kept sectors) c.loop-sector.set c.args.set.now
+    (records_kept (drop (i + 1) sectors)) (records_kept sectors) c.loop-sector.kept c.args.kept.now
     (step sectors i item c.loop-sector-test.true c.sector-item.is) c.loop-sector.invariant
     c.if-not-add_payload.ensures.full
 
@@ -30,6 +30,7 @@ loop-sector-preserved c =
     let i = c.loop-sector.sector-index in
     let item : LogSector = c.sector-item.result in
     left_part c.args.status.now.numbers (records_kept (drop i sectors)) (records_of item.payload.version item.payload.bytes)
-    (records_kept (drop (i + 1) sectors)) (records_kept sectors) c.loop-sector.set c.args.set.now
+    (records_kept (drop (i + 1) sectors)) (records_kept sectors) c.loop-sector.kept c.args.kept.now
     (step sectors i item c.loop-sector-test.true c.sector-item.is) c.loop-sector.invariant
-    c.add_payload.new.set c.if-not-add_payload.ensures.joined
+    c.add_payload.new.kept c.if-not-add_payload.ensures.joined
+    c.add_payload.ensures.most c.add_payload.ensures.room c.add_payload.ensures.exact

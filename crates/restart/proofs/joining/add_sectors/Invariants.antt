@@ -5,4 +5,4 @@ use Rattle.restart.proofs.joining.add_sectors.Given as goal
 
 abbrev pub invariant-loop-sector : goal.invariant-loop-sector
 invariant-loop-sector l = AreLeft l.status.numbers
-    (records_kept (drop l.sector-index l.sectors)) (records_kept l.sectors) l.set l.fn.set
+    (records_kept (drop l.sector-index l.sectors)) (records_kept l.sectors) l.kept l.fn.kept

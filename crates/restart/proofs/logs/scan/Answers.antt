@@ -29,7 +29,8 @@ loop-place-init g c =
         noted = grind (arith, common_steps);
         masked = masked_first heads current (mask_by heads current (chart_of x)) c.args.findings.now.overflow.now.places (length c.args.heads.now.current.now) (length c.args.heads.now.current.now) c.args.findings.now.directory.now c.set_units.new.self
             (λ u winner is. at_low c.args.heads.now.current.now u winner is) c.requires.tables.blank c.set_units.ensures;
-        collected = kept_first c.args.findings.now.status.now.numbers heads current (chart_of x) c.clear-2.new.self c.clear-2.ensures;
+        collected = kept_first c.args.findings.now.status.now.numbers heads current (chart_of x) c.clear-2.new.self
+            (c.clear-2.ensures.none c.args.findings.now.status.now.numbers) c.clear-2.ensures.count;
         number = refl;
         fine = refl;
         whole = λ p s small low spot. absurd (omega (arith, low));

@@ -14,6 +14,7 @@ use Rattle.ipl_meaning.specs.Tables.{Places, StatusTable}
 use Rattle.restart.specs.Scanned.{IsScanned}
 use Rattle.restart.specs.Counted.{SameHomes, StaysUnknown, IsReadLog, does_check, is_erased}
 use Rattle.restart.proofs.CountedLogLemmas.{homes_then, homes_from, unknown_then, unknown_from, unknown_seen, seen_homes, seen_masks, masked_alike, check_found, erased_found, unchecked_found, unerased_found, logs_past, logs_seen}
+use Rattle.restart.specs.Joins.{kept_of}
 use Rattle.restart.proofs.logs.scan_sector.Goals as goal
 
 pub returns-then-not-may_hold_log-clause-scans : goal.returns-then-not-may_hold_log-clause-scans
@@ -22,8 +23,8 @@ returns-then-not-may_hold_log-clause-scans g c = record {
       let none = sym c.may_hold_log.ensures ∙ c.if-not-may_hold_log.true in
       scanned_more x (at c.args.heads.now.all.now) (at c.args.heads.now.current.now) c.args.findings.now.status.now.numbers least c.args.spot.place c.args.spot.sector c.requires.sector None
       (none_seen x (at c.args.heads.now.all.now) (at c.args.heads.now.current.now) c.args.spot.place c.args.spot.sector none)
-      c.args.findings.now.noted.now c.args.findings.now.directory.now c.args.findings.now.overflow.now c.args.findings.now.numbers.now c.args.gathered.fits c.args.gathered.greatest so_far
-      c.args.findings.now.noted.now c.args.findings.now.directory.now c.args.findings.now.overflow.now c.args.findings.now.numbers.now c.args.gathered.fits c.args.gathered.greatest (λ marks noted. refl) (λ marks noted. noted)
+      c.args.findings.now.noted.now c.args.findings.now.directory.now c.args.findings.now.overflow.now (kept_of c.args.findings.now.status.now.numbers c.args.findings.now.numbers.now) c.args.gathered.fits c.args.gathered.greatest so_far
+      c.args.findings.now.noted.now c.args.findings.now.directory.now c.args.findings.now.overflow.now (kept_of c.args.findings.now.status.now.numbers c.args.findings.now.numbers.now) c.args.gathered.fits c.args.gathered.greatest (λ flags noted. refl) (λ flags noted. noted)
       (λ is masked. masked_none (at c.args.heads.now.all.now) (at c.args.heads.now.current.now) (mask_by (at c.args.heads.now.all.now) (at c.args.heads.now.current.now) (chart_of x)) (c.args.spot.place * 256 + c.args.spot.sector) c.args.findings.now.directory.now c.args.findings.now.overflow.now is masked)
       (λ found are. are) (omega arith) (λ spot. let no = sym spot ∙ none in cc);
   fault = search rules;
@@ -59,7 +60,7 @@ returns-in_err-gathered-clause-scans g c = record {
       rw (e.1, e.2) (λ x told least so_far image.
       fault_found x (at c.args.heads.now.all.now) (at c.args.heads.now.current.now) c.args.findings.now.status.now.numbers least c.args.spot.place c.args.spot.sector c.requires.sector (kept is_log (sector_named c.read_found.new.into c.checked-sector.result))
       (read_seen x (at c.args.heads.now.all.now) (at c.args.heads.now.current.now) c.args.spot.place c.args.spot.sector _ spot (ap (sector_named c.read_found.new.into) c.checked-sector.ensures ∙ c.in_ok-found.ensures.exact x told))
-      c.args.findings.now.noted.now c.args.findings.now.directory.now c.args.findings.now.overflow.now c.args.findings.now.numbers.now c.args.gathered.fits c.args.gathered.greatest so_far _ c.in_err-gathered.field-0.0 c.requires.place (λ marks noted. c.in_err-gathered.ensures.takes.fault marks noted image));
+      c.args.findings.now.noted.now c.args.findings.now.directory.now c.args.findings.now.overflow.now (kept_of c.args.findings.now.status.now.numbers c.args.findings.now.numbers.now) c.args.gathered.fits c.args.gathered.greatest so_far _ c.in_err-gathered.field-0.0 c.requires.place (λ flags noted. c.in_err-gathered.ensures.takes.fault flags noted image));
   room = record {
     roomy = search rules;
     sized = c.take_found.ensures.takes.room.sized;
@@ -77,12 +78,12 @@ returns-clause-scans g c = record {
   scanned = λ x told least so_far.
       let spot = sym c.may_hold_log.ensures ∙ c.if-not-may_hold_log.false in
       subst (λ (s : StatusTable). IsScanned x (at c.args.heads.now.all.now) (at c.args.heads.now.current.now) s.numbers least (c.args.spot.place * 256 + c.args.spot.sector + 1)
-      c.take_found.new.findings.noted.now c.note_seen.new.directory c.take_found.new.findings.overflow.now c.take_found.new.findings.numbers.now c.in_ok-gathered.gathered.fits c.in_ok-gathered.gathered.greatest)
+      c.take_found.new.findings.noted.now c.note_seen.new.directory c.take_found.new.findings.overflow.now (kept_of s.numbers c.take_found.new.findings.numbers.now) c.in_ok-gathered.gathered.fits c.in_ok-gathered.gathered.greatest)
       (sym c.take_found.ensures.takes.still.status)
       (scanned_more x (at c.args.heads.now.all.now) (at c.args.heads.now.current.now) c.args.findings.now.status.now.numbers least c.args.spot.place c.args.spot.sector c.requires.sector (kept is_log (sector_named c.read_found.new.into c.checked-sector.result))
       (read_seen x (at c.args.heads.now.all.now) (at c.args.heads.now.current.now) c.args.spot.place c.args.spot.sector _ spot (ap (sector_named c.read_found.new.into) c.checked-sector.ensures ∙ c.in_ok-found.ensures.exact x told))
-      c.args.findings.now.noted.now c.args.findings.now.directory.now c.args.findings.now.overflow.now c.args.findings.now.numbers.now c.args.gathered.fits c.args.gathered.greatest so_far
-      c.take_found.new.findings.noted.now c.note_seen.new.directory c.take_found.new.findings.overflow.now c.take_found.new.findings.numbers.now c.in_ok-gathered.gathered.fits c.in_ok-gathered.gathered.greatest
+      c.args.findings.now.noted.now c.args.findings.now.directory.now c.args.findings.now.overflow.now (kept_of c.args.findings.now.status.now.numbers c.args.findings.now.numbers.now) c.args.gathered.fits c.args.gathered.greatest so_far
+      c.take_found.new.findings.noted.now c.note_seen.new.directory c.take_found.new.findings.overflow.now (kept_of c.args.findings.now.status.now.numbers c.take_found.new.findings.numbers.now) c.in_ok-gathered.gathered.fits c.in_ok-gathered.gathered.greatest
       c.in_ok-gathered.ensures.takes.fault c.in_ok-gathered.ensures.takes.noted
       (λ is masked. masked_alike (at c.args.heads.now.all.now) (at c.args.heads.now.current.now) (mask_by (at c.args.heads.now.all.now) (at c.args.heads.now.current.now) (chart_of x)) (c.args.spot.place * 256 + c.args.spot.sector + 1)
       c.take_found.new.findings.directory.now c.note_seen.new.directory c.take_found.new.findings.overflow.now

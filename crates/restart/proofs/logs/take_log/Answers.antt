@@ -7,7 +7,7 @@ use Rattle.ipl_meaning.specs.Live.{mark_of, is_overflow_place}
 use Rattle.ipl_meaning.specs.Faults.{TellsImageFault, log_test}
 use Rattle.ipl_meaning.proofs.TellsLemmas.{tells_exit}
 use Rattle.ipl_meaning.specs.FoundLogs.{mask_of_sector}
-use Rattle.restart.specs.Joins.{joined}
+use Rattle.restart.specs.Joins.{joined, kept_of}
 use Rattle.restart.specs.Collected.{records_at, AreKept}
 use Rattle.restart.specs.Notes.{IsNoted}
 use Rattle.restart.proofs.LogLemmas.{live_low, unit_low, spot_sector, serial_fits, roomy_more, sized_more, noted_live, none_live, some_live}
@@ -46,13 +46,13 @@ list_log-requires-clause-home c = λ home.
 
 pub returns-then-is_live-clause-collected : goal.returns-then-is_live-clause-collected
 returns-then-is_live-clause-collected c = λ found are.
-    subst (λ (o : Option Sector). AreKept (joined c.args.findings.now.status.now.numbers (records_at o) found) c.collect-fits.result c.collect-fits.new.numbers)
+    subst (λ (o : Option Sector). AreKept (joined c.args.findings.now.status.now.numbers (records_at o) found) c.collect-fits.result (kept_of c.args.findings.now.status.now.numbers c.collect-fits.new.numbers))
     (sym (some_live (at c.args.heads.now.all.now) (at c.args.heads.now.current.now) c.args.spot.place (sector_of c.args.head.now c.args.payload.now) (sym (c.is_live.ensures c.args.payload.now) ∙ c.if-is_live.true)))
     (c.collect-fits.ensures found are)
 
 pub returns-clause-collected : goal.returns-clause-collected
 returns-clause-collected c = λ found are.
-    subst (λ (o : Option Sector). AreKept (joined c.args.findings.now.status.now.numbers (records_at o) found) c.args.fits c.args.findings.now.numbers.now)
+    subst (λ (o : Option Sector). AreKept (joined c.args.findings.now.status.now.numbers (records_at o) found) c.args.fits (kept_of c.args.findings.now.status.now.numbers c.args.findings.now.numbers.now))
     (sym (none_live (at c.args.heads.now.all.now) (at c.args.heads.now.current.now) c.args.spot.place (sector_of c.args.head.now c.args.payload.now) (sym (c.is_live.ensures c.args.payload.now) ∙ c.if-is_live.false))) are
 
 pub returns-in_err-check_log-clause-takes : goal.returns-in_err-check_log-clause-takes

@@ -4,6 +4,8 @@ use Rattle.std.proofs.lemmas.Bool.{OnTrue_from, false≢true}
 use Rattle.chip_trait.proofs.CountsLemmas.{counts_none}
 use Rattle.ipl_meaning.specs.Chart.{chart_of}
 use Rattle.ipl_meaning.specs.Mirrors.{Mirrors}
+use Rattle.number_set.specs.Flags.{has_flag, flagged}
+use Rattle.number_set.proofs.FlagLemmas.{flagged_rise}
 use Rattle.selective_merge.specs.Known.{KnowsPlaces}
 use Rattle.selective_merge.specs.Moving.{tables_of}
 use Rattle.unit_io.specs.Costs.{Spends}
@@ -28,8 +30,9 @@ use Rattle.restart.proofs.passing.find_numbers.Goals as goal
 
 pub returns-then-found-clause-passes : goal.returns-then-found-clause-passes
 returns-then-found-clause-passes g c = λ places x it same is mirrors.
-    passed_all places x it (tables_of c.args.parts.now) mirrors c.args.kept.now
-    c.rises.ensures.rising c.rises.ensures.few
+    passed_all places x it (tables_of c.args.parts.now) mirrors (flagged c.args.kept.now c.args.parts.now.status.numbers)
+    (flagged_rise (has_flag c.args.kept.now.bytes) 0 c.args.parts.now.status.numbers c.facts.ensures.rising)
+    (c.flags.ensures.few c.args.parts.now.status.numbers)
     (c.requires.exact c.if-found.true x is it
     (subst (λ n. Mirrors n (chart_of x) it (tables_of c.args.parts.now)) (sym same) mirrors))
     (g.C.Chip.told c.args.chip.now) is
@@ -76,7 +79,7 @@ passes-init g c =
       begins = λ places x it same is mirrors. begins places x it t c.none-turns.result told same is mirrors
           c.none-turns.ensures.open;
       walks = walks_none tt c.none-turns.result t told c.requires.known;
-      left = omega (arith, c.requires.left, c.facts.ensures.units, c.facts.ensures.places);
+      left = omega (arith, c.requires.left, c.facts-2.ensures.units, c.facts-2.ensures.places);
     }
 
 pub try_pass-requires-clause-known : goal.try_pass-requires-clause-known
@@ -114,7 +117,7 @@ passes-preserved g c =
     let ended = c.try_pass.new.turns in
     let tried = c.in_ok-try_pass.ensures in record {
       begins = λ places x it same is mirrors.
-          subst (λ (b : Bool). OnAnswer b (HasFound places (chart_of x) it t c.try_pass.new.kept new after)
+          subst (λ (b : Bool). OnAnswer b (HasFound places (chart_of x) it t (flagged c.try_pass.new.kept c.try_pass.new.parts.status.numbers) new after)
           (Begins places x it t ended new after)) c.if-not-branch.true
           (tried.tries places x it t (so.begins places x it same is mirrors));
       walks = walks_then {S = Unit {0}} tt first before ended t between after old mid new (Ok tt) so.walks
@@ -127,7 +130,7 @@ returns-clause-passes g c = λ places x it same is mirrors.
     let t = tables_of c.args.parts.now in
     let new = g.C.Chip.told c.try_pass.new.chip in
     let after = tables_of c.try_pass.new.parts in
-    subst (λ (b : Bool). OnAnswer b (HasFound places (chart_of x) it t c.try_pass.new.kept new after)
+    subst (λ (b : Bool). OnAnswer b (HasFound places (chart_of x) it t (flagged c.try_pass.new.kept c.try_pass.new.parts.status.numbers) new after)
     (Begins places x it t c.try_pass.new.turns new after)) c.if-not-branch.false
     (c.in_ok-try_pass.ensures.tries places x it t (c.passes.invariant.begins places x it same is mirrors))
 
@@ -157,7 +160,7 @@ returns-clause-leaves g c =
     let before = c.passes.turns in
     let ended = c.try_pass.new.turns in
     leaves_most c.none-turns.result ended t after (Ok tt) old new
-    (omega (arith, c.facts.ensures.units, c.facts.ensures.places))
+    (omega (arith, c.facts-2.ensures.units, c.facts-2.ensures.places))
     (walks_then {S = Unit {0}} {T = Unit {0}} tt c.none-turns.result before ended t between after old mid new
     (Ok tt) c.passes.invariant.walks
     (walks_answered c.in_ok-try_pass.field-0 tt before ended between after mid new c.in_ok-try_pass.ensures.walks))
@@ -234,7 +237,7 @@ returns-in_err-try_pass-clause-leaves g c =
     (walks_failed {S = Bool} {T = Unit {0}} fault before ended between after mid new c.in_err-try_pass.ensures.walks) in
     let e = err_from_is_err_and c.from_residual.result c.from_residual.ensures.1 in
     rw (e.1 ∙ ap Err e.2) (leaves_most c.none-turns.result ended t after (Err fault) old new
-    (omega (arith, c.facts.ensures.units, c.facts.ensures.places)) all)
+    (omega (arith, c.facts-2.ensures.units, c.facts-2.ensures.places)) all)
 
 pub returns-clause-same : goal.returns-clause-same
 returns-clause-same g c = λ is. absurd (false≢true (sym c.if-found.false ∙ is))

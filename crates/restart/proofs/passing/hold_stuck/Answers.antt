@@ -1,5 +1,6 @@
 use Rattle.std.proofs.Common.{◌≡◌, ◌∙◌, ℕ, Ok, Err, sym, ap, subst, arith}
 use Rattle.std.proofs.lemmas.Result.{err_from_is_err_and}
+use Rattle.number_set.specs.Flags.{flagged}
 use Rattle.selective_merge.specs.Known.{KnowsPlaces}
 use Rattle.selective_merge.specs.Moving.{tables_of}
 use Rattle.restart.specs.Passing.{HasHeld}
@@ -12,6 +13,7 @@ loop-unit-init g c = record {
   holds = λ places x it t was. was;
   walks = walks_none tt c.args.turns.now (tables_of c.args.parts.now) (g.C.Chip.told c.args.chip.now)
       c.requires.known;
+  exact = c.requires.exact;
 }
 
 pub hold_unit-requires-clause-known : goal.hold_unit-requires-clause-known
@@ -50,6 +52,7 @@ loop-unit-preserved g c =
           c.args.turns.now (tables_of c.args.parts.now) (tables_of c.loop-unit.parts)
           (tables_of c.hold_unit.new.parts) (g.C.Chip.told c.args.chip.now) (g.C.Chip.told c.loop-unit.chip)
           (g.C.Chip.told c.hold_unit.new.chip) (Ok tt) so.walks c.in_ok-hold_unit.ensures.walks;
+      exact = c.hold_unit.ensures.exact;
     }
 
 pub returns-clause-holds : goal.returns-clause-holds
@@ -64,6 +67,6 @@ returns-clause-holds g c = λ places x it t was.
       so.state.mirrors.directory.units,
       so.state.count,
     ) in
-    held_all places x it t c.args.turns.now c.loop-unit.kept (g.C.Chip.told c.loop-unit.chip)
+    held_all places x it t c.args.turns.now (flagged c.loop-unit.kept c.loop-unit.parts.status.numbers) (g.C.Chip.told c.loop-unit.chip)
     (tables_of c.loop-unit.parts) (subst (λ (n : ℕ). HasHeld n places x it t c.args.turns.now
-    c.loop-unit.kept (g.C.Chip.told c.loop-unit.chip) (tables_of c.loop-unit.parts)) all so)
+    (flagged c.loop-unit.kept c.loop-unit.parts.status.numbers) (g.C.Chip.told c.loop-unit.chip) (tables_of c.loop-unit.parts)) all so)

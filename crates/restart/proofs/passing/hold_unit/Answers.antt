@@ -1,6 +1,7 @@
 use Rattle.std.proofs.Common.{◌<◌, ◌+◌, ◌∙◌, Bool, true, false, Ok, Err, sym, ap, subst, arith}
 use Rattle.std.proofs.lemmas.Result.{err_from_is_err_and}
 use Rattle.ipl_meaning.specs.Tables.{Tables}
+use Rattle.number_set.specs.Flags.{flagged}
 use Rattle.selective_merge.specs.Moving.{tables_of}
 use Rattle.restart.specs.Passing.{HasHeld, IsStuckBelow, JoinsUnit, StepEnds}
 use Rattle.restart.specs.Turns.{turn_of}
@@ -14,7 +15,7 @@ pub returns-then-not-is_stuck-clause-holds : goal.returns-then-not-is_stuck-clau
 returns-then-not-is_stuck-clause-holds g c = λ places x it t was.
     let low : c.args.unit < it.count =
     omega (arith, c.requires.unit, was.state.mirrors.directory.units, was.state.count) in
-    held_skipped places x it t c.args.unit low c.args.turns.now c.args.kept.now
+    held_skipped places x it t c.args.unit low c.args.turns.now (flagged c.args.kept.now c.args.parts.now.status.numbers)
     (g.C.Chip.told c.args.chip.now) (tables_of c.args.parts.now) was
     (sym c.is_stuck.ensures ∙ c.if-not-is_stuck.true)
 
@@ -31,9 +32,9 @@ returns-in_err-join_unit-clause-holds g c = λ places x it t was.
     let after = tables_of c.join_unit.new.parts in
     let turns = c.args.turns.now in
     let e = err_from_is_err_and c.from_residual.result c.from_residual.ensures.1 in
-    rw (e.1 ∙ ap Err e.2) (join_failed places x it t (IsStuckBelow turns c.args.unit) 0 turns c.args.kept.now
-    old before was c.args.unit c.join_unit.new.kept c.in_err-join_unit.field-0.0 mid after
-    (λ (v : Unit {0}). HasHeld (c.args.unit + 1) places x it t turns c.join_unit.new.kept mid after)
+    rw (e.1 ∙ ap Err e.2) (join_failed places x it t (IsStuckBelow turns c.args.unit) 0 turns (flagged c.args.kept.now c.args.parts.now.status.numbers)
+    old before was c.args.unit (flagged c.join_unit.new.kept c.join_unit.new.parts.status.numbers) c.in_err-join_unit.field-0.0 mid after
+    (λ (v : Unit {0}). HasHeld (c.args.unit + 1) places x it t turns (flagged c.join_unit.new.kept c.join_unit.new.parts.status.numbers) mid after)
     c.in_err-join_unit.ensures.joins c.join_unit.ensures.still.0 c.join_unit.ensures.still.1
     c.join_unit.ensures.same)
 
@@ -52,8 +53,8 @@ returns-then-branch-clause-holds g c = λ places x it t was.
     let mid = g.C.Chip.told c.join_unit.new.chip in
     let before = tables_of c.args.parts.now in
     let turns = c.args.turns.now in
-    let kept = c.args.kept.now in
-    let next = c.join_unit.new.kept in
+    let kept = flagged c.args.kept.now c.args.parts.now.status.numbers in
+    let next = flagged c.join_unit.new.kept c.join_unit.new.parts.status.numbers in
     let low : unit < it.count =
     omega (arith, c.requires.unit, was.state.mirrors.directory.units, was.state.count) in
     let joined = joins_at places x it t (IsStuckBelow turns unit) 0 turns kept old before was unit next
@@ -78,8 +79,8 @@ returns-clause-holds g c = λ places x it t was.
     let mid = g.C.Chip.told c.join_unit.new.chip in
     let before = tables_of c.args.parts.now in
     let turns = c.args.turns.now in
-    let kept = c.args.kept.now in
-    let next = c.join_unit.new.kept in
+    let kept = flagged c.args.kept.now c.args.parts.now.status.numbers in
+    let next = flagged c.join_unit.new.kept c.join_unit.new.parts.status.numbers in
     let stuck = sym c.is_stuck.ensures ∙ c.if-not-is_stuck.false in
     let low : unit < it.count =
     omega (arith, c.requires.unit, was.state.mirrors.directory.units, was.state.count) in

@@ -6,6 +6,8 @@ use Rattle.std.proofs.lemmas.Result.{err_from_is_err_and}
 use Rattle.ipl_base.specs.Calls.{IsFailedCall}
 use Rattle.ipl_format.specs.Record.{Record}
 use Rattle.ipl_meaning.specs.Layout.{Shape, records_of}
+use Rattle.number_set.specs.Flags.{Flags, has_flag, flagged}
+use Rattle.number_set.proofs.FlagLemmas.{flagged_rise}
 use Rattle.selective_merge.specs.Moving.{tables_of}
 use Rattle.unit_log.specs.Kept.{records_kept}
 use Rattle.restart.specs.Joins.{joined}
@@ -23,19 +25,20 @@ returns-in_err-read_live-clause-joins g c = λ x told it mirrors.
     (record { mirrors = mirrors; directory_is = refl; overflow_is = refl }))) tt)
 
 -- whether they are few enough, and what is kept then
-joins_so : (numbers : List ℕ) (it : Shape) (kept next : List ℕ) (records : List Record) (fits : Bool)
+joins_so : (numbers : List ℕ) (it : Shape) (kept next : Flags) (records : List Record) (fits : Bool)
     → records ≡ records_of it.log
-    → (IsTrue fits ↔ (length (joined numbers records kept) ≤ 3840))
-    → OnTrue fits (next ≡ joined numbers records kept) → OnFalse fits (next ≡ kept)
-    → IsJoined numbers it kept next fits
+    → (IsTrue fits ↔ (length (joined numbers records (flagged kept numbers)) ≤ 3840))
+    → OnTrue fits (flagged next numbers ≡ joined numbers records (flagged kept numbers))
+    → OnFalse fits (next ≡ kept) → IsJoined numbers it (flagged kept numbers) (flagged next numbers) fits
 joins_so numbers it kept next records true are few made same = (
-  le-leb _ _ (subst (λ (rs : List Record). length (joined numbers rs kept) ≤ 3840) are (few.0 refl)),
-  made ∙ ap (λ (rs : List Record). joined numbers rs kept) are,
+  le-leb _ _ (subst (λ (rs : List Record). length (joined numbers rs (flagged kept numbers)) ≤ 3840) are
+      (few.0 refl)),
+  made ∙ ap (λ (rs : List Record). joined numbers rs (flagged kept numbers)) are,
 )
 joins_so numbers it kept next records false are few made same = (
-  lt-leb _ _ (subst (λ (rs : List Record). 3840 < length (joined numbers rs kept)) are
+  lt-leb _ _ (subst (λ (rs : List Record). 3840 < length (joined numbers rs (flagged kept numbers))) are
       (too_many false _ few refl)),
-  same,
+  ap (λ (k : Flags). flagged k numbers) same,
 )
 
 pub returns-clause-joins : goal.returns-clause-joins
@@ -50,7 +53,7 @@ returns-clause-joins g c = λ x told it mirrors.
     (ap records_kept (c.sectors.ensures.sectors ∙ live.log)
     ∙ records_are_logged _ (g.C.Chip.told c.args.chip.now).places unit (it.units unit).home
     (it.units unit).head.generation log (mirrors.laid.each unit within).log.each)
-    c.join.ensures.fits c.join.ensures.joined c.join.ensures.same
+    (c.join.ensures.fits c.requires.exact) c.join.ensures.joined c.join.ensures.same
 
 pub returns-in_err-read_live-clause-walks : goal.returns-in_err-read_live-clause-walks
 returns-in_err-read_live-clause-walks g c = λ turns.
@@ -64,3 +67,11 @@ pub returns-clause-walks : goal.returns-clause-walks
 returns-clause-walks g c = λ turns.
     walks_read _ c.join.result turns (tables_of c.args.parts.now) (g.C.Chip.told c.args.chip.now)
     (g.C.Chip.told c.read_live.new.chip) c.requires.known c.read_live.ensures.looks.reads
+
+pub returns-in_err-read_live-clause-rising : goal.returns-in_err-read_live-clause-rising
+returns-in_err-read_live-clause-rising g c =
+    flagged_rise (has_flag c.args.kept.now.bytes) 0 c.args.parts.now.status.numbers c.facts.ensures.rising
+
+pub returns-clause-rising : goal.returns-clause-rising
+returns-clause-rising g c =
+    flagged_rise (has_flag c.args.kept.now.bytes) 0 c.args.parts.now.status.numbers c.facts.ensures.rising

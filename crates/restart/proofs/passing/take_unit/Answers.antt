@@ -1,8 +1,10 @@
-use Rattle.std.proofs.Common.{◌<◌, ◌+◌, ◌∙◌, Bool, true, false, Ok, Err, sym, ap, subst, arith}
+use Rattle.std.proofs.Common.{◌≡◌, ◌<◌, ◌+◌, ◌∙◌, ℕ, List, Bool, true, false, Ok, Err, sym, ap, subst, arith}
 use Rattle.std.proofs.lemmas.Result.{err_from_is_err_and}
-use Rattle.ipl_meaning.specs.Tables.{Tables}
+use Rattle.ipl_meaning.specs.Tables.{StatusTable, Tables}
+use Rattle.number_set.specs.Flags.{flagged}
 use Rattle.selective_merge.specs.Moving.{tables_of}
-use Rattle.restart.specs.Passing.{Begins, HasPassed, IsPassedBelow, JoinsUnit, OnAnswer}
+use Rattle.restart.specs.Joins.{kept_of, IsExact}
+use Rattle.restart.specs.Passing.{Begins, HasPassed, IsPassedBelow, JoinsUnit, OnAnswer, StepEnds}
 use Rattle.restart.proofs.PassingLemmas.{join_failed, joins_at, never_fits, passed_joined, passed_skipped, unmerged_here}
 use Rattle.restart.proofs.PassLemmas.{passing_read}
 use Rattle.restart.proofs.WalkLemmas.{walks_answered, walks_failed, walks_none, walks_then}
@@ -12,7 +14,7 @@ pub returns-then-is_ended-clause-takes : goal.returns-then-is_ended-clause-takes
 returns-then-is_ended-clause-takes g c = λ places x it t was.
     let low : c.args.unit < it.count =
     omega (arith, c.requires.unit, was.state.mirrors.directory.units, was.state.count) in
-    passed_skipped places x it t c.args.unit low c.args.turns.now c.args.kept.now
+    passed_skipped places x it t c.args.unit low c.args.turns.now (flagged c.args.kept.now c.args.parts.now.status.numbers)
     (g.C.Chip.told c.args.chip.now) (tables_of c.args.parts.now) was
     (sym c.is_ended.ensures ∙ c.if-is_ended.true)
 
@@ -30,8 +32,8 @@ returns-in_err-join_unit-clause-takes g c = λ places x it t was.
     let turns = c.args.turns.now in
     let e = err_from_is_err_and c.from_residual.result c.from_residual.ensures.1 in
     rw (e.1 ∙ ap Err e.2) (join_failed places x it t (IsPassedBelow turns it.count c.args.unit) c.args.unit turns
-    c.args.kept.now old before was c.args.unit c.join_unit.new.kept c.in_err-join_unit.field-0.0 mid after
-    (λ (v : Bool). OnAnswer v (HasPassed (c.args.unit + 1) places x it t turns c.join_unit.new.kept mid after)
+    (flagged c.args.kept.now c.args.parts.now.status.numbers) old before was c.args.unit (flagged c.join_unit.new.kept c.join_unit.new.parts.status.numbers) c.in_err-join_unit.field-0.0 mid after
+    (λ (v : Bool). OnAnswer v (HasPassed (c.args.unit + 1) places x it t turns (flagged c.join_unit.new.kept c.join_unit.new.parts.status.numbers) mid after)
     (Begins places x it t turns mid after))
     c.in_err-join_unit.ensures.joins c.join_unit.ensures.still.0 c.join_unit.ensures.still.1
     c.join_unit.ensures.same)
@@ -51,8 +53,8 @@ returns-then-branch-clause-takes g c = λ places x it t was.
     let mid = g.C.Chip.told c.join_unit.new.chip in
     let before = tables_of c.args.parts.now in
     let turns = c.args.turns.now in
-    let kept = c.args.kept.now in
-    let next = c.join_unit.new.kept in
+    let kept = flagged c.args.kept.now c.args.parts.now.status.numbers in
+    let next = flagged c.join_unit.new.kept c.join_unit.new.parts.status.numbers in
     let low : unit < it.count =
     omega (arith, c.requires.unit, was.state.mirrors.directory.units, was.state.count) in
     let joined = joins_at places x it t (IsPassedBelow turns it.count unit) unit turns kept old before was unit next
@@ -77,8 +79,8 @@ returns-clause-takes g c = λ places x it t was.
     let mid = g.C.Chip.told c.join_unit.new.chip in
     let before = tables_of c.args.parts.now in
     let turns = c.args.turns.now in
-    let kept = c.args.kept.now in
-    let next = c.join_unit.new.kept in
+    let kept = flagged c.args.kept.now c.args.parts.now.status.numbers in
+    let next = flagged c.join_unit.new.kept c.join_unit.new.parts.status.numbers in
     let idle = sym c.is_ended.ensures ∙ c.if-is_ended.false in
     let low : unit < it.count =
     omega (arith, c.requires.unit, was.state.mirrors.directory.units, was.state.count) in
@@ -90,7 +92,16 @@ returns-clause-takes g c = λ places x it t was.
     let there = subst (λ (s : Tables). HasPassed unit places x it t turns kept mid s) (sym c.join_unit.ensures.same)
     (passing_read places x it t (IsPassedBelow turns it.count unit) unit turns kept old before was mid
     c.join_unit.ensures.still.0 c.join_unit.ensures.still.1) in
-    rw joined.1 (c.make_room.ensures.makes places x it t kept full there idle)
+    let new = g.C.Chip.told c.make_room.new.chip in
+    let after = tables_of c.make_room.new.parts in
+    let ended = c.make_room.new.turns in
+    let still : flagged c.join_unit.new.kept after.status.numbers ≡ kept =
+    ap (λ (s : StatusTable). flagged c.join_unit.new.kept s.numbers) c.make_room.ensures.walks.leaves.holds.status
+    ∙ joined.1 in
+    subst (λ (k : List ℕ). StepEnds places x it t c.make_room.result new after
+    (λ done. OnAnswer done (HasPassed (unit + 1) places x it t ended k new after)
+    (Begins places x it t ended new after))) (sym still)
+    (c.make_room.ensures.makes places x it t kept full there idle)
 
 pub returns-clause-walks : goal.returns-clause-walks
 returns-clause-walks g c =
@@ -99,3 +110,8 @@ returns-clause-walks g c =
     (tables_of c.join_unit.new.parts) (tables_of c.make_room.new.parts) (g.C.Chip.told c.args.chip.now)
     (g.C.Chip.told c.join_unit.new.chip) (g.C.Chip.told c.make_room.new.chip) c.make_room.result
     (c.in_ok-join_unit.ensures.walks turns) c.make_room.ensures.walks
+
+pub returns-clause-exact : goal.returns-clause-exact
+returns-clause-exact g c =
+    subst (λ (s : StatusTable). IsExact (kept_of s.numbers c.join_unit.new.kept))
+    (sym c.make_room.ensures.walks.leaves.holds.status) c.join_unit.ensures.exact

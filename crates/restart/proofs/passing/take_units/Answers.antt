@@ -1,5 +1,6 @@
 use Rattle.std.proofs.Common.{◌≡◌, ◌+◌, ◌∙◌, ℕ, Bool, false, Ok, Err, sym, ap, subst, arith}
 use Rattle.std.proofs.lemmas.Result.{err_from_is_err_and}
+use Rattle.number_set.specs.Flags.{flagged}
 use Rattle.selective_merge.specs.Known.{KnowsPlaces}
 use Rattle.selective_merge.specs.Moving.{tables_of}
 use Rattle.restart.specs.Passing.{Begins, HasPassed, OnAnswer}
@@ -12,6 +13,7 @@ loop-unit-init g c = record {
   takes = λ places x it t was. was;
   walks = walks_none tt c.args.turns.now (tables_of c.args.parts.now) (g.C.Chip.told c.args.chip.now)
       c.requires.known;
+  exact = c.requires.exact;
 }
 
 pub take_unit-requires-clause-known : goal.take_unit-requires-clause-known
@@ -53,7 +55,7 @@ returns-then-not-branch-clause-takes g c = λ places x it t was.
     let new = g.C.Chip.told c.take_unit.new.chip in
     let after = tables_of c.take_unit.new.parts in
     let ended = c.take_unit.new.turns in
-    subst (λ (b : Bool). OnAnswer b (HasPassed (c.loop-unit.unit + 1) places x it t ended c.take_unit.new.kept new
+    subst (λ (b : Bool). OnAnswer b (HasPassed (c.loop-unit.unit + 1) places x it t ended (flagged c.take_unit.new.kept c.take_unit.new.parts.status.numbers) new
     after) (Begins places x it t ended new after)) c.if-not-branch.true
     (c.in_ok-take_unit.ensures.takes places x it t (c.loop-unit.invariant.takes places x it t was))
 
@@ -78,12 +80,13 @@ loop-unit-preserved g c =
     let ended = c.take_unit.new.turns in record {
       takes = λ places x it t was.
           subst (λ (b : Bool). OnAnswer b (HasPassed (c.loop-unit.unit + 1) places x it t ended
-          c.take_unit.new.kept new after) (Begins places x it t ended new after)) c.if-not-branch.false
+          (flagged c.take_unit.new.kept c.take_unit.new.parts.status.numbers) new after) (Begins places x it t ended new after)) c.if-not-branch.false
           (c.in_ok-take_unit.ensures.takes places x it t (so.takes places x it t was));
       walks = walks_then {S = Unit {0}} tt c.args.turns.now c.loop-unit.turns ended
           (tables_of c.args.parts.now) between after (g.C.Chip.told c.args.chip.now) mid new (Ok tt) so.walks
           (walks_answered c.in_ok-take_unit.field-0 tt c.loop-unit.turns ended between after mid new
           c.in_ok-take_unit.ensures.walks);
+      exact = c.take_unit.ensures.exact;
     }
 
 pub returns-clause-takes : goal.returns-clause-takes
@@ -98,6 +101,6 @@ returns-clause-takes g c = λ places x it t was.
       so.state.mirrors.directory.units,
       so.state.count,
     ) in
-    passed_found places x it t c.loop-unit.turns c.loop-unit.kept (g.C.Chip.told c.loop-unit.chip)
+    passed_found places x it t c.loop-unit.turns (flagged c.loop-unit.kept c.loop-unit.parts.status.numbers) (g.C.Chip.told c.loop-unit.chip)
     (tables_of c.loop-unit.parts) (subst (λ (n : ℕ). HasPassed n places x it t c.loop-unit.turns
-    c.loop-unit.kept (g.C.Chip.told c.loop-unit.chip) (tables_of c.loop-unit.parts)) all so)
+    (flagged c.loop-unit.kept c.loop-unit.parts.status.numbers) (g.C.Chip.told c.loop-unit.chip) (tables_of c.loop-unit.parts)) all so)

@@ -23,6 +23,7 @@ use Rattle.restart.proofs.CostLemmas.{erases_more, waiting_alone, waiting_then, 
 use Rattle.restart.proofs.RecoverLemmas.{of_parts, opened_parts, reading_cause, reading_not_worn, renewing_cause, opens_told, opens_done, fault_looks, sound_looks, reads_recover, securing_failed, recovers_done, recovers_failed, tidies_settled, tidies_renewed, tidies_ended}
 use Rattle.restart.proofs.CompleteLemmas.{mergeable_but, call_failed, reading_failed, stopped_failed}
 use Rattle.restart.proofs.FaultLemmas.{opening_fault}
+use Rattle.restart.specs.Joins.{kept_of}
 use Rattle.restart.proofs.FoundLemmas.{all_kept, once_where_fit, unread_first}
 use Rattle.restart.proofs.SecuringLemmas.{forgotten, homes_forgotten, no_waits, none_known, unknown_logs, wait_contents, wait_unread, wait_costs, known_ended, none_marked}
 use Rattle.restart.proofs.TidyLemmas.{tidies_nothing, tidies_opened}
@@ -229,8 +230,8 @@ renew_with-requires-clause-exact g c =
     let active = c.read_tables.new.parts.active in
     let t = of_parts c.read_tables.new.parts.directory c.read_tables.new.parts.overflow c.read_tables.new.parts.status
     c.read_tables.new.parts.counter active in
-    let kept = c.read_tables.new.numbers in
-    subst (λ n. c.in_ok-found.found ≡ true → KeepsAll n t kept settled)
+    let kept = kept_of c.read_tables.new.parts.status.numbers c.read_tables.new.numbers in
+    subst (λ n. c.in_ok-found.found ≡ true → KeepsAll n t kept.list settled)
     (sym (c.secure_marks.ensures.accounts.counts.places ∙ reads.counts.places))
     (all_kept old.places t c.in_ok-found.found kept old settled
     (wait_contents (knows_logs c.read_tables.new.parts.directory) mid settled
@@ -387,7 +388,8 @@ returns-in_err-renew_with-clause-spends g c =
         finds = λ is x told. (c.in_ok-found.ensures.found.opened x told).directory.retired;
         units = λ is x told. units ∙ (c.in_ok-found.ensures.found.mirrors x told).directory.units;
       };
-      once = once_where_fit old.places c.in_ok-found.found c.read_tables.new.numbers old mid new
+      once = once_where_fit old.places c.in_ok-found.found
+          (kept_of c.read_tables.new.parts.status.numbers c.read_tables.new.numbers) old mid new
           c.read_tables.ensures.looks.once
           (unread_first c.in_ok-found.found mid settled new
           (wait_unread (knows_logs found) (Ok tt) mid settled c.in_ok-secure_marks.ensures.waits)
@@ -492,7 +494,8 @@ returns-clause-leaves g c =
           (tidies_ended t after old new
           (tidies_renewed t old mid settled reads waited c.in_ok-secure_marks.ensures.waits after (Ok tt)
           new leaves.tidy));
-      marked = takes_marks c.args.marks old.places c.in_ok-found.found c.read_tables.new.numbers t after old
+      marked = takes_marks c.args.marks old.places c.in_ok-found.found
+          (kept_of c.read_tables.new.parts.status.numbers c.read_tables.new.numbers) t after old
           found.found.exact found.found.knows found.found.collected
           (λ x told. (found.found.opened x told).status.first_is) found.found.laid
           (λ x told. leaves.holds.units ∙ (found.found.mirrors x told).directory.units)
@@ -530,7 +533,8 @@ returns-clause-spends g c =
             finds = λ is x told. (c.in_ok-found.ensures.found.opened x told).directory.retired;
             units = λ is x told. units ∙ (c.in_ok-found.ensures.found.mirrors x told).directory.units;
           });
-      once = once_where_fit old.places c.in_ok-found.found c.read_tables.new.numbers old mid new
+      once = once_where_fit old.places c.in_ok-found.found
+          (kept_of c.read_tables.new.parts.status.numbers c.read_tables.new.numbers) old mid new
           c.read_tables.ensures.looks.once
           (unread_first c.in_ok-found.found mid settled new
           (wait_unread (knows_logs found) (Ok tt) mid settled c.in_ok-secure_marks.ensures.waits)

@@ -17,6 +17,7 @@ use Rattle.restart.proofs.KnownLemmas.{knows_places}
 use Rattle.restart.proofs.FillLemmas.{used_still, adopted_then}
 use Rattle.restart.proofs.RetireLemmas.{AreAside, all_aside, listed_within}
 use Rattle.restart.proofs.OpenedMaskLemmas.{opened_masks}
+use Rattle.restart.specs.Joins.{kept_of}
 use Rattle.restart.proofs.OpenedNumbersLemmas.{all_collected}
 use Rattle.restart.proofs.CleanLemmas.{unmarked, counts_marked, counts_exactly, knows_whole}
 use Rattle.restart.specs.Counted.{IsReadLog, AreReadLogs, mark_for}
@@ -272,11 +273,11 @@ mirrors g c = λ x told. opened_tables_mirror c.args.geometry.places (chart_of x
     (laid_out g c x told)
 
 collected : (g : Over) (c : goal.After-facts-2 g) → OfContents (g.C.Chip.told c.args.chip.now)
-    (λ x. AreCollected c.args.geometry.places (chart_of x) c.in_ok-gathered.gathered.fits c.read_rest.new.findings.numbers.now)
+    (λ x. AreCollected c.args.geometry.places (chart_of x) c.in_ok-gathered.gathered.fits (kept_of c.read_rest.new.findings.status.now.numbers c.read_rest.new.findings.numbers.now))
 collected g c = λ x told.
     all_collected (chart_of x) c.args.geometry.places (heads g c) (current g c) c.in_ok-winner.winner (shows g c x told)
     c.read_rest.new.findings.status.now.numbers (mirrors g c x told).status.numbers c.in_ok-gathered.gathered.fits
-    c.read_rest.new.findings.numbers.now
+    (kept_of c.read_rest.new.findings.status.now.numbers c.read_rest.new.findings.numbers.now)
     (c.in_ok-gathered.ensures.found.collected x (c.read_headers.ensures.looks.only.reads.contents ∙ told))
 
 -- whether told or not

@@ -4,6 +4,7 @@ use Rattle.ipl_meaning.specs.Faults.{TellsImageFault, first_fault}
 use Rattle.ipl_meaning.specs.OpeningLaws.{IsByteChart}
 use Rattle.ipl_meaning.specs.Opened.{tables_of}
 use Rattle.restart.specs.Bytes.{ReadsBytes}
+use Rattle.restart.specs.Joins.{kept_of}
 use Rattle.restart.specs.Finds.{FindsStore}
 use Rattle.restart.proofs.recovery.read_tables.Goals.{in-Ok, in-Err}
 use Rattle.restart.proofs.recovery.read_tables.Goals as goal
@@ -16,10 +17,10 @@ returns-clause-found g c =
           let told = g.C.Chip.told c.args.chip.now in
           let size = c.scratch.view_is ∙ c.requires.scratch in
           let found = subst (λ (n : ℕ). FindsStore n told c.args.marks
-          (tables_of now.directory.now now.overflow.now now.status.now (w.in-Ok.all.greatest + 1)) w.in-Ok.all.fits now.numbers.now) size w.in-Ok.ensures.found in
+          (tables_of now.directory.now now.overflow.now now.status.now (w.in-Ok.all.greatest + 1)) w.in-Ok.all.fits (kept_of now.status.now.numbers now.numbers.now)) size w.in-Ok.ensures.found in
           -- the counter is the number after the greatest
           let ended = subst (λ (k : ℕ). FindsStore told.places told c.args.marks
-          (tables_of now.directory.now now.overflow.now now.status.now k) w.in-Ok.all.fits now.numbers.now) (sym w.at-parts.ensures) found in
+          (tables_of now.directory.now now.overflow.now now.status.now k) w.in-Ok.all.fits (kept_of now.status.now.numbers now.numbers.now)) (sym w.at-parts.ensures) found in
           rw (w.result-is, w.parts-is) (search rules)
       | in-Err w ↦ rw w.result-is (search rules)
     ]

@@ -28,6 +28,7 @@ use Rattle.restart.proofs.PlaceLemmas.{erases_then, erased_back, has_between, kn
 use Rattle.restart.proofs.PlaceStepLemmas.{renews_in_steps, failed_in_steps, untaken_in_steps}
 use Rattle.restart.proofs.TidyLemmas.{tidy_renewed, tidy_unrenewed}
 use Rattle.restart.proofs.RenewalWornLemmas.{listed_then}
+use Rattle.number_set.specs.Flags.{flagged}
 use Rattle.restart.proofs.renewal_place.renew_place.Goals as goal
 
 -- what a switch leaves, at the places of the first chip, with its counts, the places that it lists and
@@ -117,7 +118,7 @@ returns-in_err-place-clause-steps g c =
     let fault = c.in_err-place.field-0.0 in
     let e = err_from_is_err_and c.from_residual.result c.from_residual.ensures.1 in
     rw e.1 (untaken_in_steps c.args.directory.now c.args.status.now c.args.counter.now
-    c.args.kept.now c.take_place.new.directory c.args.status.now c.draw-generation.new.self fault e.0 old
+    (flagged c.args.kept.now c.args.status.now.numbers) c.take_place.new.directory c.args.status.now c.draw-generation.new.self fault e.0 old
     (g.C.Chip.told c.take_place.new.chip) c.in_err-place.ensures.aside refl
     (omega (arith, c.draw-generation.ensures.next)) c.in_err-place.ensures.takes)
 
@@ -179,7 +180,7 @@ returns-in-Ok-clause-moves g c =
         mid = c.take_place.new.directory;
         taken = c.in_ok-place.ensures.taken;
         status_is = placed.switched
-            ∙ ap (λ (n : ℕ). switched_to c.in_ok-place.place n c.args.kept.now) c.draw-generation.ensures.drawn;
+            ∙ ap (λ (n : ℕ). switched_to c.in_ok-place.place n (flagged c.args.kept.now c.args.status.now.numbers)) c.draw-generation.ensures.drawn;
         places_is = c.give_back.ensures
             ∙ ap (λ (p : ℕ). with_use c.take_place.new.directory p false) c.place-old.ensures;
       };
@@ -204,7 +205,7 @@ returns-in-Ok-clause-tells g c =
     let first = c.args.directory.now in
     let status = c.args.status.now in
     let next = c.args.counter.now in
-    let kept = c.args.kept.now in
+    let kept = flagged c.args.kept.now c.args.status.now.numbers in
     let old = g.C.Chip.told c.args.chip.now in
     let after = c.give_back.new.self in
     let new = c.switch.new.self in
@@ -246,7 +247,7 @@ returns-in-Ok-clause-steps g c =
     let first = c.args.directory.now in
     let status = c.args.status.now in
     let next = c.args.counter.now in
-    let kept = c.args.kept.now in
+    let kept = flagged c.args.kept.now c.args.status.now.numbers in
     let old = g.C.Chip.told c.args.chip.now in
     let after = c.give_back.new.self in
     let new = c.switch.new.self in
@@ -278,7 +279,7 @@ returns-in-Ok-clause-tables g c =
     let first = c.args.directory.now in
     let status = c.args.status.now in
     let next = c.args.counter.now in
-    let kept = c.args.kept.now in
+    let kept = flagged c.args.kept.now c.args.status.now.numbers in
     let old = g.C.Chip.told c.args.chip.now in
     let after = c.give_back.new.self in
     let new = c.switch.new.self in
@@ -374,12 +375,12 @@ returns-in-Err-clause-steps g c =
     let d = aside first from.worn in
     let counts = c.in_ok-place.ensures.accounts.counts in
     failed_in_steps c.directory_laws.ensures.takes c.directory_laws.ensures.gives_back p first
-    c.take_place.new.directory from c.args.status.now c.args.counter.now c.args.kept.now old mid told
+    c.take_place.new.directory from c.args.status.now c.args.counter.now (flagged c.args.kept.now c.args.status.now.numbers) old mid told
     c.requires.may.size counts c.in_ok-place.ensures.takes
     c.give_back-in-Err.new.self c.switch.new.self c.switch.new.counter c.in-Err.fault c.in-Err.fault
     (switch_leaves old.places mid.places (length d.current) c.header_of-header.result.units (erases_then d p)
     c.header_of-header.result.erases d.retired c.retired-retired.result.now c.draw-generation.result c.args.counter.now p
-    c.args.status.now c.args.kept.now (Err c.in-Err.fault) mid told counts.places
+    c.args.status.now (flagged c.args.kept.now c.args.status.now.numbers) (Err c.in-Err.fault) mid told counts.places
     (c.header_of-header.ensures.units ∙ ap (λ (e : Places). length e.current) from.places_is)
     (c.header_of-header.ensures.erases ∙ ap (λ (e : Places). slice_index e.erases p) from.places_is)
     (c.retired-retired.ensures ∙ ap (λ (e : Places). e.retired) from.places_is)
@@ -390,7 +391,7 @@ returns-in-Err-clause-tables g c =
     let p = c.in_ok-place.place in
     let first = c.args.directory.now in
     let after = c.give_back-in-Err.new.self in
-    let kept = c.args.kept.now in
+    let kept = flagged c.args.kept.now c.args.status.now.numbers in
     let fault = c.in-Err.fault in
     let old = g.C.Chip.told c.args.chip.now in
     let told = g.C.Chip.told c.switch.new.chip in

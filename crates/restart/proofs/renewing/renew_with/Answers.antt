@@ -1,4 +1,4 @@
-use Rattle.std.proofs.Common.{◌≡◌, ◌+◌, ◌∙◌, ℕ, List, length, false, Err, inl, inr, refl, sym, ap, subst, arith}
+use Rattle.std.proofs.Common.{◌≡◌, ◌≤◌, ◌+◌, ◌∙◌, length, false, Err, inl, inr, refl, sym, ap, subst, arith}
 use Rattle.std.proofs.lemmas.Result.{err_from_is_err_and}
 use Rattle.ipl_meaning.specs.Chart.{chart_of}
 use Rattle.ipl_meaning.specs.Rests.{now}
@@ -23,6 +23,8 @@ use Rattle.restart.proofs.TidyLemmas.{tidies_then}
 use Rattle.restart.proofs.CountedMarkLemmas.{logs_renewed}
 use Rattle.restart.proofs.FoundLemmas.{unread_both}
 use Rattle.restart.proofs.RenewalWornLemmas.{wears_renewed, wears_unpassed}
+use Rattle.number_set.specs.Flags.{Flags, has_flag, flagged}
+use Rattle.number_set.proofs.FlagLemmas.{flagged_rise}
 use Rattle.restart.proofs.renewing.renew_with.Goals as goal
 
 pub renew_place-requires-clause-may : goal.renew_place-requires-clause-may
@@ -38,7 +40,12 @@ renew_place-requires-clause-may g c =
 
 pub renew_place-requires-clause-fits : goal.renew_place-requires-clause-fits
 renew_place-requires-clause-fits g c =
-    record { rising = c.as_slice.ensures.rising; few = c.as_slice.ensures.few }
+    record {
+      rising = flagged_rise (has_flag c.flags.result.now.bytes) 0 c.find_numbers.new.parts.status.numbers
+          c.facts.ensures.rising;
+      few = subst (λ (k : Flags). length (flagged k c.find_numbers.new.parts.status.numbers) ≤ 3840)
+          (sym c.flags.ensures.flags) (c.flags.ensures.few c.find_numbers.new.parts.status.numbers);
+    }
 
 pub renew_place-requires-clause-left : goal.renew_place-requires-clause-left
 renew_place-requires-clause-left g c =
@@ -56,7 +63,8 @@ pub returns-clause-logs : goal.returns-clause-logs
 returns-clause-logs g c =
     let between = tables_of c.find_numbers.new.parts in
     logs_renewed c.args.found (tables_of c.args.parts.now) between c.renew_place.new.directory
-    c.renew_place.new.status c.renew_place.new.counter c.as_slice.result.now c.renew_place.result
+    c.renew_place.new.status c.renew_place.new.counter
+    (flagged c.flags.result.now c.find_numbers.new.parts.status.numbers) c.renew_place.result
     c.in_ok-find_numbers.ensures.same c.renew_place.ensures.moves.moved
 
 pub returns-in_err-find_numbers-clause-renews : goal.returns-in_err-find_numbers-clause-renews
@@ -107,7 +115,7 @@ returns-clause-renews g c = record {
       let new = g.C.Chip.told c.renew_place.new.chip in
       let t = tables_of c.args.parts.now in
       let between = tables_of c.find_numbers.new.parts in
-      let kept = c.as_slice.result.now in
+      let kept = (flagged c.flags.result.now c.find_numbers.new.parts.status.numbers) in
       let directory = c.renew_place.new.directory in
       let status = c.renew_place.new.status in
       let drawn = c.renew_place.new.counter in
@@ -120,8 +128,8 @@ returns-clause-renews g c = record {
       (goes_on_from (λ done. Renews old.places between.places between.status between.next kept directory
       status drawn) (λ d y. y ≡ d) c.renew_place.result mid new renews))
       (λ x it told mirrors. renew_ends old.places (chart_of x) it t kept mid between
-      (subst (λ (k : List ℕ). HasFound old.places (chart_of x) it t k mid between)
-      (sym c.as_slice.ensures.numbers)
+      (subst (λ (k : Flags). HasFound old.places (chart_of x) it t (flagged k between.status.numbers) mid between)
+      (sym c.flags.ensures.flags)
       (c.in_ok-find_numbers.ensures.passes old.places x it refl told mirrors))
       directory status drawn new c.renew_place.result renews c.renew_place.ensures.moves.same
       (omega (arith, c.renew_place.ensures.moves.draws)));
@@ -131,7 +139,7 @@ returns-clause-renews g c = record {
       let new = g.C.Chip.told c.renew_place.new.chip in
       let t = tables_of c.args.parts.now in
       let between = tables_of c.find_numbers.new.parts in
-      let kept = c.as_slice.result.now in
+      let kept = (flagged c.flags.result.now c.find_numbers.new.parts.status.numbers) in
       let directory = c.renew_place.new.directory in
       let status = c.renew_place.new.status in
       let drawn = c.renew_place.new.counter in
@@ -139,8 +147,8 @@ returns-clause-renews g c = record {
       passed_then old.places m h it t between after old mid new c.renew_place.result
       kept c.find_numbers.ensures.leaves.accounts.counts steady
       agrees
-      (λ x told mirrors. subst (λ (k : List ℕ). HasFound old.places (chart_of x)
-      it t k mid between) (sym c.as_slice.ensures.numbers)
+      (λ x told mirrors. subst (λ (k : Flags). HasFound old.places (chart_of x)
+      it t (flagged k between.status.numbers) mid between) (sym c.flags.ensures.flags)
       (c.in_ok-find_numbers.ensures.passes old.places x it refl told mirrors))
       (c.in_ok-find_numbers.ensures.steps old.places refl m it h steady rests agrees)
       (λ k was there resting agreeing. steps_preserve old.places m k between after
@@ -179,7 +187,7 @@ returns-clause-renews g c = record {
         holds = record {
           active = found.holds.active;
           units = units_still result between.places directory between.status status between.next
-              c.as_slice.result.now is.moves.moved is.moves.same ∙ found.holds.units;
+              (flagged c.flags.result.now c.find_numbers.new.parts.status.numbers) is.moves.moved is.moves.same ∙ found.holds.units;
           known = subst (λ n. KnowsPlaces n after) counts.places (is.tables.known between
               (record { places_is = refl; status_is = refl; next_is = refl }) known);
           ends = status_ends result between.places directory c.args.parts.now.status between.status status
@@ -209,7 +217,7 @@ returns-clause-renews g c = record {
       let erases : Spends (ErasesAtMost between.places directory 1 (is_worn_out result)) mid new =
       place_erases between.places directory _ _ _ mid new (homes_used old.places between found.holds.known)
       (homes_still result between.places directory between.status status between.next
-      c.as_slice.result.now is.moves.moved is.moves.same) is.writes.costs in record {
+      (flagged c.flags.result.now c.find_numbers.new.parts.status.numbers) is.moves.moved is.moves.same) is.writes.costs in record {
         costs = erases_then t.places between.places directory units 1 _ old mid new found.costs erases;
         renewed = renewed_then (ErasesAtMost t.places between.places units false) status.place
             between.places directory _ old mid new result found.costs is.writes.costs;

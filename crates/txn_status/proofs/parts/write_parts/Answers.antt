@@ -5,6 +5,7 @@ use Rattle.chip_trait.proofs.CountsLemmas.{counts_none, counts_then}
 use Rattle.ipl_base.specs.declared.fault.ChipFault.{ChipFault}
 use Rattle.ipl_format.specs.Sector.{Sector}
 use Rattle.unit_io.specs.Charts.{Charts, Gains}
+use Rattle.number_set.specs.Flags.{flagged}
 use Rattle.txn_status.specs.Commits.{commit_sector, part_of}
 use Rattle.txn_status.specs.Status.{parts_of}
 use Rattle.unit_io.specs.Writing.{LeadsAside}
@@ -37,8 +38,8 @@ loop-i-init g c =
     let told = g.C.Chip.told c.args.chip.now in record {
       keeps = λ m h steady rests bare clean.
           keeps_none told.places c.args.place c.args.generation c.args.counter.now
-          c.args.numbers.now m h told steady rests;
-      tells = told_none c.args.place c.args.generation c.args.counter.now c.args.numbers.now told;
+          (flagged c.args.kept.now c.args.numbers.now.list) m h told steady rests;
+      tells = told_none c.args.place c.args.generation c.args.counter.now (flagged c.args.kept.now c.args.numbers.now.list) told;
       costs = spends_none (ProgramsAt c.args.place 0 0 6) told (nothing_at c.args.place 0 0 6);
       tidy = tidy_parts_none c.args.place told;
       unread = unread_none told;
@@ -51,14 +52,14 @@ loop-i-preserved g c =
     let so = c.loop-i.invariant in
     let w = c.in_ok-prepare_commit.ensures in
     let i = c.loop-i.i in
-    let numbers = c.args.numbers.now in
+    let numbers = flagged c.args.kept.now c.args.numbers.now.list in
     let old = g.C.Chip.told c.args.chip.now in
     let mid = g.C.Chip.told c.loop-i.chip in
     let new = g.C.Chip.told c.prepare_commit.new.chip in
     let low : i < parts_of numbers =
     omega (arith, c.part_count-count.ensures.parts, c.loop-i-test.true) in
     let same = next_part c.args.generation _ (c.args.counter.now + i) _ (part_of numbers i) _ _
-    c.noted.ensures.same c.of-part.ensures (c.draw-serial.ensures.drawn ∙ so.drawn) c.part_of.ensures.part in record {
+    c.noted.ensures.same c.of-part.ensures (c.draw-serial.ensures.drawn ∙ so.drawn) (c.as_slice.ensures.value ∙ c.part_of-own.ensures) in record {
       keeps = λ m h steady rests bare clean.
           keeps_more old.places c.args.place c.args.generation c.args.counter.now numbers m h
           (parts_of numbers) i low bare clean old mid new (Ok tt) (so.keeps m h steady rests bare clean)
@@ -78,7 +79,7 @@ pub returns-in_err-prepare_commit-clause-keeps : goal.returns-in_err-prepare_com
 returns-in_err-prepare_commit-clause-keeps g c = λ m h steady rests bare clean.
     let so = c.loop-i.invariant in
     let i = c.loop-i.i in
-    let numbers = c.args.numbers.now in
+    let numbers = flagged c.args.kept.now c.args.numbers.now.list in
     let old = g.C.Chip.told c.args.chip.now in
     let mid = g.C.Chip.told c.loop-i.chip in
     let new = g.C.Chip.told c.prepare_commit.new.chip in
@@ -86,7 +87,7 @@ returns-in_err-prepare_commit-clause-keeps g c = λ m h steady rests bare clean.
     let low : i < parts_of numbers =
     omega (arith, c.part_count-count.ensures.parts, c.loop-i-test.true) in
     let same = next_part c.args.generation _ (c.args.counter.now + i) _ (part_of numbers i) _ _
-    c.noted.ensures.same c.of-part.ensures (c.draw-serial.ensures.drawn ∙ so.drawn) c.part_of.ensures.part in
+    c.noted.ensures.same c.of-part.ensures (c.draw-serial.ensures.drawn ∙ so.drawn) (c.as_slice.ensures.value ∙ c.part_of-own.ensures) in
     let e = err_from_is_err_and c.from_residual.result c.from_residual.ensures.1 in
     rw e.1 (keeps_failed old.places c.args.place c.args.generation c.args.counter.now numbers m h
     (i + 1) (parts_of numbers) fault e.0 old new (omega (arith, low))
@@ -97,10 +98,10 @@ returns-in_err-prepare_commit-clause-keeps g c = λ m h steady rests bare clean.
 
 pub returns-clause-keeps : goal.returns-clause-keeps
 returns-clause-keeps g c = λ m h steady rests bare clean.
-    let done : c.loop-i.i ≡ parts_of c.args.numbers.now =
+    let done : c.loop-i.i ≡ parts_of (flagged c.args.kept.now c.args.numbers.now.list) =
     omega (arith, c.part_count-count.ensures.parts) in
     subst (λ (n : ℕ). KeepsParts (g.C.Chip.told c.args.chip.now).places c.args.place
-    c.args.generation c.args.counter.now c.args.numbers.now n m h
+    c.args.generation c.args.counter.now (flagged c.args.kept.now c.args.numbers.now.list) n m h
     (g.C.Chip.told c.args.chip.now) (Ok tt) (g.C.Chip.told c.loop-i.chip)) done (c.loop-i.invariant.keeps m h steady rests bare clean)
 
 pub returns-in_err-prepare_commit-clause-writes : goal.returns-in_err-prepare_commit-clause-writes
@@ -109,7 +110,7 @@ returns-in_err-prepare_commit-clause-writes g c =
     let w = c.in_err-prepare_commit.ensures.writes in
     let place = c.args.place in
     let i = c.loop-i.i in
-    let parts = parts_of c.args.numbers.now in
+    let parts = parts_of (flagged c.args.kept.now c.args.numbers.now.list) in
     let old = g.C.Chip.told c.args.chip.now in
     let mid = g.C.Chip.told c.loop-i.chip in
     let new = g.C.Chip.told c.prepare_commit.new.chip in
@@ -134,7 +135,7 @@ returns-clause-writes g c =
     let so = c.loop-i.invariant in record {
       costs = spends_at_most c.args.place c.loop-i.i 64 0 0 6 _ _
           (omega (arith, c.part_count-count.ensures.few)) (omega arith) so.costs;
-      tidy = tidy_parts c.args.place c.loop-i.i (parts_of c.args.numbers.now) true true _ _
+      tidy = tidy_parts c.args.place c.loop-i.i (parts_of (flagged c.args.kept.now c.args.numbers.now.list)) true true _ _
           (omega (arith, c.part_count-count.ensures.parts)) so.tidy;
       unread = so.unread;
       accounts = record { counts = so.counts; cause = tt };

@@ -8,6 +8,7 @@ use Rattle.unit_io.specs.Costs.{ProgramsAt, Spends}
 use Rattle.unit_io.specs.Charts.{Charts}
 use Rattle.unit_io.specs.Spots.{Programs}
 use Rattle.unit_io.specs.Unread.{ReadsNothing}
+use Rattle.number_set.specs.Flags.{flagged}
 use Rattle.txn_status.specs.Status.{parts_of}
 use Rattle.txn_status.specs.Switching.{HasParts, IsPartSpot}
 use Rattle.txn_status.specs.Writing.{KeepsParts}
@@ -30,4 +31,4 @@ pub record AreWritten (first t : Told) (place generation serial : ℕ) (numbers 
 abbrev pub invariant-loop-i : goal.invariant-loop-i
 invariant-loop-i g l =
     AreWritten (g.C.Chip.told l.fn.chip) (g.C.Chip.told l.chip) l.place l.generation l.fn.counter
-    l.numbers l.counter l.i
+    (flagged l.kept l.numbers.list) l.counter l.i
