@@ -3,7 +3,8 @@
 //! by which the bytes spell a list of records.
 //!
 //! Proved, by `Payload`, `put`, `records`, `is_list`: records put into a payload exactly where
-//! they fit, listed in order.
+//! they fit, listed in order. By `has_record` and those that begin with `first`: what the record is
+//! that bytes begin with, and how many of them it takes.
 #![tactic(auto)]
 
 mod iterator;
@@ -13,5 +14,7 @@ mod record;
 
 pub use iterator::Records;
 pub use payload::{Payload, put, records};
-pub use reading::is_list;
+pub use reading::{
+    first_len, first_number, first_page, first_record, first_slot, has_record, is_list,
+};
 pub use record::{Change, Record};

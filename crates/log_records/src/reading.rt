@@ -1,6 +1,6 @@
 //! Log records, read from bytes.
 ghost use Rattle.std.specs.Prelude.{◌≡◌, ◌≤◌, ◌<◌, ◌+◌, ◌↔◌, IsTrue, drop, length, option_map, slice_index, true};
-ghost use Rattle.ipl_base.specs.declared.limits.TheConstants.{RECORD_HEAD};
+ghost use Rattle.ipl_base.specs.declared.limits.TheConstants.{PAGES, RECORD_HEAD, SLOTS};
 ghost use Rattle.ipl_format.specs.Version.{most_len};
 ghost use Rattle.ipl_format.specs.Record.{IsLogPayload, kind_in, slot_in, size_in};
 ghost use Rattle.log_records.specs.Reading.{change_at, first_record, has_record, is_change, record_at};
@@ -58,8 +58,8 @@ fn is_change(kind: u8, len: usize, version: u8) -> bool
     (kind == 1 && len <= most_len(version)) || (kind == 2 && len == 0)
 }
 
-// Whether the bytes begin with a record.
-fn has_record(bytes: &[u8], version: u8) -> bool
+/// Whether the bytes begin with a record.
+pub fn has_record(bytes: &[u8], version: u8) -> bool
     ensures { result ≡ has_record version bytes.now }
 {
     bytes.len() >= RECORD_HEAD
@@ -83,7 +83,8 @@ fn change_at(bytes: &[u8], version: u8) -> Change
     }
 }
 
-fn first_record(bytes: &[u8], version: u8) -> Record
+/// The record that the bytes begin with.
+pub fn first_record(bytes: &[u8], version: u8) -> Record
     requires { has_record version bytes.now ≡ true }
     ensures { record_of result ≡ first_record version bytes.now }
 {
@@ -93,6 +94,43 @@ fn first_record(bytes: &[u8], version: u8) -> Record
         tid: long_at(bytes, 4),
         change: change_at(bytes, version),
     }
+}
+
+/// Its page, 0 to 14.
+pub fn first_page(bytes: &[u8], version: u8) -> u32
+    requires { has_record version bytes.now ≡ true }
+    ensures page { result ≡ (first_record version bytes.now).page }
+    ensures within { result < PAGES }
+{
+    let _ = version;
+    u32::from(bytes[0])
+}
+
+/// Its slot, 0 to 63.
+pub fn first_slot(bytes: &[u8], version: u8) -> u32
+    requires { has_record version bytes.now ≡ true }
+    ensures slot { result ≡ (first_record version bytes.now).slot }
+    ensures within { result < SLOTS }
+{
+    u32::from(slot_in(bytes, version))
+}
+
+/// Its number.
+pub fn first_number(bytes: &[u8], version: u8) -> u64
+    requires { has_record version bytes.now ≡ true }
+    ensures { result ≡ (first_record version bytes.now).tid }
+{
+    let _ = version;
+    long_at(bytes, 4)
+}
+
+/// How many bytes it takes, at least 12.
+pub fn first_len(bytes: &[u8], version: u8) -> usize
+    requires { has_record version bytes.now ≡ true }
+    ensures size { result ≡ RECORD_HEAD + size_in version bytes.now }
+    ensures within { result ≤ length bytes.now }
+{
+    RECORD_HEAD + size_in(bytes, version)
 }
 
 fn after_record(bytes: &[u8], version: u8) -> &[u8]

@@ -12,6 +12,7 @@ mod CarryLemmas
 mod RecordTestLemmas
 mod LogLemmas
 mod KeptLemmas
+mod RecordOffsetLemmas
 mod PageLemmas
 pub mod UnbrokenLemmas
 mod ThroughoutLemmas

@@ -1,57 +1,56 @@
--- The records of a log as they are kept: a head of each, and the bytes of their values one behind
--- the other.
-use Rattle.std.specs.Prelude.{ℕ, ◌≡◌, ◌≤◌, ◌+◌, ◌*◌, List, All, length, map, take, drop, slice_index_or, Some, None, if◌then◌else◌}
-use Rattle.std.specs.Option.{is_some}
-use Rattle.ipl_base.specs.declared.limits.TheConstants.{LIVE_SECTORS, PAYLOAD_LEN, RECORD_HEAD, VALUE_LEN, VERSION}
-use Rattle.ipl_format.specs.Record.{Record, Change, IsRecord, value_of}
-use Rattle.ipl_meaning.specs.Last.{size_of_all}
-use Rattle.selective_merge.specs.declared.heads.LogHead.{LogHead}
+-- The records of a log, by where they stand in the log sectors that were read.
+use Rattle.std.specs.Prelude.{ℕ, zero, suc, ◌≡◌, ◌≤◌, ◌<◌, ◌+◌, true, List, [], ◌∷◌, ◌++◌, length, map, drop, slice_index_or, None, if◌then◌else◌}
+use Rattle.std.specs.List.{All}
+use Rattle.ipl_base.specs.declared.limits.TheConstants.{LIVE_RECORDS, RECORD_HEAD, VERSION}
+use Rattle.ipl_format.specs.Record.{Record, IsRecord, size_in}
+use Rattle.log_records.specs.Reading.{first_record, has_record}
+use Rattle.unit_log.specs.declared.scratch.LogSector.{LogSector}
+use Rattle.selective_merge.specs.declared.record_offset.RecordOffset.{RecordOffset}
 
 -- the i-th record of a log that has more
 abbrev pub nth_record : List Record → ℕ → Record
 nth_record log i = slice_index_or log i (record { page = 0; slot = 0; tid = 0; change = None })
 
--- the bytes of the live log sectors of a unit, at most
-abbrev pub live_bytes : ℕ
-live_bytes = LIVE_SECTORS * PAYLOAD_LEN
+-- the k-th of the log sectors
+abbrev pub sector_at : List LogSector → ℕ → LogSector
+sector_at sectors k =
+    slice_index_or sectors k (record { serial = 0; payload = record { version = 0; bytes = [] } })
 
--- the head of a record whose value begins there
-abbrev pub head_of : ℕ → Record → LogHead
-head_of start r = record {
-  number = r.tid;
-  start = start;
-  len = length (value_of r.change);
-  page = r.page;
-  slot = r.slot;
-  puts = is_some r.change;
-}
+-- the bytes that begin with the record at an offset
+abbrev pub bytes_at : List LogSector → RecordOffset → List ℕ
+bytes_at sectors p = drop p.at (sector_at sectors p.sector).payload.bytes
 
--- what the head's record does to its slot
-abbrev pub kept_change : List ℕ → LogHead → Change
-kept_change values h = if h.puts then Some (take h.len (drop h.start values)) else None
+-- that record
+abbrev pub located : List LogSector → RecordOffset → Record
+located sectors p = first_record (sector_at sectors p.sector).payload.version (bytes_at sectors p)
 
--- the head's record
-abbrev pub kept_record : List ℕ → LogHead → Record
-kept_record values h = record {
-  page = h.page;
-  slot = h.slot;
-  tid = h.number;
-  change = kept_change values h;
-}
+-- a record stands there
+pub record IsOffset (sectors : List LogSector) (p : RecordOffset) : Type 0 where
+  pub sector : p.sector < length sectors
+  pub at : p.at ≤ length (sector_at sectors p.sector).payload.bytes
+  pub begins : has_record (sector_at sectors p.sector).payload.version (bytes_at sectors p) ≡ true
 
--- those of several
-abbrev pub kept_records : List ℕ → List LogHead → List Record
-kept_records values heads = map (kept_record values) heads
+-- the offsets of records, at most 1240, each of which is one that may be written
+pub record AreOffsets (sectors : List LogSector) (offsets : List RecordOffset) : Type 0 where
+  pub each : All (IsOffset sectors) offsets
+  pub valid : All (IsRecord VERSION) (map (located sectors) offsets)
+  pub few : length offsets ≤ LIVE_RECORDS
 
--- the head's value stands among these bytes
-pub record IsHead (values : List ℕ) (h : LogHead) : Type 0 where
-  pub within : h.start + h.len ≤ length values
-  pub short : h.len ≤ VALUE_LEN
-  pub valid : IsRecord VERSION (kept_record values h)
+-- the offsets of the records of a sector from a byte on, at most n
+abbrev pub offsets_within : ℕ → ℕ → ℕ → ℕ → List ℕ → List RecordOffset
+offsets_within zero version k at bytes = []
+offsets_within (suc n) version k at bytes =
+    if has_record version (drop at bytes)
+    then record { sector = k; at = at }
+    ∷ offsets_within n version k (at + (RECORD_HEAD + size_in version (drop at bytes))) bytes
+    else []
 
--- They are the heads and the values of a log: a record takes 12 bytes and those of its value, and all
--- together take no more than live log sectors have.
-pub record IsKept (heads : List LogHead) (values : List ℕ) : Type 0 where
-  pub each : All (IsHead values) heads
-  pub sizes : RECORD_HEAD * length heads + length values ≡ size_of_all (kept_records values heads)
-  pub few : size_of_all (kept_records values heads) ≤ live_bytes
+-- of all of them
+abbrev pub offsets_in : ℕ → ℕ → List ℕ → List RecordOffset
+offsets_in version k bytes = offsets_within (length bytes) version k 0 bytes
+
+-- of several sectors, the first of which is the k-th
+abbrev pub offsets_of : ℕ → List LogSector → List RecordOffset
+offsets_of k [] = []
+offsets_of k (x ∷ sectors) =
+    offsets_in x.payload.version k x.payload.bytes ++ offsets_of (k + 1) sectors

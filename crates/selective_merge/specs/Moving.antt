@@ -8,6 +8,8 @@ use Rattle.unit_directory.specs.Free.{free_count, aside}
 use Rattle.place_taking.specs.Counts.{KeepsCounts}
 use Rattle.place_taking.specs.Homes.{KeepsHomes}
 use Rattle.place_taking.specs.Takes.{with_places}
+use Rattle.selective_merge.specs.declared.record_offset.RecordOffset.{RecordOffset}
+use Rattle.unit_log.specs.Kept.{records_kept}
 use Rattle.selective_merge.specs.Known.{KnowsPlaces}
 use Rattle.selective_merge.specs.Moved.{Source}
 use Rattle.selective_merge.specs.Homes.{from_home}
@@ -26,11 +28,12 @@ tables_of parts = record {
 
 -- the source of a move from where the unit was read
 abbrev pub source_read : Parts → Source
-source_read parts = from_home parts.scratch.home parts.status.numbers parts.scratch.log
+source_read parts = from_home parts.scratch.home parts.status.numbers (records_kept parts.scratch.sectors)
 
--- with numbers drawn, up to this one
-abbrev pub drawn_up_to : Parts → ℕ → Parts
-drawn_up_to parts next = record parts { counter = next }
+-- with numbers drawn, up to this one, and with these offsets in the scratch memory
+abbrev pub drawn_up_to : Parts → ℕ → List RecordOffset → Parts
+drawn_up_to parts next offsets =
+    record parts { counter = next; scratch = record parts.scratch { offsets = offsets } }
 
 -- the tables with these places set aside, one after the other
 abbrev pub set_aside : Tables → List ℕ → Tables

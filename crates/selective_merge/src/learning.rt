@@ -5,6 +5,7 @@ ghost use Rattle.unit_io.specs.Costs.{Spends};
 ghost use Rattle.unit_log.specs.Often.{ReadsListed};
 ghost use Rattle.unit_log.specs.Looks.{IsLogRead, LooksAt};
 ghost use Rattle.selective_merge.specs.Known.{Suits};
+ghost use Rattle.unit_log.specs.Kept.{records_kept};
 ghost use Rattle.selective_merge.specs.Homes.{IsHomeBy, LearnsHome};
 ghost use Rattle.selective_merge.specs.Moving.{tables_of};
 ghost use Rattle.selective_merge.specs.Often.{log_of};
@@ -46,7 +47,7 @@ pub(crate) fn learn<C: Chip>(chip: &mut C, parts: &mut Parts, unit: u32) -> Resu
     requires suits { Suits (C.told chip.old).places (tables_of parts.old) }
     requires unit { unit < length parts.old.directory.current }
     ensures learns { LearnsHome parts.old.directory parts.old.overflow unit (C.told chip.old)
-        result parts.new.scratch.home parts.new.scratch.log }
+        result parts.new.scratch.home (records_kept parts.new.scratch.sectors) }
     ensures stands { OnOk result (IsHomeBy (tables_of parts.old) unit parts.new.scratch.home) }
     ensures same { tables_of parts.new ≡ tables_of parts.old }
     ensures looks { LooksAt (IsLogRead (slice_index parts.old.directory.current unit)
@@ -62,7 +63,6 @@ pub(crate) fn learn<C: Chip>(chip: &mut C, parts: &mut Parts, unit: u32) -> Resu
         unit,
         &mut scratch.sectors,
     )?;
-    scratch.log.take(scratch.sectors.sectors());
     scratch.home = home_at(place, unit, head);
     Ok(())
 }

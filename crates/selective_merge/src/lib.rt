@@ -33,7 +33,6 @@
 
 mod active;
 mod carry;
-mod heads;
 mod home;
 mod laws;
 mod learning;
@@ -46,6 +45,7 @@ mod pages;
 mod parts;
 mod places;
 mod placing;
+mod record_offset;
 mod scratch;
 mod spots;
 

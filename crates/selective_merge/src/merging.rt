@@ -2,6 +2,7 @@
 ghost use Rattle.std.specs.Prelude.{◌≡◌, ◌≤◌, length};
 ghost use Rattle.ipl_base.specs.declared.limits.TheConstants.{CARRIED_SECTORS};
 ghost use Rattle.unit_io.specs.Reads.{OfContents};
+ghost use Rattle.unit_log.specs.Kept.{records_kept};
 ghost use Rattle.selective_merge.specs.Faults.{pages_fault, TellsTheFault};
 ghost use Rattle.selective_merge.specs.Packs.{packs_of, payloads_of};
 ghost use Rattle.selective_merge.specs.Homes.{IsHomeBy, IsLearnt};
@@ -15,6 +16,7 @@ use crate::Parts;
 use crate::carry::pack_carried;
 use crate::laws::known_laws;
 use crate::learning::learn;
+use crate::log::Log;
 use crate::parts::move_unit;
 use crate::places::write_unit;
 use chip_trait::Chip;
@@ -27,7 +29,7 @@ fn merge_packed<C: Chip>(chip: &mut C, parts: &mut Parts, unit: u32) -> Result<(
     requires ready { IsReadyToMerge (C.told chip.old).places (tables_of parts.old) unit }
     requires stands { IsHomeBy (tables_of parts.old) unit parts.old.scratch.home }
     requires packed { parts.old.scratch.packs.closed.items
-        ≡ payloads_of (packs_of parts.old.active parts.old.scratch.log) }
+        ≡ payloads_of (packs_of parts.old.active (records_kept parts.old.scratch.sectors)) }
     ensures steps { MergesFromInSteps (C.told chip.old).places unit (source_read parts.old)
         (tables_of parts.old) (tables_of parts.new) (C.told chip.old) result (C.told chip.new) }
     ensures tells { ChartsThroughout
@@ -37,7 +39,8 @@ fn merge_packed<C: Chip>(chip: &mut C, parts: &mut Parts, unit: u32) -> Result<(
         result (C.told chip.old) (C.told chip.new) }
     ensures fault { OfContents (C.told chip.old) (λ x.
         TellsTheFault (pages_fault x (source_read parts.old)) result) }
-    ensures few { length (packs_of parts.old.active parts.old.scratch.log) ≤ CARRIED_SECTORS }
+    ensures few { length (packs_of parts.old.active (records_kept parts.old.scratch.sectors))
+        ≤ CARRIED_SECTORS }
     ensures moves { MovesUnit (base_of (tables_of parts.old) unit) unit (tables_of parts.old) (tables_of parts.new) result
         (C.told chip.old) (C.told chip.new) }
 {
@@ -69,12 +72,13 @@ pub(crate) fn merge_learnt<C: Chip>(
 ) -> Result<(), ChipFault>
     requires ready { IsReadyToMerge (C.told chip.old).places (tables_of parts.old) unit }
     requires learnt { IsLearnt (tables_of parts.old) unit (C.told chip.old)
-        parts.old.scratch.home parts.old.scratch.log }
+        parts.old.scratch.home (records_kept parts.old.scratch.sectors) }
     ensures { MergesUnit (base_of (tables_of parts.old) unit) unit (tables_of parts.old) (tables_of parts.new)
         result (C.told chip.old) (C.told chip.new) }
 {
     let scratch = &mut parts.scratch;
-    if !pack_carried(&scratch.log, &parts.active, &mut scratch.packs) {
+    let log = Log::of(scratch.sectors.sectors(), &mut scratch.offsets);
+    if !pack_carried(&log, &parts.active, &mut scratch.packs) {
         return Err(ChipFault::Malformed {
             place: scratch.home.place,
             sector: 0,

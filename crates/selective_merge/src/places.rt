@@ -8,9 +8,10 @@ ghost use Rattle.unit_io.specs.Reads.{OfContents};
 ghost use Rattle.unit_io.specs.Spots.{IsSpot};
 ghost use Rattle.place_taking.specs.Fills.{FillsAt};
 ghost use Rattle.selective_merge.specs.Faults.{pages_fault, TellsTheFault};
+ghost use Rattle.unit_log.specs.Kept.{records_kept};
 ghost use Rattle.selective_merge.specs.Often.{base_sectors};
-ghost use Rattle.selective_merge.specs.Pages.{IsFew};
-ghost use Rattle.selective_merge.specs.Moved.{IsAside};
+ghost use Rattle.selective_merge.specs.Pages.{IsBaseSpotBelow, IsFew};
+ghost use Rattle.selective_merge.specs.Moved.{HasMoved, IsAside};
 ghost use Rattle.selective_merge.specs.Homes.{from_home, MoveCause};
 ghost use Rattle.selective_merge.specs.Moving.{drawn_up_to, source_read};
 ghost use Rattle.selective_merge.specs.Throughout.{ChartsThroughout};
@@ -22,54 +23,91 @@ ghost use Rattle.selective_merge.specs.Writing.{
   IsSealed,
   IsUnitSpot,
   MayMove,
+  MovesPages,
   SealsUnit,
   TellsWritten,
   WritesPlace,
   WritesUnit,
 };
 
+use crate::Parts;
+use crate::home::HomeHeader;
+use crate::log::{Log, Offsets};
 use crate::logs::write_logs;
+use crate::packs::Packs;
 use crate::pages::move_pages;
-use crate::{MergeScratch, Parts};
 use chip_trait::Chip;
 use ipl_base::{ChipFault, Counter};
 use sector_format::Head;
 use txn_status::Status;
 use unit_io::seal;
 use unit_layout::{DataHeader, write_data_header};
+use unit_log::Scratch;
+
+/// Moves the pages of the unit that was read, whose log sectors these are.
+fn move_read<C: Chip>(
+    chip: &mut C,
+    home: &HomeHeader,
+    sectors: &Scratch,
+    offsets: &mut Offsets,
+    status: &Status,
+    place: u32,
+    head: &Head,
+) -> Result<[u8; 15], ChipFault>
+    requires may { MayMove (C.told chip.old).places home.now place }
+    requires unit { head.now.unit ≡ home.now.head.unit }
+    ensures moves { MovesPages (C.told chip.old).places
+        (from_home home.now status.now.numbers (records_kept sectors.now)) place head.now.generation
+        (C.told chip.old) result (C.told chip.new) }
+    ensures tells { ChartsThroughout
+        (λ pieces. HasMoved (from_home home.now status.now.numbers (records_kept sectors.now)) place
+        head.now.generation pieces 15)
+        (IsAside place) result (C.told chip.old) (C.told chip.new) }
+    ensures few { IfOk result IsFew }
+    ensures fault { OfContents (C.told chip.old) (λ x. TellsTheFault
+        (pages_fault x (from_home home.now status.now.numbers (records_kept sectors.now))) result) }
+    ensures spends { WritesPlace place (ProgramsAt place 240 0 4) (IsBaseSpotBelow 15)
+        (base_sectors home.now.place) (MoveCause home.now.place) result
+        (C.told chip.old) (C.told chip.new) }
+{
+    let log = Log::of(sectors.sectors(), offsets);
+    move_pages(chip, home, &log, status, place, head)
+}
 
 /// Fills a clean place with the pages of the unit that was read, as the committed records leave them,
 /// and with log sectors of what was packed. Answers how many sectors each page took.
 fn fill<C: Chip>(
     chip: &mut C,
-    scratch: &MergeScratch,
+    home: &HomeHeader,
+    sectors: &Scratch,
+    offsets: &mut Offsets,
+    packs: &Packs,
     status: &Status,
     place: u32,
     head: &Head,
     counter: &mut Counter,
 ) -> Result<[u8; 15], ChipFault>
-    requires may { MayMove (C.told chip.old).places scratch.now.home place }
-    requires unit { head.now.unit ≡ scratch.now.home.head.unit }
+    requires may { MayMove (C.told chip.old).places home.now place }
+    requires unit { head.now.unit ≡ home.now.head.unit }
     requires left { counter.old + CARRIED_SECTORS < 2 ^ 64 }
     ensures fills { FillsPlace (C.told chip.old).places
-        (from_home scratch.now.home status.now.numbers scratch.now.log) place head.now.generation
-        counter.old scratch.now.packs.closed.items (C.told chip.old) result (C.told chip.new) }
+        (from_home home.now status.now.numbers (records_kept sectors.now)) place head.now.generation
+        counter.old packs.now.closed.items (C.told chip.old) result (C.told chip.new) }
     ensures tells { ChartsThroughout
-        (λ pieces. GainsUnit (from_home scratch.now.home status.now.numbers scratch.now.log) place
-        head.now.generation counter.old pieces scratch.now.packs.closed.items)
+        (λ pieces. GainsUnit (from_home home.now status.now.numbers (records_kept sectors.now)) place
+        head.now.generation counter.old pieces packs.now.closed.items)
         (IsAside place) result (C.told chip.old) (C.told chip.new) }
     ensures fault { OfContents (C.told chip.old) (λ x. TellsTheFault
-        (pages_fault x (from_home scratch.now.home status.now.numbers scratch.now.log)) result) }
+        (pages_fault x (from_home home.now status.now.numbers (records_kept sectors.now))) result) }
     ensures few { IfOk result IsFew }
-    ensures serials { DrawsSerials (length scratch.now.packs.closed.items) result
+    ensures serials { DrawsSerials (length packs.now.closed.items) result
         counter.old counter.new }
     ensures spends { WritesPlace place (FillsAt place 0)
-        (IsFilledSpot (length scratch.now.packs.closed.items)) (base_sectors scratch.now.home.place)
-        (MoveCause scratch.now.home.place)
-        result (C.told chip.old) (C.told chip.new) }
+        (IsFilledSpot (length packs.now.closed.items)) (base_sectors home.now.place)
+        (MoveCause home.now.place) result (C.told chip.old) (C.told chip.new) }
 {
-    let pieces = move_pages(chip, &scratch.home, &scratch.log, status, place, head)?;
-    write_logs(chip, place, head, scratch.packs.payloads(), counter)?;
+    let pieces = move_read(chip, home, sectors, offsets, status, place, head)?;
+    write_logs(chip, place, head, packs.payloads(), counter)?;
     Ok(pieces)
 }
 
@@ -126,20 +164,34 @@ pub(crate) fn write_unit<C: Chip>(
         TellsTheFault (pages_fault x (source_read parts.old)) result) }
     ensures serials { DrawsSerials (length parts.old.scratch.packs.closed.items) result
         parts.old.counter parts.new.counter }
-    ensures kept { parts.new ≡ drawn_up_to parts.old parts.new.counter }
+    ensures kept { parts.new ≡ drawn_up_to parts.old parts.new.counter parts.new.scratch.offsets }
     ensures spends { WritesPlace place (FillsAt place 2)
         (IsUnitSpot (length parts.old.scratch.packs.closed.items))
         (base_sectors parts.old.scratch.home.place) (MoveCause parts.old.scratch.home.place) result (C.told chip.old) (C.told chip.new) }
 {
-    let scratch = &parts.scratch;
+    let scratch = &mut parts.scratch;
     let unit = scratch.home.head.unit;
     let head = Head::written(Head::DATA_HEADER, unit, generation, generation);
     let counter = &mut parts.counter;
-    let pieces = fill(chip, scratch, &parts.status, place, &head, counter)?;
+    let home = &scratch.home;
+    let packs = &scratch.packs;
+    let sectors = &scratch.sectors;
+    let offsets = &mut scratch.offsets;
+    let pieces = fill(
+        chip,
+        home,
+        sectors,
+        offsets,
+        packs,
+        &parts.status,
+        place,
+        &head,
+        counter,
+    )?;
     let header = DataHeader {
         units: parts.directory.units(),
         pieces,
-        carried: scratch.packs.count(),
+        carried: packs.count(),
         erases: parts.directory.erases(place),
     };
     seal_unit(chip, place, &head, &header)

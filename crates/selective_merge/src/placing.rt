@@ -1,6 +1,7 @@
 //! Where a log sector of a unit goes: the rules.
 ghost use Rattle.std.specs.Prelude.{◌≡◌, IfOk};
 ghost use Rattle.unit_io.specs.ReadsAt.{ReadsAt};
+ghost use Rattle.unit_log.specs.Kept.{records_kept};
 ghost use Rattle.selective_merge.specs.Homes.{IsLearnt};
 ghost use Rattle.selective_merge.specs.Merging.{CompletesMerge, IsReadyToMerge};
 ghost use Rattle.selective_merge.specs.Moving.{tables_of};
@@ -20,7 +21,7 @@ use ipl_base::{ChipFault, MERGE_THRESHOLD, Spot};
 fn merged_spot<C: Chip>(chip: &mut C, parts: &mut Parts, unit: u32) -> Result<Spot, ChipFault>
     requires ready { IsReadyToMerge (C.told chip.old).places (tables_of parts.old) unit }
     requires learnt { IsLearnt (tables_of parts.old) unit (C.told chip.old)
-        parts.old.scratch.home parts.old.scratch.log }
+        parts.old.scratch.home (records_kept parts.old.scratch.sectors) }
     ensures { PlacesLog IsMergedSpot (base_of (tables_of parts.old) unit) unit (tables_of parts.old)
         (tables_of parts.new) result (C.told chip.old) (C.told chip.new) }
 {
@@ -36,7 +37,7 @@ fn merged_spot<C: Chip>(chip: &mut C, parts: &mut Parts, unit: u32) -> Result<Sp
 fn elsewhere<C: Chip>(chip: &mut C, parts: &mut Parts, unit: u32) -> Result<Spot, ChipFault>
     requires ready { IsReadyToMerge (C.told chip.old).places (tables_of parts.old) unit }
     requires learnt { IsLearnt (tables_of parts.old) unit (C.told chip.old)
-        parts.old.scratch.home parts.old.scratch.log }
+        parts.old.scratch.home (records_kept parts.old.scratch.sectors) }
     ensures { PlacesLog IsElsewhere (base_of (tables_of parts.old) unit) unit (tables_of parts.old)
         (tables_of parts.new) result (C.told chip.old) (C.told chip.new) }
 {

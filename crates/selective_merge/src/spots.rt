@@ -8,6 +8,7 @@ ghost use Rattle.ipl_meaning.specs.Mirrors.{Mirrors};
 ghost use Rattle.overflow.specs.Lists.{spots_in};
 ghost use Rattle.unit_io.specs.Reads.{OfContents};
 ghost use Rattle.unit_log.specs.Looks.{IsLogRead, LooksAt};
+ghost use Rattle.unit_log.specs.Kept.{records_kept};
 ghost use Rattle.selective_merge.specs.Known.{Suits};
 ghost use Rattle.selective_merge.specs.Packs.{among, packs_of};
 ghost use Rattle.selective_merge.specs.Moving.{tables_of};
@@ -15,6 +16,7 @@ ghost use Rattle.selective_merge.specs.Spotting.{IsHomeSpot, IsChoice};
 
 use crate::carry::pack_carried;
 use crate::learning::learn;
+use crate::log::Log;
 use crate::{Active, MergeScratch, Parts};
 use chip_trait::Chip;
 use ipl_base::{ChipFault, OVERFLOW_SECTORS, Spot};
@@ -59,11 +61,12 @@ pub(crate) fn overflow_choice(parts: &Parts, unit: u32) -> OverflowChoice
 
 /// How many log sectors are packed of what is carried; more than 12 are counted as 13.
 pub(crate) fn packed_count(scratch: &mut MergeScratch, active: &Active) -> u32
-    ensures count { result ≡ min 13 (length (packs_of active.now scratch.old.log)) }
-    ensures log { scratch.new.log ≡ scratch.old.log }
+    ensures count { result ≡ min 13 (length (packs_of active.now (records_kept scratch.old.sectors))) }
+    ensures log { records_kept scratch.new.sectors ≡ records_kept scratch.old.sectors }
     ensures home { scratch.new.home ≡ scratch.old.home }
 {
-    if pack_carried(&scratch.log, active, &mut scratch.packs) {
+    let log = Log::of(scratch.sectors.sectors(), &mut scratch.offsets);
+    if pack_carried(&log, active, &mut scratch.packs) {
         u32::from(scratch.packs.count())
     } else {
         13

@@ -31,7 +31,6 @@ returns-clause-learns g c = λ x told it t are.
       unit = at.unit;
       generation = at.generation ∙ live.generation;
       pieces = at.pieces ∙ live.pieces;
-      log_is = c.take.ensures
-          ∙ ap (λ (l : List LogSector). records_kept l) (c.sectors.ensures.sectors ∙ live.log)
+      log_is = ap (λ (l : List LogSector). records_kept l) live.log
           ∙ kept_records (it.units u).log (λ i d within. (log.each i d within).records);
     }

@@ -3,6 +3,7 @@ use Rattle.std.proofs.lemmas.Result.{err_from_is_err_and}
 use Rattle.ipl_meaning.specs.Tables.{Tables}
 use Rattle.overflow.specs.Lists.{spots_in}
 use Rattle.unit_log.specs.Looks.{IsLogRead}
+use Rattle.unit_log.specs.Kept.{records_kept}
 use Rattle.selective_merge.specs.Merging.{MergesUnit}
 use Rattle.selective_merge.specs.Often.{all_of, base_of, log_of}
 use Rattle.selective_merge.specs.Moving.{tables_of}
@@ -20,7 +21,7 @@ returns-in_err-learn g c =
     let fault = c.in_err-learn.field-0.0 in
     let e = err_from_is_err_and c.from_residual.result c.from_residual.ensures.1 in
     rw (e.1 ∙ ap Err e.2) (subst (λ (after : Tables). MergesUnit (all_of t c.args.unit) c.args.unit t after (Err fault) old new)
-    (sym read.same) (merged_unlearnt c.args.unit t scratch.home scratch.log fault old new c.requires.known
+    (sym read.same) (merged_unlearnt c.args.unit t scratch.home (records_kept scratch.sectors) fault old new c.requires.known
     read.looks.reads read.looks.cause read.learns read.often))
 
 pub returns : goal.returns
@@ -42,5 +43,5 @@ merge_learnt-requires-clause-learnt g c =
     let read = c.in_ok-learn.ensures in
     let scratch = c.learn.new.parts.scratch in
     learnt_behind _ c.args.unit (tables_of c.args.parts.now) (tables_of c.learn.new.parts)
-    (g.C.Chip.told c.args.chip.now) (g.C.Chip.told c.learn.new.chip) scratch.home scratch.log read.looks.reads
+    (g.C.Chip.told c.args.chip.now) (g.C.Chip.told c.learn.new.chip) scratch.home (records_kept scratch.sectors) read.looks.reads
     read.same read.learns read.stands

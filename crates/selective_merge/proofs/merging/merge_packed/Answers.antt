@@ -17,6 +17,7 @@ use Rattle.place_taking.specs.Takes.{IsTakenFrom, with_places}
 use Rattle.place_taking.proofs.CountedLemmas.{keeps_counts, keeps_counts_then, keeps_given_back}
 use Rattle.place_taking.proofs.JoinLemmas.{costs_of_filled, taken_was_free, taken_within, tidy_taken}
 use Rattle.overflow.specs.Lists.{spots_in}
+use Rattle.unit_log.specs.Kept.{records_kept}
 use Rattle.selective_merge.specs.Faults.{IsTheFault}
 use Rattle.selective_merge.specs.Known.{KnowsPlaces}
 use Rattle.selective_merge.specs.Moved.{Source, IsAside, IsUnsealed}
@@ -145,7 +146,7 @@ returns-in-Ok-clause-steps g c = λ m it h steady rests agrees source.
     let from = source_read c.args.parts.now in
     let what = to_merge places (now h) it between u p drawn serial from payloads
     payloads c.args.parts.now.active
-    c.args.parts.now.scratch.log (aside_mirrors places (now h) it t worn agrees.mirrors taken_so.in_turn)
+    (records_kept c.args.parts.now.scratch.sectors) (aside_mirrors places (now h) it t worn agrees.mirrors taken_so.in_turn)
     (omega (arith, c.requires.ready.unit, units_aside t worn taken_so.in_turn)) taken_so.next.free
     (omega (arith, taken_within _ _ _ taken_so, c.requires.ready.known.suits.all)) source
     (omega (arith, c.draw-generation.ensures.drawn))
@@ -206,7 +207,7 @@ returns-in-Ok-clause-tells g c = λ x told.
           let from = source_read c.args.parts.now in
           let what = to_merge places (chart_of x) it between u p drawn serial from payloads
           payloads c.args.parts.now.active
-          c.args.parts.now.scratch.log (aside_mirrors places (chart_of x) it t worn mirrors taken_so.in_turn)
+          (records_kept c.args.parts.now.scratch.sectors) (aside_mirrors places (chart_of x) it t worn mirrors taken_so.in_turn)
           (omega (arith, c.requires.ready.unit, units_aside t worn taken_so.in_turn)) taken_so.next.free
           (omega (arith, taken_within _ _ _ taken_so, c.requires.ready.known.suits.all)) source
           (omega (arith, c.draw-generation.ensures.drawn))
@@ -260,7 +261,7 @@ returns-in-Err-clause-steps g c = λ m it h steady rests agrees source.
     let from = source_read c.args.parts.now in
     let what = to_merge places (now h) it between u p drawn serial from payloads
     payloads c.args.parts.now.active
-    c.args.parts.now.scratch.log (aside_mirrors places (now h) it t worn agrees.mirrors taken_so.in_turn)
+    (records_kept c.args.parts.now.scratch.sectors) (aside_mirrors places (now h) it t worn agrees.mirrors taken_so.in_turn)
     (omega (arith, c.requires.ready.unit, units_aside t worn taken_so.in_turn)) taken_so.next.free
     (omega (arith, taken_within _ _ _ taken_so, c.requires.ready.known.suits.all)) source
     (omega (arith, c.draw-generation.ensures.drawn))
@@ -324,13 +325,13 @@ returns-in-Err-clause-tells g c = λ soft x told.
 
 pub returns-in-Ok-clause-few : goal.returns-in-Ok-clause-few
 returns-in-Ok-clause-few g c =
-    packs_few c.args.parts.now.active c.args.parts.now.scratch.log
+    packs_few c.args.parts.now.active (records_kept c.args.parts.now.scratch.sectors)
     c.args.parts.now.scratch.packs.closed.items _ refl c.requires.packed
     c.args.parts.now.scratch.packs.few
 
 pub returns-in-Err-clause-few : goal.returns-in-Err-clause-few
 returns-in-Err-clause-few g c =
-    packs_few c.args.parts.now.active c.args.parts.now.scratch.log
+    packs_few c.args.parts.now.active (records_kept c.args.parts.now.scratch.sectors)
     c.args.parts.now.scratch.packs.closed.items _ refl c.requires.packed
     c.args.parts.now.scratch.packs.few
 
@@ -539,7 +540,7 @@ returns-in_err-place-clause-fault g c = λ x told.
 
 pub returns-in_err-place-clause-few : goal.returns-in_err-place-clause-few
 returns-in_err-place-clause-few g c =
-    packs_few c.args.parts.now.active c.args.parts.now.scratch.log
+    packs_few c.args.parts.now.active (records_kept c.args.parts.now.scratch.sectors)
     c.args.parts.now.scratch.packs.closed.items _ refl c.requires.packed
     c.args.parts.now.scratch.packs.few
 

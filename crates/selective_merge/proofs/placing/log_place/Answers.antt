@@ -6,6 +6,7 @@ use Rattle.ipl_meaning.specs.Mirrors.{Mirrors}
 use Rattle.ipl_meaning.specs.Tables.{Tables}
 use Rattle.overflow.specs.Lists.{spots_in}
 use Rattle.unit_log.specs.Looks.{IsLogRead}
+use Rattle.unit_log.specs.Kept.{records_kept}
 use Rattle.selective_merge.proofs.FaultLemmas.{fault_unread}
 use Rattle.unit_log.proofs.OftenLemmas.{often_first}
 use Rattle.selective_merge.specs.Often.{all_of, base_of, log_of}
@@ -72,8 +73,8 @@ returns-then-carried-le-MERGE_THRESHOLD-clause-room g c =
     u t after old mid new read.looks.reads c.merged_spot.result (log_of t u) (base_of t u)
     (all_ok _ c.merged_spot.result (λ spot x y it told mirrors is. placed_few old.places _ y it t after u
     spot.place spot.sector count.result full
-    (counted c.learn.new.parts.scratch.home (it.units u) u t.active c.learn.new.parts.scratch.log count.result
-    (counted_by t (tables_of c.learn.new.parts) c.learn.new.parts.scratch.log count.result read.same
+    (counted c.learn.new.parts.scratch.home (it.units u) u t.active (records_kept c.learn.new.parts.scratch.sectors) count.result
+    (counted_by t (tables_of c.learn.new.parts) (records_kept c.learn.new.parts.scratch.sectors) count.result read.same
     count.ensures.count)
     (read.learns x told it t (record { mirrors = mirrors; directory_is = refl; overflow_is = refl })))
     low is.spot is.merged)) read.often
@@ -96,8 +97,8 @@ returns-clause-room g c =
     u t after old mid new read.looks.reads c.elsewhere.result (log_of t u) (base_of t u)
     (all_ok _ c.elsewhere.result (λ spot x y it told mirrors is. placed_elsewhere old.places _ y it t after u
     spot.place spot.sector count.result full
-    (counted c.learn.new.parts.scratch.home (it.units u) u t.active c.learn.new.parts.scratch.log count.result
-    (counted_by t (tables_of c.learn.new.parts) c.learn.new.parts.scratch.log count.result read.same
+    (counted c.learn.new.parts.scratch.home (it.units u) u t.active (records_kept c.learn.new.parts.scratch.sectors) count.result
+    (counted_by t (tables_of c.learn.new.parts) (records_kept c.learn.new.parts.scratch.sectors) count.result read.same
     count.ensures.count)
     (read.learns x told it t (record { mirrors = mirrors; directory_is = refl; overflow_is = refl })))
     high is)) read.often
@@ -128,9 +129,9 @@ merged_spot-requires-clause-learnt g c =
     let scratch = c.learn.new.parts.scratch in
     let count = c.packed_count-carried.ensures in
     learnt_still c.args.unit (tables_of c.learn.new.parts) (g.C.Chip.told c.learn.new.chip) scratch.home
-    c.packed_count-carried.new.scratch.home scratch.log c.packed_count-carried.new.scratch.log count.home count.log
+    c.packed_count-carried.new.scratch.home (records_kept scratch.sectors) (records_kept c.packed_count-carried.new.scratch.sectors) count.home count.log
     (learnt_behind _ c.args.unit (tables_of c.args.parts.now) (tables_of c.learn.new.parts)
-    (g.C.Chip.told c.args.chip.now) (g.C.Chip.told c.learn.new.chip) scratch.home scratch.log read.looks.reads
+    (g.C.Chip.told c.args.chip.now) (g.C.Chip.told c.learn.new.chip) scratch.home (records_kept scratch.sectors) read.looks.reads
     read.same read.learns read.stands)
 
 pub elsewhere-requires-clause-learnt : goal.elsewhere-requires-clause-learnt
@@ -139,7 +140,7 @@ elsewhere-requires-clause-learnt g c =
     let scratch = c.learn.new.parts.scratch in
     let count = c.packed_count-carried.ensures in
     learnt_still c.args.unit (tables_of c.learn.new.parts) (g.C.Chip.told c.learn.new.chip) scratch.home
-    c.packed_count-carried.new.scratch.home scratch.log c.packed_count-carried.new.scratch.log count.home count.log
+    c.packed_count-carried.new.scratch.home (records_kept scratch.sectors) (records_kept c.packed_count-carried.new.scratch.sectors) count.home count.log
     (learnt_behind _ c.args.unit (tables_of c.args.parts.now) (tables_of c.learn.new.parts)
-    (g.C.Chip.told c.args.chip.now) (g.C.Chip.told c.learn.new.chip) scratch.home scratch.log read.looks.reads
+    (g.C.Chip.told c.args.chip.now) (g.C.Chip.told c.learn.new.chip) scratch.home (records_kept scratch.sectors) read.looks.reads
     read.same read.learns read.stands)

@@ -1,5 +1,6 @@
 use Rattle.std.proofs.Common.{◌∙◌, refl}
 use Rattle.std.proofs.lemmas.Result.{err_from_is_err_and}
+use Rattle.unit_log.specs.Kept.{records_kept}
 use Rattle.selective_merge.specs.Moving.{tables_of}
 use Rattle.selective_merge.proofs.LearntLemmas.{counted, counted_by}
 use Rattle.selective_merge.proofs.spots.carried.Goals as goal
@@ -15,7 +16,7 @@ returns-clause-exact g c = λ x told it mirrors.
     let t = tables_of c.args.parts.now in
     let read = c.in_ok-learn.ensures in
     let scratch = c.learn.new.parts.scratch in
-    counted scratch.home (it.units c.args.unit) c.args.unit t.active scratch.log c.packed_count.result
-    (counted_by t (tables_of c.learn.new.parts) scratch.log c.packed_count.result read.same
+    counted scratch.home (it.units c.args.unit) c.args.unit t.active (records_kept scratch.sectors) c.packed_count.result
+    (counted_by t (tables_of c.learn.new.parts) (records_kept scratch.sectors) c.packed_count.result read.same
     c.packed_count.ensures.count)
     (read.learns x told it t (record { mirrors = mirrors; directory_is = refl; overflow_is = refl }))
