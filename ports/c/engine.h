@@ -42,7 +42,9 @@ enum ipl_op {
     IPL_OP_HOLD = 11,      /* name: a unit; page */
     IPL_OP_RELEASE = 12,   /* name: a unit; page */
     IPL_OP_UNITS = 14,     /* nothing: name */
-    IPL_OP_SHUTDOWN = 15   /* nothing */
+    IPL_OP_SHUTDOWN = 15,  /* nothing */
+    IPL_OP_LEFT = 16       /* nothing: in sessions the spare places, those that are retired, the least and the most erases,
+                            * clean log sectors, clean commit sectors, the lower and the upper half of the numbers */
 };
 
 enum ipl_engine_kind { IPL_ENGINE_RECORDS, IPL_ENGINE_KEYS };

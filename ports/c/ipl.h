@@ -192,6 +192,14 @@ struct ipl_facts {
     uint32_t worn;     /* so many erases found a place worn since the opening, also through reopens */
     uint64_t reads, programs, erases, barriers; /* so often the part was asked since then, the opening among it */
     uint64_t failures; /* so many of these failed */
+    /* What is left, as the store's tables have it; zeros where it couldn't be asked, since a longjmp left it
+     * or a reopen failed. */
+    uint32_t retired;       /* so many of the spare places took a worn one's; one more puts the store down */
+    uint32_t least_erases;  /* so often that place was erased that was least often, of those not retired */
+    uint32_t most_erases;   /* and that which was most often */
+    uint32_t clean_logs;    /* so many log sectors, up to 15, are clean in the place of the fullest unit */
+    uint32_t clean_commits; /* so many commit sectors, up to 255; the commit after them makes a new status block */
+    uint64_t numbers;       /* so many numbers may be drawn until calls answer IPL_SPENT */
 };
 
 struct ipl {

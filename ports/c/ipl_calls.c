@@ -513,13 +513,30 @@ uint32_t ipl_unit_count(const struct ipl *s) {
     return s != NULL && s->self == s && s->tag == IPL_TAG_OPEN ? s->facts.units : 0;
 }
 
+/* What the engine knows is left; it asks its part nothing. */
+static enum ipl_answer ipl_tell_left(const struct ipl *s, struct ipl_facts *facts) {
+    struct ipl_request *r = ipl_engine_request(s->engine);
+    enum ipl_answer answer;
+    r->op = IPL_OP_LEFT;
+    answer = ipl_answered(ipl_engine_call(s->engine));
+    if (answer != IPL_OK) return answer;
+    facts->retired = r->sessions[1];
+    facts->least_erases = r->sessions[2];
+    facts->most_erases = r->sessions[3];
+    facts->clean_logs = r->sessions[4];
+    facts->clean_commits = r->sessions[5];
+    facts->numbers = r->sessions[6] | (uint64_t)r->sessions[7] << 32;
+    return IPL_OK;
+}
+
 enum ipl_answer ipl_state(const struct ipl *s, struct ipl_facts *facts) {
     enum ipl_answer answer;
     if (facts == NULL) return IPL_NULL_POINTER;
     memset(facts, 0, sizeof *facts);
     answer = ipl_admit_any(s);
-    if (answer == IPL_OK) *facts = s->facts;
-    return answer;
+    if (answer != IPL_OK) return answer;
+    *facts = s->facts;
+    return s->is_gone ? IPL_OK : ipl_tell_left(s, facts);
 }
 
 const uint32_t *ipl_detail(const struct ipl *s) {

@@ -1,13 +1,15 @@
-//! A unit's merge, and how many units there are.
+//! A unit's merge, how many units there are, and what the store below has left.
 ghost use Rattle.std.specs.Prelude.{◌≡◌};
 ghost use Rattle.ipl_model.specs.Refusals.{refuses_merge};
 ghost use Rattle.store_laws.specs.Keeps.{limits_of};
 ghost use Rattle.ipl_store.specs.Calls.{Calls, IsSound, early_fault, entry_fault};
+ghost use Rattle.ipl_store.specs.Reserves.{TellsReserves};
 ghost use Rattle.ipl_keys.specs.Calls.{HandsOn, AnswersNothing, ServesKeys};
 
 use crate::changing::handed;
 use crate::{KeyFault, Keys};
 use chip_trait::Chip;
+use ipl_store::Reserves;
 
 impl Keys {
     /// Merges a unit (below the number of units) at once, so that its next log sectors cost none. All keys
@@ -21,6 +23,14 @@ impl Keys {
             self.old.store (C.told chip.old) result self.new.store (C.told chip.new) }
     {
         handed(self.store.merge(chip, unit))
+    }
+
+    /// What the store below has left. A call on a key may draw from it as one on the record of its bucket
+    /// does.
+    pub fn reserves(&self) -> Reserves
+        ensures { TellsReserves self.now.store result }
+    {
+        self.store.reserves()
     }
 
     /// How many units the chip has, over which the keys' buckets are spread.

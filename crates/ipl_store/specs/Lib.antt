@@ -7,3 +7,4 @@ pub mod Openings
 pub mod Shown
 pub mod Puts
 pub mod Closing
+pub mod Reserves

@@ -73,9 +73,11 @@ mod numbers;
 mod opening;
 mod reading;
 mod refusals;
+mod reserves;
 mod sessions;
 mod store;
 mod transactions;
 mod writes;
 
+pub use reserves::Reserves;
 pub use store::Store;

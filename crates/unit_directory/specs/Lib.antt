@@ -1,3 +1,4 @@
 pub mod Free
 pub mod Directory
 pub mod Laws
+pub mod Reserves

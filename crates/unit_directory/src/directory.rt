@@ -4,10 +4,11 @@ ghost use Rattle.ipl_base.specs.declared.limits.TheConstants.{MOST_SPARES};
 ghost use Rattle.ipl_base.specs.Places.{KeepsUnits};
 ghost use Rattle.ipl_meaning.specs.Tables.{IsFree, with_use, with_erased, with_retired, with_written, with_mask, with_masks, with_marks_ended, masks_in};
 ghost use Rattle.unit_directory.specs.Free.{IsNextFree, free_count, spares_of};
+ghost use Rattle.unit_directory.specs.Reserves.{clean_logs};
 ghost use Rattle.unit_directory.specs.Directory.{empty_places, with_erases_of, after_adopt, after_replace, with_marked, with_noted_log, is_known, next_log, IsSoundDirectory};
 
 use crate::lists::{RetiredList, filled, insert_place, refill};
-use crate::marked::{MARKED_LOGS, UNKNOWN_LOGS, end_all_marks, noted};
+use crate::marked::{MARKED_LOGS, UNKNOWN_LOGS, clean, end_all_marks, noted};
 use arrayvec::ArrayVec;
 use ipl_base::{FIRST_LOG_SECTOR, Geometry, LOG_SECTORS, OutOfMemory, RESERVED_PLACES};
 use std::alloc::Global;
@@ -99,6 +100,13 @@ impl Directory {
         ensures { IsSoundDirectory self.now }
     {
         let _ = &self.current;
+    }
+
+    /// How many places the chip has, 5 to 1028.
+    pub fn places(&self) -> u32
+        ensures count { result ≡ length self.now.in_use }
+    {
+        self.in_use.len() as u32
     }
 
     /// How many units have a place.
@@ -283,6 +291,15 @@ impl Directory {
         ensures { self.new ≡ with_written self.old unit }
     {
         self.written[unit as usize] += 1;
+    }
+
+    /// How many log sectors of the unit's place, 0 to 15, count as clean: by what was done, or by a mark
+    /// that counts still. None does where nothing is known.
+    pub fn clean_logs(&self, unit: u32) -> u32
+        requires { unit < length self.now.current }
+        ensures { result ≡ clean_logs self.now unit }
+    {
+        clean(self.written[unit as usize])
     }
 
     /// Whether something is known of the unit's log sectors.

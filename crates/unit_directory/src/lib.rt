@@ -13,6 +13,7 @@ mod directory;
 mod laws;
 mod lists;
 mod marked;
+mod reserves;
 
 pub use directory::Directory;
 pub use laws::{aside_laws, directory_laws};

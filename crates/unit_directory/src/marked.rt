@@ -1,7 +1,9 @@
 //! What is known of log sectors, as a number.
-ghost use Rattle.std.specs.Prelude.{◌≡◌, ◌≤◌, ◌<◌, map, vec_capacity};
-ghost use Rattle.ipl_meaning.specs.Tables.{unmarked_written};
+ghost use Rattle.std.specs.Prelude.{◌≡◌, ◌≤◌, ◌<◌, ◌-◌, map, vec_capacity};
+ghost use Rattle.ipl_meaning.specs.Tables.{counted_written, unmarked_written};
 ghost use Rattle.unit_directory.specs.Directory.{noted_log};
+
+use ipl_base::LOG_SECTORS;
 
 /// What stands where a mark says how many log sectors were written: so many more than this.
 pub const MARKED_LOGS: u32 = 16;
@@ -27,6 +29,19 @@ pub(crate) fn end_all_marks(all: &mut Vec<u32>)
     for i in 0..all.len() {
         all[i] = unmarked(all[i]);
     }
+}
+
+/// How many of 15 log sectors count as clean, where this is known of them.
+pub(crate) fn clean(written: u32) -> u32
+    ensures { result ≡ LOG_SECTORS - counted_written written }
+{
+    if written < MARKED_LOGS {
+        return LOG_SECTORS.saturating_sub(written);
+    }
+    if written < UNKNOWN_LOGS {
+        return LOG_SECTORS.saturating_sub(written - MARKED_LOGS);
+    }
+    0
 }
 
 /// What is known once one more log sector is seen (0 to 14), which checks, or is blank, or neither.

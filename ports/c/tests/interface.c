@@ -494,6 +494,23 @@ static void try_cut_format(void) {
 
 /* ---- what is known, sessions, and the end */
 
+/* An opening without a mark knows of no clean log sector, and a merge makes all of its unit's clean; one put and its commit
+ * take a log sector, a commit sector, and the numbers of the begin and of both. */
+static void try_left(void) {
+    struct ipl_facts first, before, after;
+    format_it();
+    must(open_it() == IPL_OK && ipl_state(&store, &first) == IPL_OK, "an opening");
+    must(first.spares == 1 && first.retired == 0 && first.clean_logs == 0 && first.clean_commits >= 191, "what is left at first");
+    must(first.least_erases != 0 && first.least_erases <= first.most_erases && first.numbers > UINT64_MAX / 2, "erases and numbers");
+    for (uint32_t unit = 0; unit < PLACES - 5; unit++) must(ipl_merge(&store, unit) == IPL_OK, "a merge of each unit");
+    must(ipl_state(&store, &before) == IPL_OK && before.clean_logs == 15 && before.most_erases > 1, "log sectors, for erases");
+    must(ipl_begin(&store, 0) == IPL_OK && ipl_put(&store, 0, 9, "abc", 3) == IPL_OK && ipl_commit(&store, 0) == IPL_OK, "a commit");
+    must(ipl_state(&store, &after) == IPL_OK && after.clean_logs == 14 && after.clean_commits == before.clean_commits - 1, "its sectors");
+    must(before.numbers - after.numbers == 3 && after.least_erases == before.least_erases, "its numbers, and no erase");
+    must(ipl_merge(&store, 0) == IPL_OK && ipl_state(&store, &after) == IPL_OK && after.clean_logs == 15, "log sectors again");
+    must(ipl_close(&store) == IPL_OK, "a close");
+}
+
 static void try_state(void) {
     struct ipl_facts state;
     uint8_t value[8];
@@ -523,7 +540,7 @@ static void try_state(void) {
     part_set_ills(PART, worn);
     must(ipl_merge(&store, 0) == IPL_WORN_OUT && ipl_detail(&store)[0] == 2, "one place more is worn than is spare");
     part_set_ills(PART, none);
-    must(ipl_state(&store, &state) == IPL_OK && state.worn == 2 && state.is_down == 1, "which is known");
+    must(ipl_state(&store, &state) == IPL_OK && state.worn == 2 && state.retired == 1 && state.is_down == 1, "which is known");
     must(ipl_close(&store) == IPL_OK, "a close");
     part_mend(PART);
     format_it();
@@ -551,6 +568,7 @@ int main(void) {
     try_kinds();
     try_blank();
     try_cut_format();
+    try_left();
     try_state();
     part_free(PART);
     part_free(OTHER);
