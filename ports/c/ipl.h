@@ -89,7 +89,7 @@ size_t ipl_memory(const struct ipl_config *config);
 size_t ipl_check_memory(const struct ipl_config *config);
 size_t ipl_format_memory(const struct ipl_config *config);
 /* As many or some more, for an array: static uint8_t memory[IPL_MEMORY(1024, 16)]; */
-#define IPL_MEMORY(places, frames) ((size_t)389120 + (size_t)504 * (places) + (size_t)16728 * (frames))
+#define IPL_MEMORY(places, frames) ((size_t)302080 + (size_t)504 * (places) + (size_t)16728 * (frames))
 
 /* ---- answers ------------------------------------------------------------------------------------
  *

@@ -27,14 +27,14 @@ enum { IPL_HEAD = (sizeof(struct ipl_engine) + IPL_BLOCK - 1) / IPL_BLOCK * IPL_
 
 /* ---- how much memory: as COSTS.md has it, and less than IPL_BLOCK more for each block */
 
-enum { IPL_OPEN_BLOCKS = 23, IPL_CHECK_BLOCKS = 17 };
+enum { IPL_OPEN_BLOCKS = 22, IPL_CHECK_BLOCKS = 17 };
 
 size_t ipl_engine_memory(uint32_t places, uint32_t frames) {
-    return (size_t)IPL_HEAD + 341176 + (size_t)504 * places + (size_t)16728 * frames + IPL_OPEN_BLOCKS * IPL_BLOCK;
+    return (size_t)IPL_HEAD + 253802 + (size_t)504 * places + (size_t)16728 * frames + IPL_OPEN_BLOCKS * IPL_BLOCK;
 }
 
 size_t ipl_engine_check_memory(uint32_t places) {
-    return (size_t)IPL_HEAD + 197632 + (size_t)504 * places + IPL_CHECK_BLOCKS * IPL_BLOCK;
+    return (size_t)IPL_HEAD + 140018 + (size_t)504 * places + IPL_CHECK_BLOCKS * IPL_BLOCK;
 }
 
 size_t ipl_engine_format_memory(void) { return IPL_HEAD; }

@@ -70,10 +70,10 @@ static size_t ipl_least_memory(void) { return (size_t)IPL_HEAD + IPL_HEAP + IPL_
 
 /* What an opening and a check take of the heap: tests/memory.c asks for each number of places and frames. */
 IPL_ENGINE size_t ipl_engine_memory(uint32_t places, uint32_t frames) {
-    return ipl_least_memory() + 341200 + 504 * (size_t)places + 16728 * (size_t)frames;
+    return ipl_least_memory() + 253840 + 504 * (size_t)places + 16728 * (size_t)frames;
 }
 
-IPL_ENGINE size_t ipl_engine_check_memory(uint32_t places) { return ipl_least_memory() + 197648 + 504 * (size_t)places; }
+IPL_ENGINE size_t ipl_engine_check_memory(uint32_t places) { return ipl_least_memory() + 140027 + 504 * (size_t)places; }
 
 IPL_ENGINE size_t ipl_engine_format_memory(void) { return ipl_least_memory(); }
 

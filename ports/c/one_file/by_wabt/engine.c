@@ -110,8 +110,8 @@ u32 Z_envZ_ipl_nand_read(struct Z_env_instance_t *env, u64 part, u32 place, u32 
 /* ---- engine.h */
 
 static size_t least(void) { return sizeof(struct ipl_engine) + HEAP + SLACK; }
-size_t ipl_engine_memory(uint32_t places, uint32_t frames) { return least() + 341200 + 504 * (size_t)places + 16728 * (size_t)frames; }
-size_t ipl_engine_check_memory(uint32_t places) { return least() + 197648 + 504 * (size_t)places; }
+size_t ipl_engine_memory(uint32_t places, uint32_t frames) { return least() + 253840 + 504 * (size_t)places + 16728 * (size_t)frames; }
+size_t ipl_engine_check_memory(uint32_t places) { return least() + 140027 + 504 * (size_t)places; }
 size_t ipl_engine_format_memory(void) { return least(); }
 
 struct ipl_engine *ipl_engine_raise(void *memory, size_t size, const struct ipl_driver *driver) {

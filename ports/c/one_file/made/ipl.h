@@ -89,7 +89,7 @@ size_t ipl_memory(const struct ipl_config *config);
 size_t ipl_check_memory(const struct ipl_config *config);
 size_t ipl_format_memory(const struct ipl_config *config);
 /* As many or some more, for an array: static uint8_t memory[IPL_MEMORY(1024, 16)]; */
-#define IPL_MEMORY(places, frames) ((size_t)389120 + (size_t)504 * (places) + (size_t)16728 * (frames))
+#define IPL_MEMORY(places, frames) ((size_t)302080 + (size_t)504 * (places) + (size_t)16728 * (frames))
 
 /* ---- answers ------------------------------------------------------------------------------------
  *
@@ -192,6 +192,14 @@ struct ipl_facts {
     uint32_t worn;     /* so many erases found a place worn since the opening, also through reopens */
     uint64_t reads, programs, erases, barriers; /* so often the part was asked since then, the opening among it */
     uint64_t failures; /* so many of these failed */
+    /* What is left, as the store's tables have it; zeros where it couldn't be asked, since a longjmp left it
+     * or a reopen failed. */
+    uint32_t retired;       /* so many of the spare places took a worn one's; one more puts the store down */
+    uint32_t least_erases;  /* so often that place was erased that was least often, of those not retired */
+    uint32_t most_erases;   /* and that which was most often */
+    uint32_t clean_logs;    /* so many log sectors, up to 15, are clean in the place of the fullest unit */
+    uint32_t clean_commits; /* so many commit sectors, up to 255; the commit after them makes a new status block */
+    uint64_t numbers;       /* so many numbers may be drawn until calls answer IPL_SPENT */
 };
 
 struct ipl {

@@ -45,7 +45,7 @@ static void in_too_little(uint32_t places, uint32_t frames) {
 }
 
 int main(int argc, char **argv) {
-    static const uint32_t many[] = {5, 6, 9, 57, 257, 1028};
+    static const uint32_t many[] = {5, 6, 8, 9, 57, 257, 1028};
     uint32_t most = argc > 1 ? (uint32_t)atoi(argv[1]) : 1028, i, frames, tried = 0;
     for (i = 0; i < sizeof many / sizeof *many && many[i] <= most; i++) {
         uint32_t places = many[i];
@@ -57,18 +57,18 @@ int main(int argc, char **argv) {
         nothing_is_written_behind();
         e = raise_in(ipl_engine_check_memory(places));
         must(ipl_engine_check(e, places) == IPL_OK, "check of places", places);
-        must(left(e) < 16, "bytes that a check leaves", (unsigned long)left(e));
+        must(left(e) <= 16, "bytes that a check leaves", (unsigned long)left(e));
         nothing_is_written_behind();
         for (frames = IPL_FRAMES_LEAST; frames <= IPL_FRAMES_MOST; frames += 1 + frames / 4) {
             e = raise_in(ipl_engine_memory(places, frames));
             must(ipl_engine_open(e, tried % 2 ? IPL_ENGINE_KEYS : IPL_ENGINE_RECORDS, places, frames) == IPL_OK, "opening", frames);
-            must(left(e) < 16, "bytes that an opening leaves", (unsigned long)left(e));
+            must(left(e) <= 16, "bytes that an opening leaves", (unsigned long)left(e));
             nothing_is_written_behind();
             tried++;
         }
         if (places == 9) in_too_little(places, 3);
         free(part);
     }
-    printf("memory: %u openings that leave less than 16 bytes, %lu in too little memory\n", (unsigned)tried, in_less);
+    printf("memory: %u openings that leave at most 16 bytes, %lu in too little memory\n", (unsigned)tried, in_less);
     return 0;
 }
