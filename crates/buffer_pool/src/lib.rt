@@ -1,4 +1,4 @@
-//! Frames for pages, in a slab whose room is reserved at the start. A pinned page stays in its frame,
+//! Frames for pages, in a slab whose room is reserved at the start and which never grows. A pinned page stays in its frame,
 //! and no page has two.
 //!
 //! Proved, by `Pool`, `pool_laws`, `holding_laws`, `resting_laws`, `use_laws`: no two frames have one page; a

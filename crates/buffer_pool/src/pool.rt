@@ -11,10 +11,10 @@ ghost use Rattle.buffer_pool.specs.Passes.{Passes};
 
 use crate::index::{PageIndex, page_number};
 use crate::room::{Oldest, Room, older};
+use bounded_slab::BoundedSlab;
 use ipl_base::OutOfMemory;
 use mem_log_sector::MemLog;
 use page_ops::Frame;
-use slab::Slab;
 use std::alloc::Global;
 use std::marker::Model;
 
@@ -40,7 +40,7 @@ pub struct Pin {
 /// At most 64 buffers, each with a page. No two have one page. Memory is taken by `new` alone.
 #[derive(Drop)]
 pub struct Pool {
-    pub(crate) buffers: Slab<Buffer>,
+    pub(crate) buffers: BoundedSlab<Buffer>,
     // The page of each buffer, with the buffer's key, so that a page is found without a look at each.
     pub(crate) index: PageIndex,
     limit: usize,
@@ -67,7 +67,7 @@ impl Pool {
         ensures limit { IfOk result (λ p. p.limit ≡ frames) }
     {
         let limit = frames as usize;
-        let buffers = Slab::with_capacity(alloc, limit)?;
+        let buffers = BoundedSlab::new(alloc, limit)?;
         Ok(Pool {
             buffers,
             index: PageIndex::empty(),
@@ -314,7 +314,7 @@ impl Pool {
 }
 
 // Makes the buffer under a key, which has no records, one of a page that comes in now.
-fn give_buffer(buffers: &mut Slab<Buffer>, key: usize, unit: u32, page: u32, now: u64)
+fn give_buffer(buffers: &mut BoundedSlab<Buffer>, key: usize, unit: u32, page: u32, now: u64)
     requires { (buffer : BufferFields) × (get buffers.old key ≡ Some buffer) × (buffer.log ≡ []) }
     ensures changes { Changes buffers.old buffers.new key (λ _. new_buffer unit page now) }
     ensures len { slab_len buffers.new ≡ slab_len buffers.old }
@@ -329,7 +329,7 @@ fn give_buffer(buffers: &mut Slab<Buffer>, key: usize, unit: u32, page: u32, now
 }
 
 // The buffer under a key is used now.
-fn use_buffer(buffers: &mut Slab<Buffer>, key: usize, now: u64)
+fn use_buffer(buffers: &mut BoundedSlab<Buffer>, key: usize, now: u64)
     requires { IsSome (get buffers.old key) }
     ensures changes { Changes buffers.old buffers.new key (with_use now) }
     ensures len { slab_len buffers.new ≡ slab_len buffers.old }
@@ -339,7 +339,7 @@ fn use_buffer(buffers: &mut Slab<Buffer>, key: usize, now: u64)
 }
 
 // Counts one more pin on the buffer under a key, which is used now.
-fn add_pin(buffers: &mut Slab<Buffer>, key: usize, now: u64)
+fn add_pin(buffers: &mut BoundedSlab<Buffer>, key: usize, now: u64)
     requires there { IsSome (get buffers.old key) }
     requires few { (buffer : BufferFields) → get buffers.old key ≡ Some buffer
         → buffer.pins < 4294967295 }
@@ -353,7 +353,7 @@ fn add_pin(buffers: &mut Slab<Buffer>, key: usize, now: u64)
 }
 
 /// Counts one pin fewer on the buffer under a key, which has one at least. No other buffer changes.
-pub(crate) fn drop_pin(buffers: &mut Slab<Buffer>, key: usize)
+pub(crate) fn drop_pin(buffers: &mut BoundedSlab<Buffer>, key: usize)
     requires { (buffer : BufferFields) × (get buffers.old key ≡ Some buffer) × (0 < buffer.pins) }
     ensures changes { Changes buffers.old buffers.new key without_pin }
     ensures len { slab_len buffers.new ≡ slab_len buffers.old }
