@@ -1,5 +1,5 @@
 -- What a search among rising numbers answers, and what is made of the numbers then.
-use Rattle.std.proofs.Common.{◌≡◌, ◌↔◌, ℕ, ◌<◌, ◌≤◌, Bool, List, length, get_or, Result, Ok, Err, OnErr, IsTrue, inl, inr, refl, sym, ◌∙◌, ap, subst, arith, is_ok, if◌then◌else◌}
+use Rattle.std.proofs.Common.{◌≡◌, ◌↔◌, ℕ, ◌<◌, ◌≤◌, Bool, List, length, get_or, Result, Ok, Err, IsTrue, inl, inr, refl, sym, ◌∙◌, ap, subst, arith, is_ok}
 use Rattle.std.specs.List.{Contains, insert}
 use Rattle.std.specs.List.Sorted.{IsBinarySearchResult}
 use Rattle.std.specs.Ordering.{nat_cmp}
@@ -8,7 +8,7 @@ use Rattle.std.proofs.lemmas.Bool.{cases_lt, cases_eq}
 use Rattle.std.proofs.lemmas.List.{get_or_default}
 use Rattle.std.proofs.lemmas.List.Elements.{Contains-get_or}
 use Rattle.std.proofs.lemmas.List.Sorted.{searched}
-use Rattle.number_set.specs.Numbers.{Numbers, with_number, AreRising}
+use Rattle.number_set.specs.Numbers.{with_number, AreRising}
 use Rattle.number_set.proofs.NumberLemmas.{inserted_is, there_already}
 
 -- where the number stands, or is to stand
@@ -64,23 +64,9 @@ found_same xs ys n i same rise says =
     let (within, is) = place_found xs ys n (Ok i) same rise says in
     sym (there_already n xs rise (subst (Contains xs) is (Contains-get_or xs i 0 within)))
 
--- where it isn't, it is put in at the place that is answered, since there is room
-pub missed_then : {E : Type 0} (r : Result (Unit {0}) E) (old now : Numbers) (ys zs : List ℕ) (n at room len : ℕ) → old ≡ now → length now.list < now.most
-    → ys ≡ old.list → AreRising old.list → IsBinarySearchResult (λ y. nat_cmp y n) ys (Err at)
-    → zs ≡ (if is_ok r then insert old.list at n else old.list) → OnErr r (room ≤ len)
-    → old.most ≤ room → length ys ≡ len
-    → zs ≡ with_number n old.list
-missed_then (Ok v) old now ys zs n at room len view less same rise says is full most long =
-    let (within, low, high) = place_found old.list ys n (Err at) same rise says in
-    is ∙ inserted_is n old.list at within low high
-missed_then (Err e) old now ys zs n at room len view less same rise says is full most long =
-    absurd (omega (
-      arith,
-      full,
-      most,
-      long,
-      less,
-      ap length same,
-      ap (λ (v : Numbers). length v.list) view,
-      ap (λ (v : Numbers). v.most) view,
-    ))
+-- where it isn't, it is put in at the place that is answered
+pub missed : (xs ys : List ℕ) (n at : ℕ) → ys ≡ xs → AreRising xs
+    → IsBinarySearchResult (λ y. nat_cmp y n) ys (Err at) → insert xs at n ≡ with_number n xs
+missed xs ys n at same rise says =
+    let (within, low, high) = place_found xs ys n (Err at) same rise says in
+    inserted_is n xs at within low high

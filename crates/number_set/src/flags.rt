@@ -2,6 +2,7 @@
 ghost use Rattle.std.specs.Prelude.{◌≡◌, ◌≤◌, ◌<◌, ◌+◌, ◌/◌, ◌==◌, ◌||◌, ℕ, List, false, length, IfOk};
 ghost use Rattle.number_set.specs.Flags.{has_flag, flagged};
 
+use bounded_vec::BoundedVec;
 use ipl_base::OutOfMemory;
 use std::alloc::Global;
 use std::marker::Model;
@@ -11,7 +12,7 @@ use std::marker::Model;
 /// stay the same. Memory is taken by `new` alone: a bit for each rank.
 #[derive(Drop)]
 pub struct Flags {
-    bytes: Vec<u8>,
+    bytes: BoundedVec<u8>,
     count: usize,
     most: usize,
     room: usize,
@@ -43,21 +44,12 @@ fn has_flag(bytes: &[u8], at: usize) -> bool
 }
 
 /// Gives the rank its bit.
-fn set_flag(bytes: &mut [u8], at: usize)
-    requires { at / 8 < length bytes.old }
-    ensures bits { (i : ℕ) → has_flag bytes.new i ≡ ((i == at) || has_flag bytes.old i) }
-    ensures size { length bytes.new ≡ length bytes.old }
-{
-    bytes[at / 8] |= 1 << (at % 8);
-}
-
-/// Gives the rank its bit, in a vector.
-fn put_flag(bytes: &mut Vec<u8>, at: usize)
+fn set_flag(bytes: &mut BoundedVec<u8>, at: usize)
     requires { at / 8 < length bytes.old.items }
     ensures bits { (i : ℕ) → has_flag bytes.new.items i ≡ ((i == at) || has_flag bytes.old.items i) }
     ensures size { length bytes.new.items ≡ length bytes.old.items }
 {
-    set_flag(bytes, at);
+    bytes[at / 8] |= 1 << (at % 8);
 }
 
 /// Takes all bits away.
@@ -66,14 +58,6 @@ fn clear_flags(bytes: &mut [u8])
     ensures size { length bytes.new ≡ length bytes.old }
 {
     bytes.fill(0);
-}
-
-/// Takes all bits away, in a vector.
-fn drop_flags(bytes: &mut Vec<u8>)
-    ensures none { (i : ℕ) → has_flag bytes.new.items i ≡ false }
-    ensures size { length bytes.new.items ≡ length bytes.old.items }
-{
-    clear_flags(bytes);
 }
 
 impl Flags {
@@ -85,7 +69,8 @@ impl Flags {
         ensures most { IfOk result (λ flags. flags.most ≡ most) }
         ensures room { IfOk result (λ flags. flags.room ≡ room) }
     {
-        let bytes = vec![in alloc; 0; (room + 7) / 8]?;
+        let size = (room + 7) / 8;
+        let bytes = BoundedVec::filled(alloc, size, size, 0)?;
         Ok(Flags {
             bytes,
             count: 0,
@@ -101,7 +86,7 @@ impl Flags {
         ensures most { self.new.most ≡ self.old.most }
         ensures room { self.new.room ≡ self.old.room }
     {
-        drop_flags(&mut self.bytes);
+        clear_flags(&mut self.bytes);
         self.count = 0;
     }
 
@@ -136,7 +121,7 @@ impl Flags {
         ensures most { self.new.most ≡ self.old.most }
         ensures room { self.new.room ≡ self.old.room }
     {
-        put_flag(&mut self.bytes, at);
+        set_flag(&mut self.bytes, at);
         self.count += 1;
     }
 

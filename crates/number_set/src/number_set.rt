@@ -1,12 +1,14 @@
 //! A set of numbers, in rising order.
-ghost use Rattle.std.specs.Prelude.{◌≡◌, ◌≤◌, ◌<◌, ◌+◌, ◌^◌, ◌↔◌, ℕ, [], length, take, drop, slice_index, vec_capacity, Contains, IfOk, IfSome, IsTrue};
+ghost use Rattle.std.specs.Prelude.{◌≡◌, ◌≤◌, ◌<◌, ◌+◌, ◌^◌, ◌↔◌, ℕ, [], length, take, drop, slice_index, Contains, IfOk, IfSome, IsTrue};
 ghost use Rattle.std.specs.Option.{is_some};
+ghost use Rattle.bounded_vec.specs.Bounded.{with_items};
 ghost use Rattle.ipl_base.specs.declared.limits.TheConstants.{COMMIT_NUMBERS};
 ghost use Rattle.number_set.specs.Flags.{flagged};
 ghost use Rattle.number_set.specs.Numbers.{with_list, with_number, with_numbers, empty_numbers, among, AreRising};
 
 use crate::flags::Flags;
 use arrayvec::ArrayVec;
+use bounded_vec::BoundedVec;
 use ipl_base::{COMMIT_NUMBERS, OutOfMemory};
 use std::alloc::Global;
 use std::marker::Model;
@@ -15,27 +17,24 @@ use std::marker::Model;
 /// bound, which stays the same. Memory is taken by `new` alone.
 #[derive(Drop)]
 pub struct NumberSet {
-    items: Vec<u64>,
-    most: usize,
+    items: BoundedVec<u64>,
 }
 
 impl Model for NumberSet {
-    ghost use Rattle.std.specs.Prelude.{length, vec_capacity, ◌≤◌};
+    ghost use Rattle.std.specs.Prelude.{length, ◌≤◌};
     ghost use Rattle.number_set.specs.Numbers.{Numbers, AreRising};
 
     ghost Value = { Numbers };
 
-    ghost view = { λ s. record { list = s.items.items; most = s.most } };
+    ghost view = { λ s. record { list = s.items.items; most = s.items.room } };
 
     ghost invariant = { λ s. AreRising s.items.items
-        × (length s.items.items ≤ s.most)
-        × (s.most ≤ vec_capacity s.items) };
+        × (length s.items.items ≤ s.items.room) };
 }
 
 /// Keeps those of the numbers that have a flag.
-fn compact(items: &mut Vec<u64>, flags: &Flags)
-    ensures flagged { items.new.items ≡ flagged flags.now items.old.items }
-    ensures capacity { vec_capacity items.old ≤ vec_capacity items.new }
+fn compact(items: &mut BoundedVec<u64>, flags: &Flags)
+    ensures { items.new ≡ with_items items.old (flagged flags.now items.old.items) }
 {
     let mut kept = 0;
     for i in 0..items.len() {
@@ -89,8 +88,8 @@ impl NumberSet {
     pub fn new(alloc: Global, most: usize) -> Result<NumberSet, OutOfMemory>
         ensures { IfOk result (λ set. set ≡ empty_numbers most) }
     {
-        let items = Vec::with_capacity(alloc, most)?;
-        Ok(NumberSet { items, most })
+        let items = BoundedVec::new(alloc, most)?;
+        Ok(NumberSet { items })
     }
 
     /// Takes all numbers away.
@@ -162,7 +161,7 @@ impl NumberSet {
         ensures { self.new ≡ with_list self.old (with_number number self.old.list) }
     {
         if let Err(at) = self.items.binary_search(&number) {
-            let _ = self.items.insert(at, number);
+            self.items.insert(at, number);
         }
     }
 

@@ -1,4 +1,4 @@
-use Rattle.std.proofs.Common.{◌≡◌, ◌≤◌, length, take, drop, vec_capacity}
+use Rattle.std.proofs.Common.{◌≡◌, ◌≤◌, length, take, drop}
 use Rattle.number_set.specs.Flags.{flagged}
 use Rattle.number_set.proofs.number_set.compact.Given as goal
 
@@ -10,5 +10,5 @@ invariant-loop-i l = record {
   end : l.i-end ≡ length l.fn.items.items;
   front : take l.kept l.items.items ≡ flagged l.flags (take l.i l.fn.items.items);
   back : drop l.i l.items.items ≡ drop l.i l.fn.items.items;
-  capacity : vec_capacity l.fn.items ≤ vec_capacity l.items;
+  room : l.items.room ≡ l.fn.items.room;
 }

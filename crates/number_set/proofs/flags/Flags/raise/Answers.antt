@@ -10,12 +10,12 @@ pub invariant_of-self : goal.invariant_of-self
 invariant_of-self c =
     let (size, most, few) = c.self.invariant in
     let more = room _ _ c.self.view_is c.requires.few in (
-      omega (arith, c.put_flag.ensures.size, size),
+      omega (arith, c.set_flag.ensures.size, size),
       omega (arith, more),
       λ numbers. omega (
         arith,
         few numbers,
         one_more (has_flag c.self.inside.bytes.items)
-            (has_flag c.put_flag.new.bytes.items) 0 c.args.at numbers c.put_flag.ensures.bits,
+            (has_flag c.set_flag.new.bytes.items) 0 c.args.at numbers c.set_flag.ensures.bits,
       ),
     )
