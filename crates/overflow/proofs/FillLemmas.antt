@@ -1,7 +1,6 @@
 -- A list whose elements are replaced one by one.
 use Rattle.std.proofs.Common.{◌≡◌, ℕ, ◌<◌, ◌+◌, List, [], ◌∷◌, ◌++◌, length, map, sym, ◌∙◌, ap, arith, set, get_or, take, drop}
-use Rattle.std.specs.List.{refill}
-use Rattle.std.proofs.lemmas.List.{append-nil, take_all, drop_all, length-set, map_push, take_more, take_more_set, drop_more, drop-set-lt}
+use Rattle.std.proofs.lemmas.List.{length-set, map_push, take_more, take_more_set, drop_more, drop-set-lt}
 
 -- after one more, the first ones are done and the others are as they were
 pub replaced_more : {X Y : Type 0} (f : X → Y) (g : Y → Y) (xs ys : List X) (i : ℕ) (d r : X)
@@ -26,9 +25,3 @@ replaced_more f g xs ys i d r long low done others this =
           ∙ ap (map f) (sym (take_more xs i d low_too))),
       drop-set-lt (i + 1) ys i r (omega arith) ∙ rest,
     )
-
--- a list that was replaced as a whole
-pub refilled : {X : Type 0} (xs ws : List X) → length ws ≡ length xs → refill (length xs) xs ws ≡ ws
-refilled xs ws long =
-    ap (λ l. take (length xs) (ws ++ l)) (drop_all (length ws) xs (omega arith))
-    ∙ ap (take (length xs)) (append-nil ws) ∙ take_all (length xs) ws (omega arith)

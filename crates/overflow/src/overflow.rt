@@ -1,14 +1,15 @@
 //! The table of overflow places.
-ghost use Rattle.std.specs.Prelude.{◌≡◌, ◌≤◌, ◌<◌, [], ℕ, map, replicate, length, nat_lt, vec_capacity, Contains, IfOk, IfSome, IfNone, None};
+ghost use Rattle.std.specs.Prelude.{◌≡◌, ◌≤◌, ◌<◌, [], ℕ, map, replicate, length, nat_lt, Contains, IfOk, IfSome, IfNone, None};
 ghost use Rattle.std.specs.Option.{option_map};
+ghost use Rattle.bounded_vec.specs.Bounded.{with_items};
 ghost use Rattle.ipl_base.specs.declared.limits.TheConstants.{OVERFLOW_SECTORS};
 ghost use Rattle.ipl_base.specs.Places.{KeepsUnits};
-ghost use Rattle.ipl_base.specs.Places.{HasUnitRoom};
 ghost use Rattle.overflow.specs.Lists.{pair_of, spots_in, masks_at, empty_lists, with_place, after_add, after_drop, places_left, listed, first_spot, AreWithin, IsSoundOverflow};
 
 use crate::places::{PlaceInUse, first_spot, keep_named, places_left, use_spot};
 use crate::spots::{MaskList, SpotList};
 use arrayvec::ArrayVec;
+use bounded_vec::BoundedVec;
 use ipl_base::{
     Geometry, OVERFLOW_PLACES, OVERFLOW_SECTORS, OutOfMemory, RESERVED_PLACES, SECTORS, Spot,
 };
@@ -22,16 +23,16 @@ use std::marker::Model;
 #[derive(Drop)]
 pub struct Overflow {
     places: u32,
-    spots: Vec<SpotList>,
-    masks: Vec<MaskList>,
+    spots: BoundedVec<SpotList>,
+    masks: BoundedVec<MaskList>,
     in_use: ArrayVec<PlaceInUse, OVERFLOW_PLACES>,
 }
 
 impl Model for Overflow {
-    ghost use Rattle.std.specs.Prelude.{map};
+    ghost use Rattle.std.specs.Prelude.{map, ◌≤◌};
     ghost use Rattle.ipl_meaning.specs.Tables.{OverflowLists};
     ghost use Rattle.overflow.specs.Lists.{overflow_table, first_of, IsSoundOverflow};
-    ghost use Rattle.ipl_base.specs.Places.{HasUnitRoom};
+    ghost use Rattle.ipl_base.specs.Places.{units_on};
 
     ghost Value = { OverflowLists };
 
@@ -39,8 +40,8 @@ impl Model for Overflow {
 
     ghost invariant = { λ o. IsSoundOverflow
         (overflow_table o.places o.spots.items o.masks.items (map first_of o.in_use.items))
-        × HasUnitRoom o.places o.spots
-        × HasUnitRoom o.places o.masks };
+        × (units_on o.places ≤ o.spots.room)
+        × (units_on o.places ≤ o.masks.room) };
 }
 
 impl Overflow {
@@ -51,8 +52,8 @@ impl Overflow {
         let places = geometry.places();
         let units = geometry.units();
         let most = (places - RESERVED_PLACES) as usize;
-        let mut spots = Vec::with_capacity(alloc, most)?;
-        let mut masks = Vec::with_capacity(alloc, most)?;
+        let mut spots = BoundedVec::new(alloc, most)?;
+        let mut masks = BoundedVec::new(alloc, most)?;
         clear_spots(&mut spots, units);
         clear_masks(&mut masks, units);
         Ok(Overflow {
@@ -191,25 +192,23 @@ impl Overflow {
 
 /// Makes it a list of so many units without spots. It takes no memory: that there is room is a
 /// condition.
-fn clear_spots(spots: &mut Vec<SpotList>, units: u32)
-    requires { units ≤ vec_capacity spots.old }
-    ensures items { spots.new.items ≡ replicate units [] }
-    ensures room { vec_capacity spots.new ≡ vec_capacity spots.old }
+fn clear_spots(spots: &mut BoundedVec<SpotList>, units: u32)
+    requires { units ≤ spots.old.room }
+    ensures { spots.new ≡ with_items spots.old (replicate units []) }
 {
     spots.clear();
     for _ in 0..units {
-        spots.push_reserved(SpotList::new());
+        spots.push(SpotList::new());
     }
 }
 
 /// The same, without masks.
-fn clear_masks(masks: &mut Vec<MaskList>, units: u32)
-    requires { units ≤ vec_capacity masks.old }
-    ensures items { masks.new.items ≡ replicate units [] }
-    ensures room { vec_capacity masks.new ≡ vec_capacity masks.old }
+fn clear_masks(masks: &mut BoundedVec<MaskList>, units: u32)
+    requires { units ≤ masks.old.room }
+    ensures { masks.new ≡ with_items masks.old (replicate units []) }
 {
     masks.clear();
     for _ in 0..units {
-        masks.push_reserved(MaskList::new());
+        masks.push(MaskList::new());
     }
 }

@@ -7,9 +7,10 @@ ghost use Rattle.unit_directory.specs.Free.{IsNextFree, free_count, spares_of};
 ghost use Rattle.unit_directory.specs.Reserves.{clean_logs};
 ghost use Rattle.unit_directory.specs.Directory.{empty_places, with_erases_of, after_adopt, after_replace, with_marked, with_noted_log, is_known, next_log, IsSoundDirectory};
 
-use crate::lists::{RetiredList, filled, insert_place, refill};
+use crate::lists::{RetiredList, insert_place};
 use crate::marked::{MARKED_LOGS, UNKNOWN_LOGS, clean, end_all_marks, noted};
 use arrayvec::ArrayVec;
+use bounded_vec::BoundedVec;
 use ipl_base::{FIRST_LOG_SECTOR, Geometry, LOG_SECTORS, OutOfMemory, RESERVED_PLACES};
 use std::alloc::Global;
 use std::marker::Model;
@@ -23,26 +24,26 @@ use std::marker::Model;
 /// Memory is taken by `new` alone, for as many units as are kept where no place is spare.
 #[derive(Drop)]
 pub struct Directory {
-    current: Vec<u32>,
-    in_use: Vec<bool>,
+    current: BoundedVec<u32>,
+    in_use: BoundedVec<bool>,
     /// By place, as far as 32 bits count.
-    erases: Vec<u32>,
+    erases: BoundedVec<u32>,
     /// In rising order.
     retired: RetiredList,
     /// 0 to 15; 16 more by a mark that counts; 32, where nothing is known.
-    written: Vec<u32>,
-    generations: Vec<u64>,
-    masks: Vec<[u16; 15]>,
+    written: BoundedVec<u32>,
+    generations: BoundedVec<u64>,
+    masks: BoundedVec<[u16; 15]>,
 }
 
 /// A place none of whose log sectors names a page.
 const NO_MASKS: [u16; 15] = [0; 15];
 
 impl Model for Directory {
-    ghost use Rattle.std.specs.Prelude.{length};
+    ghost use Rattle.std.specs.Prelude.{length, ◌≤◌};
     ghost use Rattle.ipl_meaning.specs.Tables.{Places};
     ghost use Rattle.unit_directory.specs.Directory.{places_table, IsSoundDirectory};
-    ghost use Rattle.ipl_base.specs.Places.{HasUnitRoom};
+    ghost use Rattle.ipl_base.specs.Places.{units_on};
 
     ghost Value = { Places };
 
@@ -52,10 +53,10 @@ impl Model for Directory {
     ghost invariant = { λ d. IsSoundDirectory
         (places_table d.current.items d.in_use.items d.erases.items d.retired.items
         d.written.items d.generations.items d.masks.items)
-        × HasUnitRoom (length d.in_use.items) d.current
-        × HasUnitRoom (length d.in_use.items) d.written
-        × HasUnitRoom (length d.in_use.items) d.generations
-        × HasUnitRoom (length d.in_use.items) d.masks };
+        × (units_on (length d.in_use.items) ≤ d.current.room)
+        × (units_on (length d.in_use.items) ≤ d.written.room)
+        × (units_on (length d.in_use.items) ≤ d.generations.room)
+        × (units_on (length d.in_use.items) ≤ d.masks.room) };
 }
 
 impl Directory {
@@ -68,13 +69,13 @@ impl Directory {
         let places = geometry.places() as usize;
         let most = places - RESERVED_PLACES as usize;
         Ok(Directory {
-            current: filled(alloc, most, units, 0)?,
-            in_use: vec![in alloc; false; places]?,
-            erases: vec![in alloc; 1; places]?,
+            current: BoundedVec::filled(alloc, most, units, 0)?,
+            in_use: BoundedVec::filled(alloc, places, places, false)?,
+            erases: BoundedVec::filled(alloc, places, places, 1)?,
             retired: ArrayVec::new(),
-            written: filled(alloc, most, units, UNKNOWN_LOGS)?,
-            generations: filled(alloc, most, units, 0)?,
-            masks: filled(alloc, most, units, NO_MASKS)?,
+            written: BoundedVec::filled(alloc, most, units, UNKNOWN_LOGS)?,
+            generations: BoundedVec::filled(alloc, most, units, 0)?,
+            masks: BoundedVec::filled(alloc, most, units, NO_MASKS)?,
         })
     }
 
@@ -84,13 +85,13 @@ impl Directory {
         ensures { self.new ≡ empty_places (length self.old.in_use) units }
     {
         let units = units as usize;
-        refill(&mut self.current, units, 0);
+        self.current.refill(units, 0);
         self.in_use.fill(false);
         self.erases.fill(1);
         self.retired.clear();
-        refill(&mut self.written, units, UNKNOWN_LOGS);
-        refill(&mut self.generations, units, 0);
-        refill(&mut self.masks, units, NO_MASKS);
+        self.written.refill(units, UNKNOWN_LOGS);
+        self.generations.refill(units, 0);
+        self.masks.refill(units, NO_MASKS);
     }
 
     /// What always holds: the chip has 5 to 1028 places, as many units as may be kept on them, each has a

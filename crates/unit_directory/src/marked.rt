@@ -1,5 +1,5 @@
 //! What is known of log sectors, as a number.
-ghost use Rattle.std.specs.Prelude.{◌≡◌, ◌≤◌, ◌<◌, ◌-◌, map, vec_capacity};
+ghost use Rattle.std.specs.Prelude.{◌≡◌, ◌≤◌, ◌<◌, ◌-◌, map};
 ghost use Rattle.ipl_meaning.specs.Tables.{counted_written, unmarked_written};
 ghost use Rattle.unit_directory.specs.Directory.{noted_log};
 
@@ -22,9 +22,8 @@ fn unmarked(written: u32) -> u32
 }
 
 /// What is known of all units once no mark counts any more. It takes no memory.
-pub(crate) fn end_all_marks(all: &mut Vec<u32>)
-    ensures items { all.new.items ≡ map unmarked_written all.old.items }
-    ensures room { vec_capacity all.new ≡ vec_capacity all.old }
+pub(crate) fn end_all_marks(all: &mut [u32])
+    ensures { all.new ≡ map unmarked_written all.old }
 {
     for i in 0..all.len() {
         all[i] = unmarked(all[i]);

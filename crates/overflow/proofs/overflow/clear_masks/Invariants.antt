@@ -1,10 +1,7 @@
-use Rattle.std.proofs.Common.{◌≡◌, [], replicate, vec_len, vec_capacity}
+use Rattle.std.proofs.Common.{◌≡◌, [], replicate}
+use Rattle.bounded_vec.specs.Bounded.{with_items}
 use Rattle.overflow.proofs.overflow.clear_masks.Given as goal
 
--- so many stand there, and the room is as it was
+-- so many stand there
 abbrev pub invariant-loop : goal.invariant-loop
-invariant-loop l = record {
-  items : l.masks.items ≡ replicate l.counter [];
-  len : vec_len l.masks ≡ l.counter;
-  room : vec_capacity l.masks ≡ vec_capacity l.fn.masks;
-}
+invariant-loop l = l.masks ≡ with_items l.fn.masks (replicate l.counter [])

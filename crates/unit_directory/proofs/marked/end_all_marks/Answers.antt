@@ -5,23 +5,18 @@ use Rattle.unit_directory.proofs.marked.end_all_marks.Goals as goal
 
 pub loop-i-preserved : goal.loop-i-preserved
 loop-i-preserved c =
-    let before = c.loop-i.invariant in
-    let within : c.loop-i.i < length c.args.all.now.items = omega (arith, c.loop-i-test.true) in
-    let next : suc c.loop-i.i ≡ c.loop-i.i + 1 = omega arith in
-    let so_far : List ℕ = changed unmarked_written c.loop-i.i c.args.all.now.items in
-    let read : c.index.result.now ≡ get_or so_far c.loop-i.i c.index.result.now = rw (← before.items) c.index.ensures in
-    record {
-      items = rw (c.unmarked.ensures, before.items)
-          (ap (λ (v : ℕ). slice_set so_far c.loop-i.i (unmarked_written v)) read
-          ∙ changed_next unmarked_written c.loop-i.i c.index.result.now c.args.all.now.items within
-          ∙ ap (λ (n : ℕ). changed unmarked_written n c.args.all.now.items) next);
-      len = before.len;
-      room = before.room;
-    }
+    let all = c.args.all.now in
+    let i = c.loop-i.i in
+    let within : i < length all = omega (arith, c.loop-i-test.true) in
+    let next : suc i ≡ i + 1 = omega arith in
+    ap (slice_set c.loop-i.all i) c.unmarked.ensures
+    ∙ ap (λ (l : List ℕ). slice_set l i (unmarked_written (get_or l i 0))) c.loop-i.invariant
+    ∙ changed_next unmarked_written i 0 all within
+    ∙ ap (λ (n : ℕ). changed unmarked_written n all) next
 
-pub returns-clause-items : goal.returns-clause-items
-returns-clause-items c =
-    let all : c.loop-i.i ≡ length c.args.all.now.items = omega arith in
-    c.loop-i.invariant.items
-    ∙ ap (λ (n : ℕ). changed unmarked_written n c.args.all.now.items) all
-    ∙ changed_all unmarked_written c.args.all.now.items
+pub returns : goal.returns
+returns c =
+    let all : c.loop-i.i ≡ length c.args.all.now = omega arith in
+    c.loop-i.invariant
+    ∙ ap (λ (n : ℕ). changed unmarked_written n c.args.all.now) all
+    ∙ changed_all unmarked_written c.args.all.now

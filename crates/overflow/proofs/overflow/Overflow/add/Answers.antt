@@ -1,9 +1,8 @@
 use Rattle.std.proofs.Common.{◌≡◌, [], ◌∷◌, ◌++◌, ◌<◌, map, length, sym, ◌∙◌, ap, subst, arith}
 use Rattle.std.specs.List.{refill}
-use Rattle.std.proofs.lemmas.List.{get_or_read}
+use Rattle.bounded_vec.proofs.WriteLemmas.{item_read, item_written, refilled}
 use Rattle.ipl_meaning.specs.Tables.{OverflowLists}
 use Rattle.overflow.specs.Lists.{first_of, clean_behind, spots_in, masks_at}
-use Rattle.overflow.proofs.FillLemmas.{refilled}
 use Rattle.overflow.proofs.SoundLemmas.{sound_after}
 use Rattle.overflow.proofs.overflow.Overflow.add.Goals as goal
 
@@ -38,14 +37,16 @@ invariant_of-self c =
     ∙ ap (λ l. map (clean_behind s.place s.sector) (map first_of l)) c.as_mut_slice.ensures.value in
     let list : c.push.new.self ≡ spots_in it u ++ (s.place, s.sector) ∷ [] =
     c.push.ensures ∙ ap (λ l. l ++ (s.place, s.sector) ∷ [])
-    (get_or_read inside.spots.items u c.index_mut-list.result.now low
-    c.index_mut-list.ensures.value []) in
+    (item_read inside.spots.items c.deref_mut.result.now u _ [] c.deref_mut.ensures.value low) in
     let masks : c.push-2.new.self ≡ masks_at it u ++ c.args.mask ∷ [] =
     c.push-2.ensures ∙ ap (λ l. l ++ c.args.mask ∷ [])
-    (get_or_read inside.masks.items u c.index_mut-masks.result.now (omega (arith, low, sound.lists))
-    c.index_mut-masks.ensures.value []) in (
-      sound_after it u s.place s.sector c.args.mask _ _ _ sound low few place c.requires.sector list masks
-          places,
+    (item_read inside.masks.items c.deref_mut-2.result.now u _ [] c.deref_mut-2.ensures.value
+    (omega (arith, low, sound.lists))) in (
+      rw (
+        item_written inside.spots.items c.deref_mut.result.now u c.push.new.self c.deref_mut.ensures.value,
+        item_written inside.masks.items c.deref_mut-2.result.now u c.push-2.new.self c.deref_mut-2.ensures.value,
+      ) (sound_after it u s.place s.sector c.args.mask _ _ _ sound low few place c.requires.sector list masks
+          places),
       spots_room,
       masks_room,
     )
