@@ -1,10 +1,12 @@
 //! Log sectors, kept in memory.
-ghost use Rattle.std.specs.Prelude.{◌≡◌, ◌≤◌, ◌<◌, ◌+◌, [], ◌∷◌, not, length, vec_capacity, vec_len, IfOk, Bool};
+ghost use Rattle.std.specs.Prelude.{◌≡◌, ◌≤◌, ◌<◌, ◌+◌, [], ◌∷◌, not, length, IfOk, Bool};
 ghost use Rattle.std.specs.List.{insert};
 ghost use Rattle.std.specs.Bool.{OnTrue, OnFalse};
+ghost use Rattle.bounded_vec.specs.Bounded.{with_items};
 ghost use Rattle.ipl_base.specs.declared.limits.TheConstants.{LIVE_SECTORS};
 ghost use Rattle.unit_log.specs.Kept.{has_serial, with_kept, rank_of, HaveRisingSerials};
 
+use bounded_vec::BoundedVec;
 use ipl_base::{LIVE_SECTORS, OutOfMemory};
 use log_records::Payload;
 use std::alloc::Global;
@@ -21,11 +23,11 @@ pub struct LogSector {
 /// taken by `new` alone.
 #[derive(Drop)]
 pub struct Scratch {
-    sectors: Vec<LogSector>,
+    sectors: BoundedVec<LogSector>,
 }
 
 impl Model for Scratch {
-    ghost use Rattle.std.specs.Prelude.{List, length, vec_capacity, ◌≤◌};
+    ghost use Rattle.std.specs.Prelude.{List, length, ◌≤◌};
     ghost use Rattle.ipl_base.specs.declared.limits.TheConstants.{LIVE_SECTORS};
     ghost use Rattle.unit_log.specs.declared.scratch.LogSector.{LogSector};
     ghost use Rattle.unit_log.specs.Kept.{HaveRisingSerials};
@@ -35,7 +37,7 @@ impl Model for Scratch {
     ghost view = { λ s. s.sectors.items };
 
     ghost invariant = { λ s. (length s.sectors.items ≤ LIVE_SECTORS)
-        × (LIVE_SECTORS ≤ vec_capacity s.sectors)
+        × (LIVE_SECTORS ≤ s.sectors.room)
         × HaveRisingSerials s.sectors.items };
 }
 
@@ -68,16 +70,15 @@ fn rank_of(sectors: &[LogSector], serial: u64) -> usize
 
 /// Puts a log sector at a place among these, which have room. Most come behind the others, where it
 /// isn't moved again.
-fn put(sectors: &mut Vec<LogSector>, at: usize, sector: LogSector)
-    requires within { at ≤ vec_len sectors.old }
-    requires room { vec_len sectors.old < vec_capacity sectors.old }
-    ensures items { sectors.new.items ≡ insert sectors.old.items at sector }
-    ensures capacity { vec_capacity sectors.old ≤ vec_capacity sectors.new }
+fn put(sectors: &mut BoundedVec<LogSector>, at: usize, sector: LogSector)
+    requires within { at ≤ length sectors.old.items }
+    requires room { length sectors.old.items < sectors.old.room }
+    ensures { sectors.new ≡ with_items sectors.old (insert sectors.old.items at sector) }
 {
     if at == sectors.len() {
-        sectors.push_reserved(sector);
+        sectors.push(sector);
     } else {
-        let _ = sectors.insert(at, sector);
+        sectors.insert(at, sector);
     }
 }
 
@@ -86,7 +87,7 @@ impl Scratch {
     pub fn new(alloc: Global) -> Result<Scratch, OutOfMemory>
         ensures { IfOk result (λ scratch. scratch ≡ []) }
     {
-        let sectors = Vec::with_capacity(alloc, LIVE_SECTORS)?;
+        let sectors = BoundedVec::new(alloc, LIVE_SECTORS)?;
         Ok(Scratch { sectors })
     }
 
