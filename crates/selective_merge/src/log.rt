@@ -7,6 +7,7 @@ ghost use Rattle.unit_log.specs.Kept.{records_kept};
 ghost use Rattle.selective_merge.specs.Logs.{nth_record};
 
 use crate::record_offset::{RecordOffset, index, number_of, page_of, record_at, slot_of};
+use bounded_vec::BoundedVec;
 use ipl_base::{LIVE_RECORDS, OutOfMemory};
 use log_records::Record;
 use std::alloc::Global;
@@ -16,11 +17,11 @@ use unit_log::LogSector;
 /// Room for the offsets of 1240 records. What it has says nothing. Memory is taken by `new` alone.
 #[derive(Drop)]
 pub struct Offsets {
-    items: Vec<RecordOffset>,
+    items: BoundedVec<RecordOffset>,
 }
 
 impl Model for Offsets {
-    ghost use Rattle.std.specs.Prelude.{List, ◌≤◌, vec_capacity};
+    ghost use Rattle.std.specs.Prelude.{List, ◌≤◌};
     ghost use Rattle.ipl_base.specs.declared.limits.TheConstants.{LIVE_RECORDS};
     ghost use Rattle.selective_merge.specs.declared.record_offset.RecordOffset.{RecordOffset};
 
@@ -28,7 +29,7 @@ impl Model for Offsets {
 
     ghost view = { λ p. p.items.items };
 
-    ghost invariant = { λ p. LIVE_RECORDS ≤ vec_capacity p.items };
+    ghost invariant = { λ p. LIVE_RECORDS ≤ p.items.room };
 }
 
 impl Offsets {
@@ -36,7 +37,7 @@ impl Offsets {
     pub fn new(alloc: Global) -> Result<Offsets, OutOfMemory>
         ensures { IfOk result (λ offsets. offsets ≡ []) }
     {
-        let items = Vec::with_capacity(alloc, LIVE_RECORDS)?;
+        let items = BoundedVec::new(alloc, LIVE_RECORDS)?;
         Ok(Offsets { items })
     }
 }

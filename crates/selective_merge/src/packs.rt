@@ -1,5 +1,5 @@
 //! Payloads of log sectors, filled one after another.
-ghost use Rattle.std.specs.Prelude.{◌≡◌, ◌<◌, ◌≤◌, ◌++◌, [], ◌∷◌, List, length, IfOk, vec_capacity};
+ghost use Rattle.std.specs.Prelude.{◌≡◌, ◌<◌, ◌≤◌, ◌++◌, [], ◌∷◌, List, length, IfOk};
 ghost use Rattle.std.specs.Bool.{OnTrue, OnFalse};
 ghost use Rattle.ipl_base.specs.declared.limits.TheConstants.{CARRIED_SECTORS, VERSION};
 ghost use Rattle.ipl_format.specs.Record.{IsRecord, Record as LogRecord};
@@ -7,6 +7,7 @@ ghost use Rattle.log_records.specs.View.{record_of};
 ghost use Rattle.selective_merge.specs.Packs.{payload_of, payloads_of};
 ghost use Rattle.selective_merge.specs.Packing.{pack_open, IsAdded, IsPayload, masks_of_payloads};
 
+use bounded_vec::BoundedVec;
 use ipl_base::{CARRIED_SECTORS, OutOfMemory};
 use log_records::{Payload, Record, put};
 use std::alloc::Global;
@@ -16,9 +17,9 @@ use unit_log::mask_of;
 /// At most 12 payloads that are full, and one that is being filled. Memory is taken by `new` alone.
 #[derive(Drop)]
 pub struct Packs {
-    closed: Vec<Payload>,
+    closed: BoundedVec<Payload>,
     last: Payload,
-    ghost room: { CARRIED_SECTORS ≤ vec_capacity closed },
+    ghost room: { CARRIED_SECTORS ≤ closed.room },
     ghost few: { length closed.items ≤ CARRIED_SECTORS },
     ghost version: { last.version ≡ VERSION },
 }
@@ -28,7 +29,7 @@ impl Packs {
     pub fn new(alloc: Global) -> Result<Packs, OutOfMemory>
         ensures { IfOk result (λ packs. packs.closed.items ≡ []) }
     {
-        let closed = Vec::with_capacity(alloc, CARRIED_SECTORS)?;
+        let closed = BoundedVec::new(alloc, CARRIED_SECTORS)?;
         Ok(Packs {
             closed,
             last: Payload::empty(),
@@ -70,7 +71,7 @@ impl Packs {
             return false;
         }
         let full = replace(&mut self.last, Payload::empty());
-        self.closed.push_reserved(full);
+        self.closed.push(full);
         true
     }
 

@@ -1,10 +1,11 @@
 //! Where log records stand among the log sectors of a unit.
-ghost use Rattle.std.specs.Prelude.{◌≡◌, ◌≤◌, ◌<◌, ◌+◌, ◌++◌, ℕ, length, vec_capacity};
+ghost use Rattle.std.specs.Prelude.{◌≡◌, ◌≤◌, ◌<◌, ◌+◌, ◌++◌, ℕ, length};
 ghost use Rattle.ipl_base.specs.declared.limits.TheConstants.{LIVE_RECORDS, LIVE_SECTORS, PAGES, PAYLOAD_LEN, SLOTS};
 ghost use Rattle.ipl_format.specs.Record.{IsLogPayload};
 ghost use Rattle.log_records.specs.View.{record_of};
 ghost use Rattle.selective_merge.specs.Logs.{located, offsets_in, offsets_of, sector_at, IsOffset};
 
+use bounded_vec::BoundedVec;
 use log_records::{
     Record, first_len, first_number, first_page, first_record, first_slot, has_record,
 };
@@ -20,12 +21,12 @@ pub struct RecordOffset {
 }
 
 /// Puts the offsets of the records of a sector behind others, for which room was taken.
-fn index_sector(bytes: &[u8], version: u8, sector: u8, offsets: &mut Vec<RecordOffset>)
+fn index_sector(bytes: &[u8], version: u8, sector: u8, offsets: &mut BoundedVec<RecordOffset>)
     requires fits { length bytes.now ≤ PAYLOAD_LEN }
-    requires room { length offsets.old.items + 40 ≤ vec_capacity offsets.old }
+    requires left { length offsets.old.items + 40 ≤ offsets.old.room }
     ensures items { offsets.new.items ≡ offsets.old.items ++ offsets_in version sector bytes.now }
     ensures few { length offsets.new.items ≤ length offsets.old.items + 40 }
-    ensures capacity { vec_capacity offsets.old ≤ vec_capacity offsets.new }
+    ensures room { offsets.new.room ≡ offsets.old.room }
 {
     let mut at = 0;
     for turn in 0..bytes.len() {
@@ -33,7 +34,7 @@ fn index_sector(bytes: &[u8], version: u8, sector: u8, offsets: &mut Vec<RecordO
         if !has_record(&bytes[at..], version) {
             return;
         }
-        offsets.push_reserved(RecordOffset {
+        offsets.push(RecordOffset {
             sector,
             at: at as u16,
         });
@@ -42,12 +43,12 @@ fn index_sector(bytes: &[u8], version: u8, sector: u8, offsets: &mut Vec<RecordO
 }
 
 /// The offsets of the records of these log sectors, at most 31, in their order, and no others.
-pub(crate) fn index(sectors: &[LogSector], offsets: &mut Vec<RecordOffset>)
+pub(crate) fn index(sectors: &[LogSector], offsets: &mut BoundedVec<RecordOffset>)
     requires few { length sectors.now ≤ LIVE_SECTORS }
-    requires room { LIVE_RECORDS ≤ vec_capacity offsets.old }
+    requires left { LIVE_RECORDS ≤ offsets.old.room }
     ensures items { offsets.new.items ≡ offsets_of 0 sectors.now }
     ensures few { length offsets.new.items ≤ LIVE_RECORDS }
-    ensures capacity { vec_capacity offsets.old ≤ vec_capacity offsets.new }
+    ensures room { offsets.new.room ≡ offsets.old.room }
     ensures spelled { (k : ℕ) → k < length sectors.now
         → IsLogPayload (sector_at sectors.now k).payload.version (sector_at sectors.now k).payload.bytes }
 {

@@ -1,4 +1,4 @@
-use Rattle.std.proofs.Common.{◌≡◌, ◌<◌, ◌+◌, ℕ, List, get_or, inl, inr, length, subst, refl, arith}
+use Rattle.std.proofs.Common.{◌≡◌, ◌<◌, ◌+◌, ℕ, List, get_or, inl, inr, length, subst, refl, ◌∙◌, arith}
 use Rattle.std.proofs.lemmas.Bool.{cases_lt}
 use Rattle.std.proofs.lemmas.List.{get_or_default}
 use Rattle.ipl_format.specs.Record.{IsLogPayload}
@@ -33,8 +33,7 @@ loop-k-preserved c =
           c.loop-k.offsets.items c.index_sector.new.offsets.items _ low c.version.ensures c.bytes.ensures.value
           c.index_sector.ensures.items so.same;
       few = omega (arith, so.few, c.index_sector.ensures.few);
-      room = omega (arith, so.room, c.index_sector.ensures.capacity);
-      capacity = omega (arith, so.capacity, c.index_sector.ensures.capacity);
+      room = c.index_sector.ensures.room ∙ so.room;
       end = refl;
       spelled = up_to sectors k c.index-sectors-k.result c.bytes.result.now low c.bytes.ensures.value
           c.bytes.ensures.list so.spelled;

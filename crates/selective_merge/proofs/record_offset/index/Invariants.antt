@@ -1,5 +1,4 @@
-use Rattle.std.proofs.Common.{◌≡◌, ◌≤◌, ◌<◌, ◌*◌, ◌++◌, ℕ, length, drop, vec_capacity}
-use Rattle.ipl_base.specs.declared.limits.TheConstants.{LIVE_RECORDS}
+use Rattle.std.proofs.Common.{◌≡◌, ◌≤◌, ◌<◌, ◌*◌, ◌++◌, ℕ, length, drop}
 use Rattle.ipl_format.specs.Record.{IsLogPayload}
 use Rattle.selective_merge.specs.Logs.{offsets_of, sector_at}
 use Rattle.selective_merge.proofs.record_offset.index.Given as goal
@@ -9,8 +8,7 @@ abbrev pub invariant-loop-k : goal.invariant-loop-k
 invariant-loop-k l = record {
   same : l.offsets.items ++ offsets_of l.k (drop l.k l.sectors) ≡ offsets_of 0 l.sectors;
   few : length l.offsets.items ≤ 40 * l.k;
-  room : LIVE_RECORDS ≤ vec_capacity l.offsets;
-  capacity : vec_capacity l.fn.offsets ≤ vec_capacity l.offsets;
+  room : l.offsets.room ≡ l.fn.offsets.room;
   end : l.k-end ≡ length l.sectors;
   spelled : (j : ℕ) → j < l.k
       → IsLogPayload (sector_at l.sectors j).payload.version (sector_at l.sectors j).payload.bytes;

@@ -1,5 +1,6 @@
 use Rattle.std.proofs.Common.{◌≡◌, ◌≤◌, ◌+◌, ◌-◌, ◌++◌, ◌∷◌, [], ℕ, true, false, List, length, drop, sym, ◌∙◌, ap, subst, refl, arith, length-append, length-drop, append-nil}
 use Rattle.std.proofs.lemmas.List.{take_rest}
+use Rattle.bounded_vec.specs.Bounded.{Bounded}
 use Rattle.ipl_format.specs.Record.{size_in}
 use Rattle.log_records.specs.Reading.{has_record}
 use Rattle.selective_merge.specs.declared.record_offset.RecordOffset.{RecordOffset}
@@ -23,16 +24,16 @@ loop-turn-preserved c =
     subst (λ (l : List ℕ). c.first_len-at.result ≤ length l) (take_rest bytes at) c.first_len-at.ensures.within in
     record {
       same = index_next v s at turn c.first_len-at.result bytes c.loop-turn.offsets.items
-          c.push_reserved.new.self.items _ c.loop-turn-test.true there long c.push_reserved.ensures.items so.same;
+          c.push.new.self.items _ c.loop-turn-test.true there long (ap (λ (v : Bounded RecordOffset). v.items) c.push.ensures) so.same;
       low = omega (arith, within, length-drop at bytes, so.low);
       few = omega (
         arith,
         so.few,
         long,
-        ap (λ (l : List RecordOffset). length l) c.push_reserved.ensures.items,
+        ap (λ (v : Bounded RecordOffset). length v.items) c.push.ensures,
         length-append c.loop-turn.offsets.items (record { sector = s; at = at } ∷ []),
       );
-      capacity = omega (arith, so.capacity, c.push_reserved.ensures.capacity);
+      room = ap (λ (v : Bounded RecordOffset). v.room) c.push.ensures ∙ so.room;
       end = refl;
     }
 

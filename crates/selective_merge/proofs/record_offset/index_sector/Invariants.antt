@@ -1,4 +1,4 @@
-use Rattle.std.proofs.Common.{◌≡◌, ◌≤◌, ◌+◌, ◌-◌, ◌*◌, ◌++◌, length, vec_capacity}
+use Rattle.std.proofs.Common.{◌≡◌, ◌≤◌, ◌+◌, ◌-◌, ◌*◌, ◌++◌, length}
 use Rattle.selective_merge.specs.Logs.{offsets_within, offsets_in}
 use Rattle.selective_merge.proofs.record_offset.index_sector.Given as goal
 
@@ -9,6 +9,6 @@ invariant-loop-turn l = record {
       ≡ l.fn.offsets.items ++ offsets_in l.version l.sector l.bytes;
   low : l.at ≤ length l.bytes;
   few : 12 * length l.offsets.items ≤ 12 * length l.fn.offsets.items + l.at;
-  capacity : vec_capacity l.fn.offsets ≤ vec_capacity l.offsets;
+  room : l.offsets.room ≡ l.fn.offsets.room;
   end : l.turn-end ≡ length l.bytes;
 }
