@@ -38,6 +38,7 @@ use crate::looking::read_heads;
 use crate::noted::Noted;
 use crate::numbers::KeptNumbers;
 use crate::verdict::{check_found, greatest_in};
+use bounded_vec::BoundedVec;
 use chip_trait::Chip;
 use ipl_base::{Counter, Geometry, ImageFault, OutOfMemory, RESERVED_PLACES};
 use overflow::Overflow;
@@ -164,8 +165,8 @@ fn read_chip<C: Chip>(
 #[derive(Drop)]
 pub struct Scratch {
     geometry: Geometry,
-    heads: Vec<Option<Header>>,
-    current: Vec<Option<Winner>>,
+    heads: BoundedVec<Option<Header>>,
+    current: BoundedVec<Option<Winner>>,
     noted: Noted,
 }
 
@@ -184,9 +185,10 @@ impl Scratch {
     pub fn new(alloc: Global, geometry: Geometry) -> Result<Scratch, OutOfMemory>
         ensures { IfOk result (λ scratch. scratch ≡ geometry.places) }
     {
-        let heads = vec![in alloc; None; geometry.places() as usize]?;
-        let units = geometry.places() - RESERVED_PLACES;
-        let current = vec![in alloc; None; units as usize]?;
+        let places = geometry.places() as usize;
+        let units = places - RESERVED_PLACES as usize;
+        let heads = BoundedVec::filled(alloc, places, places, None)?;
+        let current = BoundedVec::filled(alloc, units, units, None)?;
         let noted = Noted::new(alloc, geometry)?;
         Ok(Scratch {
             geometry,
