@@ -167,7 +167,7 @@ module _ (slots : SessionSlots) (state : State) (s : ℕ) (within : s < length s
     writes = writes_keep;
     commits = keep slots state (rules.after_commit state s) s None None within same (get-remove nat_cmp_total state.sessions s) refl;
     aborts = keep slots state (rules.after_abort state s) s None None within same (get-remove nat_cmp_total state.sessions s) refl;
-    restarts = λ q. ap (option_map names_of) (session_at (replicate 32 None) q ∙ ap slot_of (none_of 32 q) ∙ sym (get-empty nat_cmp q));
+    restarts = λ q. ap (option_map names_of) (session_at (replicate (length slots) None) q ∙ ap slot_of (none_of (length slots) q) ∙ sym (get-empty nat_cmp q));
   }
 
 pub keeps_names : CallsKeepNames
@@ -233,7 +233,7 @@ module _ (slots : SessionSlots) (state : State) (s : ℕ) (within : s < length s
     writes = writes_peak;
     commits = commits_peak slots state s within same;
     aborts = keep_peaks slots state (rules.after_abort state s) s None None within same (get-remove nat_cmp_total state.sessions s) (λ n. refl);
-    restarts = λ q n. ap (λ (o : Option Held). slot_peaks o n) (none_of 32 q) ∙ sym (ap (λ (o : Option Session). peaks_in_state o n) (get-empty nat_cmp q));
+    restarts = λ q n. ap (λ (o : Option Held). slot_peaks o n) (none_of (length slots) q) ∙ sym (ap (λ (o : Option Session). peaks_in_state o n) (get-empty nat_cmp q));
   }
 
 pub keeps_peaks : CallsKeepPeaks

@@ -1,10 +1,11 @@
 -- What keeps all sessions sound.
-use Rattle.std.proofs.Common.{◌≡◌, ◌≢◌, ◌⊎◌, inl, inr, ℕ, zero, suc, ◌+◌, ◌*◌, max, refl, replicate, ◌/◌, ◌<◌, ◌≤◌, ◌==◌, Bool, true, false, cond, [], ◌∷◌, ◌++◌, length, set, get_or, Option, Some, None, sym, ◌∙◌, ap, subst, arith, nat_lt}
+use Rattle.std.proofs.Common.{◌≡◌, ◌≢◌, ◌⊎◌, inl, inr, ℕ, zero, suc, ◌+◌, ◌*◌, max, refl, replicate, ◌/◌, ◌<◌, ◌≤◌, ◌==◌, Bool, true, false, cond, [], ◌∷◌, ◌++◌, length, set, get_or, Option, Some, None, sym, ap, subst, arith, nat_lt}
 use Rattle.std.specs.List.{All, count_by}
 use Rattle.std.proofs.lemmas.List.Elements.{All-nil, All-cons}
 use Rattle.std.proofs.lemmas.Bool.{cases_eq}
 use Rattle.std.proofs.lemmas.Bool.Decides.{nat_tests}
 use Rattle.std.proofs.Math.ListN.{length-set}
+use Rattle.std.proofs.lemmas.List.{length-replicate}
 use Rattle.ipl_model.specs.Peaks.{weights, with_peak, overloads}
 use Rattle.ipl_base.specs.declared.limits.TheConstants.{PENDING_WEIGHT, SESSIONS, UNIT_NAMES}
 use Rattle.ipl_model.proofs.RulePeakLemmas.{le_trans}
@@ -18,7 +19,7 @@ use Rattle.record_locks.proofs.PeakLemmas.{set_less, set_written, all_sized_set}
 pub sound_less : (slots : SessionSlots) (s : ℕ) (o : Option Held) → AreSoundSlots slots → s < length slots → ((p : ℕ → Bool) → written_in p o ≤ written_in p (get_or slots s None))
     → IsSized o → ((n : ℕ) → slot_peaks o n ≤ slot_peaks (held_at slots s) n) → AreSoundSlots (set slots s o)
 sound_less slots s o sound within less sized peaks = record {
-  all = length-set slots s o ∙ sound.all;
+  all = omega (arith, length-set slots s o, sound.all);
   once = λ n. omega (arith, total_set (λ k. k == n) slots s o within, less (λ k. k == n), sound.once n);
   sized = all_sized_set slots s o sound.sized sized;
   few = λ unit. le_trans (weights_less (peaks_in (set slots s o)) (peaks_in slots) unit (λ n. set_less slots s o n (peaks n))) (sound.few unit);
@@ -28,7 +29,7 @@ sound_less slots s o sound within less sized peaks = record {
 pub sound_more : (slots : SessionSlots) (s n m : ℕ) (o : Option Held) → AreSoundSlots slots → s < length slots → ((k : ℕ) → total (λ j. j == k) (set slots s o) ≤ 1)
     → IsSized o → ((q : ℕ) → slot_peaks o q ≡ with_peak (slot_peaks (held_at slots s)) n m q) → overloads (peaks_in slots) n m ≡ false → AreSoundSlots (set slots s o)
 sound_more slots s n m o sound within once sized peaks room = record {
-  all = length-set slots s o ∙ sound.all;
+  all = omega (arith, length-set slots s o, sound.all);
   once = once;
   sized = all_sized_set slots s o sound.sized sized;
   few = λ unit. le_trans (weights_less (peaks_in (set slots s o)) (with_peak (peaks_in slots) n m) unit (λ q. set_written slots s n m o q (peaks q))) (by_unit unit (cases_eq unit (n / UNIT_NAMES)));
@@ -75,12 +76,12 @@ none_sized : (k : ℕ) → All IsSized (replicate k None)
 none_sized zero = All-nil IsSized
 none_sized (suc k) = All-cons IsSized None (replicate k None) refl (none_sized k)
 
-pub sound_none : AreSoundSlots (replicate SESSIONS None)
-sound_none = record {
-  all = refl;
-  once = λ n. omega (arith, none_total (λ k. k == n) SESSIONS);
-  sized = none_sized SESSIONS;
-  few = λ unit. omega (arith, weights_same (peaks_in (replicate SESSIONS None)) (λ (n : ℕ). 0) unit (λ i low. none_peaks SESSIONS (UNIT_NAMES * unit + i)), weights_none unit);
+pub sound_none : (sessions : ℕ) → sessions ≤ SESSIONS → AreSoundSlots (replicate sessions None)
+sound_none sessions few = record {
+  all = omega (arith, length-replicate {A = Option Held} sessions None, few);
+  once = λ n. omega (arith, none_total (λ k. k == n) sessions);
+  sized = none_sized sessions;
+  few = λ unit. omega (arith, weights_same (peaks_in (replicate sessions None)) (λ (n : ℕ). 0) unit (λ i low. none_peaks sessions (UNIT_NAMES * unit + i)), weights_none unit);
 }
 
 pub lighter : (a b p w : ℕ) → w + a ≡ p + b → nat_lt (PENDING_WEIGHT + a) (p + b) ≡ nat_lt PENDING_WEIGHT w

@@ -36,11 +36,11 @@ refuses_end slots s = first_of (not_open (state_of slots) s ∷ [])
 
 -- why a commit of several sessions is refused, if it is; of the limits it looks at the number of sessions alone
 abbrev pub refuses_batch : SessionSlots → List ℕ → Option Refusal
-refuses_batch slots ss = refusals.refuses_batch (record { sessions = SESSIONS; names = 0; units = 0 }) (state_of slots) ss
+refuses_batch slots ss = refusals.refuses_batch (record { sessions = length slots; names = 0; units = 0 }) (state_of slots) ss
 
 -- why a clean close is refused, if it is; of the limits it looks at the number of sessions alone
 abbrev pub refuses_close : SessionSlots → Option Refusal
-refuses_close slots = refusals.refuses_close (record { sessions = SESSIONS; names = 0; units = 0 }) (state_of slots)
+refuses_close slots = refusals.refuses_close (record { sessions = length slots; names = 0; units = 0 }) (state_of slots)
 
 -- the least other session that keeps this one from writing a name, or from sharing it
 abbrev pub holder_of : SessionSlots → ℕ → ℕ → Bool → Option ℕ
@@ -68,9 +68,9 @@ written_in test slot = count_by test (option_map_or (λ h. h.written) slot [])
 abbrev pub total : (ℕ → Bool) → SessionSlots → ℕ
 total test slots = sum_by (written_in test) slots
 
--- there are 32 slots, no name is written twice, each has its size, and the names of each unit weigh at most 48
+-- there are 32 slots at most, no name is written twice, each has its size, and the names of each unit weigh at most 48
 pub record AreSoundSlots (slots : SessionSlots) : Type 0 where
-  pub all : length slots ≡ SESSIONS
+  pub all : length slots ≤ SESSIONS
   pub once : (n : ℕ) → total (λ k. k == n) slots ≤ 1
   pub sized : All IsSized slots
   pub few : FewPending slots

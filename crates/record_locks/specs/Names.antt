@@ -2,7 +2,6 @@
 use Rattle.std.specs.Prelude.{◌≡◌, ℕ, ◌<◌, length, List, [], ◌∷◌, Contains, None, Option, replicate, All}
 use Rattle.std.specs.Option.{option_map}
 use Rattle.std.specs.FinMap.{get}
-use Rattle.ipl_base.specs.declared.limits.TheConstants.{SESSIONS}
 use Rattle.ipl_base.specs.Sizes.{size_in_page}
 use Rattle.ipl_model.specs.State.{Session, State, Limits, is_open_session, written_names, holder_for_share, holder_for_write, writes_of}
 use Rattle.ipl_model.specs.Peaks.{peaks_of, peaks}
@@ -60,7 +59,7 @@ pub record KeepsNames (slots : SessionSlots) (state : State) (s : ℕ) : Type 0 
   pub writes : (n size : ℕ) (change : Option (List ℕ)) → SameNames (state_of (after_write slots s n size)) (rules.after_write state s (n, change))
   pub commits : SameNames (state_of (after_end slots s)) (rules.after_commit state s)
   pub aborts : SameNames (state_of (after_end slots s)) (rules.after_abort state s)
-  pub restarts : SameNames (state_of (replicate SESSIONS None)) (rules.after_restart state)
+  pub restarts : SameNames (state_of (replicate (length slots) None)) (rules.after_restart state)
 
 -- the change of a call and that of its operation keep the names the same
 abbrev pub CallsKeepNames : Type 0
@@ -73,7 +72,7 @@ pub record KeepsNamePeaks (slots : SessionSlots) (state : State) (s : ℕ) : Typ
   pub writes : (n : ℕ) (change : Option (List ℕ)) → SamePeaks (after_write slots s n (size_in_page change)) (rules.after_write state s (n, change))
   pub commits : SamePeaks (after_end slots s) (rules.after_commit state s)
   pub aborts : SamePeaks (after_end slots s) (rules.after_abort state s)
-  pub restarts : SamePeaks (replicate SESSIONS None) (rules.after_restart state)
+  pub restarts : SamePeaks (replicate (length slots) None) (rules.after_restart state)
 
 abbrev pub CallsKeepPeaks : Type 0
 CallsKeepPeaks = (slots : SessionSlots) (state : State) (s : ℕ) → s < length slots → All IsSized slots → SameNames (state_of slots) state
@@ -83,7 +82,7 @@ CallsKeepPeaks = (slots : SessionSlots) (state : State) (s : ℕ) → s < length
 
 -- sessions that have the names of a state refuse a batch as that state does
 abbrev pub BatchesRefuseAsStates : Type 0
-BatchesRefuseAsStates = (slots : SessionSlots) (limits : Limits) (state : State) → limits.sessions ≡ SESSIONS → SameNames (state_of slots) state
+BatchesRefuseAsStates = (slots : SessionSlots) (limits : Limits) (state : State) → limits.sessions ≡ length slots → SameNames (state_of slots) state
     → (ss : List ℕ) → refuses_batch slots ss ≡ refusals.refuses_batch limits state ss
 
 -- and they have its names after it
@@ -95,3 +94,16 @@ BatchesKeepNames = (slots : SessionSlots) (state : State) (ss : List ℕ) → ((
 abbrev pub BatchesKeepPeaks : Type 0
 BatchesKeepPeaks = (slots : SessionSlots) (state : State) (ss : List ℕ) → ((s : ℕ) → Contains ss s → s < length slots)
     → SamePeaks slots state → SamePeaks (after_batch slots ss) (rules.after_batch state ss)
+
+-- ---- the number of sessions
+
+-- no call changes how many slots there are
+pub record KeepsSlots (slots : SessionSlots) (s : ℕ) : Type 0 where
+  pub begins : (number : ℕ) → length (after_begin slots s number) ≡ length slots
+  pub shares : (n : ℕ) → length (after_share slots s n) ≡ length slots
+  pub writes : (n size : ℕ) → length (after_write slots s n size) ≡ length slots
+  pub ends : length (after_end slots s) ≡ length slots
+  pub batches : (ss : List ℕ) → length (after_batch slots ss) ≡ length slots
+
+abbrev pub CallsKeepSlots : Type 0
+CallsKeepSlots = (slots : SessionSlots) (s : ℕ) → KeepsSlots slots s

@@ -1,7 +1,8 @@
-//! The open sessions of a store, 32 at most, with the names that each wrote, the greatest size of
-//! its writes on each, and the names that it shares: who may write what, and who holds it. It
-//! follows the rules of `ipl_rules`, and asks nothing of a chip. A contract sees a list of 32 slots,
-//! each without a session or with its number, names and sizes.
+//! The open sessions of a store, with the names that each wrote, the greatest size of its writes on
+//! each, and the names that it shares: who may write what, and who holds it. How many sessions there
+//! are, 32 at most, is said when its memory is taken, and stays. It follows the rules of `ipl_model`,
+//! and asks nothing of a chip. A contract sees a list of as many slots, each without a session or
+//! with its number, names and sizes.
 //!
 //! Proved, by `Sessions`, `lock_laws`: who may share and write what: refused exactly where the
 //! rules say, in their order, naming the least holder or the unit; a batch closes all of its

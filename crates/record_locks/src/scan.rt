@@ -8,7 +8,7 @@ ghost use Rattle.record_locks.specs.Standing.{slot_of, session_of, keeps_from, l
 ghost use Rattle.record_locks.specs.Locks.{IsSized};
 
 use crate::session::OpenSession;
-use ipl_base::{Name, SESSIONS};
+use ipl_base::Name;
 
 /// What the names of a unit that the session in a slot wrote weigh.
 fn weigh_slot(slot: &Option<OpenSession>, unit: u32) -> u32
@@ -100,13 +100,13 @@ pub(crate) fn find_holder(
     None
 }
 
-/// Fills an empty list with a slot for each session, without a session.
-pub fn fill(slots: &mut Vec<Option<OpenSession>>)
+/// Fills an empty list with a slot for each of so many sessions, without a session.
+pub fn fill(slots: &mut Vec<Option<OpenSession>>, sessions: u32)
     requires empty { slots.old.items ≡ [] }
-    requires room { SESSIONS ≤ vec_capacity slots.old }
-    ensures { slots.new.items ≡ replicate SESSIONS None }
+    requires room { sessions ≤ vec_capacity slots.old }
+    ensures { slots.new.items ≡ replicate sessions None }
 {
-    for _ in 0..SESSIONS {
+    for _ in 0..sessions {
         slots.push_reserved(None);
     }
 }

@@ -11,7 +11,7 @@ mod refusals;
 
 use crate::scan::{fill, find_holder, peak_in_slot, peak_of, weigh_pending};
 use crate::session::{OpenSession, share_in, write_in};
-use ipl_base::{Name, OutOfMemory, Refusal, SESSIONS};
+use ipl_base::{Name, OutOfMemory, Refusal};
 use std::alloc::Global;
 use std::marker::Model;
 
@@ -36,18 +36,27 @@ impl Model for Sessions {
 }
 
 impl Sessions {
-    /// No session is open.
-    pub fn new(alloc: Global) -> Result<Sessions, OutOfMemory>
-        ensures { IfOk result (λ sessions. sessions ≡ replicate SESSIONS None) }
+    /// Room for so many sessions, 32 at most, none of which is open.
+    pub fn new(alloc: Global, sessions: u32) -> Result<Sessions, OutOfMemory>
+        requires { sessions ≤ SESSIONS }
+        ensures { IfOk result (λ opened. opened ≡ replicate sessions None) }
     {
-        let mut slots = Vec::with_capacity(alloc, SESSIONS as usize)?;
-        fill(&mut slots);
+        let mut slots = Vec::with_capacity(alloc, sessions as usize)?;
+        fill(&mut slots, sessions);
         Ok(Sessions { slots })
+    }
+
+    /// How many sessions there are. Their numbers are those below it.
+    pub fn count(&self) -> u32
+        ensures count { result ≡ length self.now }
+        ensures few { result ≤ SESSIONS }
+    {
+        self.slots.len() as u32
     }
 
     /// Opens a session.
     pub fn begin(&mut self, s: u32, number: u64) -> Result<(), Refusal>
-        requires { s < SESSIONS }
+        requires { s < length self.old }
         ensures refusal { result_err result ≡ refuses_begin self.old s }
         ensures ok { OnOk result (self.new ≡ after_begin self.old s number) }
         ensures err { OnErr result (self.new ≡ self.old) }
@@ -61,7 +70,7 @@ impl Sessions {
 
     /// Adds a name to those that a session shares, unless it wrote or shares the name.
     pub fn share(&mut self, s: u32, name: Name) -> Result<(), Refusal>
-        requires { s < SESSIONS }
+        requires { s < length self.old }
         ensures refusal { result_err result ≡ refuses_share self.old s name.0 }
         ensures ok { OnOk result (self.new ≡ after_share self.old s name.0) }
         ensures err { OnErr result (self.new ≡ self.old) }
@@ -76,7 +85,7 @@ impl Sessions {
     /// Adds a name to those that a session wrote, unless it is among them. `size` is what the write
     /// takes in its page: 3 bytes and the value's, or 0 for a delete; the greatest is kept.
     pub fn write(&mut self, s: u32, name: Name, size: u32) -> Result<(), Refusal>
-        requires { s < SESSIONS }
+        requires { s < length self.old }
         ensures refusal { result_err result ≡ refuses_write self.old s name.0 size }
         ensures ok { OnOk result (self.new ≡ after_write self.old s name.0 size) }
         ensures err { OnErr result (self.new ≡ self.old) }
@@ -90,7 +99,7 @@ impl Sessions {
 
     /// Closes a session, for a commit or an abort.
     pub fn end(&mut self, s: u32) -> Result<(), Refusal>
-        requires { s < SESSIONS }
+        requires { s < length self.old }
         ensures refusal { result_err result ≡ refuses_end self.old s }
         ensures ok { OnOk result (self.new ≡ after_end self.old s) }
         ensures err { OnErr result (self.new ≡ self.old) }
@@ -118,10 +127,11 @@ impl Sessions {
 
     /// Closes all sessions. It takes no memory.
     pub fn reset(&mut self)
-        ensures { self.new ≡ replicate SESSIONS None }
+        ensures { self.new ≡ replicate (length self.old) None }
     {
+        let sessions = self.count();
         self.slots.clear();
-        fill(&mut self.slots);
+        fill(&mut self.slots, sessions);
     }
 
     /// The least other session that keeps session `s` from writing a name, or from sharing it.
@@ -158,17 +168,17 @@ impl Sessions {
     /// The greatest size of the writes of a session on a name that it wrote. No other session wrote the
     /// name, so it is the greatest of all, and this session alone is asked.
     pub fn size_by(&self, s: u32, name: Name) -> u32
-        requires session { s < SESSIONS }
+        requires session { s < length self.now }
         requires wrote { is_among name.0 (written_of self.now s) ≡ true }
         ensures { result ≡ peaks_in self.now name.0 - 1 }
     {
         peak_in_slot(&self.slots[s as usize], name).saturating_sub(1) as u32
     }
 
-    /// What always holds: there are 32 slots, no name is written by two sessions, each that is written
-    /// has its size, and the pending names of each unit weigh at most 48.
+    /// What always holds: there are 32 slots at most, no name is written by two sessions, each that is
+    /// written has its size, and the pending names of each unit weigh at most 48.
     pub fn facts(&self)
-        ensures all { length self.now ≡ SESSIONS }
+        ensures all { length self.now ≤ SESSIONS }
         ensures one_writer { OneWriter self.now }
         ensures sized { All IsSized self.now }
         ensures few { FewPending self.now }
@@ -178,7 +188,7 @@ impl Sessions {
 
     /// The transaction number of a session, where it is open.
     pub fn number(&self, s: u32) -> Option<u64>
-        requires { s < SESSIONS }
+        requires { s < length self.now }
         ensures { result ≡ number_of self.now s }
     {
         match &self.slots[s as usize] {
@@ -189,7 +199,7 @@ impl Sessions {
 
     /// The names that a session wrote, the oldest first; none where it isn't open.
     pub fn written(&self, s: u32) -> &[Name]
-        requires { s < SESSIONS }
+        requires { s < length self.now }
         ensures names { map (λ n. n.0) result.now ≡ written_of self.now s }
         ensures fits { length result.now ≤ 256 }
     {
@@ -201,7 +211,7 @@ impl Sessions {
 
     /// The names that a session shares, the oldest first; none where it isn't open.
     pub fn shared(&self, s: u32) -> &[Name]
-        requires { s < SESSIONS }
+        requires { s < length self.now }
         ensures names { map (λ n. n.0) result.now ≡ shared_of self.now s }
         ensures fits { length result.now ≤ 256 }
     {
@@ -215,7 +225,7 @@ impl Sessions {
 impl Sessions {
     /// Closes a session, if it is open.
     fn close(&mut self, s: u32)
-        requires { s < SESSIONS }
+        requires { s < length self.old }
         ensures { self.new ≡ after_end self.old s }
     {
         self.slots[s as usize] = None;
@@ -223,7 +233,7 @@ impl Sessions {
 
     /// Closes these sessions, each that is open.
     fn close_all(&mut self, numbers: &[u32])
-        requires { (s : ℕ) → Contains numbers.now s → s < SESSIONS }
+        requires { (s : ℕ) → Contains numbers.now s → s < length self.old }
         ensures { self.new ≡ after_batch self.old numbers.now }
     {
         for s in numbers {

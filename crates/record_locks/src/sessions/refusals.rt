@@ -1,24 +1,23 @@
 //! When the calls on sessions are refused.
-ghost use Rattle.std.specs.Prelude.{◌≡◌, ◌<◌, ◌+◌, length, nat_le, not};
+ghost use Rattle.std.specs.Prelude.{◌≡◌, ◌<◌, ◌+◌, false, length, nat_le, not};
 ghost use Rattle.std.specs.List.{find, list_any, range_with_len};
-ghost use Rattle.ipl_base.specs.declared.limits.TheConstants.{SESSIONS};
 ghost use Rattle.ipl_model.specs.Peaks.{overloads};
 ghost use Rattle.record_locks.specs.Held.{peaks_in};
 ghost use Rattle.ipl_model.specs.State.{is_open_session, writes_of, shared_of, written_names};
-ghost use Rattle.ipl_model.specs.Refusals.{is_new_write, is_new_share};
+ghost use Rattle.ipl_model.specs.Refusals.{is_new_write, is_new_share, is_twice};
 ghost use Rattle.record_locks.specs.Standing.{state_of};
 ghost use Rattle.record_locks.specs.Locks.{refuses_share, refuses_write, refuses_batch, refuses_close};
 
 use super::Sessions;
 use crate::session::is_listed;
-use ipl_base::{Name, PENDING_WEIGHT, Refusal, SESSIONS, UNIT_NAMES};
-use ipl_model::{has_bad_session, least_twice, weight_of};
+use ipl_base::{Name, PENDING_WEIGHT, Refusal, UNIT_NAMES};
+use ipl_model::{least_twice, weight_of};
 
 impl Sessions {
     /// Whether a session is open.
     #[tactic(auto, using(crate::proofs::StandingLemmas::open_at))]
     pub fn is_open(&self, s: u32) -> bool
-        requires { s < SESSIONS }
+        requires { s < length self.now }
         ensures { result ≡ is_open_session (state_of self.now) s }
     {
         self.slots[s as usize].is_some()
@@ -28,8 +27,7 @@ impl Sessions {
     fn is_closed(&self, s: u32) -> bool
         ensures { result ≡ not (is_open_session (state_of self.now) s) }
     {
-        let _ = &self.slots;
-        s >= SESSIONS || !self.is_open(s)
+        s >= self.count() || !self.is_open(s)
     }
 
     /// Whether one of these sessions isn't open.
@@ -42,7 +40,7 @@ impl Sessions {
     /// Whether a session did not write a name.
     #[tactic(auto, using(crate::proofs::StandingLemmas::new_write_at))]
     fn is_new_write(&self, s: u32, name: Name) -> bool
-        requires { s < SESSIONS }
+        requires { s < length self.now }
         ensures { result ≡ is_new_write (state_of self.now) s name.0 }
     {
         !is_listed(self.written(s), name)
@@ -51,7 +49,7 @@ impl Sessions {
     /// Whether a session neither wrote nor shares a name.
     #[tactic(auto, using(crate::proofs::StandingLemmas::new_share_at))]
     fn is_new_share(&self, s: u32, name: Name) -> bool
-        requires { s < SESSIONS }
+        requires { s < length self.now }
         ensures { result ≡ is_new_share (state_of self.now) s name.0 }
     {
         !is_listed(self.written(s), name) && !is_listed(self.shared(s), name)
@@ -60,7 +58,7 @@ impl Sessions {
     /// Whether a session wrote 256 names.
     #[tactic(auto, using(crate::proofs::TotalLemmas::names_counted))]
     fn has_full_writes(&self, s: u32) -> bool
-        requires { s < SESSIONS }
+        requires { s < length self.now }
         ensures { result ≡ nat_le 256 (length (written_names (writes_of (state_of self.now) s))) }
     {
         let _ = &self.slots;
@@ -70,7 +68,7 @@ impl Sessions {
     /// Whether a session shares 256 names.
     #[tactic(auto, using(crate::proofs::StandingLemmas::shares_counted))]
     fn has_full_shares(&self, s: u32) -> bool
-        requires { s < SESSIONS }
+        requires { s < length self.now }
         ensures { result ≡ nat_le 256 (length (shared_of (state_of self.now) s)) }
     {
         self.shared(s).len() >= 256
@@ -78,7 +76,7 @@ impl Sessions {
 
     /// Why a share is refused, if it is.
     pub fn refuses_share(&self, s: u32, name: Name) -> Option<Refusal>
-        requires { s < SESSIONS }
+        requires { s < length self.now }
         ensures { result ≡ refuses_share self.now s name.0 }
     {
         if !self.is_open(s) {
@@ -104,7 +102,7 @@ impl Sessions {
 
     /// Why a write is refused, if it is.
     pub fn refuses_write(&self, s: u32, name: Name, size: u32) -> Option<Refusal>
-        requires { s < SESSIONS }
+        requires { s < length self.now }
         ensures { result ≡ refuses_write self.now s name.0 size }
     {
         if !self.is_open(s) {
@@ -122,14 +120,31 @@ impl Sessions {
         None
     }
 
+    /// Whether one of these is no session's number.
+    fn has_bad_session(&self, numbers: &[u32]) -> bool
+        ensures { result ≡ list_any (λ s. nat_le (length self.now) s) numbers.now }
+    {
+        let count = self.count();
+        numbers.iter().any(|s| *s >= count)
+    }
+
+    /// The least of these sessions that is named twice, or more often.
+    fn least_twice(&self, numbers: &[u32]) -> Option<u32>
+        requires { list_any (λ s. nat_le (length self.now) s) numbers.now ≡ false }
+        ensures { result ≡ find (is_twice numbers.now) (range_with_len 0 (length self.now)) }
+    {
+        let _ = &self.slots;
+        least_twice(numbers)
+    }
+
     /// Why a commit of several sessions is refused, if it is.
     pub fn refuses_batch(&self, numbers: &[u32]) -> Option<Refusal>
         ensures { result ≡ refuses_batch self.now numbers.now }
     {
-        if has_bad_session(numbers) {
+        if self.has_bad_session(numbers) {
             return Some(Refusal::BadSession);
         }
-        if let Some(s) = least_twice(numbers) {
+        if let Some(s) = self.least_twice(numbers) {
             return Some(Refusal::Twice(s));
         }
         if self.has_closed(numbers) {
@@ -140,9 +155,9 @@ impl Sessions {
 
     /// The least session that is open, if one is.
     fn least_open(&self) -> Option<u32>
-        ensures { result ≡ find (is_open_session (state_of self.now)) (range_with_len 0 SESSIONS) }
+        ensures { result ≡ find (is_open_session (state_of self.now)) (range_with_len 0 (length self.now)) }
     {
-        for s in 0..SESSIONS {
+        for s in 0..self.count() {
             if self.is_open(s) {
                 return Some(s);
             }

@@ -1,6 +1,6 @@
 use Rattle.record_locks.proofs.SameLemmas.{alike, refuse_as, peaks_are}
 use Rattle.record_locks.proofs.KeepLemmas.{keeps_names, keeps_peaks}
-use Rattle.record_locks.proofs.BatchLemmas.{batches_refuse, batches_keep_names, batches_keep_peaks}
+use Rattle.record_locks.proofs.BatchLemmas.{batches_refuse, batches_keep_names, batches_keep_peaks, calls_keep_slots}
 use Rattle.record_locks.proofs.laws.lock_laws.Goals as goal
 
 pub returns-clause-names : goal.returns-clause-names
@@ -26,3 +26,6 @@ returns-clause-closes c = batches_keep_names
 
 pub returns-clause-leaves : goal.returns-clause-leaves
 returns-clause-leaves c = batches_keep_peaks
+
+pub returns-clause-slots : goal.returns-clause-slots
+returns-clause-slots c = calls_keep_slots

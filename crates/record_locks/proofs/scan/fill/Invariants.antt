@@ -1,6 +1,5 @@
 use Rattle.std.proofs.Common.{◌≡◌, ◌≤◌, None, replicate, vec_len, vec_capacity}
-use Rattle.ipl_base.specs.declared.limits.TheConstants.{SESSIONS}
 use Rattle.record_locks.proofs.scan.fill.Given as goal
 
 abbrev pub invariant-loop : goal.invariant-loop
-invariant-loop l = record { items : l.slots.items ≡ replicate l.counter None; len : vec_len l.slots ≡ l.counter; room : SESSIONS ≤ vec_capacity l.slots }
+invariant-loop l = record { items : l.slots.items ≡ replicate l.counter None; len : vec_len l.slots ≡ l.counter; room : l.sessions ≤ vec_capacity l.slots }

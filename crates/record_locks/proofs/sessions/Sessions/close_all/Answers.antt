@@ -7,4 +7,5 @@ pub close-requires : goal.close-requires
 close-requires c =
     let numbers = c.args.numbers.now in
     let within : c.loop-s.s-index < length numbers = omega (arith, c.loop-s-test.true) in
-    c.requires (slice_index_or numbers c.loop-s.s-index 0) (Contains-get_or numbers c.loop-s.s-index 0 within)
+    let asked = c.requires (slice_index_or numbers c.loop-s.s-index 0) (Contains-get_or numbers c.loop-s.s-index 0 within) in
+    omega (arith, asked, c.loop-s.invariant.all)

@@ -5,5 +5,5 @@ use Rattle.record_locks.proofs.sessions.Sessions.new.Goals as goal
 
 pub invariant_of-result : goal.invariant_of-result
 invariant_of-result c =
-    let none : c.fill.new.slots.items ≡ replicate 32 None = search rules in
-    subst AreSoundSlots (sym none) sound_none
+    let none : c.fill.new.slots.items ≡ replicate c.args.sessions None = search rules in
+    subst AreSoundSlots (sym none) (sound_none c.args.sessions c.requires)

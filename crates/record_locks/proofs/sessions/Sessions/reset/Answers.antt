@@ -5,5 +5,5 @@ use Rattle.record_locks.proofs.sessions.Sessions.reset.Goals as goal
 
 pub invariant_of-self : goal.invariant_of-self
 invariant_of-self c =
-    let none : c.fill.new.slots.items ≡ replicate 32 None = search rules in
-    subst AreSoundSlots (sym none) sound_none
+    let none : c.fill.new.slots.items ≡ replicate c.count-sessions.result None = search rules in
+    subst AreSoundSlots (sym none) (sound_none c.count-sessions.result c.count-sessions.ensures.few)

@@ -7,7 +7,7 @@ use Rattle.record_locks.proofs.sessions.Sessions.share.Goals as goal
 pub share_in-requires : goal.share_in-requires
 share_in-requires c =
     let slots = c.self.inside.slots.items in
-    let within : c.args.s < length slots = omega arith in
+    let within : c.args.s < length slots = omega (arith, ap (λ (v : SessionSlots). length v) c.self.view_is) in
     let held : held_at slots c.args.s ≡ c.index_mut.result.now = slot_held slots c.args.s c.index_mut.result.now within c.index_mut.ensures.value in
     let none : refuses_share slots c.args.s c.args.name.0 ≡ None =
     ap (λ (v : SessionSlots). refuses_share v c.args.s c.args.name.0) c.self.view_is ∙ sym c.refuses_share.ensures ∙ c.in_default.is in
@@ -16,7 +16,7 @@ share_in-requires c =
 pub invariant_of-self : goal.invariant_of-self
 invariant_of-self c =
     let slots = c.self.inside.slots.items in
-    let within : c.args.s < length slots = omega arith in
+    let within : c.args.s < length slots = omega (arith, ap (λ (v : SessionSlots). length v) c.self.view_is) in
     let held : held_at slots c.args.s ≡ c.index_mut.result.now = slot_held slots c.args.s c.index_mut.result.now within c.index_mut.ensures.value in
     subst (λ (o : Option Held). AreSoundSlots (set slots c.args.s o)) (sym c.share_in.ensures)
     (sound_shared slots c.args.s c.args.name.0 c.index_mut.result.now c.self.invariant within held)

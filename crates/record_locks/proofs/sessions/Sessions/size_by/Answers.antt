@@ -9,7 +9,7 @@ use Rattle.record_locks.proofs.sessions.Sessions.size_by.Goals as goal
 pub returns : goal.returns
 returns c =
     let slots = c.self.inside.slots.items in
-    let within : c.args.s < length slots = omega arith in
+    let within : c.args.s < length slots = omega (arith, ap (λ (v : SessionSlots). length v) c.self.view_is) in
     let held : held_at c.args.self.now c.args.s ≡ c.index.result.now =
     ap (λ (v : SessionSlots). held_at v c.args.s) (sym c.self.view_is)
     ∙ slot_held slots c.args.s c.index.result.now within c.index.ensures in

@@ -7,7 +7,7 @@ use Rattle.record_locks.proofs.sessions.Sessions.write.Goals as goal
 pub write_in-requires-clause-room : goal.write_in-requires-clause-room
 write_in-requires-clause-room c =
     let slots = c.self.inside.slots.items in
-    let within : c.args.s < length slots = omega arith in
+    let within : c.args.s < length slots = omega (arith, ap (λ (v : SessionSlots). length v) c.self.view_is) in
     let held : held_at slots c.args.s ≡ c.index_mut.result.now = slot_held slots c.args.s c.index_mut.result.now within c.index_mut.ensures.value in
     let none : refuses_write slots c.args.s c.args.name.0 c.args.size ≡ None =
     ap (λ (v : SessionSlots). refuses_write v c.args.s c.args.name.0 c.args.size) c.self.view_is ∙ sym c.refuses_write.ensures ∙ c.in_default.is in
@@ -16,7 +16,7 @@ write_in-requires-clause-room c =
 pub invariant_of-self : goal.invariant_of-self
 invariant_of-self c =
     let slots = c.self.inside.slots.items in
-    let within : c.args.s < length slots = omega arith in
+    let within : c.args.s < length slots = omega (arith, ap (λ (v : SessionSlots). length v) c.self.view_is) in
     let held : held_at slots c.args.s ≡ c.index_mut.result.now = slot_held slots c.args.s c.index_mut.result.now within c.index_mut.ensures.value in
     let none : refuses_write slots c.args.s c.args.name.0 c.args.size ≡ None =
     ap (λ (v : SessionSlots). refuses_write v c.args.s c.args.name.0 c.args.size) c.self.view_is ∙ sym c.refuses_write.ensures ∙ c.in_default.is in
