@@ -28,7 +28,7 @@ use Rattle.txn_status.specs.Adding.{with_added, layout_added, Added}
 use Rattle.store_laws.specs.Pending.{name_at, wrote, IsWrittenOut}
 use Rattle.store_laws.specs.PendingLaws.{StateHasOneWriter, NumbersJoin, JoinInTurn}
 use Rattle.store_laws.specs.Frames.{PageFrame, Frames, logs_of}
-use Rattle.store_laws.specs.Fits.{LocksHold, AreSessionsOf}
+use Rattle.store_laws.specs.Fits.{LocksHold}
 use Rattle.store_laws.specs.StepLaws.{AreOpen}
 use Rattle.store_laws.proofs.ActiveLemmas.{is_listed}
 use Rattle.store_laws.proofs.PendingBatchLemmas.{batch_shows, batches_say_writes}
@@ -90,11 +90,9 @@ numbers_join committed tids n =
 
 -- ---- open sessions, none named twice, that have no record in memory
 
--- where the locks hold, so that there are 32 slots
-are_open : (slots : SessionSlots) (state : State) (ss : List ℕ) → AreSessionsOf slots state
-    → AreOpenSessions slots ss → AreOpen slots ss
-are_open slots state ss are opened = record {
-  within = λ s there. omega (arith, are.locked.all, (opened.opens s there).low);
+are_open : (slots : SessionSlots) (ss : List ℕ) → AreOpenSessions slots ss → AreOpen slots ss
+are_open slots ss opened = record {
+  within = λ s there. (opened.opens s there).low;
   number = λ s there. let o = opened.opens s there in (o.number, o.number_is);
   once = opened.once;
 }
@@ -135,7 +133,7 @@ module _ (ss : List ℕ) (before : Memory) (opened : AreOpenSessions before.slot
         → JoinInTurn (number_of before.slots) (logs_of before.frames) state ss it.committed
         committed
     join_so committed joins = sessions_join places c it t before.frames before.slots state ss
-        committed fits (are_open before.slots state ss fits.sessions opened) written_out joins
+        committed fits (are_open before.slots ss opened) written_out joins
 
     -- with the frames settled, and tables of the numbers, all fits
     pub batch_fits : (y : Chart) (later : Tables) (frames : Frames) (committed : ℕ → Bool)
@@ -150,7 +148,7 @@ module _ (ss : List ℕ) (before : Memory) (opened : AreOpenSessions before.slot
         (slots_after before.slots ss)) (after_batch state ss)
     batch_fits y later frames committed joins settles locked mirrors more none_lost keeps =
         batches_fit places c y it t later before.frames frames before.slots state ss committed fits
-        (are_open before.slots state ss fits.sessions opened) written_out joins
+        (are_open before.slots ss opened) written_out joins
         (applied_in_turn places c it before.frames frames before.slots (number_of before.slots)
         state ss committed (fits_wait places c it t before.frames before.slots state fits)
         (distinct ss opened.once) (all_left before.slots state ss fits.sessions)

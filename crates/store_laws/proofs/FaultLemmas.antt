@@ -20,7 +20,7 @@ use Rattle.store_trait.specs.declared.fault.Fault.{Fault}
 use Rattle.store_trait.specs.Keeping.{WorkLeaves, WorksFor}
 use Rattle.store_trait.proofs.UnusedLemmas.{unused_none}
 use Rattle.store_laws.specs.Advances.{KeepsMapOf}
-use Rattle.store_laws.specs.Keeps.{View, limits_of, KeepsStore, store_keeping, keeps_each, OpenedStoresKeep, IdleFaultsAreWork, IdleFaultsLookUp, FaultsThatLeaveDown}
+use Rattle.store_laws.specs.Keeps.{View, limits_in, KeepsStore, store_keeping, keeps_each, OpenedStoresKeep, IdleFaultsAreWork, IdleFaultsLookUp, FaultsThatLeaveDown}
 use Rattle.store_laws.proofs.KeepLemmas.{IsAt, is_at, work_leaves, at_limits}
 
 -- ---- a store whose chip was opened
@@ -81,7 +81,7 @@ idle_faults_look_up pages n store told late limits state h keeps low = record {
 }
 
 pub faults_that_leave_down : FaultsThatLeaveDown
-faults_that_leave_down pages c before after fault old new units up down preserves drawn excused limits
+faults_that_leave_down pages c before after fault old new same up down preserves drawn excused limits
     state h keeps =
     subst (λ (l : Limits). WorksFor (store_keeping old.places pages) l state c before h (Err fault) after old new)
     (sym keeps.limits_are) (record {
@@ -91,7 +91,7 @@ faults_that_leave_down pages c before after fault old new units up down preserve
           (λ later e split x image. inl (moments later e split x image));
       ends = λ unrisen. (
         record {
-          limits_are = ap limits_of (sym units);
+          limits_are = sym same;
           steady = way.steady unrisen;
           rests = way.ends unrisen;
           many =
@@ -100,7 +100,7 @@ faults_that_leave_down pages c before after fault old new units up down preserve
               way.added moments (held k.start k.story)
               (held_is_image (says sector_in) k.start k.story) in
               rests_in_units old.places (of pages state.map) k is.stands.layout (way.ends unrisen) is.stands.laid
-              ∙ is.count ∙ sym units;
+              ∙ is.count ∙ sym (ap (λ (l : Limits). l.units) same);
           up = λ runs. absurd (let clash : true ≡ false = sym down ∙ runs in cc clash);
         },
         tt,
@@ -110,7 +110,7 @@ faults_that_leave_down pages c before after fault old new units up down preserve
       tells = (excused h state own).1;
     })
   where
-    own : KeepsStore old.places pages (limits_of before.units) before old h state
+    own : KeepsStore old.places pages (limits_in before) before old h state
     own = at_limits old.places pages limits before old h state keeps
 
     here : IsAt pages before old state h

@@ -6,10 +6,10 @@ use Rattle.std.specs.Ordering.{nat_cmp}
 use Rattle.std.proofs.lemmas.Bool.{cases_eq, cases_lt}
 use Rattle.std.proofs.lemmas.List.{get_or-append_right, get_or-replicate, get_or_past, length-replicate}
 use Rattle.std.proofs.lemmas.List.FromFn.{get_or-range_with_len, length-range_with_len}
-use Rattle.ipl_base.specs.declared.limits.TheConstants.{SESSIONS}
 use Rattle.ipl_model.specs.Peaks.{peaks_of}
 use Rattle.ipl_model.specs.State.{Session, at_rest}
 use Rattle.record_locks.specs.Held.{Held, slot_peaks}
+use Rattle.record_locks.specs.Locks.{AreSoundSlots}
 use Rattle.record_locks.specs.Names.{names_of, SamePeaks, SameNames}
 use Rattle.record_locks.specs.Standing.{slot_of, state_of}
 use Rattle.record_locks.proofs.StandingLemmas.{session_at}
@@ -36,24 +36,27 @@ none_at n s = elim (cases_lt s n) [
 ]
 
 pub empty_slots_are_at_rest : EmptySlotsAreAtRest
-empty_slots_are_at_rest m = record { names = names; peaks = peaked; locked = locked }
+empty_slots_are_at_rest sessions m few = record { names = names; peaks = peaked; locked = locked }
   where
-    names : SameNames (state_of (replicate SESSIONS None)) (at_rest m)
+    names : SameNames (state_of (replicate sessions None)) (at_rest m)
     names s =
         ap (option_map names_of)
-        (session_at (replicate SESSIONS None) s ∙ ap slot_of (none_at SESSIONS s) ∙ sym (get-empty nat_cmp s))
+        (session_at (replicate sessions None) s ∙ ap slot_of (none_at sessions s) ∙ sym (get-empty nat_cmp s))
 
-    peaked : SamePeaks (replicate SESSIONS None) (at_rest m)
+    peaked : SamePeaks (replicate sessions None) (at_rest m)
     peaked s n =
-        ap (λ (o : Option Held). slot_peaks o n) (none_at SESSIONS s)
+        ap (λ (o : Option Held). slot_peaks o n) (none_at sessions s)
         ∙ sym (ap (λ (o : Option Session). peaks_of (writes_in o) n) (get-empty nat_cmp s))
 
-    locked : LocksHold (replicate SESSIONS None)
+    sound : AreSoundSlots (replicate sessions None)
+    sound = sound_none sessions few
+
+    locked : LocksHold (replicate sessions None)
     locked = record {
-      all = sound_none.all;
-      one_writer = one_writer (replicate SESSIONS None) sound_none;
-      sized = sound_none.sized;
-      few = sound_none.few;
+      all = sound.all;
+      one_writer = one_writer (replicate sessions None) sound;
+      sized = sound.sized;
+      few = sound.few;
     }
 
 -- ---- the first tables
@@ -76,7 +79,7 @@ none_lost places units p low used = elim (cases_lt p units) [
 ]
 
 pub first_stores_fit : FirstStoresFit
-first_stores_fit places units least most keeps =
-    openings_fit places (formatted units) (first_layout units) (first_tables places units) (replicate 32 None) empty
+first_stores_fit places units sessions least most keeps few =
+    openings_fit places (formatted units) (first_layout units) (first_tables places units) (replicate sessions None) empty
     (first_tables_mirror places units least most keeps) (none_lost places units) refl
-    (λ s. ap (option_map (λ (h : Held). h.number)) (none_at 32 s)) (empty_slots_are_at_rest empty)
+    (λ s. ap (option_map (λ (h : Held). h.number)) (none_at sessions s)) (empty_slots_are_at_rest sessions empty few)

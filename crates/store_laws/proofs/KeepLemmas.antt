@@ -1,6 +1,6 @@
 -- What calls of a store leave, as a run over a script asks for it.
 use Rattle.std.specs.FinMap.{get}
-use Rattle.std.proofs.Common.{◌≡◌, ℕ, ◌⊎◌, ◌<◌, ◌≤◌, ◌*◌, true, false, [], ◌∷◌, Option, List, Result, MatchResult, IfOk, Ok, Err, is_ok, refl, sym, ◌∙◌, ap, subst, arith}
+use Rattle.std.proofs.Common.{◌≡◌, ℕ, ◌⊎◌, ◌<◌, ◌≤◌, ◌*◌, true, false, [], ◌∷◌, Option, List, Result, MatchResult, IfOk, Ok, Err, is_ok, refl, sym, ◌∙◌, ap, subst, arith, length}
 use Rattle.std.proofs.lemmas.Result.{IfErr-weaker}
 use Rattle.chip_trait.specs.Moment.{AtEachMoment, Leaves}
 use Rattle.chip_trait.specs.Chart.{says}
@@ -26,7 +26,7 @@ use Rattle.store_laws.specs.Fits.{AreSessionsOf}
 use Rattle.store_trait.specs.declared.fault.Fault.{Fault}
 use Rattle.store_trait.specs.Keeping.{AllOf, WORK_DRAWS, LOOK_UP_DRAWS, Excuses, WorkLeaves, WorksFor, LooksUpFor}
 use Rattle.store_laws.specs.Advances.{memory_of, MemoryFitsStory, ShowsNext, state_then, Advances, KeepsMapOf, TurnsMapOf}
-use Rattle.store_laws.specs.Keeps.{View, limits_of, ShowsState, FaultTells, KeepsStore, store_keeping, IsExcused, StepsAs, LeadsAreWork, KeepersLookUp}
+use Rattle.store_laws.specs.Keeps.{View, limits_of, limits_in, ShowsState, FaultTells, KeepsStore, store_keeping, IsExcused, StepsAs, LeadsAreWork, KeepersLookUp}
 use Rattle.store_laws.proofs.AdvanceLemmas.{same_held}
 
 -- ---- small facts
@@ -76,7 +76,7 @@ pub record IsAt (pages : Legibility) (store : View) (old : Told) (state : State)
   pub story : MemoryFitsStory old.places pages h shown.layout store.memory state
 
 pub is_at : (pages : Legibility) (store : View) (old : Told) (h : History) (state : State) → store.down ≡ false
-    → KeepsStore old.places pages (limits_of store.units) store old h state → IsAt pages store old state h
+    → KeepsStore old.places pages (limits_in store) store old h state → IsAt pages store old state h
 is_at pages store old h state up keeps = let runs = keeps.up up in record {
   steady = keeps.steady;
   sessions = runs.sessions;
@@ -116,7 +116,7 @@ work_leaves pages Each Then Else before after h state result old new P at did mo
 
 module _ {T E : Type 0} (pages : Legibility) (Each : ℕ → Legibility → State → History → Type 0) (next : State → State)
     (before after : View) (result : Result T E) (old new : Told) (state : State) (h : History)
-    (at : IsAt pages before old state h) (units : after.units ≡ before.units)
+    (at : IsAt pages before old state h) (same : limits_in after ≡ limits_in before)
     (advances : Advances Each next before.memory old result after.memory new) where
   abbrev places : ℕ
   places = old.places
@@ -132,21 +132,21 @@ module _ {T E : Type 0} (pages : Legibility) (Each : ℕ → Legibility → Stat
 
   -- what the store keeps then
   keeps_then : Settled result old new
-      → KeepsStore places pages (limits_of before.units) after new (adds_all did.added h) then
+      → KeepsStore places pages (limits_in before) after new (adds_all did.added h) then
   keeps_then settled =
       let (y, told_then, had) = advances.fits places refl settled (held h.start h.story)
       at.steady.holds in
       let at_end = had at.shown.layout state at.shown.fits in
       let showing : ShowsState places pages after then y = record {
         layout = at_end.layout;
-        count = at_end.shows.count ∙ at.shown.count ∙ sym units;
+        count = at_end.shows.count ∙ at.shown.count ∙ sym (ap (λ (l : Limits). l.units) same);
         fits = at_end.fits;
         says = says_next places pages (now h) (chart_of y) at.shown.layout at_end.layout state then
             at_end.shows at.shown.says;
       } in
       let k = adds_all did.added h in
       let steady = did.steady settled in record {
-        limits_are = ap limits_of (sym units);
+        limits_are = sym same;
         steady = steady;
         rests = rests_then result places pages next state k (did.ends settled);
         many = rests_in_units places (of pages then.map) k at_end.layout
@@ -168,7 +168,7 @@ module _ {T E : Type 0} (pages : Legibility) (Each : ℕ → Legibility → Stat
 -- the limits are those of the units
 pub at_limits : (places : ℕ) (pages : Legibility) (limits : Limits) (store : View) (t : Told) (h : History) (state : State)
     → KeepsStore places pages limits store t h state
-    → KeepsStore places pages (limits_of store.units) store t h state
+    → KeepsStore places pages (limits_in store) store t h state
 at_limits places pages limits store t h state keeps =
     subst (λ (l : Limits). KeepsStore places pages l store t h state) keeps.limits_are keeps
 
@@ -179,7 +179,7 @@ step_map limits state c next (Ok reply) is = sym (ap (λ (x : Stepped). x.0.map)
 step_map limits state c next (Err fault) is = sym is
 
 pub leads_are_work : LeadsAreWork
-leads_are_work pages c next before after result old new units up leads steps drawn excused limits state
+leads_are_work pages c next before after result old new same up leads steps drawn excused limits state
     h keeps =
     subst (λ (l : Limits). WorksFor (store_keeping old.places pages) l state c before h result after old new)
     (sym keeps.limits_are) (record {
@@ -189,13 +189,13 @@ leads_are_work pages c next before after result old new units up leads steps dra
           (subst (λ (m : Map). AtEachMoment (Leaves (says sector_in) (λ x.
           StandsIn old.places before.units (chart_of x) (of pages state.map)
           ⊎ StandsIn old.places before.units (chart_of x) (of pages m))
-          h) way.added) (step_map (limits_of before.units) state c (next state) result own_step)
+          h) way.added) (step_map (limits_in before) state c (next state) result own_step)
           (subst (λ (units : ℕ). AtEachMoment (λ e. EachStandsEitherIn old.places units (of pages state.map)
           (of pages (next state).map) (adds_all e h)) way.added) here.shown.count
           (moments_keep_units old.places (of pages state.map) (of pages (next state).map) h here.shown.layout way.added
           here.shown.fits.mirrors.laid way.each_moment)));
       ends = by_end result own_step
-          (keeps_then pages (TurnsMapOf next) next before after result old new state h here units
+          (keeps_then pages (TurnsMapOf next) next before after result old new state h here same
           leads);
       drawn = drawn pages h state own;
       excuse = IfErr-weaker result (IsExcused pages WORK_DRAWS before old new)
@@ -205,10 +205,10 @@ leads_are_work pages c next before after result old new units up leads steps dra
           (FaultTells (spares_on old.places before.units)) (λ fault excuse. (excuse h state own).1) excused;
     })
   where
-    own : KeepsStore old.places pages (limits_of before.units) before old h state
+    own : KeepsStore old.places pages (limits_in before) before old h state
     own = at_limits old.places pages limits before old h state keeps
 
-    own_step : StepsAs (limits_of before.units) state c (next state) result
+    own_step : StepsAs (limits_in before) state c (next state) result
     own_step = steps h state own
 
     here : IsAt pages before old state h
@@ -217,21 +217,21 @@ leads_are_work pages c next before after result old new units up leads steps dra
     way : Steps (TurnsMapOf next old.places pages state) before.memory.tables after.memory.tables
         (λ v k. StoryRests old.places (of pages (next state).map) k)
         (λ k. StoryRests old.places (of pages state.map) k) h result old new
-    way = did pages (TurnsMapOf next) next before after result old new state h here units leads
+    way = did pages (TurnsMapOf next) next before after result old new state h here same leads
 
     then : History
     then = adds_all way.added h
 
-    by_end : (r : Result Reply Fault) → StepsAs (limits_of before.units) state c (next state) r
-        → (Settled r old new → KeepsStore old.places pages (limits_of before.units) after new then
+    by_end : (r : Result Reply Fault) → StepsAs (limits_in before) state c (next state) r
+        → (Settled r old new → KeepsStore old.places pages (limits_in before) after new then
         (state_then r next state))
         → MatchResult r
-        (λ reply. KeepsStore old.places pages (limits_of before.units) after new then
-        (step (limits_of before.units) state c).0
-        × ((step (limits_of before.units) state c).1 ≡ reply ∷ []))
-        (λ fault. Unrisen old new → KeepsStore old.places pages (limits_of before.units) after new then state × Unit {0})
+        (λ reply. KeepsStore old.places pages (limits_in before) after new then
+        (step (limits_in before) state c).0
+        × ((step (limits_in before) state c).1 ≡ reply ∷ []))
+        (λ fault. Unrisen old new → KeepsStore old.places pages (limits_in before) after new then state × Unit {0})
     by_end (Ok reply) is kept = (
-      subst (λ (s : State). KeepsStore old.places pages (limits_of before.units) after new then s)
+      subst (λ (s : State). KeepsStore old.places pages (limits_in before) after new then s)
           (sym (ap (λ (x : Stepped). x.0) is)) (kept tt),
       ap (λ (x : Stepped). x.1) is,
     )
@@ -251,7 +251,7 @@ keepers_look_up pages n before after result old new units up slots keeper finds 
           here.shown.fits.mirrors.laid way.each_moment));
       ends = by_end result finds
           (keeps_then pages KeepsMapOf (λ state. state) before after result old new state h here
-          units whole);
+          same whole);
       drawn = drawn;
       excuse = IfErr-weaker result (IsExcused pages LOOK_UP_DRAWS before old new)
           (Excuses (store_keeping old.places pages) LOOK_UP_DRAWS before old new)
@@ -260,11 +260,14 @@ keepers_look_up pages n before after result old new units up slots keeper finds 
           (FaultTells (spares_on old.places before.units)) (λ fault excuse. (excuse h state own).1) excused;
     })
   where
-    own : KeepsStore old.places pages (limits_of before.units) before old h state
+    own : KeepsStore old.places pages (limits_in before) before old h state
     own = at_limits old.places pages limits before old h state keeps
 
     here : IsAt pages before old state h
     here = is_at pages before old h state up own
+
+    same : limits_in after ≡ limits_in before
+    same = λ i. limits_of (length (slots i)) (units i)
 
     whole : Advances KeepsMapOf (λ state. state) before.memory old result after.memory new
     whole = subst (λ (s : SessionSlots). Advances KeepsMapOf (λ state. state) before.memory old result
@@ -274,7 +277,7 @@ keepers_look_up pages n before after result old new units up slots keeper finds 
     way : Steps (KeepsMapOf old.places pages state) before.memory.tables after.memory.tables
         (λ v k. StoryRests old.places (of pages state.map) k)
         (λ k. StoryRests old.places (of pages state.map) k) h result old new
-    way = did pages KeepsMapOf (λ state. state) before after result old new state h here units whole
+    way = did pages KeepsMapOf (λ state. state) before after result old new state h here same whole
 
     then : History
     then = adds_all way.added h
@@ -284,12 +287,12 @@ keepers_look_up pages n before after result old new units up slots keeper finds 
 
     by_end : (r : Result (Option (List ℕ)) Fault)
         → IfOk r (λ found. (h : History) (state : State)
-        → KeepsStore old.places pages (limits_of before.units) before old h state
+        → KeepsStore old.places pages (limits_in before) before old h state
         → n < 960 * before.units → found ≡ get state.map n)
-        → (Settled r old new → KeepsStore old.places pages (limits_of before.units) after new then
+        → (Settled r old new → KeepsStore old.places pages (limits_in before) after new then
         (state_then r (λ state. state) state))
         → MatchResult r
-        (λ found. KeepsStore old.places pages (limits_of before.units) after new then state × (found ≡ get state.map n))
-        (λ fault. Unrisen old new → KeepsStore old.places pages (limits_of before.units) after new then state × Unit {0})
+        (λ found. KeepsStore old.places pages (limits_in before) after new then state × (found ≡ get state.map n))
+        (λ fault. Unrisen old new → KeepsStore old.places pages (limits_in before) after new then state × Unit {0})
     by_end (Ok found) found_is kept = (kept tt, found_is h state own low_here)
     by_end (Err fault) found_is kept = λ unrisen. (kept unrisen, tt)

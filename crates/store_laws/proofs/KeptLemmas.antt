@@ -17,7 +17,7 @@ use Rattle.store_laws.specs.Pending.{name_at}
 use Rattle.store_laws.specs.Frames.{PageFrame, Frames}
 use Rattle.store_laws.specs.Fits.{AreSessionsOf}
 use Rattle.store_laws.specs.Advances.{KeepsState}
-use Rattle.store_laws.specs.Keeps.{View, limits_of, ShowsState, KeepsStore, TellsName, KeptFramesTell}
+use Rattle.store_laws.specs.Keeps.{View, limits_in, ShowsState, KeepsStore, TellsName, KeptFramesTell}
 use Rattle.store_laws.proofs.RefusalLemmas.{accepted_are_done}
 use Rattle.store_laws.proofs.ViewLemmas.{shown_is_said, frames_tell_state}
 use Rattle.ipl_meaning.specs.Legible.{Legibility, IsToldApart}
@@ -25,7 +25,7 @@ use Rattle.ipl_meaning.specs.Legible.{Legibility, IsToldApart}
 -- ---- what it has
 
 pub kept_limits : (places : ℕ) (pages : Legibility) (limits : Limits) (store : View) (t : Told) (h : History) (state : State)
-    → KeepsStore places pages limits store t h state → limits ≡ limits_of store.units
+    → KeepsStore places pages limits store t h state → limits ≡ limits_in store
 kept_limits places pages limits store t h state keeps = keeps.limits_are
 
 pub kept_sessions : (places : ℕ) (pages : Legibility) (limits : Limits) (store : View) (t : Told) (h : History) (state : State)
@@ -54,13 +54,13 @@ pub kept_frames_tell_on : {T E : Type 0} (pages : Legibility) (v : T) (n : ℕ) 
     → IsToldApart pages → store.down ≡ false
     → KeepsState {T = T} {E = E} store.memory.tables store.memory.frames old (Ok v) t later new
     → later (home_of n).unit (home_of n).page ≡ Some f
-    → KeepsStore old.places pages (limits_of store.units) store old h state
+    → KeepsStore old.places pages (limits_in store) store old h state
     → TellsName store.memory.slots state n f
 kept_frames_tell_on pages v n store t later f h state old new apart up keeper there keeps =
     let places = old.places in
     let home = home_of n in
     let x = held h.start h.story in
-    let shown = kept_shown places pages (limits_of store.units) store old h state up keeps in
+    let shown = kept_shown places pages (limits_in store) store old h state up keeps in
     let (y, told_then, had) = (keeper store.memory.slots).fits places refl tt x
     keeps.steady.holds in
     let on = had shown.layout state shown.fits in

@@ -1,5 +1,5 @@
 -- Puts, once their page was brought into a frame: refused, written, or failed.
-use Rattle.std.proofs.Common.{◌≡◌, ℕ, Bool, true, false, [], ◌∷◌, List, Option, Some, None, Ok, refl, sym, ◌∙◌, ap, subst, if◌then◌else◌}
+use Rattle.std.proofs.Common.{◌≡◌, ℕ, Bool, true, false, [], ◌∷◌, List, Option, Some, None, Ok, refl, sym, ◌∙◌, ap, subst, if◌then◌else◌, length}
 use Rattle.std.specs.Option.{option_map_or}
 use Rattle.chip_trait.specs.Story.{held}
 use Rattle.chip_trait.specs.Told.{History, Told}
@@ -20,7 +20,7 @@ use Rattle.unit_io.specs.Reads.{OfContents}
 use Rattle.store_laws.specs.Frames.{PageFrame, Frames}
 use Rattle.store_laws.specs.Room.{overfills_at}
 use Rattle.store_laws.specs.Advances.{memory_of, KeepsState, LeadsTo}
-use Rattle.store_laws.specs.Keeps.{View, limits_of, ShowsState, KeepsStore}
+use Rattle.store_laws.specs.Keeps.{View, limits_of, limits_in, ShowsState, KeepsStore}
 use Rattle.store_laws.specs.Refusals.{sessions_refuse_put, PutsAnswer, FullPutsAreWork, WrittenPutsAreWork, FailedPutsLeaveTheMap}
 use Rattle.store_laws.proofs.KeepLemmas.{leads_are_work}
 use Rattle.store_laws.proofs.LeadLemmas.{answers_are_alike, keepers_lead, keepers_then_lead}
@@ -37,9 +37,9 @@ pub puts_answer_on : {T E : Type 0} (pages : Legibility) (v : T) (s n : ℕ) (by
     (later : Frames) (f : PageFrame) (old new : Told)
     → KeepsState {T = T} {E = E} store.memory.tables store.memory.frames old (Ok v) t later new
     → later (home_of n).unit (home_of n).page ≡ Some f
-    → sessions_refuse_put (limits_of store.units) store.memory.slots s n bytes ≡ None
+    → sessions_refuse_put (limits_in store) store.memory.slots s n bytes ≡ None
     → IsToldApart pages → OfContents old (λ x. (state : State) → ShowsState old.places pages store state x
-    → step (limits_of store.units) state (command.Put s n bytes)
+    → step (limits_in store) state (command.Put s n bytes)
     ≡ (if overfills_at (peaks_in store.memory.slots) n bytes f.values
     then (state, reply.Refused PageFull ∷ [])
     else (after_write state s (n, Some bytes), reply.Ok ∷ [])))
@@ -54,7 +54,7 @@ puts_answer_on pages v s n bytes store t later f old new keeper there passes apa
     (shown.says.pages home.unit home.page (rw on.shows.count at low) few
     (shown_is_said old.places pages (chart_of x) (chart_of y) shown.layout state.map (record { tables = t; frames = later; slots = store.memory.slots })
     state home.unit home.page f apart shown.says on there)) there in
-    accepted_are_done (limits_of store.units) store.memory.slots state (command.Put s n bytes)
+    accepted_are_done (limits_in store) store.memory.slots state (command.Put s n bytes)
     shown.fits.sessions passes
     ∙ ap (λ (full : Bool). if full then (state, reply.Refused PageFull ∷ [])
     else (after_write state s (n, Some bytes), reply.Ok ∷ [])) tells
@@ -69,10 +69,10 @@ kept_answer : (pages : Legibility) (s n : ℕ) (bytes : List ℕ) (store : View)
     (h : History) (state : State) (full : Bool) → IsToldApart pages → store.down ≡ false
     → KeepsState {T = Unit {0}} {E = ChipFault} store.memory.tables store.memory.frames old (Ok tt) t later mid
     → later (home_of n).unit (home_of n).page ≡ Some f
-    → sessions_refuse_put (limits_of store.units) store.memory.slots s n bytes ≡ None
+    → sessions_refuse_put (limits_in store) store.memory.slots s n bytes ≡ None
     → overfills_at (peaks_in store.memory.slots) n bytes f.values ≡ full
-    → KeepsStore old.places pages (limits_of store.units) store old h state
-    → step (limits_of store.units) state (command.Put s n bytes)
+    → KeepsStore old.places pages (limits_in store) store old h state
+    → step (limits_in store) state (command.Put s n bytes)
     ≡ (if full then (state, reply.Refused PageFull ∷ [])
     else (after_write state s (n, Some bytes), reply.Ok ∷ []))
 kept_answer pages s n bytes store t later f old mid h state full apart up keeper there passes is keeps =
@@ -84,7 +84,7 @@ kept_answer pages s n bytes store t later f old mid h state full apart up keeper
 pub full_puts_are_work : FullPutsAreWork
 full_puts_are_work pages s n bytes before after f old new apart units up slots keeper there passes full drawn =
     leads_are_work pages (command.Put s n bytes) (λ state. state) before after (Ok (reply.Refused PageFull)) old new
-    units up (answers_are_alike (λ state. state) before.memory after.memory (Ok tt) (Ok (reply.Refused PageFull)) old
+    (λ i. limits_of (length (slots i)) (units i)) up (answers_are_alike (λ state. state) before.memory after.memory (Ok tt) (Ok (reply.Refused PageFull)) old
     new refl kept) (λ h state keeps. kept_answer pages s n bytes before after.memory.tables after.memory.frames f old new h
     state true apart up keeper there passes full keeps) drawn tt
   where
@@ -94,10 +94,10 @@ full_puts_are_work pages s n bytes before after f old new apart units up slots k
         (keepers_lead before.memory after.memory.tables after.memory.frames (Ok tt) old new keeper)
 
 pub written_puts_are_work : WrittenPutsAreWork
-written_puts_are_work pages s n bytes before after t later f old mid new apart units up counts keeper there passes room leads
+written_puts_are_work pages s n bytes before after t later f old mid new apart same up counts keeper there passes room leads
     drawn =
     let next = λ (state : State). after_write state s (n, Some bytes) in
-    leads_are_work pages (command.Put s n bytes) next before after (Ok reply.Ok) old new units up
+    leads_are_work pages (command.Put s n bytes) next before after (Ok reply.Ok) old new same up
     (answers_are_alike next before.memory after.memory (Ok tt) (Ok reply.Ok) old new refl
     (keepers_then_lead next before.memory t later after.memory (Ok tt) old mid new counts keeper leads))
     (λ h state keeps. kept_answer pages s n bytes before t later f old mid h state false apart up keeper there passes room

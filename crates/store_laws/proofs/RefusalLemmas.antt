@@ -127,11 +127,11 @@ accepted_are_done limits slots state c are is =
     unrefused_steps limits state c (sym (slots_refuse limits slots state c are) ∙ is)
 
 pub refusals_lead : RefusalsLead
-refusals_lead units c r before old is =
-    next_states_are_alike (λ state. state) (λ state. (step (limits_of units) state c).0) before
+refusals_lead limits c r before old is =
+    next_states_are_alike (λ state. state) (λ state. (step limits state c).0) before
     before (Ok (reply.Refused r)) old old
     (λ places y it state fits. sym (ap (λ (x : Stepped). x.0)
-    (refusals_answer (limits_of units) before.slots state c r fits.sessions is)))
+    (refusals_answer limits before.slots state c r fits.sessions is)))
     (answers_are_alike (λ state. state) before before (Ok tt) (Ok (reply.Refused r)) old old refl
     (memory_leads (λ state. state) before before old (λ places y it state same fits. fits)
     (λ places y it state fits. refl) (λ p k counted. counted)))
@@ -160,8 +160,8 @@ unnumbered : (o : Option Held) → is_some o ≡ false → option_map (λ h. h.n
 unnumbered None is = refl
 unnumbered (Some h) is = absurd (cc is)
 
--- one of the 32 that is open
-open_session : (slots : SessionSlots) (s : ℕ) → s < 32 → is_open_session (state_of slots) s ≡ true
+-- one that is open
+open_session : (slots : SessionSlots) (s : ℕ) → s < length slots → is_open_session (state_of slots) s ≡ true
     → IsOpenSession slots s
 open_session slots s low opens =
     let (tid, is) = numbered (held_at slots s) (sym (open_at slots s) ∙ opens) in record {
@@ -172,7 +172,7 @@ open_session slots s low opens =
     }
 
 -- or that passed the test of being open
-passed_is_open : (slots : SessionSlots) (s : ℕ) (rest : List Test) → nat_le 32 s ≡ false
+passed_is_open : (slots : SessionSlots) (s : ℕ) (rest : List Test) → nat_le (length slots) s ≡ false
     → first_of (open_tests slots s rest) ≡ None → IsOpenSession slots s
 passed_is_open slots s rest low none =
     let passes = passed (not_open (state_of slots) s) rest none in
@@ -182,19 +182,19 @@ passed_is_open slots s rest low none =
 pub passed_begins : PassedBegins
 passed_begins units slots s none =
     let opened = already_open (state_of slots) s in
-    let (low, rest) = passed (bad_session (limits_of units) s) (opened ∷ []) none in
-    let in_range : nat_le 32 s ≡ false = low in
+    let (low, rest) = passed (bad_session (limits_of (length slots) units) s) (opened ∷ []) none in
+    let in_range : nat_le (length slots) s ≡ false = low in
     let closed = (passed opened [] rest).0 in
     (grind (arith, nat_tests), unnumbered (held_at slots s) (sym (open_at slots s) ∙ closed), rest)
 
 pub passed_ends : PassedEnds
 passed_ends units slots s none =
-    let (low, rest) = passed (bad_session (limits_of units) s) (open_tests slots s []) none in
+    let (low, rest) = passed (bad_session (limits_of (length slots) units) s) (open_tests slots s []) none in
     passed_is_open slots s [] low rest
 
 pub passed_batches : PassedBatches
 passed_batches units slots ss none =
-    let passes = batches_name_once (limits_of units) (state_of slots) ss none in record {
+    let passes = batches_name_once (limits_of (length slots) units) (state_of slots) ss none in record {
       opens = λ s there. open_session slots s (passes.within s there) (passes.opens s there);
       once = passes.once;
     }
@@ -219,13 +219,13 @@ one_is_open slots s opened = record {
 
 -- a session and a name that passed the first tests
 passed_name : (units : ℕ) (slots : SessionSlots) (s n : ℕ) (rest : List Test)
-    → first_of (bad_session (limits_of units) s ∷ bad_name (limits_of units) n
+    → first_of (bad_session (limits_of (length slots) units) s ∷ bad_name (limits_of (length slots) units) n
     ∷ open_tests slots s rest) ≡ None
     → ReachesName units slots s n × (first_of (open_tests slots s rest) ≡ None)
 passed_name units slots s n rest none =
-    let (low, named) = passed (bad_session (limits_of units) s)
-    (bad_name (limits_of units) n ∷ open_tests slots s rest) none in
-    let (known, later) = passed (bad_name (limits_of units) n) (open_tests slots s rest) named in
+    let (low, named) = passed (bad_session (limits_of (length slots) units) s)
+    (bad_name (limits_of (length slots) units) n ∷ open_tests slots s rest) none in
+    let (known, later) = passed (bad_name (limits_of (length slots) units) n) (open_tests slots s rest) named in
     let in_range : nat_le (960 * units) n ≡ false = known in (
       record { session = passed_is_open slots s rest low later; name = grind (arith, nat_tests) },
       later,
@@ -239,7 +239,7 @@ passed_shares units slots s n none = passed_name units slots s n (share_tests sl
 
 -- a write of this size
 passed_writes : (units : ℕ) (slots : SessionSlots) (s n size : ℕ)
-    → first_of (bad_session (limits_of units) s ∷ bad_name (limits_of units) n
+    → first_of (bad_session (limits_of (length slots) units) s ∷ bad_name (limits_of (length slots) units) n
     ∷ open_tests slots s (write_tests slots s n size)) ≡ None
     → MayWriteName units slots s n size
 passed_writes units slots s n size none =
@@ -260,8 +260,8 @@ without_third a b d rest none =
 
 pub passed_puts : PassedPuts
 passed_puts units slots s n bytes none =
-    let (short, others) = without_third (bad_session (limits_of units) s)
-    (bad_name (limits_of units) n) (too_long bytes)
+    let (short, others) = without_third (bad_session (limits_of (length slots) units) s)
+    (bad_name (limits_of (length slots) units) n) (too_long bytes)
     (open_tests slots s (write_tests slots s n (size_in_page (Some bytes)))) none in
     let in_range : nat_lt VALUE_LEN (length bytes) ≡ false = short in
     (passed_writes units slots s n (size_in_page (Some bytes)) others, grind (arith, nat_tests))
@@ -274,12 +274,12 @@ neither false true r none = absurd (cc none)
 neither false false r none = (refl, refl)
 
 pub passed_lists : PassedLists
-passed_lists units a b none =
+passed_lists sessions units a b none =
     let (low, high) = neither (nat_le (960 * units) a) (nat_le (960 * units) b) BadName none in
     (grind (arith, nat_tests), grind (arith, nat_tests))
 
 pub passed_merges : PassedMerges
-passed_merges units u none =
+passed_merges sessions units u none =
     let (low, rest) = passed (nat_le units u, BadUnit) [] none in
     let in_range : nat_le units u ≡ false = low in
     grind (arith, nat_tests)

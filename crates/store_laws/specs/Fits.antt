@@ -1,5 +1,5 @@
 -- When a store's memory and a chip together stand for a state.
-use Rattle.std.specs.Prelude.{ℕ, ◌≡◌, ◌+◌, ◌==◌, not, Bool, List, [], ◌∷◌, ◌++◌, length, filter, All}
+use Rattle.std.specs.Prelude.{ℕ, ◌≡◌, ◌≤◌, ◌+◌, ◌==◌, not, Bool, List, [], ◌∷◌, ◌++◌, length, filter, All}
 use Rattle.ipl_base.specs.declared.limits.TheConstants.{SESSIONS}
 use Rattle.chip_trait.specs.Story.{Contents, blank}
 use Rattle.chip_trait.specs.Told.{History}
@@ -23,10 +23,10 @@ use Rattle.store_laws.specs.Frames.{Frames, logs_of, AreFramesOf}
 
 -- ---- sessions
 
--- what `Sessions` keeps: there are 32 slots, no name is written by two sessions, each that is written has its size, and
+-- what `Sessions` keeps: there are 32 slots at most, no name is written by two sessions, each that is written has its size, and
 -- the pending names of each unit weigh at most 48
 pub record LocksHold (slots : SessionSlots) : Type 0 where
-  pub all : length slots ≡ SESSIONS
+  pub all : length slots ≤ SESSIONS
   pub one_writer : OneWriter slots
   pub sized : All IsSized slots
   pub few : FewPending slots

@@ -139,10 +139,10 @@ FittingContentsTell =
 
 -- with no session open the sessions are those of a state at rest
 abbrev pub EmptySlotsAreAtRest : Type 0
-EmptySlotsAreAtRest = (m : Map) → AreSessionsOf (replicate SESSIONS None) (at_rest m)
+EmptySlotsAreAtRest = (sessions : ℕ) (m : Map) → sessions ≤ SESSIONS → AreSessionsOf (replicate sessions None) (at_rest m)
 
--- a chip that was just formatted, with its first tables
+-- a chip that was just formatted, with its first tables, and as many sessions as there may be
 abbrev pub FirstStoresFit : Type 0
-FirstStoresFit = (places units : ℕ) → LEAST_PLACES ≤ places → places ≤ MOST_PLACES → KeepsUnits places units
+FirstStoresFit = (places units sessions : ℕ) → LEAST_PLACES ≤ places → places ≤ MOST_PLACES → KeepsUnits places units → sessions ≤ SESSIONS
     → Fits places (formatted units) (first_layout units) (first_tables places units) (λ u page. None)
-    (replicate SESSIONS None) (at_rest empty)
+    (replicate sessions None) (at_rest empty)

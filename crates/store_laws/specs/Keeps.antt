@@ -1,8 +1,8 @@
 -- How a store keeps a state on a chip, as a run over a script asks for it.
-use Rattle.std.specs.Prelude.{ℕ, ◌≡◌, ◌≢◌, ◌<◌, ◌≤◌, ◌+◌, ◌*◌, Bool, true, false, [], ◌∷◌, ◌++◌, List, Option, Some, None, refl, Result, Ok, Err, IfOk, IfErr}
+use Rattle.std.specs.Prelude.{ℕ, ◌≡◌, ◌≢◌, ◌<◌, ◌≤◌, ◌+◌, ◌*◌, Bool, true, false, [], ◌∷◌, ◌++◌, List, Option, Some, None, refl, Result, Ok, Err, IfOk, IfErr, length}
 use Rattle.std.specs.FinMap.{get}
 use Rattle.std.proofs.Common.{sym, ◌∙◌, ap, subst, arith}
-use Rattle.ipl_base.specs.declared.limits.TheConstants.{UNIT_NAMES, SESSIONS}
+use Rattle.ipl_base.specs.declared.limits.TheConstants.{UNIT_NAMES}
 use Rattle.chip_trait.specs.Chart.{says}
 use Rattle.chip_trait.specs.Moment.{Leaves}
 use Rattle.chip_trait.specs.declared.event.Event.TheVariants.{Said}
@@ -63,9 +63,13 @@ pub record View : Type 0 where
   pub units : ℕ
   pub down : Bool
 
--- 32 sessions, the names of all units, and as many units as the chip has
-abbrev pub limits_of : ℕ → Limits
-limits_of units = record { sessions = SESSIONS; names = UNIT_NAMES * units; units = units }
+-- so many sessions, as many units as the chip has, and the names of all of them
+abbrev pub limits_of : ℕ → ℕ → Limits
+limits_of sessions units = record { sessions = sessions; names = UNIT_NAMES * units; units = units }
+
+-- those of a store, which has as many sessions as slots for them
+abbrev pub limits_in : View → Limits
+limits_in store = limits_of (length store.memory.slots) store.units
 
 -- the memory fits what the chip of so many places holds, which is laid out in as many units, and these pages
 -- say the map
@@ -86,7 +90,7 @@ pub record IsUp (places : ℕ) (pages : Legibility) (store : View) (h : History)
 -- records of these pages, in as many units as the store has; and a store that isn't down keeps the rest.
 pub record KeepsStore (places : ℕ) (pages : Legibility) (limits : Limits) (store : View) (t : Told) (h : History)
     (state : State) : Type 0 where
-  pub limits_are : limits ≡ limits_of store.units
+  pub limits_are : limits ≡ limits_in store
   pub steady : IsSteady h t
   pub rests : StoryRests places (of pages state.map) h
   pub many : rests.each.0 ≡ store.units
@@ -300,13 +304,13 @@ OpenedStoresKeep = (places units : ℕ) (pages : Legibility) (t : Tables) (slots
     → OfContents told (λ x. (it : Layout) × (it.count ≡ units) × Mirrors places (chart_of x) it t
     × Says places (chart_of x) it (of pages m))
     → IsSteady h told → StoryRests places (of pages m) h → IsTidy h t
-    → KeepsStore places pages (limits_of units) (opened_with units t slots) told h (at_rest m)
+    → KeepsStore places pages (limits_of (length slots) units) (opened_with units t slots) told h (at_rest m)
 
 -- A fault of a call has its excuse, where the store keeps a state, and says no other number of worn
 -- places than one more than are spare.
 abbrev pub IsExcused : Legibility → ℕ → View → Told → Told → Fault → Type 0
 IsExcused pages n store old new fault = (h : History) (state : State)
-    → KeepsStore old.places pages (limits_of store.units) store old h state
+    → KeepsStore old.places pages (limits_in store) store old h state
     → Excuses (store_keeping old.places pages) n store old new fault
     × FaultTells (spares_on old.places store.units) fault
 
@@ -314,7 +318,7 @@ IsExcused pages n store old new fault = (h : History) (state : State)
 -- it is opened again.
 abbrev pub DrawsFew : ℕ → View → Told → View → Type 0
 DrawsFew n before old after = (pages : Legibility) (h : History) (state : State)
-    → KeepsStore old.places pages (limits_of before.units) before old h state
+    → KeepsStore old.places pages (limits_in before) before old h state
     → after.memory.tables.next ≤ before.memory.tables.next + n
 
 -- the model's step is to this state, with this reply; where the call failed, to its map at least
@@ -324,15 +328,15 @@ StepsAs limits state c next (Err fault) = (step limits state c).0.map ≡ next.m
 
 -- What a call leaves that leads to a next state, which is the model's, as is the answer, where the
 -- store keeps a state, is the work of the command, where few numbers were drawn and a fault has its
--- excuse.
+-- excuse. The limits stay.
 abbrev pub LeadsAreWork : Type 0
 LeadsAreWork = (pages : Legibility) (c : Command) (next : State → State) (before after : View)
     (result : Result Reply Fault) (old new : Told)
-    → after.units ≡ before.units
+    → limits_in after ≡ limits_in before
     → before.down ≡ false → LeadsTo next before.memory old result after.memory new
     → ((h : History) (state : State)
-    → KeepsStore old.places pages (limits_of before.units) before old h state
-    → StepsAs (limits_of before.units) state c (next state) result)
+    → KeepsStore old.places pages (limits_in before) before old h state
+    → StepsAs (limits_in before) state c (next state) result)
     → DrawsFew WORK_DRAWS before old after
     → IfErr result (IsExcused pages WORK_DRAWS before old new)
     → Works (store_keeping old.places pages) c before old result after new
@@ -350,7 +354,7 @@ KeptFramesTell = (pages : Legibility) (n : ℕ) (store : View) (t : Tables) (lat
     → KeepsState {T = Unit {0}} {E = ChipFault} store.memory.tables store.memory.frames old (Ok tt)
     t later new
     → later (home_of n).unit (home_of n).page ≡ Some f
-    → KeepsStore old.places pages (limits_of store.units) store old h state
+    → KeepsStore old.places pages (limits_in store) store old h state
     → TellsName store.memory.slots state n f
 
 -- What a call leaves that keeps each state, and answers a record of its map, looks the record up,
@@ -363,7 +367,7 @@ KeepersLookUp = (pages : Legibility) (n : ℕ) (before after : View) (result : R
     → KeepsState before.memory.tables before.memory.frames old result after.memory.tables
     after.memory.frames new
     → IfOk result (λ found. (h : History) (state : State)
-    → KeepsStore old.places pages (limits_of before.units) before old h state
+    → KeepsStore old.places pages (limits_in before) before old h state
     → n < UNIT_NAMES * before.units → found ≡ get state.map n)
     → after.memory.tables.next ≤ before.memory.tables.next + LOOK_UP_DRAWS
     → IfErr result (IsExcused pages LOOK_UP_DRAWS before old new)
@@ -385,7 +389,7 @@ IdleFaultsLookUp = (pages : Legibility) (n : ℕ) (store : View) (told : Told)
 -- few numbers and has its excuse
 abbrev pub FaultsThatLeaveDown : Type 0
 FaultsThatLeaveDown = (pages : Legibility) (c : Command) (before after : View) (fault : Fault) (old new : Told)
-    → after.units ≡ before.units
+    → limits_in after ≡ limits_in before
     → before.down ≡ false → after.down ≡ true
     → ((h : History) (it : Layout) (state : State) → IsSteady h old
     → MemoryFitsStory old.places pages h it before.memory state

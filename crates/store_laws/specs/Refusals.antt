@@ -1,7 +1,7 @@
 -- What a store refuses: its sessions tell it, as the model's state does.
 use Rattle.std.specs.Prelude.{ℕ, ◌≡◌, ◌<◌, ◌≤◌, ◌*◌, [], ◌∷◌, List, Contains, Bool, true, false, length, Option, Some, None, Ok, Err, if◌then◌else◌}
 use Rattle.std.specs.Option.{option_or}
-use Rattle.ipl_base.specs.declared.limits.TheConstants.{SESSIONS, UNIT_NAMES, VALUE_LEN}
+use Rattle.ipl_base.specs.declared.limits.TheConstants.{UNIT_NAMES, VALUE_LEN}
 use Rattle.chip_trait.specs.Told.{Told, Counts}
 use Rattle.ipl_base.specs.Places.{home_of}
 use Rattle.ipl_base.specs.Sizes.{size_in_page}
@@ -28,7 +28,7 @@ use Rattle.store_laws.specs.Fits.{AreSessionsOf}
 use Rattle.store_trait.specs.declared.fault.Fault.{Fault}
 use Rattle.store_trait.specs.Keeping.{WORK_DRAWS, Works}
 use Rattle.store_laws.specs.Advances.{Memory, memory_of, KeepsState, LeadsTo}
-use Rattle.store_laws.specs.Keeps.{View, DrawsFew, ShowsState, StepsAs, limits_of, store_keeping}
+use Rattle.store_laws.specs.Keeps.{View, DrawsFew, ShowsState, StepsAs, limits_of, limits_in, store_keeping}
 
 -- ---- the sessions refuse as the state does, but for a put whose page is full
 
@@ -123,9 +123,9 @@ PutsAnswer = (pages : Legibility) (s n : ℕ) (bytes : List ℕ) (store : View) 
     → KeepsState {T = Unit {0}} {E = ChipFault} store.memory.tables store.memory.frames old (Ok tt)
     t later new
     → later (home_of n).unit (home_of n).page ≡ Some f
-    → sessions_refuse_put (limits_of store.units) store.memory.slots s n bytes ≡ None
+    → sessions_refuse_put (limits_in store) store.memory.slots s n bytes ≡ None
     → IsToldApart pages → OfContents old (λ x. (state : State) → ShowsState old.places pages store state x
-    → step (limits_of store.units) state (command.Put s n bytes)
+    → step (limits_in store) state (command.Put s n bytes)
     ≡ (if overfills_at (peaks_in store.memory.slots) n bytes f.values
     then (state, reply.Refused PageFull ∷ [])
     else (after_write state s (n, Some bytes), reply.Ok ∷ [])))
@@ -138,7 +138,7 @@ FullPutsAreWork = (pages : Legibility) (s n : ℕ) (bytes : List ℕ) (before af
     → KeepsState {T = Unit {0}} {E = ChipFault} before.memory.tables before.memory.frames old (Ok tt)
     after.memory.tables after.memory.frames new
     → after.memory.frames (home_of n).unit (home_of n).page ≡ Some f
-    → sessions_refuse_put (limits_of before.units) before.memory.slots s n bytes ≡ None
+    → sessions_refuse_put (limits_in before) before.memory.slots s n bytes ≡ None
     → overfills_at (peaks_in before.memory.slots) n bytes f.values ≡ true
     → DrawsFew WORK_DRAWS before old after
     → Works (store_keeping old.places pages) (command.Put s n bytes) before old (Ok (reply.Refused PageFull)) after new
@@ -147,12 +147,12 @@ FullPutsAreWork = (pages : Legibility) (s n : ℕ) (bytes : List ℕ) (before af
 abbrev pub WrittenPutsAreWork : Type 0
 WrittenPutsAreWork = (pages : Legibility) (s n : ℕ) (bytes : List ℕ) (before after : View) (t : Tables) (later : Frames)
     (f : PageFrame) (old mid new : Told)
-    → IsToldApart pages → after.units ≡ before.units
+    → IsToldApart pages → limits_in after ≡ limits_in before
     → before.down ≡ false → Counts old mid
     → KeepsState {T = Unit {0}} {E = ChipFault} before.memory.tables before.memory.frames old (Ok tt)
     t later mid
     → later (home_of n).unit (home_of n).page ≡ Some f
-    → sessions_refuse_put (limits_of before.units) before.memory.slots s n bytes ≡ None
+    → sessions_refuse_put (limits_in before) before.memory.slots s n bytes ≡ None
     → overfills_at (peaks_in before.memory.slots) n bytes f.values ≡ false
     → LeadsTo {T = Unit {0}} {E = ChipFault} (λ state. after_write state s (n, Some bytes))
     (memory_of t later before.memory.slots) mid (Ok tt) after.memory new
@@ -166,16 +166,16 @@ FailedPutsLeaveTheMap = (limits : Limits) (state : State) (s n : ℕ) (bytes : L
 
 -- A call that does nothing is the work of a command that is refused early.
 abbrev pub RefusalsLead : Type 0
-RefusalsLead = (units : ℕ) (c : Command) (r : Refusal) (before : Memory) (old : Told)
-    → sessions_refuse (limits_of units) before.slots c ≡ Some r
-    → LeadsTo {E = Fault} (λ state. (step (limits_of units) state c).0) before old
+RefusalsLead = (limits : Limits) (c : Command) (r : Refusal) (before : Memory) (old : Told)
+    → sessions_refuse limits before.slots c ≡ Some r
+    → LeadsTo {E = Fault} (λ state. (step limits state c).0) before old
     (Ok (reply.Refused r)) before old
 
 -- ---- what isn't refused
 
--- the session is one of the 32, open under a number, and may be ended
+-- there is such a session, open under a number, and it may be ended
 pub record IsOpenSession (slots : SessionSlots) (s : ℕ) : Type 0 where
-  pub low : s < SESSIONS
+  pub low : s < length slots
   pub number : ℕ
   pub number_is : number_of slots s ≡ Some number
   pub may_end : locks.refuses_end slots s ≡ None
@@ -195,50 +195,50 @@ pub record AreOpenSessions (slots : SessionSlots) (ss : List ℕ) : Type 0 where
   pub opens : (s : ℕ) → Contains ss s → IsOpenSession slots s
   pub once : (s : ℕ) → Contains ss s → is_twice ss s ≡ false
 
--- a begin: the session is one of the 32, and closed
+-- a begin: there is such a session, and it is closed
 abbrev pub PassedBegins : Type 0
 PassedBegins = (units : ℕ) (slots : SessionSlots) (s : ℕ)
-    → refuses_begin (limits_of units) (state_of slots) s ≡ None
-    → (s < SESSIONS) × (number_of slots s ≡ None) × (locks.refuses_begin slots s ≡ None)
+    → refuses_begin (limits_of (length slots) units) (state_of slots) s ≡ None
+    → (s < length slots) × (number_of slots s ≡ None) × (locks.refuses_begin slots s ≡ None)
 
 -- a get
 abbrev pub PassedGets : Type 0
 PassedGets = (units : ℕ) (slots : SessionSlots) (s n : ℕ)
-    → refuses_get (limits_of units) (state_of slots) s n ≡ None → ReachesName units slots s n
+    → refuses_get (limits_of (length slots) units) (state_of slots) s n ≡ None → ReachesName units slots s n
 
 -- a share: the locks let the name be shared
 abbrev pub PassedShares : Type 0
 PassedShares = (units : ℕ) (slots : SessionSlots) (s n : ℕ)
-    → refuses_share (limits_of units) (state_of slots) s n ≡ None
+    → refuses_share (limits_of (length slots) units) (state_of slots) s n ≡ None
     → ReachesName units slots s n × (locks.refuses_share slots s n ≡ None)
 
 -- a put that isn't refused early: the value has at most 464 bytes
 abbrev pub PassedPuts : Type 0
 PassedPuts = (units : ℕ) (slots : SessionSlots) (s n : ℕ) (bytes : List ℕ)
-    → sessions_refuse_put (limits_of units) slots s n bytes ≡ None
+    → sessions_refuse_put (limits_of (length slots) units) slots s n bytes ≡ None
     → MayWriteName units slots s n (size_in_page (Some bytes)) × (length bytes ≤ VALUE_LEN)
 
 -- a delete
 abbrev pub PassedDels : Type 0
 PassedDels = (units : ℕ) (slots : SessionSlots) (s n : ℕ)
-    → sessions_refuse_del (limits_of units) slots s n ≡ None
+    → sessions_refuse_del (limits_of (length slots) units) slots s n ≡ None
     → MayWriteName units slots s n (size_in_page None)
 
 -- a commit, or an abort
 abbrev pub PassedEnds : Type 0
 PassedEnds = (units : ℕ) (slots : SessionSlots) (s : ℕ)
-    → refuses_end (limits_of units) (state_of slots) s ≡ None → IsOpenSession slots s
+    → refuses_end (limits_of (length slots) units) (state_of slots) s ≡ None → IsOpenSession slots s
 
 -- a commit of several sessions
 abbrev pub PassedBatches : Type 0
 PassedBatches = (units : ℕ) (slots : SessionSlots) (ss : List ℕ)
-    → refuses_batch (limits_of units) (state_of slots) ss ≡ None → AreOpenSessions slots ss
+    → refuses_batch (limits_of (length slots) units) (state_of slots) ss ≡ None → AreOpenSessions slots ss
 
 -- a list: both names are the units'
 abbrev pub PassedLists : Type 0
-PassedLists = (units a b : ℕ) → refuses_list (limits_of units) a b ≡ None
+PassedLists = (sessions units a b : ℕ) → refuses_list (limits_of sessions units) a b ≡ None
     → (a < UNIT_NAMES * units) × (b < UNIT_NAMES * units)
 
 -- a merge: the unit is one of the chip's
 abbrev pub PassedMerges : Type 0
-PassedMerges = (units u : ℕ) → refuses_merge (limits_of units) u ≡ None → u < units
+PassedMerges = (sessions units u : ℕ) → refuses_merge (limits_of sessions units) u ≡ None → u < units
