@@ -2,27 +2,26 @@
 use Rattle.std.proofs.Common.{◌≡◌, ℕ, zero, suc, ◌+◌, ◌<◌, ◌≤◌, not, cond, Bool, List, [], ◌∷◌, ◌++◌, length, take, get_or, Option, Some, None, Result, Ok, Err, refl, sym, ◌∙◌, ap, subst, add-one}
 use Rattle.std.specs.Prelude.{OnOk, OnErr, is_some, slice_index}
 use Rattle.std.specs.Result.{result_err}
-use Rattle.std.proofs.lemmas.List.{take_more, take_all}
+use Rattle.std.proofs.lemmas.List.{length-set, take_more, take_all}
 use Rattle.ipl_base.specs.declared.fault.Refusal.{Refusal}
 use Rattle.ipl_base.specs.declared.fault.Refusal.TheVariants.{NotOpen}
-use Rattle.ipl_base.specs.declared.limits.TheConstants.{SESSIONS}
 use Rattle.ipl_model.specs.State.{State, is_open_session, writes_of, with_writes}
 use Rattle.ipl_model.specs.Operations.{after_commit, after_batch, after_abort, after_restart}
 use Rattle.record_locks.specs.Held.{Held, SessionSlots, held_at, written_of, after_end}
 use Rattle.record_locks.specs.Locks.{refuses_end}
 use Rattle.record_locks.specs.Standing.{state_of}
 use Rattle.record_locks.proofs.StandingLemmas.{open_at}
-use Rattle.serial_view.specs.Running.{KeptRun, Tracks, Follows, Sets}
+use Rattle.serial_view.specs.Running.{KeptRun, limits_with, Tracks, Follows, Sets}
 use Rattle.serial_view.proofs.FirstLemmas.{closed_below, all_closed}
 use Rattle.serial_view.proofs.TrackLemmas.{AreSessions, closed, copied}
 
 pub follows_none : (run : KeptRun) → Follows run (λ state. state) run
-follows_none run = record { units = refl; tracks = λ state tracks. tracks }
+follows_none run = record { limits = refl; tracks = λ state tracks. tracks }
 
 pub follows_on : (a b c : KeptRun) (f g : State → State) → Follows a f b → Follows b g c
     → Follows a (λ state. g (f state)) c
 follows_on a b c f g first later = record {
-  units = later.units ∙ first.units;
+  limits = later.limits ∙ first.limits;
   tracks = λ state tracks. later.tracks (f state) (first.tracks state tracks);
 }
 
@@ -46,11 +45,11 @@ ended slots new s (Err why) is ok err = err ∙ sym (shut_slot slots s (by_test 
         let passes : refuses_end slots s ≡ None = ap (λ (b : Bool). cond (not b) (Some NotOpen) None) at in
         absurd (let clash = is ∙ passes in cc clash)
 
-pub closes : (run : KeptRun) → AreSessions run.slots → (s : ℕ) → s < SESSIONS → (slots : SessionSlots) (most : List ℕ)
+pub closes : (run : KeptRun) → AreSessions run.slots → (s : ℕ) → s < length run.slots → (slots : SessionSlots) (most : List ℕ)
     → slots ≡ after_end run.slots s → Sets (written_of run.slots s) (λ n. 0) run.most most
     → Follows run (λ state. after_abort state s) (record run { slots = slots; most = most })
 closes run sound s slot slots most is sets = record {
-  units = refl;
+  limits = ap (λ (n : ℕ). limits_with n run.units) (ap (λ (held : SessionSlots). length held) is ∙ length-set run.slots s None);
   tracks = λ state tracks.
       subst (λ (held : SessionSlots). Tracks (after_abort state s) (record run { slots = held; most = most })) (sym is)
       (closed state run tracks sound s slot most sets);
@@ -61,7 +60,7 @@ pub applies : (run new : KeptRun) (s : ℕ) (records : List ℕ)
     → Follows (record run { records = records }) (λ state. after_abort state s) new
     → Follows run (λ state. after_commit state s) new
 applies run new s records sets closes = record {
-  units = closes.units;
+  limits = closes.limits;
   tracks = λ state tracks.
       closes.tracks (record state { map = with_writes (writes_of state s) state.map })
       (copied state run tracks s records sets);
@@ -78,7 +77,7 @@ pub applies_more : (run now next : KeptRun) (ss : List ℕ) (i s : ℕ) → i < 
     → Follows run (λ state. after_batch state (take i ss)) now → Follows now (λ state. after_commit state s) next
     → Follows run (λ state. after_batch state (take (i + 1) ss)) next
 applies_more run now next ss i s within is first later = record {
-  units = later.units ∙ first.units;
+  limits = later.limits ∙ first.limits;
   tracks = λ state tracks.
       subst (λ (st : State). Tracks st next)
       (one_more state (take i ss) s ∙ ap (λ (k : ℕ). after_batch state (take i ss ++ k ∷ [])) is
@@ -99,10 +98,10 @@ closes_more run now next s first later =
     subst (λ (k : ℕ). Follows run (λ state. closed_below state k) next) (sym (add-one s))
     (follows_on run now next (λ state. closed_below state s) (λ state. after_abort state s) first later)
 
-pub closes_all : (run new : KeptRun) (k : ℕ) → length run.slots ≡ SESSIONS → SESSIONS ≤ k
+pub closes_all : (run new : KeptRun) (k : ℕ) → length run.slots ≤ k
     → Follows run (λ state. closed_below state k) new → Follows run after_restart new
-closes_all run new k all enough follows = record {
-  units = follows.units;
+closes_all run new k enough follows = record {
+  limits = follows.limits;
   tracks = λ state tracks.
-      subst (λ (st : State). Tracks st new) (all_closed state run tracks all k enough) (follows.tracks state tracks);
+      subst (λ (st : State). Tracks st new) (all_closed state run tracks k enough) (follows.tracks state tracks);
 }

@@ -119,7 +119,7 @@ module _ (limits : Limits) (m : Map) (commands : List Command) where
         subst (λ (from : ℕ). Since s zero from) (sym first) (record { within = omega arith; turns_are = refl });
   }
 
-  module _ (k : ℕ) (state next : State) (old new : KeptTurns) (whole : limits.sessions ≡ 32)
+  module _ (k : ℕ) (state next : State) (old new : KeptTurns) (whole : limits.sessions ≤ 32)
       (holds : Holds k state old) where
     abbrev c : Command
     c = command_at commands k
@@ -285,7 +285,7 @@ module _ (limits : Limits) (m : Map) (commands : List Command) where
         go false not_ok = refused_then not_ok goes (after false not_ok)
 
   -- a command's run holds it too
-  pub one_on : (k : ℕ) (c : Command) (state next : State) (table new : KeptTurns) → limits.sessions ≡ 32
+  pub one_on : (k : ℕ) (c : Command) (state next : State) (table new : KeptTurns) → limits.sessions ≤ 32
       → c ≡ command_at commands k → Holds k state table → RunsCommand limits state table c next new
       → Holds (k + 1) next new
   one_on k c state next table new whole is holds runs =

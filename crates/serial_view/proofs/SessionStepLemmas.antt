@@ -1,5 +1,5 @@
 -- What a command that passes leaves of each open session.
-use Rattle.std.proofs.Common.{◌≡◌, ◌⊎◌, inl, inr, ℕ, ◌<◌, ◌==◌, nat_le, Bool, true, false, cond, not, List, [], ◌∷◌, Option, Some, None, refl, sym, ◌∙◌, ap, subst, arith}
+use Rattle.std.proofs.Common.{◌≡◌, ◌⊎◌, inl, inr, ℕ, ◌<◌, ◌==◌, nat_le, Bool, true, false, cond, not, List, [], ◌∷◌, Option, Some, None, refl, sym, ◌∙◌, ap, arith, ◌≤◌}
 use Rattle.std.specs.Prelude.{is_some}
 use Rattle.std.specs.Cmp.{nat_cmp_total}
 use Rattle.std.specs.Option.{option_map_or}
@@ -168,9 +168,9 @@ module _ (state : State) where
 
 -- ---- an accepted command's session is in range
 
-module _ (limits : Limits) (whole : limits.sessions ≡ 32) where
+module _ (limits : Limits) (whole : limits.sessions ≤ 32) where
   in_range : (s : ℕ) → nat_le limits.sessions s ≡ false → s < 32
-  in_range s fails = subst (λ (k : ℕ). s < k) whole (leb-false limits.sessions s fails)
+  in_range s fails = let low = leb-false limits.sessions s fails in omega (arith, low, whole)
 
   pub has_slot : (state : State) (c : Command) → refusal_of limits state c ≡ None → HasSlot c
   has_slot state (command.Begin s) passes =
@@ -185,5 +185,5 @@ module _ (limits : Limits) (whole : limits.sessions ≡ 32) where
   has_slot state (command.Commit s) passes =
       in_range s (all_fail (bad_session limits s ∷ not_open state s ∷ []) passes).0
   has_slot state (command.Batch ss) passes =
-      λ s at. subst (λ (k : ℕ). s < k) whole ((batches_name_once limits state ss passes).within s at)
+      λ s at. let low = (batches_name_once limits state ss passes).within s at in omega (arith, low, whole)
   has_slot state other passes = tt

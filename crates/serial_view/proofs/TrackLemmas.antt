@@ -28,11 +28,11 @@ use Rattle.serial_view.proofs.MostLemmas.{begun_writes, shared_writes, written_h
 
 -- what all sessions together have
 pub record AreSessions (slots : SessionSlots) : Type 0 where
-  pub all : length slots ≡ SESSIONS
+  pub all : length slots ≤ SESSIONS
   pub sized : All IsSized slots
   pub one_writer : OneWriter slots
 
-pub are_sessions : (slots : SessionSlots) → length slots ≡ SESSIONS → OneWriter slots → All IsSized slots → AreSessions slots
+pub are_sessions : (slots : SessionSlots) → length slots ≤ SESSIONS → OneWriter slots → All IsSized slots → AreSessions slots
 are_sessions slots all one sized = record { all = all; sized = sized; one_writer = one }
 
 not_same : (a b : Bool) → not a ≡ not b → b ≡ a
@@ -76,10 +76,7 @@ module _ (state : State) (run : KeptRun) (tracks : Tracks state run) where
         ap (λ (ws : List Write). peaks_of ws n) (sym (writes t))));
   }
 
-  module _ (sound : AreSessions run.slots) (s : ℕ) (slot : s < SESSIONS) where
-    within : s < length run.slots
-    within = omega (arith, slot, sound.all)
-
+  module _ (sound : AreSessions run.slots) (s : ℕ) (within : s < length run.slots) where
     pub begun : is_open_session state s ≡ false
         → Tracks (rules.after_begin state s) (record run { slots = after_begin run.slots s 0 })
     begun shut =

@@ -3,11 +3,10 @@ use Rattle.std.specs.Prelude.{◌≡◌, ℕ, ◌+◌, ◌*◌, ◌<◌, ◌-◌
 use Rattle.std.specs.List.{range_with_len}
 use Rattle.std.specs.FinMap.{get}
 use Rattle.ipl_base.specs.Sizes.{size_in_page}
-use Rattle.ipl_base.specs.declared.limits.TheConstants.{SLOTS}
+use Rattle.ipl_base.specs.declared.limits.TheConstants.{SLOTS, UNIT_NAMES}
 use Rattle.ipl_model.specs.State.{State, Limits, last_write, writes_of}
 use Rattle.ipl_model.specs.Peaks as rules
 use Rattle.ipl_model.specs.declared.command.Command.{Command}
-use Rattle.ipl_model.specs.Plain.{limits_for}
 use Rattle.ipl_model.specs.Step.{step}
 use Rattle.record_locks.specs.Held as held
 use Rattle.record_locks.specs.Held.{SessionSlots, is_among}
@@ -36,9 +35,13 @@ run_of r = record {
   most = r.most.items;
 }
 
+-- so many sessions, so many units, and the names of these
+abbrev pub limits_with : ℕ → ℕ → Limits
+limits_with sessions units = record { sessions = sessions; names = UNIT_NAMES * units; units = units }
+
 -- its limits
 abbrev pub run_limits : KeptRun → Limits
-run_limits run = limits_for run.units
+run_limits run = limits_with (length run.slots) run.units
 
 -- each of the tables has a place for each of so many names
 abbrev pub CoversNames : KeptRun → ℕ → Type 0
@@ -79,9 +82,9 @@ room_in run n size name = max (slice_index run.records name)
 unfoldable pub fill_in : KeptRun → ℕ → ℕ → ℕ
 fill_in run n size = sum_by (λ slot. room_in run n size (n / SLOTS * SLOTS + slot)) (range_with_len 0 SLOTS)
 
--- where what was kept is a state's, what is kept now is that of the next
+-- the limits stay, and where what was kept is a state's, what is kept now is that of the next
 pub record Follows (old : KeptRun) (next : State → State) (new : KeptRun) : Type 0 where
-  pub units : new.units ≡ old.units
+  pub limits : run_limits new ≡ run_limits old
   pub tracks : (state : State) → Tracks state old → Tracks (next state) new
 
 -- one command's run, from whatever state: it tells whether the command is accepted

@@ -1,15 +1,15 @@
 //! A run of commands, as far as it tells which of them are refused.
-ghost use Rattle.std.specs.Prelude.{◌≡◌, ◌<◌, ℕ, true, false, map, length, not, is_some, nat_lt, replicate, slice_index, slice_set, Contains, IfOk};
+ghost use Rattle.std.specs.Prelude.{◌≡◌, ◌<◌, ◌≤◌, ℕ, true, false, map, length, not, is_some, nat_lt, replicate, slice_index, slice_set, Contains, IfOk};
 ghost use Rattle.ipl_base.specs.declared.limits.TheConstants.{SESSIONS, PAGE_LEN};
 ghost use Rattle.ipl_model.specs.State.{at_rest};
 ghost use Rattle.ipl_model.specs.Operations.{after_commit, after_batch, after_abort, after_restart};
 ghost use Rattle.ipl_model.specs.declared.command.Command.TheVariants as command;
 ghost use Rattle.ipl_model.specs.Plain.{state_of, limits_of, limits_for};
 ghost use Rattle.record_locks.specs.Locks.{refuses_write};
-ghost use Rattle.serial_view.specs.Running.{run_of, run_limits, Tracks, Follows, TakesCommand, Sets, room_in, fill_in, after_write};
+ghost use Rattle.serial_view.specs.Running.{run_of, run_limits, limits_with, Tracks, Follows, TakesCommand, Sets, room_in, fill_in, after_write};
 
 use crate::size_table::{clear_sizes, copy_sizes, set_size, size_at, zeros};
-use ipl_base::{Geometry, Name, OutOfMemory, PAGE_LEN, SESSIONS, SLOTS, UNIT_NAMES, VALUE_LEN};
+use ipl_base::{Geometry, Name, OutOfMemory, PAGE_LEN, SLOTS, UNIT_NAMES, VALUE_LEN};
 use ipl_model::{Command, PlainModel};
 use record_locks::Sessions;
 use std::alloc::Global;
@@ -31,21 +31,24 @@ pub struct Running {
 }
 
 impl Running {
-    /// The run before its first command: the records of `start`, which has no open session.
+    /// The run before its first command, of so many sessions, 32 at most: the records of `start`, which
+    /// has no open session.
     pub fn new(
         alloc: Global,
         geometry: Geometry,
+        sessions: u32,
         start: &PlainModel,
     ) -> Result<Running, OutOfMemory>
+        requires sessions { sessions ≤ SESSIONS }
         requires limits { limits_of start.now ≡ limits_for geometry.units }
         requires at_rest { state_of start.now ≡ at_rest (state_of start.now).map }
-        ensures units { IfOk result (λ run. (run_of run).units ≡ geometry.units) }
+        ensures limits { IfOk result (λ run. run_limits (run_of run) ≡ limits_with sessions geometry.units) }
         ensures tracks { IfOk result (λ run. Tracks (state_of start.now) (run_of run)) }
     {
         let names = UNIT_NAMES as usize * geometry.units() as usize;
         Ok(Running {
             units: geometry.units(),
-            sessions: Sessions::new(alloc)?,
+            sessions: Sessions::new(alloc, sessions)?,
             records: start.record_sizes()?,
             last: zeros(alloc, names)?,
             most: zeros(alloc, names)?,
@@ -111,7 +114,7 @@ impl Running {
         ensures { TakesCommand (run_of self.old) (command.Begin s) (run_of self.new) result }
     {
         self.sessions.facts();
-        if s >= SESSIONS {
+        if s >= self.sessions.count() {
             return false;
         }
         // The view asks for no transaction number.
@@ -121,14 +124,14 @@ impl Running {
     fn get(&mut self, s: u32, name: u32) -> bool
         ensures { TakesCommand (run_of self.old) (command.Get s name) (run_of self.new) result }
     {
-        s < SESSIONS && self.has_name(name) && self.sessions.is_open(s)
+        s < self.sessions.count() && self.has_name(name) && self.sessions.is_open(s)
     }
 
     fn share(&mut self, s: u32, name: u32) -> bool
         ensures { TakesCommand (run_of self.old) (command.Share s name) (run_of self.new) result }
     {
         self.sessions.facts();
-        if s >= SESSIONS || !self.has_name(name) {
+        if s >= self.sessions.count() || !self.has_name(name) {
             return false;
         }
         self.sessions.share(s, Name(name)).is_ok()
@@ -136,7 +139,7 @@ impl Running {
 
     /// Writes a name, unless the sessions refuse it, and answers whether they don't.
     fn write(&mut self, s: u32, name: u32, size: u32) -> bool
-        requires { s < SESSIONS }
+        requires { s < length (run_of self.old).slots }
         ensures test { result ≡ not (is_some (refuses_write (run_of self.old).slots s name size)) }
         ensures written { result ≡ true → run_of self.new ≡ after_write (run_of self.old) s name size }
         ensures refused { result ≡ false → run_of self.new ≡ run_of self.old }
@@ -154,7 +157,7 @@ impl Running {
         ensures { TakesCommand (run_of self.old) (command.Put s name bytes.now) (run_of self.new) result }
     {
         self.sessions.facts();
-        if s >= SESSIONS || !self.has_name(name) || bytes.len() > VALUE_LEN {
+        if s >= self.sessions.count() || !self.has_name(name) || bytes.len() > VALUE_LEN {
             return false;
         }
         // The view doesn't ask which test refuses a put, and so the page comes before the sessions, which
@@ -170,7 +173,7 @@ impl Running {
         ensures { TakesCommand (run_of self.old) (command.Del s name) (run_of self.new) result }
     {
         self.sessions.facts();
-        if s >= SESSIONS || !self.has_name(name) {
+        if s >= self.sessions.count() || !self.has_name(name) {
             return false;
         }
         self.write(s, name, 0)
@@ -178,7 +181,7 @@ impl Running {
 
     /// Closes a session, if it is open, and its writes are gone.
     fn close(&mut self, s: u32)
-        requires { s < SESSIONS }
+        requires { s < length (run_of self.old).slots }
         ensures { Follows (run_of self.old) (λ state. after_abort state s) (run_of self.new) }
     {
         self.sessions.facts();
@@ -188,7 +191,7 @@ impl Running {
 
     /// Closes a session, if it is open, and its writes become records.
     fn apply(&mut self, s: u32)
-        requires { s < SESSIONS }
+        requires { s < length (run_of self.old).slots }
         ensures { Follows (run_of self.old) (λ state. after_commit state s) (run_of self.new) }
     {
         copy_sizes(&mut self.records, &self.last, self.sessions.written(s));
@@ -197,7 +200,7 @@ impl Running {
 
     /// Closes these sessions, and their writes become records, one session after the other.
     fn apply_all(&mut self, sessions: &[u32])
-        requires { (s : ℕ) → Contains sessions.now s → s < SESSIONS }
+        requires { (s : ℕ) → Contains sessions.now s → s < length (run_of self.old).slots }
         ensures { Follows (run_of self.old) (λ state. after_batch state sessions.now)
             (run_of self.new) }
     {
@@ -210,8 +213,7 @@ impl Running {
     fn close_all(&mut self)
         ensures { Follows (run_of self.old) after_restart (run_of self.new) }
     {
-        self.sessions.facts();
-        for s in 0..SESSIONS {
+        for s in 0..self.sessions.count() {
             self.close(s);
         }
     }
@@ -219,7 +221,7 @@ impl Running {
     fn commit(&mut self, s: u32) -> bool
         ensures { TakesCommand (run_of self.old) (command.Commit s) (run_of self.new) result }
     {
-        if s >= SESSIONS || !self.sessions.is_open(s) {
+        if s >= self.sessions.count() || !self.sessions.is_open(s) {
             return false;
         }
         self.apply(s);
@@ -229,6 +231,7 @@ impl Running {
     fn batch(&mut self, sessions: &[u32]) -> bool
         ensures { TakesCommand (run_of self.old) (command.Batch sessions.now) (run_of self.new) result }
     {
+        self.sessions.facts();
         if self.sessions.refuses_batch(sessions).is_some() {
             return false;
         }
@@ -239,7 +242,7 @@ impl Running {
     fn abort(&mut self, s: u32) -> bool
         ensures { TakesCommand (run_of self.old) (command.Abort s) (run_of self.new) result }
     {
-        if s >= SESSIONS || !self.sessions.is_open(s) {
+        if s >= self.sessions.count() || !self.sessions.is_open(s) {
             return false;
         }
         self.close(s);

@@ -1,4 +1,5 @@
-use Rattle.std.proofs.Common.{◌<◌, length, refl, arith}
+use Rattle.std.proofs.Common.{◌<◌, length, refl, arith, ap}
+use Rattle.ipl_model.specs.State.{Limits}
 use Rattle.std.specs.Prelude.{slice_index_or}
 use Rattle.std.proofs.lemmas.List.Elements.{Contains-get_or}
 use Rattle.serial_view.specs.Running.{run_of}
@@ -9,7 +10,8 @@ pub apply-requires : goal.apply-requires
 apply-requires c =
     let sessions = c.args.sessions.now in
     let within : c.loop-s.s-index < length sessions = omega (arith, c.loop-s-test.true) in
-    c.requires (slice_index_or sessions c.loop-s.s-index 0) (Contains-get_or sessions c.loop-s.s-index 0 within)
+    let named = c.requires (slice_index_or sessions c.loop-s.s-index 0) (Contains-get_or sessions c.loop-s.s-index 0 within) in
+    omega (arith, named, ap (λ (l : Limits). l.sessions) c.loop-s.invariant.limits)
 
 pub loop-s-init : goal.loop-s-init
 loop-s-init c = follows_none (run_of c.args.self.now)

@@ -16,5 +16,5 @@ apply_all-requires c =
 
 pub returns : goal.returns
 returns c =
-    batches (run_of c.args.self.now) (run_of c.apply_all.new.self) c.args.sessions.now
+    batches (run_of c.args.self.now) (run_of c.apply_all.new.self) c.args.sessions.now c.facts.ensures.all
     (sym (ap is_some c.refuses_batch.ensures) ∙ sym c.is_some.ensures ∙ c.if-is_some.false) c.apply_all.ensures

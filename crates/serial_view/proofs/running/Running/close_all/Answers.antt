@@ -1,3 +1,4 @@
+use Rattle.std.proofs.Common.{arith}
 use Rattle.serial_view.specs.Running.{run_of}
 use Rattle.serial_view.proofs.FollowLemmas.{follows_none, closes_more, closes_all}
 use Rattle.serial_view.proofs.running.Running.close_all.Goals as goal
@@ -12,5 +13,6 @@ loop-s-preserved c =
 
 pub returns : goal.returns
 returns c =
-    closes_all (run_of c.args.self.now) (run_of c.loop-s.self) c.loop-s.s c.facts.ensures.all c.loop-s-test.false
+    closes_all (run_of c.args.self.now) (run_of c.loop-s.self) c.loop-s.s
+    (omega (arith, c.loop-s-test.false, c.count-s-end.ensures.count))
     c.loop-s.invariant

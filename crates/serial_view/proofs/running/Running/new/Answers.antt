@@ -16,6 +16,6 @@ returns-clause-tracks c =
     } in
     let all : UNIT_NAMES * c.units.result ≡ UNIT_NAMES * run.units =
     omega (arith, c.units.ensures.units, c.units-2.ensures.units) in
-    tracks_new (state_of c.args.start.now) (limits_of c.args.start.now) run c.args.geometry.units
+    tracks_new (state_of c.args.start.now) (limits_of c.args.start.now) run c.args.sessions c.args.geometry.units
     (UNIT_NAMES * c.units.result) c.units-2.ensures.units all c.requires.limits c.requires.at_rest c.in_ok-new.ensures
     c.in_ok-record_sizes.ensures.len c.in_ok-record_sizes.ensures.sizes c.in_ok-zeros.ensures c.in_ok-zeros-2.ensures
