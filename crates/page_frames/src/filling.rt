@@ -1,6 +1,6 @@
 //! Room in a page for a put beside all that open sessions wrote there.
 ghost use Rattle.std.specs.Prelude.{◌≡◌, ◌≤◌, ◌<◌, ◌+◌, ◌-◌, ◌^◌, true, false, Some, None, length};
-ghost use Rattle.ipl_base.specs.declared.limits.TheConstants.{SESSIONS, VALUE_LEN};
+ghost use Rattle.ipl_base.specs.declared.limits.TheConstants.{VALUE_LEN};
 ghost use Rattle.ipl_base.specs.Places.{home_of};
 ghost use Rattle.ipl_base.specs.Sizes.{size_in_page};
 ghost use Rattle.ipl_model.specs.Peaks.{with_peak};
@@ -14,7 +14,7 @@ ghost use Rattle.page_frames.specs.declared.filling.TheConstants.{HEAD};
 
 use crate::sizes::written_slots;
 use buffer_pool::Pool;
-use ipl_base::{Name, PAGE_LEN, SESSIONS, SLOTS, home};
+use ipl_base::{Name, PAGE_LEN, SLOTS, home};
 use page_ops::Frame;
 use page_text::PageMap;
 use record_locks::Sessions;
@@ -74,18 +74,18 @@ fn slot_size(page: &PageMap, slot: u32) -> usize
 }
 
 /// How many bytes a write of a name takes at most, of all that open sessions wrote and of one of another
-/// name, or this, that takes so many. It's told a session that wrote the name, or 32 where none did: that
-/// session alone is asked for the size.
+/// name, or this, that takes so many. It's told a session that wrote the name, or a number past all
+/// sessions where none did: that session alone is asked for the size.
 fn written_size(sessions: &Sessions, name: Name, writer: u8, other: Name, size: usize) -> usize
     requires few { size ≤ HEAD + VALUE_LEN }
-    requires none { SESSIONS ≤ writer → peaks_in sessions.now name.0 ≡ 0 }
-    requires wrote { writer < SESSIONS → is_among name.0 (written_of sessions.now writer) ≡ true }
+    requires none { length sessions.now ≤ writer → peaks_in sessions.now name.0 ≡ 0 }
+    requires wrote { writer < length sessions.now → is_among name.0 (written_of sessions.now writer) ≡ true }
     ensures size { result ≡ with_peak (peaks_in sessions.now) other.0 (1 + size) name.0 - 1 }
     ensures few { result < 2 ^ 32 }
 {
     let s = u32::from(writer);
     let mut written = 0;
-    if s < SESSIONS {
+    if s < sessions.count() {
         written = sessions.size_by(s, name) as usize;
     }
     if other.0 == name.0 {

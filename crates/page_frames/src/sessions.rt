@@ -1,6 +1,5 @@
 //! The records of sessions, written out before they are committed.
-ghost use Rattle.std.specs.Prelude.{◌≡◌, ℕ, ◌<◌, ◌+◌, ◌*◌, ◌^◌, All, Contains, map, OnOk};
-ghost use Rattle.ipl_base.specs.declared.limits.TheConstants.{SESSIONS};
+ghost use Rattle.std.specs.Prelude.{◌≡◌, ℕ, ◌<◌, ◌+◌, ◌*◌, ◌^◌, All, Contains, length, map, OnOk};
 ghost use Rattle.place_taking.specs.Spending.{is_worn_out};
 ghost use Rattle.record_locks.specs.Held.{written_by};
 ghost use Rattle.store_laws.specs.Numbers.{IsOut};
@@ -35,9 +34,9 @@ fn is_on_page(names: &[Name], unit: u32, page: u32) -> bool
     false
 }
 
-/// Whether a name that one of these sessions (0 to 31) wrote is on a page (0 to 14) of a unit.
+/// Whether a name that one of these sessions wrote is on a page (0 to 14) of a unit.
 fn has_page(sessions: &Sessions, numbers: &[u32], unit: u32, page: u32) -> bool
-    requires { (s : ℕ) → Contains numbers.now s → s < SESSIONS }
+    requires { (s : ℕ) → Contains numbers.now s → s < length sessions.now }
     ensures { result ≡ is_on_page (written_by sessions.now numbers.now) unit page }
 {
     for s in numbers {
@@ -49,7 +48,7 @@ fn has_page(sessions: &Sessions, numbers: &[u32], unit: u32, page: u32) -> bool
 }
 
 impl Pages {
-    /// Writes the records out of the pages of the names that these sessions (0 to 31) wrote, in
+    /// Writes the records out of the pages of the names that these sessions wrote, in
     /// rising order of unit and page: those of a page go to the chip together, whichever sessions
     /// have them. Each page stays in its frame.
     pub fn write_sessions_out<C: Chip>(
@@ -59,7 +58,7 @@ impl Pages {
         numbers: &[u32],
     ) -> Result<(), ChipFault>
         requires ready { ArePagesReady (C.told chip.old).places self.old }
-        requires low { (s : ℕ) → Contains numbers.now s → s < SESSIONS }
+        requires low { (s : ℕ) → Contains numbers.now s → s < length sessions.now }
         requires left { self.old.parts.counter + 14 * 64 < 2 ^ 64 }
         ensures upholds { Upholds (14 * 64) self.old (C.told chip.old) result self.new (C.told chip.new) }
         ensures complete { FailsByChip self.old result (C.told chip.old) }

@@ -1,6 +1,6 @@
 //! Which session wrote which name of a page.
-ghost use Rattle.std.specs.Prelude.{◌≡◌, ◌≤◌, ◌<◌, ◌+◌, ℕ, true, map, slice_index, if◌then◌else◌};
-ghost use Rattle.ipl_base.specs.declared.limits.TheConstants.{SESSIONS, SLOTS};
+ghost use Rattle.std.specs.Prelude.{◌≡◌, ◌≤◌, ◌<◌, ◌+◌, ℕ, true, length, map, slice_index, if◌then◌else◌};
+ghost use Rattle.ipl_base.specs.declared.limits.TheConstants.{SLOTS};
 ghost use Rattle.record_locks.specs.Held.{is_among, peaks_in, written_of};
 
 use ipl_base::{Name, SESSIONS, SLOTS};
@@ -9,14 +9,14 @@ use record_locks::Sessions;
 /// For each of the 64 names from this one on the number of a session that wrote it, or 32 where none
 /// did. It goes once over the names that sessions wrote, and not once for each of the 64.
 pub(crate) fn written_slots(sessions: &Sessions, first: u32) -> [u8; 64]
-    ensures none { (k : ℕ) → k < SLOTS → SESSIONS ≤ slice_index result k
+    ensures none { (k : ℕ) → k < SLOTS → length sessions.now ≤ slice_index result k
         → peaks_in sessions.now (first + k) ≡ 0 }
-    ensures wrote { (k : ℕ) → k < SLOTS → slice_index result k < SESSIONS
+    ensures wrote { (k : ℕ) → k < SLOTS → slice_index result k < length sessions.now
         → is_among (first + k) (written_of sessions.now (slice_index result k)) ≡ true }
 {
     sessions.facts();
     let mut writers = [SESSIONS as u8; 64];
-    for s in 0..SESSIONS {
+    for s in 0..sessions.count() {
         note_names(s as u8, sessions.written(s), first, &mut writers);
     }
     writers
