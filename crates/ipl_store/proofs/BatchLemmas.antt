@@ -6,7 +6,6 @@ use Rattle.std.proofs.lemmas.Bool.{or_parts, lt-leb}
 use Rattle.std.proofs.lemmas.List.Elements.{Contains-get_or}
 use Rattle.std.proofs.lemmas.List.Folds.{list_any_none}
 use Rattle.ipl_base.specs.declared.fault.Refusal.TheVariants.{BadSession, NotOpen}
-use Rattle.ipl_base.specs.declared.limits.TheConstants.{SESSIONS}
 use Rattle.ipl_model.specs.Refusals.{first_of, is_twice, twice}
 use Rattle.ipl_model.specs.State.{is_open_session}
 use Rattle.ipl_model.proofs.RuleBatchLemmas.{any_listed}
@@ -53,14 +52,14 @@ pub batch_unrefused : (slots : SessionSlots) (ss : List ℕ) → AreOpenSessions
     → refuses_batch slots ss ≡ None
 batch_unrefused slots ss are =
     let closed : ℕ → Bool = λ s. not (is_open_session (state_of slots) s) in
-    let least : Option ℕ = find (is_twice ss) (range_with_len 0 SESSIONS) in
-    let low : list_any (λ s. nat_le SESSIONS s) ss ≡ false =
-    none_passes (λ s. nat_le SESSIONS s) ss (λ s at. lt-leb SESSIONS s (are.opens s at).low) in
+    let least : Option ℕ = find (is_twice ss) (range_with_len 0 (length slots)) in
+    let low : list_any (λ s. nat_le (length slots) s) ss ≡ false =
+    none_passes (λ s. nat_le (length slots) s) ss (λ s at. lt-leb (length slots) s (are.opens s at).low) in
     let opened : list_any closed ss ≡ false =
     none_passes closed ss (λ s at. ap not
     (is_open_then (is_open_session (state_of slots) s) None (are.opens s at).may_end)) in
     ap (λ (b : Bool). first_of ((b, BadSession) ∷ twice least ∷ (list_any closed ss, NotOpen) ∷ []))
     low
     ∙ ap (λ (o : Option ℕ). first_of (twice o ∷ (list_any closed ss, NotOpen) ∷ []))
-    (none_found (is_twice ss) (never_twice ss are.once) 0 SESSIONS)
+    (none_found (is_twice ss) (never_twice ss are.once) 0 (length slots))
     ∙ ap (λ (b : Bool). first_of ((b, NotOpen) ∷ [])) opened

@@ -145,6 +145,7 @@ moves_then next n m most old mid new before between after done did same turned c
       wears = turns.wears;
       order = turns.order;
       units = turns.units;
+      sessions = turns.sessions;
       limit = turns.pins.limit;
       least = turns.least;
       drawn = few;

@@ -8,7 +8,7 @@ use Rattle.ipl_base.specs.Places.{KeepsUnits}
 use Rattle.ipl_base.specs.declared.fault.ChipFault.{ChipFault}
 use Rattle.ipl_base.specs.declared.fault.Refusal.{Refusal}
 use Rattle.ipl_base.specs.declared.fault.StoreFault.{StoreFault}
-use Rattle.ipl_base.specs.declared.fault.StoreFault.TheVariants.{Down, Spent, Refused, Chip}
+use Rattle.ipl_base.specs.declared.fault.StoreFault.TheVariants.{Down, Spent, Refused}
 use Rattle.ipl_model.specs.State.{State}
 use Rattle.buffer_pool.specs.Holding.{KeepsPins}
 use Rattle.buffer_pool.specs.Uses.{IsUsedLast}
@@ -69,6 +69,7 @@ calls_refused early next most store told result fault is calm answer sound = rec
   serves = λ none. let no : Some fault ≡ None = sym is ∙ none in absurd (cc no);
   sound = sound;
   units = refl;
+  sessions = refl;
   tidy = tables_none (tables_in store.transactions.pages) result told;
   wears = idle_wears store told result (ap ends_worn_out answer ∙ calm);
   counts = counts_none told;
@@ -136,6 +137,7 @@ pub record Moves (next : State → State) (most : ℕ) (old : Transactions) (bef
       after
   pub order : IsInOrder before.places new
   pub units : length new.pages.parts.directory.current ≡ length old.pages.parts.directory.current
+  pub sessions : length new.sessions ≡ length old.sessions
   pub limit : new.pages.pool.limit ≡ old.pages.pool.limit
   pub least : old.pages.parts.counter ≤ new.pages.parts.counter
   pub drawn : new.pages.parts.counter ≤ old.pages.parts.counter + most
@@ -153,6 +155,7 @@ writes_move next most old new before after done did complete faults = record {
   wears = did.wears;
   order = did.order;
   units = did.units;
+  sessions = did.sessions;
   limit = did.pins.limit;
   least = did.least;
   drawn = did.drawn;
@@ -183,6 +186,7 @@ memory_moves next most old new told did order least drawn = record {
       (alike_tables (tables_in old.pages) (tables_in new.pages) did.directory did.status);
   order = did.order told.places order;
   units = ap (λ (d : Places). length d.current) did.directory;
+  sessions = did.sessions;
   limit = did.pins.limit;
   least = least;
   drawn = drawn;
@@ -203,6 +207,7 @@ pages_move most old pages before after result order did complete faults = record
   wears = did.wears;
   order = record { ready = did.ready; active = did.active ∙ order.active };
   units = did.units;
+  sessions = refl;
   limit = did.pins.limit;
   least = did.least;
   drawn = did.drawn;
@@ -349,6 +354,7 @@ module _ (next : State → State) (most : ℕ) (old : Store) (t : Transactions) 
       count = λ still. as_counted;
     };
     units = as_many;
+    sessions = ap (λ (it : Transactions). length it.sessions) moved ∙ moves.sessions;
     tidy = tables_answered (tables_in old.transactions.pages) (tables_in new.transactions.pages) done
         result before after (same_answer done old.down new.down result ends)
         (subst (λ (it : Transactions).
@@ -398,6 +404,7 @@ let_in_calls early next most old before result new after none calls = record {
   serves = λ let_in. calls.serves refl;
   sound = calls.sound;
   units = calls.units;
+  sessions = calls.sessions;
   tidy = calls.tidy;
   wears = calls.wears;
   counts = calls.counts;
@@ -424,6 +431,7 @@ calls_as early next most old before v w new after did = record {
       };
   sound = did.sound;
   units = did.units;
+  sessions = did.sessions;
   tidy = did.tidy;
   wears = did.wears;
   counts = did.counts;
@@ -450,6 +458,7 @@ calls_fail_as early next most old before fault new after did = record {
       };
   sound = did.sound;
   units = did.units;
+  sessions = did.sessions;
   tidy = did.tidy;
   wears = did.wears;
   counts = did.counts;
@@ -473,6 +482,7 @@ idle_calls most store told early sound up none =
           (tables_in store.transactions.pages) refl refl);
       order = sound.order up;
       units = refl;
+      sessions = refl;
       limit = refl;
       least = omega arith;
       drawn = omega arith;
@@ -600,6 +610,7 @@ calls_joined early next most old mid t before after none up first did drawn = re
   sound = subst (λ (n : ℕ). IsSound n (record mid { transactions = t })) first.counts.places
       second.sound;
   units = first.units;
+  sessions = did.sessions ∙ first.sessions;
   tidy = tables_then {U = Unit {0}} {F = StoreFault} (Unit {0}) StoreFault (tables_in old.transactions.pages)
       (tables_in mid.transactions.pages) (tables_in t.pages) tt (Ok tt) before after after first.counts
       first.tidy second.tidy;
@@ -635,6 +646,7 @@ failed_calls early next most old before fault new after none calls = record {
       };
   sound = calls.sound;
   units = calls.units;
+  sessions = calls.sessions;
   tidy = calls.tidy;
   wears = calls.wears;
   counts = calls.counts;

@@ -1,5 +1,5 @@
 -- What a clean close of a store leaves.
-use Rattle.std.proofs.Common.{◌≡◌, ℕ, ◌+◌, ◌<◌, ◌≤◌, ◌^◌, true, false, List, length, Option, Some, None, Result, Ok, Err, OnOk, refl, sym, ◌∙◌, ap, subst}
+use Rattle.std.proofs.Common.{◌≡◌, ℕ, ◌+◌, ◌<◌, ◌≤◌, ◌^◌, true, false, length, Option, Some, None, Result, Ok, Err, OnOk, refl, sym, ◌∙◌, ap, subst}
 use Rattle.std.proofs.lemmas.Bool.{true≢false}
 use Rattle.number_set.specs.Flags.{Flags}
 use Rattle.chip_trait.specs.Told.{Told}
@@ -22,6 +22,7 @@ use Rattle.txn_status.specs.Status.{room_of}
 use Rattle.ipl_store.specs.declared.store.Store.{Store}
 use Rattle.ipl_store.specs.Calls.{counter_of, EndsAs, Calls, IsMade, IsSound}
 use Rattle.ipl_store.specs.Closing.{ClosesStore, EndsMarking, MarksStore}
+use Rattle.record_locks.specs.Held.{SessionSlots}
 use Rattle.ipl_store.proofs.CallLemmas.{moved_calls, pages_move}
 
 -- ---- the mark
@@ -97,6 +98,7 @@ marks_store store parts before after written result ends steps tidy last costs a
       down = refl;
       closed = refl;
       units = refl;
+      sessions = refl;
     }
 
 -- ---- the status place is made ready
@@ -139,12 +141,14 @@ closes_unready early store mid before told fault none calls idle = record {
     tidy = calls.tidy;
     wears = calls.wears;
     units = calls.units;
+    sessions = calls.sessions;
     counts = calls.counts;
     idle = idle;
     then = (refl, refl, refl);
   };
   sound = calls.sound;
   units = calls.units;
+  sessions = calls.sessions;
   counts = calls.counts;
 }
 
@@ -165,6 +169,7 @@ closes_marked early store mid new before told after result none calls idle marks
     tidy = calls.tidy;
     wears = calls.wears;
     units = calls.units;
+    sessions = calls.sessions;
     counts = calls.counts;
     idle = idle;
     then = marks;
@@ -172,5 +177,6 @@ closes_marked early store mid new before told after result none calls idle marks
   sound = down_sound before.places new marks.down
       (subst (λ (n : ℕ). IsMade n new) calls.counts.places made);
   units = marks.units ∙ calls.units;
+  sessions = ap (λ (v : SessionSlots). length v) marks.sessions ∙ calls.sessions;
   counts = counts_then before told after calls.counts marks.accounts.counts;
 }

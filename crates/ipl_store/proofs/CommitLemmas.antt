@@ -5,8 +5,9 @@ use Rattle.chip_trait.proofs.CountsLemmas.{counts_none}
 use Rattle.ipl_base.specs.declared.fault.ChipFault.{ChipFault}
 use Rattle.ipl_model.specs.Operations.{after_batch}
 use Rattle.ipl_model.specs.State.{State}
-use Rattle.record_locks.specs.Held.{numbers_in, written_by, writer_numbers}
+use Rattle.record_locks.specs.Held.{numbers_in, written_by, writer_numbers, SessionSlots}
 use Rattle.record_locks.specs.Held.{after_batch as slots_after}
+use Rattle.record_locks.proofs.BatchLemmas.{batch_slots}
 use Rattle.ipl_meaning.specs.Tables.{Places, StatusTable, Tables, IsCountedClean}
 use Rattle.ipl_meaning.specs.TableSteps.{after_commit as after_commit_of}
 use Rattle.selective_merge.specs.Known.{KnowsPlaces}
@@ -146,6 +147,7 @@ numbers_added ss tids old new added before after order are may writers adds step
         active = active;
       };
       units = ap (λ (it : Places). length it.current) (rest.directory ∙ directory);
+      sessions = ap (λ (v : SessionSlots). length v) slots ∙ batch_slots old.sessions ss;
       pins = pins_then;
       least = omega (arith, rest.counter, counter);
       drawn = omega (arith, rest.counter, counter);
@@ -194,6 +196,7 @@ numbers_not_added ss tids e old new before after order are may writers steps ses
         active = active ∙ order.active ∙ ap numbers_in (sym sessions);
       };
       units = ap (λ (it : Places). length it.current) directory;
+      sessions = ap (λ (v : SessionSlots). length v) sessions;
       pins = pins;
       least = draws.0;
       drawn = draws.1;
@@ -265,6 +268,7 @@ empty_committed ss most old new told order are none rest slots active locks =
         active = active;
       };
       units = ap (λ (d : Places). length d.current) rest.directory;
+      sessions = ap (λ (v : SessionSlots). length v) slots ∙ batch_slots old.sessions ss;
       pins = pins;
       least = omega (arith, rest.counter);
       drawn = omega (arith, rest.counter);

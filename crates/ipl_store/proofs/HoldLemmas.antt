@@ -204,6 +204,7 @@ repooled_calls early next most old before mid new after none pool calls =
         count = calls.sound.count;
       };
       units = calls.units;
+      sessions = calls.sessions;
       tidy = calls.tidy;
       wears = calls.wears;
       counts = calls.counts;

@@ -25,7 +25,7 @@ numbers_last slots s within =
     ap numbers_in (take_more slots s None within)
     ∙ numbers_append (take s slots) (held_at slots s ∷ [])
 
-module _ (slots : SessionSlots) (s : ℕ) (active : List ℕ) (all : length slots ≡ 32) (low : s < 32)
+module _ (slots : SessionSlots) (s : ℕ) (active : List ℕ) (low : s < length slots)
     (so_far : active ≡ numbers_in (take s slots)) where
   pub number_joins : (tid : ℕ) → number_of slots s ≡ Some tid
       → active ++ tid ∷ [] ≡ numbers_in (take (s + 1) slots)
@@ -33,14 +33,14 @@ module _ (slots : SessionSlots) (s : ℕ) (active : List ℕ) (all : length slot
       ap (λ (l : List ℕ). l ++ tid ∷ []) so_far
       ∙ ap (λ (l : List ℕ). numbers_in (take s slots) ++ l)
       (sym (numbers_some (held_at slots s) tid mine))
-      ∙ sym (numbers_last slots s (omega (arith, all, low)))
+      ∙ sym (numbers_last slots s low)
 
   pub no_number_joins : number_of slots s ≡ None → active ≡ numbers_in (take (s + 1) slots)
   no_number_joins none =
       so_far ∙ sym (append_none (numbers_in (take s slots)))
       ∙ ap (λ (l : List ℕ). numbers_in (take s slots) ++ l)
       (sym (numbers_none (held_at slots s) none))
-      ∙ sym (numbers_last slots s (omega (arith, all, low)))
+      ∙ sym (numbers_last slots s low)
     where
       append_none : (l : List ℕ) → l ++ [] ≡ l
       append_none [] = refl
@@ -56,13 +56,14 @@ few_numbers [] = omega arith
 few_numbers (None ∷ slots) = omega (arith, few_numbers slots)
 few_numbers (Some h ∷ slots) = omega (arith, few_numbers slots)
 
-pub few_below : (slots : SessionSlots) (s : ℕ) (active : List ℕ) → length slots ≡ 32 → s < 32
+pub few_below : (slots : SessionSlots) (s : ℕ) (active : List ℕ) → length slots ≤ 32 → s < length slots
     → active ≡ numbers_in (take s slots) → length active < 32
-few_below slots s active all low so_far =
+few_below slots s active few low so_far =
     omega (
       arith,
+      few,
       low,
       few_numbers (take s slots),
-      length-take-le s slots (omega (arith, all, low)),
+      length-take-le s slots (omega (arith, low)),
       ap length so_far,
     )

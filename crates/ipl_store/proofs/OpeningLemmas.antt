@@ -1,5 +1,5 @@
 -- What an opening of a chip leaves of a store.
-use Rattle.std.proofs.Common.{◌≡◌, inl, inr, ℕ, ◌+◌, ◌<◌, ◌≤◌, ◌^◌, Bool, false, List, Option, Some, None, Ok, get_or, length, slice_index_or, count_by, replicate, refl, sym, ◌∙◌, ap, subst, arith}
+use Rattle.std.proofs.Common.{◌≡◌, inl, inr, ℕ, ◌+◌, ◌<◌, ◌≤◌, ◌^◌, Bool, false, List, Option, Some, None, Ok, get_or, length, slice_index_or, count_by, replicate, refl, sym, ◌∙◌, ap, subst, arith, zero, suc, []}
 use Rattle.std.specs.FinMap.{empty}
 use Rattle.std.specs.Option.{option_map}
 use Rattle.std.proofs.lemmas.Bool.{cases_lt}
@@ -26,7 +26,7 @@ use Rattle.ipl_meaning.proofs.StandsLemmas.{kept_pages_keep_the_map}
 use Rattle.ipl_meaning.specs.Chosen.{units_at}
 use Rattle.ipl_meaning.specs.Faults.{greatest_found}
 use Rattle.ipl_meaning.specs.LaidOut.{layout_in}
-use Rattle.record_locks.specs.Held.{Held, number_of, numbers_in}
+use Rattle.record_locks.specs.Held.{Held, number_of, numbers_in, SessionSlots}
 use Rattle.slab.specs.Slab.{get}
 use Rattle.buffer_pool.specs.declared.pool.Buffer.{Buffer}
 use Rattle.buffer_pool.specs.Holding.{is_pinned, pinned_count}
@@ -42,7 +42,7 @@ use Rattle.store_laws.proofs.FirstLemmas.{empty_slots_are_at_rest}
 use Rattle.store_laws.proofs.MemoryFitLemmas.{openings_fit}
 use Rattle.store_laws.specs.Advances.{Memory, memory_of, MemoryFits, LeadsTo}
 use Rattle.store_laws.specs.Laws.{IsReopened}
-use Rattle.store_laws.specs.Keeps.{View, limits_of, ShowsState, KeepsStore, opened_with}
+use Rattle.store_laws.specs.Keeps.{View, limits_in, ShowsState, KeepsStore, opened_with}
 use Rattle.store_laws.proofs.AdvanceLemmas.{same_held}
 use Rattle.store_laws.proofs.FaultLemmas.{opened_stores_keep}
 use Rattle.store_laws.proofs.LeadLemmas.{restarts_lead}
@@ -50,6 +50,7 @@ use Rattle.page_frames.specs.Views.{frame_in}
 use Rattle.page_frames.specs.Pages.{tables_in, frames_in}
 use Rattle.ipl_store.specs.declared.store.Store.{Store}
 use Rattle.ipl_store.specs.Calls.{memory_of_store, view_of, counter_of, IsMade, IsSound}
+use Rattle.ipl_base.specs.declared.limits.TheConstants.{SESSIONS}
 use Rattle.ipl_store.specs.Openings.{IsJustOpened, OpensStore, Restarts}
 
 -- ---- pages
@@ -69,15 +70,26 @@ shows_as c it other u page values same low shows =
 abbrev no_one : Option Held
 no_one = None
 
-none_at : (s : ℕ) → get_or (replicate 32 no_one) s no_one ≡ no_one
-none_at s = elim (cases_lt s 32) [
-  | inl low ↦ get_or-replicate 32 s no_one no_one low
-  | inr past ↦ get_or_past (replicate 32 no_one) s no_one
-      (omega (arith, past, length-replicate 32 no_one))
+none_at : (n s : ℕ) → get_or (replicate n no_one) s no_one ≡ no_one
+none_at n s = elim (cases_lt s n) [
+  | inl low ↦ get_or-replicate n s no_one no_one low
+  | inr past ↦ get_or_past (replicate n no_one) s no_one
+      (omega (arith, past, length-replicate n no_one))
 ]
 
-none_open : (s : ℕ) → number_of (replicate 32 None) s ≡ None
-none_open s = ap (option_map (λ (h : Held). h.number)) (none_at s)
+none_open : (n s : ℕ) → number_of (replicate n None) s ≡ None
+none_open n s = ap (option_map (λ (h : Held). h.number)) (none_at n s)
+
+no_numbers : (n : ℕ) → numbers_in (replicate n None) ≡ []
+no_numbers zero = refl
+no_numbers (suc n) = no_numbers n
+
+-- sessions that were all closed are as many as before
+pub all_closed : (old new : SessionSlots) → new ≡ replicate (length old) None
+    → (length new ≡ length old) × (new ≡ replicate (length new) None)
+all_closed old new is =
+    let same : length new ≡ length old = ap (λ (v : SessionSlots). length v) is ∙ length-replicate (length old) no_one in
+    (same, is ∙ ap (λ (n : ℕ). replicate n no_one) (sym same))
 
 -- ---- a store of which a chip was opened
 
@@ -100,11 +112,11 @@ module _ (marks : Bool) (places : ℕ) (t : Tables) (old new : Told)
       )
 
   -- where no mark counts, it leads to the state without sessions
-  pub opened_leads : marks ≡ false → (before : Memory) → old.places ≡ places
+  pub opened_leads : (sessions : ℕ) → sessions ≤ SESSIONS → marks ≡ false → (before : Memory) → old.places ≡ places
       → LeadsTo {T = Unit {0}} {E = ChipFault} (λ state. after_restart state) before old (Ok tt)
-      (memory_of t (λ u page. None) (replicate 32 None)) new
-  opened_leads unmarked before suits = restarts_lead before t (replicate 32 None) old new holds.active
-      none_open empty_slots_are_at_rest opens keeps
+      (memory_of t (λ u page. None) (replicate sessions None)) new
+  opened_leads sessions few unmarked before suits = restarts_lead before t (replicate sessions None) old new
+      holds.active (none_open sessions) (λ m. empty_slots_are_at_rest sessions m few) opens keeps
     where
       reopened : (x : Contents) → old.contents ≡ Some x → (y : Contents)
           × (new.contents ≡ Some y) × ((it : Layout) → Laid places (chart_of x) it
@@ -169,7 +181,7 @@ module _ (marks : Bool) (places : ℕ) (t : Tables) (old new : Told)
           subst (λ (n : ℕ). StoryRests n m h → Preserves {T = Unit {0}} {E = ChipFault} n m
           before.tables t h (Ok tt) old new) (sym suits ∙ same) (preserved m h steady) rests
 
-module _ (marks : Bool) (places units : ℕ) (t : Tables) (old new : Told)
+module _ (marks : Bool) (places units sessions : ℕ) (few : sessions ≤ SESSIONS) (t : Tables) (old new : Told)
     (tells : RecoversTold places old (Ok tt) t new)
     (steps : RecoversInSteps marks places old (Ok tt) t new)
     (holds : HoldsOpened places t) (many : length t.places.current ≡ units) where
@@ -182,33 +194,33 @@ module _ (marks : Bool) (places units : ℕ) (t : Tables) (old new : Told)
   -- over contents that stood for a map
   pub opened_shows : (pages : Legibility) (m : Map) (x y : Contents) → old.contents ≡ Some x
       → Stands places (chart_of x) (of pages m) → new.contents ≡ Some y
-      → ShowsState places pages (opened_with units t (replicate 32 None)) (at_rest m) y
+      → ShowsState places pages (opened_with units t (replicate sessions None)) (at_rest m) y
   opened_shows pages m x y told stands then =
       let (it, mirrors, says) = opened_says marks places t old new tells steps holds (of pages m) x y told stands then
       in record {
         layout = it;
         count = sym mirrors.directory.units ∙ many;
-        fits = openings_fit places (chart_of y) it t (replicate 32 None) m mirrors
-            holds.known.none_lost holds.active none_open (empty_slots_are_at_rest m);
+        fits = openings_fit places (chart_of y) it t (replicate sessions None) m mirrors
+            holds.known.none_lost holds.active (none_open sessions) (empty_slots_are_at_rest sessions m few);
         says = says;
       }
 
   -- whatever the pages say, the tables fit the chart that they mirror
   pub opened_fits : (c : Chart) (it : Layout) → Mirrors places c it t
-      → MemoryFits places c it (opened_with units t (replicate 32 None)).memory (at_rest empty)
+      → MemoryFits places c it (opened_with units t (replicate sessions None)).memory (at_rest empty)
   opened_fits c it mirrors =
-      openings_fit places c it t (replicate 32 None) empty mirrors holds.known.none_lost holds.active
-      none_open (empty_slots_are_at_rest empty)
+      openings_fit places c it t (replicate sessions None) empty mirrors holds.known.none_lost holds.active
+      (none_open sessions) (empty_slots_are_at_rest sessions empty few)
 
   -- and over a history then that rests on it
   pub opened_keeps : (pages : Legibility) (m : Map) (k : History) (x : Contents) → old.contents ≡ Some x
       → Stands places (chart_of x) (of pages m) → IsSteady k new → StoryRests places (of pages m) k
       → IsTidy k t
-      → KeepsStore places pages (limits_of units) (opened_with units t (replicate 32 None)) new k
+      → KeepsStore places pages (limits_in (opened_with units t (replicate sessions None))) (opened_with units t (replicate sessions None)) new k
       (at_rest m)
   opened_keeps pages m k x told stands =
-      opened_stores_keep places units pages t (replicate 32 None) new k m holds.known.none_lost
-      holds.active none_open (empty_slots_are_at_rest m)
+      opened_stores_keep places units pages t (replicate sessions None) new k m holds.known.none_lost
+      holds.active (none_open sessions) (empty_slots_are_at_rest sessions m few)
       (λ y then.
       let (it, mirrors, says) = opened_says marks places t old new tells steps holds (of pages m) x y told stands then
       in (it, sym mirrors.directory.units ∙ many, mirrors, says))
@@ -216,7 +228,8 @@ module _ (marks : Bool) (places units : ℕ) (t : Tables) (old new : Told)
 -- ---- as its fields have it
 
 pub fresh_view : (store : Store) → IsJustOpened store
-    → opened_with store.units (tables_in store.transactions.pages) (replicate 32 None)
+    → opened_with store.units (tables_in store.transactions.pages)
+    (replicate (length store.transactions.sessions) None)
     ≡ view_of store
 fresh_view store fresh = λ i. record {
   memory = memory_of (tables_in store.transactions.pages)
@@ -228,7 +241,7 @@ fresh_view store fresh = λ i. record {
 -- ---- the store
 
 module _ (places : ℕ) (store : Store) (made : IsMade places store) (fresh : IsJustOpened store)
-    (holds : HoldsOpened places (tables_in store.transactions.pages))
+    (few : length store.transactions.sessions ≤ SESSIONS) (holds : HoldsOpened places (tables_in store.transactions.pages))
     (many : length store.transactions.pages.parts.directory.current ≡ store.units) where
   no_frame : (u page : ℕ) → frames_in store.transactions.pages u page ≡ None
   no_frame u page = ap (λ (slots : List (Option Buffer)). option_map frame_in
@@ -255,7 +268,7 @@ module _ (places : ℕ) (store : Store) (made : IsMade places store) (fresh : Is
           few = omega (arith, none_pinned, made.frames, made.two);
         };
       };
-      active = holds.active ∙ ap numbers_in (sym fresh.idle);
+      active = holds.active ∙ sym (no_numbers (length store.transactions.sessions)) ∙ ap numbers_in (sym fresh.idle);
     };
     count = λ up. many;
   }
@@ -268,7 +281,7 @@ module _ (places : ℕ) (store : Store) (made : IsMade places store) (fresh : Is
       → counter_of store ≤ 2 ^ 63 + 2 ^ 14 → OpensStore places old store new
   fresh_opens marks old new tells steps number left = record {
     fresh = fresh;
-    units = opened_counts marks places store.units t old new tells steps holds many;
+    units = opened_counts marks places store.units sessions few t old new tells steps holds many;
     anew = λ x told.
         let (y, then, has) = tells x told in (
           y,
@@ -277,18 +290,18 @@ module _ (places : ℕ) (store : Store) (made : IsMade places store) (fresh : Is
             layout = has.now;
             fits = subst (λ (v : View). MemoryFits places (chart_of y) has.now v.memory (at_rest empty))
                 (fresh_view store fresh)
-                (opened_fits marks places store.units t old new tells steps holds many (chart_of y) has.now
+                (opened_fits marks places store.units sessions few t old new tells steps holds many (chart_of y) has.now
                 has.mirrors);
             lists = has.lists;
           },
         );
     shows = λ pages m x told stands y then.
         subst (λ (v : View). ShowsState places pages v (at_rest m) y) (fresh_view store fresh)
-        (opened_shows marks places store.units t old new tells steps holds many pages m x y told stands then);
+        (opened_shows marks places store.units sessions few t old new tells steps holds many pages m x y told stands then);
     keeps = λ pages m k x told stands steady rests tidy.
-        subst (λ (v : View). KeepsStore places pages (limits_of store.units) v new k (at_rest m))
+        subst (λ (v : View). KeepsStore places pages (limits_in v) v new k (at_rest m))
         (fresh_view store fresh)
-        (opened_keeps marks places store.units t old new tells steps holds many pages m k x told stands steady
+        (opened_keeps marks places store.units sessions few t old new tells steps holds many pages m k x told stands steady
         rests tidy);
     number = number;
     left = left;
@@ -296,6 +309,9 @@ module _ (places : ℕ) (store : Store) (made : IsMade places store) (fresh : Is
     where
       t : Tables
       t = tables_in store.transactions.pages
+
+      sessions : ℕ
+      sessions = length store.transactions.sessions
 
   -- a store that stood for states stands for them with no session open, where no mark counts
   pub fresh_restarts : (marks : Bool) → marks ≡ false → (before : Memory) (old new : Told) → old.places ≡ places
@@ -305,7 +321,7 @@ module _ (places : ℕ) (store : Store) (made : IsMade places store) (fresh : Is
   fresh_restarts marks unmarked before old new suits tells steps =
       subst (λ (v : View). Restarts before old v.memory new) (fresh_view store fresh)
       (opened_leads marks places (tables_in store.transactions.pages) old new tells steps holds
-      unmarked before suits)
+      (length store.transactions.sessions) few unmarked before suits)
 
 -- ---- a store whose tables an opening wrote
 

@@ -132,7 +132,7 @@ memory_is t frames slots it is = λ i. record {
 -- a call in memory that makes these of it
 pub turned_in_memory : (next : State → State) (old new : Transactions) (t : Tables)
     (frames : Frames) (slots : SessionSlots) → IsMemory t frames slots new
-    → SamePlaces (tables_in old.pages) t
+    → length slots ≡ length old.sessions → SamePlaces (tables_in old.pages) t
     → ((p s : ℕ) → IsCountedClean t p s → IsCountedClean (tables_in old.pages) p s)
     → KeepsPins old.pages.pool new.pages.pool
     → HadFrames old.pages new.pages
@@ -140,11 +140,12 @@ pub turned_in_memory : (next : State → State) (old new : Transactions) (t : Ta
     → ((told : Told) → LeadsTo {T = Unit {0}} {E = ChipFault} next (memory_in old) told (Ok tt)
     (memory_of t frames slots) told)
     → TurnsInMemory next old new
-turned_in_memory next old new t frames slots is same clean pins had active leads = record {
+turned_in_memory next old new t frames slots is count same clean pins had active leads = record {
   leads = λ told. subst (λ (m : Memory). LeadsTo {T = Unit {0}} {E = ChipFault} next
       (memory_in old) told (Ok tt) m told) (memory_is t frames slots new is) (leads told);
   fewer = λ p s counted. clean p s (subst (λ (m : Memory). IsCountedClean m.tables p s)
       (sym (memory_is t frames slots new is)) counted);
+  sessions = ap (λ (v : SessionSlots). length v) is.slots_are ∙ count;
   directory = is.places ∙ same.places;
   status = ap (λ (s : StatusTable). s.place) is.status ∙ same.status;
   order = λ places order. record {

@@ -25,7 +25,6 @@ use Rattle.page_frames.specs.Spending.{ErasesAndLogs}
 use Rattle.store_laws.specs.Frames.{PageFrame, Frames}
 use Rattle.store_laws.specs.Room.{overfills_at}
 use Rattle.store_laws.specs.Advances.{memory_of, LeadsTo}
-use Rattle.store_laws.specs.Keeps.{limits_of}
 use Rattle.store_laws.specs.Refusals.{sessions_refuse_put}
 use Rattle.page_frames.specs.Pages.{tables_in, frames_in, IsFramed, KeepsFramedFor}
 use Rattle.page_frames.proofs.AskLemmas.{one_of_none}
@@ -34,7 +33,7 @@ use Rattle.ipl_store.specs.declared.transactions.Transactions.{Transactions}
 use Rattle.ipl_store.specs.Costs.{HasRoomFor, AsksToWrite}
 use Rattle.ipl_store.specs.Turns.{memory_in, CompletesFor, TellsFaultsForThen, Turns}
 use Rattle.ipl_store.specs.declared.store.Store.{Store}
-use Rattle.ipl_store.specs.Calls.{counter_of, ends_worn_out, tells_wear, IsSound, EndsAs, KeepsHolds, Calls}
+use Rattle.ipl_store.specs.Calls.{counter_of, ends_worn_out, tells_wear, IsSound, EndsAs, KeepsHolds, Calls, limits_of_store}
 use Rattle.ipl_store.specs.Puts.{found_room, put_fault, put_next, TellsRoom, HasBrought, BringsPageOf, PutsBy}
 use Rattle.ipl_store.specs.Shown.{Fetches, AsksFor, CostsOnePage, IsUsedLastIn}
 use Rattle.ipl_store.proofs.BroughtLemmas.{moves_then}
@@ -81,7 +80,7 @@ refused_put s n bytes old before fault is sound =
     (sym (early_found old s n bytes fault is)) (record {
       calls = calls_refused (put_fault old s n bytes) (put_next s n bytes (Err fault)) 14 old before
           (Err fault) fault is (early_unworn old
-          (sessions_refuse_put (limits_of old.units) old.transactions.sessions s n bytes) fault is) refl
+          (sessions_refuse_put (limits_of_store old) old.transactions.sessions s n bytes) fault is) refl
           sound;
       steps = λ none. tt;
       full = λ none. tt;
@@ -91,7 +90,7 @@ refused_put s n bytes old before fault is sound =
       stays = none_leaves (home_of n).unit (home_of n).page old.transactions.pages;
       asks = write_asks_nothing n (Some bytes) (tells_wear fault) old.transactions.pages before
           (early_unworn old
-          (sessions_refuse_put (limits_of old.units) old.transactions.sessions s n bytes) fault is);
+          (sessions_refuse_put (limits_of_store old) old.transactions.sessions s n bytes) fault is);
     })
 
 -- its page wasn't brought

@@ -25,11 +25,11 @@ use Rattle.store_trait.specs.Keeping.{LAST_NUMBER}
 use Rattle.store_laws.specs.Frames.{PageFrame, Frames}
 use Rattle.store_laws.specs.Room.{overfills_at}
 use Rattle.store_laws.specs.Advances.{memory_of}
-use Rattle.store_laws.specs.Keeps.{ShowsState, limits_of}
+use Rattle.store_laws.specs.Keeps.{ShowsState}
 use Rattle.store_laws.specs.Refusals.{sessions_refuse_put}
 use Rattle.store_laws.proofs.ViewLemmas.{shown_is_said, frames_tell_full}
 use Rattle.ipl_store.specs.declared.store.Store.{Store}
-use Rattle.ipl_store.specs.Calls.{view_of, counter_of, early_fault}
+use Rattle.ipl_store.specs.Calls.{view_of, counter_of, early_fault, limits_of_store}
 use Rattle.ipl_store.specs.Puts.{is_page_full, found_room, put_fault, BringsPageOf}
 
 -- ---- what is answered
@@ -81,9 +81,9 @@ pub early_found : (store : Store) (s n : ℕ) (bytes : List ℕ) (fault : StoreF
     → put_fault store s n bytes ≡ Some fault → found_room (Err fault) ≡ Err fault
 early_found store s n bytes fault is =
     early_stays store.down (nat_lt LAST_NUMBER (counter_of store))
-    (sessions_refuse_put (limits_of store.units) store.transactions.sessions s n bytes) fault is
+    (sessions_refuse_put (limits_of_store store) store.transactions.sessions s n bytes) fault is
     (λ r refused. none_full
-    (put_tests (limits_of store.units) store.transactions.sessions s n bytes) r refused refl)
+    (put_tests (limits_of_store store) store.transactions.sessions s n bytes) r refused refl)
 
 -- and one of the chip
 pub chip_found : (fault : StoreFault) (e : ChipFault) → fault ≡ Chip e

@@ -1,10 +1,10 @@
 -- What calls in memory make of the memory of a store.
-use Rattle.std.proofs.Common.{◌≡◌, ℕ, zero, suc, ◌<◌, ◌+◌, Bool, true, false, [], ◌∷◌, ◌++◌, List, All, map, length, Option, Some, None, refl, sym, ◌∙◌, ap, subst, arith, slice_set, if◌then◌else◌}
+use Rattle.std.proofs.Common.{◌≡◌, ℕ, zero, suc, ◌<◌, ◌+◌, Bool, true, false, [], ◌∷◌, ◌++◌, List, All, map, length, Some, None, refl, sym, ◌∙◌, ap, subst, arith, slice_set, if◌then◌else◌, ◌≤◌}
 use Rattle.std.specs.Option.{option_map}
-use Rattle.std.proofs.lemmas.List.{length-set}
 use Rattle.ipl_base.specs.declared.name.Name.{Name}
 use Rattle.ipl_model.specs.Operations as rules
 use Rattle.record_locks.specs.Held.{Held, SessionSlots, held_at, number_of, numbers_in, written_of, is_among, raised, with_written, with_shared, after_begin, after_share, after_write, after_end}
+use Rattle.record_locks.proofs.BatchLemmas.{calls_keep_slots}
 use Rattle.record_locks.specs.Locks.{refuses_begin, OneWriter, FewPending, IsSized}
 use Rattle.buffer_pool.specs.Holding.{KeepsPins}
 use Rattle.buffer_pool.specs.Pools.{PoolView}
@@ -22,12 +22,7 @@ use Rattle.ipl_store.specs.Turns.{memory_in, TurnsInMemory, IsSameButActive}
 use Rattle.ipl_store.proofs.OrderLemmas.{changed_had, same_had, turned_in_memory}
 use Rattle.ipl_store.proofs.OpenLemmas.{begins_unnumbered}
 
--- there are 32 sessions, before one of them changes too
-pub among_all : (slots : SessionSlots) (s : ℕ) (o : Option Held) → LocksHold (slice_set slots s o) → s < 32
-    → s < length slots
-among_all slots s o locks low = omega (arith, length-set slots s o, locks.all, low)
-
-pub locks_of : (slots : SessionSlots) → length slots ≡ 32 → OneWriter slots → All IsSized slots
+pub locks_of : (slots : SessionSlots) → length slots ≤ 32 → OneWriter slots → All IsSized slots
     → FewPending slots → LocksHold slots
 locks_of slots all one sized few =
     record { all = all; one_writer = one; sized = sized; few = few }
@@ -73,7 +68,7 @@ writes_keep_numbers slots s n size =
 
 -- ---- a session is opened
 
-pub begun : (s : ℕ) (old new : Transactions) → s < 32 → refuses_begin old.sessions s ≡ None
+pub begun : (s : ℕ) (old new : Transactions) → s < length old.sessions → refuses_begin old.sessions s ≡ None
     → new.sessions ≡ after_begin old.sessions s old.pages.parts.counter
     → LocksHold new.sessions
     → new.pages.parts.directory ≡ old.pages.parts.directory
@@ -98,16 +93,17 @@ begun s old new low closed slots locks directory overflow status counter active 
       frames_are = ap frames_of pool;
       slots_are = slots;
     })
+    ((calls_keep_slots old.sessions s).begins tid)
     (record { places = refl; overflow = refl; status = refl }) (λ p s counted. counted)
     (subst (KeepsPins old.pages.pool) (sym pool) (nothing_keeps old.pages.pool))
     (same_had old.pages new.pages (ap frames_of pool)) (λ had. refl)
     (λ told. begins_lead s tid (memory_in old) told
-    (among_all old.sessions s _ locked low)
+    low
     (begins_unnumbered old.sessions s closed) (omega arith) locked)
 
 -- ---- a session shares a name
 
-pub shared : (s n : ℕ) (old new : Transactions) → s < 32
+pub shared : (s n : ℕ) (old new : Transactions) → s < length old.sessions
     → new.sessions ≡ after_share old.sessions s n → LocksHold new.sessions
     → new.pages ≡ old.pages
     → TurnsInMemory (λ state. rules.after_share state s n) old new
@@ -125,17 +121,18 @@ shared s n old new low slots locks pages =
       frames_are = ap frames_in pages;
       slots_are = slots;
     })
+    ((calls_keep_slots old.sessions s).shares n)
     (record { places = refl; overflow = refl; status = refl }) (λ p s counted. counted)
     (subst (λ (p : Pages). KeepsPins old.pages.pool p.pool) (sym pages)
     (nothing_keeps old.pages.pool))
     (same_had old.pages new.pages (ap frames_in pages))
     (λ had. had ∙ sym (shares_keep_numbers old.sessions s n))
-    (λ told. shares_lead s n (memory_in old) told (among_all old.sessions s _ locked low) locked)
+    (λ told. shares_lead s n (memory_in old) told low locked)
 
 -- ---- a session is aborted
 
 pub aborted : (s tid : ℕ) (names : List Name) (old new : Transactions) (pool : PoolView)
-    → s < 32 → number_of old.sessions s ≡ Some tid
+    → s < length old.sessions → number_of old.sessions s ≡ Some tid
     → map (λ (n : Name). n.0) names ≡ written_of old.sessions s
     → NamedFramesChange (IsAbortedFrame tid) (map (λ (n : Name). n.0) names)
     (frames_of old.pages.pool) (frames_of pool)
@@ -162,6 +159,7 @@ aborted s tid names old new pool low mine written dropped pins rest slots active
       frames_are = ap frames_of rest.pool;
       slots_are = slots;
     })
+    (calls_keep_slots old.sessions s).ends
     (record { places = refl; overflow = refl; status = refl }) (λ p s counted. counted)
     (subst (KeepsPins old.pages.pool) (sym rest.pool) pins)
     (changed_had (IsSameOr (IsAbortedFrame tid)) old.pages new.pages
@@ -169,4 +167,4 @@ aborted s tid names old new pool low mine written dropped pins rest slots active
     (frames_in old.pages) (frames_of p)) (sym rest.pool) change.each))
     (λ had. refl)
     (λ told. aborts_lead s tid (memory_in old) (frames_of pool) told
-    (among_all old.sessions s None locked low) mine change locked)
+    low mine change locked)

@@ -1,5 +1,5 @@
 -- Calls that keep each state, and then one that leads to the next.
-use Rattle.std.proofs.Common.{◌≡◌, ℕ, ◌≤◌, ◌+◌, Bool, false, Result, Ok, Err, is_ok, inr, refl, sym, ◌∙◌, ap, subst, arith}
+use Rattle.std.proofs.Common.{◌≡◌, ℕ, ◌≤◌, ◌+◌, Bool, false, Result, Ok, Err, is_ok, inr, refl, sym, ◌∙◌, ap, subst, arith, length}
 use Rattle.chip_trait.specs.Story.{Contents}
 use Rattle.ipl_meaning.specs.Layout.{Layout}
 use Rattle.chip_trait.specs.Told.{Told}
@@ -60,6 +60,7 @@ upheld_then next n m old mid new result before between after did same turns =
           (is_ok result) (is_worn_out result) before between after did.wears turns.wears;
       order = subst (λ (places : ℕ). IsInOrder places new) counts.places turns.order;
       units = turns.units ∙ did.units;
+      sessions = turns.sessions ∙ ap (λ (v : SessionSlots). length v) same;
       pins = both_keep old.pages.pool mid.pages.pool new.pages.pool did.pins turns.pins;
       least = omega (arith, did.least, turns.least);
       drawn = omega (arith, did.drawn, turns.drawn);
@@ -82,6 +83,7 @@ upheld_no_more next n old new e before after order did same = record {
   wears = did.wears;
   order = upheld_order n old new (Err e) before after order did same;
   units = did.units;
+  sessions = ap (λ (v : SessionSlots). length v) same;
   pins = did.pins;
   least = did.least;
   drawn = did.drawn;
@@ -156,6 +158,7 @@ turns_weaker next n m old new result before after fewer turns = record {
   wears = turns.wears;
   order = turns.order;
   units = turns.units;
+  sessions = turns.sessions;
   pins = turns.pins;
   least = turns.least;
   drawn = omega (arith, turns.drawn, fewer);

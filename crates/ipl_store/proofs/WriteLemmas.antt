@@ -11,7 +11,7 @@ use Rattle.ipl_base.specs.declared.spot.Home.{Home}
 use Rattle.ipl_format.specs.Record.{Change, Record, IsRecord}
 use Rattle.ipl_model.specs.Operations as rules
 use Rattle.ipl_model.specs.State.{State}
-use Rattle.record_locks.specs.Held.{peaks_in, number_of, numbers_in, after_write}
+use Rattle.record_locks.specs.Held.{peaks_in, number_of, numbers_in, after_write, SessionSlots}
 use Rattle.ipl_meaning.specs.Chart.{chart_of}
 use Rattle.chip_trait.specs.Story.{Contents}
 use Rattle.ipl_meaning.specs.Layout.{Layout}
@@ -46,7 +46,8 @@ use Rattle.page_frames.specs.Asks.{AsksToPrepare}
 use Rattle.ipl_store.specs.Costs.{HasRoomFor, AsksToWrite}
 use Rattle.ipl_store.specs.Turns.{memory_in, CompletesFor, IsInOrder, MayTake, TellsFaultsForBy, Turns}
 use Rattle.ipl_store.proofs.OrderLemmas.{HadFrames, still_ready}
-use Rattle.ipl_store.proofs.SessionLemmas.{among_all, writes_keep_numbers}
+use Rattle.ipl_store.proofs.SessionLemmas.{writes_keep_numbers}
+use Rattle.record_locks.proofs.BatchLemmas.{calls_keep_slots}
 use Rattle.ipl_store.proofs.TurnLemmas.{upheld_order_then, upheld_then}
 
 -- one page's frame changed
@@ -188,7 +189,7 @@ unframed_put n it (Some bytes) (f, was, fits) some none =
 
 -- a record was put behind those of its page, which has room for it
 pub was_put : (s n u : ℕ) (r : Record) (old new : Transactions) (told : Told)
-    → IsInOrder told.places old → s < 32 → number_of old.sessions s ≡ Some r.tid
+    → IsInOrder told.places old → s < length old.sessions → number_of old.sessions s ≡ Some r.tid
     → u < length old.pages.parts.directory.current → IsRecord VERSION r → name_at u r.page r.slot ≡ n
     → new.sessions ≡ after_write old.sessions s n (size_in_page r.change) → LocksHold new.sessions
     → new.pages.parts ≡ old.pages.parts
@@ -209,7 +210,7 @@ was_put s n u r old new told order low mine of_unit valid home slots locks parts
     (memory_of t (with_frame_at (frames_in old.pages) u r.page (Some did.now))
     (after_write old.sessions s k size)) told) home
     (writes_lead s u r did.was did.now (memory_in old) told
-    (among_all old.sessions s _ locked low) mine of_unit valid did.there did.changes room) locked in
+    low mine of_unit valid did.there did.changes room) locked in
     record {
       leads = subst (λ (m : Memory). LeadsTo {T = Unit {0}} {E = ChipFault} next (memory_in old)
           told (Ok tt) m told)
@@ -228,6 +229,7 @@ was_put s n u r old new told order low mine of_unit valid home slots locks parts
             ∙ sym (writes_keep_numbers old.sessions s n size) ∙ ap numbers_in (sym slots);
       };
       units = ap (λ (p : Parts). length p.directory.current) parts;
+      sessions = ap (λ (v : SessionSlots). length v) slots ∙ (calls_keep_slots old.sessions s).writes n size;
       pins = pins;
       least = omega (arith, ap (λ (p : Parts). p.counter) parts);
       drawn = omega (arith, ap (λ (p : Parts). p.counter) parts);
@@ -236,7 +238,7 @@ was_put s n u r old new told order low mine of_unit valid home slots locks parts
 
 -- after the record's page was brought into its frame
 pub was_written : (s n u : ℕ) (r : Record) (old new : Transactions) (mid : Pages)
-    (before after : Told) → IsInOrder before.places old → s < 32 → number_of old.sessions s ≡ Some r.tid
+    (before after : Told) → IsInOrder before.places old → s < length old.sessions → number_of old.sessions s ≡ Some r.tid
     → n < 960 * length old.pages.parts.directory.current → n ≡ name_at u r.page r.slot → IsRecord VERSION r
     → Upholds 14 old.pages before (Ok (tt {0})) mid after
     → new.sessions ≡ after_write old.sessions s n (size_in_page r.change) → LocksHold new.sessions

@@ -24,7 +24,7 @@ use Rattle.buffer_pool.specs.Holding.{is_pinned, pinned_count, KeepsPins}
 use Rattle.store_trait.specs.Keeping.{LAST_NUMBER}
 use Rattle.store_laws.specs.Advances.{Memory, MemoryFits, LeadsTo}
 use Rattle.record_locks.specs.Standing.{state_of}
-use Rattle.store_laws.specs.Keeps.{View, ShowsState, limits_of}
+use Rattle.store_laws.specs.Keeps.{View, ShowsState, limits_in}
 use Rattle.place_taking.specs.Spending.{tells_worn}
 use Rattle.place_taking.specs.Wear.{TellsOfWear}
 use Rattle.unit_io.specs.Steps.{Tidies}
@@ -41,6 +41,10 @@ memory_of_store store = memory_in store.transactions
 -- as a run over a script sees it
 abbrev pub view_of : Store → View
 view_of store = record { memory = memory_of_store store; units = store.units; down = store.down }
+
+-- its limits: so many sessions, and the units of its chip with their names
+abbrev pub limits_of_store : Store → Limits
+limits_of_store store = limits_in (view_of store)
 
 -- the next number that it draws
 abbrev pub counter_of : Store → ℕ
@@ -121,16 +125,16 @@ refuses_release units pool u page = first_of (bad_page units u page ∷ not_held
 -- what ends a call early that looks up a name for a session
 abbrev pub get_fault : Store → ℕ → ℕ → Option StoreFault
 get_fault store s n = early_fault (entry_fault store)
-    (refuses_get (limits_of store.units) (state_of store.transactions.sessions) s n)
+    (refuses_get (limits_of_store store) (state_of store.transactions.sessions) s n)
 
 -- one by which the session shares it
 abbrev pub share_fault : Store → ℕ → ℕ → Option StoreFault
 share_fault store s n = early_fault (entry_fault store)
-    (refuses_share (limits_of store.units) (state_of store.transactions.sessions) s n)
+    (refuses_share (limits_of_store store) (state_of store.transactions.sessions) s n)
 
 -- and one for no session
 abbrev pub name_fault : Store → ℕ → Option StoreFault
-name_fault store n = early_fault (entry_fault store) (refuses_name (limits_of store.units) n)
+name_fault store n = early_fault (entry_fault store) (refuses_name (limits_of_store store) n)
 
 -- ---- calls that do something
 
@@ -222,9 +226,9 @@ abbrev pub KeepsHolds : Store → Store → Type 0
 KeepsHolds old new = KeepsPins old.transactions.pages.pool new.transactions.pages.pool
 
 -- A call of a store: it ends early with this fault, and nothing was done; or it does what it is
--- for. The store is sound either way, with as many units, and whatever the chip tells, its events
--- are lawful by the tables, what is retired besides was found worn, and a unit whose place was
--- erased is known.
+-- for. The store is sound either way, with as many units and sessions, and whatever the chip tells,
+-- its events are lawful by the tables, what is retired besides was found worn, and a unit whose
+-- place was erased is known.
 pub record Calls {T : Type 0} (early : Option StoreFault) (next : State → State) (most : ℕ)
     (old : Store) (before : Told) (result : Result T StoreFault) (new : Store) (after : Told)
     : Type 0 where
@@ -233,6 +237,7 @@ pub record Calls {T : Type 0} (early : Option StoreFault) (next : State → Stat
   pub serves : early ≡ None → Serves next most old before result new after
   pub sound : IsSound before.places new
   pub units : new.units ≡ old.units
+  pub sessions : length new.transactions.sessions ≡ length old.transactions.sessions
   pub tidy : Tidies (tables_in old.transactions.pages) result (tables_in new.transactions.pages)
       before after
   pub wears : TellsOfWear (tables_in old.transactions.pages) (tables_in new.transactions.pages) (is_ok result)

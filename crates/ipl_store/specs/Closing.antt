@@ -1,5 +1,5 @@
 -- What a clean close leaves of a store.
-use Rattle.std.specs.Prelude.{◌≡◌, ◌<◌, ◌≤◌, ◌+◌, ◌^◌, true, Option, Some, None, Result, Ok, Err, MatchResult, OnOk, is_ok}
+use Rattle.std.specs.Prelude.{◌≡◌, ◌<◌, ◌≤◌, ◌+◌, ◌^◌, true, length, Option, Some, None, Result, Ok, Err, MatchResult, OnOk, is_ok}
 use Rattle.chip_trait.specs.Told.{Told, Counts}
 use Rattle.ipl_base.specs.declared.fault.ChipFault.{ChipFault}
 use Rattle.ipl_base.specs.declared.fault.StoreFault.{StoreFault}
@@ -37,6 +37,7 @@ pub record MarksStore (old : Store) (before : Told) (result : Result (Unit {0}) 
   pub down : new.down ≡ true
   pub closed : new.closed ≡ true
   pub units : new.units ≡ old.units
+  pub sessions : new.transactions.sessions ≡ old.transactions.sessions
 
 -- The status place was made ready, as by any call that keeps the state, for which the chip isn't asked where it has room;
 -- and then a mark was written.
@@ -50,13 +51,14 @@ pub record ServesClose (old : Store) (before : Told) (result : Result (Unit {0})
   pub wears : TellsOfWear (tables_in old.transactions.pages) (tables_in between.transactions.pages) (is_ok readied)
       (ends_worn_out readied) before told
   pub units : between.units ≡ old.units
+  pub sessions : length between.transactions.sessions ≡ length old.transactions.sessions
   pub counts : Counts before told
   pub idle : 0 < room_of old.transactions.pages.parts.status → told ≡ before
   pub then : MatchResult readied (λ _. MarksStore between told result new after)
       (λ fault. (result ≡ Err fault) × (new ≡ between) × (after ≡ told))
 
 -- It ends early with this fault, and nothing was done; or it does what it is for. The store is sound either
--- way, with as many units.
+-- way, with as many units and sessions.
 pub record ClosesStore (early : Option StoreFault) (old : Store) (before : Told)
     (result : Result (Unit {0}) StoreFault) (new : Store) (after : Told) : Type 0 where
   pub refuses : (fault : StoreFault) → early ≡ Some fault
@@ -64,4 +66,5 @@ pub record ClosesStore (early : Option StoreFault) (old : Store) (before : Told)
   pub serves : early ≡ None → ServesClose old before result new after
   pub sound : IsSound before.places new
   pub units : new.units ≡ old.units
+  pub sessions : length new.transactions.sessions ≡ length old.transactions.sessions
   pub counts : Counts before after

@@ -6,7 +6,6 @@ use Rattle.ipl_base.specs.declared.fault.ImageFault.{ImageFault}
 use Rattle.ipl_base.specs.declared.fault.ImageFault.TheVariants.{Geometry}
 use Rattle.ipl_base.specs.declared.fault.OpenFault.{OpenFault}
 use Rattle.ipl_base.specs.declared.fault.OpenFault.TheVariants.{Image, OutOfMemory}
-use Rattle.ipl_base.specs.declared.limits.TheConstants.{SESSIONS}
 use Rattle.ipl_base.specs.Places.{IsGeometry, KeepsUnits}
 use Rattle.ipl_model.specs.Operations.{after_restart}
 use Rattle.ipl_model.specs.State.{Map, at_rest}
@@ -29,16 +28,16 @@ use Rattle.unit_io.specs.Reads.{OfContents}
 use Rattle.restart.specs.Passes.{HasErased, ListsRetired}
 use Rattle.restart.specs.Recovers.{CompletesOpening, CountsMarks, ErasesOpening, IsDrawnBehind, RecoversTold, LooksAtFaults, RecoversInSteps, TidiesOpening, OpeningCause}
 use Rattle.store_laws.specs.Advances.{Memory, MemoryFits, LeadsTo}
-use Rattle.store_laws.specs.Keeps.{limits_of, ShowsState, KeepsStore}
+use Rattle.store_laws.specs.Keeps.{ShowsState, KeepsStore}
 use Rattle.page_frames.specs.Pages.{tables_in}
 use Rattle.ipl_store.specs.declared.store.Store.{Store}
-use Rattle.ipl_store.specs.Calls.{memory_of_store, view_of, counter_of, IsSound}
+use Rattle.ipl_store.specs.Calls.{memory_of_store, view_of, limits_of_store, counter_of, IsSound}
 
 -- the store isn't down, no session is open, and no page is in a frame
 pub record IsJustOpened (store : Store) : Type 0 where
   pub up : store.down ≡ false
   pub unclosed : store.closed ≡ false
-  pub idle : store.transactions.sessions ≡ replicate SESSIONS None
+  pub idle : store.transactions.sessions ≡ replicate (length store.transactions.sessions) None
   pub empty : store.transactions.pages.pool.buffers.slots ≡ []
 
 -- The memory fits the chart, with no session open, and the header of the status place lists exactly the
@@ -61,7 +60,7 @@ pub record OpensStore (places : ℕ) (old : Told) (store : Store) (new : Told) :
   pub keeps : (pages : Legibility) (m : Map) (k : History) → OfContents old (λ x. Stands places (chart_of x) (of pages m)
       → IsSteady k new → StoryRests places (of pages m) k
       → IsTidy k (tables_in store.transactions.pages)
-      → KeepsStore places pages (limits_of store.units) (view_of store) new k (at_rest m))
+      → KeepsStore places pages (limits_of_store store) (view_of store) new k (at_rest m))
   pub number : OfContents old (λ x. IsDrawnBehind (greatest_found (chart_of x) places) (counter_of store))
   pub left : counter_of store ≤ 2 ^ 63 + 2 ^ 14
 

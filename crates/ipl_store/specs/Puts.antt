@@ -18,17 +18,17 @@ use Rattle.unit_io.specs.Reads.{OfContents}
 use Rattle.store_laws.specs.Frames.{PageFrame, Frames}
 use Rattle.store_laws.specs.Room.{overfills_at}
 use Rattle.store_laws.specs.Advances.{memory_of, KeepsState, LeadsTo}
-use Rattle.store_laws.specs.Keeps.{ShowsState, limits_of}
+use Rattle.store_laws.specs.Keeps.{ShowsState}
 use Rattle.store_laws.specs.Refusals.{sessions_refuse_put}
 use Rattle.page_frames.specs.Asks.{AsksToBring}
 use Rattle.page_frames.specs.Pages.{tables_in, frames_in, IsFramed, Upholds}
 use Rattle.ipl_store.specs.declared.store.Store.{Store}
-use Rattle.ipl_store.specs.Calls.{memory_of_store, view_of, early_fault, entry_fault}
+use Rattle.ipl_store.specs.Calls.{memory_of_store, view_of, early_fault, entry_fault, limits_of_store}
 
 -- why a put ends before its page is looked at, if it does
 abbrev pub put_fault : Store → ℕ → ℕ → List ℕ → Option StoreFault
 put_fault store s n bytes = early_fault (entry_fault store)
-    (sessions_refuse_put (limits_of store.units) store.transactions.sessions s n bytes)
+    (sessions_refuse_put (limits_of_store store) store.transactions.sessions s n bytes)
 
 -- ---- the answer
 

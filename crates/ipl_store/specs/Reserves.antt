@@ -1,10 +1,9 @@
 -- What a store has left before it ends, as its tables have it.
-use Rattle.std.specs.Prelude.{ℕ, ◌≡◌, ◌+◌, ◌-◌, length}
+use Rattle.std.specs.Prelude.{◌≡◌, ◌+◌, ◌-◌, length}
 use Rattle.txn_status.specs.Status.{room_of}
 use Rattle.unit_directory.specs.Free.{spares_of}
 use Rattle.unit_directory.specs.Reserves.{least_erases, most_erases, least_clean_logs}
 use Rattle.store_trait.specs.Keeping.{LAST_NUMBER}
-use Rattle.selective_merge.specs.declared.parts.Parts.{Parts}
 use Rattle.ipl_store.specs.Calls.{counter_of}
 use Rattle.ipl_store.specs.declared.store.Store.{Store}
 use Rattle.ipl_store.specs.declared.reserves.Reserves.{Reserves}

@@ -2,7 +2,6 @@
 use Rattle.std.specs.Prelude.{ℕ, ◌≡◌, ◌<◌, ◌*◌, length, None, Result}
 use Rattle.chip_trait.specs.Told.{Told}
 use Rattle.ipl_base.specs.declared.fault.ChipFault.{ChipFault}
-use Rattle.ipl_base.specs.declared.limits.TheConstants.{SESSIONS}
 use Rattle.ipl_base.specs.Places.{home_of}
 use Rattle.ipl_base.specs.Sizes.{size_in_page}
 use Rattle.ipl_format.specs.Record.{Change}
@@ -13,10 +12,10 @@ use Rattle.page_frames.specs.Pages.{tables_in, frames_in, HasFreeFrame}
 use Rattle.ipl_store.specs.declared.transactions.Transactions.{Transactions}
 use Rattle.ipl_store.specs.Turns.{CompletesFor, MayTake, TellsFaultsForSurely, TellsFaultsForThen}
 
--- The session may write the name so: it is one of 32, and the name one of the chip's; no lock keeps
+-- The session may write the name so: there is such a session, and the name is one of the chip's; no lock keeps
 -- it from it, and a put has room.
 pub record MayWrite (it : Transactions) (s n : ℕ) (change : Change) : Type 0 where
-  pub session : s < SESSIONS
+  pub session : s < length it.sessions
   pub name : n < 960 * length it.pages.parts.directory.current
   pub unrefused : refuses_write it.sessions s n (size_in_page change) ≡ None
   pub room : MayTake it n change

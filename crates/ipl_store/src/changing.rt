@@ -5,7 +5,6 @@ ghost use Rattle.ipl_base.specs.Places.{home_of};
 ghost use Rattle.ipl_model.specs.Operations.{after_write, after_commit, after_batch};
 ghost use Rattle.ipl_model.specs.Refusals.{refuses_end, refuses_batch};
 ghost use Rattle.record_locks.specs.Standing.{state_of};
-ghost use Rattle.store_laws.specs.Keeps.{limits_of};
 ghost use Rattle.store_laws.specs.Refusals.{sessions_refuse_del};
 ghost use Rattle.page_frames.specs.Pages.{IsFramed, KeepsFramed, KeepsFramedFor};
 ghost use Rattle.ipl_store.specs.Costs.{AsksToWrite, CommitAsks};
@@ -17,6 +16,7 @@ ghost use Rattle.ipl_store.specs.Calls.{
   early_fault,
   ends_worn_out,
   entry_fault,
+  limits_of_store,
 };
 ghost use Rattle.ipl_store.specs.Puts.{found_room, put_fault, put_next, PutsBy, TellsRoom};
 ghost use Rattle.ipl_store.specs.Shown.{IsUsedLastIn};
@@ -80,11 +80,11 @@ impl Store {
     pub fn del<C: Chip>(&mut self, chip: &mut C, s: u32, n: u32) -> Result<(), StoreFault>
         requires sound { IsSound (C.told chip.old).places self.old }
         ensures calls { Calls (early_fault (entry_fault self.old)
-            (sessions_refuse_del (limits_of self.old.units) self.old.transactions.sessions s n))
+            (sessions_refuse_del (limits_of_store self.old) self.old.transactions.sessions s n))
             (λ state. after_write state s (n, None)) 14
             self.old (C.told chip.old) result self.new (C.told chip.new) }
         ensures surely { early_fault (entry_fault self.old)
-            (sessions_refuse_del (limits_of self.old.units) self.old.transactions.sessions s n) ≡ None
+            (sessions_refuse_del (limits_of_store self.old) self.old.transactions.sessions s n) ≡ None
             → BlamesPagesSurely self.old (C.told chip.old) result self.new (C.told chip.new) }
         ensures holds { KeepsHolds self.old self.new }
         ensures framed { OnOk result
@@ -107,7 +107,7 @@ impl Store {
     pub fn commit<C: Chip>(&mut self, chip: &mut C, s: u32) -> Result<(), StoreFault>
         requires sound { IsSound (C.told chip.old).places self.old }
         ensures calls { Calls (early_fault (entry_fault self.old)
-            (refuses_end (limits_of self.old.units) (state_of self.old.transactions.sessions) s))
+            (refuses_end (limits_of_store self.old) (state_of self.old.transactions.sessions) s))
             (λ state. after_commit state s) (2 ^ 15)
             self.old (C.told chip.old) result self.new (C.told chip.new) }
         ensures holds { KeepsHolds self.old self.new }
@@ -128,7 +128,7 @@ impl Store {
         requires sound { IsSound (C.told chip.old).places self.old }
         requires few { length sessions.now ≤ SESSIONS }
         ensures calls { Calls (early_fault (entry_fault self.old)
-            (refuses_batch (limits_of self.old.units) (state_of self.old.transactions.sessions)
+            (refuses_batch (limits_of_store self.old) (state_of self.old.transactions.sessions)
             sessions.now)) (λ state. after_batch state sessions.now) (2 ^ 15)
             self.old (C.told chip.old) result self.new (C.told chip.new) }
         ensures holds { KeepsHolds self.old self.new }

@@ -97,7 +97,7 @@ impl Transactions {
         Ok(())
     }
 
-    /// Commits sessions (at most 32, each 0 to 31) together: where they wrote names, their records
+    /// Commits sessions (at most 32) together: where they wrote names, their records
     /// are written out, those of a page by one log sector whichever sessions have them, and then,
     /// by one commit sector, the numbers of those that wrote some. Where none did, all are closed,
     /// and the chip isn't asked.

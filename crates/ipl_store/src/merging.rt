@@ -6,7 +6,6 @@ ghost use Rattle.unit_io.specs.Costs.{Spends};
 ghost use Rattle.ipl_model.specs.Refusals.{refuses_merge};
 ghost use Rattle.selective_merge.specs.Merging.{Merges};
 ghost use Rattle.place_taking.specs.Spending.{ErasesFor};
-ghost use Rattle.store_laws.specs.Keeps.{limits_of};
 ghost use Rattle.page_frames.specs.Pages.{tables_in, KeepsFramed};
 ghost use Rattle.ipl_store.specs.Calls.{
   BlamesPagesSurely,
@@ -16,6 +15,7 @@ ghost use Rattle.ipl_store.specs.Calls.{
   early_fault,
   ends_worn_out,
   entry_fault,
+  limits_of_store,
 };
 
 use crate::Store;
@@ -29,9 +29,9 @@ impl Store {
     pub fn merge<C: Chip>(&mut self, chip: &mut C, unit: u32) -> Result<(), StoreFault>
         requires sound { IsSound (C.told chip.old).places self.old }
         ensures calls { Calls (early_fault (entry_fault self.old)
-            (refuses_merge (limits_of self.old.units) unit)) (λ state. state) 13
+            (refuses_merge (limits_of_store self.old) unit)) (λ state. state) 13
             self.old (C.told chip.old) result self.new (C.told chip.new) }
-        ensures surely { early_fault (entry_fault self.old) (refuses_merge (limits_of self.old.units) unit)
+        ensures surely { early_fault (entry_fault self.old) (refuses_merge (limits_of_store self.old) unit)
             ≡ None → BlamesPagesSurely self.old (C.told chip.old) result self.new (C.told chip.new) }
         ensures holds { KeepsHolds self.old self.new }
         ensures framed { KeepsFramed self.old.transactions.pages self.new.transactions.pages }

@@ -19,7 +19,7 @@ pub(crate) fn active_numbers(sessions: &Sessions) -> Active
 {
     sessions.facts();
     let mut active = Active::none();
-    for s in 0..32u32 {
+    for s in 0..sessions.count() {
         if let Some(number) = sessions.number(s) {
             active.add(number);
         }
@@ -27,9 +27,9 @@ pub(crate) fn active_numbers(sessions: &Sessions) -> Active
     active
 }
 
-/// The number of a session (0 to 31), where it wrote something.
+/// The number of a session, where it wrote something.
 fn writer_number(sessions: &Sessions, s: u32) -> Option<u64>
-    requires { s < SESSIONS }
+    requires { s < length sessions.now }
     ensures { writer_number (written_of sessions.now s) (number_of sessions.now s)
         ≡ option_map_or (λ tid. tid ∷ []) result [] }
 {
@@ -39,10 +39,9 @@ fn writer_number(sessions: &Sessions, s: u32) -> Option<u64>
     sessions.number(s)
 }
 
-/// The numbers of those of these sessions (at most 32, each 0 to 31) that wrote something, in their
-/// order.
+/// The numbers of those of these sessions (at most 32) that wrote something, in their order.
 pub(crate) fn writer_numbers(sessions: &Sessions, numbers: &[u32]) -> Active
-    requires low { (s : ℕ) → Contains numbers.now s → s < SESSIONS }
+    requires low { (s : ℕ) → Contains numbers.now s → s < length sessions.now }
     requires few { length numbers.now ≤ SESSIONS }
     ensures { result ≡ writer_numbers sessions.now numbers.now }
 {

@@ -1,5 +1,5 @@
 //! A chip is opened, at first and again.
-ghost use Rattle.std.specs.Prelude.{◌≡◌, ◌≤◌, ℕ, [], false, true, None, IfOk, OnOk, replicate};
+ghost use Rattle.std.specs.Prelude.{◌≡◌, ◌≤◌, ℕ, [], false, true, None, IfOk, OnOk, length, replicate};
 ghost use Rattle.ipl_base.specs.declared.limits.TheConstants.{SESSIONS};
 ghost use Rattle.page_frames.specs.Pages.{tables_in};
 ghost use Rattle.ipl_store.specs.Calls.{memory_of_store, IsMade, IsSound};
@@ -16,17 +16,24 @@ use selective_merge::Active;
 use std::alloc::Global;
 
 impl Store {
-    /// The memory of a store with 2 to 64 frames for pages, for a chip that isn't opened yet: it is
-    /// down. `reopen` takes no more memory.
-    pub fn closed(alloc: Global, geometry: Geometry, frames: u32) -> Result<Store, OutOfMemory>
+    /// The memory of a store with 2 to 64 frames for pages and 32 sessions at most, for a chip that
+    /// isn't opened yet: it is down. `reopen` takes no more memory.
+    pub fn closed(
+        alloc: Global,
+        geometry: Geometry,
+        frames: u32,
+        sessions: u32,
+    ) -> Result<Store, OutOfMemory>
         requires two { 2 ≤ frames }
         requires few { frames ≤ 64 }
+        requires sessions { sessions ≤ SESSIONS }
         ensures sound { IfOk result (λ store. IsSound geometry.places store) }
         ensures down { IfOk result (λ store. (store.down ≡ true) × (store.closed ≡ false)) }
         ensures frames { IfOk result (λ store. store.frames ≡ frames) }
+        ensures sessions { IfOk result (λ store. length store.transactions.sessions ≡ sessions) }
     {
         let pages = Pages::new(alloc, geometry, frames)?;
-        let sessions = Sessions::new(alloc)?;
+        let sessions = Sessions::new(alloc, sessions)?;
         Ok(Store {
             transactions: Transactions { pages, sessions },
             kept: KeptNumbers::new(alloc)?,
@@ -40,7 +47,11 @@ impl Store {
 
     /// Forgets all sessions, and the pages in frames. The store is down.
     fn forget(&mut self)
-        ensures idle { self.new.transactions.sessions ≡ replicate SESSIONS None }
+        ensures idle { self.new.transactions.sessions
+            ≡ replicate (length self.new.transactions.sessions) None }
+        ensures sessions { length self.new.transactions.sessions
+            ≡ length self.old.transactions.sessions }
+        ensures few { length self.new.transactions.sessions ≤ SESSIONS }
         ensures empty { self.new.transactions.pages.pool.buffers.slots ≡ [] }
         ensures active { self.new.transactions.pages.parts.active ≡ [] }
         ensures down { (self.new.down ≡ true) × (self.new.closed ≡ false) }
@@ -51,6 +62,7 @@ impl Store {
         self.down = true;
         self.closed = false;
         self.transactions.sessions.reset();
+        self.transactions.sessions.facts();
         self.transactions.pages.pool.reset();
         self.transactions.pages.parts.active = Active::none();
     }
@@ -63,6 +75,8 @@ impl Store {
         requires sound { IsSound (C.told chip.old).places self.old }
         ensures sound { IsSound (C.told chip.old).places self.new }
         ensures frames { self.new.frames ≡ self.old.frames }
+        ensures sessions { length self.new.transactions.sessions
+            ≡ length self.old.transactions.sessions }
         ensures opens { Reopens (C.told chip.old).places self.old (C.told chip.old) result self.new
             (C.told chip.new) }
         ensures tries { Tries marks (C.told chip.old).places (C.told chip.old) result
@@ -81,20 +95,27 @@ impl Store {
         Ok(())
     }
 
-    /// Opens a chip of 5 to 1,028 places, with 2 to 64 frames for pages. The store has the records
-    /// for which the chip's contents stand, and no session is open. Memory is taken before the
-    /// first read.
-    pub fn open<C: Chip>(alloc: Global, chip: &mut C, frames: u32) -> Result<Store, OpenFault>
+    /// Opens a chip of 5 to 1,028 places, with 2 to 64 frames for pages, and so many sessions, 32 at
+    /// most. The store has the records for which the chip's contents stand, and no session is open.
+    /// Memory is taken before the first read.
+    pub fn open<C: Chip>(
+        alloc: Global,
+        chip: &mut C,
+        frames: u32,
+        sessions: u32,
+    ) -> Result<Store, OpenFault>
         requires two { 2 ≤ frames }
         requires few { frames ≤ 64 }
+        requires sessions { sessions ≤ SESSIONS }
         ensures opens { OpensAs (C.told chip.old).places (C.told chip.old) result
             (C.told chip.new) }
         ensures frames { IfOk result (λ store. store.frames ≡ frames) }
+        ensures sessions { IfOk result (λ store. length store.transactions.sessions ≡ sessions) }
     {
         let Some(geometry) = Geometry::of(chip.units()) else {
             return Err(OpenFault::Image(ImageFault::Geometry));
         };
-        let Ok(mut store) = Store::closed(alloc, geometry, frames) else {
+        let Ok(mut store) = Store::closed(alloc, geometry, frames, sessions) else {
             return Err(OpenFault::OutOfMemory);
         };
         store.open_chip(chip, true)?;
@@ -108,6 +129,7 @@ impl Store {
         requires sound { IsSound (C.told chip.old).places self }
         ensures sound { IsSound (C.told chip.old).places result.0 }
         ensures frames { result.0.frames ≡ self.frames }
+        ensures sessions { length result.0.transactions.sessions ≡ length self.transactions.sessions }
         ensures opens { Reopens (C.told chip.old).places self (C.told chip.old) result.1 result.0
             (C.told chip.new) }
         ensures tries { Tries self.closed (C.told chip.old).places (C.told chip.old) result.1

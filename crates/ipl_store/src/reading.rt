@@ -2,7 +2,7 @@
 ghost use Rattle.std.specs.Prelude.{◌≡◌, ◌<◌, ◌≤◌, ◌*◌, ℕ, List, Option, false, Some, None, IfOk, IfSome, OnOk, length, option_map};
 ghost use Rattle.std.specs.Borrow.{sem, Bor};
 ghost use Rattle.std.specs.Io.BufRead.{Rests};
-ghost use Rattle.ipl_base.specs.declared.limits.TheConstants.{VALUE_LEN, SESSIONS};
+ghost use Rattle.ipl_base.specs.declared.limits.TheConstants.{VALUE_LEN};
 ghost use Rattle.ipl_base.specs.Places.{home_of};
 ghost use Rattle.ipl_model.specs.Operations.{after_share};
 ghost use Rattle.record_locks.specs.Held.{number_of};
@@ -48,9 +48,9 @@ impl Store {
         self.end(done)
     }
 
-    /// What a session (0 to 31) sees of a name whose page is in a frame, at most 464 bytes.
+    /// What a session sees of a name whose page is in a frame, at most 464 bytes.
     fn seen(&self, s: u32, n: u32) -> Option<&[u8]>
-        requires session { s < SESSIONS }
+        requires session { s < length self.now.transactions.sessions }
         ensures seen { (f : PageFrame) (tid : ℕ) → number_of self.now.transactions.sessions s ≡ Some tid
             → frames_in self.now.transactions.pages (home_of n).unit (home_of n).page ≡ Some f
             → option_map (λ b. b.now) result

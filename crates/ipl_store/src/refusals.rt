@@ -12,7 +12,6 @@ ghost use Rattle.ipl_model.specs.Refusals.{
   refuses_batch,
   refuses_merge,
 };
-ghost use Rattle.store_laws.specs.Keeps.{limits_of};
 ghost use Rattle.store_laws.specs.Refusals.{sessions_refuse_put, sessions_refuse_del};
 ghost use Rattle.ipl_store.specs.Calls.{
   is_held,
@@ -21,19 +20,20 @@ ghost use Rattle.ipl_store.specs.Calls.{
   refuses_page,
   refuses_hold,
   refuses_release,
+  limits_of_store,
 };
 
 use crate::Store;
 use buffer_pool::{Pool, pool_laws};
-use ipl_base::{Name, PAGES, Refusal, SESSIONS, UNIT_NAMES, VALUE_LEN};
+use ipl_base::{Name, PAGES, Refusal, UNIT_NAMES, VALUE_LEN};
 
 impl Store {
     /// Why a begin is refused, if it is.
     pub(crate) fn refuses_begin(&self, s: u32) -> Option<Refusal>
-        ensures { result ≡ refuses_begin (limits_of self.now.units)
+        ensures { result ≡ refuses_begin (limits_of_store self.now)
             (state_of self.now.transactions.sessions) s }
     {
-        if s >= SESSIONS {
+        if s >= self.transactions.sessions.count() {
             return Some(Refusal::BadSession);
         }
         if self.transactions.sessions.is_open(s) {
@@ -44,10 +44,10 @@ impl Store {
 
     /// Why a commit or an abort is refused, if it is.
     pub(crate) fn refuses_end(&self, s: u32) -> Option<Refusal>
-        ensures { result ≡ refuses_end (limits_of self.now.units)
+        ensures { result ≡ refuses_end (limits_of_store self.now)
             (state_of self.now.transactions.sessions) s }
     {
-        if s >= SESSIONS {
+        if s >= self.transactions.sessions.count() {
             return Some(Refusal::BadSession);
         }
         if !self.transactions.sessions.is_open(s) {
@@ -58,7 +58,7 @@ impl Store {
 
     /// Why a commit of several sessions is refused, if it is.
     pub(crate) fn refuses_batch(&self, sessions: &[u32]) -> Option<Refusal>
-        ensures { result ≡ refuses_batch (limits_of self.now.units)
+        ensures { result ≡ refuses_batch (limits_of_store self.now)
             (state_of self.now.transactions.sessions) sessions.now }
     {
         self.transactions.sessions.refuses_batch(sessions)
@@ -66,9 +66,9 @@ impl Store {
 
     /// Why a session or a name can't be meant, if they can't: there is no such one.
     fn refuses_pair(&self, s: u32, n: u32) -> Option<Refusal>
-        ensures { result ≡ refuses_pair (limits_of self.now.units) s n }
+        ensures { result ≡ refuses_pair (limits_of_store self.now) s n }
     {
-        if s >= SESSIONS {
+        if s >= self.transactions.sessions.count() {
             return Some(Refusal::BadSession);
         }
         if n / UNIT_NAMES >= self.units {
@@ -79,7 +79,7 @@ impl Store {
 
     /// Why a get is refused, if it is.
     pub(crate) fn refuses_get(&self, s: u32, n: u32) -> Option<Refusal>
-        ensures { result ≡ refuses_get (limits_of self.now.units)
+        ensures { result ≡ refuses_get (limits_of_store self.now)
             (state_of self.now.transactions.sessions) s n }
     {
         if let Some(refusal) = self.refuses_pair(s, n) {
@@ -93,7 +93,7 @@ impl Store {
 
     /// Why a share is refused, if it is.
     pub(crate) fn refuses_share(&self, s: u32, n: u32) -> Option<Refusal>
-        ensures { result ≡ refuses_share (limits_of self.now.units)
+        ensures { result ≡ refuses_share (limits_of_store self.now)
             (state_of self.now.transactions.sessions) s n }
     {
         if let Some(refusal) = self.refuses_pair(s, n) {
@@ -104,7 +104,7 @@ impl Store {
 
     /// Why a put is refused before its page is looked at, if it is.
     pub(crate) fn refuses_put(&self, s: u32, n: u32, value: &[u8]) -> Option<Refusal>
-        ensures { result ≡ sessions_refuse_put (limits_of self.now.units)
+        ensures { result ≡ sessions_refuse_put (limits_of_store self.now)
             self.now.transactions.sessions s n value.now }
     {
         if let Some(refusal) = self.refuses_pair(s, n) {
@@ -119,7 +119,7 @@ impl Store {
 
     /// Why a delete is refused, if it is.
     pub(crate) fn refuses_del(&self, s: u32, n: u32) -> Option<Refusal>
-        ensures { result ≡ sessions_refuse_del (limits_of self.now.units)
+        ensures { result ≡ sessions_refuse_del (limits_of_store self.now)
             self.now.transactions.sessions s n }
     {
         if let Some(refusal) = self.refuses_pair(s, n) {
@@ -130,7 +130,7 @@ impl Store {
 
     /// Why a merge is refused, if it is.
     pub(crate) fn refuses_merge(&self, unit: u32) -> Option<Refusal>
-        ensures { result ≡ refuses_merge (limits_of self.now.units) unit }
+        ensures { result ≡ refuses_merge (limits_of_store self.now) unit }
     {
         if unit >= self.units {
             return Some(Refusal::BadUnit);
@@ -140,7 +140,7 @@ impl Store {
 
     /// Why a name can't be meant, if it can't.
     pub(crate) fn refuses_name(&self, n: u32) -> Option<Refusal>
-        ensures { result ≡ refuses_name (limits_of self.now.units) n }
+        ensures { result ≡ refuses_name (limits_of_store self.now) n }
     {
         if n / UNIT_NAMES >= self.units {
             return Some(Refusal::BadName);

@@ -1,6 +1,5 @@
 //! Sessions that are opened and closed, and names that they share: all in memory.
-ghost use Rattle.std.specs.Prelude.{◌≡◌, ◌<◌, ◌+◌, ◌^◌, None};
-ghost use Rattle.ipl_base.specs.declared.limits.TheConstants.{SESSIONS};
+ghost use Rattle.std.specs.Prelude.{◌≡◌, ◌<◌, ◌+◌, ◌^◌, None, length};
 ghost use Rattle.ipl_model.specs.Operations.{after_begin, after_share, after_abort};
 ghost use Rattle.store_laws.specs.Fits.{LocksHold};
 ghost use Rattle.record_locks.specs.Held.{after_end, after_batch, number_of, numbers_in};
@@ -15,9 +14,9 @@ use ipl_base::Name;
 use page_frames::drop_names;
 
 impl Transactions {
-    /// Opens a session (0 to 31), with the next number as its own.
+    /// Opens a session, with the next number as its own.
     pub fn begin(&mut self, s: u32)
-        requires session { s < SESSIONS }
+        requires session { s < length self.old.sessions }
         requires closed { refuses_begin self.old.sessions s ≡ None }
         requires left { self.old.pages.parts.counter + 1 < 2 ^ 64 }
         ensures turns { TurnsInMemory (λ state. after_begin state s) self.old self.new }
@@ -30,9 +29,9 @@ impl Transactions {
         self.sessions.facts();
     }
 
-    /// Shares a name, until the session (0 to 31) ends.
+    /// Shares a name, until the session ends.
     pub fn share(&mut self, s: u32, name: Name)
-        requires session { s < SESSIONS }
+        requires session { s < length self.old.sessions }
         requires unrefused { refuses_share self.old.sessions s name.0 ≡ None }
         ensures turns { TurnsInMemory (λ state. after_share state s name.0) self.old self.new }
         ensures framed { KeepsFramed self.old.pages self.new.pages }
@@ -43,9 +42,9 @@ impl Transactions {
         self.sessions.facts();
     }
 
-    /// Closes a session (0 to 31).
+    /// Closes a session.
     pub(crate) fn end(&mut self, s: u32)
-        requires session { s < SESSIONS }
+        requires session { s < length self.old.sessions }
         requires open { refuses_end self.old.sessions s ≡ None }
         ensures sessions { self.new.sessions ≡ after_end self.old.sessions s }
         ensures active { self.new.pages.parts.active ≡ numbers_in self.new.sessions }
@@ -70,10 +69,10 @@ impl Transactions {
         self.sessions.facts();
     }
 
-    /// Aborts a session (0 to 31): what it changed is dropped from all frames, and its records on the
+    /// Aborts a session: what it changed is dropped from all frames, and its records on the
     /// chip will never count.
     pub fn abort(&mut self, s: u32)
-        requires session { s < SESSIONS }
+        requires session { s < length self.old.sessions }
         requires open { refuses_end self.old.sessions s ≡ None }
         ensures turns { TurnsInMemory (λ state. after_abort state s) self.old self.new }
         ensures framed { KeepsFramed self.old.pages self.new.pages }

@@ -1,5 +1,6 @@
 //! What a store has in memory.
-ghost use Rattle.std.specs.Prelude.{◌≡◌};
+ghost use Rattle.std.specs.Prelude.{◌≡◌, ◌≤◌, length};
+ghost use Rattle.ipl_base.specs.declared.limits.TheConstants.{SESSIONS};
 
 use crate::transactions::Transactions;
 use restart::{KeptNumbers, Scratch};
@@ -32,5 +33,13 @@ impl Store {
         ensures { result ≡ self.now.units }
     {
         self.units
+    }
+
+    /// How many sessions it has, 32 at most. Their numbers are those below it.
+    pub fn session_count(&self) -> u32
+        ensures count { result ≡ length self.now.transactions.sessions }
+        ensures few { result ≤ SESSIONS }
+    {
+        self.transactions.sessions.count()
     }
 }

@@ -18,7 +18,7 @@ use log_records::{Change, Record};
 use page_frames::put_record;
 
 impl Transactions {
-    /// Puts or deletes a name of the chip for a session (0 to 31), which no lock keeps it from; a
+    /// Puts or deletes a name of the chip for a session, which no lock keeps it from; a
     /// put only where the page of the name is in a frame, and has room by what open sessions wrote.
     /// The page is in a frame then, with the change pending and its record in memory, and is the
     /// page used last.

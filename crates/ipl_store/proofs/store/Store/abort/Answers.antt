@@ -3,8 +3,7 @@ use Rattle.std.proofs.lemmas.Result.{err_from_is_err_and}
 use Rattle.ipl_model.specs.Operations.{after_abort}
 use Rattle.ipl_model.specs.Refusals.{refuses_end}
 use Rattle.record_locks.specs.Standing.{state_of}
-use Rattle.store_laws.specs.Keeps.{limits_of}
-use Rattle.ipl_store.specs.Calls.{early_fault, down_fault}
+use Rattle.ipl_store.specs.Calls.{early_fault, down_fault, limits_of_store}
 use Rattle.ipl_store.proofs.CallLemmas.{let_in_down, memory_calls, calls_refused, ended_unworn}
 use Rattle.ipl_store.proofs.store.Store.abort.Goals as goal
 
@@ -12,7 +11,7 @@ pub returns-clause-calls : goal.returns-clause-calls
 returns-clause-calls g c =
     let store = c.args.self.now in
     let slots = store.transactions.sessions in
-    let refusal = refuses_end (limits_of store.units) (state_of slots) c.args.s in
+    let refusal = refuses_end (limits_of_store store) (state_of slots) c.args.s in
     let none : early_fault (down_fault store) refusal ≡ None =
     ap (early_fault (down_fault store)) (sym c.refuses_end.ensures)
     ∙ sym c.in_ok-admit_end.ensures in
@@ -33,7 +32,7 @@ returns-clause-memory g c =
 pub returns-in_err-admit_end-clause-calls : goal.returns-in_err-admit_end-clause-calls
 returns-in_err-admit_end-clause-calls g c =
     let store = c.args.self.now in
-    let refusal = refuses_end (limits_of store.units) (state_of store.transactions.sessions) c.args.s in
+    let refusal = refuses_end (limits_of_store store) (state_of store.transactions.sessions) c.args.s in
     let early = early_fault (down_fault store) refusal in
     let fault = c.in_err-admit_end.field-0.0 in
     let is : early ≡ Some fault =
@@ -46,7 +45,7 @@ returns-in_err-admit_end-clause-calls g c =
 pub returns-in_err-admit_end-clause-early : goal.returns-in_err-admit_end-clause-early
 returns-in_err-admit_end-clause-early g c =
     let store = c.args.self.now in
-    let refusal = refuses_end (limits_of store.units) (state_of store.transactions.sessions) c.args.s in
+    let refusal = refuses_end (limits_of_store store) (state_of store.transactions.sessions) c.args.s in
     let e = err_from_is_err_and c.from_residual.result c.from_residual.ensures.1 in
     rw (e.1 ∙ ap Err e.2)
     (ap (early_fault (down_fault store)) (sym c.refuses_end.ensures) ∙ sym c.in_err-admit_end.ensures)

@@ -3,8 +3,7 @@ use Rattle.std.proofs.lemmas.Result.{err_from_is_err_and}
 use Rattle.ipl_model.specs.Operations.{after_begin}
 use Rattle.ipl_model.specs.Refusals.{refuses_begin}
 use Rattle.record_locks.specs.Standing.{state_of}
-use Rattle.store_laws.specs.Keeps.{limits_of}
-use Rattle.ipl_store.specs.Calls.{early_fault, entry_fault}
+use Rattle.ipl_store.specs.Calls.{early_fault, entry_fault, limits_of_store}
 use Rattle.ipl_store.proofs.CallLemmas.{let_in, memory_calls, calls_refused, early_unworn}
 use Rattle.ipl_store.proofs.store.Store.begin.Goals as goal
 
@@ -12,7 +11,7 @@ pub returns-clause-calls : goal.returns-clause-calls
 returns-clause-calls g c =
     let store = c.args.self.now in
     let slots = store.transactions.sessions in
-    let refusal = refuses_begin (limits_of store.units) (state_of slots) c.args.s in
+    let refusal = refuses_begin (limits_of_store store) (state_of slots) c.args.s in
     let none : early_fault (entry_fault store) refusal ≡ None =
     ap (early_fault (entry_fault store)) (sym c.refuses_begin.ensures)
     ∙ sym c.in_ok-admit.ensures in
@@ -36,7 +35,7 @@ returns-clause-drawn g c = c.begin.ensures.drawn
 pub returns-in_err-admit-clause-calls : goal.returns-in_err-admit-clause-calls
 returns-in_err-admit-clause-calls g c =
     let store = c.args.self.now in
-    let refusal = refuses_begin (limits_of store.units) (state_of store.transactions.sessions) c.args.s in
+    let refusal = refuses_begin (limits_of_store store) (state_of store.transactions.sessions) c.args.s in
     let early = early_fault (entry_fault store) refusal in
     let fault = c.in_err-admit.field-0.0 in
     let is : early ≡ Some fault =

@@ -3,9 +3,8 @@ use Rattle.std.proofs.lemmas.Result.{err_from_is_err_and}
 use Rattle.ipl_model.specs.Operations.{after_commit}
 use Rattle.ipl_model.specs.Refusals.{refuses_end}
 use Rattle.record_locks.specs.Standing.{state_of}
-use Rattle.store_laws.specs.Keeps.{limits_of}
 use Rattle.store_laws.proofs.RefusalLemmas.{one_is_open}
-use Rattle.ipl_store.specs.Calls.{early_fault, entry_fault}
+use Rattle.ipl_store.specs.Calls.{early_fault, entry_fault, limits_of_store}
 use Rattle.ipl_store.proofs.CallLemmas.{early_unworn, let_in, turns_move, moved_calls, kept_holds, kept_framed, ended_asks, calls_refused}
 use Rattle.ipl_store.specs.Costs.{CommitAsks}
 use Rattle.ipl_store.proofs.CostLemmas.{empty_asks}
@@ -15,7 +14,7 @@ pub commit-done-requires-clause-open : goal.commit-done-requires-clause-open
 commit-done-requires-clause-open g c =
     let store = c.args.self.now in
     let slots = store.transactions.sessions in
-    let refusal = refuses_end (limits_of store.units) (state_of slots) c.args.s in
+    let refusal = refuses_end (limits_of_store store) (state_of slots) c.args.s in
     let none : early_fault (entry_fault store) refusal ≡ None =
     ap (early_fault (entry_fault store)) (sym c.refuses_end.ensures) ∙ sym c.in_ok-admit.ensures in
     let (up, few, free) = let_in store refusal none in
@@ -26,7 +25,7 @@ returns-clause-calls g c =
     let store = c.args.self.now in
     let old = g.C.Chip.told c.args.chip.now in
     let after = g.C.Chip.told c.commit-done.new.chip in
-    let refusal = refuses_end (limits_of store.units) (state_of store.transactions.sessions)
+    let refusal = refuses_end (limits_of_store store) (state_of store.transactions.sessions)
     c.args.s
     in
     let early = early_fault (entry_fault store) refusal in
@@ -56,7 +55,7 @@ pub returns-in_err-admit-clause-asks : goal.returns-in_err-admit-clause-asks
 returns-in_err-admit-clause-asks g c =
     let store = c.args.self.now in
     let told = g.C.Chip.told c.args.chip.now in
-    let refusal = refuses_end (limits_of store.units) (state_of store.transactions.sessions)
+    let refusal = refuses_end (limits_of_store store) (state_of store.transactions.sessions)
     c.args.s in
     let fault = c.in_err-admit.field-0.0 in
     let is : early_fault (entry_fault store) refusal ≡ Some fault =
@@ -80,7 +79,7 @@ returns-clause-asks g c =
 pub returns-in_err-admit-clause-calls : goal.returns-in_err-admit-clause-calls
 returns-in_err-admit-clause-calls g c =
     let store = c.args.self.now in
-    let refusal = refuses_end (limits_of store.units) (state_of store.transactions.sessions) c.args.s in
+    let refusal = refuses_end (limits_of_store store) (state_of store.transactions.sessions) c.args.s in
     let early = early_fault (entry_fault store) refusal in
     let fault = c.in_err-admit.field-0.0 in
     let is : early ≡ Some fault =

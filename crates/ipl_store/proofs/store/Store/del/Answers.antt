@@ -2,11 +2,10 @@ use Rattle.std.proofs.Common.{◌≡◌, ◌∙◌, None, sym, ap, Some, Err, re
 use Rattle.std.proofs.lemmas.Result.{err_from_is_err_and}
 use Rattle.ipl_base.specs.Places.{home_of}
 use Rattle.ipl_model.specs.Operations.{after_write}
-use Rattle.store_laws.specs.Keeps.{limits_of}
 use Rattle.store_laws.specs.Refusals.{sessions_refuse_del}
 use Rattle.page_frames.proofs.UseLemmas.{none_leaves}
 use Rattle.ipl_store.specs.Costs.{AsksToWrite}
-use Rattle.ipl_store.specs.Calls.{early_fault, entry_fault, tells_wear}
+use Rattle.ipl_store.specs.Calls.{early_fault, entry_fault, tells_wear, limits_of_store}
 use Rattle.ipl_store.proofs.CallLemmas.{blamed_surely, calls_refused, early_unworn, let_in, writes_move, moved_calls, kept_holds, kept_for, ended_asks, ended_framed, ended_used}
 use Rattle.ipl_store.proofs.ShownLemmas.{write_asks_nothing}
 use Rattle.ipl_store.proofs.TurnLemmas.{ever_for}
@@ -17,7 +16,7 @@ returns-clause-calls g c =
     let store = c.args.self.now in
     let old = g.C.Chip.told c.args.chip.now in
     let after = g.C.Chip.told c.write-done.new.chip in
-    let refusal = sessions_refuse_del (limits_of store.units) store.transactions.sessions
+    let refusal = sessions_refuse_del (limits_of_store store) store.transactions.sessions
     c.args.s c.args.n in
     let early = early_fault (entry_fault store) refusal in
     let none : early ≡ None =
@@ -59,7 +58,7 @@ returns-clause-used g c = ended_used (home_of c.args.n).unit (home_of c.args.n).
 pub returns-in_err-admit-clause-calls : goal.returns-in_err-admit-clause-calls
 returns-in_err-admit-clause-calls g c =
     let store = c.args.self.now in
-    let refusal = sessions_refuse_del (limits_of store.units) store.transactions.sessions
+    let refusal = sessions_refuse_del (limits_of_store store) store.transactions.sessions
     c.args.s c.args.n in
     let early = early_fault (entry_fault store) refusal in
     let fault = c.in_err-admit.field-0.0 in
@@ -73,7 +72,7 @@ returns-in_err-admit-clause-calls g c =
 pub returns-in_err-admit-clause-asks : goal.returns-in_err-admit-clause-asks
 returns-in_err-admit-clause-asks g c =
     let store = c.args.self.now in
-    let refusal = sessions_refuse_del (limits_of store.units) store.transactions.sessions
+    let refusal = sessions_refuse_del (limits_of_store store) store.transactions.sessions
     c.args.s c.args.n in
     let fault = c.in_err-admit.field-0.0 in
     let is : early_fault (entry_fault store) refusal ≡ Some fault =

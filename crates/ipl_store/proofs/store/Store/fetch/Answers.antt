@@ -3,9 +3,8 @@ use Rattle.std.proofs.lemmas.Result.{err_from_is_err_and}
 use Rattle.ipl_model.specs.Refusals.{refuses_get}
 use Rattle.record_locks.specs.Held.{SessionSlots, number_of}
 use Rattle.record_locks.specs.Standing.{state_of}
-use Rattle.store_laws.specs.Keeps.{limits_of}
 use Rattle.ipl_base.specs.Places.{home_of}
-use Rattle.ipl_store.specs.Calls.{early_fault, entry_fault}
+use Rattle.ipl_store.specs.Calls.{early_fault, entry_fault, limits_of_store}
 use Rattle.store_laws.proofs.RefusalLemmas.{passed_gets}
 use Rattle.ipl_store.proofs.CallLemmas.{early_unworn, let_in, on_ok}
 use Rattle.ipl_store.proofs.ShownLemmas.{looks_answered, let_in_fetches, refused_fetches, asks_nothing}
@@ -15,7 +14,7 @@ pub returns-in_err-admit-clause-fetches : goal.returns-in_err-admit-clause-fetch
 returns-in_err-admit-clause-fetches g c =
     let store = c.args.self.now in
     let old = g.C.Chip.told c.args.chip.now in
-    let refusal = refuses_get (limits_of store.units) (state_of store.transactions.sessions)
+    let refusal = refuses_get (limits_of_store store) (state_of store.transactions.sessions)
     c.args.s c.args.n in
     let early = early_fault (entry_fault store) refusal in
     let fault = c.in_err-admit.field-0.0 in
@@ -30,7 +29,7 @@ pub returns-in_err-admit-clause-looks : goal.returns-in_err-admit-clause-looks
 returns-in_err-admit-clause-looks g c = λ found.
     let store = c.args.self.now in
     let old = g.C.Chip.told c.args.chip.now in
-    let refusal = refuses_get (limits_of store.units) (state_of store.transactions.sessions)
+    let refusal = refuses_get (limits_of_store store) (state_of store.transactions.sessions)
     c.args.s c.args.n in
     let early = early_fault (entry_fault store) refusal in
     let fault = c.in_err-admit.field-0.0 in
@@ -50,7 +49,7 @@ pub returns-clause-fetches : goal.returns-clause-fetches
 returns-clause-fetches g c =
     let store = c.args.self.now in
     let old = g.C.Chip.told c.args.chip.now in
-    let refusal = refuses_get (limits_of store.units) (state_of store.transactions.sessions)
+    let refusal = refuses_get (limits_of_store store) (state_of store.transactions.sessions)
     c.args.s c.args.n in
     let early = early_fault (entry_fault store) refusal in
     let none : early ≡ None =
@@ -62,7 +61,7 @@ pub returns-clause-looks : goal.returns-clause-looks
 returns-clause-looks g c = λ found.
     let store = c.args.self.now in
     let old = g.C.Chip.told c.args.chip.now in
-    let refusal = refuses_get (limits_of store.units) (state_of store.transactions.sessions)
+    let refusal = refuses_get (limits_of_store store) (state_of store.transactions.sessions)
     c.args.s c.args.n in
     let early = early_fault (entry_fault store) refusal in
     let none : early ≡ None =
@@ -76,7 +75,7 @@ pub returns-clause-session : goal.returns-clause-session
 returns-clause-session g c =
     let store = c.args.self.now in
     let old = g.C.Chip.told c.args.chip.now in
-    let refusal = refuses_get (limits_of store.units) (state_of store.transactions.sessions)
+    let refusal = refuses_get (limits_of_store store) (state_of store.transactions.sessions)
     c.args.s c.args.n in
     let early = early_fault (entry_fault store) refusal in
     let none : early ≡ None =

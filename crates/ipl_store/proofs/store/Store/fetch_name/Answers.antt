@@ -1,8 +1,7 @@
 use Rattle.std.proofs.Common.{◌≡◌, ◌∙◌, None, Some, Err, sym, ap}
 use Rattle.std.proofs.lemmas.Result.{err_from_is_err_and}
-use Rattle.store_laws.specs.Keeps.{limits_of}
 use Rattle.ipl_base.specs.Places.{home_of}
-use Rattle.ipl_store.specs.Calls.{early_fault, entry_fault, refuses_name}
+use Rattle.ipl_store.specs.Calls.{early_fault, entry_fault, refuses_name, limits_of_store}
 use Rattle.ipl_store.proofs.CallLemmas.{early_unworn}
 use Rattle.ipl_store.proofs.ShownLemmas.{looks_answered, let_in_fetches, refused_fetches, asks_nothing}
 use Rattle.ipl_store.proofs.store.Store.fetch_name.Goals as goal
@@ -11,7 +10,7 @@ pub returns-in_err-admit-clause-fetches : goal.returns-in_err-admit-clause-fetch
 returns-in_err-admit-clause-fetches g c =
     let store = c.args.self.now in
     let old = g.C.Chip.told c.args.chip.now in
-    let refusal = refuses_name (limits_of store.units) c.args.n in
+    let refusal = refuses_name (limits_of_store store) c.args.n in
     let early = early_fault (entry_fault store) refusal in
     let fault = c.in_err-admit.field-0.0 in
     let is : early ≡ Some fault =
@@ -26,7 +25,7 @@ pub returns-in_err-admit-clause-looks : goal.returns-in_err-admit-clause-looks
 returns-in_err-admit-clause-looks g c = λ found.
     let store = c.args.self.now in
     let old = g.C.Chip.told c.args.chip.now in
-    let refusal = refuses_name (limits_of store.units) c.args.n in
+    let refusal = refuses_name (limits_of_store store) c.args.n in
     let early = early_fault (entry_fault store) refusal in
     let fault = c.in_err-admit.field-0.0 in
     let is : early ≡ Some fault =
@@ -46,7 +45,7 @@ pub returns-clause-fetches : goal.returns-clause-fetches
 returns-clause-fetches g c =
     let store = c.args.self.now in
     let old = g.C.Chip.told c.args.chip.now in
-    let refusal = refuses_name (limits_of store.units) c.args.n in
+    let refusal = refuses_name (limits_of_store store) c.args.n in
     let early = early_fault (entry_fault store) refusal in
     let none : early ≡ None =
     ap (early_fault (entry_fault store)) (sym c.refuses_name.ensures) ∙ sym c.in_ok-admit.ensures in
@@ -57,7 +56,7 @@ pub returns-clause-looks : goal.returns-clause-looks
 returns-clause-looks g c = λ found.
     let store = c.args.self.now in
     let old = g.C.Chip.told c.args.chip.now in
-    let refusal = refuses_name (limits_of store.units) c.args.n in
+    let refusal = refuses_name (limits_of_store store) c.args.n in
     let early = early_fault (entry_fault store) refusal in
     let none : early ≡ None =
     ap (early_fault (entry_fault store)) (sym c.refuses_name.ensures) ∙ sym c.in_ok-admit.ensures in

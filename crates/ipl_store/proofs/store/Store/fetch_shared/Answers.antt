@@ -5,9 +5,8 @@ use Rattle.ipl_model.specs.Refusals.{refuses_share}
 use Rattle.record_locks.specs.Held.{SessionSlots, number_of}
 use Rattle.record_locks.specs.Locks as locks
 use Rattle.record_locks.specs.Standing.{state_of}
-use Rattle.store_laws.specs.Keeps.{limits_of}
 use Rattle.ipl_base.specs.Places.{home_of}
-use Rattle.ipl_store.specs.Calls.{early_fault, entry_fault}
+use Rattle.ipl_store.specs.Calls.{early_fault, entry_fault, limits_of_store}
 use Rattle.store_laws.proofs.RefusalLemmas.{passed_shares}
 use Rattle.ipl_store.proofs.CallLemmas.{early_unworn, let_in}
 use Rattle.ipl_store.proofs.ShownLemmas.{looks_answered, refused_fetches, failed_fetches, shared_fetches, asks_nothing}
@@ -17,7 +16,7 @@ pub returns-in_err-admit-clause-fetches : goal.returns-in_err-admit-clause-fetch
 returns-in_err-admit-clause-fetches g c =
     let store = c.args.self.now in
     let old = g.C.Chip.told c.args.chip.now in
-    let refusal = refuses_share (limits_of store.units) (state_of store.transactions.sessions)
+    let refusal = refuses_share (limits_of_store store) (state_of store.transactions.sessions)
     c.args.s c.args.n in
     let early = early_fault (entry_fault store) refusal in
     let fault = c.in_err-admit.field-0.0 in
@@ -34,7 +33,7 @@ pub returns-in_err-admit-clause-looks : goal.returns-in_err-admit-clause-looks
 returns-in_err-admit-clause-looks g c = λ found.
     let store = c.args.self.now in
     let old = g.C.Chip.told c.args.chip.now in
-    let refusal = refuses_share (limits_of store.units) (state_of store.transactions.sessions)
+    let refusal = refuses_share (limits_of_store store) (state_of store.transactions.sessions)
     c.args.s c.args.n in
     let early = early_fault (entry_fault store) refusal in
     let fault = c.in_err-admit.field-0.0 in
@@ -56,7 +55,7 @@ pub returns-in_err-bring-clause-fetches : goal.returns-in_err-bring-clause-fetch
 returns-in_err-bring-clause-fetches g c =
     let store = c.args.self.now in
     let old = g.C.Chip.told c.args.chip.now in
-    let refusal = refuses_share (limits_of store.units) (state_of store.transactions.sessions)
+    let refusal = refuses_share (limits_of_store store) (state_of store.transactions.sessions)
     c.args.s c.args.n in
     let early = early_fault (entry_fault store) refusal in
     let none : early ≡ None =
@@ -73,7 +72,7 @@ pub returns-in_err-bring-clause-looks : goal.returns-in_err-bring-clause-looks
 returns-in_err-bring-clause-looks g c = λ found.
     let store = c.args.self.now in
     let old = g.C.Chip.told c.args.chip.now in
-    let refusal = refuses_share (limits_of store.units) (state_of store.transactions.sessions)
+    let refusal = refuses_share (limits_of_store store) (state_of store.transactions.sessions)
     c.args.s c.args.n in
     let early = early_fault (entry_fault store) refusal in
     let none : early ≡ None =
@@ -91,7 +90,7 @@ pub share-requires-clause-unrefused : goal.share-requires-clause-unrefused
 share-requires-clause-unrefused g c =
     let store = c.args.self.now in
     let old = g.C.Chip.told c.args.chip.now in
-    let refusal = refuses_share (limits_of store.units) (state_of store.transactions.sessions)
+    let refusal = refuses_share (limits_of_store store) (state_of store.transactions.sessions)
     c.args.s c.args.n in
     let early = early_fault (entry_fault store) refusal in
     let none : early ≡ None =
@@ -105,7 +104,7 @@ pub returns-clause-fetches : goal.returns-clause-fetches
 returns-clause-fetches g c =
     let store = c.args.self.now in
     let old = g.C.Chip.told c.args.chip.now in
-    let refusal = refuses_share (limits_of store.units) (state_of store.transactions.sessions)
+    let refusal = refuses_share (limits_of_store store) (state_of store.transactions.sessions)
     c.args.s c.args.n in
     let early = early_fault (entry_fault store) refusal in
     let none : early ≡ None =
@@ -120,7 +119,7 @@ pub returns-clause-looks : goal.returns-clause-looks
 returns-clause-looks g c = λ found.
     let store = c.args.self.now in
     let old = g.C.Chip.told c.args.chip.now in
-    let refusal = refuses_share (limits_of store.units) (state_of store.transactions.sessions)
+    let refusal = refuses_share (limits_of_store store) (state_of store.transactions.sessions)
     c.args.s c.args.n in
     let early = early_fault (entry_fault store) refusal in
     let none : early ≡ None =
@@ -137,7 +136,7 @@ pub returns-clause-session : goal.returns-clause-session
 returns-clause-session g c =
     let store = c.args.self.now in
     let old = g.C.Chip.told c.args.chip.now in
-    let refusal = refuses_share (limits_of store.units) (state_of store.transactions.sessions)
+    let refusal = refuses_share (limits_of_store store) (state_of store.transactions.sessions)
     c.args.s c.args.n in
     let early = early_fault (entry_fault store) refusal in
     let none : early ≡ None =

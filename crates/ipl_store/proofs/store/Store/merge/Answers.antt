@@ -1,7 +1,6 @@
 use Rattle.std.proofs.Common.{◌≡◌, ◌∙◌, Bool, Some, None, Err, OnOk, is_ok, slice_index, sym, ap, subst, refl}
 use Rattle.std.proofs.lemmas.Result.{err_from_is_err_and}
 use Rattle.ipl_model.specs.Refusals.{refuses_merge}
-use Rattle.store_laws.specs.Keeps.{limits_of}
 use Rattle.unit_io.specs.Charts.{Charts}
 use Rattle.unit_io.specs.Costs.{Spends}
 use Rattle.place_taking.specs.Spending.{ErasesFor}
@@ -11,7 +10,7 @@ use Rattle.page_frames.specs.Faulty.{StandsSurely}
 use Rattle.page_frames.specs.Pages.{tables_in}
 use Rattle.ipl_store.proofs.TurnLemmas.{tells_for}
 use Rattle.ipl_store.specs.declared.store.Store.{Store}
-use Rattle.ipl_store.specs.Calls.{early_fault, ends_worn_out, entry_fault, tells_wear}
+use Rattle.ipl_store.specs.Calls.{early_fault, ends_worn_out, entry_fault, tells_wear, limits_of_store}
 use Rattle.ipl_store.proofs.CallLemmas.{blamed_surely, early_unworn, let_in, pages_move, moved_calls, kept_holds, kept_framed, done_ends, ended_asks, same_answer, throughout_done, calls_refused}
 use Rattle.ipl_store.proofs.MergeLemmas.{refused_merges}
 use Rattle.page_frames.proofs.TellLemmas.{tells_ever}
@@ -22,7 +21,7 @@ returns-clause-calls g c =
     let store = c.args.self.now in
     let old = g.C.Chip.told c.args.chip.now in
     let after = g.C.Chip.told c.merge-done.new.chip in
-    let refusal = refuses_merge (limits_of store.units) c.args.unit in
+    let refusal = refuses_merge (limits_of_store store) c.args.unit in
     let none : early_fault (entry_fault store) refusal ≡ None =
     ap (early_fault (entry_fault store)) (sym c.refuses_merge.ensures) ∙ sym c.in_ok-admit.ensures
     in
@@ -73,7 +72,7 @@ pub returns-in_err-admit-clause-costs : goal.returns-in_err-admit-clause-costs
 returns-in_err-admit-clause-costs g c =
     let store = c.args.self.now in
     let d = store.transactions.pages.parts.directory in
-    let refusal = refuses_merge (limits_of store.units) c.args.unit in
+    let refusal = refuses_merge (limits_of_store store) c.args.unit in
     let fault = c.in_err-admit.field-0.0 in
     let is : early_fault (entry_fault store) refusal ≡ Some fault =
     ap (early_fault (entry_fault store)) (sym c.refuses_merge.ensures) ∙ sym c.in_err-admit.ensures in
@@ -100,7 +99,7 @@ returns-clause-costs g c =
 pub returns-in_err-admit-clause-calls : goal.returns-in_err-admit-clause-calls
 returns-in_err-admit-clause-calls g c =
     let store = c.args.self.now in
-    let refusal = refuses_merge (limits_of store.units) c.args.unit in
+    let refusal = refuses_merge (limits_of_store store) c.args.unit in
     let early = early_fault (entry_fault store) refusal in
     let fault = c.in_err-admit.field-0.0 in
     let is : early ≡ Some fault =

@@ -79,14 +79,14 @@ fresh g c = record { up = refl; unclosed = c.forget.ensures.down.1; idle = c.for
 
 pub returns-clause-sound : goal.returns-clause-sound
 returns-clause-sound g c =
-    fresh_sound (g.C.Chip.told c.args.chip.now).places (opened g c) (made g c) (fresh g c)
+    fresh_sound (g.C.Chip.told c.args.chip.now).places (opened g c) (made g c) (fresh g c) c.forget.ensures.few
     c.in_ok-recovered.ensures.leaves.holds (sym c.units-self.ensures)
 
 pub returns-clause-opens : goal.returns-clause-opens
 returns-clause-opens g c =
     let old = g.C.Chip.told c.args.chip.now in
     let says = c.in_ok-recovered.ensures in
-    fresh_opens old.places (opened g c) (made g c) (fresh g c) says.leaves.holds (sym c.units-self.ensures)
+    fresh_opens old.places (opened g c) (made g c) (fresh g c) c.forget.ensures.few says.leaves.holds (sym c.units-self.ensures)
     c.args.marks old
     (g.C.Chip.told c.recover-recovered.new.chip) says.tells says.steps says.leaves.number says.leaves.left
 
@@ -112,7 +112,7 @@ returns-clause-tries g c =
 pub returns-clause-leads : goal.returns-clause-leads
 returns-clause-leads g c = λ unmarked.
     let old = g.C.Chip.told c.args.chip.now in
-    fresh_restarts old.places (opened g c) (made g c) (fresh g c) c.in_ok-recovered.ensures.leaves.holds
+    fresh_restarts old.places (opened g c) (made g c) (fresh g c) c.forget.ensures.few c.in_ok-recovered.ensures.leaves.holds
     (sym c.units-self.ensures) c.args.marks unmarked (memory_of_store c.args.self.now) old
     (g.C.Chip.told c.recover-recovered.new.chip) refl c.in_ok-recovered.ensures.tells
     c.in_ok-recovered.ensures.steps

@@ -2,9 +2,8 @@ use Rattle.std.proofs.Common.{◌≡◌, ◌∙◌, List, ℕ, Some, None, Ok, f
 use Rattle.std.proofs.lemmas.Result.{err_from_is_err_and}
 use Rattle.record_locks.specs.Held.{SessionSlots, peaks_in}
 use Rattle.store_laws.specs.Room.{overfills_at}
-use Rattle.store_laws.specs.Keeps.{limits_of}
 use Rattle.store_laws.specs.Refusals.{sessions_refuse_put}
-use Rattle.ipl_store.specs.Calls.{early_fault, entry_fault}
+use Rattle.ipl_store.specs.Calls.{early_fault, entry_fault, limits_of_store}
 use Rattle.ipl_store.specs.Puts.{found_room, put_fault}
 use Rattle.ipl_store.proofs.CallLemmas.{let_in}
 use Rattle.ipl_store.proofs.PutLemmas.{Puts, HasWritten, refused_put, unbrought_put, full_put, written_put}
@@ -143,7 +142,7 @@ written g c =
     let none : put_fault store c.args.s c.args.n bytes ≡ None =
     ap (early_fault (entry_fault store)) (sym c.refuses_put.ensures) ∙ sym c.in_ok-admit.ensures in
     let (up, few, free) = let_in store
-    (sessions_refuse_put (limits_of store.units) slots c.args.s c.args.n bytes) none in
+    (sessions_refuse_put (limits_of_store store) slots c.args.s c.args.n bytes) none in
     let brought = c.in_ok-bring.ensures.brought in
     let between = g.C.Chip.told c.bring.new.chip in
     let after = g.C.Chip.told c.write-done.new.chip in

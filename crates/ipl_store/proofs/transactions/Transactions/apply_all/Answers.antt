@@ -14,15 +14,17 @@ pub number-requires : goal.number-requires
 number-requires c =
     let numbers = c.args.numbers.now in
     let within : c.loop-s.s-index < length numbers = omega (arith, c.loop-s-test.true) in
-    (c.requires.opens (get_or numbers c.loop-s.s-index 0)
-    (Contains-get_or numbers c.loop-s.s-index 0 within)).low
+    let low = (c.requires.opens (get_or numbers c.loop-s.s-index 0)
+    (Contains-get_or numbers c.loop-s.s-index 0 within)).low in
+    omega (arith, low, ap (λ (slots : SessionSlots). length slots) c.loop-s.invariant.3)
 
 pub written-requires : goal.written-requires
 written-requires c =
     let numbers = c.args.numbers.now in
     let within : c.loop-s.s-index < length numbers = omega (arith, c.loop-s-test.true) in
-    (c.requires.opens (get_or numbers c.loop-s.s-index 0)
-    (Contains-get_or numbers c.loop-s.s-index 0 within)).low
+    let low = (c.requires.opens (get_or numbers c.loop-s.s-index 0)
+    (Contains-get_or numbers c.loop-s.s-index 0 within)).low in
+    omega (arith, low, ap (λ (slots : SessionSlots). length slots) c.loop-s.invariant.3)
 
 pub loop-s-preserved : goal.loop-s-preserved
 loop-s-preserved c =
