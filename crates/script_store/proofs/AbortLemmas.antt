@@ -1,5 +1,5 @@
 -- Sessions are aborted, one after another.
-use Rattle.std.proofs.Common.{ℕ, ◌≡◌, ◌≤◌, ◌<◌, ◌+◌, ◌⊎◌, inl, inr, arith, Bool, true, [], ◌∷◌, Option, Some, None, Result, Ok, Err, IfErr, OnOk, if◌then◌else◌, refl, sym, ◌∙◌, ap, subst}
+use Rattle.std.proofs.Common.{ℕ, ◌≡◌, ◌≤◌, ◌<◌, ◌+◌, ◌⊎◌, inl, inr, arith, Bool, true, [], ◌∷◌, Option, Some, None, Result, Ok, Err, IfErr, OnOk, if◌then◌else◌, refl, sym, ◌∙◌, ap, subst, length}
 use Rattle.std.specs.Option.{option_map_or}
 use Rattle.chip_trait.specs.Chart.{says}
 use Rattle.chip_trait.specs.Moment.{Leaves}
@@ -27,9 +27,9 @@ use Rattle.record_locks.specs.Standing.{state_of}
 use Rattle.store_trait.proofs.UnusedLemmas.{unused_none}
 use Rattle.store_trait.specs.Keeping.{WorkLeaves}
 use Rattle.store_trait.proofs.TidyLemmas.{tidy_same, tidy_then}
-use Rattle.store_laws.specs.Keeps.{KnownPages, limits_of, keeps_each}
+use Rattle.store_laws.specs.Keeps.{KnownPages, keeps_each}
 use Rattle.ipl_store.specs.declared.store.Store.{Store}
-use Rattle.ipl_store.specs.Calls.{Calls, view_of, counter_of, down_fault, early_fault}
+use Rattle.ipl_store.specs.Calls.{Calls, view_of, counter_of, down_fault, early_fault, limits_of_store}
 use Rattle.script_store.specs.declared.store.ScriptStore.{ScriptStore}
 use Rattle.script_store.specs.Closes.{Aborts, KeepsRecords}
 use Rattle.script_store.specs.Keeps.{IsRunning, KeepsScript, script_keeping, DoesCommand}
@@ -128,12 +128,12 @@ module _ (known : KnownPages) (a m b : ScriptStore) (told : Told) (s : ℕ) (so_
 -- of the chip, which told the same and wasn't asked
 pub calls_idle : (m b : ScriptStore) (told mid after : Told) (s : ℕ) (result : Result (Unit {0}) StoreFault)
     → mid ≡ told → after ≡ mid
-    → Calls (early_fault (down_fault m.store) (refuses_end (limits_of m.store.units)
+    → Calls (early_fault (down_fault m.store) (refuses_end (limits_of_store m.store)
     (state_of m.store.transactions.sessions) s)) (λ state. after_abort state s) 0 m.store mid result b.store after
-    → Calls (early_fault (down_fault m.store) (refuses_end (limits_of m.store.units)
+    → Calls (early_fault (down_fault m.store) (refuses_end (limits_of_store m.store)
     (state_of m.store.transactions.sessions) s)) (λ state. after_abort state s) 0 m.store told result b.store told
 calls_idle m b told mid after s result first second calls =
-    let early = early_fault (down_fault m.store) (refuses_end (limits_of m.store.units)
+    let early = early_fault (down_fault m.store) (refuses_end (limits_of_store m.store)
     (state_of m.store.transactions.sessions) s) in
     subst (λ (t : Told). Calls early (λ state. after_abort state s) 0 m.store t result b.store t) first
     (subst (λ (t : Told). Calls early (λ state. after_abort state s) 0 m.store mid result b.store t) second calls)
@@ -141,7 +141,7 @@ calls_idle m b told mid after s result first second calls =
 module _ (known : KnownPages) (a m b : ScriptStore) (told : Told) (s : ℕ) (result : Result (Unit {0}) StoreFault)
     (so_far : Aborts known a told m) where
   abbrev refusal : Option Refusal
-  refusal = refuses_end (limits_of m.store.units) (state_of m.store.transactions.sessions) s
+  refusal = refuses_end (limits_of_store m.store) (state_of m.store.transactions.sessions) s
 
   abbrev early : Option StoreFault
   early = early_fault (down_fault m.store) refusal
@@ -170,7 +170,7 @@ module _ (known : KnownPages) (a m b : ScriptStore) (told : Told) (s : ℕ) (res
           (sym (calls.refuses fault early_is).1) so_far
 
   -- and one session more is closed
-  pub closed_more : s < 32 → Called result → IfErr result (λ fault. early ≡ Some fault)
+  pub closed_more : s < length m.store.transactions.sessions → Called result → IfErr result (λ fault. early ≡ Some fault)
       → OnOk result (b.store.transactions.sessions ≡ after_end m.store.transactions.sessions s)
       → AreClosedBelow s m.store.transactions.sessions → AreClosedBelow (s + 1) b.store.transactions.sessions
   closed_more low calls fails ended below = by_result result calls fails ended

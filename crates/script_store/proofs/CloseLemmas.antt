@@ -1,5 +1,5 @@
 -- What a close of the store leaves behind a script.
-use Rattle.std.proofs.Common.{ℕ, ◌≡◌, ◌≢◌, ◌⊎◌, ◌++◌, inl, inr, ◌<◌, ◌^◌, arith, false, true, Option, None, Some, Result, Ok, Err, MatchResult, IfErr, IsErrOf, OnOk, is_ok, refl, sym, ◌∙◌, ap, subst}
+use Rattle.std.proofs.Common.{ℕ, ◌≡◌, ◌≢◌, ◌⊎◌, ◌++◌, inl, inr, ◌<◌, ◌^◌, arith, false, true, Option, None, Some, Result, Ok, Err, MatchResult, IfErr, IsErrOf, OnOk, is_ok, refl, sym, ◌∙◌, ap, subst, length}
 use Rattle.std.specs.Option.{option_map}
 use Rattle.chip_trait.specs.Story.{Story, Contents, held}
 use Rattle.chip_trait.specs.Told.{History, Told, Counts, Rose, adds_all}
@@ -37,9 +37,9 @@ use Rattle.store_trait.specs.declared.fault.Fault.TheVariants.{Chip, Spent}
 use Rattle.store_trait.specs.Behind.{KeepsBehind, WorksBehind}
 use Rattle.store_trait.specs.Keeping.{LAST_NUMBER, Works, WorkLeaves, StillRecalls, DoneRecalls}
 use Rattle.store_trait.proofs.TidyLemmas.{tidy_then}
-use Rattle.store_laws.specs.Keeps.{KnownPages, KeepsStore, IsChipFaultCause, ChipTells, StoreCause}
+use Rattle.store_laws.specs.Keeps.{KnownPages, KeepsStore, IsChipFaultCause, ChipTells, StoreCause, limits_of}
 use Rattle.ipl_store.specs.declared.store.Store.{Store}
-use Rattle.ipl_store.specs.Calls.{view_of, counter_of, IsSound, entry_fault, early_fault, ends_worn_out, Serves, Calls}
+use Rattle.ipl_store.specs.Calls.{view_of, counter_of, IsSound, entry_fault, early_fault, ends_worn_out, Serves, Calls, limits_of_store}
 use Rattle.ipl_store.specs.Closing.{ClosesStore, EndsMarking, MarksStore, ServesClose}
 use Rattle.script_store.specs.declared.store.ScriptStore.{ScriptStore}
 use Rattle.script_store.specs.Closes.{Aborts, CountsClean, CountsMarked, MarksRecalled, ClosesAtEnd, closed}
@@ -67,17 +67,17 @@ abbrev over : Store → ScriptStore
 over store = record { store = store }
 
 module _ (known : KnownPages) (m : ScriptStore) (between : Store) (before told : Told) (runs : IsRunning before.places m)
-    (units : between.units ≡ m.store.units) where
+    (alike : limits_of_store between ≡ limits_of_store m.store) where
   abbrev Readied : Result (Unit {0}) StoreFault → Type 0
   Readied readied = Serves (λ state. state) (2 ^ 14) m.store before readied between told
 
   -- done, each state is kept
   ready_works : (v : Unit {0}) → Readied (Ok v)
       → Works (script_keeping before.places known) command.Syntax m before (Ok reply.Syntax) (over between) told
-  ready_works v served = works_so known before.places m (over between) before told runs.up units command.Syntax
+  ready_works v served = works_so known before.places m (over between) before told runs.up (ap (λ (l : Limits). l.units) alike) command.Syntax
       (Ok reply.Syntax)
       (accepted_work known (λ v. reply.Syntax) command.Syntax (λ state. state) (2 ^ 14) m (over between) before told runs
-      (omega arith) units refl (λ state. refl) (λ state. refl) (Ok v) served (λ state x told shown. refl)) tt
+      (omega arith) alike refl (λ state. refl) (λ state. refl) (Ok v) served (λ state x told shown. refl)) tt
 
   -- it failed, and so did the close
   ready_failed : (fault : StoreFault) → Readied (Err fault) → IsSound before.places between
@@ -100,7 +100,8 @@ module _ (known : KnownPages) (m : ScriptStore) (between : Store) (before told :
         refuses = λ first early. absurd (cc early);
         serves = λ none. served;
         sound = sound;
-        units = units;
+        units = ap (λ (l : Limits). l.units) alike;
+        sessions = ap (λ (l : Limits). l.sessions) alike;
         tidy = tidy;
         wears = wears;
         counts = counts;
@@ -116,7 +117,7 @@ module _ (known : KnownPages) (m : ScriptStore) (between : Store) (before told :
       (steps : ClosesInSteps told.places (tables_in between.transactions.pages) (tables_in c.transactions.pages)
       told written after)
       (second : Tidies (tables_in between.transactions.pages) written (tables_in c.transactions.pages) told after)
-      (accounts : Accounts IsStopped written told after) (same : c.units ≡ between.units)
+      (accounts : Accounts IsStopped written told after) (same : limits_of_store c ≡ limits_of_store between)
       (recalled : StillRecalls (script_keeping before.places known) m before (shut c) after) where
     marked_leaves : (limits : Limits) (state : State) (h : History)
         → KeepsScript before.places known limits (over between) told h state
@@ -143,9 +144,9 @@ module _ (known : KnownPages) (m : ScriptStore) (between : Store) (before told :
         (leaves_then (script_keeping before.places known) P m (over between) (shut c) h before told after (is_ok written)
         (leaves_weaker (script_keeping before.places known) (λ x. P x ⊎ P x) P m (over between) h before told true
         (either state limits) ready.leaves)
-        (leaves_so known before.places (over between) (shut c) told after served.ends same P k (is_ok written) more.leaves))
+        (leaves_so known before.places (over between) (shut c) told after served.ends (ap (λ (l : Limits). l.units) same) P k (is_ok written) more.leaves))
         (added_then more.leaves.added ready.leaves.added h)
-        (λ settled. record { kept = more.keeps settled; few = omega (arith, keeps.few, same, units) })
+        (λ settled. record { kept = more.keeps settled; few = omega (arith, keeps.few, ap (λ (l : Limits). l.units) same, ap (λ (l : Limits). l.units) alike) })
       where
         either : (state : State) (limits : Limits) (x : Contents)
             → StandsIn before.places limits.units (chart_of x) (of known.pages state.map)
@@ -420,6 +421,13 @@ module _ (known : KnownPages) (a m : ScriptStore) (c : Store) (before after : To
       told : Told
       told = served.told
 
+      -- the limits stay
+      ready_alike : limits_of_store between ≡ limits_of_store m.store
+      ready_alike = λ i. limits_of (served.sessions i) (served.units i)
+
+      mark_alike : MarksStore between told result c after → limits_of_store c ≡ limits_of_store between
+      mark_alike marked = λ i. limits_of (length (marked.sessions i)) (marked.units i)
+
       -- what was erased is known still: the status place was made ready, and then programmed
       marked_recalls : TellsOfWear (tables_in m.store.transactions.pages) (tables_in between.transactions.pages)
           true false before told → MarksStore between told result c after
@@ -444,18 +452,18 @@ module _ (known : KnownPages) (a m : ScriptStore) (c : Store) (before after : To
           (λ fault. (result ≡ Err fault) × (c ≡ between) × (after ≡ told)) → Ended result
       by_ready (Ok v) ready tidy wears marked =
           marked_ends marked.written marked.ends
-          (marked_behind known m between before told aborted.running served.units c after marked.written v ready tidy
-          served.counts marked.steps marked.tidy marked.accounts marked.units (marked_recalls wears marked))
-          (marked_last known m between before told aborted.running served.units c after marked.written v ready tidy
-          served.counts marked.steps marked.tidy marked.accounts marked.units (marked_recalls wears marked)
+          (marked_behind known m between before told aborted.running ready_alike c after marked.written v ready tidy
+          served.counts marked.steps marked.tidy marked.accounts (mark_alike marked) (marked_recalls wears marked))
+          (marked_last known m between before told aborted.running ready_alike c after marked.written v ready tidy
+          served.counts marked.steps marked.tidy marked.accounts (mark_alike marked) (marked_recalls wears marked)
           marked.last)
-          (erased_marked known m between before told aborted.running served.units c after marked.written v ready tidy
-          served.counts marked.steps marked.tidy marked.accounts marked.units (marked_recalls wears marked))
-          (marked_counted known m between before told aborted.running served.units c after marked.written v ready tidy
-          served.counts marked.steps marked.tidy marked.accounts marked.units (marked_recalls wears marked))
+          (erased_marked known m between before told aborted.running ready_alike c after marked.written v ready tidy
+          served.counts marked.steps marked.tidy marked.accounts (mark_alike marked) (marked_recalls wears marked))
+          (marked_counted known m between before told aborted.running ready_alike c after marked.written v ready tidy
+          served.counts marked.steps marked.tidy marked.accounts (mark_alike marked) (marked_recalls wears marked))
       by_ready (Err fault) ready tidy wears (is, same, still) =
           ready_ends between told fault ready
-          (ready_failed known m between before told aborted.running served.units fault ready
+          (ready_failed known m between before told aborted.running ready_alike fault ready
           (subst (IsSound before.places) same sound) tidy wears served.counts) is same still
 
   ends_at_once : ClosesStore early m.store before result c after → Ended result

@@ -1,5 +1,5 @@
 -- Which sessions are closed while one after another is aborted.
-use Rattle.std.proofs.Common.{◌≡◌, inl, inr, ℕ, zero, suc, ◌+◌, ◌<◌, ◌≤◌, arith, Bool, true, false, not, cond, nat_le, [], ◌∷◌, Option, Some, None, is_some, if◌then◌else◌, refl, sym, ◌∙◌, ap, subst}
+use Rattle.std.proofs.Common.{◌≡◌, inl, inr, ℕ, zero, suc, ◌+◌, ◌<◌, ◌≤◌, arith, Bool, true, false, not, cond, nat_le, [], ◌∷◌, Option, Some, None, is_some, if◌then◌else◌, refl, sym, ◌∙◌, ap, subst, length}
 use Rattle.std.specs.List.{find, range_with_len}
 use Rattle.std.proofs.lemmas.Bool.{cases_eq}
 use Rattle.std.proofs.lemmas.Bool.Decides.{nat_tests}
@@ -34,16 +34,16 @@ ended_there (o ∷ slots) (suc s) zero none = none
 ended_there (o ∷ slots) (suc s) (suc q) none = ended_there slots s q none
 
 -- of a session that may not be ended it is empty
-refused_is_closed : (units : ℕ) (slots : SessionSlots) (s : ℕ) (r : Refusal) → s < 32
-    → refuses_end (limits_of units) (state_of slots) s ≡ Some r → held_at slots s ≡ None
+refused_is_closed : (units : ℕ) (slots : SessionSlots) (s : ℕ) (r : Refusal) → s < length slots
+    → refuses_end (limits_of (length slots) units) (state_of slots) s ≡ Some r → held_at slots s ≡ None
 refused_is_closed units slots s r low refused = by_slot (held_at slots s) refl
   where
     by_slot : (o : Option Held) → held_at slots s ≡ o → o ≡ None
     by_slot None is = refl
     by_slot (Some h) is =
         let opened : is_open_session (state_of slots) s ≡ true = open_at slots s ∙ ap is_some is in
-        let within : nat_le 32 s ≡ false = grind (arith, nat_tests, low) in
-        let free : refuses_end (limits_of units) (state_of slots) s ≡ None =
+        let within : nat_le (length slots) s ≡ false = grind (arith, nat_tests, low) in
+        let free : refuses_end (limits_of (length slots) units) (state_of slots) s ≡ None =
         ap (λ (b : Bool). if b then Some BadSession else (if not (is_open_session (state_of slots) s) then Some NotOpen else None)) within
         ∙ ap (λ (b : Bool). if not b then Some NotOpen else None) opened in
         let clash : None ≡ Some r = sym free ∙ refused in absurd (cc clash)
@@ -60,8 +60,8 @@ pub ended_more : (s : ℕ) (slots : SessionSlots) → AreClosedBelow s slots →
 ended_more s slots below =
     one_more s (after_end slots s) (λ q low. ended_there slots s q (below q low)) (ended_here slots s)
 
-pub refused_more : (units s : ℕ) (slots : SessionSlots) (r : Refusal) → s < 32 → AreClosedBelow s slots
-    → refuses_end (limits_of units) (state_of slots) s ≡ Some r → AreClosedBelow (s + 1) slots
+pub refused_more : (units s : ℕ) (slots : SessionSlots) (r : Refusal) → s < length slots → AreClosedBelow s slots
+    → refuses_end (limits_of (length slots) units) (state_of slots) s ≡ Some r → AreClosedBelow (s + 1) slots
 refused_more units s slots r low below refused =
     one_more s slots below (refused_is_closed units slots s r low refused)
 
@@ -75,7 +75,7 @@ found_none test a (suc n) fails =
     ∙ found_none test (a + 1) n (λ s low. fails s (omega (arith, low)))
 
 -- a close isn't refused
-pub closes_free : (n : ℕ) (slots : SessionSlots) → 32 ≤ n → AreClosedBelow n slots → refuses_close slots ≡ None
+pub closes_free : (n : ℕ) (slots : SessionSlots) → length slots ≤ n → AreClosedBelow n slots → refuses_close slots ≡ None
 closes_free n slots all below = ap (λ (o : Option ℕ). first_of (sessions_open o ∷ []))
-    (found_none (is_open_session (state_of slots)) 0 32
+    (found_none (is_open_session (state_of slots)) 0 (length slots)
     (λ s low. open_at slots s ∙ ap is_some (below s (omega (arith, all, low)))))

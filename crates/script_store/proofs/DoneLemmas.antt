@@ -10,8 +10,7 @@ use Rattle.ipl_meaning.specs.Tables.{Places}
 use Rattle.unit_io.specs.Costs.{Spends}
 use Rattle.unit_io.proofs.CostLemmas.{spends_weaker}
 use Rattle.place_taking.specs.Spending.{ErasesFor}
-use Rattle.store_laws.specs.Keeps.{limits_of}
-use Rattle.ipl_store.specs.Calls.{Calls, early_fault, entry_fault, refuses_name}
+use Rattle.ipl_store.specs.Calls.{Calls, early_fault, entry_fault, refuses_name, limits_of_store}
 use Rattle.ipl_store.specs.Shown.{IsSeen, HasCommitted}
 use Rattle.script_store.specs.declared.store.ScriptStore.{ScriptStore}
 use Rattle.script_store.specs.Keeps.{IsRunning, answer_of, reply_of, looked_up}
@@ -60,31 +59,31 @@ merge_done u first worn_out b before after (Err (store.Chip e)) spends = tt
 
 module _ (n : ℕ) (a b : ScriptStore) (before after : Told) (runs : IsRunning before.places a) where
   abbrev Found : Result (Option (List ℕ)) StoreFault → Type 0
-  Found result = Calls (early_fault (entry_fault a.store) (refuses_name (limits_of a.store.units) n))
+  Found result = Calls (early_fault (entry_fault a.store) (refuses_name (limits_of_store a.store) n))
       (λ state. state) 14 a.store before result b.store after
 
   -- a name of the chip isn't refused
   refused_is_high : (r : Refusal) → Found (Err (store.Refused r)) → ¬ (n < 960 * a.store.units)
   refused_is_high r calls low = by_entry (entry_fault a.store) (up_entry a runs.up) calls
     where
-      by_refusal : (o : Option Refusal) → refuses_name (limits_of a.store.units) n ≡ o
+      by_refusal : (o : Option Refusal) → refuses_name (limits_of_store a.store) n ≡ o
           → Calls {T = Option (List ℕ)} (early_fault None o) (λ state. state) 14 a.store before
           (Err (store.Refused r)) b.store after → ⊥
-      by_refusal (Some q) is did = low_is_free a.store.units n q is low
+      by_refusal (Some q) is did = low_is_free (limits_of_store a.store) n q is low
       by_refusal None is did =
           let ends = (did.serves refl).ends in
           let clash : store.Refused r ≡ store.Chip ends.0 = ends.1 in cc clash
 
       by_entry : (entry : Option StoreFault) → IsEntry a entry
-          → Calls {T = Option (List ℕ)} (early_fault entry (refuses_name (limits_of a.store.units) n))
+          → Calls {T = Option (List ℕ)} (early_fault entry (refuses_name (limits_of_store a.store) n))
           (λ state. state) 14 a.store before (Err (store.Refused r)) b.store after → ⊥
-      by_entry entry (inl none) did = by_refusal (refuses_name (limits_of a.store.units) n) refl
+      by_entry entry (inl none) did = by_refusal (refuses_name (limits_of_store a.store) n) refl
           (subst (λ (o : Option StoreFault). Calls {T = Option (List ℕ)} (early_fault o
-          (refuses_name (limits_of a.store.units) n)) (λ state. state) 14 a.store before
+          (refuses_name (limits_of_store a.store) n)) (λ state. state) 14 a.store before
           (Err (store.Refused r)) b.store after) none did)
       by_entry entry (inr (is, late)) did =
           let (answer, same, still) = did.refuses store.Spent (ap (λ (o : Option StoreFault).
-          early_fault o (refuses_name (limits_of a.store.units) n)) is) in cc answer
+          early_fault o (refuses_name (limits_of_store a.store) n)) is) in cc answer
 
   pub found_done : (result : Result (Option (List ℕ)) StoreFault) → Found result
       → IfOk result (λ found. HasCommitted n a.store before found)

@@ -20,7 +20,7 @@ use Rattle.ipl_meaning.proofs.StoryLemmas.{moments_of_one, rests_in_units}
 use Rattle.unit_io.specs.Steps.{Settled, NoOtherEnd, EndsWith}
 use Rattle.restart.specs.Closing.{Closes, ClosesInSteps, MarksUnits, MarksWhatCounts, RestsMarked}
 use Rattle.store_trait.specs.Keeping.{WorkLeaves}
-use Rattle.store_laws.specs.Keeps.{View, limits_of, KeepsStore, IsUp, UsedNothing, store_keeping}
+use Rattle.store_laws.specs.Keeps.{View, KeepsStore, IsUp, UsedNothing, store_keeping, limits_in}
 use Rattle.store_laws.proofs.KeepLemmas.{all_done, at_limits, done_settles}
 
 -- a mark was written, and the story rests; it is not written only where a write failed
@@ -53,7 +53,7 @@ units_counted places pages m t old new (Ok v) k ends =
 units_counted places pages m t old new (Err e) k ends = tt
 
 module _ (places : ℕ) (pages : Legibility) (before after : View) (old new : Told) (written : Result (Unit {0}) ChipFault)
-    (units : after.units ≡ before.units) (up : before.down ≡ false) (down : after.down ≡ true)
+    (alike : limits_in after ≡ limits_in before) (up : before.down ≡ false) (down : after.down ≡ true)
     (same : old.places ≡ places)
     (steps : ClosesInSteps places before.memory.tables after.memory.tables old written new) where
   -- what is left of a store that is down then
@@ -65,7 +65,7 @@ module _ (places : ℕ) (pages : Legibility) (before after : View) (old new : To
     pub counted : OnOk written ((p s : ℕ) → IsMarked places (held h.start (leaves.added ++ h.story)) p s
         → IsCountedClean after.memory.tables p s)
 
-  module _ (state : State) (h : History) (keeps : KeepsStore places pages (limits_of before.units) before old h state) where
+  module _ (state : State) (h : History) (keeps : KeepsStore places pages (limits_in before) before old h state) where
     runs : IsUp places pages before h state
     runs = keeps.up up
 
@@ -83,14 +83,14 @@ module _ (places : ℕ) (pages : Legibility) (before after : View) (old new : To
         let k = adds_all way.added h in
         let is = at_end (λ e. EachStandsIn places before.units (of pages state.map) (adds_all e h)) way.added moments
         (held k.start k.story) (held_is_image (says sector_in) k.start k.story) in
-        rests_in_units places (of pages state.map) k is.stands.layout rests is.stands.laid ∙ is.count ∙ sym units
+        rests_in_units places (of pages state.map) k is.stands.layout rests is.stands.laid ∙ is.count ∙ sym (ap (λ (l : Limits). l.units) alike)
 
     -- nothing that is marked was used
     kept_marks : UsedNothing places before h → AtEachMoment (λ e. MarksAreUnused places (adds_all e h)) way.added
     kept_marks unused later e split = subst (λ (n : ℕ). KeepsMarks n h (adds_all e h)) same
         (way.marks unused.1 later e split) unused.0
 
-    marks_here : Marks (limits_of before.units) state h
+    marks_here : Marks (limits_in before) state h
     marks_here = record {
       leaves = record {
         added = way.added;
@@ -115,7 +115,7 @@ module _ (places : ℕ) (pages : Legibility) (before after : View) (old new : To
       keeps = λ settled.
           let rests = rests_marked places pages state.map after.memory.tables written (adds_all way.added h)
           (way.ends settled) in record {
-            limits_are = ap limits_of (sym units);
+            limits_are = sym alike;
             steady = way.steady settled;
             rests = rests;
             many = many_marked rests;

@@ -14,16 +14,17 @@ use Rattle.unit_io.specs.Steps.{Tidies}
 use Rattle.store_trait.specs.declared.fault.Fault.{Fault}
 use Rattle.store_trait.specs.declared.fault.Fault.TheVariants.{Spent}
 use Rattle.store_trait.specs.Keeping.{WORK_DRAWS, Works, Learns, StillRecalls}
-use Rattle.store_laws.specs.Keeps.{KnownPages, limits_of, store_keeping}
+use Rattle.store_laws.specs.Keeps.{KnownPages, store_keeping}
 use Rattle.store_laws.specs.Refusals.{sessions_refuse_put}
 use Rattle.store_laws.proofs.PutLemmas.{full_puts_are_work, written_puts_are_work, failed_puts_leave_the_map}
-use Rattle.ipl_store.specs.Calls.{view_of, counter_of, IsSound, entry_fault, Serves, Calls}
+use Rattle.ipl_store.specs.Calls.{view_of, counter_of, IsSound, entry_fault, Serves, Calls, limits_of_store}
 use Rattle.ipl_store.specs.Puts.{put_fault, found_room, put_next, PutsBy}
 use Rattle.script_store.specs.declared.store.ScriptStore.{ScriptStore}
 use Rattle.script_store.specs.Keeps.{IsRunning, script_keeping, answer_of, reply_of, DoesCommand}
 use Rattle.script_store.proofs.KeepLemmas.{tidy_so}
 use Rattle.script_store.proofs.RecallLemmas.{calls_recall}
 use Rattle.script_store.proofs.WornLemmas.{calls_learn}
+use Rattle.ipl_model.specs.State.{Limits}
 use Rattle.script_store.proofs.WorkLemmas.{done_does, served_does, few_drawn, by_entry, never_down, up_entry}
 
 -- ---- the answer
@@ -69,8 +70,8 @@ module _ (known : KnownPages) (s n : ℕ) (bytes : List ℕ) (a b : ScriptStore)
   abbrev Served : Result Bool StoreFault → Type 0
   Served found = Serves (put_next s n bytes found) 14 a.store before found b.store after
 
-  module _ (units : b.store.units ≡ a.store.units)
-      (free : sessions_refuse_put (limits_of a.store.units) a.store.transactions.sessions s n bytes
+  module _ (same : limits_of_store b.store ≡ limits_of_store a.store)
+      (free : sessions_refuse_put (limits_of_store a.store) a.store.transactions.sessions s n bytes
       ≡ None) where
     -- its page was brought, and found full, or written
     put_work : (room : Bool) → By (Ok room)
@@ -78,11 +79,11 @@ module _ (known : KnownPages) (s n : ℕ) (bytes : List ℕ) (a b : ScriptStore)
         → Works (store_keeping before.places known.pages) c (view_of a.store) before (Ok (put_reply room))
         (view_of b.store) after
     put_work true did few = written_puts_are_work known.pages s n bytes (view_of a.store) (view_of b.store)
-        did.tables did.frames did.frame before did.mid after known.apart units runs.up
+        did.tables did.frames did.frame before did.mid after known.apart same runs.up
         did.brings.counts did.brings.keeps did.brings.there free did.room did.leads
         (λ pages h state keeps. few)
     put_work false did few = full_puts_are_work known.pages s n bytes (view_of a.store) (view_of b.store)
-        did.frame before after known.apart units runs.up did.sessions did.brings.keeps
+        did.frame before after known.apart (ap (λ (l : Limits). l.units) same) runs.up did.sessions did.brings.keeps
         did.brings.there free did.full (λ pages h state keeps. few)
 
     put_served : (found : Result Bool StoreFault) → Served found → By found
@@ -94,16 +95,16 @@ module _ (known : KnownPages) (s n : ℕ) (bytes : List ℕ) (a b : ScriptStore)
         → Counts before after → DoesCommand known c a before (answer_of put_reply found) b after
     put_served (Ok room) did by sound tidy learns recalls counts =
         let next = put_next s n bytes (Ok room) in
-        done_does known put_reply c next 14 a b before after runs (omega arith) units room did
+        done_does known put_reply c next 14 a b before after runs (omega arith) same room did
         (put_work room by
-        (few_drawn known put_reply c next 14 a b before after runs (omega arith) units did.drawn))
+        (few_drawn known put_reply c next 14 a b before after runs (omega arith) same did.drawn))
         (record { sound = sound; up = did.ends })
         (tidy_so known before.places a b before after (Ok room) (Ok (put_reply room)) refl tidy) learns
         recalls counts
     put_served (Err fault) did by sound tidy learns recalls counts =
         served_does known put_reply c (put_next s n bytes (Err fault)) 14 a b before after runs (omega arith)
-        units (λ state sessions.
-        failed_puts_leave_the_map (limits_of a.store.units) state s n bytes Spent)
+        same (λ state sessions.
+        failed_puts_leave_the_map (limits_of_store a.store) state s n bytes Spent)
         (Err fault) did tt sound tidy learns recalls counts
 
   -- ---- the call
@@ -115,10 +116,10 @@ module _ (known : KnownPages) (s n : ℕ) (bytes : List ℕ) (a b : ScriptStore)
         → DoesCommand known c a before (reply_of result) b after
     put_does by = subst (λ (r : Result Reply Fault). DoesCommand known c a before r b after) (replies_alike result)
         (by_entry known put_reply c
-        (sessions_refuse_put (limits_of a.store.units) a.store.transactions.sessions s n bytes)
+        (sessions_refuse_put (limits_of_store a.store) a.store.transactions.sessions s n bytes)
         (put_next s n bytes (found_room result)) 14 a b before after (found_room result) runs refl
         (entry_fault a.store) calls
-        (λ none free units. put_served units free (found_room result) (calls.serves none) (by none)
+        (λ none free same. put_served same free (found_room result) (calls.serves none) (by none)
         calls.sound calls.tidy (calls_learn known a b before after put_reply (found_room result) runs
         (put_fault a.store s n bytes) (put_next s n bytes (found_room result)) 14 calls)
         (calls_recall known a b before after (found_room result) (put_fault a.store s n bytes)
@@ -128,6 +129,6 @@ module _ (known : KnownPages) (s n : ℕ) (bytes : List ℕ) (a b : ScriptStore)
     -- of a store that isn't down it doesn't say that it is
     pub put_is_up : result ≢ Err store.Down
     put_is_up is = never_down a
-        (sessions_refuse_put (limits_of a.store.units) a.store.transactions.sessions s n bytes)
+        (sessions_refuse_put (limits_of_store a.store) a.store.transactions.sessions s n bytes)
         (put_next s n bytes (found_room result)) 14 before (found_room result) b.store after runs.up
         calls (ap found_room is)

@@ -39,7 +39,7 @@ use Rattle.store_trait.specs.declared.fault.Fault.{Fault}
 use Rattle.store_trait.specs.declared.fault.Fault.TheVariants.{Image}
 use Rattle.store_trait.specs.Keeping.{FOUND_NUMBER, WORK_DRAWS, ChipRose, SaysFailedCall, Works}
 use Rattle.store_laws.specs.Advances.{memory_of, TurnsMapOf}
-use Rattle.store_laws.specs.Keeps.{KnownPages, View, ImageCause, ImageTells, DrawsFew, IsExcused, KeepsStore, ShowsState, limits_of, store_keeping}
+use Rattle.store_laws.specs.Keeps.{KnownPages, View, ImageCause, ImageTells, DrawsFew, IsExcused, KeepsStore, ShowsState, limits_of, store_keeping, limits_in}
 use Rattle.store_laws.proofs.AdvanceLemmas.{answers_advance}
 use Rattle.store_laws.proofs.KeepLemmas.{at_limits, leads_are_work}
 use Rattle.store_laws.proofs.FaultLemmas.{faults_that_leave_down}
@@ -90,7 +90,7 @@ module _ (known : KnownPages) (a b : ScriptStore) (old new : Told) (up : a.store
   -- whatever is left of its memory
   abbrev left : View
   left = record {
-    memory = memory_of (none_clean (counter_of a.store)) (λ u page. None) [];
+    memory = memory_of (none_clean (counter_of a.store)) (λ u page. None) b.store.transactions.sessions;
     units = b.store.units;
     down = true;
   }
@@ -249,7 +249,8 @@ few_found places c it next bytes laid above = elim (greatest_is_found c places i
 -- ---- an opening
 
 module _ (known : KnownPages) (a b : ScriptStore) (before after : Told) (runs : IsRunning before.places a)
-    (sound : IsSound before.places b.store) where
+    (sound : IsSound before.places b.store)
+    (sessions : length b.store.transactions.sessions ≡ length a.store.transactions.sessions) where
   -- the tables then
   abbrev t : Tables
   t = tables_in b.store.transactions.pages
@@ -262,7 +263,7 @@ module _ (known : KnownPages) (a b : ScriptStore) (before after : Told) (runs : 
 
   -- a chip on which the store kept a state says as many units as it had
   as_many : (state : State) (h : History)
-      → KeepsStore before.places known.pages (limits_of first.units) first before h state
+      → KeepsStore before.places known.pages (limits_in first) first before h state
       → units_at (chart_of (held h.start h.story)) before.places ≡ a.store.units
   as_many state h keeps =
       let shown = (keeps.up runs.up).shows in
@@ -279,7 +280,7 @@ module _ (known : KnownPages) (a b : ScriptStore) (before after : Told) (runs : 
         let units = opens.units _ kept.steady.holds ∙ as_many state h kept in
         works_so known before.places a b before after runs.up units command.Restart (Ok reply.Ok)
         (leads_are_work known.pages command.Restart (λ state. after_restart state) first last (Ok reply.Ok)
-        before after units runs.up
+        before after (λ i. limits_of (sessions i) (units i)) runs.up
         (answers_advance (TurnsMapOf (λ state. after_restart state)) (λ state. after_restart state)
         first.memory last.memory (Ok tt) (Ok reply.Ok) before after refl leads)
         (λ h state keeps. refl) few tt) tt limits state h keeps;
@@ -322,8 +323,8 @@ module _ (known : KnownPages) (a b : ScriptStore) (before after : Told) (runs : 
   failed_does e down units tries = record {
     works = works_down known a b before after runs.up units down (Image e)
         (faults_that_leave_down known.pages command.Restart first
-        (left known a b before after runs.up units down) (Image e) before after units
-        runs.up refl
+        (left known a b before after runs.up units down) (Image e) before after
+        (λ i. limits_of (sessions i) (units i)) runs.up refl
         (λ h it state steady story. preserved state.map h steady story.rests)
         (omega arith) excused) (λ limits state h added keeps tells.
         opening_met false before.places e before after t tries h added keeps.steady.holds);

@@ -1,5 +1,5 @@
 -- Looking records up: what sessions see, and what is committed.
-use Rattle.std.proofs.Common.{ℕ, ◌≡◌, ◌⊎◌, inl, inr, ◌≤◌, ◌<◌, ◌*◌, ◌+◌, arith, Bool, true, false, nat_le, Option, None, Some, List, ◌∷◌, [], Result, Ok, Err, IfOk, OnOk, if◌then◌else◌, refl, sym, ◌∙◌, ap, subst}
+use Rattle.std.proofs.Common.{ℕ, ◌≡◌, ◌⊎◌, inl, inr, ◌≤◌, ◌<◌, ◌+◌, arith, Bool, true, false, nat_le, Option, None, Some, List, ◌∷◌, [], Result, Ok, Err, IfOk, OnOk, if◌then◌else◌, refl, sym, ◌∙◌, ap, subst}
 use Rattle.std.proofs.lemmas.Bool.Decides.{nat_tests}
 use Rattle.chip_trait.specs.Story.{Contents, held}
 use Rattle.chip_trait.specs.Told.{History, Told, Counts}
@@ -28,7 +28,7 @@ use Rattle.store_laws.proofs.AdvanceLemmas.{answers_advance}
 use Rattle.store_laws.proofs.KeepLemmas.{is_at, at_limits, leads_are_work}
 use Rattle.store_laws.proofs.FaultLemmas.{idle_faults_look_up}
 use Rattle.ipl_store.specs.declared.store.Store.{Store}
-use Rattle.ipl_store.specs.Calls.{memory_of_store, view_of, counter_of, IsSound, early_fault, entry_fault, refuses_name, Serves, Calls}
+use Rattle.ipl_store.specs.Calls.{memory_of_store, view_of, counter_of, IsSound, early_fault, entry_fault, refuses_name, Serves, Calls, limits_of_store}
 use Rattle.ipl_store.specs.Shown.{IsSeen, HasCommitted}
 use Rattle.ipl_store.proofs.ShownLemmas.{framed_shows}
 use Rattle.script_store.specs.declared.store.ScriptStore.{ScriptStore}
@@ -64,6 +64,7 @@ calls_copied copy early next most old before (Ok found) new after calls = record
       };
   sound = calls.sound;
   units = calls.units;
+  sessions = calls.sessions;
   tidy = calls.tidy;
   wears = calls.wears;
   counts = calls.counts;
@@ -85,6 +86,7 @@ calls_copied {U = U} copy early next most old before (Err e) new after calls = r
       };
   sound = calls.sound;
   units = calls.units;
+  sessions = calls.sessions;
   tidy = calls.tidy;
   wears = calls.wears;
   counts = calls.counts;
@@ -161,11 +163,11 @@ leaves_same known places P first last h old new done leaves = record {
 }
 
 -- a name below the limit isn't refused
-pub low_is_free : (units n : ℕ) (r : Refusal) → refuses_name (limits_of units) n ≡ Some r
-    → n < 960 * units → ⊥
-low_is_free units n r is low = by_test (nat_le (960 * units) n) refl is
+pub low_is_free : (limits : Limits) (n : ℕ) (r : Refusal) → refuses_name limits n ≡ Some r
+    → n < limits.names → ⊥
+low_is_free limits n r is low = by_test (nat_le limits.names n) refl is
   where
-    by_test : (high : Bool) → nat_le (960 * units) n ≡ high
+    by_test : (high : Bool) → nat_le limits.names n ≡ high
         → (if high then Some BadName else None) ≡ Some r → ⊥
     by_test true past found = grind (arith, nat_tests, past, low)
     by_test false past found = absurd (cc found)
@@ -190,11 +192,11 @@ module _ (known : KnownPages) (n : ℕ) (a b : ScriptStore) (before after : Told
     cause = tt;
   }
 
-  refused_finds : (r : Refusal) → refuses_name (limits_of a.store.units) n ≡ Some r
+  refused_finds : (r : Refusal) → refuses_name (limits_of_store a.store) n ≡ Some r
       → Finds known n a before (Ok None) a before
   refused_finds r is = record {
     looks_up = looks_up_so known before.places a a before before runs.up refl n (Ok None)
-        (λ limits state h keeps low. absurd (low_is_free a.store.units n r is
+        (λ limits state h keeps low. absurd (low_is_free (limits_of_store a.store) n r is
         (subst (λ (l : Limits). n < l.names) keeps.limits_are low))) tt;
     tidy = tidy_same (script_keeping before.places known) a before before true refl;
     draws = draws_few known before.places LOOK_UP_DRAWS _ a a runs.up (omega arith)
@@ -206,7 +208,11 @@ module _ (known : KnownPages) (n : ℕ) (a b : ScriptStore) (before after : Told
     cause = tt;
   }
 
-  module _ (units : b.store.units ≡ a.store.units) where
+  module _ (same : limits_of_store b.store ≡ limits_of_store a.store) where
+    -- and so as many units
+    many : b.store.units ≡ a.store.units
+    many = ap (λ (l : Limits). l.units) same
+
     done_finds : (found : Option (List ℕ))
         → IsFramed b.store.transactions.pages (home_of n).unit (home_of n).page
         → Serves (λ state. state) 14 a.store before (Ok found) b.store after
@@ -216,7 +222,7 @@ module _ (known : KnownPages) (n : ℕ) (a b : ScriptStore) (before after : Told
         → StillRecalls (script_keeping before.places known) a before b after
         → (counts : Counts before after) → Finds known n a before (Ok found) b after
     done_finds found framed did committed running tidy learns recalls counts = record {
-      looks_up = looks_up_so known before.places a b before after runs.up units n (Ok found) looks tt;
+      looks_up = looks_up_so known before.places a b before after runs.up many n (Ok found) looks tt;
       tidy = tidy;
       draws = draws_few known before.places LOOK_UP_DRAWS _ a b runs.up few (λ spent. absurd (cc spent));
       running = running;
@@ -232,7 +238,7 @@ module _ (known : KnownPages) (n : ℕ) (a b : ScriptStore) (before after : Told
         works : Works (store_keeping before.places known.pages) command.Syntax first before (Ok reply.Syntax)
             last after
         works = leads_are_work known.pages command.Syntax (λ state. state) first last (Ok reply.Syntax) before after
-            units runs.up
+            same runs.up
             (answers_advance (TurnsMapOf (λ state. state)) (λ state. state) first.memory
             last.memory (Ok found) (Ok reply.Syntax) before after refl did.leads)
             (λ h state keeps. refl)
@@ -265,9 +271,9 @@ module _ (known : KnownPages) (n : ℕ) (a b : ScriptStore) (before after : Told
         → Learns (script_keeping before.places known) {T = Option (List ℕ)} a before (Err (Chip e)) b after
         → (counts : Counts before after) → Finds known n a before (Err (Chip e)) b after
     failed_finds e did cause sound tidy learns counts = record {
-      looks_up = looks_up_so known before.places a b before after runs.up units n (Err (Chip e)) looks
+      looks_up = looks_up_so known before.places a b before after runs.up many n (Err (Chip e)) looks
           (λ limits state h added was is tells unfailed.
-          call_met known before.places a b before after limits state h added was is runs.up (stays_up (Option (List ℕ)) e before after b.store did.ends unfailed) units
+          call_met known before.places a b before after limits state h added was is runs.up (stays_up (Option (List ℕ)) e before after b.store did.ends unfailed) many
           refl counts.places (Option (List ℕ)) e did.faults tells unfailed);
       tidy = tidy;
       draws = draws_few known before.places LOOK_UP_DRAWS _ a b runs.up few (λ spent. absurd (cc spent));
@@ -284,7 +290,7 @@ module _ (known : KnownPages) (n : ℕ) (a b : ScriptStore) (before after : Told
         are : AreCounted before.places a.store.units d
         are = record {
           all = sound.made.directory;
-          current = did.counted ∙ units;
+          current = did.counted ∙ many;
           keeps = runs.sound.made.units;
         }
 
@@ -294,7 +300,7 @@ module _ (known : KnownPages) (n : ℕ) (a b : ScriptStore) (before after : Told
         works : Works (store_keeping before.places known.pages) command.Syntax first before (Err (Chip e)) last
             after
         works = leads_are_work known.pages command.Syntax (λ state. state) first last (Err (Chip e)) before after
-            units runs.up
+            same runs.up
             (answers_advance (TurnsMapOf (λ state. state)) (λ state. state) first.memory
             last.memory (Err (store.Chip e)) (Err (Chip e)) before after refl did.leads)
             (λ h state keeps. refl)
@@ -355,33 +361,33 @@ module _ (known : KnownPages) (n : ℕ) (a b : ScriptStore) (before after : Told
         (subst (λ (s : Store). Finds known n a before (not_found fault) (record { store = s }) before)
         (sym same) base))
 
-    by_refusal : (r : Option Refusal) → refuses_name (limits_of a.store.units) n ≡ r
+    by_refusal : (r : Option Refusal) → refuses_name (limits_of_store a.store) n ≡ r
         → Calls (early_fault None r) (λ state. state) 14 a.store before result b.store after
         → Finds known n a before (looked_up result) b after
     by_refusal (Some r) is calls =
         let (answer, same, still) = calls.refuses (store.Refused r) refl in
         idle_finds (store.Refused r) (refused_finds r is) answer same still
     by_refusal None is calls =
-        served_finds calls.units result framed
+        served_finds (λ i. limits_of (calls.sessions i) (calls.units i)) result framed
         (calls.serves refl) committed calls.sound calls.tidy
         (look_up_learns known a b before after result runs (early_fault None None) (λ state. state) 14 calls)
         (calls_recall known a b before after result (early_fault None None) (λ state. state) 14 calls)
         calls.counts
 
     by_entry : (entry : Option StoreFault) → IsEntry a entry
-        → Calls (early_fault entry (refuses_name (limits_of a.store.units) n)) (λ state. state) 14
+        → Calls (early_fault entry (refuses_name (limits_of_store a.store) n)) (λ state. state) 14
         a.store before result b.store after
         → Finds known n a before (looked_up result) b after
-    by_entry entry (inl none) calls = by_refusal (refuses_name (limits_of a.store.units) n) refl
+    by_entry entry (inl none) calls = by_refusal (refuses_name (limits_of_store a.store) n) refl
         (subst (λ (o : Option StoreFault). Calls (early_fault o
-        (refuses_name (limits_of a.store.units) n)) (λ state. state) 14 a.store before result
+        (refuses_name (limits_of_store a.store) n)) (λ state. state) 14 a.store before result
         b.store after) none calls)
     by_entry entry (inr (is, late)) calls =
         let (answer, same, still) = calls.refuses store.Spent (ap (λ (o : Option StoreFault).
-        early_fault o (refuses_name (limits_of a.store.units) n)) is) in
+        early_fault o (refuses_name (limits_of_store a.store) n)) is) in
         idle_finds store.Spent (spent_finds late) answer same still
 
     pub call_finds : Calls (early_fault (entry_fault a.store)
-        (refuses_name (limits_of a.store.units) n)) (λ state. state) 14 a.store before result
+        (refuses_name (limits_of_store a.store) n)) (λ state. state) 14 a.store before result
         b.store after → Finds known n a before (looked_up result) b after
     call_finds calls = by_entry (entry_fault a.store) (up_entry a runs.up) calls

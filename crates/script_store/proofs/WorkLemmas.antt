@@ -12,7 +12,7 @@ use Rattle.ipl_base.specs.declared.fault.Refusal.{Refusal}
 use Rattle.ipl_base.specs.declared.fault.Refusal.TheVariants.{PageFull}
 use Rattle.ipl_base.specs.declared.fault.StoreFault.{StoreFault}
 use Rattle.ipl_base.specs.declared.fault.StoreFault.TheVariants as store
-use Rattle.ipl_model.specs.State.{State}
+use Rattle.ipl_model.specs.State.{State, Limits}
 use Rattle.ipl_model.specs.declared.command.Command.{Command}
 use Rattle.ipl_model.specs.declared.command.Command.TheVariants as command
 use Rattle.ipl_model.specs.declared.reply.Reply.{Reply}
@@ -29,7 +29,7 @@ use Rattle.store_trait.specs.declared.fault.Fault.TheVariants.{Chip, Spent}
 use Rattle.store_trait.specs.Keeping.{LAST_NUMBER, WORK_DRAWS, ChipRose, Works, LeavesTidy, Learns, StillRecalls}
 use Rattle.store_trait.proofs.TidyLemmas.{tidy_same}
 use Rattle.store_laws.specs.Advances.{TurnsMapOf}
-use Rattle.store_laws.specs.Keeps.{KnownPages, View, limits_of, ChipTells, ShowsState, StoreCause, store_keeping}
+use Rattle.store_laws.specs.Keeps.{KnownPages, View, ChipTells, ShowsState, StoreCause, store_keeping, limits_of}
 use Rattle.store_laws.specs.Refusals.{finds_full, sessions_refuse}
 use Rattle.store_laws.proofs.AdvanceLemmas.{answers_advance}
 use Rattle.store_laws.proofs.LeadLemmas.{answers_are_alike, memory_leads}
@@ -37,7 +37,7 @@ use Rattle.store_laws.proofs.RefusalLemmas.{refusals_answer, accepted_are_done, 
 use Rattle.store_laws.proofs.KeepLemmas.{leads_are_work}
 use Rattle.store_laws.proofs.FaultLemmas.{idle_faults_are_work}
 use Rattle.ipl_store.specs.declared.store.Store.{Store}
-use Rattle.ipl_store.specs.Calls.{view_of, counter_of, IsSound, entry_fault, down_fault, early_fault, IsOfTheChip, EndsFor, Serves, Calls, puts_down}
+use Rattle.ipl_store.specs.Calls.{view_of, counter_of, IsSound, entry_fault, down_fault, early_fault, IsOfTheChip, EndsFor, Serves, Calls, puts_down, limits_of_store}
 use Rattle.script_store.specs.declared.store.ScriptStore.{ScriptStore}
 use Rattle.script_store.specs.Keeps.{IsRunning, script_keeping, ended, answer_of, DoesCommand}
 use Rattle.script_store.proofs.KeepLemmas.{works_so, draws_few, tidy_so}
@@ -188,15 +188,15 @@ module _ (known : KnownPages) (c : Command) (a : ScriptStore) (told : Told) (run
   }
 
   refused_does : (r : Refusal)
-      → sessions_refuse (limits_of a.store.units) a.store.transactions.sessions c ≡ Some r
+      → sessions_refuse (limits_of_store a.store) a.store.transactions.sessions c ≡ Some r
       → DoesCommand known c a told (Ok (reply.Refused r)) a told
   refused_does r is = record {
     works = works_so known told.places a a told told runs.up refl c (Ok (reply.Refused r))
-        (leads_are_work known.pages c (λ state. (step (limits_of a.store.units) state c).0) (view_of a.store)
+        (leads_are_work known.pages c (λ state. (step (limits_of_store a.store) state c).0) (view_of a.store)
         (view_of a.store) (Ok (reply.Refused r)) told told refl runs.up
-        (refusals_lead a.store.units c r (view_of a.store).memory told is)
-        (λ h state keeps. says_it (step (limits_of a.store.units) state c) _
-        (ap (λ (y : Stepped). y.1) (refusals_answer (limits_of a.store.units)
+        (refusals_lead (limits_of_store a.store) c r (view_of a.store).memory told is)
+        (λ h state keeps. says_it (step (limits_of_store a.store) state c) _
+        (ap (λ (y : Stepped). y.1) (refusals_answer (limits_of_store a.store)
         a.store.transactions.sessions state c r (keeps.up runs.up).sessions is)))
         (λ pages h state keeps. omega arith) tt) tt;
     tidy = tidy_same (script_keeping told.places known) a told told true refl;
@@ -254,7 +254,11 @@ stays_up T e before after new ends unfailed =
 -- Done, it is the work of its command; failed, it left the map of the model's step at least.
 module _ (known : KnownPages) {T : Type 0} (say : T → Reply) (c : Command) (next : State → State) (most : ℕ)
     (a b : ScriptStore) (before after : Told) (runs : IsRunning before.places a)
-    (few : most ≤ WORK_DRAWS) (units : b.store.units ≡ a.store.units) where
+    (few : most ≤ WORK_DRAWS) (same : limits_of_store b.store ≡ limits_of_store a.store) where
+  -- and so as many units
+  many : b.store.units ≡ a.store.units
+  many = ap (λ (l : Limits). l.units) same
+
   abbrev first : View
   first = view_of a.store
 
@@ -268,7 +272,7 @@ module _ (known : KnownPages) {T : Type 0} (say : T → Reply) (c : Command) (ne
   -- the model's step leaves the next state's map
   abbrev StepsToMap : Type 0
   StepsToMap = (state : State) → AreSessionsOf a.store.transactions.sessions state
-      → (step (limits_of a.store.units) state c).0.map ≡ (next state).map
+      → (step (limits_of_store a.store) state c).0.map ≡ (next state).map
 
   pub few_drawn : counter_of b.store ≤ counter_of a.store + most
       → counter_of b.store ≤ counter_of a.store + WORK_DRAWS
@@ -281,7 +285,7 @@ module _ (known : KnownPages) {T : Type 0} (say : T → Reply) (c : Command) (ne
       → StillRecalls (script_keeping before.places known) a before b after
       → (counts : Counts before after) → DoesCommand known c a before (Ok (say found)) b after
   done_does found did works running tidy learns recalls counts = record {
-    works = works_so known before.places a b before after runs.up units c (Ok (say found)) works tt;
+    works = works_so known before.places a b before after runs.up many c (Ok (say found)) works tt;
     tidy = tidy;
     draws = draws_few known before.places WORK_DRAWS _ a b runs.up (few_drawn did.drawn)
         (λ spent. absurd (cc spent));
@@ -300,9 +304,9 @@ module _ (known : KnownPages) {T : Type 0} (say : T → Reply) (c : Command) (ne
       → Learns (script_keeping before.places known) {T = Reply} a before (Err (Chip e)) b after
       → (counts : Counts before after) → DoesCommand known c a before (Err (Chip e)) b after
   failed_does steps e did cause sound tidy learns counts = record {
-    works = works_so known before.places a b before after runs.up units c (Err (Chip e))
+    works = works_so known before.places a b before after runs.up many c (Err (Chip e))
         (leads_are_work known.pages c next first last (Err (Chip e)) before after
-        units runs.up (answers_advance (TurnsMapOf next) next first.memory
+        same runs.up (answers_advance (TurnsMapOf next) next first.memory
         last.memory (Err (store.Chip e)) (Err (Chip e)) before after refl did.leads)
         (λ h state keeps. steps state (keeps.up runs.up).sessions)
         (λ pages h state keeps. few_drawn did.drawn)
@@ -312,7 +316,7 @@ module _ (known : KnownPages) {T : Type 0} (say : T → Reply) (c : Command) (ne
           chip_tells before.places a.store.units d e before after are cause,
         )))
         (λ limits state h added was is tells unfailed.
-        call_met known before.places a b before after limits state h added was is runs.up (stays_up T e before after b.store did.ends unfailed) units
+        call_met known before.places a b before after limits state h added was is runs.up (stays_up T e before after b.store did.ends unfailed) many
         refl counts.places T e did.faults tells unfailed);
     tidy = tidy;
     draws = draws_few known before.places WORK_DRAWS _ a b runs.up (few_drawn did.drawn)
@@ -330,7 +334,7 @@ module _ (known : KnownPages) {T : Type 0} (say : T → Reply) (c : Command) (ne
       are : AreCounted before.places a.store.units d
       are = record {
         all = sound.made.directory;
-        current = did.counted ∙ units;
+        current = did.counted ∙ many;
         keeps = runs.sound.made.units;
       }
 
@@ -358,19 +362,19 @@ module _ (known : KnownPages) {T : Type 0} (say : T → Reply) (c : Command) (ne
 
 module _ (known : KnownPages) {T : Type 0} (say : T → Reply) (c : Command) (next : State → State) (most : ℕ)
     (a b : ScriptStore) (before after : Told) (runs : IsRunning before.places a)
-    (few : most ≤ WORK_DRAWS) (units : b.store.units ≡ a.store.units)
-    (free : sessions_refuse (limits_of a.store.units) a.store.transactions.sessions c ≡ None)
+    (few : most ≤ WORK_DRAWS) (same : limits_of_store b.store ≡ limits_of_store a.store)
+    (free : sessions_refuse (limits_of_store a.store) a.store.transactions.sessions c ≡ None)
     (roomy : (state : State) → finds_full state c ≡ false)
     (nexts : (state : State) → (accepted state c).0 ≡ next state) where
   -- it is done
   steps_on : (state : State) → AreSessionsOf a.store.transactions.sessions state
-      → step (limits_of a.store.units) state c ≡ accepted state c
+      → step (limits_of_store a.store) state c ≡ accepted state c
   steps_on state sessions =
-      accepted_are_done (limits_of a.store.units) a.store.transactions.sessions state c sessions free
+      accepted_are_done (limits_of_store a.store) a.store.transactions.sessions state c sessions free
       ∙ ap (λ (full : Bool). if full then (state, reply.Refused PageFull ∷ []) else accepted state c)
       (roomy state)
 
-  pub steps_to_map : StepsToMap known say c next most a b before after runs few units
+  pub steps_to_map : StepsToMap known say c next most a b before after runs few same
   steps_to_map state sessions = ap (λ (x : Stepped). x.0.map) (steps_on state sessions)
       ∙ ap (λ (s : State). s.map) (nexts state)
 
@@ -382,24 +386,24 @@ module _ (known : KnownPages) {T : Type 0} (say : T → Reply) (c : Command) (ne
 
   pub accepted_work : (result : Result T StoreFault)
       → Serves next most a.store before result b.store after → IfOk result Replies
-      → IfOk result (IsWork known say c next most a b before after runs few units)
+      → IfOk result (IsWork known say c next most a b before after runs few same)
   accepted_work (Err fault) did replies = tt
   accepted_work (Ok found) did replies =
       leads_are_work known.pages c next (view_of a.store) (view_of b.store) (Ok (say found)) before after
-      units runs.up (answers_advance (TurnsMapOf next) next
+      same runs.up (answers_advance (TurnsMapOf next) next
       (view_of a.store).memory (view_of b.store).memory (Ok found) (Ok (say found)) before after
       refl did.leads)
       (λ h state keeps. steps_on state (keeps.up runs.up).sessions
       ∙ both_are (accepted state c) (next state) (say found ∷ []) (nexts state)
       (replies state _ keeps.steady.holds (keeps.up runs.up).shows))
-      (λ pages h state keeps. few_drawn known say c next most a b before after runs few units did.drawn) tt
+      (λ pages h state keeps. few_drawn known say c next most a b before after runs few same did.drawn) tt
 
 -- ---- a call
 
 module _ (known : KnownPages) {T : Type 0} (say : T → Reply) (c : Command) (refusal : Option Refusal)
     (next : State → State) (most : ℕ) (a b : ScriptStore) (before after : Told)
     (result : Result T StoreFault) (runs : IsRunning before.places a)
-    (refuses : refusal ≡ sessions_refuse (limits_of a.store.units) a.store.transactions.sessions c)
+    (refuses : refusal ≡ sessions_refuse (limits_of_store a.store) a.store.transactions.sessions c)
   where
     -- one that did nothing
     idle_does : (fault : StoreFault) → DoesCommand known c a before (ended fault) a before
@@ -415,8 +419,8 @@ module _ (known : KnownPages) {T : Type 0} (say : T → Reply) (c : Command) (re
         (calls : Calls (early_fault entry refusal) next most a.store before result b.store after)
         -- where it is let in, it is the command's work, and else it failed
         (works : early_fault entry refusal ≡ None
-        → sessions_refuse (limits_of a.store.units) a.store.transactions.sessions c ≡ None
-        → b.store.units ≡ a.store.units → DoesCommand known c a before (answer_of say result) b after) where
+        → sessions_refuse (limits_of_store a.store) a.store.transactions.sessions c ≡ None
+        → limits_of_store b.store ≡ limits_of_store a.store → DoesCommand known c a before (answer_of say result) b after) where
       early_is : (e : Option StoreFault) (r : Option Refusal) → entry ≡ e → refusal ≡ r
           → early_fault entry refusal ≡ early_fault e r
       early_is e r entry_is is = ap (λ (o : Option StoreFault). early_fault o refusal) entry_is
@@ -430,7 +434,7 @@ module _ (known : KnownPages) {T : Type 0} (say : T → Reply) (c : Command) (re
           idle_does (store.Refused r) (refused_does known c a before runs r (sym refuses ∙ is))
           answer same still
       by_refusal None is none = works (early_is None None none is) (sym refuses ∙ is)
-          calls.units
+          (λ i. limits_of (calls.sessions i) (calls.units i))
 
       pub by_entry : IsEntry a entry → DoesCommand known c a before (answer_of say result) b after
       by_entry (inl none) = by_refusal refusal refl none
@@ -445,7 +449,7 @@ module _ (known : KnownPages) {T : Type 0} (say : T → Reply) (c : Command) (re
     (next : State → State) (most : ℕ) (a b : ScriptStore) (before after : Told)
     (result : Result T StoreFault) (runs : IsRunning before.places a)
     (few : most ≤ WORK_DRAWS)
-    (refuses : refusal ≡ sessions_refuse (limits_of a.store.units) a.store.transactions.sessions c)
+    (refuses : refusal ≡ sessions_refuse (limits_of_store a.store) a.store.transactions.sessions c)
     (roomy : (state : State) → finds_full state c ≡ false)
     (nexts : (state : State) → (accepted state c).0 ≡ next state)
     (replies : IfOk result (λ found. (state : State)
@@ -456,11 +460,11 @@ module _ (known : KnownPages) {T : Type 0} (say : T → Reply) (c : Command) (re
       → DoesCommand known c a before (answer_of say result) b after
   by_call entry is calls =
       by_entry known say c refusal next most a b before after result runs refuses entry calls
-      (λ none free units.
-      served_does known say c next most a b before after runs few units
-      (steps_to_map known say c next most a b before after runs few units free roomy nexts) result
+      (λ none free same.
+      served_does known say c next most a b before after runs few same
+      (steps_to_map known say c next most a b before after runs few same free roomy nexts) result
       (calls.serves none)
-      (accepted_work known say c next most a b before after runs few units free roomy nexts result
+      (accepted_work known say c next most a b before after runs few same free roomy nexts result
       (calls.serves none) replies)
       calls.sound calls.tidy
       (calls_learn known a b before after say result runs (early_fault entry refusal) next most calls)

@@ -8,7 +8,6 @@ ghost use Rattle.script_store.specs.Closes.{Aborts, ClosesAtEnd};
 use crate::ScriptStore;
 use crate::replies::closed;
 use chip_trait::Chip;
-use ipl_base::SESSIONS;
 use store_trait::Fault;
 
 impl ScriptStore {
@@ -19,7 +18,7 @@ impl ScriptStore {
         ensures aborts { (known : KnownPages) → Aborts known self.old (C.told chip.old) self.new }
         ensures none { refuses_close self.new.store.transactions.sessions ≡ None }
     {
-        for s in 0..SESSIONS {
+        for s in 0..self.store.session_count() {
             // Of a session that isn't open this is refused, and changes nothing.
             let _ = self.store.abort(chip, s);
         }

@@ -11,6 +11,7 @@ pub loop-s-init : goal.loop-s-init
 loop-s-init g c = record {
   idle = refl;
   aborts = λ known. aborts_none known c.args.self.now (g.C.Chip.told c.args.chip.now) c.requires.runs;
+  all = refl;
   closed = λ s low. absurd (omega (arith, low));
 }
 
@@ -31,11 +32,13 @@ loop-s-preserved g c =
     record {
       idle = c.abort.ensures.memory.idle ∙ l.invariant.idle;
       aborts = λ known. aborts_more known a l.self b told l.s c.abort.result (l.invariant.aborts known) calls c.abort.ensures.early;
-      closed = closed_more all_pages a l.self b told l.s c.abort.result (l.invariant.aborts all_pages) (omega (arith, c.loop-s-test.true))
+      all = calls.sessions ∙ l.invariant.all;
+      closed = closed_more all_pages a l.self b told l.s c.abort.result (l.invariant.aborts all_pages)
+          (omega (arith, c.loop-s-test.true, c.session_count-s-end.ensures.count, l.invariant.all))
           calls c.abort.ensures.early c.abort.ensures.ended l.invariant.closed;
     }
 
 pub returns-clause-none : goal.returns-clause-none
 returns-clause-none g c =
     let l = c.loop-s in
-    closes_free l.s l.self.store.transactions.sessions (omega (arith, c.loop-s-test.false)) l.invariant.closed
+    closes_free l.s l.self.store.transactions.sessions (omega (arith, c.loop-s-test.false, c.session_count-s-end.ensures.count, l.invariant.all)) l.invariant.closed

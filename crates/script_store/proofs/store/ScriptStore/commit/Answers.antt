@@ -6,16 +6,16 @@ use Rattle.ipl_model.specs.Refusals.{refuses_end}
 use Rattle.ipl_model.specs.Operations.{after_commit}
 use Rattle.record_locks.specs.Standing.{state_of}
 use Rattle.store_trait.specs.declared.fault.Fault.{Fault}
-use Rattle.store_laws.specs.Keeps.{limits_of}
 use Rattle.ipl_store.proofs.CallLemmas.{on_ok}
 use Rattle.script_store.specs.Keeps.{DoesCommand}
 use Rattle.script_store.proofs.WorkLemmas.{calls_do}
+use Rattle.ipl_store.specs.Calls.{limits_of_store}
 use Rattle.script_store.proofs.store.ScriptStore.commit.Goals as goal
 
 pub returns : goal.returns
 returns g c = λ known.
     let store = c.args.self.now.store in
-    let refusal = refuses_end (limits_of store.units) (state_of store.transactions.sessions)
+    let refusal = refuses_end (limits_of_store store) (state_of store.transactions.sessions)
     c.args.s in
     let before = g.C.Chip.told c.args.chip.now in
     let after = g.C.Chip.told c.commit.new.chip in

@@ -6,17 +6,17 @@ use Rattle.ipl_model.specs.Refusals.{refuses_batch}
 use Rattle.ipl_model.specs.Operations.{after_batch}
 use Rattle.record_locks.specs.Standing.{state_of}
 use Rattle.store_trait.specs.declared.fault.Fault.{Fault}
-use Rattle.store_laws.specs.Keeps.{limits_of}
 use Rattle.ipl_store.proofs.CallLemmas.{on_ok}
 use Rattle.script_store.specs.Keeps.{DoesCommand}
 use Rattle.script_store.proofs.WorkLemmas.{calls_do, never_down}
+use Rattle.ipl_store.specs.Calls.{limits_of_store}
 use Rattle.script_store.proofs.store.ScriptStore.commit_all.Goals as goal
 
 pub reply_of-requires : goal.reply_of-requires
 reply_of-requires g c =
     let store = c.args.self.now.store in
     let numbers = c.numbers.result.now in
-    let refusal = refuses_batch (limits_of store.units) (state_of store.transactions.sessions)
+    let refusal = refuses_batch (limits_of_store store) (state_of store.transactions.sessions)
     numbers in record {
       up = never_down c.args.self.now refusal (λ state. after_batch state numbers) (2 ^ 15)
           (g.C.Chip.told c.args.chip.now) c.commit_all.result c.commit_all.new.self
@@ -27,7 +27,7 @@ pub returns : goal.returns
 returns g c = λ known.
     let store = c.args.self.now.store in
     let numbers = c.numbers.result.now in
-    let refusal = refuses_batch (limits_of store.units) (state_of store.transactions.sessions)
+    let refusal = refuses_batch (limits_of_store store) (state_of store.transactions.sessions)
     numbers in
     let before = g.C.Chip.told c.args.chip.now in
     let after = g.C.Chip.told c.commit_all.new.chip in

@@ -4,17 +4,17 @@ use Rattle.ipl_model.specs.declared.reply.Reply.{Reply}
 use Rattle.ipl_model.specs.declared.reply.Reply.TheVariants as reply
 use Rattle.ipl_model.specs.Operations.{after_write}
 use Rattle.store_trait.specs.declared.fault.Fault.{Fault}
-use Rattle.store_laws.specs.Keeps.{limits_of}
 use Rattle.store_laws.specs.Refusals.{sessions_refuse_del}
 use Rattle.ipl_store.proofs.CallLemmas.{on_ok}
 use Rattle.script_store.specs.Keeps.{DoesCommand}
 use Rattle.script_store.proofs.WorkLemmas.{calls_do}
+use Rattle.ipl_store.specs.Calls.{limits_of_store}
 use Rattle.script_store.proofs.store.ScriptStore.del.Goals as goal
 
 pub returns : goal.returns
 returns g c = λ known.
     let store = c.args.self.now.store in
-    let refusal = sessions_refuse_del (limits_of store.units) store.transactions.sessions
+    let refusal = sessions_refuse_del (limits_of_store store) store.transactions.sessions
     c.args.s c.args.n in
     let before = g.C.Chip.told c.args.chip.now in
     let after = g.C.Chip.told c.del.new.chip in

@@ -5,8 +5,7 @@ use Rattle.ipl_model.specs.Step.{found_reply}
 use Rattle.ipl_model.specs.Refusals.{refuses_get}
 use Rattle.record_locks.specs.Standing.{state_of}
 use Rattle.store_trait.specs.declared.fault.Fault.{Fault}
-use Rattle.store_laws.specs.Keeps.{limits_of}
-use Rattle.ipl_store.specs.Calls.{early_fault, entry_fault}
+use Rattle.ipl_store.specs.Calls.{early_fault, entry_fault, limits_of_store}
 use Rattle.script_store.specs.Keeps.{DoesCommand}
 use Rattle.script_store.specs.Done.{SaysSeen}
 use Rattle.script_store.proofs.DoneLemmas.{seen_done}
@@ -17,7 +16,7 @@ use Rattle.script_store.proofs.store.ScriptStore.get.Goals as goal
 pub returns-clause-does : goal.returns-clause-does
 returns-clause-does g c = λ known.
     let store = c.args.self.now.store in
-    let refusal = refuses_get (limits_of store.units) (state_of store.transactions.sessions)
+    let refusal = refuses_get (limits_of_store store) (state_of store.transactions.sessions)
     c.args.s c.args.n in
     let before = g.C.Chip.told c.args.chip.now in
     let after = g.C.Chip.told c.see.new.chip in

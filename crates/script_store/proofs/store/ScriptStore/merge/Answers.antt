@@ -4,8 +4,7 @@ use Rattle.ipl_model.specs.declared.reply.Reply.{Reply}
 use Rattle.ipl_model.specs.declared.reply.Reply.TheVariants as reply
 use Rattle.ipl_model.specs.Refusals.{refuses_merge}
 use Rattle.store_trait.specs.declared.fault.Fault.{Fault}
-use Rattle.store_laws.specs.Keeps.{limits_of}
-use Rattle.ipl_store.specs.Calls.{ends_worn_out}
+use Rattle.ipl_store.specs.Calls.{ends_worn_out, limits_of_store}
 use Rattle.ipl_store.proofs.CallLemmas.{on_ok}
 use Rattle.script_store.specs.declared.store.ScriptStore.{ScriptStore}
 use Rattle.script_store.specs.Keeps.{DoesCommand}
@@ -17,7 +16,7 @@ use Rattle.script_store.proofs.store.ScriptStore.merge.Goals as goal
 pub returns-clause-does : goal.returns-clause-does
 returns-clause-does g c = λ known.
     let store = c.args.self.now.store in
-    let refusal = refuses_merge (limits_of store.units) c.args.unit in
+    let refusal = refuses_merge (limits_of_store store) c.args.unit in
     let before = g.C.Chip.told c.args.chip.now in
     let after = g.C.Chip.told c.merge.new.chip in
     subst (λ (r : Result Reply Fault). DoesCommand known (command.Merge c.args.unit) c.args.self.now before r

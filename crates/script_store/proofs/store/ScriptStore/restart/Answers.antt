@@ -15,7 +15,7 @@ returns-in-Ok-clause-does g c = λ known.
     subst (λ (r : Result (Unit {0}) ImageFault). DoesCommand known command.Restart c.args.self.now before
     (restarted r) b after) c.in-Ok.is
     (restart_does known c.args.self.now b before after
-    c.requires.runs c.open_chip.ensures.sound
+    c.requires.runs c.open_chip.ensures.sound c.open_chip.ensures.sessions
     c.open_chip.result c.open_chip.ensures.opens c.open_chip.ensures.tries
     (c.open_chip.ensures.leads refl))
 
@@ -27,7 +27,7 @@ returns-in-Err-clause-does g c = λ known.
     subst (λ (r : Result (Unit {0}) ImageFault). DoesCommand known command.Restart c.args.self.now before
     (restarted r) b after) c.in-Err.is
     (restart_does known c.args.self.now b before after
-    c.requires.runs c.open_chip.ensures.sound
+    c.requires.runs c.open_chip.ensures.sound c.open_chip.ensures.sessions
     c.open_chip.result c.open_chip.ensures.opens c.open_chip.ensures.tries
     (c.open_chip.ensures.leads refl))
 
