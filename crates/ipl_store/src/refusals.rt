@@ -192,11 +192,11 @@ impl Store {
 }
 
 /// What a value of at most 464 bytes takes in the text of its page.
-fn size_in_page(value: &[u8]) -> u32
+fn size_in_page(value: &[u8]) -> u16
     requires { length value.now ≤ VALUE_LEN }
     ensures { result ≡ size_in_page (Some value.now) }
 {
-    3 + value.len() as u32
+    3 + value.len() as u16
 }
 
 /// Whether a page (0 to 14 of a unit) is held.

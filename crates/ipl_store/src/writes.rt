@@ -81,11 +81,11 @@ impl Transactions {
 }
 
 // What the value of a change takes in the text of its page, at most 467 bytes.
-fn size_in_page(change: &Change) -> u32
+fn size_in_page(change: &Change) -> u16
     ensures { result ≡ size_in_page (change_of change.now) }
 {
     match change {
-        Change::Put(value) => 3 + value.bytes().len() as u32,
+        Change::Put(value) => 3 + value.bytes().len() as u16,
         Change::Delete => 0,
     }
 }

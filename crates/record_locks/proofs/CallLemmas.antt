@@ -4,9 +4,9 @@ use Rattle.std.specs.Prelude.{find, IfSome}
 use Rattle.std.specs.List.{count_by}
 use Rattle.std.specs.Option.{option_map, option_map_or}
 use Rattle.std.proofs.lemmas.Bool.Decides.{nat_tests}
-use Rattle.std.proofs.lemmas.List.{get_or_read}
 use Rattle.ipl_model.specs.State as rules
 use Rattle.ipl_model.specs.Refusals as tests
+use Rattle.bounded_vec.proofs.WriteLemmas.{item_read}
 use Rattle.record_locks.specs.Held.{Held, SessionSlots, held_at, written_of, is_among, raised, slot_peaks, peaks_in, with_written, with_shared}
 use Rattle.ipl_model.specs.Slots.{open_from}
 use Rattle.record_locks.specs.Standing.{state_of, slot_of, keeps_from}
@@ -152,6 +152,7 @@ sound_shared slots s n (Some h) sound within is =
     peaks_same q false true = refl
     peaks_same q false false = refl
 
--- what is read of a slot is what it holds
-pub slot_held : (slots : SessionSlots) (s : ℕ) (o : Option Held) → s < length slots → o ≡ get_or slots s o → held_at slots s ≡ o
-slot_held slots s o within is = sym (get_or_read slots s o within is None)
+-- the slots were lent: what is read of one there
+pub lent_held : (slots lent : SessionSlots) (s : ℕ) (o : Option Held) → s < length slots → lent ≡ slots
+    → held_at slots s ≡ get_or lent s o
+lent_held slots lent s o within is = sym (item_read slots lent s o None is within)

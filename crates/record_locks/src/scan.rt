@@ -1,13 +1,15 @@
 //! Scans of all sessions.
-ghost use Rattle.std.specs.Prelude.{◌≡◌, ◌≤◌, ◌<◌, ◌*◌, ◌^◌, ◌==◌, ◌&&◌, not, map, length, false, None, [], replicate, vec_capacity, All};
+ghost use Rattle.std.specs.Prelude.{◌≡◌, ◌≤◌, ◌<◌, ◌*◌, ◌^◌, ◌==◌, ◌&&◌, not, map, length, false, None, [], replicate, All};
 ghost use Rattle.std.specs.List.{sum_by};
 ghost use Rattle.std.specs.Option.{option_map_or};
+ghost use Rattle.bounded_vec.specs.Bounded.{with_items};
 ghost use Rattle.ipl_base.specs.declared.limits.TheConstants.{LONG_WEIGHT, SESSION_NAMES, SESSIONS};
 ghost use Rattle.record_locks.specs.Held.{peaks_in, slot_peaks, slot_weight};
 ghost use Rattle.record_locks.specs.Standing.{slot_of, session_of, keeps_from, least_holder};
 ghost use Rattle.record_locks.specs.Locks.{IsSized};
 
 use crate::session::OpenSession;
+use bounded_vec::BoundedVec;
 use ipl_base::Name;
 
 /// What the names of a unit that the session in a slot wrote weigh.
@@ -101,12 +103,12 @@ pub(crate) fn find_holder(
 }
 
 /// Fills an empty list with a slot for each of so many sessions, without a session.
-pub fn fill(slots: &mut Vec<Option<OpenSession>>, sessions: u32)
+pub fn fill(slots: &mut BoundedVec<Option<OpenSession>>, sessions: u32)
     requires empty { slots.old.items ≡ [] }
-    requires room { sessions ≤ vec_capacity slots.old }
-    ensures { slots.new.items ≡ replicate sessions None }
+    requires room { sessions ≤ slots.old.room }
+    ensures { slots.new ≡ with_items slots.old (replicate sessions None) }
 {
     for _ in 0..sessions {
-        slots.push_reserved(None);
+        slots.push(None);
     }
 }

@@ -17,7 +17,7 @@ use std::marker::Model;
 pub struct OpenSession {
     number: u64,
     written: ArrayVec<Name, 256>,
-    sizes: ArrayVec<u32, 256>,
+    sizes: ArrayVec<u16, 256>,
     shared: ArrayVec<Name, 256>,
 }
 
@@ -66,7 +66,7 @@ impl OpenSession {
     }
 
     /// The greatest size of its writes on each, in the same order.
-    pub fn sizes(&self) -> &[u32]
+    pub fn sizes(&self) -> &[u16]
         ensures sizes { result.now ≡ self.now.sizes }
         ensures fits { length result.now ≤ 256 }
     {
@@ -114,7 +114,7 @@ impl OpenSession {
     }
 
     /// Raises the size of a name that it wrote.
-    pub(crate) fn raise(&mut self, name: Name, size: u32)
+    pub(crate) fn raise(&mut self, name: Name, size: u16)
         requires { length self.old.sizes ≡ length self.old.written }
         ensures { self.new ≡ record self.old {
           sizes = raised self.old.written self.old.sizes name.0 size;
@@ -129,7 +129,7 @@ impl OpenSession {
     }
 
     /// Puts a name behind those that it wrote, and its size.
-    pub(crate) fn push_written(&mut self, name: Name, size: u32)
+    pub(crate) fn push_written(&mut self, name: Name, size: u16)
         requires names { length self.old.written < 256 }
         requires sizes { length self.old.sizes < 256 }
         ensures { self.new ≡ record self.old {
@@ -165,7 +165,7 @@ pub(crate) fn share_in(slot: &mut Option<OpenSession>, name: Name)
 }
 
 /// The session in a slot, if there is one, writes a name, by a write of this size.
-pub(crate) fn write_in(slot: &mut Option<OpenSession>, name: Name, size: u32)
+pub(crate) fn write_in(slot: &mut Option<OpenSession>, name: Name, size: u16)
     requires sized { IfSome slot.old (λ h. length h.sizes ≡ length h.written) }
     requires room { IfSome slot.old (λ h. is_among name.0 h.written ≡ false
         → length h.written < 256) }
@@ -208,7 +208,7 @@ fn rank_of(names: &[Name], name: Name) -> usize
 }
 
 /// The peak of a name: one more than the size that stands beside it, 0 where it isn't there.
-fn peak_of(names: &[Name], sizes: &[u32], name: Name) -> u64
+fn peak_of(names: &[Name], sizes: &[u16], name: Name) -> u64
     requires { length sizes.now ≡ length names.now }
     ensures peak { result ≡ peak_in (map (λ n. n.0) names.now) sizes.now name.0 }
     ensures fits { result ≤ 2 ^ 32 }
@@ -221,7 +221,7 @@ fn peak_of(names: &[Name], sizes: &[u32], name: Name) -> u64
 }
 
 /// What one name weighs, where it is of a unit.
-fn weight_at(name: Name, size: u32, unit: u32) -> u32
+fn weight_at(name: Name, size: u16, unit: u32) -> u32
     ensures weight { result
         ≡ (if name.0 / UNIT_NAMES == unit then weight_of_peak (1 + size) else 0) }
     ensures few { result ≤ LONG_WEIGHT }
@@ -234,7 +234,7 @@ fn weight_at(name: Name, size: u32, unit: u32) -> u32
 }
 
 /// What the names of a unit weigh.
-fn weigh(names: &[Name], sizes: &[u32], unit: u32) -> u32
+fn weigh(names: &[Name], sizes: &[u16], unit: u32) -> u32
     requires few { length names.now ≤ 256 }
     requires sized { length sizes.now ≡ length names.now }
     ensures weight { result ≡ weight_listed (map (λ n. n.0) names.now) sizes.now unit }

@@ -11,6 +11,7 @@ mod refusals;
 
 use crate::scan::{fill, find_holder, peak_in_slot, peak_of, weigh_pending};
 use crate::session::{OpenSession, share_in, write_in};
+use bounded_vec::BoundedVec;
 use ipl_base::{Name, OutOfMemory, Refusal};
 use std::alloc::Global;
 use std::marker::Model;
@@ -20,7 +21,7 @@ use std::marker::Model;
 /// written by two sessions, and the pending names of each unit weigh at most 48.
 #[derive(Drop)]
 pub struct Sessions {
-    slots: Vec<Option<OpenSession>>,
+    slots: BoundedVec<Option<OpenSession>>,
 }
 
 impl Model for Sessions {
@@ -41,7 +42,7 @@ impl Sessions {
         requires { sessions ≤ SESSIONS }
         ensures { IfOk result (λ opened. opened ≡ replicate sessions None) }
     {
-        let mut slots = Vec::with_capacity(alloc, sessions as usize)?;
+        let mut slots = BoundedVec::new(alloc, sessions as usize)?;
         fill(&mut slots, sessions);
         Ok(Sessions { slots })
     }
@@ -84,7 +85,7 @@ impl Sessions {
 
     /// Adds a name to those that a session wrote, unless it is among them. `size` is what the write
     /// takes in its page: 3 bytes and the value's, or 0 for a delete; the greatest is kept.
-    pub fn write(&mut self, s: u32, name: Name, size: u32) -> Result<(), Refusal>
+    pub fn write(&mut self, s: u32, name: Name, size: u16) -> Result<(), Refusal>
         requires { s < length self.old }
         ensures refusal { result_err result ≡ refuses_write self.old s name.0 size }
         ensures ok { OnOk result (self.new ≡ after_write self.old s name.0 size) }
@@ -129,7 +130,7 @@ impl Sessions {
     pub fn reset(&mut self)
         ensures { self.new ≡ replicate (length self.old) None }
     {
-        let sessions = self.count();
+        let sessions = self.slots.len() as u32;
         self.slots.clear();
         fill(&mut self.slots, sessions);
     }

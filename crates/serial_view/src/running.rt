@@ -138,7 +138,7 @@ impl Running {
     }
 
     /// Writes a name, unless the sessions refuse it, and answers whether they don't.
-    fn write(&mut self, s: u32, name: u32, size: u32) -> bool
+    fn write(&mut self, s: u32, name: u32, size: u16) -> bool
         requires { s < length (run_of self.old).slots }
         ensures test { result ≡ not (is_some (refuses_write (run_of self.old).slots s name size)) }
         ensures written { result ≡ true → run_of self.new ≡ after_write (run_of self.old) s name size }
@@ -147,6 +147,7 @@ impl Running {
         if self.sessions.write(s, Name(name), size).is_err() {
             return false;
         }
+        let size = u32::from(size);
         set_size(&mut self.last, name, size);
         let before = size_at(&self.most, name);
         set_size(&mut self.most, name, size.max(before));
@@ -166,7 +167,7 @@ impl Running {
         if self.fill(name, size) > PAGE_LEN as u64 {
             return false;
         }
-        self.write(s, name, size)
+        self.write(s, name, size as u16)
     }
 
     fn del(&mut self, s: u32, name: u32) -> bool

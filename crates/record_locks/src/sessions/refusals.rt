@@ -92,7 +92,7 @@ impl Sessions {
     }
 
     /// Whether with a write of this size the pending names of its unit would weigh more than 48.
-    fn overloads(&self, name: Name, size: u32) -> bool
+    fn overloads(&self, name: Name, size: u16) -> bool
         ensures { result ≡ overloads (peaks_in self.now) name.0 (1 + size) }
     {
         let old = self.peak(name);
@@ -101,7 +101,7 @@ impl Sessions {
     }
 
     /// Why a write is refused, if it is.
-    pub fn refuses_write(&self, s: u32, name: Name, size: u32) -> Option<Refusal>
+    pub fn refuses_write(&self, s: u32, name: Name, size: u16) -> Option<Refusal>
         requires { s < length self.now }
         ensures { result ≡ refuses_write self.now s name.0 size }
     {

@@ -3,16 +3,16 @@ use Rattle.record_locks.specs.Held.{Held, SessionSlots, held_at, slot_peaks}
 use Rattle.record_locks.specs.Locks.{AreSoundSlots}
 use Rattle.record_locks.proofs.TotalLemmas.{one_writer}
 use Rattle.record_locks.proofs.PeakLemmas.{one_is_all}
-use Rattle.record_locks.proofs.CallLemmas.{slot_held}
+use Rattle.record_locks.proofs.CallLemmas.{lent_held}
 use Rattle.record_locks.proofs.sessions.Sessions.size_by.Goals as goal
 
 pub returns : goal.returns
 returns c =
     let slots = c.self.inside.slots.items in
     let within : c.args.s < length slots = omega (arith, ap (λ (v : SessionSlots). length v) c.self.view_is) in
-    let held : held_at c.args.self.now c.args.s ≡ c.index.result.now =
+    let held : held_at c.args.self.now c.args.s ≡ c.index-deref-s.result =
     ap (λ (v : SessionSlots). held_at v c.args.s) (sym c.self.view_is)
-    ∙ slot_held slots c.args.s c.index.result.now within c.index.ensures in
+    ∙ lent_held slots c.deref.result.now c.args.s c.index-deref-s.result within c.deref.ensures.0 ∙ sym c.index-deref-s.is in
     let once = one_writer c.args.self.now (subst AreSoundSlots c.self.view_is c.self.invariant) in
     omega (
       arith,
