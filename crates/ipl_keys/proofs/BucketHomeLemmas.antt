@@ -1,5 +1,5 @@
 -- Keys stay in their bucket.
-use Rattle.std.proofs.Common.{List, [], ◌∷◌, ℕ, All}
+use Rattle.std.proofs.Common.{[], ◌∷◌, All}
 use Rattle.std.proofs.lemmas.List.Elements.{All-cons, All-head, All-tail, All-filter}
 use Rattle.std.specs.declared.cmp.Ordering.TheVariants.{Less, Equal, Greater}
 use Rattle.std.specs.FinMap.Entries.{by_order}

@@ -5,7 +5,7 @@ use Rattle.chip_trait.proofs.CountsLemmas.{counts_then}
 use Rattle.ipl_base.specs.declared.fault.Refusal.{Refusal}
 use Rattle.ipl_base.specs.declared.fault.StoreFault.{StoreFault}
 use Rattle.ipl_base.specs.declared.fault.StoreFault.TheVariants as store
-use Rattle.ipl_model.specs.State.{Map, State, is_open_session}
+use Rattle.ipl_model.specs.State.{Map, State, is_open_session, Limits}
 use Rattle.ipl_model.specs.Refusals.{refuses_end}
 use Rattle.ipl_model.specs.Operations.{after_write}
 use Rattle.ipl_meaning.specs.Legible.{of}
@@ -17,7 +17,7 @@ use Rattle.store_laws.specs.Keeps.{KnownPages, limits_of, KeepsStore}
 use Rattle.store_laws.specs.Refusals.{sessions_refuse_del}
 use Rattle.store_laws.proofs.StepLemmas.{steps_then, steps_weaker}
 use Rattle.ipl_store.specs.declared.store.Store.{Store}
-use Rattle.ipl_store.specs.Calls.{view_of, IsSound, early_fault, entry_fault}
+use Rattle.ipl_store.specs.Calls.{view_of, IsSound, early_fault, entry_fault, limits_of_store}
 use Rattle.ipl_store.specs.Puts.{is_page_full, found_room, put_fault, put_next}
 use Rattle.ipl_store.proofs.CallLemmas.{let_in}
 use Rattle.std.specs.Option.{option_map_or}
@@ -64,7 +64,7 @@ write_is_up : (a : Store) (refusal : Option Refusal) → early_fault (entry_faul
 write_is_up a refusal none = (let_in a refusal none).0
 
 module _ (known : KnownPages) (s n : ℕ) (w : KeyWrite) (a b : Store) (before after : Told) (h : History) (state : State)
-    (k : KeyState) (keeps : KeepsStore before.places known.pages (limits_of a.units) (view_of a) before h state)
+    (k : KeyState) (keeps : KeepsStore before.places known.pages (limits_of_store a) (view_of a) before h state)
     (has : HasKeyState a.units state k) where
   abbrev turn : KeyState → KeyState
   turn k = after_key_write k s w
@@ -81,8 +81,8 @@ module _ (known : KnownPages) (s n : ℕ) (w : KeyWrite) (a b : Store) (before a
 
       put_ends : (fault : StoreFault) (r : Result Bool StoreFault) → (r ≡ Ok true → ⊥) → (later : History)
           → EndsWith r
-          (λ v l. KeepsStore before.places known.pages (limits_of a.units) (view_of b) after l (put_next s n bytes r state))
-          (λ l. KeepsStore before.places known.pages (limits_of a.units) (view_of b) after l state) later
+          (λ v l. KeepsStore before.places known.pages (limits_of_store a) (view_of b) after l (put_next s n bytes r state))
+          (λ l. KeepsStore before.places known.pages (limits_of_store a) (view_of b) after l state) later
           → KeepsKeys before.places known b after later k
       put_ends fault (Ok true) never later kept = absurd (never refl)
       put_ends fault (Ok false) never later kept = keeps_keys known before.places a b after later state k kept has
@@ -124,7 +124,7 @@ module _ (known : KnownPages) (s n : ℕ) (w : KeyWrite) (a b : Store) (before a
               → ServesFor known turn AnswersNothing a before (handed answer) b after h k
           by_early None is = put_served answer
               (leads_steps known (put_next s n bytes (found_room answer)) a b before after (found_room answer) h state
-              (write_is_up a _ is) puts.calls.units (puts.calls.serves is).leads keeps)
+              (write_is_up a _ is) (λ i. limits_of (puts.calls.sessions i) (puts.calls.units i)) (puts.calls.serves is).leads keeps)
           by_early (Some fault) is =
               let (answered, same, idle) = puts.calls.refuses fault is in
               subst (λ (t : Told). ServesFor known turn AnswersNothing a before (handed answer) b t h k) (sym idle)
@@ -138,7 +138,7 @@ module _ (known : KnownPages) (s n : ℕ) (w : KeyWrite) (a b : Store) (before a
       → ServesFor known turn AnswersNothing a before (handed answer) b after h k
   writes_serve answer None then_has did =
       call_serves known (λ st. after_write st s (n, None)) turn a b before after h k
-      (early_fault (entry_fault a) (sessions_refuse_del (limits_of a.units) a.transactions.sessions s n)) 14
+      (early_fault (entry_fault a) (sessions_refuse_del (limits_of_store a) a.transactions.sessions s n)) 14
       answer (write_is_up a _) did state keeps has (λ up. then_has)
   writes_serve answer (Some bytes) then_has did = put_serves bytes then_has answer did
 
@@ -168,18 +168,18 @@ after_home units w pairs home = by_change w.1
 module _ (known : KnownPages) (s : ℕ) (w : KeyWrite) (mid b : Store) (told after : Told) (h : History) (state : State)
     (k : KeyState) (result : Result (Unit {0}) KeyFault)
     (running : is_open_session state s ≡ true) where
-  -- what is left from a key state with so many units on so many places
-  abbrev WritesServe : ℕ → ℕ → Type 0
-  WritesServe places units = (has : HasKeyState units state k)
-      → KeepsStore places known.pages (limits_of units) (view_of mid) told h state
-      → IsBucketWritten s (bucket_of units w.0) (pairs_after w (pairs_of has s (bucket_of units w.0))) mid told
+  -- what is left from a key state with these limits on so many places
+  abbrev WritesServe : ℕ → Limits → Type 0
+  WritesServe places limits = (has : HasKeyState limits.units state k)
+      → KeepsStore places known.pages limits (view_of mid) told h state
+      → IsBucketWritten s (bucket_of limits.units w.0) (pairs_after w (pairs_of has s (bucket_of limits.units w.0))) mid told
       result b after
-      → Steps (LeavesKeys places known units k.map k.map) (tables_in mid.transactions.pages)
+      → Steps (LeavesKeys places known limits.units k.map k.map) (tables_in mid.transactions.pages)
       (tables_in b.transactions.pages)
       (λ v later. KeepsKeys places known b after later (after_key_write k s w) × AnswersNothing k v)
       (λ later. KeepsKeys places known b after later k) h result told after × IfErr result IsNoBadBucket
 
-  at_mid : WritesServe told.places mid.units
+  at_mid : WritesServe told.places (limits_of_store mid)
   at_mid has keeps wrote =
       let n = bucket_of mid.units w.0 in
       let pairs = pairs_of has s n in
@@ -193,9 +193,9 @@ module _ (known : KnownPages) (s : ℕ) (w : KeyWrite) (mid b : Store) (told aft
       (writes_keep_keys mid.units state k s w has running bucket) did) in
       (serves.steps, serves.buckets)
 
-  pub at_units : (places units : ℕ) → told.places ≡ places → mid.units ≡ units
-      → WritesServe places units
-  at_units places units there same = subst (λ (p : ℕ). WritesServe p units) there
+  pub at_limits : (places : ℕ) (limits : Limits) → told.places ≡ places → limits_of_store mid ≡ limits
+      → WritesServe places limits
+  at_limits places limits there same = subst (λ (p : ℕ). WritesServe p limits) there
       (subst (WritesServe told.places) same at_mid)
 
 -- ---- both
@@ -217,7 +217,7 @@ module _ (s : ℕ) (w : KeyWrite) (a b : Store) (before after : Told) (result : 
 
     module _ (known : KnownPages) (h : History) (k : KeyState) (keeps : KeepsKeys before.places known a before h k) (up : a.down ≡ false)
         (running : is_open_session keeps.state s ≡ true) (mid : Store) (told : Told)
-        (alike : mid.units ≡ a.units) (counts : Counts before told) where
+        (alike : limits_of_store mid ≡ limits_of_store a) (counts : Counts before told) where
       abbrev Reading : Result (List ℕ) KeyFault → Type 0
       Reading read = ReadSteps known s name a mid before told h keeps.state k keeps.has up alike keeps.keeps read
 
@@ -258,8 +258,8 @@ module _ (s : ℕ) (w : KeyWrite) (a b : Store) (before after : Told) (result : 
       goes_on bytes pairs first spells wrote =
           let (kept, also) = first.ends tt in
           let same = buckets_spell_once bytes pairs (pairs_of keeps.has s name) spells also in
-          let second = at_units known s w mid b told after (adds_all first.added h) keeps.state k result running
-          before.places a.units counts.places alike keeps.has kept
+          let second = at_limits known s w mid b told after (adds_all first.added h) keeps.state k result running
+          before.places (limits_of_store a) counts.places alike keeps.has kept
           (subst (λ (ps : Pairs). IsBucketWritten s name (pairs_after w ps) mid told result b after) same wrote) in
           record {
             steps = steps_then (List ℕ) (Unit {0}) KeyFault KeyFault
@@ -312,15 +312,15 @@ module _ (s : ℕ) (w : KeyWrite) (a b : Store) (before after : Told) (result : 
         by_early : (o : Option KeyFault) → early_key_fault a bad s ≡ o → Serving known result b after h k
         by_early None is =
             let none = none_early (entry_fault a) bad
-            (refuses_end (limits_of a.units) (state_of a.transactions.sessions) s) is in
+            (refuses_end (limits_of_store a) (state_of a.transactions.sessions) s) is in
             let up = entry_is_up a none.0 in
             let did = calls.ends is in
             by_read known h k keeps up (may_end_is_open known a before h keeps.state s up keeps.keeps none.2) did.mid
-            did.told did.units did.counts did.read did.reads did.fails did.goes_on
+            did.told (λ i. limits_of (did.sessions i) (did.units i)) did.counts did.read did.reads did.fails did.goes_on
         by_early (Some fault) is =
             let (answer, same, idle) = calls.refuses fault is in
             let fine = early_is_good (entry_fault a) bad
-            (refuses_end (limits_of a.units) (state_of a.transactions.sessions) s) fault good is in
+            (refuses_end (limits_of_store a) (state_of a.transactions.sessions) s) fault good is in
             subst (λ (t : Told). Serving known result b t h k) (sym idle)
             (subst (λ (store : Store). Serving known result store before h k) (sym same)
             (subst (λ (q : Result (Unit {0}) KeyFault). Serving known q a before h k) (sym answer)
@@ -346,12 +346,14 @@ module _ (early : Option KeyFault) (s n : ℕ) (Rest : Pairs → Store → Told 
       reads = calls.ends none;
       sound = calls.sound;
       units = calls.units;
+      sessions = calls.sessions;
       counts = calls.counts;
       fails = λ other is. let one : fault ≡ other = cc is in (ap Err one, refl, refl);
       goes_on = λ bytes is. absurd (cc is);
     };
     sound = calls.sound;
     units = calls.units;
+    sessions = calls.sessions;
     counts = calls.counts;
   }
 
@@ -359,10 +361,10 @@ module _ (early : Option KeyFault) (s n : ℕ) (Rest : Pairs → Store → Told 
   pub changes_read : (b : Store) (after : Told) (result : Result (Unit {0}) KeyFault) (len : ℕ)
       (bytes : List ℕ) (pairs : Pairs)
       → CallsKey early (ReadsBucket s n a before (Ok bytes) mid told) a before (Ok len) mid told
-      → SpellsBucket bytes pairs → Rest pairs mid told → IsSound told.places b → b.units ≡ mid.units
+      → SpellsBucket bytes pairs → Rest pairs mid told → IsSound told.places b → limits_of_store b ≡ limits_of_store mid
       → Counts told after
       → CallsKey early (ChangesBucket s n Rest a before result b after) a before result b after
-  changes_read b after result len bytes pairs calls spells rest sound units counts = record {
+  changes_read b after result len bytes pairs calls spells rest sound alike counts = record {
     refuses = λ fault is. let no : Ok len ≡ Err fault = (calls.refuses fault is).0 in absurd (cc no);
     ends = λ none. record {
       mid = mid;
@@ -371,6 +373,7 @@ module _ (early : Option KeyFault) (s n : ℕ) (Rest : Pairs → Store → Told 
       reads = calls.ends none;
       sound = calls.sound;
       units = calls.units;
+      sessions = calls.sessions;
       counts = calls.counts;
       fails = λ fault is. absurd (cc is);
       goes_on = λ other is.
@@ -378,7 +381,8 @@ module _ (early : Option KeyFault) (s n : ℕ) (Rest : Pairs → Store → Told 
           (pairs, subst (λ (x : List ℕ). SpellsBucket x pairs) same spells, rest);
     };
     sound = subst (λ (p : ℕ). IsSound p b) calls.counts.places sound;
-    units = units ∙ calls.units;
+    units = ap (λ (l : Limits). l.units) alike ∙ calls.units;
+    sessions = ap (λ (l : Limits). l.sessions) alike ∙ calls.sessions;
     counts = counts_then before told after calls.counts counts;
   }
 

@@ -1,5 +1,5 @@
 -- A store of keys is closed.
-use Rattle.std.proofs.Common.{◌≡◌, ℕ, ◌^◌, inl, true, false, Option, Some, None, Result, Ok, Err, MatchResult, refl, sym, ◌∙◌, ap, subst, arith}
+use Rattle.std.proofs.Common.{◌≡◌, ℕ, ◌^◌, inl, true, false, Option, Some, None, Result, Ok, Err, MatchResult, refl, sym, ◌∙◌, ap, subst, arith, length}
 use Rattle.chip_trait.specs.Chart.{says}
 use Rattle.chip_trait.specs.Moment.{AtEachMoment}
 use Rattle.chip_trait.specs.Story.{held}
@@ -10,7 +10,7 @@ use Rattle.ipl_base.specs.declared.fault.ChipFault.{ChipFault}
 use Rattle.ipl_base.specs.declared.fault.Refusal.{Refusal}
 use Rattle.ipl_base.specs.declared.fault.StoreFault.{StoreFault}
 use Rattle.ipl_format.specs.Sector.{sector_in}
-use Rattle.ipl_model.specs.State.{Map, State}
+use Rattle.ipl_model.specs.State.{Map, State, Limits}
 use Rattle.ipl_meaning.specs.Legible.{of}
 use Rattle.ipl_meaning.specs.Rests.{EachStandsIn, StoryRests}
 use Rattle.ipl_meaning.specs.Tables.{Tables, IsCountedClean}
@@ -23,7 +23,7 @@ use Rattle.restart.specs.Closing.{CountsUnused, RestsMarked, Closes, ClosesInSte
 use Rattle.page_frames.specs.Pages.{tables_in}
 use Rattle.store_laws.specs.Keeps.{KnownPages, limits_of, KeepsStore, IsUp}
 use Rattle.ipl_store.specs.declared.store.Store.{Store}
-use Rattle.ipl_store.specs.Calls.{view_of, early_fault, entry_fault, Serves}
+use Rattle.ipl_store.specs.Calls.{view_of, early_fault, entry_fault, Serves, limits_of_store}
 use Rattle.ipl_store.specs.Closing.{ClosesStore, EndsMarking, MarksStore, ServesClose}
 use Rattle.ipl_store.proofs.CallLemmas.{let_in}
 use Rattle.ipl_keys.specs.declared.fault.KeyFault.{KeyFault}
@@ -73,8 +73,8 @@ as_closes known a b before after fault h k did = record {
 -- ---- the status place was made ready, and a mark written
 
 module _ (known : KnownPages) (a between : Store) (before told : Told) (h : History) (state : State) (k : KeyState)
-    (up : a.down ≡ false) (units : between.units ≡ a.units)
-    (keeps : KeepsStore before.places known.pages (limits_of a.units) (view_of a) before h state)
+    (up : a.down ≡ false) (alike : limits_of_store between ≡ limits_of_store a)
+    (keeps : KeepsStore before.places known.pages (limits_of_store a) (view_of a) before h state)
     (has : HasKeyState a.units state k) where
   abbrev places : ℕ
   places = before.places
@@ -82,10 +82,13 @@ module _ (known : KnownPages) (a between : Store) (before told : Told) (h : Hist
   abbrev Readied : Result (Unit {0}) StoreFault → Type 0
   Readied readied = Serves (λ state. state) (2 ^ 14) a before readied between told
 
+  units : between.units ≡ a.units
+  units = ap (λ (l : Limits). l.units) alike
+
   ready_steps : (readied : Result (Unit {0}) StoreFault) → Readied readied
       → StoreSteps known (λ state. state) a before readied between told h state
   ready_steps readied serves =
-      leads_steps known (λ state. state) a between before told readied h state up units serves.leads keeps
+      leads_steps known (λ state. state) a between before told readied h state up alike serves.leads keeps
 
   -- it wasn't made ready, and so the store wasn't closed
   pub unready_closes : (fault : StoreFault) → Readied (Err fault)
@@ -121,7 +124,7 @@ module _ (known : KnownPages) (a between : Store) (before told : Told) (h : Hist
     abbrev then : History
     then = adds_all ready.added h
 
-    kept : KeepsStore places known.pages (limits_of a.units) (view_of between) told then state
+    kept : KeepsStore places known.pages (limits_of_store a) (view_of between) told then state
     kept = ready.ends tt
 
     runs : IsUp places known.pages (view_of between) then state
@@ -161,11 +164,11 @@ module _ (known : KnownPages) (a between : Store) (before told : Told) (h : Hist
 
     -- the store is down, and keeps the records
     down_keeps : Settles
-        → KeepsStore places known.pages (limits_of a.units) (view_of c) after (adds_all way.added then) state
+        → KeepsStore places known.pages (limits_of_store a) (view_of c) after (adds_all way.added then) state
     down_keeps settled =
         let rests = rests_marked known places state.map (tables_in c.transactions.pages) marked.written
         (adds_all way.added then) (way.ends (less settled)) in record {
-          limits_are = ap limits_of (sym (marked.units ∙ units));
+          limits_are = sym ((λ i. limits_of (length (marked.sessions i)) (marked.units i)) ∙ alike);
           steady = way.steady (less settled);
           rests = rests;
           many = many_marked rests;
@@ -173,7 +176,7 @@ module _ (known : KnownPages) (a between : Store) (before told : Told) (h : Hist
         }
 
     abbrev first : OutcomeWhere Unused Each (TidyWork counted clean (Unit {0})) (Unit {0})
-        (λ later. KeepsStore places known.pages (limits_of a.units) (view_of between) told later state) h before told
+        (λ later. KeepsStore places known.pages (limits_of_store a) (view_of between) told later state) h before told
     first = record {
       added = ready.added;
       places = ready.places;
@@ -206,7 +209,7 @@ module _ (known : KnownPages) (a between : Store) (before told : Told) (h : Hist
     pub marked_closes : ClosesFor known a before (handed r) c after h k
     marked_closes = outcome_then Each (TidyWork counted clean (Unit {0})) (TidyWork clean last Settles)
         (TidyWork counted last Settles) (Unit {0}) Settles
-        (λ later. KeepsStore places known.pages (limits_of a.units) (view_of between) told later state)
+        (λ later. KeepsStore places known.pages (limits_of_store a) (view_of between) told later state)
         (λ later. KeepsKeys places known c after later k) h before told after first tt second
         (λ x y one two. tidy_then counted clean last (Unit {0}) Settles x y one tt two)
 
@@ -224,13 +227,13 @@ module _ (known : KnownPages) (a c : Store) (before after : Told) (r : Result (U
           (λ fault. (r ≡ Err fault) × (c ≡ did.between) × (after ≡ did.told))
           → ClosesFor known a before (handed r) c after h k
       by_ready (Ok v) ready marked =
-          marked_closes known a did.between before did.told h keeps.state k up did.units keeps.keeps keeps.has c
+          marked_closes known a did.between before did.told h keeps.state k up (λ i. limits_of (did.sessions i) (did.units i)) keeps.keeps keeps.has c
           after v r ready did.counts marked
       by_ready (Err fault) ready (is, same, still) =
           subst (λ (t : Told). ClosesFor known a before (handed r) c t h k) (sym still)
           (subst (λ (s : Store). ClosesFor known a before (handed r) s did.told h k) (sym same)
           (subst (λ (q : Result (Unit {0}) StoreFault). ClosesFor known a before (handed q) did.between did.told h k)
-          (sym is) (unready_closes known a did.between before did.told h keeps.state k up did.units keeps.keeps
+          (sym is) (unready_closes known a did.between before did.told h keeps.state k up (λ i. limits_of (did.sessions i) (did.units i)) keeps.keeps
           keeps.has fault ready)))
 
   store_closes : (refusal : Option Refusal)

@@ -17,7 +17,7 @@ use Rattle.store_trait.specs.Keeping.{LAST_NUMBER}
 use Rattle.store_laws.specs.Keeps.{limits_of}
 use Rattle.store_laws.specs.Refusals.{sessions_refuse_put, sessions_refuse_del}
 use Rattle.ipl_store.specs.declared.store.Store.{Store}
-use Rattle.ipl_store.specs.Calls.{counter_of, early_fault, entry_fault, Calls}
+use Rattle.ipl_store.specs.Calls.{counter_of, early_fault, entry_fault, Calls, limits_of_store}
 use Rattle.ipl_store.specs.Puts.{is_page_full, found_room, put_fault, put_next}
 use Rattle.ipl_keys.specs.BucketPairs.{Pairs}
 use Rattle.ipl_keys.specs.Bucket.{IsBucket, bucket_bytes}
@@ -63,15 +63,15 @@ module _ (units : ℕ) (slots : SessionSlots) (s n : ℕ) (low : n < 960 * units
       (λ three. first_met (pending_full slots n size).0 (pending_full slots n size).1 None r three
       (λ t. refl) (no_test r))))
 
-  del_met : (r : Refusal) → sessions_refuse_del (limits_of units) slots s n ≡ Some r
+  del_met : (r : Refusal) → sessions_refuse_del (limits_of (length slots) units) slots s n ≡ Some r
       → may_meet r ≡ true
-  del_met r is = first_met (nat_le 32 s) BadSession _ r is (λ t. refl)
+  del_met r is = first_met (nat_le (length slots) s) BadSession _ r is (λ t. refl)
       (λ one. first_met (nat_le (960 * units) n) BadName _ r one (λ past. absurd (high past))
       (λ two. locks_met (size_in_page None) r two))
 
   put_met : (bytes : List ℕ) → length bytes ≤ 464 → (r : Refusal)
-      → sessions_refuse_put (limits_of units) slots s n bytes ≡ Some r → may_meet r ≡ true
-  put_met bytes short r is = first_met (nat_le 32 s) BadSession _ r is (λ t. refl)
+      → sessions_refuse_put (limits_of (length slots) units) slots s n bytes ≡ Some r → may_meet r ≡ true
+  put_met bytes short r is = first_met (nat_le (length slots) s) BadSession _ r is (λ t. refl)
       (λ one. first_met (nat_le (960 * units) n) BadName _ r one (λ past. absurd (high past))
       (λ two. first_met (nat_lt 464 (length bytes)) TooLong _ r two (λ long. absurd (fits long))
       (λ three. locks_met (size_in_page (Some bytes)) r three)))
@@ -133,7 +133,7 @@ module _ (s n : ℕ) (a b : Store) (before after : Told) (low : n < 960 * a.unit
   writes_met change short (Err (Chip e)) did = refl
   writes_met None short (Err (Refused r)) did =
       calls_met {T = Unit {0}} a b before after
-      (sessions_refuse_del (limits_of a.units) a.transactions.sessions s n)
+      (sessions_refuse_del (limits_of_store a) a.transactions.sessions s n)
       (λ state. after_write state s (n, None)) r (del_met a.units a.transactions.sessions s n low) did
   writes_met (Some bytes) short (Err (Refused r)) did = by_full (is_page_full r) refl
     where
@@ -143,7 +143,7 @@ module _ (s n : ℕ) (a b : Store) (before after : Told) (low : n < 960 * a.unit
           let stays : found_room (Err (Refused r)) ≡ Err (Refused r) =
           ap (λ (x : Bool). if x then Ok false else Err (Refused r)) is in
           calls_met {T = Bool} a b before after
-          (sessions_refuse_put (limits_of a.units) a.transactions.sessions s n bytes)
+          (sessions_refuse_put (limits_of_store a) a.transactions.sessions s n bytes)
           (put_next s n bytes (found_room (Err (Refused r)))) r
           (put_met a.units a.transactions.sessions s n low bytes (short bytes refl))
           (subst (λ (q : Result Bool StoreFault). Calls (put_fault a s n bytes)
@@ -208,8 +208,8 @@ module _ {T : Type 0} (s : ℕ) (bad : Option KeyFault) (a b : Store) (before af
           let answer = (calls.refuses f is).0 in
           let same : fault ≡ f = cc answer in
           subst IsMet (sym same) (first_fault_met a.down (nat_lt LAST_NUMBER (counter_of a)) bad
-          (refuses_end (limits_of a.units) (state_of a.transactions.sessions) s) f is met
-          (end_met (limits_of a.units) (state_of a.transactions.sessions) s))
+          (refuses_end (limits_of_store a) (state_of a.transactions.sessions) s) f is met
+          (end_met (limits_of_store a) (state_of a.transactions.sessions) s))
 
 pub get_met : (s n : ℕ) (bytes : List ℕ) (a b : Store) (before after : Told)
     (result : Result (Option (List ℕ)) KeyFault)

@@ -18,9 +18,9 @@ use Rattle.record_locks.proofs.SameLemmas.{alike}
 use Rattle.unit_io.specs.Steps.{Settled, EndsWith, Steps}
 use Rattle.page_frames.specs.Pages.{tables_in, IsFramed}
 use Rattle.store_laws.proofs.StepLemmas.{steps_weaker}
-use Rattle.store_laws.specs.Keeps.{KnownPages, limits_of, KeepsStore}
+use Rattle.store_laws.specs.Keeps.{KnownPages, KeepsStore, limits_of}
 use Rattle.ipl_store.specs.declared.store.Store.{Store}
-use Rattle.ipl_store.specs.Calls.{view_of, IsSound, early_fault, entry_fault, Serves, Calls}
+use Rattle.ipl_store.specs.Calls.{view_of, IsSound, early_fault, entry_fault, Serves, Calls, limits_of_store}
 use Rattle.ipl_store.specs.Shown.{IsSeen}
 use Rattle.ipl_store.proofs.CallLemmas.{calls_as, calls_fail_as, let_in}
 use Rattle.ipl_store.proofs.ShownLemmas.{framed_shows}
@@ -115,13 +115,14 @@ pub not_admitted : {T : Type 0} (s : ℕ) (bad : Option KeyFault) (a b : Store) 
     → CallsKey {T = T} (early_key_fault a bad s) Ends a before (Err fault) b after
 not_admitted {T} s bad a b before after fault Ends is same idle made =
     let first = first_longer (entry_fault a) bad
-    (refuses_end (limits_of a.units) (state_of a.transactions.sessions) s) fault (sym is) in record {
+    (refuses_end (limits_of_store a) (state_of a.transactions.sessions) s) fault (sym is) in record {
       refuses = λ other also.
           let one : Some fault ≡ Some other = sym first ∙ also in
           let alike : fault ≡ other = cc one in (ap (λ (f : KeyFault). err f) alike, same, idle);
       ends = λ none. let no : Some fault ≡ None = sym first ∙ none in absurd (cc no);
       sound = subst (IsSound before.places) (sym same) made;
       units = ap (λ (store : Store). store.units) same;
+      sessions = ap (λ (store : Store). length store.transactions.sessions) same;
       counts = subst (Counts before) (sym idle) (counts_none before);
     }
   where
@@ -164,12 +165,12 @@ entry_is_up store none = (let_in store None (ap (λ e. early_fault e None) none)
 
 -- a session that may end is open in each state that the sessions are of
 pub may_end_is_open : (known : KnownPages) (a : Store) (before : Told) (h : History) (state : State) (s : ℕ)
-    → a.down ≡ false → KeepsStore before.places known.pages (limits_of a.units) (view_of a) before h state
-    → refuses_end (limits_of a.units) (state_of a.transactions.sessions) s ≡ None
+    → a.down ≡ false → KeepsStore before.places known.pages (limits_of_store a) (view_of a) before h state
+    → refuses_end (limits_of_store a) (state_of a.transactions.sessions) s ≡ None
     → is_open_session state s ≡ true
 may_end_is_open known a before h state s up keeps none =
     sym (alike (state_of a.transactions.sessions) state (keeps.up up).sessions.names s 0).opens
-    ∙ by_tests (nat_le 32 s) (is_open_session (state_of a.transactions.sessions) s) none
+    ∙ by_tests (nat_le (length a.transactions.sessions) s) (is_open_session (state_of a.transactions.sessions) s) none
   where
     by_tests : (high running : Bool)
         → (if high then Some BadSession else (if not running then Some NotOpen else None)) ≡ None
@@ -192,19 +193,19 @@ module _ {T U : Type 0} (s n : ℕ) (a b : Store) (before after : Told) (r : Res
     (answer : Result U KeyFault) (Ends : Type 0) (entry : entry_fault a ≡ None)
     (low : n < 960 * a.units)
     (calls : Calls (early_fault (entry_fault a)
-    (refuses_get (limits_of a.units) (state_of a.transactions.sessions) s n)) (λ state. state) 14 a
+    (refuses_get (limits_of_store a) (state_of a.transactions.sessions) s n)) (λ state. state) 14 a
     before r b after)
     (hands : (fault : StoreFault) → r ≡ Err fault → answer ≡ Err (key.Store fault))
     (ends : Serves (λ state. state) 14 a before r b after → Ends) where
   early_is : (o : Option Refusal)
-      → refuses_end (limits_of a.units) (state_of a.transactions.sessions) s ≡ o
+      → refuses_end (limits_of_store a) (state_of a.transactions.sessions) s ≡ o
       → early_fault (entry_fault a)
-      (refuses_get (limits_of a.units) (state_of a.transactions.sessions) s n) ≡ early_fault None o
+      (refuses_get (limits_of_store a) (state_of a.transactions.sessions) s n) ≡ early_fault None o
   early_is o is = ap₂ early_fault entry
-      (get_is_end (limits_of a.units) (state_of a.transactions.sessions) s n low ∙ is)
+      (get_is_end (limits_of_store a) (state_of a.transactions.sessions) s n low ∙ is)
 
   by_refusal : (o : Option Refusal)
-      → refuses_end (limits_of a.units) (state_of a.transactions.sessions) s ≡ o
+      → refuses_end (limits_of_store a) (state_of a.transactions.sessions) s ≡ o
       → CallsKey (first_fault None None o) Ends a before answer b after
   by_refusal (Some refusal) is = record {
     refuses = λ fault also.
@@ -214,6 +215,7 @@ module _ {T U : Type 0} (s n : ℕ) (a b : Store) (before after : Told) (r : Res
     ends = λ none. absurd (cc none);
     sound = calls.sound;
     units = calls.units;
+    sessions = calls.sessions;
     counts = calls.counts;
   }
     where
@@ -224,19 +226,20 @@ module _ {T U : Type 0} (s n : ℕ) (a b : Store) (before after : Told) (r : Res
     ends = λ none. ends (calls.serves (early_is None is));
     sound = calls.sound;
     units = calls.units;
+    sessions = calls.sessions;
     counts = calls.counts;
   }
 
   pub read_calls : CallsKey (early_key_fault a None s) Ends a before answer b after
   read_calls = subst (λ (e : Option StoreFault). CallsKey (first_fault e None
-      (refuses_end (limits_of a.units) (state_of a.transactions.sessions) s)) Ends a before answer b after)
+      (refuses_end (limits_of_store a) (state_of a.transactions.sessions) s)) Ends a before answer b after)
       (sym entry) (by_refusal _ refl)
 
 -- ---- over a story
 
 module _ (known : KnownPages) (s n : ℕ) (a mid : Store) (before told : Told) (h : History) (state : State) (k : KeyState)
-    (has : HasKeyState a.units state k) (up : a.down ≡ false) (alike : mid.units ≡ a.units)
-    (keeps : KeepsStore before.places known.pages (limits_of a.units) (view_of a) before h state) where
+    (has : HasKeyState a.units state k) (up : a.down ≡ false) (alike : limits_of_store mid ≡ limits_of_store a)
+    (keeps : KeepsStore before.places known.pages (limits_of_store a) (view_of a) before h state) where
   -- what is seen is the bucket of the state
   seen_spells : ReadsPage n a before → (found : Option (List ℕ)) → IsSeen s n a before found
       → SpellsBucket (bytes_of found) (pairs_of has s n)
@@ -252,11 +255,11 @@ module _ (known : KnownPages) (s n : ℕ) (a mid : Store) (before told : Told) (
   looked r looks = leads_steps known (λ st. st) a mid before told r h state up alike looks.leads keeps
 
   abbrev pub Read : List ℕ → History → Type 0
-  Read bytes later = KeepsStore before.places known.pages (limits_of a.units) (view_of mid) told later state
+  Read bytes later = KeepsStore before.places known.pages (limits_of_store a) (view_of mid) told later state
       × SpellsBucket bytes (pairs_of has s n)
 
   abbrev pub Kept : History → Type 0
-  Kept later = KeepsStore before.places known.pages (limits_of a.units) (view_of mid) told later state
+  Kept later = KeepsStore before.places known.pages (limits_of_store a) (view_of mid) told later state
 
   abbrev pub ReadSteps : Result (List ℕ) KeyFault → Type 0
   ReadSteps read = Steps (EachStandsEitherIn before.places a.units (of known.pages state.map) (of known.pages state.map))
@@ -309,11 +312,11 @@ module _ (s : ℕ) (bytes : List ℕ) (a b : Store) (before after : Told)
         (up : a.down ≡ false)
         → (Settled r before after → Settled read before after)
         → ((later : History) → EndsWith read
-        (Read known s (bucket_of a.units bytes) a b before after h keeps.state k keeps.has up calls.units keeps.keeps)
-        (Kept known s (bucket_of a.units bytes) a b before after h keeps.state k keeps.has up calls.units keeps.keeps)
+        (Read known s (bucket_of a.units bytes) a b before after h keeps.state k keeps.has up (λ i. limits_of (calls.sessions i) (calls.units i)) keeps.keeps)
+        (Kept known s (bucket_of a.units bytes) a b before after h keeps.state k keeps.has up (λ i. limits_of (calls.sessions i) (calls.units i)) keeps.keeps)
         later → EndsWith r Then Else later)
         → ReadSteps known s (bucket_of a.units bytes) a b before after h keeps.state k keeps.has up
-        calls.units keeps.keeps read
+        (λ i. limits_of (calls.sessions i) (calls.units i)) keeps.keeps read
         → Steps (LeavesKeys before.places known a.units k.map k.map) (tables_in a.transactions.pages)
         (tables_in b.transactions.pages) Then Else h r before after
     as_keys read r up less ends did =
@@ -325,8 +328,8 @@ module _ (s : ℕ) (bytes : List ℕ) (a b : Store) (before after : Told)
         (leaves_keys known before.places a.units keeps.state.map keeps.state.map k.map k.map keeps.has.keys keeps.has.keys)
         (λ v later is. is) (λ later is. is)
         (steps_as (EachStandsEitherIn before.places a.units (of known.pages keeps.state.map) (of known.pages keeps.state.map)) t after_t
-        (Read known s n a b before after h keeps.state k keeps.has up calls.units keeps.keeps)
-        (Kept known s n a b before after h keeps.state k keeps.has up calls.units keeps.keeps)
+        (Read known s n a b before after h keeps.state k keeps.has up (λ i. limits_of (calls.sessions i) (calls.units i)) keeps.keeps)
+        (Kept known s n a b before after h keeps.state k keeps.has up (λ i. limits_of (calls.sessions i) (calls.units i)) keeps.keeps)
         Then Else h read r before after less ends did)
 
     by_result : (r : Result (Option (List ℕ)) KeyFault) → a.down ≡ false
@@ -334,7 +337,7 @@ module _ (s : ℕ) (bytes : List ℕ) (a b : Store) (before after : Told)
         → ServesFor known (λ k. k) Answers a before r b after h k
     by_result (Ok found) up (bucket, reads, value) =
         let n = bucket_of a.units bytes in
-        let did = reads_steps known s n a b before after h keeps.state k keeps.has up calls.units
+        let did = reads_steps known s n a b before after h keeps.state k keeps.has up (λ i. limits_of (calls.sessions i) (calls.units i))
         keeps.keeps (Ok bucket) reads in record {
           steps = as_keys (Ok bucket) (Ok found) up (λ settled. tt) (λ later (kept, spells). (
             keeps_keys known before.places a b after later keeps.state k kept keeps.has,
@@ -344,7 +347,7 @@ module _ (s : ℕ) (bytes : List ℕ) (a b : Store) (before after : Told)
         }
     by_result (Err fault) up reads =
         let did = reads_steps known s (bucket_of a.units bytes) a b before after h keeps.state k keeps.has up
-        calls.units keeps.keeps (Err fault) reads in record {
+        (λ i. limits_of (calls.sessions i) (calls.units i)) keeps.keeps (Err fault) reads in record {
           steps = as_keys (Err fault) (Err fault) up (λ settled. settled)
               (λ later kept. keeps_keys known before.places a b after later keeps.state k kept keeps.has) did.0;
           buckets = did.1;
@@ -354,12 +357,12 @@ module _ (s : ℕ) (bytes : List ℕ) (a b : Store) (before after : Told)
         → ServesFor known (λ k. k) Answers a before result b after h k
     by_early None is =
         let none = none_early (entry_fault a) (bad_key bytes)
-        (refuses_end (limits_of a.units) (state_of a.transactions.sessions) s) is in
+        (refuses_end (limits_of_store a) (state_of a.transactions.sessions) s) is in
         by_result result (entry_is_up a none.0) (calls.ends is)
     by_early (Some fault) is =
         let (answer, same, idle) = calls.refuses fault is in
         let good = early_is_good (entry_fault a) (bad_key bytes)
-        (refuses_end (limits_of a.units) (state_of a.transactions.sessions) s) fault
+        (refuses_end (limits_of_store a) (state_of a.transactions.sessions) s) fault
         (bad_key_is_good bytes) is in
         subst (λ (t : Told). ServesFor known (λ k. k) Answers a before result b t h k) (sym idle)
         (subst (λ (store : Store). ServesFor known (λ k. k) Answers a before result store before h k) (sym same)
@@ -381,6 +384,7 @@ gets_found early s n len bytes bucket found a b before after calls value = recor
   ends = λ none. (bucket, calls.ends none, value);
   sound = calls.sound;
   units = calls.units;
+  sessions = calls.sessions;
   counts = calls.counts;
 }
 
@@ -396,6 +400,7 @@ gets_failed early s n bytes fault a b before after calls = record {
   ends = λ none. calls.ends none;
   sound = calls.sound;
   units = calls.units;
+  sessions = calls.sessions;
   counts = calls.counts;
 }
 

@@ -17,11 +17,11 @@ use Rattle.unit_io.proofs.StepLemmas.{outcome_none, outcome_weaker}
 use Rattle.unit_io.proofs.StepTidyLemmas.{tidy_none, tidy_weaker}
 use Rattle.page_frames.specs.Pages.{tables_in}
 use Rattle.store_laws.specs.Advances.{state_then, TurnsMapOf, LeadsTo}
-use Rattle.store_laws.specs.Keeps.{KnownPages, limits_of, ShowsState, KeepsStore, keeps_each}
+use Rattle.store_laws.specs.Keeps.{KnownPages, ShowsState, KeepsStore, keeps_each}
 use Rattle.store_laws.proofs.AdvanceLemmas.{same_held}
 use Rattle.store_laws.proofs.KeepLemmas.{IsAt, is_at, says_next}
 use Rattle.ipl_store.specs.declared.store.Store.{Store}
-use Rattle.ipl_store.specs.Calls.{memory_of_store, view_of}
+use Rattle.ipl_store.specs.Calls.{memory_of_store, view_of, limits_of_store}
 use Rattle.ipl_keys.specs.declared.fault.KeyFault.{KeyFault}
 use Rattle.ipl_keys.specs.KeyState.{KeyMap, KeyState}
 use Rattle.ipl_keys.specs.Records.{HasKeys}
@@ -37,8 +37,8 @@ abbrev pub StoreSteps : {T E : Type 0} → KnownPages → (State → State) → 
 StoreSteps known next a before result b after h state =
     Steps (EachStandsEitherIn before.places a.units (of known.pages state.map) (of known.pages (next state).map))
     (tables_in a.transactions.pages) (tables_in b.transactions.pages)
-    (λ v later. KeepsStore before.places known.pages (limits_of a.units) (view_of b) after later (next state))
-    (λ later. KeepsStore before.places known.pages (limits_of a.units) (view_of b) after later state) h result
+    (λ v later. KeepsStore before.places known.pages (limits_of_store a) (view_of b) after later (next state))
+    (λ later. KeepsStore before.places known.pages (limits_of_store a) (view_of b) after later state) h result
     before after
 
 rests_then : {T E : Type 0} (known : KnownPages) (result : Result T E) (places : ℕ) (next : State → State)
@@ -51,7 +51,7 @@ rests_then known (Err e) places next state k rests = rests
 
 -- one that leads to the next state
 module _ {T E : Type 0} (known : KnownPages) (next : State → State) (a b : Store) (before after : Told) (result : Result T E)
-    (h : History) (state : State) (alike : b.units ≡ a.units)
+    (h : History) (state : State) (alike : limits_of_store b ≡ limits_of_store a)
     (at : IsAt known.pages (view_of a) before state h)
     (leads : LeadsTo next (memory_of_store a) before result (memory_of_store b) after) where
   abbrev places : ℕ
@@ -66,21 +66,21 @@ module _ {T E : Type 0} (known : KnownPages) (next : State → State) (a b : Sto
   then = state_then result next state
 
   keeps_then : Settled result before after
-      → KeepsStore places known.pages (limits_of a.units) (view_of b) after (adds_all did.added h) then
+      → KeepsStore places known.pages (limits_of_store a) (view_of b) after (adds_all did.added h) then
   keeps_then settled =
       let (y, told_then, had) = leads.fits places refl settled (held h.start h.story)
       at.steady.holds in
       let at_end = had at.shown.layout state at.shown.fits in
       let showing : ShowsState places known.pages (view_of b) then y = record {
         layout = at_end.layout;
-        count = at_end.shows.count ∙ at.shown.count ∙ sym alike;
+        count = at_end.shows.count ∙ at.shown.count ∙ sym (ap (λ (l : Limits). l.units) alike);
         fits = at_end.fits;
         says = says_next places known.pages (now h) (chart_of y) at.shown.layout at_end.layout state then
             at_end.shows at.shown.says;
       } in
       let k = adds_all did.added h in
       let steady = did.steady settled in record {
-        limits_are = ap limits_of (sym alike);
+        limits_are = sym alike;
         steady = steady;
         rests = rests_then known result places next state k (did.ends settled);
         many = rests_in_units places (of known.pages then.map) k at_end.layout
@@ -98,9 +98,9 @@ module _ {T E : Type 0} (known : KnownPages) (next : State → State) (a b : Sto
       }
 
   ends_so : {U F : Type 0} (r : Result U F) (k : History)
-      → KeepsStore places known.pages (limits_of a.units) (view_of b) after k (state_then r next state)
-      → EndsWith r (λ v later. KeepsStore places known.pages (limits_of a.units) (view_of b) after later (next state))
-      (λ later. KeepsStore places known.pages (limits_of a.units) (view_of b) after later state) k
+      → KeepsStore places known.pages (limits_of_store a) (view_of b) after k (state_then r next state)
+      → EndsWith r (λ v later. KeepsStore places known.pages (limits_of_store a) (view_of b) after later (next state))
+      (λ later. KeepsStore places known.pages (limits_of_store a) (view_of b) after later state) k
   ends_so (Ok v) k keeps = keeps
   ends_so (Err e) k keeps = keeps
 
@@ -120,9 +120,9 @@ module _ {T E : Type 0} (known : KnownPages) (next : State → State) (a b : Sto
   }
 
 pub leads_steps : {T E : Type 0} (known : KnownPages) (next : State → State) (a b : Store) (before after : Told)
-    (result : Result T E) (h : History) (state : State) → a.down ≡ false → b.units ≡ a.units
+    (result : Result T E) (h : History) (state : State) → a.down ≡ false → limits_of_store b ≡ limits_of_store a
     → LeadsTo next (memory_of_store a) before result (memory_of_store b) after
-    → KeepsStore before.places known.pages (limits_of a.units) (view_of a) before h state
+    → KeepsStore before.places known.pages (limits_of_store a) (view_of a) before h state
     → StoreSteps known next a before result b after h state
 leads_steps known next a b before after result h state up alike leads keeps =
     leading_steps known next a b before after result h state alike
@@ -131,7 +131,7 @@ leads_steps known next a b before after result h state up alike leads keeps =
 -- ---- of keys
 
 pub keeps_keys : (known : KnownPages) (places : ℕ) (a b : Store) (t : Told) (h : History) (state : State) (k : KeyState)
-    → KeepsStore places known.pages (limits_of a.units) (view_of b) t h state → HasKeyState a.units state k
+    → KeepsStore places known.pages (limits_of_store a) (view_of b) t h state → HasKeyState a.units state k
     → KeepsKeys places known b t h k
 keeps_keys known places a b t h state k keeps has = record {
   state = state;
@@ -173,8 +173,8 @@ module _ {T U : Type 0} (known : KnownPages) (next : State → State) (turn : Ke
     (then_keys : HasKeys a.units (next state).map (turn k).map) where
   pub keys_steps : (Settled answer before after → Settled r before after)
       → ((later : History) → EndsWith r
-      (λ v l. KeepsStore before.places known.pages (limits_of a.units) (view_of b) after l (next state))
-      (λ l. KeepsStore before.places known.pages (limits_of a.units) (view_of b) after l state) later
+      (λ v l. KeepsStore before.places known.pages (limits_of_store a) (view_of b) after l (next state))
+      (λ l. KeepsStore before.places known.pages (limits_of_store a) (view_of b) after l state) later
       → EndsWith answer (λ v l. KeepsKeys before.places known b after l (turn k) × Answers k v)
       (λ l. KeepsKeys before.places known b after l k) later)
       → StoreSteps known next a before r b after h state
@@ -188,8 +188,8 @@ module _ {T U : Type 0} (known : KnownPages) (next : State → State) (turn : Ke
       (LeavesKeys before.places known a.units k.map (turn k).map)
       (TidyWork counted clean (Settled r before after)) (TidyWork counted clean (Settled answer before after))
       (Settled r before after) (Settled answer before after)
-      (EndsWith r (λ v l. KeepsStore before.places known.pages (limits_of a.units) (view_of b) after l (next state))
-      (λ l. KeepsStore before.places known.pages (limits_of a.units) (view_of b) after l state))
+      (EndsWith r (λ v l. KeepsStore before.places known.pages (limits_of_store a) (view_of b) after l (next state))
+      (λ l. KeepsStore before.places known.pages (limits_of_store a) (view_of b) after l state))
       (EndsWith answer (λ v l. KeepsKeys before.places known b after l (turn k) × Answers k v)
       (λ l. KeepsKeys before.places known b after l k))
       h before after
@@ -209,7 +209,7 @@ nothing_serves {U} known turn Answers a told fault h k good keeps = record {
       h told keeps.keeps.steady
       (λ x image. inl (record {
         map = keeps.state.map;
-        stands = keeps_each told.places known.pages (limits_of a.units) (view_of a) told h keeps.state keeps.keeps
+        stands = keeps_each told.places known.pages (limits_of_store a) (view_of a) told h keeps.state keeps.keeps
             x image;
         has = keeps.has.keys;
       }))
@@ -226,6 +226,6 @@ nothing_serves {U} known turn Answers a told fault h k good keeps = record {
 pub kept_keys_last : KeptKeysLast
 kept_keys_last places known store t h k keeps x image = inl (record {
   map = keeps.state.map;
-  stands = keeps_each places known.pages (limits_of store.units) (view_of store) t h keeps.state keeps.keeps x image;
+  stands = keeps_each places known.pages (limits_of_store store) (view_of store) t h keeps.state keeps.keeps x image;
   has = keeps.has.keys;
 })

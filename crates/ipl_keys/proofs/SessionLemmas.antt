@@ -3,9 +3,9 @@ use Rattle.std.proofs.Common.{◌≡◌, ℕ, false, Option, Some, None, Result,
 use Rattle.chip_trait.specs.Told.{History, Told}
 use Rattle.ipl_base.specs.declared.fault.StoreFault.{StoreFault}
 use Rattle.ipl_model.specs.State.{State}
-use Rattle.store_laws.specs.Keeps.{KnownPages, limits_of, KeepsStore}
+use Rattle.store_laws.specs.Keeps.{KnownPages, KeepsStore, limits_of}
 use Rattle.ipl_store.specs.declared.store.Store.{Store}
-use Rattle.ipl_store.specs.Calls.{view_of, Calls}
+use Rattle.ipl_store.specs.Calls.{view_of, Calls, limits_of_store}
 use Rattle.ipl_keys.specs.declared.fault.KeyFault.{KeyFault}
 use Rattle.ipl_keys.specs.declared.fault.KeyFault.TheVariants as key
 use Rattle.ipl_keys.specs.KeyState.{KeyState}
@@ -35,7 +35,7 @@ module _ (known : KnownPages) (next : State → State) (turn : KeyState → KeyS
   pub call_serves : (early : Option StoreFault) (most : ℕ) (r : Result (Unit {0}) StoreFault)
       → (early ≡ None → a.down ≡ false)
       → Calls early next most a before r b after → (state : State)
-      → KeepsStore before.places known.pages (limits_of a.units) (view_of a) before h state
+      → KeepsStore before.places known.pages (limits_of_store a) (view_of a) before h state
       → HasKeyState a.units state k
       → (a.down ≡ false → HasKeyState a.units (next state) (turn k))
       → ServesFor known turn AnswersNothing a before (handed r) b after h k
@@ -45,7 +45,8 @@ module _ (known : KnownPages) (next : State → State) (turn : KeyState → KeyS
           → ServesFor known turn AnswersNothing a before (handed r) b after h k
       by_early None is =
           served r state has (turns (up is))
-          (leads_steps known next a b before after r h state (up is) calls.units
+          (leads_steps known next a b before after r h state (up is)
+          (λ i. limits_of (calls.sessions i) (calls.units i))
           (calls.serves is).leads keeps)
       by_early (Some fault) is =
           let (answer, same, idle) = calls.refuses fault is in
@@ -59,7 +60,7 @@ pub hands_on_serves : (next : State → State) (turn : KeyState → KeyState) (a
     (early : Option StoreFault) (most : ℕ) (result : Result (Unit {0}) KeyFault)
     → (early ≡ None → a.down ≡ false)
     → ((known : KnownPages) (h : History) (state : State) (k : KeyState) → a.down ≡ false
-    → KeepsStore before.places known.pages (limits_of a.units) (view_of a) before h state → HasKeyState a.units state k
+    → KeepsStore before.places known.pages (limits_of_store a) (view_of a) before h state → HasKeyState a.units state k
     → HasKeyState a.units (next state) (turn k))
     → HandsOn (λ answer. Calls early next most a before answer b after) result
     → ServesKeys turn AnswersNothing a before result b after

@@ -5,9 +5,8 @@ use Rattle.ipl_base.specs.declared.fault.StoreFault.{StoreFault}
 use Rattle.ipl_model.specs.Operations.{after_share}
 use Rattle.ipl_model.specs.Refusals.{refuses_share}
 use Rattle.record_locks.specs.Standing.{state_of}
-use Rattle.store_laws.specs.Keeps.{limits_of}
 use Rattle.ipl_store.specs.declared.store.Store.{Store}
-use Rattle.ipl_store.specs.Calls.{Calls, entry_fault, share_fault}
+use Rattle.ipl_store.specs.Calls.{Calls, entry_fault, share_fault, limits_of_store}
 use Rattle.ipl_store.proofs.CallLemmas.{let_in}
 use Rattle.ipl_keys.specs.BucketHome.{bucket_of}
 use Rattle.ipl_keys.specs.declared.fault.KeyFault.{KeyFault}
@@ -39,7 +38,7 @@ pub share_serves : (s n : ℕ) (a b : Store) (before after : Told) (result : Res
     → SharesName s n a before result b after → ServesKeys (λ k. k) AnswersNothing a before result b after
 share_serves s n a b before after result hands =
     hands_on_serves (λ state. after_share state s n) (λ k. k) a b before after (share_fault a s n) 14 result
-    (λ none. (let_in a (refuses_share (limits_of a.units) (state_of a.transactions.sessions) s n) none).0)
+    (λ none. (let_in a (refuses_share (limits_of_store a) (state_of a.transactions.sessions) s n) none).0)
     (λ known h state k up keeps has. shares_keep_keys a.units state k s n has) hands
 
 -- it ended before that, and nothing was done
@@ -63,5 +62,6 @@ share_calls bytes s n a b before after result none answer calls hands = record {
   ends = λ free. hands;
   sound = calls.sound;
   units = calls.units;
+  sessions = calls.sessions;
   counts = calls.counts;
 }

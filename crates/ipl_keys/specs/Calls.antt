@@ -15,10 +15,10 @@ use Rattle.record_locks.specs.Standing.{state_of}
 use Rattle.unit_io.specs.Reads.{OfContents}
 use Rattle.unit_io.specs.Steps.{Steps}
 use Rattle.page_frames.specs.Pages.{tables_in}
-use Rattle.store_laws.specs.Keeps.{KnownPages, ShowsState, limits_of}
+use Rattle.store_laws.specs.Keeps.{KnownPages, ShowsState}
 use Rattle.store_laws.specs.Refusals.{sessions_refuse_del}
 use Rattle.ipl_store.specs.declared.store.Store.{Store}
-use Rattle.ipl_store.specs.Calls.{view_of, IsSound, early_fault, entry_fault, Serves, Calls}
+use Rattle.ipl_store.specs.Calls.{view_of, IsSound, early_fault, entry_fault, Serves, Calls, limits_of_store}
 use Rattle.ipl_store.specs.Puts.{found_room, put_fault, put_next, TellsRoom}
 use Rattle.ipl_store.specs.Shown.{ShowsName, IsSeen}
 use Rattle.ipl_keys.specs.declared.bucket_limits.TheConstants.{KEY_LEN, KEY_VALUE_LEN}
@@ -57,7 +57,7 @@ first_fault None None None = None
 
 abbrev pub early_key_fault : Store → Option KeyFault → ℕ → Option KeyFault
 early_key_fault store bad s = first_fault (entry_fault store) bad
-    (refuses_end (limits_of store.units) (state_of store.transactions.sessions) s)
+    (refuses_end (limits_of_store store) (state_of store.transactions.sessions) s)
 
 -- ---- a bucket is read
 
@@ -134,7 +134,7 @@ change_of (b ∷ bytes) = Some (b ∷ bytes)
 abbrev pub WritesName : ℕ → ℕ → Option (List ℕ) → Store → Told → Result (Unit {0}) StoreFault → Store
     → Told → Type 0
 WritesName s n None old before answer new after = Calls (early_fault (entry_fault old)
-    (sessions_refuse_del (limits_of old.units) old.transactions.sessions s n))
+    (sessions_refuse_del (limits_of_store old) old.transactions.sessions s n))
     (λ state. after_write state s (n, None)) 14 old before answer new after
 WritesName s n (Some bytes) old before answer new after = PutsBytes s n bytes old before answer new after
 
@@ -162,6 +162,7 @@ pub record ChangesBucket (s n : ℕ) (Rest : Pairs → Store → Told → Type 0
   pub reads : ReadsBucket s n old before read mid told
   pub sound : IsSound before.places mid
   pub units : mid.units ≡ old.units
+  pub sessions : length mid.transactions.sessions ≡ length old.transactions.sessions
   pub counts : Counts before told
   pub fails : (fault : KeyFault) → read ≡ Err fault
       → (result ≡ Err fault) × (new ≡ mid) × (after ≡ told)
@@ -183,7 +184,7 @@ Dels s n bytes old before result new after = ChangesBucket s n (λ pairs mid tol
 -- ---- calls
 
 -- A call on a key. It ends early with this fault, and nothing was done; or so. The store is sound
--- either way, with as many units.
+-- either way, with as many units and sessions.
 pub record CallsKey {T : Type 0} (early : Option KeyFault) (Ends : Type 0) (old : Store)
     (before : Told) (result : Result T KeyFault) (new : Store) (after : Told) : Type 0 where
   pub refuses : (fault : KeyFault) → early ≡ Some fault
@@ -191,6 +192,7 @@ pub record CallsKey {T : Type 0} (early : Option KeyFault) (Ends : Type 0) (old 
   pub ends : early ≡ None → Ends
   pub sound : IsSound before.places new
   pub units : new.units ≡ old.units
+  pub sessions : length new.transactions.sessions ≡ length old.transactions.sessions
   pub counts : Counts before after
 
 -- A call on the bucket of a name, whose text is at the front of the keys' own bytes then.

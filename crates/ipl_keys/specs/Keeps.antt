@@ -7,9 +7,9 @@ use Rattle.ipl_format.specs.Sector.{sector_in}
 use Rattle.ipl_meaning.specs.Legible.{of}
 use Rattle.ipl_meaning.specs.Chart.{Chart}
 use Rattle.ipl_meaning.specs.Stands.{StandsIn}
-use Rattle.store_laws.specs.Keeps.{KnownPages, limits_of, KeepsStore}
+use Rattle.store_laws.specs.Keeps.{KnownPages, KeepsStore}
 use Rattle.ipl_store.specs.declared.store.Store.{Store}
-use Rattle.ipl_store.specs.Calls.{view_of}
+use Rattle.ipl_store.specs.Calls.{view_of, limits_of_store}
 use Rattle.ipl_keys.specs.KeyState.{KeyMap, KeyState}
 use Rattle.ipl_keys.specs.Records.{HasKeys}
 use Rattle.ipl_keys.specs.Sessions.{HasKeyState}
@@ -30,7 +30,7 @@ LeavesKeys places known units keys others h = EachMeans sector_in
 -- keeps a state that has this key state.
 pub record KeepsKeys (places : ℕ) (known : KnownPages) (store : Store) (t : Told) (h : History) (k : KeyState) : Type 0 where
   pub state : State
-  pub keeps : KeepsStore places known.pages (limits_of store.units) (view_of store) t h state
+  pub keeps : KeepsStore places known.pages (limits_of_store store) (view_of store) t h state
   pub has : HasKeyState store.units state k
 
 -- whatever a power cut leaves then has the keys

@@ -7,7 +7,7 @@ ghost use Rattle.ipl_keys.specs.Calls.{bad_key, bad_pair, first_fault};
 use crate::bucket_limits::{KEY_LEN, KEY_VALUE_LEN};
 use crate::{KeyFault, Keys};
 use chip_trait::Chip;
-use ipl_base::{SESSIONS, StoreFault};
+use ipl_base::StoreFault;
 
 /// Why a key can't be one, if it can't.
 pub(crate) fn bad_key(key: &[u8]) -> Option<KeyFault>
@@ -47,7 +47,7 @@ impl Keys {
     {
         // A session of that number is never opened: that is refused behind these two, and nothing
         // is done.
-        match self.store.begin(chip, SESSIONS) {
+        match self.store.begin(chip, self.store.session_count()) {
             Err(StoreFault::Down) => return Err(KeyFault::Store(StoreFault::Down)),
             Err(StoreFault::Spent) => return Err(KeyFault::Store(StoreFault::Spent)),
             _ => {}

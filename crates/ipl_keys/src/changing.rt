@@ -1,5 +1,5 @@
 //! Sessions change keys.
-ghost use Rattle.std.specs.Prelude.{◌≡◌, ◌<◌, ◌≤◌, ◌*◌, Some, None, IfErr};
+ghost use Rattle.std.specs.Prelude.{◌≡◌, ◌<◌, ◌≤◌, ◌*◌, length, Some, None, IfErr};
 ghost use Rattle.chip_trait.specs.Told.{Counts};
 ghost use Rattle.ipl_base.specs.declared.limits.TheConstants.{VALUE_LEN};
 ghost use Rattle.ipl_store.specs.Calls.{IsSound};
@@ -46,6 +46,8 @@ impl Keys {
             (C.told chip.old) answer self.new.store (C.told chip.new)) result }
         ensures sound { IsSound (C.told chip.old).places self.new.store }
         ensures units { self.new.store.units ≡ self.old.store.units }
+        ensures sessions { length self.new.store.transactions.sessions
+            ≡ length self.old.store.transactions.sessions }
         ensures counts { Counts (C.told chip.old) (C.told chip.new) }
     {
         if bytes.is_empty() {

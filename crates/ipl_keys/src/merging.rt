@@ -1,8 +1,7 @@
 //! A unit's merge, how many units there are, and what the store below has left.
 ghost use Rattle.std.specs.Prelude.{◌≡◌};
 ghost use Rattle.ipl_model.specs.Refusals.{refuses_merge};
-ghost use Rattle.store_laws.specs.Keeps.{limits_of};
-ghost use Rattle.ipl_store.specs.Calls.{Calls, IsSound, early_fault, entry_fault};
+ghost use Rattle.ipl_store.specs.Calls.{Calls, IsSound, early_fault, entry_fault, limits_of_store};
 ghost use Rattle.ipl_store.specs.Reserves.{TellsReserves};
 ghost use Rattle.ipl_keys.specs.Calls.{HandsOn, AnswersNothing, ServesKeys};
 
@@ -17,7 +16,7 @@ impl Keys {
     pub fn merge<C: Chip>(&mut self, chip: &mut C, unit: u32) -> Result<(), KeyFault>
         requires sound { IsSound (C.told chip.old).places self.old.store }
         ensures calls { HandsOn (λ answer. Calls (early_fault (entry_fault self.old.store)
-            (refuses_merge (limits_of self.old.store.units) unit)) (λ state. state) 13
+            (refuses_merge (limits_of_store self.old.store) unit)) (λ state. state) 13
             self.old.store (C.told chip.old) answer self.new.store (C.told chip.new)) result }
         ensures serves { ServesKeys (λ k. k) AnswersNothing
             self.old.store (C.told chip.old) result self.new.store (C.told chip.new) }

@@ -4,8 +4,7 @@ ghost use Rattle.ipl_base.specs.declared.limits.TheConstants.{SESSIONS};
 ghost use Rattle.ipl_model.specs.Operations.{after_begin, after_commit, after_batch, after_abort};
 ghost use Rattle.ipl_model.specs.Refusals.{refuses_begin, refuses_batch, refuses_end};
 ghost use Rattle.record_locks.specs.Standing.{state_of};
-ghost use Rattle.store_laws.specs.Keeps.{limits_of};
-ghost use Rattle.ipl_store.specs.Calls.{Calls, IsSound, down_fault, early_fault, entry_fault};
+ghost use Rattle.ipl_store.specs.Calls.{Calls, IsSound, down_fault, early_fault, entry_fault, limits_of_store};
 ghost use Rattle.ipl_keys.specs.KeyState.{after_key_begin, after_key_commit, after_key_batch, after_key_abort};
 ghost use Rattle.ipl_keys.specs.Calls.{HandsOn, AnswersNothing, ServesKeys};
 
@@ -14,11 +13,11 @@ use crate::{KeyFault, Keys};
 use chip_trait::Chip;
 
 impl Keys {
-    /// Opens a session, 0 to 31: it begins a transaction. The chip isn't asked.
+    /// Opens a session, one of those below the number that it was opened with: it begins a transaction. The chip isn't asked.
     pub fn begin<C: Chip>(&mut self, chip: &mut C, s: u32) -> Result<(), KeyFault>
         requires sound { IsSound (C.told chip.old).places self.old.store }
         ensures calls { HandsOn (λ answer. Calls (early_fault (entry_fault self.old.store)
-            (refuses_begin (limits_of self.old.store.units)
+            (refuses_begin (limits_of_store self.old.store)
             (state_of self.old.store.transactions.sessions) s)) (λ state. after_begin state s) 1
             self.old.store (C.told chip.old) answer self.new.store (C.told chip.new)) result }
         ensures serves { ServesKeys (λ k. after_key_begin k s) AnswersNothing
@@ -32,7 +31,7 @@ impl Keys {
     pub fn commit<C: Chip>(&mut self, chip: &mut C, s: u32) -> Result<(), KeyFault>
         requires sound { IsSound (C.told chip.old).places self.old.store }
         ensures calls { HandsOn (λ answer. Calls (early_fault (entry_fault self.old.store)
-            (refuses_end (limits_of self.old.store.units)
+            (refuses_end (limits_of_store self.old.store)
             (state_of self.old.store.transactions.sessions) s)) (λ state. after_commit state s)
             (2 ^ 15)
             self.old.store (C.told chip.old) answer self.new.store (C.told chip.new)) result }
@@ -48,7 +47,7 @@ impl Keys {
         requires sound { IsSound (C.told chip.old).places self.old.store }
         requires few { length sessions.now ≤ SESSIONS }
         ensures calls { HandsOn (λ answer. Calls (early_fault (entry_fault self.old.store)
-            (refuses_batch (limits_of self.old.store.units)
+            (refuses_batch (limits_of_store self.old.store)
             (state_of self.old.store.transactions.sessions) sessions.now))
             (λ state. after_batch state sessions.now) (2 ^ 15)
             self.old.store (C.told chip.old) answer self.new.store (C.told chip.new)) result }
@@ -62,7 +61,7 @@ impl Keys {
     pub fn abort<C: Chip>(&mut self, chip: &mut C, s: u32) -> Result<(), KeyFault>
         requires sound { IsSound (C.told chip.old).places self.old.store }
         ensures calls { HandsOn (λ answer. Calls (early_fault (down_fault self.old.store)
-            (refuses_end (limits_of self.old.store.units)
+            (refuses_end (limits_of_store self.old.store)
             (state_of self.old.store.transactions.sessions) s)) (λ state. after_abort state s) 0
             self.old.store (C.told chip.old) answer self.new.store (C.told chip.new)) result }
         ensures serves { ServesKeys (λ k. after_key_abort k s) AnswersNothing

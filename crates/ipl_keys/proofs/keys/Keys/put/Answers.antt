@@ -9,6 +9,7 @@ use Rattle.ipl_keys.proofs.ReadLemmas.{bad_pair_is_good, named}
 use Rattle.ipl_keys.specs.declared.fault.KeyFault.{KeyFault}
 use Rattle.ipl_keys.proofs.NeverLemmas.{bad_pair_met, changing_met, in_units}
 use Rattle.ipl_keys.proofs.ChangeLemmas.{changes_failed, changes_read, changing_serves, full_at, pairs_written}
+use Rattle.store_laws.specs.Keeps.{limits_of}
 use Rattle.ipl_keys.proofs.keys.Keys.put.Goals as goal
 
 pub returns-in_err-len-clause-calls : goal.returns-in_err-len-clause-calls
@@ -68,7 +69,8 @@ returns-clause-calls g c =
     result c.in_ok-len.len (take c.in_ok-len.len c.look.new.self.bucket) pairs c.in_ok-len.ensures.copies.calls
     spells (inr (pairs_written s n (take c.in-Some.end c.with_pair.new.into) (set_pair bytes value pairs)
     mid b told after result (c.in-Some.ensures.set pairs spells) c.write.ensures.writes))
-    c.write.ensures.sound c.write.ensures.units c.write.ensures.counts)
+    c.write.ensures.sound
+    (λ i. limits_of (c.write.ensures.sessions i) (c.write.ensures.units i)) c.write.ensures.counts)
 
 pub returns-clause-serves : goal.returns-clause-serves
 returns-clause-serves g c =
