@@ -3,7 +3,8 @@ ghost use Rattle.std.specs.Prelude.{◌≡◌, ◌<◌, ◌≤◌, ℕ, List, le
 ghost use Rattle.std.specs.FinMap.{empty};
 ghost use Rattle.chip_trait.specs.declared.event.Event.TheVariants.{Said};
 ghost use Rattle.chip_trait.specs.Told.{Told, Appends, FailsToSay, SayCounts, Rose};
-ghost use Rattle.ipl_model.specs.Plain.{limits_for};
+ghost use Rattle.ipl_base.specs.declared.limits.TheConstants.{SESSIONS};
+ghost use Rattle.serial_view.specs.Running.{limits_with};
 ghost use Rattle.serial_view.specs.Laws.{IsSerialView};
 ghost use Rattle.script_run.specs.View.{ReadsScript, OnlySays, SaysOnly, SaysView, ViewCause, position_line};
 
@@ -17,17 +18,19 @@ use script_text::TextLine;
 use serial_view::serial_order;
 use std::alloc::Global;
 
-/// The serial view of commands that are run from the empty map.
+/// The serial view of commands that are run by so many sessions from the empty map.
 fn order_from_nothing(
     alloc: Global,
     geometry: Geometry,
+    sessions: u32,
     commands: &[Command],
 ) -> Result<Vec<usize>, OutOfMemory>
+    requires { sessions ≤ SESSIONS }
     ensures { IfOk result (λ order.
-        IsSerialView (limits_for geometry.units) empty commands.now order.items) }
+        IsSerialView (limits_with sessions geometry.units) empty commands.now order.items) }
 {
     let start = PlainModel::new(alloc, geometry)?;
-    serial_order(alloc, geometry, &start, commands)
+    serial_order(alloc, geometry, sessions, &start, commands)
 }
 
 /// Says the line of a position.
@@ -70,11 +73,13 @@ fn say_positions<D: Desk>(desk: &mut D, positions: &[usize]) -> Result<(), ViewS
 pub fn say_serial_view<D: Desk>(
     alloc: Global,
     geometry: Geometry,
+    sessions: u32,
     desk: &mut D,
 ) -> Result<(), ViewStop>
+    requires { sessions ≤ SESSIONS }
     // What is said, of a script that is told: at Ok all lines, and of the script nothing is left.
     ensures view { (script : List ℕ) → (D.told desk.old).beside.left ≡ Some script
-        → SaysView (limits_for geometry.units) script (D.told desk.old) result (D.told desk.new) }
+        → SaysView (limits_with sessions geometry.units) script (D.told desk.old) result (D.told desk.new) }
     // Over every desk nothing else happens; where memory is wanting nothing is said.
     ensures only { OnlySays (D.told desk.old) (D.told desk.new) }
     ensures early { IsErrOf result ViewStop.OutOfMemory
@@ -83,7 +88,7 @@ pub fn say_serial_view<D: Desk>(
     ensures cause { IfErr result (λ stop. ViewCause (D.told desk.old) (D.told desk.new) stop) }
 {
     let commands = read_commands(alloc, desk)?;
-    let Ok(order) = order_from_nothing(alloc, geometry, &commands) else {
+    let Ok(order) = order_from_nothing(alloc, geometry, sessions, &commands) else {
         return Err(ViewStop::OutOfMemory);
     };
     say_positions(desk, &order)
