@@ -6,7 +6,7 @@ use Rattle.command_line.specs.Ipl.{ipl_command}
 use Rattle.command_line.specs.Chip.{Chip, ram, file}
 use Rattle.command_line.specs.Asked.{Asks, asked_of}
 use Rattle.command_line.specs.Choice.{choice_of}
-use Rattle.command_line.specs.Laws.{NothingTogether, WordExamples, SpareExamples, FrameExamples, TrialExamples, NoWordExamples, NoSpareExamples, NoFrameExamples, NoTrialExamples}
+use Rattle.command_line.specs.Laws.{NothingTogether, WordExamples, SpareExamples, FrameExamples, SessionExamples, TrialExamples, NoWordExamples, NoSpareExamples, NoFrameExamples, NoSessionExamples, NoTrialExamples}
 use Rattle.command_line.specs.declared.choice.Choice.TheVariants.{Nothing}
 
 pub words : WordExamples
@@ -44,6 +44,17 @@ frames = record {
   leading_zero = refl;
   with_format = refl;
   before_chip = refl;
+}
+
+pub sessions : SessionExamples
+unfolding asked_of ipl_command clap_on_literals
+sessions = record {
+  least = refl;
+  most = refl;
+  with_others = refl;
+  before_frames = refl;
+  of_a_view = refl;
+  of_a_trial = refl;
 }
 
 pub trials : TrialExamples
@@ -103,6 +114,20 @@ no_frames = record {
   short = refl;
   at_format = refl;
   at_serial = refl;
+}
+
+pub no_sessions : NoSessionExamples
+unfolding asked_of ipl_command clap_on_literals
+no_sessions = record {
+  too_few = refl;
+  too_many = refl;
+  none = refl;
+  minus = refl;
+  twice = refl;
+  too_few_for_a_view = refl;
+  too_many_for_a_trial = refl;
+  at_format = refl;
+  at_check = refl;
 }
 
 pub no_trials : NoTrialExamples

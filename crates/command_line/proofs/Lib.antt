@@ -1,3 +1,4 @@
+pub mod PartLemmas
 pub mod AskedLemmas
 pub mod NumberLemmas
 pub mod ChipLemmas

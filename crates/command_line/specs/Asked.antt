@@ -41,23 +41,27 @@ number_at low high id rows = option_map_or (number_in low high) (first_of id row
 abbrev pub frames_at : List Row → ℕ
 frames_at = number_at 2 64 (codes "frames")
 
+-- the number of sessions
+abbrev pub sessions_at : List Row → ℕ
+sessions_at = number_at 1 32 (codes "sessions")
+
 -- the number of places that are kept for those that wear out
 abbrev pub spares_at : List Row → ℕ
 spares_at = number_at 0 64 (codes "spares")
 
 -- what `run` asks to be done
 abbrev pub run_at : List Row → Request
-run_at rows = Run (frames_at rows) (is_set (codes "format") rows) (is_set (codes "close") rows)
+run_at rows = Run (frames_at rows) (sessions_at rows) (is_set (codes "format") rows) (is_set (codes "close") rows)
 
 -- what `trial` asks to be done
 abbrev pub trial_at : List Row → Request
 trial_at rows = Trial (number_at 0 4294967295 (codes "seed") rows)
-    (number_at 0 1000000 (codes "count") rows) (frames_at rows)
+    (number_at 0 1000000 (codes "count") rows) (frames_at rows) (sessions_at rows)
 
 -- what a subcommand asks to be done
 abbrev pub request_at : Text → List Row → Request
 request_at name rows = if bytes_eq name (codes "format") then Format (spares_at rows)
-    else if bytes_eq name (codes "serial") then Serial
+    else if bytes_eq name (codes "serial") then Serial (sessions_at rows)
     else if bytes_eq name (codes "trial") then trial_at rows
     else if bytes_eq name (codes "check") then Check
     else run_at rows
@@ -80,8 +84,9 @@ asked_of words = if is_empty (fault_of ipl_command words)
 -- the numbers of a request are within their bounds
 abbrev pub IsInBounds : Request → Type 0
 IsInBounds (Format spares) = spares ≤ 64
-IsInBounds (Run frames format close) = (2 ≤ frames) × (frames ≤ 64)
-IsInBounds Serial = ⊤
+IsInBounds (Run frames sessions format close) =
+    (2 ≤ frames) × (frames ≤ 64) × (1 ≤ sessions) × (sessions ≤ 32)
+IsInBounds (Serial sessions) = (1 ≤ sessions) × (sessions ≤ 32)
 IsInBounds Check = ⊤
-IsInBounds (Trial seed count frames) =
-    (seed ≤ 4294967295) × (count ≤ 1000000) × (2 ≤ frames) × (frames ≤ 64)
+IsInBounds (Trial seed count frames sessions) = (seed ≤ 4294967295) × (count ≤ 1000000)
+    × (2 ≤ frames) × (frames ≤ 64) × (1 ≤ sessions) × (sessions ≤ 32)

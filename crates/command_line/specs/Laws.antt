@@ -53,18 +53,18 @@ pub record NoChipExamples : Type 0 where
 -- valid words, and what they ask
 pub record WordExamples : Type 0 where
   pub formats : requested (codes "format" ∷ codes "ram:5" ∷ []) ≡ Some (Format 0)
-  pub runs : requested (codes "run" ∷ codes "ram:5" ∷ []) ≡ Some (Run 16 false false)
+  pub runs : requested (codes "run" ∷ codes "ram:5" ∷ []) ≡ Some (Run 16 32 false false)
   pub formats_first : requested (codes "run" ∷ codes "ram:5" ∷ codes "--format" ∷ [])
-      ≡ Some (Run 16 true false)
+      ≡ Some (Run 16 32 true false)
   pub flag_before : requested (codes "run" ∷ codes "--format" ∷ codes "ram:5" ∷ [])
-      ≡ Some (Run 16 true false)
+      ≡ Some (Run 16 32 true false)
   pub chip_behind_dashes : requested (codes "run" ∷ codes "--" ∷ codes "ram:5" ∷ [])
-      ≡ Some (Run 16 false false)
+      ≡ Some (Run 16 32 false false)
   pub closes : requested (codes "run" ∷ codes "ram:5" ∷ codes "--close" ∷ [])
-      ≡ Some (Run 16 false true)
+      ≡ Some (Run 16 32 false true)
   pub formats_and_closes : requested (codes "run" ∷ codes "--close" ∷ codes "ram:5" ∷ codes "--format" ∷ [])
-      ≡ Some (Run 16 true true)
-  pub says_its_view : requested (codes "serial" ∷ codes "ram:5" ∷ []) ≡ Some Serial
+      ≡ Some (Run 16 32 true true)
+  pub says_its_view : requested (codes "serial" ∷ codes "ram:5" ∷ []) ≡ Some (Serial 32)
   pub checks : requested (codes "check" ∷ codes "ram:5" ∷ []) ≡ Some Check
   pub memory : chosen (codes "run" ∷ codes "ram:5" ∷ []) ≡ choice.Ram 5
   pub in_file : chosen (codes "run" ∷ codes "file:5:a:b" ∷ []) ≡ choice.File 5 (codes "a:b")
@@ -87,14 +87,18 @@ run_with words = requested (codes "run" ∷ codes "ram:5" ∷ words)
 
 -- valid words with a number of frames
 pub record FrameExamples : Type 0 where
-  pub least : run_with (codes "--frames" ∷ codes "2" ∷ []) ≡ Some (Run 2 false false)
-  pub most : run_with (codes "--frames" ∷ codes "64" ∷ []) ≡ Some (Run 64 false false)
-  pub attached : run_with (codes "--frames=16" ∷ []) ≡ Some (Run 16 false false)
-  pub plus : run_with (codes "--frames" ∷ codes "+16" ∷ []) ≡ Some (Run 16 false false)
-  pub leading_zero : run_with (codes "--frames" ∷ codes "016" ∷ []) ≡ Some (Run 16 false false)
-  pub with_format : run_with (codes "--frames=4" ∷ codes "--format" ∷ []) ≡ Some (Run 4 true false)
+  pub least : run_with (codes "--frames" ∷ codes "2" ∷ []) ≡ Some (Run 2 32 false false)
+  pub most : run_with (codes "--frames" ∷ codes "64" ∷ []) ≡ Some (Run 64 32 false false)
+  pub attached : run_with (codes "--frames=16" ∷ []) ≡ Some (Run 16 32 false false)
+  pub plus : run_with (codes "--frames" ∷ codes "+16" ∷ []) ≡ Some (Run 16 32 false false)
+  pub leading_zero : run_with (codes "--frames" ∷ codes "016" ∷ []) ≡ Some (Run 16 32 false false)
+  pub with_format : run_with (codes "--frames=4" ∷ codes "--format" ∷ []) ≡ Some (Run 4 32 true false)
   pub before_chip : requested (codes "run" ∷ codes "--frames=4" ∷ codes "ram:5" ∷ [])
-      ≡ Some (Run 4 false false)
+      ≡ Some (Run 4 32 false false)
+
+-- what `serial` asks of a chip with these words behind it
+abbrev pub serial_with : List Text → Option Request
+serial_with words = requested (codes "serial" ∷ codes "ram:5" ∷ words)
 
 -- what `trial` asks of a chip with these words behind it
 abbrev pub trial_with : List Text → Option Request
@@ -102,13 +106,25 @@ trial_with words = requested (codes "trial" ∷ codes "ram:5" ∷ words)
 
 -- valid words of trials
 pub record TrialExamples : Type 0 where
-  pub least : trial_with (codes "--seed=0" ∷ codes "--count=0" ∷ []) ≡ Some (Trial 0 0 16)
+  pub least : trial_with (codes "--seed=0" ∷ codes "--count=0" ∷ []) ≡ Some (Trial 0 0 16 32)
   pub most : trial_with (codes "--seed=4294967295" ∷ codes "--count=1000000" ∷ [])
-      ≡ Some (Trial 4294967295 1000000 16)
+      ≡ Some (Trial 4294967295 1000000 16 32)
   pub in_any_order : trial_with (codes "--count" ∷ codes "7" ∷ codes "--seed" ∷ codes "+08" ∷ [])
-      ≡ Some (Trial 8 7 16)
+      ≡ Some (Trial 8 7 16 32)
   pub with_frames : trial_with (codes "--seed=1" ∷ codes "--count=3" ∷ codes "--frames=2" ∷ [])
-      ≡ Some (Trial 1 3 2)
+      ≡ Some (Trial 1 3 2 32)
+
+-- valid words with a number of sessions
+pub record SessionExamples : Type 0 where
+  pub least : run_with (codes "--sessions" ∷ codes "1" ∷ []) ≡ Some (Run 16 1 false false)
+  pub most : run_with (codes "--sessions" ∷ codes "32" ∷ []) ≡ Some (Run 16 32 false false)
+  pub with_others : run_with (codes "--frames=2" ∷ codes "--sessions=2" ∷ codes "--format" ∷ [])
+      ≡ Some (Run 2 2 true false)
+  pub before_frames : run_with (codes "--sessions=3" ∷ codes "--frames" ∷ codes "4" ∷ [])
+      ≡ Some (Run 4 3 false false)
+  pub of_a_view : serial_with (codes "--sessions=4" ∷ []) ≡ Some (Serial 4)
+  pub of_a_trial : trial_with (codes "--seed=1" ∷ codes "--count=3" ∷ codes "--sessions=5" ∷ [])
+      ≡ Some (Trial 1 3 16 5)
 
 -- words that aren't valid
 pub record NoWordExamples : Type 0 where
@@ -156,6 +172,19 @@ pub record NoFrameExamples : Type 0 where
   pub short : run_with (codes "-f" ∷ codes "4" ∷ []) ≡ None
   pub at_format : requested (codes "format" ∷ codes "ram:5" ∷ codes "--frames=4" ∷ []) ≡ None
   pub at_serial : requested (codes "serial" ∷ codes "ram:5" ∷ codes "--frames=4" ∷ []) ≡ None
+
+-- and such with a number of sessions
+pub record NoSessionExamples : Type 0 where
+  pub too_few : run_with (codes "--sessions" ∷ codes "0" ∷ []) ≡ None
+  pub too_many : run_with (codes "--sessions" ∷ codes "33" ∷ []) ≡ None
+  pub none : run_with (codes "--sessions" ∷ []) ≡ None
+  pub minus : run_with (codes "--sessions=-2" ∷ []) ≡ None
+  pub twice : run_with (codes "--sessions=2" ∷ codes "--sessions=2" ∷ []) ≡ None
+  pub too_few_for_a_view : serial_with (codes "--sessions=0" ∷ []) ≡ None
+  pub too_many_for_a_trial : trial_with (codes "--seed=1" ∷ codes "--count=3" ∷ codes "--sessions=33" ∷ [])
+      ≡ None
+  pub at_format : format_with (codes "--sessions=2" ∷ []) ≡ None
+  pub at_check : requested (codes "check" ∷ codes "ram:5" ∷ codes "--sessions=2" ∷ []) ≡ None
 
 -- and such of trials
 pub record NoTrialExamples : Type 0 where

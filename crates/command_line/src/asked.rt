@@ -5,7 +5,7 @@ ghost use Rattle.std.specs.String.{string_bytes};
 ghost use Rattle.clap.specs.Words.{found_of, rows_of, subcommand_rows_of, first_of};
 ghost use Rattle.command_line.specs.Chip.{word_view};
 ghost use Rattle.command_line.specs.Asked.{view, is_set, number_in, number_at, frames_at, run_at};
-ghost use Rattle.command_line.specs.Asked.{spares_at};
+ghost use Rattle.command_line.specs.Asked.{sessions_at, spares_at};
 ghost use Rattle.command_line.specs.Asked.{trial_at, request_at, chip_at, asked_at, asked_of};
 
 use crate::chip_word::{ChipWord, chip_word};
@@ -21,22 +21,26 @@ pub enum Request {
     Format {
         spares: u32,
     },
-    /// A script is run with so many page frames, over a chip that is formatted first where that is
-    /// asked, and closed at the end where that is.
+    /// A script is run with so many page frames and sessions, over a chip that is formatted first
+    /// where that is asked, and closed at the end where that is.
     Run {
         frames: u32,
+        sessions: u32,
         format: bool,
         close: bool,
     },
-    /// The serial view of a script is said.
-    Serial,
+    /// The serial view of a script is said, with so many sessions.
+    Serial {
+        sessions: u32,
+    },
     /// It is checked: all that it holds is read, and its records are counted.
     Check,
-    /// So many commands that a seed chooses are done, with so many page frames.
+    /// So many commands that a seed chooses are done, with so many page frames and sessions.
     Trial {
         seed: u32,
         count: u32,
         frames: u32,
+        sessions: u32,
     },
 }
 
@@ -98,6 +102,13 @@ fn frames_at(matches: &ArgMatches<'_>) -> u32
     number_at(matches, "frames", 2, 64)
 }
 
+/// The number of sessions.
+fn sessions_at(matches: &ArgMatches<'_>) -> u32
+    ensures { result ≡ sessions_at (rows_of (found_of matches.now)) }
+{
+    number_at(matches, "sessions", 1, 32)
+}
+
 /// The number of places that are kept for those that wear out.
 fn spares_at(matches: &ArgMatches<'_>) -> u32
     ensures { result ≡ spares_at (rows_of (found_of matches.now)) }
@@ -111,6 +122,7 @@ fn run_at(matches: &ArgMatches<'_>) -> Request
 {
     Request::Run {
         frames: frames_at(matches),
+        sessions: sessions_at(matches),
         format: is_set(matches, "format"),
         close: is_set(matches, "close"),
     }
@@ -124,6 +136,7 @@ fn trial_at(matches: &ArgMatches<'_>) -> Request
         seed: number_at(matches, "seed", 0, 4294967295),
         count: number_at(matches, "count", 0, 1000000),
         frames: frames_at(matches),
+        sessions: sessions_at(matches),
     }
 }
 
@@ -136,7 +149,8 @@ fn request_at(name: &str, matches: &ArgMatches<'_>) -> Request
         return Request::Format { spares };
     }
     if name == "serial" {
-        return Request::Serial;
+        let sessions = sessions_at(matches);
+        return Request::Serial { sessions };
     }
     if name == "trial" {
         return trial_at(matches);

@@ -1,4 +1,4 @@
-use Rattle.command_line.proofs.ExampleLemmas.{words, spares, frames, trials, no_words, no_spares, no_frames, no_trials, together}
+use Rattle.command_line.proofs.ExampleLemmas.{words, spares, frames, sessions, trials, no_words, no_spares, no_frames, no_sessions, no_trials, together}
 use Rattle.command_line.proofs.laws.command_line_laws.Goals as goal
 
 pub returns-clause-together : goal.returns-clause-together
@@ -13,6 +13,9 @@ returns-clause-spares c = spares
 pub returns-clause-frames : goal.returns-clause-frames
 returns-clause-frames c = frames
 
+pub returns-clause-sessions : goal.returns-clause-sessions
+returns-clause-sessions c = sessions
+
 pub returns-clause-trials : goal.returns-clause-trials
 returns-clause-trials c = trials
 
@@ -24,6 +27,9 @@ returns-clause-other_spares c = no_spares
 
 pub returns-clause-other_frames : goal.returns-clause-other_frames
 returns-clause-other_frames c = no_frames
+
+pub returns-clause-other_sessions : goal.returns-clause-other_sessions
+returns-clause-other_sessions c = no_sessions
 
 pub returns-clause-other_trials : goal.returns-clause-other_trials
 returns-clause-other_trials c = no_trials
