@@ -97,11 +97,11 @@ module _ (old new : Told) (consistent : IsConsistent old) (calm : IsCalm old new
   chip_ends : (request : Request) → Suffices request old → (e : ImageFault)
       → ChipCause request e old new → fault_status e ≡ 10
   chip_ends (Format spares) holds e c = format_ends spares holds e c
-  chip_ends (Run frames true closes) holds e c = formatted_ends holds e c
-  chip_ends (Run frames false closes) holds e c = opened_ends holds e c
-  chip_ends Serial holds e c = absurd (c.1 holds)
+  chip_ends (Run frames sessions true closes) holds e c = formatted_ends holds e c
+  chip_ends (Run frames sessions false closes) holds e c = opened_ends holds e c
+  chip_ends (Serial sessions) holds e c = absurd (c.1 holds)
   chip_ends Check holds e c = absurd (checked_never old new calm holds e c)
-  chip_ends (Trial seed count frames) holds e c = formatted_ends holds e c
+  chip_ends (Trial seed count frames sessions) holds e c = formatted_ends holds e c
 
   never_long : EndsInTime old new → ¬ IsTooLong old new
   never_long (inl short) long = omega (arith, short, long.grew.at_least)
@@ -116,13 +116,13 @@ module _ (old new : Told) (consistent : IsConsistent old) (calm : IsCalm old new
   complete_by request holds time (Err (Chip e)) c = inr (inr (chip_ends request holds e c))
   complete_by request holds time (Err OutOfMemory) c = inr (inl refl)
   complete_by (Format spares) holds time (Err Script) c = absurd c
-  complete_by (Run frames formats closes) holds time (Err Script) c = absurd (calm.script c)
-  complete_by Serial holds time (Err Script) c = absurd (calm.script c)
+  complete_by (Run frames sessions formats closes) holds time (Err Script) c = absurd (calm.script c)
+  complete_by (Serial sessions) holds time (Err Script) c = absurd (calm.script c)
   complete_by Check holds time (Err Script) c = absurd c
-  complete_by (Trial seed count frames) holds time (Err Script) c = absurd c
+  complete_by (Trial seed count frames sessions) holds time (Err Script) c = absurd c
   complete_by request holds time (Err Output) c = absurd (calm.says c)
   complete_by (Format spares) holds time (Err TooLong) c = absurd c
-  complete_by (Run frames formats closes) holds time (Err TooLong) c = absurd (never_long time c)
-  complete_by Serial holds time (Err TooLong) c = absurd (never_long time c)
+  complete_by (Run frames sessions formats closes) holds time (Err TooLong) c = absurd (never_long time c)
+  complete_by (Serial sessions) holds time (Err TooLong) c = absurd (never_long time c)
   complete_by Check holds time (Err TooLong) c = absurd c
-  complete_by (Trial seed count frames) holds time (Err TooLong) c = absurd c
+  complete_by (Trial seed count frames sessions) holds time (Err TooLong) c = absurd c

@@ -11,7 +11,7 @@ use Rattle.chip_trait.proofs.HistoryLemmas.{same_history, history_then}
 use Rattle.chip_trait.proofs.ImageLemmas.{held_is_image}
 use Rattle.chip_trait.proofs.MomentLemmas.{at_end}
 use Rattle.ipl_base.specs.Places.{units_on}
-use Rattle.ipl_model.specs.State.{Map}
+use Rattle.ipl_model.specs.State.{Map, Limits}
 use Rattle.ipl_model.specs.declared.command.Command.{Command}
 use Rattle.ipl_format.specs.Sector.{sector_in}
 use Rattle.ipl_meaning.specs.Marks.{IsMarked, MarksAreUnused}
@@ -29,6 +29,7 @@ use Rattle.ipl_cli.specs.Top.{NoneFalls, AreMarked, LaysOut, Runs, RunsOpened, R
 use Rattle.ipl_cli.specs.Trials.{Trials, TrialsFormatted, TrialLeaves, ChipStandsBehind, commands_on, state_after}
 use Rattle.ipl_cli.specs.Chains.{AddsLawfully, AsksClosed, RestsOn, IsFormattable, IsLawfulHistory, RestsLawfully, no_records, units_kept}
 use Rattle.ipl_cli.proofs.AgeLemmas.{known_later, quiet_unerased, clean_else, format_known}
+use Rattle.store_laws.specs.Keeps.{limits_of}
 use Rattle.ipl_cli.proofs.EndLemmas.{marked_within}
 
 -- ---- stories
@@ -59,18 +60,18 @@ stand_in_units places units h m is =
     laid_says_its_units (now h) places is.stands.layout is.stands.laid ∙ is.count
 
 -- as does what stands about the commands of a script
-near_units : (places units : ℕ) (h : History) (m : Map) (script bytes : List ℕ)
-    → StandsAbout places units (whole m) script bytes (held h.start h.story) → units_at (now h) places ≡ units
-near_units places units h m script bytes (inl is) = stand_in_units places units h _ is
-near_units places units h m script bytes (inr is) = stand_in_units places units h _ is
+near_units : (places : ℕ) (limits : Limits) (h : History) (m : Map) (script bytes : List ℕ)
+    → StandsAbout places limits (whole m) script bytes (held h.start h.story) → units_at (now h) places ≡ limits.units
+near_units places limits h m script bytes (inl is) = stand_in_units places limits.units h _ is
+near_units places limits h m script bytes (inr is) = stand_in_units places limits.units h _ is
 
 -- and along those of a trial
-behind_units : (places : ℕ) (commands : List Command) (h : History) (said : List (List ℕ))
-    → ChipStandsBehind places commands said (held h.start h.story) → units_at (now h) places ≡ units_on places
-behind_units places commands h [] (done, later, is, stands) =
-    stand_in_units places (units_on places) h (whole (state_after places done).map) stands
-behind_units places commands h (line ∷ said) stands =
-    stand_in_units places (units_on places) h (whole (state_after places commands).map) stands
+behind_units : (sessions : ℕ) (places : ℕ) (commands : List Command) (h : History) (said : List (List ℕ))
+    → ChipStandsBehind sessions places commands said (held h.start h.story) → units_at (now h) places ≡ units_on places
+behind_units sessions places commands h [] (done, later, is, stands) =
+    stand_in_units places (units_on places) h (whole (state_after sessions places done).map) stands
+behind_units sessions places commands h (line ∷ said) stands =
+    stand_in_units places (units_on places) h (whole (state_after sessions places commands).map) stands
 
 -- no run changes the number of places
 same_units : (old new : Told) (h : History) (units : ℕ) → NoneFalls old new → units_at (now h) old.places ≡ units
@@ -79,18 +80,18 @@ same_units old new h units falls is = ap (λ (q : ℕ). units_at (now h) q) fall
 
 -- ---- a run over a chip that is opened
 
-module _ (old new : Told) (m : Legible) (script : List ℕ) (on : RestsOn m script old)
-    (at : AtStatus (RunsOpened old new) 0) (falls : NoneFalls old new)
+module _ {sessions : ℕ} (old new : Told) (m : Legible) (script : List ℕ) (on : RestsOn m script old)
+    (at : AtStatus (RunsOpened sessions old new) 0) (falls : NoneFalls old new)
     (unrisen : Unrisen old new) where
-  ran : Runs true old.places (units_kept old on.history) m script on.history [] old new (Ok tt)
-  ran = subst (λ (e : Ending). Runs true old.places (units_kept old on.history) m script on.history [] old new e)
+  ran : Runs true old.places (limits_of sessions (units_kept old on.history)) m script on.history [] old new (Ok tt)
+  ran = subst (λ (e : Ending). Runs true old.places (limits_of sessions (units_kept old on.history)) m script on.history [] old new e)
       (done_at_zero at.0 (sym at.1)) (at.2 on.history script on.steady on.left m on.rests on.apart)
 
-  pub run_rests : RestsOn (of m.pages (records_after (units_kept old on.history) m.map script)) [] new
+  pub run_rests : RestsOn (of m.pages (records_after (limits_of sessions (units_kept old on.history)) m.map script)) [] new
   run_rests = record {
     history = adds_all ran.added on.history;
     steady = ran.steady unrisen;
-    rests = subst (λ (q : ℕ). StoryRests q (of m.pages (records_after (units_kept old on.history) m.map script))
+    rests = subst (λ (q : ℕ). StoryRests q (of m.pages (records_after (limits_of sessions (units_kept old on.history)) m.map script))
         (adds_all ran.added on.history)) (sym falls.places) (ran.ends unrisen);
     apart = on.apart;
     left = ran.left_is ∙ ap Some (ran.all refl).2;
@@ -114,7 +115,7 @@ module _ (old new : Told) (m : Legible) (script : List ℕ) (on : RestsOn m scri
   }
 
   pub run_lawful : old.history ≡ Some on.history → IsLawfulHistory old.places on.history
-      → RestsLawfully (of m.pages (records_after (units_kept old on.history) m.map script)) [] new
+      → RestsLawfully (of m.pages (records_after (limits_of sessions (units_kept old on.history)) m.map script)) [] new
   unfolding run_rests
   run_lawful told is = record {
     on = run_rests;
@@ -126,12 +127,12 @@ module _ (old new : Told) (m : Legible) (script : List ℕ) (on : RestsOn m scri
 
 -- who asks for both, asks that the chip is opened
 pub closed_is_opened : (asked : AskedFor) → AsksClosed asked → AsksOpened asked
-closed_is_opened asked (frames, is) = (frames, true, is)
+closed_is_opened asked (sessions, frames, is) = (sessions, (frames, true, is))
 
-module _ (old mid new : Told) (m : Legible) (script : List ℕ) (on : RestsOn m script old)
+module _ {sessions : ℕ} (old mid new : Told) (m : Legible) (script : List ℕ) (on : RestsOn m script old)
     (adds : AddsCleanly old.places on.history old mid) (places : mid.places ≡ old.places)
-    (after : Map) (begun : RestsOn (of m.pages after) [] mid) (then : Ending) (runs : RunsOpened mid new then) where
-  ran_behind : Runs true mid.places (units_kept mid begun.history) (of m.pages after) [] begun.history [] mid new then
+    (after : Map) (begun : RestsOn (of m.pages after) [] mid) (then : Ending) (runs : RunsOpened sessions mid new then) where
+  ran_behind : Runs true mid.places (limits_of sessions (units_kept mid begun.history)) (of m.pages after) [] begun.history [] mid new then
   ran_behind = runs begun.history [] begun.steady begun.left (of m.pages after) begun.rests begun.apart
 
   pub both_lawful : AddsLawfully old.places on.history old new
@@ -191,22 +192,22 @@ module _ (old new : Told) (spares : ℕ) (script : List ℕ) (on : IsFormattable
 
 -- ---- a run over a chip that is formatted first
 
-module _ (old new : Told) (script : List ℕ) (on : IsFormattable script old) (runs : RunsFormatted old new (Ok tt))
+module _ {sessions : ℕ} (old new : Told) (script : List ℕ) (on : IsFormattable script old) (runs : RunsFormatted sessions old new (Ok tt))
     (falls : NoneFalls old new) (unrisen : Unrisen old new) where
   abbrev anew : Story
   anew = format_events old.places (units_on old.places)
 
-  ran_anew : Runs false old.places (units_on old.places) (whole no_records) script on.history anew old new (Ok tt)
+  ran_anew : Runs false old.places (limits_of sessions (units_on old.places)) (whole no_records) script on.history anew old new (Ok tt)
   ran_anew = runs on.history script on.steady on.left
 
   abbrev then : History
   then = adds_all ran_anew.added (adds_all anew on.history)
 
-  pub anew_rests : RestsOn (whole (records_after (units_on old.places) no_records script)) [] new
+  pub anew_rests : RestsOn (whole (records_after (limits_of sessions (units_on old.places)) no_records script)) [] new
   anew_rests = record {
     history = then;
     steady = ran_anew.steady unrisen;
-    rests = subst (λ (q : ℕ). StoryRests q (whole (records_after (units_on old.places) no_records script)) then)
+    rests = subst (λ (q : ℕ). StoryRests q (whole (records_after (limits_of sessions (units_on old.places)) no_records script)) then)
         (sym falls.places) (ran_anew.ends unrisen);
     apart = every_is_told_apart;
     left = ran_anew.left_is ∙ ap Some (ran_anew.all refl).2;
@@ -216,13 +217,13 @@ module _ (old new : Told) (script : List ℕ) (on : IsFormattable script old) (r
   pub anew_keeps : units_kept new anew_rests.history ≡ units_on old.places
   unfolding anew_rests
   anew_keeps = same_units old new then (units_on old.places) falls
-      (near_units old.places (units_on old.places) then no_records script (said ran_anew.added)
-      (at_end (λ e. Leaves (says sector_in) (StandsAbout old.places (units_on old.places) (whole no_records) script (said e))
+      (near_units old.places (limits_of sessions (units_on old.places)) then no_records script (said ran_anew.added)
+      (at_end (λ e. Leaves (says sector_in) (StandsAbout old.places (limits_of sessions (units_on old.places)) (whole no_records) script (said e))
       (adds_all anew on.history) e) ran_anew.added ran_anew.each_moment
       (held then.start then.story) (held_is_image (says sector_in) then.start then.story)))
 
   pub anew_lawful : old.history ≡ Some on.history → IsLawful on.history.story
-      → RestsLawfully (whole (records_after (units_on old.places) no_records script)) [] new
+      → RestsLawfully (whole (records_after (limits_of sessions (units_on old.places)) no_records script)) [] new
   unfolding anew_rests
   anew_lawful told lawful = record {
     on = anew_rests;
@@ -237,30 +238,30 @@ module _ (old new : Told) (script : List ℕ) (on : IsFormattable script old) (r
 -- ---- a trial
 
 -- a trial that ended at 0 was done
-pub done_tried : (seed count : ℕ) (old new : Told) → AtStatus (λ ending. TrialLeaves seed count ending old new) 0
-    → TrialsFormatted seed count old new (Ok tt)
-done_tried seed count old new at = subst (λ (e : Ending). TrialLeaves seed count e old new)
+pub done_tried : {sessions : ℕ} (seed count : ℕ) (old new : Told) → AtStatus (λ ending. TrialLeaves sessions seed count ending old new) 0
+    → TrialsFormatted sessions seed count old new (Ok tt)
+done_tried {sessions} seed count old new at = subst (λ (e : Ending). TrialLeaves sessions seed count e old new)
     (done_at_zero at.0 (sym at.1)) at.2
 
-module _ (old new : Told) (seed count : ℕ) (script : List ℕ) (on : IsFormattable script old)
-    (trials : TrialsFormatted seed count old new (Ok tt)) (falls : NoneFalls old new) (unrisen : Unrisen old new) where
+module _ {sessions : ℕ} (old new : Told) (seed count : ℕ) (script : List ℕ) (on : IsFormattable script old)
+    (trials : TrialsFormatted sessions seed count old new (Ok tt)) (falls : NoneFalls old new) (unrisen : Unrisen old new) where
   abbrev anew_tried : Story
   anew_tried = format_events old.places (units_on old.places)
 
   abbrev commands : List Command
   commands = commands_on old.places seed count
 
-  tried : Trials old.places commands on.history anew_tried old new (Ok tt)
+  tried : Trials sessions old.places commands on.history anew_tried old new (Ok tt)
   tried = trials on.history on.steady
 
   abbrev then_tried : History
   then_tried = adds_all tried.added (adds_all anew_tried on.history)
 
-  pub trial_rests : RestsOn (whole (state_after old.places commands).map) script new
+  pub trial_rests : RestsOn (whole (state_after sessions old.places commands).map) script new
   trial_rests = record {
     history = then_tried;
     steady = tried.steady unrisen;
-    rests = subst (λ (q : ℕ). StoryRests q (whole (state_after old.places commands).map) then_tried)
+    rests = subst (λ (q : ℕ). StoryRests q (whole (state_after sessions old.places commands).map) then_tried)
         (sym falls.places) (tried.ends unrisen);
     apart = every_is_told_apart;
     left = tried.left_is ∙ on.left;
@@ -270,13 +271,13 @@ module _ (old new : Told) (seed count : ℕ) (script : List ℕ) (on : IsFormatt
   pub trial_keeps : units_kept new trial_rests.history ≡ units_on old.places
   unfolding trial_rests
   trial_keeps = same_units old new then_tried (units_on old.places) falls
-      (behind_units old.places commands then_tried (pieces tried.added)
-      (at_end (λ e. Leaves (says sector_in) (ChipStandsBehind old.places commands (pieces e))
+      (behind_units sessions old.places commands then_tried (pieces tried.added)
+      (at_end (λ e. Leaves (says sector_in) (ChipStandsBehind sessions old.places commands (pieces e))
       (adds_all anew_tried on.history) e) tried.added tried.each_moment
       (held then_tried.start then_tried.story) (held_is_image (says sector_in) then_tried.start then_tried.story)))
 
   pub trial_lawful : old.history ≡ Some on.history → IsLawful on.history.story
-      → RestsLawfully (whole (state_after old.places commands).map) script new
+      → RestsLawfully (whole (state_after sessions old.places commands).map) script new
   unfolding trial_rests
   trial_lawful told lawful = record {
     on = trial_rests;

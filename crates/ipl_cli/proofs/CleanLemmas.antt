@@ -26,11 +26,12 @@ use Rattle.ipl_meaning.proofs.StoryLemmas.{barriers_rest, held_stands}
 use Rattle.restart.specs.RenewalChains.{starts_at}
 use Rattle.restart.proofs.ChainLemmas.{images_rest}
 use Rattle.unit_io.specs.Leads.{IsSteady}
-use Rattle.ipl_model.specs.State.{Map, State}
+use Rattle.ipl_model.specs.State.{Map, State, Limits}
 use Rattle.ipl_cli.specs.Ending.{Ending}
 use Rattle.ipl_cli.specs.Top.{IsAbout, Runs, RunsOpened}
 use Rattle.ipl_cli.specs.Frames.{AddsCleanly}
 use Rattle.ipl_cli.specs.Chains.{RestsOn, TellsHistory}
+use Rattle.store_laws.specs.Keeps.{limits_of}
 use Rattle.ipl_cli.proofs.AgeLemmas.{quiet_unerased}
 
 -- ---- ages, one part behind another
@@ -132,18 +133,18 @@ one_story old new k a b told first second =
     append_cancel_right a b k.story (ap (λ (h : History). h.story) same)
 
 -- of the state that is left, whichever it is
-whichever : (P : Type 0) (Q : State → Type 0) (units : ℕ) (m : Map) (script bytes : List ℕ)
-    → ((s : State) → Q s → P) → IsAbout Q units m script bytes → P
-whichever P Q units m script bytes so (inl is) = so _ is
-whichever P Q units m script bytes so (inr is) = so _ is
+whichever : (P : Type 0) (Q : State → Type 0) (limits : Limits) (m : Map) (script bytes : List ℕ)
+    → ((s : State) → Q s → P) → IsAbout Q limits m script bytes → P
+whichever P Q limits m script bytes so (inl is) = so _ is
+whichever P Q limits m script bytes so (inr is) = so _ is
 
-module _ (old new : Told) (m : Legible) (script : List ℕ) (on : RestsOn m script old) (ending : Ending)
-    (runs : RunsOpened old new ending) (unrisen : Unrisen old new) where
+module _ {sessions : ℕ} (old new : Told) (m : Legible) (script : List ℕ) (on : RestsOn m script old) (ending : Ending)
+    (runs : RunsOpened sessions old new ending) (unrisen : Unrisen old new) where
   abbrev x : Contents
   x = held on.history.start on.history.story
 
   abbrev RunsFrom : History → Type 0
-  RunsFrom h = Runs true old.places (units_at (now h) old.places) m script h [] old new ending
+  RunsFrom h = Runs true old.places (limits_of sessions (units_at (now h) old.places)) m script h [] old new ending
 
   x_stands : Stands old.places (chart_of x) m
   x_stands = held_stands old.places m on.history on.rests.each
@@ -182,7 +183,7 @@ module _ (old new : Told) (m : Legible) (script : List ℕ) (on : RestsOn m scri
     never_open = subst (λ (story : Story). age story p s ≢ Erased) (append-nil from_start.added)
         (whichever (age (from_start.added ++ []) p s ≢ Erased)
         (λ state. StoryRests old.places (of m.pages state.map) (adds_all from_start.added (adds_all [] (starts_at x))))
-        (units_at (now (starts_at x)) old.places) m.map script (said from_start.added)
+        (limits_of sessions (units_at (now (starts_at x)) old.places)) m.map script (said from_start.added)
         (λ state rests. quiet_unerased x (from_start.added ++ []) p s rests.quiet) (from_start.rests unrisen))
 
     -- and where the run left it alone, it was marked before
@@ -232,7 +233,7 @@ module _ (old new : Told) (m : Legible) (script : List ℕ) (on : RestsOn m scri
   pub run_leaves_start : new.places ≡ old.places → (rest : Legible) × (left : List ℕ) × RestsOn rest left new
   run_leaves_start places = whichever ((rest : Legible) × (left : List ℕ) × RestsOn rest left new)
       (λ state. StoryRests old.places (of m.pages state.map) (adds_all from_start.added (adds_all [] (starts_at x))))
-      (units_at (now (starts_at x)) old.places) m.map script (said from_start.added) (λ state rests. (
+      (limits_of sessions (units_at (now (starts_at x)) old.places)) m.map script (said from_start.added) (λ state rests. (
         of m.pages state.map,
         from_start.unread,
         record {

@@ -67,8 +67,9 @@ use Rattle.ipl_cli.specs.Ending.{Ending, IsFormatStopped, StopRose, IsLeftAlone,
 use Rattle.ipl_cli.specs.Top.{AreMarked, WereUnused, Runs, RunsOpened, RunsFormatted, IsLaidOut, LaysOut, IsAbout, StandsAbout, IsBetween, EndsBy, EndMet, answers, ok_line}
 use Rattle.store_trait.specs.Keeping.{LeavesTidy}
 use Rattle.unit_io.specs.Reads.{OfContents}
-use Rattle.ipl_cli.specs.Runs.{CountsBehind, RunsFrom, RunsOver, StartsOpened, IsNotOpened, WasFormatted, MarksBehind, ending_of}
+use Rattle.ipl_cli.specs.Runs.{CountsBehind, RunsFrom, RunsOver, StartsOpened, IsNotOpened, WasFormatted, MarksBehind, ending_of, slots_of}
 use Rattle.ipl_cli.specs.Frames.{MarksWhatWasErased, CleansWhatIsMarked}
+use Rattle.ipl_store.specs.Calls.{limits_of_store}
 use Rattle.ipl_cli.proofs.UnusedLemmas.{were_unused, format_unused, said_unused}
 
 -- what stands beside the chip is left as it was
@@ -208,22 +209,22 @@ near_silent Q limits state [] holds = inl holds
 near_silent Q limits state (c ∷ commands) holds = rw (reply_shows limits state c) (inl holds)
 
 -- how a run ends, by its stop
-ends_by : (Q : State → Type 0) (units : ℕ) (m : Map) (script : List ℕ) (lines : List (List ℕ))
-    (result : Result (Unit {0}) Stop) → EndsAt result (limits_of units) (at_rest m)
+ends_by : (Q : State → Type 0) (limits : Limits) (m : Map) (script : List ℕ) (lines : List (List ℕ))
+    (result : Result (Unit {0}) Stop) → EndsAt result limits (at_rest m)
     (commands_of script) lines Q
-    → EndsBy (ending_of result) Q units m script lines
-ends_by Q units m script lines (Ok u) e = e
-ends_by Q units m script lines (Err (stop.Store (fault.Chip f))) e = e
-ends_by Q units m script lines (Err (stop.Store (fault.Image f))) e = e
-ends_by Q units m script lines (Err (stop.Store fault.Spent)) e = e
-ends_by Q units m script lines (Err stop.Script) e = e
-ends_by Q units m script lines (Err stop.Output) e = e
-ends_by Q units m script lines (Err stop.TooLong) e = e
+    → EndsBy (ending_of result) Q limits m script lines
+ends_by Q limits m script lines (Ok u) e = e
+ends_by Q limits m script lines (Err (stop.Store (fault.Chip f))) e = e
+ends_by Q limits m script lines (Err (stop.Store (fault.Image f))) e = e
+ends_by Q limits m script lines (Err (stop.Store fault.Spent)) e = e
+ends_by Q limits m script lines (Err stop.Script) e = e
+ends_by Q limits m script lines (Err stop.Output) e = e
+ends_by Q limits m script lines (Err stop.TooLong) e = e
 
-between_so : (Q R : State → Type 0) (units : ℕ) (m : Map) (script : List ℕ) (lines : List (List ℕ))
-    → ((s : State) → Q s → R s) → IsBetween Q units m script lines
-    → IsBetween R units m script lines
-between_so Q R units m script lines f e = record {
+between_so : (Q R : State → Type 0) (limits : Limits) (m : Map) (script : List ℕ) (lines : List (List ℕ))
+    → ((s : State) → Q s → R s) → IsBetween Q limits m script lines
+    → IsBetween R limits m script lines
+between_so Q R limits m script lines f e = record {
   answered = e.answered;
   later = e.later;
   commands_are = e.commands_are;
@@ -235,16 +236,16 @@ between_so Q R units m script lines f e = record {
 }
 
 -- what is so of a state after a run, so is what follows from it
-ends_state : (Q R : State → Type 0) (units : ℕ) (m : Map) (script : List ℕ) (lines : List (List ℕ))
-    → ((s : State) → Q s → R s) → (e : Ending) → EndsBy e Q units m script lines
-    → EndsBy e R units m script lines
-ends_state Q R units m script lines f (Ok u) e = f _ e
-ends_state Q R units m script lines f (Err Words) e = between_so Q R units m script lines f e
-ends_state Q R units m script lines f (Err (Chip x)) e = between_so Q R units m script lines f e
-ends_state Q R units m script lines f (Err OutOfMemory) e = between_so Q R units m script lines f
+ends_state : (Q R : State → Type 0) (limits : Limits) (m : Map) (script : List ℕ) (lines : List (List ℕ))
+    → ((s : State) → Q s → R s) → (e : Ending) → EndsBy e Q limits m script lines
+    → EndsBy e R limits m script lines
+ends_state Q R limits m script lines f (Ok u) e = f _ e
+ends_state Q R limits m script lines f (Err Words) e = between_so Q R limits m script lines f e
+ends_state Q R limits m script lines f (Err (Chip x)) e = between_so Q R limits m script lines f e
+ends_state Q R limits m script lines f (Err OutOfMemory) e = between_so Q R limits m script lines f
     e
-ends_state Q R units m script lines f (Err Script) e = between_so Q R units m script lines f e
-ends_state Q R units m script lines f (Err Output) e = record {
+ends_state Q R limits m script lines f (Err Script) e = between_so Q R limits m script lines f e
+ends_state Q R limits m script lines f (Err Output) e = record {
   answered = e.answered;
   command = e.command;
   later = e.later;
@@ -254,7 +255,7 @@ ends_state Q R units m script lines f (Err Output) e = record {
   next = e.next;
   rests = f _ e.rests;
 }
-ends_state Q R units m script lines f (Err TooLong) e = between_so Q R units m script lines f e
+ends_state Q R limits m script lines f (Err TooLong) e = between_so Q R limits m script lines f e
 
 pub all_done : (result : Result (Unit {0}) Stop) → ending_of result ≡ Ok tt → is_ok result ≡ true
 all_done (Ok u) is = refl
@@ -270,23 +271,20 @@ stop_met places known stop.Script t k met tells = tt
 stop_met places known stop.Output t k met tells = tt
 stop_met places known stop.TooLong t k met tells = tt
 
-module _ (known : KnownPages) (marks : Bool) (places units : ℕ) (m : Map) (script : List ℕ) (h : History) (first : Story)
+module _ (known : KnownPages) (marks : Bool) (places : ℕ) (limits : Limits) (m : Map) (script : List ℕ) (h : History) (first : Story)
     (silent : pieces first ≡ [])
-    (each : AtEachMoment (λ e. EachStandsIn places units (of known.pages m) (adds_all e h)) first)
+    (each : AtEachMoment (λ e. EachStandsIn places limits.units (of known.pages m) (adds_all e h)) first)
     (lawful : (base : Story) → IsLawful base → AreClean (AreMarked marks places h) base → IsLawful (first ++ base))
     (unused : WereUnused marks places h → AtEachMoment (λ e. MarksAreUnused places (adds_all e h)) first) where
-  abbrev limits : Limits
-  limits = limits_of units
-
   abbrev Found : Story → Type 0
-  Found e = Leaves (says sector_in) (StandsAbout places units (of known.pages m) script (said e)) h e
+  Found e = Leaves (says sector_in) (StandsAbout places limits (of known.pages m) script (said e)) h e
 
   -- at each moment of them nothing was answered
   near_first : AtEachMoment Found first
   near_first = λ later e is x image.
       let quiet : pieces e ≡ [] = silent-part later e (ap pieces is ∙ silent) in
-      subst (λ (bytes : List ℕ). StandsAbout places units (of known.pages m) script bytes x) (sym (ap joined_pieces quiet))
-      (near_silent (λ s. StandsIn places units (chart_of x) (of known.pages s.map)) limits (at_rest m) (commands_of script)
+      subst (λ (bytes : List ℕ). StandsAbout places limits (of known.pages m) script bytes x) (sym (ap joined_pieces quiet))
+      (near_silent (λ s. StandsIn places limits.units (chart_of x) (of known.pages s.map)) limits (at_rest m) (commands_of script)
       (each later e is x image))
 
   -- ---- they alone were done
@@ -298,26 +296,26 @@ module _ (known : KnownPages) (marks : Bool) (places units : ℕ) (m : Map) (scr
     abbrev Resting : State → Type 0
     Resting s = Unrisen old new → StoryRests places (of known.pages s.map) (adds_all first h)
 
-    none_between : IsBetween Resting units m script (pieces first)
-    none_between = subst (IsBetween Resting units m script) (sym silent) (between_none limits
+    none_between : IsBetween Resting limits m script (pieces first)
+    none_between = subst (IsBetween Resting limits m script) (sym silent) (between_none limits
         (at_rest m) (commands_of script) Resting rests)
 
     pub runs_none : (ending : Ending) → (ending ≡ Ok tt → ⊥)
-        → EndsBy ending Resting units m script (pieces first)
+        → EndsBy ending Resting limits m script (pieces first)
         → (Unrisen old new → TellsStory new → EndMet places ending (adds_all first h))
-        → Runs marks places units (of known.pages m) script h [] old new ending
+        → Runs marks places limits (of known.pages m) script h [] old new ending
     runs_none ending unfinished ends met = record {
       added = first;
       history = history ∙ ap (option_map (adds_all first)) (same_history old.history);
       each_moment = near_first;
-      replies = subst (SaysLines (answers units m script)) (sym silent)
-          (says_none (answers units m script));
-      is_prefix = subst (λ (bytes : List ℕ). IsPrefix bytes (joined_text (answers units m script)))
-          (sym (ap joined_pieces silent)) (joined_text (answers units m script), refl);
+      replies = subst (SaysLines (answers limits m script)) (sym silent)
+          (says_none (answers limits m script));
+      is_prefix = subst (λ (bytes : List ℕ). IsPrefix bytes (joined_text (answers limits m script)))
+          (sym (ap joined_pieces silent)) (joined_text (answers limits m script), refl);
       lawful = lawful;
       unused = unused;
       steady = steady;
-      rests = λ unrisen. subst (IsAbout (λ s. StoryRests places (of known.pages s.map) (adds_all first h)) units m
+      rests = λ unrisen. subst (IsAbout (λ s. StoryRests places (of known.pages s.map) (adds_all first h)) limits m
           script) (sym (ap joined_pieces silent))
           (near_silent (λ s. StoryRests places (of known.pages s.map) (adds_all first h)) limits (at_rest m)
           (commands_of script) (rests unrisen));
@@ -331,10 +329,10 @@ module _ (known : KnownPages) (marks : Bool) (places units : ℕ) (m : Map) (scr
     }
 
     pub none_failed : (e : ImageFault) → (Unrisen old new → TellsStory new → ImageMet places e (adds_all first h))
-        → Runs marks places units (of known.pages m) script h [] old new (Err (Chip e))
+        → Runs marks places limits (of known.pages m) script h [] old new (Err (Chip e))
     none_failed e met = runs_none (Err (Chip e)) (λ is. cc) none_between met
 
-    pub none_wanting : Runs marks places units (of known.pages m) script h [] old new (Err OutOfMemory)
+    pub none_wanting : Runs marks places limits (of known.pages m) script h [] old new (Err OutOfMemory)
     none_wanting = runs_none (Err OutOfMemory) (λ is. cc) none_between (λ unrisen tells. tt)
 
   -- ---- then the script was run
@@ -367,28 +365,28 @@ module _ (known : KnownPages) (marks : Bool) (places units : ℕ) (m : Map) (scr
       all_history = history_behind first leaves.added h
 
       later_found : AtEachMoment (λ f. Found (f ++ first)) leaves.added
-      later_found = at_weaker (λ e. Leaves (says sector_in) (StandsAbout places units (of known.pages m) script (said e))
+      later_found = at_weaker (λ e. Leaves (says sector_in) (StandsAbout places limits (of known.pages m) script (said e))
           (adds_all first h) e) (λ f. Found (f ++ first)) leaves.added (λ f found x image.
-          subst (λ (bytes : List ℕ). StandsAbout places units (of known.pages m) script bytes x)
+          subst (λ (bytes : List ℕ). StandsAbout places limits (of known.pages m) script bytes x)
           (sym (said-append f first ∙ ap (λ (ps : List (List ℕ)). joined_pieces ps ++ said f) silent))
           (found x (subst (λ (s : Story). IsNoChanceImage (says sector_in) h.start s x)
           (append_assoc f first h.story) image))) leaves.each_moment
 
-      steady_near : IsAbout (R last) units m script (said leaves.added) → Unrisen old new
+      steady_near : IsAbout (R last) limits m script (said leaves.added) → Unrisen old new
           → IsSteady last new
       steady_near near unrisen = elim near [
         | inl so ↦ (kept_last _ so unrisen).steady
         | inr so ↦ (kept_last _ so unrisen).steady
       ]
 
-      rests_near : IsAbout (R last) units m script (said leaves.added) → Unrisen old new
-          → IsAbout (λ s. StoryRests places (of known.pages s.map) last) units m script (said leaves.added)
+      rests_near : IsAbout (R last) limits m script (said leaves.added) → Unrisen old new
+          → IsAbout (λ s. StoryRests places (of known.pages s.map) last) limits m script (said leaves.added)
       rests_near near unrisen = elim near [
         | inl so ↦ inl (kept_last _ so unrisen).rests
         | inr so ↦ inr (kept_last _ so unrisen).rests
       ]
 
-      met_near : IsAbout (R last) units m script (said leaves.added) → Unrisen old new → TellsStory new
+      met_near : IsAbout (R last) limits m script (said leaves.added) → Unrisen old new → TellsStory new
           → EndMet places (ending_of result) last
       met_near near unrisen = elim near [
         | inl so ↦ meets last _ so (unrisen_later old mid new later unrisen)
@@ -396,8 +394,8 @@ module _ (known : KnownPages) (marks : Bool) (places units : ℕ) (m : Map) (scr
       ]
 
       ends_last : EndsBy (ending_of result) (λ s. Unrisen old new → StoryRests places (of known.pages s.map) last)
-          units m script (pieces leaves.added)
-      ends_last = ends_by (λ s. Unrisen old new → StoryRests places (of known.pages s.map) last) units m script
+          limits m script (pieces leaves.added)
+      ends_last = ends_by (λ s. Unrisen old new → StoryRests places (of known.pages s.map) last) limits m script
           (pieces leaves.added) result
           (ends_weaker limits (at_rest m) result (commands_of script) (pieces leaves.added) (R last)
           (λ s. Unrisen old new → StoryRests places (of known.pages s.map) last)
@@ -405,17 +403,17 @@ module _ (known : KnownPages) (marks : Bool) (places units : ℕ) (m : Map) (scr
 
       runs_by : (read unread : List ℕ) → script ≡ read ++ unread → new.beside.left ≡ Some unread
           → (is_ok result ≡ true → unread ≡ [])
-          → Runs marks places units (of known.pages m) script h [] old new (ending_of result)
+          → Runs marks places limits (of known.pages m) script h [] old new (ending_of result)
       runs_by read unread script_is left_is ends = record {
         added = leaves.added ++ first;
         history = leaves.history ∙ ap (option_map (adds_all leaves.added)) told
             ∙ history_then leaves.added first old.history
             ∙ ap (option_map (adds_all (leaves.added ++ first))) (same_history old.history);
         each_moment = at_both Found leaves.added first near_first later_found;
-        replies = subst (SaysLines (answers units m script)) (sym all_pieces) leaves.replies;
+        replies = subst (SaysLines (answers limits m script)) (sym all_pieces) leaves.replies;
         is_prefix = subst (λ (bytes : List ℕ). IsPrefix bytes
-            (joined_text (answers units m script))) (sym all_said)
-            (says_prefix (answers units m script) (pieces leaves.added) leaves.replies);
+            (joined_text (answers limits m script))) (sym all_said)
+            (says_prefix (answers limits m script) (pieces leaves.added) leaves.replies);
         lawful = λ base good marked. subst IsLawful (sym (append_assoc leaves.added first base))
             (leaves.lawful.lawful (first ++ base) (lawful base good marked) (clean base marked));
         unused = λ were. at_both (λ e. MarksAreUnused places (adds_all e h)) leaves.added first (unused were)
@@ -423,14 +421,14 @@ module _ (known : KnownPages) (marks : Bool) (places units : ℕ) (m : Map) (scr
             (leaves.unused.marks (unused_then were) later e split));
         steady = λ unrisen. subst (λ (k : History). IsSteady k new) all_history
             (steady_near leaves.rests unrisen);
-        rests = λ unrisen. subst (λ (k : History). IsAbout (λ s. StoryRests places (of known.pages s.map) k) units m
+        rests = λ unrisen. subst (λ (k : History). IsAbout (λ s. StoryRests places (of known.pages s.map) k) limits m
             script (said (leaves.added ++ first))) all_history
-            (subst (IsAbout (λ s. StoryRests places (of known.pages s.map) last) units m script) (sym all_said)
+            (subst (IsAbout (λ s. StoryRests places (of known.pages s.map) last) limits m script) (sym all_said)
             (rests_near leaves.rests unrisen));
         ends = subst (λ (k : History). EndsBy (ending_of result) (λ s. Unrisen old new → StoryRests
-            places (of known.pages s.map) k) units m script (pieces (leaves.added ++ first))) all_history
+            places (of known.pages s.map) k) limits m script (pieces (leaves.added ++ first))) all_history
             (subst (EndsBy (ending_of result) (λ s. Unrisen old new → StoryRests places (of known.pages s.map) last)
-            units m script) (sym all_pieces) ends_last);
+            limits m script) (sym all_pieces) ends_last);
         met = λ unrisen tells. subst (λ (k : History). EndMet places (ending_of result) k) all_history
             (met_near leaves.rests unrisen tells);
         read = read;
@@ -446,13 +444,13 @@ module _ (known : KnownPages) (marks : Bool) (places units : ℕ) (m : Map) (scr
       }
 
     pub runs_ended : Ended (script_keeping places known) limits (at_rest m) script before (adds_all first h) then
-        mid new → Runs marks places units (of known.pages m) script h [] old new (Ok tt)
+        mid new → Runs marks places limits (of known.pages m) script h [] old new (Ok tt)
     runs_ended e = runs_by ((script_keeping places known).holds limits then new) (Ok tt) (λ k s held unrisen. held)
         (λ k s held unrisen tells. tt) e.leaves script [] (sym (append-nil script)) e.left_is (λ is. refl)
 
     pub runs_stopped : (s : Stop) → Stopped (script_keeping places known) limits (at_rest m) (commands_of script)
         script before (adds_all first h) (StaysAt (script_keeping places known) limits then mid new s) then mid new s
-        → Runs marks places units (of known.pages m) script h [] old new (ending_of (Err s))
+        → Runs marks places limits (of known.pages m) script h [] old new (ending_of (Err s))
     runs_stopped s e = runs_by (StaysAt (script_keeping places known) limits then mid new s) (Err s)
         (λ k state stays unrisen. (stays unrisen).0)
         (λ k state stays unrisen tells. stop_met places known s new k (stays unrisen).1 tells) e.leaves e.read e.rest e.source_is e.left_is (λ is. absurd cc)
@@ -491,7 +489,7 @@ module _ {marks : Bool} (old mid : Told) (store : ScriptStore) (s : StartsOpened
   -- it keeps the records on which the history rested
   pub opened_keeps : (known : KnownPages) (m : Map) (h : History) (steady : IsSteady h old)
       (rests : StoryRests old.places (of known.pages m) h)
-      → KeepsScript old.places known (limits_of store.store.units) store mid
+      → KeepsScript old.places known (limits_of_store store.store) store mid
       (adds_all (s.tries.steps (of known.pages m) h steady rests).2.added h) (at_rest m)
   opened_keeps known m h steady rests =
       let made = s.running.sound.made in
@@ -536,9 +534,9 @@ module _ {marks : Bool} (old mid : Told) (store : ScriptStore) (s : StartsOpened
       let k = adds_all did.added h in
       subst (λ (n : ℕ). MarksSince n h new) same
       (behind known script (left_counts old mid s.tries.accounts.counts ∙ left) calm old h at
-      (opening_recalls old mid store s.tries) (limits_of store.store.units) (at_rest m.map) k
+      (opening_recalls old mid store s.tries) (limits_of_store store.store) (at_rest m.map) k
       (did.history ∙ ap (option_map (adds_all did.added)) at)
-      (subst (λ (n : ℕ). KeepsScript n known (limits_of store.store.units) store mid k (at_rest m.map)) (sym same)
+      (subst (λ (n : ℕ). KeepsScript n known (limits_of_store store.store) store mid k (at_rest m.map)) (sym same)
       (opened_keeps known m.map h steady rests)))
 
   -- what is marked behind a close is clean, after lawful events that leave clean what was marked before
@@ -557,9 +555,9 @@ module _ {marks : Bool} (old mid : Told) (store : ScriptStore) (s : StartsOpened
       λ base clean p n counted. clean p n (opening.takes.marked x steady.holds p n counted) in
       let first = opening.tidies.added in
       let counted = subst (λ (n : ℕ). OfContents new (λ y. (p s : ℕ) → IsMarked n y p s → CountsClean then p s)) same
-      (behind known script (left_counts old mid s.tries.accounts.counts ∙ left) (limits_of store.store.units) (at_rest m.map)
+      (behind known script (left_counts old mid s.tries.accounts.counts ∙ left) (limits_of_store store.store) (at_rest m.map)
       (adds_all did.added h)
-      (subst (λ (n : ℕ). KeepsScript n known (limits_of store.store.units) store mid (adds_all did.added h) (at_rest m.map))
+      (subst (λ (n : ℕ). KeepsScript n known (limits_of_store store.store) store mid (adds_all did.added h) (at_rest m.map))
       (sym same) (opened_keeps known m.map h steady rests))) in record {
         added = tidy.added ++ first;
         history = tidy.history ∙ ap (option_map (adds_all tidy.added)) opening.tidies.history
@@ -582,48 +580,48 @@ module _ {marks : Bool} (old mid : Told) (store : ScriptStore) (s : StartsOpened
         → RunsScript (script_keeping old.places known) store mid result then new
         → (h : History) (script : List ℕ) → IsSteady h old → old.beside.left ≡ Some script
         → (m : Map) → StoryRests old.places (of known.pages m) h → WereUnused (not marks) old.places h
-        → Runs marks old.places store.store.units (of known.pages m) script h [] old new (ending_of result)
+        → Runs marks old.places (limits_of_store store.store) (of known.pages m) script h [] old new (ending_of result)
     opened_so known (Ok u) run h script steady left m rests besides =
         let (took, takes, did) = s.tries.steps (of known.pages m) h steady rests in
         let taken = took_marked marks old took h steady takes in
-        runs_ended known marks old.places store.store.units m script h did.added did.does.silent
+        runs_ended known marks old.places (limits_of_store store.store) m script h did.added did.does.silent
         (opened_each known m h steady rests)
         (λ base good marked. did.does.lawful.lawful base good (taken base marked))
         (λ were later e split. did.marks tt later e split (were_unused marks old.places h were besides))
         old mid new store then s.tries.accounts.counts.writes did.history
         (λ base marked. did.does.clean refl base (taken base marked))
         (λ were. opened_unused known h steady m rests (were_unused marks old.places h were besides))
-        (run (limits_of store.store.units) (at_rest m) (adds_all did.added h) (opened_keeps known m h
+        (run (limits_of_store store.store) (at_rest m) (adds_all did.added h) (opened_keeps known m h
         steady rests) script (left_counts old mid s.tries.accounts.counts ∙ left))
     opened_so known (Err e) run h script steady left m rests besides =
         let (took, takes, did) = s.tries.steps (of known.pages m) h steady rests in
         let taken = took_marked marks old took h steady takes in
-        runs_stopped known marks old.places store.store.units m script h did.added did.does.silent
+        runs_stopped known marks old.places (limits_of_store store.store) m script h did.added did.does.silent
         (opened_each known m h steady rests)
         (λ base good marked. did.does.lawful.lawful base good (taken base marked))
         (λ were later e split. did.marks tt later e split (were_unused marks old.places h were besides))
         old mid new store then s.tries.accounts.counts.writes did.history
         (λ base marked. did.does.clean refl base (taken base marked))
         (λ were. opened_unused known h steady m rests (were_unused marks old.places h were besides)) e
-        (run (limits_of store.store.units) (at_rest m) (adds_all did.added h) (opened_keeps known m h
+        (run (limits_of_store store.store) (at_rest m) (adds_all did.added h) (opened_keeps known m h
         steady rests) script (left_counts old mid s.tries.accounts.counts ∙ left))
 
     pub opened_runs : (result : Result (Unit {0}) Stop)
         → ((known : KnownPages) → RunsScript (script_keeping mid.places known) store mid result then new)
-        → RunsFrom marks old new (ending_of result)
+        → RunsFrom (slots_of store) marks old new (ending_of result)
     opened_runs result run = λ h script steady left m rests apart besides.
         let known = known_of m apart in
-        subst (λ (n : ℕ). Runs marks old.places n m script h [] old new (ending_of result))
+        subst (λ (n : ℕ). Runs marks old.places (limits_of (slots_of store) n) m script h [] old new (ending_of result))
         (units_told h steady)
         (opened_so known result (subst (λ (n : ℕ). RunsScript (script_keeping n known) store mid result then new)
         s.tries.accounts.counts.places (run known)) h script steady left m.map rests besides)
 
 -- an opening that fails leaves the records
-pub unopened_runs : {marks : Bool} (old new : Told) (end : End) → (n : IsNotOpened marks end old new)
-    → RunsFrom marks old new (Err (Chip n.fault))
-unopened_runs {marks} old new end n = λ h script steady left m rests apart besides.
+pub unopened_runs : {sessions : ℕ} {marks : Bool} (old new : Told) (end : End) → (n : IsNotOpened marks end old new)
+    → RunsFrom sessions marks old new (Err (Chip n.fault))
+unopened_runs {sessions} {marks} old new end n = λ h script steady left m rests apart besides.
     let (took, takes, did) = n.tries.steps m h steady rests in
-    none_failed (known_of m apart) marks old.places (units_at (now h) old.places) m.map script h did.added did.does.silent
+    none_failed (known_of m apart) marks old.places (limits_of sessions (units_at (now h) old.places)) m.map script h did.added did.does.silent
     (moments_as_said old.places m h did.added rests did.each_moment)
     (λ base good marked. did.does.lawful.lawful base good (took_marked marks old took h steady takes base marked))
     (λ were later e split. did.marks tt later e split (were_unused marks old.places h were besides))
@@ -631,7 +629,7 @@ unopened_runs {marks} old new end n = λ h script steady left m rests apart besi
     n.fault (λ unrisen tells. opening_met marks old.places n.fault old new n.tables n.tries h did.added steady.holds)
 
 -- where marks count nothing is asked besides
-pub runs_opened : {old new : Told} {ending : Ending} → RunsFrom true old new ending → RunsOpened old new ending
+pub runs_opened : {sessions : ℕ} {old new : Told} {ending : Ending} → RunsFrom sessions true old new ending → RunsOpened sessions old new ending
 runs_opened runs = λ h script steady left m rests apart. runs h script steady left m rests apart tt
 
 -- and so does what does nothing
@@ -653,18 +651,18 @@ module _ (old new : Told) (is : IsLeftAlone old new) where
   still_each places m h rests = moments_as_said places m h [] rests
       (at_start (λ e. EachStands places m (adds_all e h)) rests.each)
 
-  pub untouched_runs : RunsOpened old new (Err OutOfMemory)
-  untouched_runs = λ h script steady left m rests apart.
-      none_wanting (known_of m apart) true old.places (units_at (now h) old.places) m.map script h [] refl
+  pub untouched_runs : {sessions : ℕ} → RunsOpened sessions old new (Err OutOfMemory)
+  untouched_runs {sessions} = λ h script steady left m rests apart.
+      none_wanting (known_of m apart) true old.places (limits_of sessions (units_at (now h) old.places)) m.map script h [] refl
       (still_each old.places m h rests)
       (λ base good marked. good)
       (at_start (λ e. MarksAreUnused old.places (adds_all e h)))
       old new told_still (left_still script left) (λ unrisen. steady_still h steady)
       (λ unrisen. rests)
 
-  pub untouched_stops : RunsOpened old new (Err (Chip image.Geometry))
-  untouched_stops = λ h script steady left m rests apart.
-      none_failed (known_of m apart) true old.places (units_at (now h) old.places) m.map script h [] refl
+  pub untouched_stops : {sessions : ℕ} → RunsOpened sessions old new (Err (Chip image.Geometry))
+  untouched_stops {sessions} = λ h script steady left m rests apart.
+      none_failed (known_of m apart) true old.places (limits_of sessions (units_at (now h) old.places)) m.map script h [] refl
       (still_each old.places m h rests)
       (λ base good marked. good)
       (at_start (λ e. MarksAreUnused old.places (adds_all e h)))
@@ -710,10 +708,10 @@ module _ (old mid new : Told) (f : WasFormatted old mid) where
       (s ++ base)) did.done.exact (did.lawful base good)
 
   -- a run from there on is one after the events of the format
-  after_format : {ending : Ending} (script : List ℕ) (h : History)
-      → Runs false old.places (units_on old.places) (whole empty) script (adds_all first h) [] mid new ending
-      → Runs false old.places (units_on old.places) (whole empty) script h first old new ending
-  after_format {ending} script h r = let last : History = adds_all r.added
+  after_format : {sessions : ℕ} {ending : Ending} (script : List ℕ) (h : History)
+      → Runs false old.places (limits_of sessions (units_on old.places)) (whole empty) script (adds_all first h) [] mid new ending
+      → Runs false old.places (limits_of sessions (units_on old.places)) (whole empty) script h first old new ending
+  after_format {sessions} {ending} script h r = let last : History = adds_all r.added
       (adds_all first h) in record {
         added = r.added;
         history = r.history ∙ ap (option_map (adds_all r.added)) (sym (same_history mid.history)
@@ -727,7 +725,7 @@ module _ (old mid new : Told) (f : WasFormatted old mid) where
         steady = λ unrisen. r.steady (earlier unrisen);
         rests = λ unrisen. r.rests (earlier unrisen);
         ends = ends_state (λ s. Unrisen mid new → StoryRests old.places (whole s.map) last) (λ s. Unrisen old
-            new → StoryRests old.places (whole s.map) last) (units_on old.places) empty script
+            new → StoryRests old.places (whole s.map) last) (limits_of sessions (units_on old.places)) empty script
             (pieces r.added)
             (λ s so unrisen. so (earlier unrisen)) ending r.ends;
         met = λ unrisen. r.met (earlier unrisen);
@@ -741,13 +739,13 @@ module _ (old mid new : Told) (f : WasFormatted old mid) where
       earlier : Unrisen old new → Unrisen mid new
       earlier = unrisen_later old mid new f.counts.writes
 
-  pub formatted_runs : {ending : Ending} → RunsFrom false mid new ending → RunsFormatted old new ending
-  formatted_runs {ending} runs = λ h script steady left.
+  pub formatted_runs : {sessions : ℕ} {ending : Ending} → RunsFrom sessions false mid new ending → RunsFormatted sessions old new ending
+  formatted_runs {sessions} {ending} runs = λ h script steady left.
       let fresh = fresh_story h steady in
       after_format script h
-      (subst (λ (n : ℕ). Runs false old.places n (whole empty) script (adds_all first h) [] mid new ending)
+      (subst (λ (n : ℕ). Runs false old.places (limits_of sessions n) (whole empty) script (adds_all first h) [] mid new ending)
       (fresh_units h)
-      (subst (λ (q : ℕ). Runs false q (units_at (now (adds_all first h)) q) (whole empty) script
+      (subst (λ (q : ℕ). Runs false q (limits_of sessions (units_at (now (adds_all first h)) q)) (whole empty) script
       (adds_all first h) [] mid new ending) f.counts.places
       (runs (adds_all first h) script fresh.0
       (left_counts old mid f.counts ∙ left) (whole empty)

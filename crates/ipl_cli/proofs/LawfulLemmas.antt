@@ -251,18 +251,18 @@ opened_adds old mid new before then done opened run =
 pub nothing_as_asked : (asked : AskedFor) (t : Told) → AddsAsAsked asked t t
 nothing_as_asked None t = adds_nothing t t refl
 nothing_as_asked (Some (Format spares)) t = adds_nothing t t refl
-nothing_as_asked (Some (Run frames true closes)) t = adds_nothing t t refl
-nothing_as_asked (Some (Run frames false closes)) t = by_no_mark t t (adds_nothing t t refl)
-nothing_as_asked (Some Serial) t = adds_nothing t t refl
+nothing_as_asked (Some (Run frames sessions true closes)) t = adds_nothing t t refl
+nothing_as_asked (Some (Run frames sessions false closes)) t = by_no_mark t t (adds_nothing t t refl)
+nothing_as_asked (Some (Serial sessions)) t = adds_nothing t t refl
 nothing_as_asked (Some Check) t = adds_nothing t t refl
-nothing_as_asked (Some (Trial seed count frames)) t = adds_nothing t t refl
+nothing_as_asked (Some (Trial seed count frames sessions)) t = adds_nothing t t refl
 
 pub noted_as_asked : (asked : AskedFor) (old mid new : Told) → AddsAsAsked asked old mid
     → new ≡ but_noted mid new.beside.noted → AddsAsAsked asked old new
 noted_as_asked None old mid new did only = adds_noted old mid new did only
 noted_as_asked (Some (Format spares)) old mid new did only = adds_noted old mid new did only
-noted_as_asked (Some (Run frames true closes)) old mid new did only = adds_noted old mid new did only
-noted_as_asked (Some (Run frames false closes)) old mid new did only = by_mark_noted old mid new did only
-noted_as_asked (Some Serial) old mid new did only = adds_noted old mid new did only
+noted_as_asked (Some (Run frames sessions true closes)) old mid new did only = adds_noted old mid new did only
+noted_as_asked (Some (Run frames sessions false closes)) old mid new did only = by_mark_noted old mid new did only
+noted_as_asked (Some (Serial sessions)) old mid new did only = adds_noted old mid new did only
 noted_as_asked (Some Check) old mid new did only = adds_noted old mid new did only
-noted_as_asked (Some (Trial seed count frames)) old mid new did only = adds_noted old mid new did only
+noted_as_asked (Some (Trial seed count frames sessions)) old mid new did only = adds_noted old mid new did only

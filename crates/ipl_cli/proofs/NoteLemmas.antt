@@ -16,6 +16,7 @@ use Rattle.ipl_cli.specs.Ending.{AskedFor, Ending, StopsEarly, IsFormatStopped, 
 use Rattle.ipl_cli.specs.Trials.{Trials, TrialsFormatted, TrialsOrStops, TrialLeaves}
 use Rattle.ipl_cli.specs.Top.{OpenedCause, FormatCause, FormattedCause, RequestCause, EndCause, Runs, RunsOpened, RunsFormatted, RunsOrStops, IsLaidOut, LaysOut, OnlyLooks, IsRefused, OpenedRuns, FormatLeaves, FormattedLeaves, OpenedLeaves, EndLeaves, Ends, NoneFalls}
 use Rattle.ipl_cli.proofs.ViewLemmas.{serial_left}
+use Rattle.ipl_model.specs.State.{Limits}
 use Rattle.ipl_cli.proofs.CheckLemmas.{checked_cause, check_left}
 
 module _ (old mid : Told) (noted : Option (List ℕ)) where
@@ -66,23 +67,23 @@ module _ (old mid : Told) (noted : Option (List ℕ)) where
       → RequestCause request end old then
   request_cause request Words c = c
   request_cause (Format spares) (Chip e) c = format_cause spares e c
-  request_cause (Run frames true closes) (Chip e) c = formatted_cause e c
-  request_cause (Run frames false closes) (Chip e) c = opened_cause e c
-  request_cause Serial (Chip e) c = c
+  request_cause (Run frames sessions true closes) (Chip e) c = formatted_cause e c
+  request_cause (Run frames sessions false closes) (Chip e) c = opened_cause e c
+  request_cause (Serial sessions) (Chip e) c = c
   request_cause Check (Chip e) c = checked_cause old mid noted e c
-  request_cause (Trial seed count frames) (Chip e) c = formatted_cause e c
+  request_cause (Trial seed count frames sessions) (Chip e) c = formatted_cause e c
   request_cause request OutOfMemory c = c
   request_cause (Format spares) Script c = c
-  request_cause (Run frames formats closes) Script c = c
-  request_cause Serial Script c = c
+  request_cause (Run frames sessions formats closes) Script c = c
+  request_cause (Serial sessions) Script c = c
   request_cause Check Script c = c
-  request_cause (Trial seed count frames) Script c = c
+  request_cause (Trial seed count frames sessions) Script c = c
   request_cause request Output c = c
   request_cause (Format spares) TooLong c = c
-  request_cause (Run frames formats closes) TooLong c = record { grew = c.grew; told = c.told }
-  request_cause Serial TooLong c = record { grew = c.grew; told = c.told }
+  request_cause (Run frames sessions formats closes) TooLong c = record { grew = c.grew; told = c.told }
+  request_cause (Serial sessions) TooLong c = record { grew = c.grew; told = c.told }
   request_cause Check TooLong c = c
-  request_cause (Trial seed count frames) TooLong c = c
+  request_cause (Trial seed count frames sessions) TooLong c = c
 
   end_cause : (asked : AskedFor) (ending : Ending) → EndCause asked ending old mid
       → EndCause asked ending old then
@@ -94,9 +95,9 @@ module _ (old mid : Told) (noted : Option (List ℕ)) where
   steady_noted : {h : History} → IsSteady h mid → IsSteady h then
   steady_noted steady = record { holds = steady.holds; settled = steady.settled }
 
-  runs_noted : {marks : Bool} {places units : ℕ} {m : Legible} {script : List ℕ} {h : History} {first : List _}
-      {ending : Ending} → Runs marks places units m script h first old mid ending
-      → Runs marks places units m script h first old then ending
+  runs_noted : {marks : Bool} {places : ℕ} {limits : Limits} {m : Legible} {script : List ℕ} {h : History} {first : List _}
+      {ending : Ending} → Runs marks places limits m script h first old mid ending
+      → Runs marks places limits m script h first old then ending
   runs_noted r = record {
     added = r.added;
     history = r.history;
@@ -128,9 +129,9 @@ module _ (old mid : Told) (noted : Option (List ℕ)) where
     noted = ap (λ (t : Told). but_noted t noted) s.noted;
   }
 
-  trials_noted : {places : ℕ} {commands : List Command} {h : History} {first : List _}
-      {ending : Ending} → Trials places commands h first old mid ending
-      → Trials places commands h first old then ending
+  trials_noted : {sessions places : ℕ} {commands : List Command} {h : History} {first : List _}
+      {ending : Ending} → Trials sessions places commands h first old mid ending
+      → Trials sessions places commands h first old then ending
   trials_noted t = record {
     added = t.added;
     history = t.history;
@@ -172,17 +173,17 @@ module _ (old mid : Told) (noted : Option (List ℕ)) where
   untouched_noted : IsLeftAlone old mid → IsLeftAlone old then
   untouched_noted is = ap (λ (t : Told). but_noted t noted) is
 
-  formatted_noted : {ending : Ending} → RunsFormatted old mid ending → RunsFormatted old then ending
+  formatted_noted : {sessions : ℕ} {ending : Ending} → RunsFormatted sessions old mid ending → RunsFormatted sessions old then ending
   formatted_noted runs = λ h script steady left. runs_noted (runs h script steady left)
 
-  opened_noted : {ending : Ending} → RunsOpened old mid ending → RunsOpened old then ending
+  opened_noted : {sessions : ℕ} {ending : Ending} → RunsOpened sessions old mid ending → RunsOpened sessions old then ending
   opened_noted runs = λ h script steady left m rests apart. runs_noted (runs h script steady left m rests apart)
 
   stopped_noted : {units : ℕ} {ending : Ending} → IsFormatStopped units old mid ending
       → IsFormatStopped units old then ending
   stopped_noted stops = λ h. stops_noted (stops h)
 
-  either_noted : {ending : Ending} → RunsOrStops old mid ending → RunsOrStops old then ending
+  either_noted : {sessions : ℕ} {ending : Ending} → RunsOrStops sessions old mid ending → RunsOrStops sessions old then ending
   either_noted left = λ h script steady left_is. elim (left h script steady left_is) [
     | inl runs ↦ inl (runs_noted runs)
     | inr stops ↦ inr (stops_noted stops)
@@ -210,18 +211,18 @@ module _ (old mid : Told) (noted : Option (List ℕ)) where
   format_left spares (Err Output) l = lays_out_noted spares l
   format_left spares (Err TooLong) l = l
 
-  formatted_left : (ending : Ending) → FormattedLeaves ending old mid
-      → FormattedLeaves ending old then
-  formatted_left (Ok u) l = (formatted_noted l.0, l.1)
-  formatted_left (Err Words) l = l
-  formatted_left (Err (Chip e)) (inl other) = inl (other.0, other.1, untouched_noted other.2)
-  formatted_left (Err (Chip e)) (inr ran) = inr (ran.0, either_noted ran.1)
-  formatted_left (Err OutOfMemory) l = untouched_noted l
-  formatted_left (Err Script) l = formatted_noted l
-  formatted_left (Err Output) l = formatted_noted l
-  formatted_left (Err TooLong) l = formatted_noted l
+  formatted_left : (sessions : ℕ) (ending : Ending) → FormattedLeaves sessions ending old mid
+      → FormattedLeaves sessions ending old then
+  formatted_left sessions (Ok u) l = (formatted_noted l.0, l.1)
+  formatted_left sessions (Err Words) l = l
+  formatted_left sessions (Err (Chip e)) (inl other) = inl (other.0, other.1, untouched_noted other.2)
+  formatted_left sessions (Err (Chip e)) (inr ran) = inr (ran.0, either_noted ran.1)
+  formatted_left sessions (Err OutOfMemory) l = untouched_noted l
+  formatted_left sessions (Err Script) l = formatted_noted l
+  formatted_left sessions (Err Output) l = formatted_noted l
+  formatted_left sessions (Err TooLong) l = formatted_noted l
 
-  opened_runs_noted : {ending : Ending} → OpenedRuns old mid ending → OpenedRuns old then ending
+  opened_runs_noted : {sessions : ℕ} {ending : Ending} → OpenedRuns sessions old mid ending → OpenedRuns sessions old then ending
   opened_runs_noted l = record {
     runs = opened_noted l.runs;
     read = l.read;
@@ -230,55 +231,55 @@ module _ (old mid : Told) (noted : Option (List ℕ)) where
         l.fits;
   }
 
-  opened_left : (ending : Ending) → OpenedLeaves ending old mid → OpenedLeaves ending old then
-  opened_left (Ok u) l = opened_runs_noted l
-  opened_left (Err Words) l = l
-  opened_left (Err (Chip e)) l = record {
+  opened_left : (sessions : ℕ) (ending : Ending) → OpenedLeaves sessions ending old mid → OpenedLeaves sessions ending old then
+  opened_left sessions (Ok u) l = opened_runs_noted l
+  opened_left sessions (Err Words) l = l
+  opened_left sessions (Err (Chip e)) l = record {
     runs = opened_noted l.runs;
     refused = refused_noted
         l.refused;
     other = λ misfit. untouched_noted (l.other misfit);
   }
-  opened_left (Err OutOfMemory) l = untouched_noted l
-  opened_left (Err Script) l = opened_runs_noted l
-  opened_left (Err Output) l = opened_runs_noted l
-  opened_left (Err TooLong) l = opened_runs_noted l
+  opened_left sessions (Err OutOfMemory) l = untouched_noted l
+  opened_left sessions (Err Script) l = opened_runs_noted l
+  opened_left sessions (Err Output) l = opened_runs_noted l
+  opened_left sessions (Err TooLong) l = opened_runs_noted l
 
-  anew_noted : (seed count : ℕ) {ending : Ending} → TrialsFormatted seed count old mid ending
-      → TrialsFormatted seed count old then ending
+  anew_noted : {sessions : ℕ} (seed count : ℕ) {ending : Ending} → TrialsFormatted sessions seed count old mid ending
+      → TrialsFormatted sessions seed count old then ending
   anew_noted seed count trials = λ h steady. trials_noted (trials h steady)
 
-  anew_or_stopped : (seed count : ℕ) {ending : Ending} → TrialsOrStops seed count old mid ending
-      → TrialsOrStops seed count old then ending
+  anew_or_stopped : {sessions : ℕ} (seed count : ℕ) {ending : Ending} → TrialsOrStops sessions seed count old mid ending
+      → TrialsOrStops sessions seed count old then ending
   anew_or_stopped seed count left = λ h steady. elim (left h steady) [
     | inl trials ↦ inl (trials_noted trials)
     | inr stops ↦ inr (stops_noted stops)
   ]
 
-  trial_left : (seed count : ℕ) (ending : Ending) → TrialLeaves seed count ending old mid
-      → TrialLeaves seed count ending old then
-  trial_left seed count (Ok u) l = anew_noted seed count l
-  trial_left seed count (Err Words) l = l
-  trial_left seed count (Err (Chip e)) (inl other) = inl (other.0, other.1, untouched_noted other.2)
-  trial_left seed count (Err (Chip e)) (inr tried) = inr (
+  trial_left : (sessions : ℕ) (seed count : ℕ) (ending : Ending) → TrialLeaves sessions seed count ending old mid
+      → TrialLeaves sessions seed count ending old then
+  trial_left sessions seed count (Ok u) l = anew_noted seed count l
+  trial_left sessions seed count (Err Words) l = l
+  trial_left sessions seed count (Err (Chip e)) (inl other) = inl (other.0, other.1, untouched_noted other.2)
+  trial_left sessions seed count (Err (Chip e)) (inr tried) = inr (
     tried.0,
     anew_or_stopped seed count
         tried.1,
   )
-  trial_left seed count (Err OutOfMemory) l = untouched_noted l
-  trial_left seed count (Err Script) l = l
-  trial_left seed count (Err Output) l = anew_noted seed count l
-  trial_left seed count (Err TooLong) l = l
+  trial_left sessions seed count (Err OutOfMemory) l = untouched_noted l
+  trial_left sessions seed count (Err Script) l = l
+  trial_left sessions seed count (Err Output) l = anew_noted seed count l
+  trial_left sessions seed count (Err TooLong) l = l
 
   end_left : (asked : AskedFor) (ending : Ending) → EndLeaves asked ending old mid
       → EndLeaves asked ending old then
   end_left None ending l = untouched_noted l
   end_left (Some (Format spares)) ending l = format_left spares ending l
-  end_left (Some (Run frames true closes)) ending l = formatted_left ending l
-  end_left (Some (Run frames false closes)) ending l = opened_left ending l
-  end_left (Some Serial) ending l = serial_left old mid noted ending l
+  end_left (Some (Run frames sessions true closes)) ending l = formatted_left sessions ending l
+  end_left (Some (Run frames sessions false closes)) ending l = opened_left sessions ending l
+  end_left (Some (Serial sessions)) ending l = serial_left old mid noted sessions ending l
   end_left (Some Check) ending l = check_left old mid noted ending l
-  end_left (Some (Trial seed count frames)) ending l = trial_left seed count ending l
+  end_left (Some (Trial seed count frames sessions)) ending l = trial_left sessions seed count ending l
 
 -- all that is to be known of the end
 pub ends : (asked : AskedFor) (ending : Ending) (old mid new : Told) (status : ℕ)

@@ -46,13 +46,13 @@ use Rattle.place_taking.proofs.SpendingLemmas.{or_right}
 use Rattle.selective_merge.specs.Homes.{WearCause}
 use Rattle.restart.specs.Recovers.{FailsByCallAlone, OpeningCause, tells_wear}
 use Rattle.restart.proofs.ReadyLemmas.{layouts_say}
-use Rattle.store_laws.specs.Keeps.{KnownPages, all_pages, IsWornCount, FaultTells, StoreCause, limits_of}
+use Rattle.store_laws.specs.Keeps.{KnownPages, all_pages, IsWornCount, FaultTells, StoreCause}
 use Rattle.script_run.specs.declared.fault.Stop.{Stop}
 use Rattle.script_run.specs.declared.fault.Stop.TheVariants as stop
 use Rattle.script_run.specs.Goes.{StopCause, StopWears, LearnsAlong, KeepsSome, CompletesOver, ReadsAll}
 use Rattle.page_frames.specs.Pages.{tables_in}
 use Rattle.ipl_store.specs.declared.store.Store.{Store}
-use Rattle.ipl_store.specs.Calls.{counter_of, IsSound}
+use Rattle.ipl_store.specs.Calls.{counter_of, IsSound, limits_of_store}
 use Rattle.ipl_store.specs.Openings.{OpensStore, Tries}
 use Rattle.script_store.specs.declared.store.ScriptStore.{ScriptStore}
 use Rattle.script_store.specs.Keeps.{IsRunning, script_keeping, next_number}
@@ -64,7 +64,7 @@ use Rattle.command_line.specs.declared.end.End.TheVariants.{Words, Chip, OutOfMe
 use Rattle.command_line.specs.declared.asked.Request.TheVariants.{Run}
 use Rattle.ipl_cli.specs.Ending.{Ending, StopsEarly, StopRose, format_end}
 use Rattle.ipl_cli.specs.Top.{IsLaidWell, RestsWithNumbersLeft, IsMetLater, LaidCause, UsedUpCause, RestsOnSome, IsMetAgain, IsAtFault, StrayCause, OpenedCause, WornOutCause, AnewCause, FormattedCause, FindsWorn, IsTooLong, RequestCause, EndCause, RunsOpened, IsRefused, OpenedRuns, FormattedLeaves, OpenedLeaves}
-use Rattle.ipl_cli.specs.Runs.{RunsFrom, MakesStore, StartsOpened, IsNotOpened, WasFormatted, IsNotFormatted, StartsFormatted, IsNotStarted, RunsOver, end_of, ending_of}
+use Rattle.ipl_cli.specs.Runs.{RunsFrom, MakesStore, StartsOpened, IsNotOpened, WasFormatted, IsNotFormatted, StartsFormatted, IsNotStarted, RunsOver, end_of, ending_of, slots_of}
 use Rattle.ipl_cli.proofs.EarlierLemmas.{reads_earlier, writes_earlier, worn_earlier, script_earlier, says_earlier, long_earlier}
 use Rattle.ipl_cli.proofs.WornLemmas.{format_finds, fresh_finds}
 use Rattle.ipl_cli.proofs.EndLemmas.{left_counts, stopped_early, units_told, opened_keeps, opened_runs, runs_opened, unopened_runs, untouched_stops, formatted_runs, fresh_story, fresh_units}
@@ -239,13 +239,13 @@ module _ {marks : Bool} (old new : Told) (end : End) (n : IsNotOpened marks end 
   pub unopened_cause : OpenedCause n.fault old new
   unopened_cause = unopened_by n.fault refl n.tries.accounts.cause
 
-  pub unopened_ends : (frames : ℕ) (closes : Bool) → RequestCause (Run frames false closes) end old new
-  unopened_ends frames closes = subst (λ (e : End). RequestCause (Run frames false closes) e old new)
+  pub unopened_ends : (frames sessions : ℕ) (closes : Bool) → RequestCause (Run frames sessions false closes) end old new
+  unopened_ends frames sessions closes = subst (λ (e : End). RequestCause (Run frames sessions false closes) e old new)
       (sym n.end_is) unopened_cause
 
 -- and it is left so, where its marks count
-pub unopened_left : (old new : Told) (end : End) → IsNotOpened true end old new → OpenedLeaves (Err end) old new
-unopened_left old new end n = subst (λ (e : End). OpenedLeaves (Err e) old new) (sym n.end_is)
+pub unopened_left : (sessions : ℕ) (old new : Told) (end : End) → IsNotOpened true end old new → OpenedLeaves sessions (Err end) old new
+unopened_left sessions old new end n = subst (λ (e : End). OpenedLeaves sessions (Err e) old new) (sym n.end_is)
     (record {
       runs = runs_opened (unopened_runs old new end n);
       refused = refused old new end n;
@@ -274,9 +274,9 @@ module _ {marks : Bool} (old mid : Told) (store : ScriptStore) (s : StartsOpened
 
     -- it keeps the records on which a history rests
     keeps_some : (known : KnownPages) (m : Map) (h : History) → IsSteady h old → StoryRests old.places (of known.pages m) h
-        → KeepsSome (script_keeping mid.places known) (limits_of store.store.units) store mid
+        → KeepsSome (script_keeping mid.places known) (limits_of_store store.store) store mid
     keeps_some known m h steady rests = subst (λ (n : ℕ).
-        KeepsSome (script_keeping n known) (limits_of store.store.units) store mid)
+        KeepsSome (script_keeping n known) (limits_of_store store.store) store mid)
         (sym s.tries.accounts.counts.places) (record {
           state = at_rest m;
           history = adds_all (s.tries.steps (of known.pages m) h steady rests).2.added h;
@@ -286,7 +286,7 @@ module _ {marks : Bool} (old mid : Told) (store : ScriptStore) (s : StartsOpened
     -- the store of a sound chip fails only where a call of the chip failed, and says so
     excused : (f : Fault) → Completes (stop.Store f) → RestsWithNumbersLeft old → SaysFailedCall f
     excused f completes sound =
-        let done = completes all_pages (limits_of store.store.units)
+        let done = completes all_pages (limits_of_store store.store)
         (keeps_some all_pages sound.map sound.history sound.steady sound.rests) in
         let number : counter_of store.store ≤ greatest_found (now sound.history) old.places + 1 + 2 ^ 14 =
         (s.opens.number _ sound.steady.holds).1 in
@@ -309,7 +309,7 @@ module _ {marks : Bool} (old mid : Told) (store : ScriptStore) (s : StartsOpened
         subst (λ (u : ℕ). FaultTells (spares_on old.places u) f) (units_told old mid store s h steady)
         (subst (λ (p : ℕ). FaultTells (spares_on p store.store.units) f)
         s.tries.accounts.counts.places
-        ((completes known (limits_of store.store.units) (keeps_some known m h steady rests)).tells f refl))
+        ((completes known (limits_of_store store.store) (keeps_some known m h steady rests)).tells f refl))
 
     -- what never comes so was met where no history rests on records
     met_again : (f : Fault) → Tells f → ((spares : ℕ) → FaultTells spares f → ⊥) → IsMetAgain old
@@ -355,41 +355,41 @@ module _ {marks : Bool} (old mid : Told) (store : ScriptStore) (s : StartsOpened
         inr (met_again (fault.Image (image.NoSpare k)) tells (λ spares none. none))
 
     -- why the run stops
-    stop_cause : (frames : ℕ) (closes : Bool) (e : Stop) → Completes e
+    stop_cause : (frames sessions : ℕ) (closes : Bool) (e : Stop) → Completes e
         → StopCause (script_keeping mid.places all_pages) mid new e
         → StopWears (script_keeping mid.places all_pages) old e new
         → (e ≡ stop.Store fault.Spent → ⊥) → (e ≡ stop.TooLong → IsTooLong mid new)
-        → RequestCause (Run frames false closes) (end_of e) old new
-    stop_cause frames closes (stop.Store (fault.Chip c)) completes cause wears unspent long = chip_met c
+        → RequestCause (Run frames sessions false closes) (end_of e) old new
+    stop_cause frames sessions closes (stop.Store (fault.Chip c)) completes cause wears unspent long = chip_met c
         (later (fault.Chip c) completes) (tells_so (fault.Chip c) completes) wears cause
-    stop_cause frames closes (stop.Store (fault.Image e)) completes cause wears unspent long = image_met e
+    stop_cause frames sessions closes (stop.Store (fault.Image e)) completes cause wears unspent long = image_met e
         (later (fault.Image e) completes) (tells_so (fault.Image e) completes) wears cause
-    stop_cause frames closes (stop.Store fault.Spent) completes cause wears unspent long =
+    stop_cause frames sessions closes (stop.Store fault.Spent) completes cause wears unspent long =
         absurd (unspent refl)
-    stop_cause frames closes stop.Script completes cause wears unspent long = script_earlier old mid new
+    stop_cause frames sessions closes stop.Script completes cause wears unspent long = script_earlier old mid new
         s.tries.accounts.counts cause
-    stop_cause frames closes stop.Output completes cause wears unspent long = says_earlier old mid new
+    stop_cause frames sessions closes stop.Output completes cause wears unspent long = says_earlier old mid new
         s.tries.accounts.counts cause
-    stop_cause frames closes stop.TooLong completes cause wears unspent long = long_earlier old mid new
+    stop_cause frames sessions closes stop.TooLong completes cause wears unspent long = long_earlier old mid new
         s.tries.accounts.counts (long refl)
 
-    pub over_cause : (frames : ℕ) (closes : Bool) (result : Result (Unit {0}) Stop)
+    pub over_cause : (frames sessions : ℕ) (closes : Bool) (result : Result (Unit {0}) Stop)
         → ((known : KnownPages)
         → CompletesOver (script_keeping mid.places known) (SCRIPT_DRAWS + WORK_DRAWS) store mid result then new)
         → IfErr result (λ e. StopCause (script_keeping mid.places all_pages) mid new e)
         → LearnsAlong (script_keeping mid.places all_pages) store mid result then new
         → (IsErrOf result (stop.Store fault.Spent) → ⊥)
         → (IsErrOf result stop.TooLong → IsTooLong mid new)
-        → EndCause (Some (Run frames false closes)) (ending_of result) old new
-    over_cause frames closes (Ok u) completes cause learns unspent long = tt
-    over_cause frames closes (Err e) completes cause learns unspent long = stop_cause frames closes e completes
+        → EndCause (Some (Run frames sessions false closes)) (ending_of result) old new
+    over_cause frames sessions closes (Ok u) completes cause learns unspent long = tt
+    over_cause frames sessions closes (Err e) completes cause learns unspent long = stop_cause frames sessions closes e completes
         cause (learns old (opening_knows old mid store s.opens s.tries))
         (λ is. unspent (err_of is)) (λ is. long (err_of is))
 
-    pub opened_cause : (frames : ℕ) (closes : Bool) (ending : Ending) → RunsOver ending store mid then new
-        → EndCause (Some (Run frames false closes)) ending old new
-    opened_cause frames closes ending r = subst (λ (e : Ending). EndCause (Some (Run frames false closes)) e old
-        new) (sym r.ending_is) (over_cause frames closes r.result r.run.completes r.run.cause r.run.learns
+    pub opened_cause : (frames sessions : ℕ) (closes : Bool) (ending : Ending) → RunsOver ending store mid then new
+        → EndCause (Some (Run frames sessions false closes)) ending old new
+    opened_cause frames sessions closes ending r = subst (λ (e : Ending). EndCause (Some (Run frames sessions false closes)) e old
+        new) (sym r.ending_is) (over_cause frames sessions closes r.result r.run.completes r.run.cause r.run.learns
         r.run.unspent r.run.long)
 
   -- all that was left of the script before the opening was read
@@ -401,8 +401,8 @@ module _ {marks : Bool} (old mid : Told) (store : ScriptStore) (s : StartsOpened
 -- what is left of it, where its marks count
 module _ (old mid : Told) (store : ScriptStore) (s : StartsOpened true old store mid)
     (then : ScriptStore) (new : Told) where
-  stops : (e : ImageFault) → RunsOpened old new (Err (Chip e))
-      → OpenedLeaves (Err (Chip e)) old new
+  stops : (e : ImageFault) → RunsOpened (slots_of store) old new (Err (Chip e))
+      → OpenedLeaves (slots_of store) (Err (Chip e)) old new
   stops e runs = record {
     runs = runs;
     refused = λ f has. absurd (none_is_some (sym (opened_laid old mid store s has.contents has.told) ∙
@@ -410,8 +410,8 @@ module _ (old mid : Told) (store : ScriptStore) (s : StartsOpened true old store
     other = λ misfit. absurd (misfit s.running.sound.made.geometry);
   }
 
-  ran : (ending : Ending) → RunsOpened old new ending → (ending ≡ Ok tt → ReadsAll old new)
-      → OpenedRuns old new ending
+  ran : (ending : Ending) → RunsOpened (slots_of store) old new ending → (ending ≡ Ok tt → ReadsAll old new)
+      → OpenedRuns (slots_of store) old new ending
   ran ending runs read = record {
     runs = runs;
     read = read;
@@ -419,8 +419,8 @@ module _ (old mid : Told) (store : ScriptStore) (s : StartsOpened true old store
     fits = s.running.sound.made.geometry;
   }
 
-  leaves_by : (result : Result (Unit {0}) Stop) → RunsOpened old new (ending_of result)
-      → OnOk result (ReadsAll old new) → OpenedLeaves (ending_of result) old new
+  leaves_by : (result : Result (Unit {0}) Stop) → RunsOpened (slots_of store) old new (ending_of result)
+      → OnOk result (ReadsAll old new) → OpenedLeaves (slots_of store) (ending_of result) old new
   leaves_by (Ok u) runs all = ran (Ok u) runs (λ is. all)
   leaves_by (Err (stop.Store (fault.Chip c))) runs all = stops (image.Chip c) runs
   leaves_by (Err (stop.Store (fault.Image e))) runs all = stops e runs
@@ -430,56 +430,56 @@ module _ (old mid : Told) (store : ScriptStore) (s : StartsOpened true old store
   leaves_by (Err stop.TooLong) runs all = ran (Err TooLong) runs (λ is. absurd cc)
 
   pub opened_left : (ending : Ending) → RunsOver ending store mid then new
-      → OpenedLeaves ending old new
-  opened_left ending r = subst (λ (e : Ending). OpenedLeaves e old new) (sym r.ending_is)
+      → OpenedLeaves (slots_of store) ending old new
+  opened_left ending r = subst (λ (e : Ending). OpenedLeaves (slots_of store) e old new) (sym r.ending_is)
       (leaves_by r.result (runs_opened (opened_runs old mid store s then new r.result r.run.runs))
       (read_before old mid store s new r.result r.run.read))
 
 -- ---- memory that was wanting, and other numbers of places
 
 module _ (t : Told) where
-  pub closed_left : (end : End) → MakesStore t.places (Err end) → OpenedLeaves (Err end) t t
-  closed_left Words c = absurd c
-  closed_left (Chip e) c = record {
-    runs = subst (λ (f : ImageFault). RunsOpened t t (Err (Chip f))) (sym c.1) (untouched_stops t t refl);
+  pub closed_left : (sessions : ℕ) (end : End) → MakesStore t.places (Err end) → OpenedLeaves sessions (Err end) t t
+  closed_left sessions Words c = absurd c
+  closed_left sessions (Chip e) c = record {
+    runs = subst (λ (f : ImageFault). RunsOpened sessions t t (Err (Chip f))) (sym c.1) (untouched_stops t t refl);
     refused = λ f has. (
       record { read = t; reads = reads_none t; noted = refl },
       inl (c.1 ∙ sym (some_one (sym has.fault ∙ size_first (chart_of has.contents) t.places c.0))),
     );
     other = λ misfit. refl;
   }
-  closed_left OutOfMemory c = refl
-  closed_left Script c = absurd c
-  closed_left Output c = absurd c
-  closed_left TooLong c = absurd c
+  closed_left sessions OutOfMemory c = refl
+  closed_left sessions Script c = absurd c
+  closed_left sessions Output c = absurd c
+  closed_left sessions TooLong c = absurd c
 
-  pub closed_cause : (frames : ℕ) (closes : Bool) (end : End) → MakesStore t.places (Err end)
-      → RequestCause (Run frames false closes) end t t
-  closed_cause frames closes Words c = absurd c
-  closed_cause frames closes (Chip e) c = subst (λ (f : ImageFault). OpenedCause f t t) (sym c.1)
+  pub closed_cause : (frames sessions : ℕ) (closes : Bool) (end : End) → MakesStore t.places (Err end)
+      → RequestCause (Run frames sessions false closes) end t t
+  closed_cause frames sessions closes Words c = absurd c
+  closed_cause frames sessions closes (Chip e) c = subst (λ (f : ImageFault). OpenedCause f t t) (sym c.1)
       (inl (λ x told. size_first (chart_of x) t.places c.0))
-  closed_cause frames closes OutOfMemory c = tt
-  closed_cause frames closes Script c = absurd c
-  closed_cause frames closes Output c = absurd c
-  closed_cause frames closes TooLong c = absurd c
+  closed_cause frames sessions closes OutOfMemory c = tt
+  closed_cause frames sessions closes Script c = absurd c
+  closed_cause frames sessions closes Output c = absurd c
+  closed_cause frames sessions closes TooLong c = absurd c
 
-  pub unmade_left : (end : End) → MakesStore t.places (Err end) → FormattedLeaves (Err end) t t
-  unmade_left Words c = absurd c
-  unmade_left (Chip e) c = inl (c.0, c.1, refl)
-  unmade_left OutOfMemory c = refl
-  unmade_left Script c = absurd c
-  unmade_left Output c = absurd c
-  unmade_left TooLong c = absurd c
+  pub unmade_left : (sessions : ℕ) (end : End) → MakesStore t.places (Err end) → FormattedLeaves sessions (Err end) t t
+  unmade_left sessions Words c = absurd c
+  unmade_left sessions (Chip e) c = inl (c.0, c.1, refl)
+  unmade_left sessions OutOfMemory c = refl
+  unmade_left sessions Script c = absurd c
+  unmade_left sessions Output c = absurd c
+  unmade_left sessions TooLong c = absurd c
 
-  pub unmade_cause : (frames : ℕ) (closes : Bool) (end : End) → MakesStore t.places (Err end)
-      → RequestCause (Run frames true closes) end t t
-  unmade_cause frames closes Words c = absurd c
-  unmade_cause frames closes (Chip e) c = subst (λ (f : ImageFault). FormattedCause f t t) (sym c.1)
+  pub unmade_cause : (frames sessions : ℕ) (closes : Bool) (end : End) → MakesStore t.places (Err end)
+      → RequestCause (Run frames sessions true closes) end t t
+  unmade_cause frames sessions closes Words c = absurd c
+  unmade_cause frames sessions closes (Chip e) c = subst (λ (f : ImageFault). FormattedCause f t t) (sym c.1)
       (inl c.0)
-  unmade_cause frames closes OutOfMemory c = tt
-  unmade_cause frames closes Script c = absurd c
-  unmade_cause frames closes Output c = absurd c
-  unmade_cause frames closes TooLong c = absurd c
+  unmade_cause frames sessions closes OutOfMemory c = tt
+  unmade_cause frames sessions closes Script c = absurd c
+  unmade_cause frames sessions closes Output c = absurd c
+  unmade_cause frames sessions closes TooLong c = absurd c
 
 -- ---- a chip that is formatted first
 
@@ -572,32 +572,32 @@ module _ (old mid : Told) (f : WasFormatted old mid) where
     anew_by (image.NoSpare k) c = laid_anew (image.NoSpare k) c
 
     -- why a run over it ends
-    ends_anew : (frames : ℕ) (closes : Bool) (end : End) → RequestCause (Run frames false closes) end mid new
-        → RequestCause (Run frames true closes) end old new
-    ends_anew frames closes Words c = absurd c
-    ends_anew frames closes (Chip e) c = anew_by e c
-    ends_anew frames closes OutOfMemory c = tt
-    ends_anew frames closes Script c = script_earlier old mid new f.counts c
-    ends_anew frames closes Output c = says_earlier old mid new f.counts c
-    ends_anew frames closes TooLong c = long_earlier old mid new f.counts c
+    ends_anew : (frames sessions : ℕ) (closes : Bool) (end : End) → RequestCause (Run frames sessions false closes) end mid new
+        → RequestCause (Run frames sessions true closes) end old new
+    ends_anew frames sessions closes Words c = absurd c
+    ends_anew frames sessions closes (Chip e) c = anew_by e c
+    ends_anew frames sessions closes OutOfMemory c = tt
+    ends_anew frames sessions closes Script c = script_earlier old mid new f.counts c
+    ends_anew frames sessions closes Output c = says_earlier old mid new f.counts c
+    ends_anew frames sessions closes TooLong c = long_earlier old mid new f.counts c
 
-    pub unopened_anew : (frames : ℕ) (closes : Bool) (end : End) → IsNotOpened false end mid new
-        → RequestCause (Run frames true closes) end old new
-    unopened_anew frames closes end n = ends_anew frames closes end (unopened_ends mid new end n frames closes)
+    pub unopened_anew : (frames sessions : ℕ) (closes : Bool) (end : End) → IsNotOpened false end mid new
+        → RequestCause (Run frames sessions true closes) end old new
+    unopened_anew frames sessions closes end n = ends_anew frames sessions closes end (unopened_ends mid new end n frames sessions closes)
 
-    stops_anew : (e : ImageFault) → RunsFrom false mid new (Err (Chip e)) → FormattedLeaves (Err (Chip e)) old new
+    stops_anew : {sessions : ℕ} (e : ImageFault) → RunsFrom sessions false mid new (Err (Chip e)) → FormattedLeaves sessions (Err (Chip e)) old new
     stops_anew e runs = inr (
       f.fits,
       λ h script steady left. inl (formatted_runs old mid new f runs h script steady left),
     )
 
-    pub unopened_stops : (end : End) → IsNotOpened false end mid new → FormattedLeaves (Err end) old new
-    unopened_stops end n = subst (λ (e : End). FormattedLeaves (Err e) old new) (sym n.end_is)
+    pub unopened_stops : (sessions : ℕ) (end : End) → IsNotOpened false end mid new → FormattedLeaves sessions (Err end) old new
+    unopened_stops sessions end n = subst (λ (e : End). FormattedLeaves sessions (Err e) old new) (sym n.end_is)
         (stops_anew n.fault (unopened_runs mid new end n))
 
     -- and what it leaves
-    leaves_anew : (result : Result (Unit {0}) Stop) → RunsFrom false mid new (ending_of result)
-        → OnOk result (ReadsAll mid new) → FormattedLeaves (ending_of result) old new
+    leaves_anew : {sessions : ℕ} (result : Result (Unit {0}) Stop) → RunsFrom sessions false mid new (ending_of result)
+        → OnOk result (ReadsAll mid new) → FormattedLeaves sessions (ending_of result) old new
     leaves_anew (Ok u) runs all = (
       formatted_runs old mid new f runs,
       λ source told. all source (left_counts old mid f.counts ∙ told),
@@ -612,22 +612,22 @@ module _ (old mid : Told) (f : WasFormatted old mid) where
 module _ (old mid : Told) (store : ScriptStore) (s : StartsFormatted old store mid)
     (then : ScriptStore) (new : Told) where
   pub formatted_left : (ending : Ending) → RunsOver ending store mid then new
-      → FormattedLeaves ending old new
-  formatted_left ending r = subst (λ (e : Ending). FormattedLeaves e old new) (sym r.ending_is)
+      → FormattedLeaves (slots_of store) ending old new
+  formatted_left ending r = subst (λ (e : Ending). FormattedLeaves (slots_of store) e old new) (sym r.ending_is)
       (leaves_anew old s.formatted s.formats new r.result
       (opened_runs s.formatted mid store s.opened then new r.result r.run.runs)
       (read_before s.formatted mid store s.opened new r.result r.run.read))
 
-  pub cause_anew : (frames : ℕ) (closes : Bool) (ending : Ending)
-      → EndCause (Some (Run frames false closes)) ending s.formatted new
-      → EndCause (Some (Run frames true closes)) ending old new
-  cause_anew frames closes (Ok u) c = tt
-  cause_anew frames closes (Err end) c = ends_anew old s.formatted s.formats new frames closes end c
+  pub cause_anew : (frames sessions : ℕ) (closes : Bool) (ending : Ending)
+      → EndCause (Some (Run frames sessions false closes)) ending s.formatted new
+      → EndCause (Some (Run frames sessions true closes)) ending old new
+  cause_anew frames sessions closes (Ok u) c = tt
+  cause_anew frames sessions closes (Err end) c = ends_anew old s.formatted s.formats new frames sessions closes end c
 
-  pub formatted_cause : (frames : ℕ) (closes : Bool) (ending : Ending) → RunsOver ending store mid then new
-      → EndCause (Some (Run frames true closes)) ending old new
-  formatted_cause frames closes ending r = cause_anew frames closes ending (opened_cause s.formatted mid store
-      s.opened then new frames closes ending r)
+  pub formatted_cause : (frames sessions : ℕ) (closes : Bool) (ending : Ending) → RunsOver ending store mid then new
+      → EndCause (Some (Run frames sessions true closes)) ending old new
+  formatted_cause frames sessions closes ending r = cause_anew frames sessions closes ending (opened_cause s.formatted mid store
+      s.opened then new frames sessions closes ending r)
 
 module _ (old mid : Told) (store : ScriptStore) (s : StartsFormatted old store mid) where
   pub formatted_running : IsRunning mid.places store
@@ -663,37 +663,37 @@ module _ (old new : Told) (end : End) (n : IsNotFormatted end old new) where
   pub stopped_end : (e : ImageFault) × (end ≡ Chip e) × FormattedCause e old new
   stopped_end = stopped_at n.fault n.end_is n.rose n.found
 
-  pub stopped_left : FormattedLeaves (Err end) old new
-  stopped_left =
+  pub stopped_left : (sessions : ℕ) → FormattedLeaves sessions (Err end) old new
+  stopped_left sessions =
       let (e, is, cause) = stopped_end in
-      subst (λ (last : End). FormattedLeaves (Err last) old new) (sym is)
+      subst (λ (last : End). FormattedLeaves sessions (Err last) old new) (sym is)
       (inr (
         n.fits,
         λ h script steady left. inr (subst (λ (last : End).
             StopsEarly old.places (units_on old.places) h old new (Err last)) is (n.stops h)),
       ))
 
-  pub stopped_cause : (frames : ℕ) (closes : Bool) → RequestCause (Run frames true closes) end old new
-  stopped_cause frames closes =
+  pub stopped_cause : (frames sessions : ℕ) (closes : Bool) → RequestCause (Run frames sessions true closes) end old new
+  stopped_cause frames sessions closes =
       let (e, is, cause) = stopped_end in
-      subst (λ (last : End). RequestCause (Run frames true closes) last old new) (sym is) cause
+      subst (λ (last : End). RequestCause (Run frames sessions true closes) last old new) (sym is) cause
 
 -- ---- a run that isn't started
 
 module _ (old new : Told) where
-  pub not_started_left : (end : End) → IsNotStarted end old new → FormattedLeaves (Err end) old new
-  not_started_left end (inl unmade) = subst (FormattedLeaves (Err end) old) (sym unmade.1)
-      (unmade_left old end unmade.0)
-  not_started_left end (inr (inl stopped)) = stopped_left old new end stopped
-  not_started_left end (inr (inr (formatted, f, n))) = unopened_stops old formatted f new end n
+  pub not_started_left : (sessions : ℕ) (end : End) → IsNotStarted end old new → FormattedLeaves sessions (Err end) old new
+  not_started_left sessions end (inl unmade) = subst (FormattedLeaves sessions (Err end) old) (sym unmade.1)
+      (unmade_left old sessions end unmade.0)
+  not_started_left sessions end (inr (inl stopped)) = stopped_left old new end stopped sessions
+  not_started_left sessions end (inr (inr (formatted, f, n))) = unopened_stops old formatted f new sessions end n
 
-  pub not_started_cause : (frames : ℕ) (closes : Bool) (end : End) → IsNotStarted end old new
-      → RequestCause (Run frames true closes) end old new
-  not_started_cause frames closes end (inl unmade) = subst (RequestCause (Run frames true closes) end old)
-      (sym unmade.1) (unmade_cause old frames closes end unmade.0)
-  not_started_cause frames closes end (inr (inl stopped)) = stopped_cause old new end stopped frames closes
-  not_started_cause frames closes end (inr (inr (formatted, f, n))) = unopened_anew old formatted f new
-      frames closes end n
+  pub not_started_cause : (frames sessions : ℕ) (closes : Bool) (end : End) → IsNotStarted end old new
+      → RequestCause (Run frames sessions true closes) end old new
+  not_started_cause frames sessions closes end (inl unmade) = subst (RequestCause (Run frames sessions true closes) end old)
+      (sym unmade.1) (unmade_cause old frames sessions closes end unmade.0)
+  not_started_cause frames sessions closes end (inr (inl stopped)) = stopped_cause old new end stopped frames sessions closes
+  not_started_cause frames sessions closes end (inr (inr (formatted, f, n))) = unopened_anew old formatted f new
+      frames sessions closes end n
 
 -- ---- as the calls have it
 

@@ -31,7 +31,7 @@ use Rattle.restart.specs.RenewalChains.{starts_at}
 use Rattle.restart.proofs.ChainLemmas.{images_rest}
 use Rattle.store_laws.specs.Keeps.{limits_of}
 use Rattle.command_line.specs.declared.end.End.TheVariants.{Words, Chip, OutOfMemory, Script, Output, TooLong}
-use Rattle.ipl_cli.specs.Ending.{AskedFor, Ending, AsksFormatted, AtStatus, StopsEarly, StopRose, IsLeftAlone, but_noted}
+use Rattle.ipl_cli.specs.Ending.{AskedFor, Ending, AtStatus, StopsEarly, StopRose, IsLeftAlone, but_noted, AsksFormattedBy}
 use Rattle.ipl_cli.specs.Top.{Runs, RunsOpened, FormattedLeaves, EndLeaves, Ends}
 use Rattle.ipl_cli.specs.Survives.{StandsAfterAnswered, Survives, SurvivesFormat, SurvivesAnew}
 use Rattle.ipl_cli.proofs.EndLemmas.{near_silent}
@@ -58,9 +58,9 @@ worn_are_few places units p low =
 
 module _ (old new : Told) where
   -- a chip that tells what it holds may be taken as the start of a history
-  pub opened_survives : IsConsistent old → (status : ℕ) → AtStatus (RunsOpened old new) status
-      → Survives old new
-  opened_survives consistent status (ending, is, runs) x units m script told stands apart left =
+  pub opened_survives : {sessions : ℕ} → IsConsistent old → (status : ℕ) → AtStatus (RunsOpened sessions old new) status
+      → Survives sessions old new
+  opened_survives {sessions} consistent status (ending, is, runs) x units m script told stands apart left =
       let r = runs (starts_at x) script (steady_start x old consistent told) left m
       (images_rest old.places m x stands.stands) apart in
       let number = laid_says_its_units (chart_of x) old.places stands.stands.layout stands.stands.laid ∙ stands.count in
@@ -70,18 +70,18 @@ module _ (old new : Told) where
         holds = λ unrisen. (r.steady unrisen).holds
             ∙ ap (λ (s : Story). Some (held x s)) (append-nil r.added);
         cut = λ later e y split image.
-            subst (λ (n : ℕ). StandsAfterAnswered old.places n m script (said e) y) number
+            subst (λ (n : ℕ). StandsAfterAnswered old.places (limits_of sessions n) m script (said e) y) number
             (r.each_moment later e split y (cut_by x y e (e ++ []) (append-nil e) image));
       }
 
   abbrev first : Story
   first = format_events old.places (units_on old.places)
 
-  module _ (x : Contents) (script : List ℕ) where
+  module _ (sessions : ℕ) (x : Contents) (script : List ℕ) where
     -- the script was run
     run_survives : (ending : Ending)
-        → Runs false old.places (units_on old.places) (whole empty) script (starts_at x) first old new ending
-        → SurvivesFormat script x old new
+        → Runs false old.places (limits_of sessions (units_on old.places)) (whole empty) script (starts_at x) first old new ending
+        → SurvivesFormat sessions script x old new
     run_survives ending r = record {
       added = r.added ++ first;
       grew = r.history ∙ history_then r.added first old.history;
@@ -99,7 +99,7 @@ module _ (old new : Told) where
         → (Unrisen old new → new.contents ≡ Some (held x added))
         → length added ≤ length first
         → (length added ≡ length first → IsGeometry old.places)
-        → SurvivesFormat script x old new
+        → SurvivesFormat sessions script x old new
     none_survives added grew holds few fits = record {
       added = added;
       grew = grew;
@@ -119,12 +119,12 @@ module _ (old new : Told) where
           (rests.each.1 y (subst
           (λ (s : Story). IsNoChanceImage (says sector_in) x (s ++ first) y)
           none image)) in
-          subst (λ (s : Story). StandsAfterAnswered old.places (units_on old.places) (whole empty) script (said s) y) (sym none)
+          subst (λ (s : Story). StandsAfterAnswered old.places (limits_of sessions (units_on old.places)) (whole empty) script (said s) y) (sym none)
           (near_silent (λ (s : State). StandsIn old.places (units_on old.places) (chart_of y) (whole s.map))
-          (limits_of (units_on old.places)) (at_rest empty) (commands_of script) stands);
+          (limits_of sessions (units_on old.places)) (at_rest empty) (commands_of script) stands);
     }
 
-    untouched_survives : old.contents ≡ Some x → IsLeftAlone old new → SurvivesFormat script x old new
+    untouched_survives : old.contents ≡ Some x → IsLeftAlone old new → SurvivesFormat sessions script x old new
     untouched_survives told is = none_survives []
         (ap (λ (t : Told). t.history) is ∙ same_history old.history)
         (λ unrisen. ap (λ (t : Told). t.contents) is ∙ told) (omega arith)
@@ -142,7 +142,7 @@ module _ (old new : Told) where
       grew_by fault f = ap (λ (t : Told). t.history) noted ∙ f.history
 
       failed_survives : Left format.Stopped → Rose old.write_faults stopped.write_faults
-          → SurvivesFormat script x old new
+          → SurvivesFormat sessions script x old new
       failed_survives f rose =
           let counted = ap length f.came.1 in
           let parts = length-append f.came.0 f.added in
@@ -150,7 +150,7 @@ module _ (old new : Told) where
           (λ unrisen. absurd (omega (arith, unrisen, ap (λ (t : Told). t.write_faults) noted, rose)))
           (omega (arith, counted, parts)) (λ whole. fits)
 
-      worn_survives : (p : ℕ) → Left (format.Worn p) → SurvivesFormat script x old new
+      worn_survives : (p : ℕ) → Left (format.Worn p) → SurvivesFormat sessions script x old new
       worn_survives p f =
           let few = worn_are_few old.places (units_on old.places) p f.came.0 in
           none_survives f.added (grew_by (format.Worn p) f)
@@ -160,37 +160,37 @@ module _ (old new : Told) where
           (λ whole. fits)
 
       stopped_by : (fault : FormatFault) → Left fault → StopRose fault old stopped
-          → SurvivesFormat script x old new
+          → SurvivesFormat sessions script x old new
       stopped_by format.Geometry f rose = absurd rose
       stopped_by format.Stopped f rose = failed_survives f rose
       stopped_by (format.Worn p) f rose = worn_survives p f
 
     stopped_survives : {ending : Ending} → IsGeometry old.places → IsSteady (starts_at x) old
         → StopsEarly old.places (units_on old.places) (starts_at x) old new ending
-        → SurvivesFormat script x old new
+        → SurvivesFormat sessions script x old new
     stopped_survives fits steady stops =
         stopped_by fits steady stops.stopped stops.noted stops.fault stops.formats stops.rose
 
-  anew_by : IsConsistent old → (ending : Ending) → FormattedLeaves ending old new
-      → SurvivesAnew old new
-  anew_by consistent (Ok u) l x script told left = run_survives x script (Ok u)
+  anew_by : (sessions : ℕ) → IsConsistent old → (ending : Ending) → FormattedLeaves sessions ending old new
+      → SurvivesAnew sessions old new
+  anew_by sessions consistent (Ok u) l x script told left = run_survives sessions x script (Ok u)
       (l.0 (starts_at x) script (steady_start x old consistent told) left)
-  anew_by consistent (Err Words) l x script told left = absurd l
-  anew_by consistent (Err (Chip e)) (inl l) x script told left = untouched_survives x script told l.2
-  anew_by consistent (Err (Chip e)) (inr l) x script told left =
+  anew_by sessions consistent (Err Words) l x script told left = absurd l
+  anew_by sessions consistent (Err (Chip e)) (inl l) x script told left = untouched_survives sessions x script told l.2
+  anew_by sessions consistent (Err (Chip e)) (inr l) x script told left =
       elim (l.1 (starts_at x) script (steady_start x old consistent told) left) [
-        | inl runs ↦ run_survives x script (Err (Chip e)) runs
-        | inr stops ↦ stopped_survives x script l.0 (steady_start x old consistent told) stops
+        | inl runs ↦ run_survives sessions x script (Err (Chip e)) runs
+        | inr stops ↦ stopped_survives sessions x script l.0 (steady_start x old consistent told) stops
       ]
-  anew_by consistent (Err OutOfMemory) l x script told left = untouched_survives x script told l
-  anew_by consistent (Err Script) l x script told left = run_survives x script (Err Script)
+  anew_by sessions consistent (Err OutOfMemory) l x script told left = untouched_survives sessions x script told l
+  anew_by sessions consistent (Err Script) l x script told left = run_survives sessions x script (Err Script)
       (l (starts_at x) script (steady_start x old consistent told) left)
-  anew_by consistent (Err Output) l x script told left = run_survives x script (Err Output)
+  anew_by sessions consistent (Err Output) l x script told left = run_survives sessions x script (Err Output)
       (l (starts_at x) script (steady_start x old consistent told) left)
-  anew_by consistent (Err TooLong) l x script told left = run_survives x script (Err TooLong)
+  anew_by sessions consistent (Err TooLong) l x script told left = run_survives sessions x script (Err TooLong)
       (l (starts_at x) script (steady_start x old consistent told) left)
 
-  pub formatted_survives : IsConsistent old → (asked : AskedFor) (status : ℕ)
-      → Ends asked old new status → AsksFormatted asked → SurvivesAnew old new
-  formatted_survives consistent asked status e (frames, closes, is) = anew_by consistent e.ending
+  pub formatted_survives : IsConsistent old → (sessions : ℕ) (asked : AskedFor) (status : ℕ)
+      → Ends asked old new status → AsksFormattedBy sessions asked → SurvivesAnew sessions old new
+  formatted_survives consistent sessions asked status e (frames, closes, is) = anew_by sessions consistent e.ending
       (subst (λ (a : AskedFor). EndLeaves a e.ending old new) is e.leaves)

@@ -17,7 +17,7 @@ use Rattle.command_line.specs.declared.asked.Request.{Request}
 use Rattle.command_line.specs.declared.asked.Request.TheVariants.{Format, Run, Serial, Check, Trial}
 use Rattle.command_line.specs.Ends.{status_of, fault_status}
 use Rattle.command_line.specs.declared.end.End.TheVariants.{Words, Chip, OutOfMemory, Script, Output, TooLong}
-use Rattle.ipl_cli.specs.Ending.{AskedFor, AsksOpened, AsksFormatted, AsksAnew, AtStatus, Ending, IsLeftAlone, but_noted, format_end, status_at, units_beside}
+use Rattle.ipl_cli.specs.Ending.{AskedFor, AsksOpened, AsksFormatted, AsksAnew, AtStatus, Ending, IsLeftAlone, but_noted, format_end, status_at, units_beside, AsksOpenedBy, AsksFormattedBy}
 use Rattle.ipl_cli.specs.Trials.{TrialLeaves}
 use Rattle.ipl_cli.specs.Checks.{CheckLeaves}
 use Rattle.ipl_cli.specs.Views.{ViewsTold, OnlyViews, OnlyHears, SerialLeaves}
@@ -39,11 +39,11 @@ untouched old new is = subst (λ (t : Told). t ≡ but_noted old t.beside.noted)
 pub no_memory : (asked : AskedFor) (t : Told) → EndLeaves asked (Err OutOfMemory) t t
 no_memory None t = refl
 no_memory (Some (Format spares)) t = refl
-no_memory (Some (Run frames true closes)) t = refl
-no_memory (Some (Run frames false closes)) t = refl
-no_memory (Some Serial) t = untouched_hears t t refl
+no_memory (Some (Run frames sessions true closes)) t = refl
+no_memory (Some (Run frames sessions false closes)) t = refl
+no_memory (Some (Serial sessions)) t = untouched_hears t t refl
 no_memory (Some Check) t = refl
-no_memory (Some (Trial seed count frames)) t = refl
+no_memory (Some (Trial seed count frames sessions)) t = refl
 
 abbrev failed : FormatFault → Result (Unit {0}) FormatFault
 failed fault = Err fault
@@ -88,7 +88,7 @@ none_is_some : {X : Type 0} {x : X} → None ≡ Some x → ⊥
 none_is_some e = cc
 
 module _ (old new : Told) where
-  opened_by : (ending : Ending) → OpenedLeaves ending old new → RunsOpened old new ending
+  opened_by : {sessions : ℕ} (ending : Ending) → OpenedLeaves sessions ending old new → RunsOpened sessions old new ending
   opened_by (Ok u) l = l.runs
   opened_by (Err Words) l = absurd l
   opened_by (Err (Chip e)) l = l.runs
@@ -109,49 +109,49 @@ module _ (old new : Told) where
   laid_never : IsLaidWell old → (e : ImageFault) → HasFault old e → ⊥
   laid_never laid e has = none_is_some (sym (laid has.contents has.told) ∙ has.fault)
 
-  refuses_by : (ending : Ending) → OpenedLeaves ending old new
+  refuses_by : (sessions : ℕ) (ending : Ending) → OpenedLeaves sessions ending old new
       → RefusesFaults old new (status_at ending)
-  refuses_by (Ok u) l e has = absurd (laid_never l.laid e has)
-  refuses_by (Err Words) l e has = absurd l
-  refuses_by (Err (Chip ended)) l e has = let is = l.refused e has in (is.0, at_fault e ended is.1)
-  refuses_by (Err OutOfMemory) l e has = (untouched_looks old new l, inr (inr refl))
-  refuses_by (Err Script) l e has = absurd (laid_never l.laid e has)
-  refuses_by (Err Output) l e has = absurd (laid_never l.laid e has)
-  refuses_by (Err TooLong) l e has = absurd (laid_never l.laid e has)
+  refuses_by sessions (Ok u) l e has = absurd (laid_never l.laid e has)
+  refuses_by sessions (Err Words) l e has = absurd l
+  refuses_by sessions (Err (Chip ended)) l e has = let is = l.refused e has in (is.0, at_fault e ended is.1)
+  refuses_by sessions (Err OutOfMemory) l e has = (untouched_looks old new l, inr (inr refl))
+  refuses_by sessions (Err Script) l e has = absurd (laid_never l.laid e has)
+  refuses_by sessions (Err Output) l e has = absurd (laid_never l.laid e has)
+  refuses_by sessions (Err TooLong) l e has = absurd (laid_never l.laid e has)
 
   abbrev Opened : Type 0
   Opened = IsLaidWell old × IsGeometry old.places
 
-  laid_by : (ending : Ending) → OpenedLeaves ending old new
+  laid_by : (sessions : ℕ) (ending : Ending) → OpenedLeaves sessions ending old new
       → (status_at ending ≡ 0) ⊎ (status_at ending ≡ 6) ⊎ (status_at ending ≡ 7) ⊎
       (status_at ending ≡ 8) → Opened
-  laid_by (Ok u) l is = (l.laid, l.fits)
-  laid_by (Err Words) l is = absurd l
-  laid_by (Err (Chip e)) l is = absurd (omega (arith, is, chip_status e))
-  laid_by (Err OutOfMemory) l is = absurd (omega (arith, is))
-  laid_by (Err Script) l is = (l.laid, l.fits)
-  laid_by (Err Output) l is = (l.laid, l.fits)
-  laid_by (Err TooLong) l is = (l.laid, l.fits)
+  laid_by sessions (Ok u) l is = (l.laid, l.fits)
+  laid_by sessions (Err Words) l is = absurd l
+  laid_by sessions (Err (Chip e)) l is = absurd (omega (arith, is, chip_status e))
+  laid_by sessions (Err OutOfMemory) l is = absurd (omega (arith, is))
+  laid_by sessions (Err Script) l is = (l.laid, l.fits)
+  laid_by sessions (Err Output) l is = (l.laid, l.fits)
+  laid_by sessions (Err TooLong) l is = (l.laid, l.fits)
 
-  formatted_by : (ending : Ending) → FormattedLeaves ending old new → status_at ending ≡ 0
-      → RunsFormatted old new (Ok tt)
+  formatted_by : {sessions : ℕ} (ending : Ending) → FormattedLeaves sessions ending old new → status_at ending ≡ 0
+      → RunsFormatted sessions old new (Ok tt)
   formatted_by (Ok u) l is = l.0
   formatted_by (Err end) l is = absurd (omega (arith, is, above_zero end))
 
   -- at the end of the script all of it was read
-  opened_read : (ending : Ending) → OpenedLeaves ending old new → status_at ending ≡ 0
+  opened_read : (sessions : ℕ) (ending : Ending) → OpenedLeaves sessions ending old new → status_at ending ≡ 0
       → ReadsAll old new
-  opened_read (Ok u) l is = l.read refl
-  opened_read (Err end) l is = absurd (omega (arith, is, above_zero end))
+  opened_read sessions (Ok u) l is = l.read refl
+  opened_read sessions (Err end) l is = absurd (omega (arith, is, above_zero end))
 
-  formatted_read : (ending : Ending) → FormattedLeaves ending old new → status_at ending ≡ 0
+  formatted_read : (sessions : ℕ) (ending : Ending) → FormattedLeaves sessions ending old new → status_at ending ≡ 0
       → ReadsAll old new
-  formatted_read (Ok u) l is = l.1
-  formatted_read (Err end) l is = absurd (omega (arith, is, above_zero end))
+  formatted_read sessions (Ok u) l is = l.1
+  formatted_read sessions (Err end) l is = absurd (omega (arith, is, above_zero end))
 
-  part_by : (ending : Ending) → FormattedLeaves ending old new
+  part_by : {sessions : ℕ} (ending : Ending) → FormattedLeaves sessions ending old new
       → (status_at ending ≡ 6) ⊎ (status_at ending ≡ 7) ⊎ (status_at ending ≡ 8)
-      → RunsFormatted old new ending
+      → RunsFormatted sessions old new ending
   part_by (Ok u) l is = absurd (omega (arith, is))
   part_by (Err Words) l is = absurd l
   part_by (Err (Chip e)) l is = absurd (omega (arith, is, chip_status e))
@@ -160,9 +160,9 @@ module _ (old new : Told) where
   part_by (Err Output) l is = l
   part_by (Err TooLong) l is = l
 
-  stops_by : (ending : Ending) → FormattedLeaves ending old new
+  stops_by : {sessions : ℕ} (ending : Ending) → FormattedLeaves sessions ending old new
       → (status_at ending ≡ 3) ⊎ (status_at ending ≡ 4) ⊎ (status_at ending ≡ 9)
-      ⊎ (status_at ending ≡ 10) → UntouchedOrRuns old new ending
+      ⊎ (status_at ending ≡ 10) → UntouchedOrRuns sessions old new ending
   stops_by (Ok u) l is = absurd (omega (arith, is))
   stops_by (Err Words) l is = absurd l
   stops_by (Err (Chip e)) (inl other) is = inl (other.0, other.2)
@@ -177,11 +177,11 @@ module _ (old new : Told) where
   formats_by spares (Ok u) l is = l
   formats_by spares (Err end) l is = absurd (omega (arith, is, above_zero end))
 
-  views_by : (ending : Ending) → SerialLeaves ending old new
-      → ViewsTold old new (status_at ending == 0)
+  views_by : {sessions : ℕ} (ending : Ending) → SerialLeaves sessions ending old new
+      → ViewsTold sessions old new (status_at ending == 0)
   views_by (Ok u) l = l.0
   views_by (Err Words) l = absurd l
-  views_by (Err (Chip e)) l = subst (ViewsTold old new)
+  views_by {sessions} (Err (Chip e)) l = subst (ViewsTold sessions old new)
       (sym (not_zero (fault_status e) (above_zero (Chip e)))) (hears_views old new
       (untouched_hears old new l))
   views_by (Err OutOfMemory) l = hears_views old new l
@@ -189,14 +189,14 @@ module _ (old new : Told) where
   views_by (Err Output) l = l.0
   views_by (Err TooLong) l = l.0
 
-  only_views_by : (ending : Ending) → SerialLeaves ending old new → OnlyViews old new
-  only_views_by (Ok u) l = l.1
-  only_views_by (Err Words) l = absurd l
-  only_views_by (Err (Chip e)) l = hears_only old new (untouched_hears old new l)
-  only_views_by (Err OutOfMemory) l = hears_only old new l
-  only_views_by (Err Script) l = l.1
-  only_views_by (Err Output) l = l.1
-  only_views_by (Err TooLong) l = l.1
+  only_views_by : (sessions : ℕ) (ending : Ending) → SerialLeaves sessions ending old new → OnlyViews old new
+  only_views_by sessions (Ok u) l = l.1
+  only_views_by sessions (Err Words) l = absurd l
+  only_views_by sessions (Err (Chip e)) l = hears_only old new (untouched_hears old new l)
+  only_views_by sessions (Err OutOfMemory) l = hears_only old new l
+  only_views_by sessions (Err Script) l = l.1
+  only_views_by sessions (Err Output) l = l.1
+  only_views_by sessions (Err TooLong) l = l.1
 
   -- contents that have a fault, but that their numbers are used up, stand for no map
   laid_image : (e : ImageFault) → fault_status e ≡ 4 → LaidCause e old → StrayCause old
@@ -367,55 +367,55 @@ module _ (asked : AskedFor) (old new : Told) (status : ℕ) (e : Ends asked old 
   leaves_of : (request : Request) → asked ≡ Some request → EndLeaves (Some request) e.ending old new
   leaves_of request is = subst (λ (a : AskedFor). EndLeaves a e.ending old new) is e.leaves
 
-  pub end_opened : AsksOpened asked → AtStatus (RunsOpened old new) status
-  end_opened (frames, closes, is) = (
+  pub end_opened : (sessions : ℕ) → AsksOpenedBy sessions asked → AtStatus (RunsOpened sessions old new) status
+  end_opened sessions (frames, closes, is) = (
     e.ending,
     e.status_is,
     opened_by old new e.ending
-        (leaves_of (Run frames false closes) is),
+        (leaves_of (Run frames sessions false closes) is),
   )
 
   pub end_refuses : AsksOpened asked → RefusesFaults old new status
-  end_refuses (frames, closes, is) = subst (RefusesFaults old new) (sym e.status_is) (refuses_by old new
-      e.ending (leaves_of (Run frames false closes) is))
+  end_refuses (sessions, (frames, closes, is)) = subst (RefusesFaults old new) (sym e.status_is) (refuses_by old new sessions
+      e.ending (leaves_of (Run frames sessions false closes) is))
 
   pub end_laid : AsksOpened asked → (status ≡ 0) ⊎ (status ≡ 6) ⊎ (status ≡ 7) ⊎ (status ≡ 8)
       → IsLaidWell old × IsGeometry old.places
-  end_laid (frames, closes, is) at = laid_by old new e.ending (leaves_of (Run frames false closes) is)
+  end_laid (sessions, (frames, closes, is)) at = laid_by old new sessions e.ending (leaves_of (Run frames sessions false closes) is)
       (rw e.status_is at at)
 
   pub end_read : AsksOpened asked ⊎ AsksFormatted asked → status ≡ 0 → ReadsAll old new
-  end_read (inl (frames, closes, is)) at = opened_read old new e.ending (leaves_of (Run frames false closes) is)
+  end_read (inl (sessions, (frames, closes, is))) at = opened_read old new sessions e.ending (leaves_of (Run frames sessions false closes) is)
       (sym e.status_is ∙ at)
-  end_read (inr (frames, closes, is)) at = formatted_read old new e.ending (leaves_of (Run frames true closes) is)
-      (sym e.status_is ∙ at)
-
-  pub end_formatted : AsksFormatted asked → status ≡ 0 → RunsFormatted old new (Ok tt)
-  end_formatted (frames, closes, is) at = formatted_by old new e.ending (leaves_of (Run frames true closes) is)
+  end_read (inr (sessions, (frames, closes, is))) at = formatted_read old new sessions e.ending (leaves_of (Run frames sessions true closes) is)
       (sym e.status_is ∙ at)
 
-  pub end_part : AsksFormatted asked → (status ≡ 6) ⊎ (status ≡ 7) ⊎ (status ≡ 8)
-      → AtStatus (RunsFormatted old new) status
-  end_part (frames, closes, is) at = (
+  pub end_formatted : (sessions : ℕ) → AsksFormattedBy sessions asked → status ≡ 0 → RunsFormatted sessions old new (Ok tt)
+  end_formatted sessions (frames, closes, is) at = formatted_by old new e.ending (leaves_of (Run frames sessions true closes) is)
+      (sym e.status_is ∙ at)
+
+  pub end_part : (sessions : ℕ) → AsksFormattedBy sessions asked → (status ≡ 6) ⊎ (status ≡ 7) ⊎ (status ≡ 8)
+      → AtStatus (RunsFormatted sessions old new) status
+  end_part sessions (frames, closes, is) at = (
     e.ending,
     e.status_is,
     part_by old new e.ending
-        (leaves_of (Run frames true closes) is) (rw e.status_is at at),
+        (leaves_of (Run frames sessions true closes) is) (rw e.status_is at at),
   )
 
-  pub end_stops : AsksFormatted asked
+  pub end_stops : (sessions : ℕ) → AsksFormattedBy sessions asked
       → (status ≡ 3) ⊎ (status ≡ 4) ⊎ (status ≡ 9) ⊎ (status ≡ 10)
-      → AtStatus (UntouchedOrRuns old new) status
-  end_stops (frames, closes, is) at = (
+      → AtStatus (UntouchedOrRuns sessions old new) status
+  end_stops sessions (frames, closes, is) at = (
     e.ending,
     e.status_is,
     stops_by old new e.ending
-        (leaves_of (Run frames true closes) is) (rw e.status_is at at),
+        (leaves_of (Run frames sessions true closes) is) (rw e.status_is at at),
   )
 
-  pub end_trials : (seed count frames : ℕ) → asked ≡ Some (Trial seed count frames)
-      → AtStatus (λ ending. TrialLeaves seed count ending old new) status
-  end_trials seed count frames is = (e.ending, e.status_is, leaves_of (Trial seed count frames) is)
+  pub end_trials : (seed count frames sessions : ℕ) → asked ≡ Some (Trial seed count frames sessions)
+      → AtStatus (λ ending. TrialLeaves sessions seed count ending old new) status
+  end_trials seed count frames sessions is = (e.ending, e.status_is, leaves_of (Trial seed count frames sessions) is)
 
   pub end_formats : (spares : ℕ) → asked ≡ Some (Format spares) → status ≡ 0
       → LaysOut spares old new true
@@ -425,12 +425,12 @@ module _ (asked : AskedFor) (old new : Told) (status : ℕ) (e : Ends asked old 
   pub end_checks : asked ≡ Some Check → AtStatus (λ ending. CheckLeaves ending old new) status
   end_checks is = (e.ending, e.status_is, leaves_of Check is)
 
-  pub end_views : asked ≡ Some Serial → ViewsTold old new (status == 0)
-  end_views is = subst (λ (n : ℕ). ViewsTold old new (n == 0)) (sym e.status_is) (views_by old new
-      e.ending (leaves_of Serial is))
+  pub end_views : (sessions : ℕ) → asked ≡ Some (Serial sessions) → ViewsTold sessions old new (status == 0)
+  end_views sessions is = subst (λ (n : ℕ). ViewsTold sessions old new (n == 0)) (sym e.status_is) (views_by old new
+      e.ending (leaves_of (Serial sessions) is))
 
-  pub end_only_views : asked ≡ Some Serial → OnlyViews old new
-  end_only_views is = only_views_by old new e.ending (leaves_of Serial is)
+  pub end_only_views : (sessions : ℕ) → asked ≡ Some (Serial sessions) → OnlyViews old new
+  end_only_views sessions is = only_views_by old new sessions e.ending (leaves_of (Serial sessions) is)
 
 -- ---- by the status alone
 
@@ -447,7 +447,7 @@ module _ (old new : Told) where
   early_by (Some request) (Err TooLong) c l is = absurd (omega (arith, is))
 
   abbrev Wanting : AskedFor → Type 0
-  Wanting asked = OnlyHears old new × (asked ≢ Some Serial → IsLeftAlone old new)
+  Wanting asked = OnlyHears old new × (((sessions : ℕ) → asked ≢ Some (Serial sessions)) → IsLeftAlone old new)
 
   wanting_untouched : (asked : AskedFor) → IsLeftAlone old new → Wanting asked
   wanting_untouched asked l = (untouched_hears old new l, λ apart. l)
@@ -460,13 +460,13 @@ module _ (old new : Told) where
   wanting_by (Some request) (Err (Chip e)) c l is = absurd (omega (arith, is, chip_status e))
   wanting_by (Some (Format spares)) (Err OutOfMemory) c l is = wanting_untouched
       (Some (Format spares)) l
-  wanting_by (Some (Run frames true closes)) (Err OutOfMemory) c l is = wanting_untouched
-      (Some (Run frames true closes)) l
-  wanting_by (Some (Run frames false closes)) (Err OutOfMemory) c l is = wanting_untouched
-      (Some (Run frames false closes)) l
-  wanting_by (Some (Trial seed count frames)) (Err OutOfMemory) c l is = wanting_untouched
-      (Some (Trial seed count frames)) l
-  wanting_by (Some Serial) (Err OutOfMemory) c l is = (l, λ apart. absurd (apart refl))
+  wanting_by (Some (Run frames sessions true closes)) (Err OutOfMemory) c l is = wanting_untouched
+      (Some (Run frames sessions true closes)) l
+  wanting_by (Some (Run frames sessions false closes)) (Err OutOfMemory) c l is = wanting_untouched
+      (Some (Run frames sessions false closes)) l
+  wanting_by (Some (Trial seed count frames sessions)) (Err OutOfMemory) c l is = wanting_untouched
+      (Some (Trial seed count frames sessions)) l
+  wanting_by (Some (Serial sessions)) (Err OutOfMemory) c l is = (l, λ apart. absurd (apart sessions refl))
   wanting_by (Some Check) (Err OutOfMemory) c l is = wanting_untouched (Some Check) l
   wanting_by (Some request) (Err Script) c l is = absurd (omega (arith, is))
   wanting_by (Some request) (Err Output) c l is = absurd (omega (arith, is))
@@ -489,12 +489,12 @@ module _ (old new : Told) where
   format_other spares image.Spent c l is = absurd c
   format_other spares (image.NoSpare n) c l is = absurd c
 
-  formatted_other : (e : ImageFault) → FormattedLeaves (Err (Chip e)) old new
+  formatted_other : {sessions : ℕ} (e : ImageFault) → FormattedLeaves sessions (Err (Chip e)) old new
       → ¬ IsGeometry old.places → IsLeftAlone old new
   formatted_other e (inl other) misfit = other.2
   formatted_other e (inr ran) misfit = absurd (misfit ran.0)
 
-  trial_other : (seed count : ℕ) (e : ImageFault) → TrialLeaves seed count (Err (Chip e)) old new
+  trial_other : {sessions : ℕ} (seed count : ℕ) (e : ImageFault) → TrialLeaves sessions seed count (Err (Chip e)) old new
       → ¬ IsGeometry old.places → IsLeftAlone old new
   trial_other seed count e (inl other) misfit = other.2
   trial_other seed count e (inr tried) misfit = absurd (misfit tried.0)
@@ -509,14 +509,14 @@ module _ (old new : Told) where
       → EndLeaves (Some request) (Err (Chip e)) old new → fault_status e ≡ 4
       → IsMisfit (Some request) → IsLeftAlone old new
   chip_other (Format spares) e c l is misfit = format_other spares e c l is
-  chip_other (Run frames true closes) e c l is misfit =
-      formatted_other e l (outside (Run frames true closes) (λ spares same. cc) misfit)
-  chip_other (Run frames false closes) e c l is misfit =
-      l.other (outside (Run frames false closes) (λ spares same. cc) misfit)
-  chip_other Serial e c l is misfit = l
+  chip_other (Run frames sessions true closes) e c l is misfit =
+      formatted_other e l (outside (Run frames sessions true closes) (λ spares same. cc) misfit)
+  chip_other (Run frames sessions false closes) e c l is misfit =
+      l.other (outside (Run frames sessions false closes) (λ spares same. cc) misfit)
+  chip_other (Serial sessions) e c l is misfit = l
   chip_other Check e c l is misfit = l.other (outside Check (λ spares same. cc) misfit)
-  chip_other (Trial seed count frames) e c l is misfit = trial_other seed count e l
-      (outside (Trial seed count frames) (λ spares same. cc) misfit)
+  chip_other (Trial seed count frames sessions) e c l is misfit = trial_other seed count e l
+      (outside (Trial seed count frames sessions) (λ spares same. cc) misfit)
 
   other_by : (asked : AskedFor) (ending : Ending) → EndCause asked ending old new
       → EndLeaves asked ending old new → status_at ending ≡ 4 → IsMisfit asked
@@ -552,19 +552,19 @@ module _ (old new : Told) where
   chip_by : (request : Request) (e : ImageFault) → ChipCause request e old new → fault_status e ≡ 3
       → CallFailed old new
   chip_by (Format spares) e c is = inr ((format_image old new spares e c).1 is)
-  chip_by (Run frames true closes) e c is = formatted_chip old new e c is
-  chip_by (Run frames false closes) e c is = opened_chip old new e c is
-  chip_by (Trial seed count frames) e c is = formatted_chip old new e c is
-  chip_by Serial e c is = absurd (omega (arith, is, ap fault_status c.0))
+  chip_by (Run frames sessions true closes) e c is = formatted_chip old new e c is
+  chip_by (Run frames sessions false closes) e c is = opened_chip old new e c is
+  chip_by (Trial seed count frames sessions) e c is = formatted_chip old new e c is
+  chip_by (Serial sessions) e c is = absurd (omega (arith, is, ap fault_status c.0))
   chip_by Check e c is = inl (checked_chip old new e c is)
 
   worn_by : (request : Request) (e : ImageFault) → ChipCause request e old new → fault_status e ≡ 10
       → Rose old.worn_erases new.worn_erases × WearsAsAsked (Some request) old new
   worn_by (Format spares) e c is = format_worn old new spares e c is
-  worn_by (Run frames true closes) e c is = formatted_worn old new e c is
-  worn_by (Run frames false closes) e c is = opened_worn old new e c is
-  worn_by (Trial seed count frames) e c is = formatted_worn old new e c is
-  worn_by Serial e c is = absurd (omega (arith, is, ap fault_status c.0))
+  worn_by (Run frames sessions true closes) e c is = formatted_worn old new e c is
+  worn_by (Run frames sessions false closes) e c is = opened_worn old new e c is
+  worn_by (Trial seed count frames sessions) e c is = formatted_worn old new e c is
+  worn_by (Serial sessions) e c is = absurd (omega (arith, is, ap fault_status c.0))
   worn_by Check e c is = absurd (checked_worn old new e c is)
 
   abbrev Imaged : AskedFor → Type 0
@@ -576,17 +576,17 @@ module _ (old new : Told) where
       → Imaged (Some request)
   image_by (Format spares) e c is =
       inr (inl (spares, refl, (format_image old new spares e c).0 is))
-  image_by (Run frames true closes) e c is = elim (formatted_image old new e c is) [
+  image_by (Run frames sessions true closes) e c is = elim (formatted_image old new e c is) [
     | inl other ↦ inl other
-    | inr anew ↦ inr (inr (inr (inl (inl (frames, closes, refl), anew))))
+    | inr anew ↦ inr (inr (inr (inl (inl (sessions, (frames, closes, refl)), anew))))
   ]
-  image_by (Trial seed count frames) e c is = elim (formatted_image old new e c is) [
+  image_by (Trial seed count frames sessions) e c is = elim (formatted_image old new e c is) [
     | inl other ↦ inl other
-    | inr anew ↦ inr (inr (inr (inl (inr (seed, count, frames, refl), anew))))
+    | inr anew ↦ inr (inr (inr (inl (inr (seed, count, frames, sessions, refl), anew))))
   ]
-  image_by (Run frames false closes) e c is =
-      inr (inr (inl ((frames, closes, refl), opened_image old new e c is)))
-  image_by Serial e c is = inl c.1
+  image_by (Run frames sessions false closes) e c is =
+      inr (inr (inl ((sessions, (frames, closes, refl)), opened_image old new e c is)))
+  image_by (Serial sessions) e c is = inl c.1
   image_by Check e c is = inr (inr (inr (inr (refl, checked_stray old new e c is))))
 
   abbrev Spends : AskedFor → Type 0
@@ -595,14 +595,14 @@ module _ (old new : Told) where
   spent_by : (request : Request) (e : ImageFault) → ChipCause request e old new → fault_status e ≡ 9
       → Spends (Some request)
   spent_by (Format spares) e c is = absurd ((format_image old new spares e c).2 is)
-  spent_by (Run frames true closes) e c is = inr (inl (frames, closes, refl), formatted_spent old new e c is)
-  spent_by (Trial seed count frames) e c is = inr (
-    inr (seed, count, frames, refl),
+  spent_by (Run frames sessions true closes) e c is = inr (inl (sessions, (frames, closes, refl)), formatted_spent old new e c is)
+  spent_by (Trial seed count frames sessions) e c is = inr (
+    inr (seed, count, frames, sessions, refl),
     formatted_spent
         old new e c is,
   )
-  spent_by (Run frames false closes) e c is = inl ((frames, closes, refl), opened_spent old new e c is)
-  spent_by Serial e c is = absurd (omega (arith, is, ap fault_status c.0))
+  spent_by (Run frames sessions false closes) e c is = inl ((sessions, (frames, closes, refl)), opened_spent old new e c is)
+  spent_by (Serial sessions) e c is = absurd (omega (arith, is, ap fault_status c.0))
   spent_by Check e c is = absurd (checked_spent old new e c is)
 
   -- a status of a fault of the chip comes with one
@@ -627,10 +627,10 @@ module _ (old new : Told) where
   script_by (Some request) (Err (Chip e)) c is = absurd (omega (arith, is, chip_status e))
   script_by (Some request) (Err OutOfMemory) c is = absurd (omega (arith, is))
   script_by (Some (Format spares)) (Err Script) c is = absurd c
-  script_by (Some (Run frames formats closes)) (Err Script) c is = c
-  script_by (Some Serial) (Err Script) c is = c
+  script_by (Some (Run frames sessions formats closes)) (Err Script) c is = c
+  script_by (Some (Serial sessions)) (Err Script) c is = c
   script_by (Some Check) (Err Script) c is = absurd c
-  script_by (Some (Trial seed count frames)) (Err Script) c is = absurd c
+  script_by (Some (Trial seed count frames sessions)) (Err Script) c is = absurd c
   script_by (Some request) (Err Output) c is = absurd (omega (arith, is))
   script_by (Some request) (Err TooLong) c is = absurd (omega (arith, is))
 
@@ -655,10 +655,10 @@ module _ (old new : Told) where
   long_by (Some request) (Err Script) c is = absurd (omega (arith, is))
   long_by (Some request) (Err Output) c is = absurd (omega (arith, is))
   long_by (Some (Format spares)) (Err TooLong) c is = absurd c
-  long_by (Some (Run frames formats closes)) (Err TooLong) c is = c
-  long_by (Some Serial) (Err TooLong) c is = c
+  long_by (Some (Run frames sessions formats closes)) (Err TooLong) c is = c
+  long_by (Some (Serial sessions)) (Err TooLong) c is = c
   long_by (Some Check) (Err TooLong) c is = absurd c
-  long_by (Some (Trial seed count frames)) (Err TooLong) c is = absurd c
+  long_by (Some (Trial seed count frames sessions)) (Err TooLong) c is = absurd c
 
 -- ---- as it was asked
 
@@ -666,7 +666,7 @@ module _ (asked : AskedFor) (old new : Told) (status : ℕ) (e : Ends asked old 
   pub end_early : status ≡ 2 → IsLeftAlone old new
   end_early at = early_by old new asked e.ending e.cause e.leaves (sym e.status_is ∙ at)
 
-  pub end_wanting : status ≡ 5 → OnlyHears old new × (asked ≢ Some Serial → IsLeftAlone old new)
+  pub end_wanting : status ≡ 5 → OnlyHears old new × (((sessions : ℕ) → asked ≢ Some (Serial sessions)) → IsLeftAlone old new)
   end_wanting at = wanting_by old new asked e.ending e.cause e.leaves (sym e.status_is ∙ at)
 
   pub end_other : status ≡ 4 → (¬ IsGeometry old.places) ⊎ LacksUnits asked old

@@ -49,38 +49,38 @@ use Rattle.command_line.specs.declared.end.End.TheVariants.{Words, Chip, OutOfMe
 use Rattle.ipl_cli.specs.Ending.{Ending, StopsEarly}
 use Rattle.ipl_cli.specs.Top.{IsTooLong, RequestCause, EndCause}
 use Rattle.ipl_cli.specs.Trials.{commands_on, state_after, summary, ChipStandsBehind, EndsAlong, EndsTrial, Trials, TrialsFormatted, TrialLeaves}
-use Rattle.ipl_cli.specs.Runs.{MakesStore, StartsOpened, IsNotOpened, WasFormatted, StartsFormatted, IsNotStarted, TriesOver, ending_of}
+use Rattle.ipl_cli.specs.Runs.{MakesStore, StartsOpened, IsNotOpened, WasFormatted, StartsFormatted, IsNotStarted, TriesOver, ending_of, slots_of}
 use Rattle.ipl_cli.proofs.EndLemmas.{opened_unused, Kept, kept, pieces_behind, history_behind, all_done, left_counts, units_told, opened_keeps, opened_each, took_marked, fresh_story, fresh_units, told_format, lawful_format}
 use Rattle.script_run.proofs.CompleteLemmas.{completes_more}
 use Rattle.ipl_cli.proofs.StartLemmas.{cause_anew, over_cause, not_started_cause, stopped_end}
 
 -- ---- what the chip stands for
 
-behind : (places : ℕ) (commands : List Command) (lines : List (List ℕ)) (x : Contents)
-    → StandsBehind (script_keeping places all_pages) (limits_of (units_on places)) (at_rest empty) commands
+behind : (sessions : ℕ) (places : ℕ) (commands : List Command) (lines : List (List ℕ)) (x : Contents)
+    → StandsBehind (script_keeping places all_pages) (limits_of sessions (units_on places)) (at_rest empty) commands
     lines x
-    → ChipStandsBehind places commands lines x
-behind places commands [] x (done, later, are, stands) = (done, later, are, stands)
-behind places commands (line ∷ lines) x stands = stands
+    → ChipStandsBehind sessions places commands lines x
+behind sessions places commands [] x (done, later, are, stands) = (done, later, are, stands)
+behind sessions places commands (line ∷ lines) x stands = stands
 
 -- ---- events that say nothing, before a trial
 
-module _ (places : ℕ) (commands : List Command) (h : History) (first : Story)
+module _ (sessions places : ℕ) (commands : List Command) (h : History) (first : Story)
     (silent : pieces first ≡ [])
     (each : AtEachMoment (λ e. EachStandsIn places (units_on places) (whole empty) (adds_all e h)) first)
     (lawful : (base : Story) → IsLawful base → IsLawful (first ++ base))
     (unused : AtEachMoment (λ e. MarksAreUnused places (adds_all e h)) first) where
   abbrev limits : Limits
-  limits = limits_of (units_on places)
+  limits = limits_of sessions (units_on places)
 
   abbrev Found : Story → Type 0
-  Found e = Leaves (says sector_in) (ChipStandsBehind places commands (pieces e)) h e
+  Found e = Leaves (says sector_in) (ChipStandsBehind sessions places commands (pieces e)) h e
 
   -- at each moment of them no command is done
   near_first : AtEachMoment Found first
   near_first = λ later e is x image.
       let quiet : pieces e ≡ [] = silent-part later e (ap pieces is ∙ silent) in
-      subst (λ (lines : List (List ℕ)). ChipStandsBehind places commands lines x) (sym quiet)
+      subst (λ (lines : List (List ℕ)). ChipStandsBehind sessions places commands lines x) (sym quiet)
       ([], commands, refl, each later e is x image)
 
   -- they alone were done
@@ -89,15 +89,15 @@ module _ (places : ℕ) (commands : List Command) (h : History) (first : Story)
       → new.beside.left ≡ old.beside.left
       → (Unrisen old new → IsSteady (adds_all first h) new)
       → (Unrisen old new → StoryRests places (whole empty) (adds_all first h))
-      → Trials places commands h [] old new (Err (Chip e))
+      → Trials sessions places commands h [] old new (Err (Chip e))
   none_tried old new e history left steady rests = record {
     added = first;
     history = history ∙ ap (option_map (adds_all first)) (same_history old.history);
     each_moment = near_first;
-    lines = subst (SaysLines (summary places commands)) (sym silent)
-        (says_none (summary places commands));
-    is_prefix = subst (λ (bytes : List ℕ). IsPrefix bytes (joined_text (summary places commands)))
-        (sym (ap joined_pieces silent)) (joined_text (summary places commands), refl);
+    lines = subst (SaysLines (summary sessions places commands)) (sym silent)
+        (says_none (summary sessions places commands));
+    is_prefix = subst (λ (bytes : List ℕ). IsPrefix bytes (joined_text (summary sessions places commands)))
+        (sym (ap joined_pieces silent)) (joined_text (summary sessions places commands), refl);
     lawful = lawful;
     unused = unused;
     steady = steady;
@@ -144,9 +144,9 @@ module _ (places : ℕ) (commands : List Command) (h : History) (first : Story)
       later_found = at_weaker (λ e. Leaves (says sector_in) (StandsBehind (script_keeping places all_pages) limits
           (at_rest empty) commands (pieces e)) (adds_all first h) e) (λ f. Found (f ++ first))
           leaves.added (λ f found x image.
-          subst (λ (lines : List (List ℕ)). ChipStandsBehind places commands lines x)
+          subst (λ (lines : List (List ℕ)). ChipStandsBehind sessions places commands lines x)
           (sym (pieces_behind first f silent))
-          (behind places commands (pieces f) x
+          (behind sessions places commands (pieces f) x
           (found x (subst (λ (s : Story). IsNoChanceImage (says sector_in) h.start s x)
           (append_assoc f first h.story) image)))) leaves.each_moment
 
@@ -158,54 +158,54 @@ module _ (places : ℕ) (commands : List Command) (h : History) (first : Story)
           (kept_last s so unrisen).rests
 
       along : EndsInWork (script_keeping places all_pages) limits (at_rest empty) commands (adds_all first h)
-          leaves.added (R last) → EndsAlong Resting places commands (pieces (leaves.added ++ first))
+          leaves.added (R last) → EndsAlong Resting sessions places commands (pieces (leaves.added ++ first))
       along e = record {
         done = e.done;
         later = e.later;
         commands_are = e.commands_are;
         silent =
             all_pieces ∙ e.silent;
-        rests = rested (state_after places e.done) e.rests;
+        rests = rested (state_after sessions places e.done) e.rests;
       }
 
       ends_by : (r : Result (Unit {0}) Stop) → TrialEnds (script_keeping places all_pages) r limits (at_rest empty)
           commands (adds_all first h) leaves.added (R last)
-          → EndsTrial (ending_of r) Resting places commands (pieces (leaves.added ++ first))
-      ends_by (Ok u) e = rested (state_after places commands) e.rests
+          → EndsTrial (ending_of r) Resting sessions places commands (pieces (leaves.added ++ first))
+      ends_by (Ok u) e = rested (state_after sessions places commands) e.rests
       ends_by (Err (stop.Store (fault.Chip f))) e = along e
       ends_by (Err (stop.Store (fault.Image f))) e = along e
       ends_by (Err (stop.Store fault.Spent)) e = along e
       ends_by (Err stop.Script) e = absurd e
       ends_by (Err stop.Output) e = (
-        subst (IsUnsaid (summary places commands)) (sym all_pieces)
+        subst (IsUnsaid (summary sessions places commands)) (sym all_pieces)
             e.part,
-        rested (state_after places commands) e.whole.rests,
+        rested (state_after sessions places commands) e.whole.rests,
       )
       ends_by (Err stop.TooLong) e = absurd e
 
       steady_by : (r : Result (Unit {0}) Stop)
           → TrialEnds (script_keeping places all_pages) r limits (at_rest empty) commands (adds_all first h)
           leaves.added (R last) → Unrisen old new → IsSteady last new
-      steady_by (Ok u) e unrisen = (kept_last (state_after places commands) e.rests
+      steady_by (Ok u) e unrisen = (kept_last (state_after sessions places commands) e.rests
           unrisen).steady
-      steady_by (Err (stop.Store f)) e unrisen = (kept_last (state_after places e.done) e.rests
+      steady_by (Err (stop.Store f)) e unrisen = (kept_last (state_after sessions places e.done) e.rests
           unrisen).steady
       steady_by (Err stop.Script) e unrisen = absurd e
-      steady_by (Err stop.Output) e unrisen = (kept_last (state_after places commands)
+      steady_by (Err stop.Output) e unrisen = (kept_last (state_after sessions places commands)
           e.whole.rests unrisen).steady
       steady_by (Err stop.TooLong) e unrisen = absurd e
 
-      pub tried_by : Trials places commands h [] old new (ending_of result)
+      pub tried_by : Trials sessions places commands h [] old new (ending_of result)
       tried_by = record {
         added = leaves.added ++ first;
         history = leaves.history ∙ ap (option_map (adds_all leaves.added)) told
             ∙ history_then leaves.added first old.history
             ∙ ap (option_map (adds_all (leaves.added ++ first))) (same_history old.history);
         each_moment = at_both Found leaves.added first near_first later_found;
-        lines = subst (SaysLines (summary places commands)) (sym all_pieces) leaves.lines;
+        lines = subst (SaysLines (summary sessions places commands)) (sym all_pieces) leaves.lines;
         is_prefix = subst (λ (bytes : List ℕ). IsPrefix bytes
-            (joined_text (summary places commands))) (sym all_said)
-            (says_prefix (summary places commands) (pieces leaves.added) leaves.lines);
+            (joined_text (summary sessions places commands))) (sym all_said)
+            (says_prefix (summary sessions places commands) (pieces leaves.added) leaves.lines);
         lawful = λ base good. subst IsLawful (sym (append_assoc leaves.added first base))
             (leaves.lawful.lawful (first ++ base) (lawful base good) (clean base));
         unused = at_both (λ e. MarksAreUnused places (adds_all e h)) leaves.added first unused
@@ -225,11 +225,11 @@ module _ (places : ℕ) (commands : List Command) (h : History) (first : Story)
 
 -- over a history that leaves what the chip holds and rests on no records, where the chip says that none
 -- of its places is spare, and nothing that is marked was used
-abbrev TrialsOpened : ℕ → ℕ → Told → Told → Ending → Type 0
-TrialsOpened seed count old new ending = (h : History) → IsSteady h old
+abbrev TrialsOpened : ℕ → ℕ → ℕ → Told → Told → Ending → Type 0
+TrialsOpened sessions seed count old new ending = (h : History) → IsSteady h old
     → StoryRests old.places (whole empty) h → units_at (now h) old.places ≡ units_on old.places
     → MarksAreUnused old.places h
-    → Trials old.places (commands_on old.places seed count) h [] old new ending
+    → Trials sessions old.places (commands_on old.places seed count) h [] old new ending
 
 module _ (old mid : Told) (store : ScriptStore) (s : StartsOpened false old store mid)
     (then : ScriptStore) (new : Told) (seed count : ℕ) (onward : Onward mid new) where
@@ -240,9 +240,9 @@ module _ (old mid : Told) (store : ScriptStore) (s : StartsOpened false old stor
   -- the store keeps no records, with all units
   keeps_none : (h : History) (steady : IsSteady h old) (rests : StoryRests old.places (whole empty) h)
       → store.store.units ≡ units_on old.places
-      → KeepsScript old.places all_pages (limits_of (units_on old.places)) store mid
+      → KeepsScript old.places all_pages (limits_of (slots_of store) (units_on old.places)) store mid
       (adds_all (s.tries.steps (whole empty) h steady rests).2.added h) (at_rest empty)
-  keeps_none h steady rests many = subst (λ (u : ℕ). KeepsScript old.places all_pages (limits_of u) store mid
+  keeps_none h steady rests many = subst (λ (u : ℕ). KeepsScript old.places all_pages (limits_of (slots_of store) u) store mid
       (adds_all (s.tries.steps (whole empty) h steady rests).2.added h) (at_rest empty)) many
       (opened_keeps old mid store s all_pages empty h steady rests)
 
@@ -262,39 +262,39 @@ module _ (old mid : Told) (store : ScriptStore) (s : StartsOpened false old stor
   opened_so : (result : Result (Unit {0}) Stop) → Ran result (units_on old.places)
       → (h : History) → IsSteady h old → StoryRests old.places (whole empty) h
       → store.store.units ≡ units_on old.places → MarksAreUnused old.places h
-      → Trials old.places (commands_on old.places seed count) h [] old new (ending_of result)
+      → Trials (slots_of store) old.places (commands_on old.places seed count) h [] old new (ending_of result)
   opened_so (Ok u) run h steady rests many were =
       let (took, takes, did) = s.tries.steps (whole empty) h steady rests in
       let taken = took_marked false old took h steady takes in
-      tried_by old.places (commands_on old.places seed count) h did.added did.does.silent
+      tried_by (slots_of store) old.places (commands_on old.places seed count) h did.added did.does.silent
       (opened_all h steady rests many)
       (λ base good. did.does.lawful.lawful base good (taken base (λ p q none. absurd none)))
       (λ later e split. did.marks tt later e split were)
       old mid new store then s.tries.accounts.counts.writes
       did.history (λ base. did.does.clean refl base (taken base (λ p q none. absurd none)))
       (opened_unused old mid store s all_pages h steady empty rests were) left_alone
-      (KeepsScript old.places all_pages (limits_of (units_on old.places)) then new) (Ok tt)
+      (KeepsScript old.places all_pages (limits_of (slots_of store) (units_on old.places)) then new) (Ok tt)
       (λ k state held unrisen. held)
-      (run (limits_of (units_on old.places)) (at_rest empty) (adds_all did.added h)
+      (run (limits_of (slots_of store) (units_on old.places)) (at_rest empty) (adds_all did.added h)
       (keeps_none h steady rests many))
   opened_so (Err e) run h steady rests many were =
       let (took, takes, did) = s.tries.steps (whole empty) h steady rests in
       let taken = took_marked false old took h steady takes in
-      tried_by old.places (commands_on old.places seed count) h did.added did.does.silent
+      tried_by (slots_of store) old.places (commands_on old.places seed count) h did.added did.does.silent
       (opened_all h steady rests many)
       (λ base good. did.does.lawful.lawful base good (taken base (λ p q none. absurd none)))
       (λ later e split. did.marks tt later e split were)
       old mid new store then s.tries.accounts.counts.writes
       did.history (λ base. did.does.clean refl base (taken base (λ p q none. absurd none)))
       (opened_unused old mid store s all_pages h steady empty rests were) left_alone
-      (Stays (script_keeping old.places all_pages) (limits_of (units_on old.places)) then mid new) (Err e)
+      (Stays (script_keeping old.places all_pages) (limits_of (slots_of store) (units_on old.places)) then mid new) (Err e)
       (λ k state stays. stays)
-      (run (limits_of (units_on old.places)) (at_rest empty) (adds_all did.added h)
+      (run (limits_of (slots_of store) (units_on old.places)) (at_rest empty) (adds_all did.added h)
       (keeps_none h steady rests many))
 
   opened_trial : (result : Result (Unit {0}) Stop)
       → RunsTrial (script_keeping mid.places all_pages) (trial_commands store.store.units seed count) store
-      mid result then new → TrialsOpened seed count old new (ending_of result)
+      mid result then new → TrialsOpened (slots_of store) seed count old new (ending_of result)
   opened_trial result run = λ h steady rests all were.
       let many = units_told old mid store s h steady ∙ all in
       opened_so result (subst (Ran result) many (subst (λ (n : ℕ). RunsTrial (script_keeping n all_pages)
@@ -302,11 +302,11 @@ module _ (old mid : Told) (store : ScriptStore) (s : StartsOpened false old stor
       s.tries.accounts.counts.places run)) h steady rests many were
 
 -- an opening that fails leaves no records
-unopened_trial : (seed count : ℕ) (old new : Told) (end : End)
-    → (n : IsNotOpened false end old new) → TrialsOpened seed count old new (Err (Chip n.fault))
-unopened_trial seed count old new end n = λ h steady rests all were.
+unopened_trial : {sessions : ℕ} (seed count : ℕ) (old new : Told) (end : End)
+    → (n : IsNotOpened false end old new) → TrialsOpened sessions seed count old new (Err (Chip n.fault))
+unopened_trial {sessions} seed count old new end n = λ h steady rests all were.
     let (took, takes, did) = n.tries.steps (whole empty) h steady rests in
-    none_tried old.places (commands_on old.places seed count) h did.added did.does.silent
+    none_tried sessions old.places (commands_on old.places seed count) h did.added did.does.silent
     (subst (λ (n : ℕ). AtEachMoment (λ e. EachStandsIn old.places n (whole empty) (adds_all e h)) did.added)
     all (moments_as_said old.places (whole empty) h did.added rests did.each_moment))
     (λ base good. did.does.lawful.lawful base good
@@ -316,24 +316,24 @@ unopened_trial seed count old new end n = λ h steady rests all were.
 
 -- ---- after a format
 
-ends_so : (Q R : State → Type 0) (places : ℕ) (commands : List Command) (lines : List (List ℕ))
+ends_so : (sessions : ℕ) (Q R : State → Type 0) (places : ℕ) (commands : List Command) (lines : List (List ℕ))
     → ((s : State) → Q s → R s) → (e : Ending)
-    → EndsTrial e Q places commands lines → EndsTrial e R places commands lines
-ends_so Q R places commands lines f (Ok u) e = f _ e
-ends_so Q R places commands lines f (Err Words) e = e
-ends_so Q R places commands lines f (Err (Chip x)) e = record {
+    → EndsTrial e Q sessions places commands lines → EndsTrial e R sessions places commands lines
+ends_so sessions Q R places commands lines f (Ok u) e = f _ e
+ends_so sessions Q R places commands lines f (Err Words) e = e
+ends_so sessions Q R places commands lines f (Err (Chip x)) e = record {
   done = e.done;
   later = e.later;
   commands_are = e.commands_are;
   silent = e.silent;
   rests = f _ e.rests;
 }
-ends_so Q R places commands lines f (Err OutOfMemory) e = e
-ends_so Q R places commands lines f (Err Script) e = e
-ends_so Q R places commands lines f (Err Output) e = (e.0, f _ e.1)
-ends_so Q R places commands lines f (Err TooLong) e = e
+ends_so sessions Q R places commands lines f (Err OutOfMemory) e = e
+ends_so sessions Q R places commands lines f (Err Script) e = e
+ends_so sessions Q R places commands lines f (Err Output) e = (e.0, f _ e.1)
+ends_so sessions Q R places commands lines f (Err TooLong) e = e
 
-module _ (old mid new : Told) (f : WasFormatted old mid) (seed count : ℕ) where
+module _ (sessions : ℕ) (old mid new : Told) (f : WasFormatted old mid) (seed count : ℕ) where
   abbrev first : Story
   first = format_events old.places (units_on old.places)
 
@@ -341,8 +341,8 @@ module _ (old mid new : Told) (f : WasFormatted old mid) (seed count : ℕ) wher
   commands = commands_on old.places seed count
 
   after_format : {ending : Ending} (h : History)
-      → Trials old.places commands (adds_all first h) [] mid new ending
-      → Trials old.places commands h first old new ending
+      → Trials sessions old.places commands (adds_all first h) [] mid new ending
+      → Trials sessions old.places commands h first old new ending
   after_format {ending} h t = let last : History = adds_all t.added (adds_all first h) in record {
     added = t.added;
     history = t.history ∙ ap (option_map (adds_all t.added)) (sym (same_history mid.history)
@@ -353,7 +353,7 @@ module _ (old mid new : Told) (f : WasFormatted old mid) (seed count : ℕ) wher
     lawful = λ base good. t.lawful (first ++ base) (lawful_format old mid new f h base good);
     unused = t.unused;
     steady = λ unrisen. t.steady (earlier unrisen);
-    ends = ends_so (λ s. Unrisen mid new → StoryRests old.places (whole s.map) last) (λ s. Unrisen old new
+    ends = ends_so sessions (λ s. Unrisen mid new → StoryRests old.places (whole s.map) last) (λ s. Unrisen old new
         → StoryRests old.places (whole s.map) last) old.places commands (pieces t.added)
         (λ s so unrisen. so (earlier unrisen)) ending t.ends;
     left_is = t.left_is ∙ left_counts old mid f.counts;
@@ -363,11 +363,11 @@ module _ (old mid new : Told) (f : WasFormatted old mid) (seed count : ℕ) wher
       earlier : Unrisen old new → Unrisen mid new
       earlier = unrisen_later old mid new f.counts.writes
 
-  formatted_trial : {ending : Ending} → TrialsOpened seed count mid new ending → (h : History)
-      → IsSteady h old → Trials old.places commands h first old new ending
+  formatted_trial : {ending : Ending} → TrialsOpened sessions seed count mid new ending → (h : History)
+      → IsSteady h old → Trials sessions old.places commands h first old new ending
   formatted_trial {ending} trials h steady =
       let fresh = fresh_story old mid new f h steady in
-      after_format h (subst (λ (q : ℕ). Trials q (commands_on q seed count) (adds_all first h) []
+      after_format h (subst (λ (q : ℕ). Trials sessions q (commands_on q seed count) (adds_all first h) []
       mid new ending) f.counts.places
       (trials (adds_all first h) fresh.0
       (subst (λ (q : ℕ). StoryRests q (whole empty) (adds_all first h)) (sym f.counts.places) fresh.1)
@@ -379,33 +379,33 @@ module _ (old mid new : Told) (f : WasFormatted old mid) (seed count : ℕ) wher
 -- ---- a trial that isn't started
 
 module _ (old new : Told) (seed count : ℕ) where
-  unmade_trial : (end : End) → MakesStore old.places (Err end)
-      → TrialLeaves seed count (Err end) old old
-  unmade_trial Words c = absurd c
-  unmade_trial (Chip e) c = inl (c.0, c.1, refl)
-  unmade_trial OutOfMemory c = refl
-  unmade_trial Script c = absurd c
-  unmade_trial Output c = absurd c
-  unmade_trial TooLong c = absurd c
+  unmade_trial : (sessions : ℕ) (end : End) → MakesStore old.places (Err end)
+      → TrialLeaves sessions seed count (Err end) old old
+  unmade_trial sessions Words c = absurd c
+  unmade_trial sessions (Chip e) c = inl (c.0, c.1, refl)
+  unmade_trial sessions OutOfMemory c = refl
+  unmade_trial sessions Script c = absurd c
+  unmade_trial sessions Output c = absurd c
+  unmade_trial sessions TooLong c = absurd c
 
-  pub trial_not_started : (end : End) → IsNotStarted end old new
-      → TrialLeaves seed count (Err end) old new
-  trial_not_started end (inl unmade) = subst (TrialLeaves seed count (Err end) old) (sym unmade.1)
-      (unmade_trial end unmade.0)
-  trial_not_started end (inr (inl stopped)) =
+  pub trial_not_started : (sessions : ℕ) (end : End) → IsNotStarted end old new
+      → TrialLeaves sessions seed count (Err end) old new
+  trial_not_started sessions end (inl unmade) = subst (TrialLeaves sessions seed count (Err end) old) (sym unmade.1)
+      (unmade_trial sessions end unmade.0)
+  trial_not_started sessions end (inr (inl stopped)) =
       let (e, is, cause) = stopped_end old new end stopped in
-      subst (λ (last : End). TrialLeaves seed count (Err last) old new) (sym is)
+      subst (λ (last : End). TrialLeaves sessions seed count (Err last) old new) (sym is)
       (inr (
         stopped.fits,
         λ h steady. inr (subst
             (λ (last : End). StopsEarly old.places (units_on old.places) h old new (Err last)) is
             (stopped.stops h)),
       ))
-  trial_not_started end (inr (inr (formatted, f, n))) = subst (λ (e : End). TrialLeaves seed count
+  trial_not_started sessions end (inr (inr (formatted, f, n))) = subst (λ (e : End). TrialLeaves sessions seed count
       (Err e) old new) (sym n.end_is)
       (inr (
         f.fits,
-        λ h steady. inl (formatted_trial old formatted new f seed count
+        λ h steady. inl (formatted_trial sessions old formatted new f seed count
             (unopened_trial seed count formatted new end n) h steady),
       ))
 
@@ -426,28 +426,28 @@ module _ (old new : Told) (seed count : ℕ) where
   not_long end (inr (inr (formatted, f, n))) is = absurd (let both : Chip _ ≡ TooLong = sym n.end_is
       ∙ is in cc)
 
-  as_trial : (frames : ℕ) (end : End) → (end ≡ Script → ⊥) → (end ≡ TooLong → ⊥)
-      → RequestCause (Run frames true false) end old new
-      → RequestCause (Trial seed count frames) end old new
-  as_trial frames Words script long c = c
-  as_trial frames (Chip e) script long c = c
-  as_trial frames OutOfMemory script long c = c
-  as_trial frames Script script long c = absurd (script refl)
-  as_trial frames Output script long c = c
-  as_trial frames TooLong script long c = absurd (long refl)
+  as_trial : (frames sessions : ℕ) (end : End) → (end ≡ Script → ⊥) → (end ≡ TooLong → ⊥)
+      → RequestCause (Run frames sessions true false) end old new
+      → RequestCause (Trial seed count frames sessions) end old new
+  as_trial frames sessions Words script long c = c
+  as_trial frames sessions (Chip e) script long c = c
+  as_trial frames sessions OutOfMemory script long c = c
+  as_trial frames sessions Script script long c = absurd (script refl)
+  as_trial frames sessions Output script long c = c
+  as_trial frames sessions TooLong script long c = absurd (long refl)
 
-  pub trial_not_started_cause : (frames : ℕ) (end : End) → IsNotStarted end old new
-      → RequestCause (Trial seed count frames) end old new
-  trial_not_started_cause frames end n = as_trial frames end (not_script end n) (not_long end n)
-      (not_started_cause old new frames false end n)
+  pub trial_not_started_cause : (frames sessions : ℕ) (end : End) → IsNotStarted end old new
+      → RequestCause (Trial seed count frames sessions) end old new
+  trial_not_started_cause frames sessions end n = as_trial frames sessions end (not_script end n) (not_long end n)
+      (not_started_cause old new frames sessions false end n)
 
 -- ---- a trial that was started
 
 module _ (old mid : Told) (store : ScriptStore) (s : StartsFormatted old store mid)
     (then : ScriptStore) (new : Told) (seed count : ℕ) where
   leaves_by : (result : Result (Unit {0}) Stop) → IfErr result IsTrialStop
-      → TrialsFormatted seed count old new (ending_of result)
-      → TrialLeaves seed count (ending_of result) old new
+      → TrialsFormatted (slots_of store) seed count old new (ending_of result)
+      → TrialLeaves (slots_of store) seed count (ending_of result) old new
   leaves_by (Ok u) stops trials = trials
   leaves_by (Err (stop.Store (fault.Chip c))) stops trials = inr (
     s.formats.fits,
@@ -466,10 +466,10 @@ module _ (old mid : Told) (store : ScriptStore) (s : StartsFormatted old store m
   leaves_by (Err stop.TooLong) stops trials = absurd stops
 
   pub tried_left : (ending : Ending) → TriesOver seed count ending store mid then new
-      → TrialLeaves seed count ending old new
-  tried_left ending t = subst (λ (e : Ending). TrialLeaves seed count e old new) (sym t.ending_is)
+      → TrialLeaves (slots_of store) seed count ending old new
+  tried_left ending t = subst (λ (e : Ending). TrialLeaves (slots_of store) seed count e old new) (sym t.ending_is)
       (leaves_by t.result t.stops
-      (formatted_trial old s.formatted new s.formats seed count
+      (formatted_trial (slots_of store) old s.formatted new s.formats seed count
       (opened_trial s.formatted mid store s.opened then new seed count t.onward t.result t.trial)))
 
   never_long : (result : Result (Unit {0}) Stop) → IfErr result IsTrialStop
@@ -480,24 +480,24 @@ module _ (old mid : Told) (store : ScriptStore) (s : StartsFormatted old store m
   never_long (Err stop.Output) stops is = absurd cc
   never_long (Err stop.TooLong) stops is = absurd stops
 
-  cause_by : (frames : ℕ) (result : Result (Unit {0}) Stop) → IfErr result IsTrialStop
-      → EndCause (Some (Run frames true false)) (ending_of result) old new
-      → EndCause (Some (Trial seed count frames)) (ending_of result) old new
-  cause_by frames (Ok u) stops c = tt
-  cause_by frames (Err (stop.Store (fault.Chip f))) stops c = c
-  cause_by frames (Err (stop.Store (fault.Image e))) stops c = c
-  cause_by frames (Err (stop.Store fault.Spent)) stops c = c
-  cause_by frames (Err stop.Script) stops c = absurd stops
-  cause_by frames (Err stop.Output) stops c = c
-  cause_by frames (Err stop.TooLong) stops c = absurd stops
+  cause_by : (frames sessions : ℕ) (result : Result (Unit {0}) Stop) → IfErr result IsTrialStop
+      → EndCause (Some (Run frames sessions true false)) (ending_of result) old new
+      → EndCause (Some (Trial seed count frames sessions)) (ending_of result) old new
+  cause_by frames sessions (Ok u) stops c = tt
+  cause_by frames sessions (Err (stop.Store (fault.Chip f))) stops c = c
+  cause_by frames sessions (Err (stop.Store (fault.Image e))) stops c = c
+  cause_by frames sessions (Err (stop.Store fault.Spent)) stops c = c
+  cause_by frames sessions (Err stop.Script) stops c = absurd stops
+  cause_by frames sessions (Err stop.Output) stops c = c
+  cause_by frames sessions (Err stop.TooLong) stops c = absurd stops
 
-  pub tried_cause : (frames : ℕ) (ending : Ending) → TriesOver seed count ending store mid then new
-      → EndCause (Some (Trial seed count frames)) ending old new
-  tried_cause frames ending t = subst (λ (e : Ending). EndCause (Some (Trial seed count frames)) e
+  pub tried_cause : (frames sessions : ℕ) (ending : Ending) → TriesOver seed count ending store mid then new
+      → EndCause (Some (Trial seed count frames sessions)) ending old new
+  tried_cause frames sessions ending t = subst (λ (e : Ending). EndCause (Some (Trial seed count frames sessions)) e
       old new) (sym t.ending_is)
-      (cause_by frames t.result t.stops (cause_anew old mid store s then new frames false
+      (cause_by frames sessions t.result t.stops (cause_anew old mid store s then new frames sessions false
       (ending_of t.result)
-      (over_cause s.formatted mid store s.opened then new frames false t.result
+      (over_cause s.formatted mid store s.opened then new frames sessions false t.result
       (λ known limits keeps. completes_more (t.completes known limits keeps) (omega arith)) t.cause t.learns t.unspent (never_long t.result t.stops))))
 
 -- ---- as the calls have it

@@ -1,5 +1,5 @@
 -- That nothing is used which is marked: of a chip that is opened, and behind a format.
-use Rattle.std.proofs.Common.{◌≡◌, ◌≢◌, ◌<◌, ℕ, Bool, true, false, not, List, ◌++◌, Some, None, Ok, is_some, refl, sym, ◌∙◌, ap, subst, arith}
+use Rattle.std.proofs.Common.{◌≡◌, ◌≢◌, ◌<◌, ℕ, Bool, true, false, not, List, ◌++◌, Some, None, Ok, is_some, sym, ◌∙◌, ap, subst, arith}
 use Rattle.std.proofs.lemmas.Bool.{ne_eqb}
 use Rattle.ipl_base.specs.declared.limits.TheConstants.{SECTORS}
 use Rattle.chip_trait.specs.declared.event.Event.TheVariants.{Said}

@@ -5,7 +5,7 @@ use Rattle.chip_trait.specs.Story.{joined_pieces}
 use Rattle.chip_trait.specs.Told.{Told}
 use Rattle.chip_trait.proofs.HistoryLemmas.{same_history}
 use Rattle.ipl_base.specs.Places.{units_on}
-use Rattle.ipl_model.specs.Plain.{limits_for}
+use Rattle.serial_view.specs.Running.{limits_with}
 use Rattle.store_trait.proofs.OnwardLemmas.{further_none}
 use Rattle.script_run.proofs.RunLemmas.{says_none, says_prefix}
 use Rattle.script_run.specs.View.{ReadsScript, OnlySays, SaysView}
@@ -18,27 +18,27 @@ use Rattle.ipl_cli.specs.Views.{Views, ViewsTold, OnlyViews, OnlyHears, SerialLe
 -- ---- a view that is said, or stops
 
 module _ (old new : Told) where
-  views_of : (script : List ℕ) (result : Result (Unit {0}) ViewStop)
-      → SaysView (limits_for (units_on old.places)) script old result new
-      → Views old.places script old new (is_ok result)
-  views_of script result v = record {
+  views_of : {sessions : ℕ} (script : List ℕ) (result : Result (Unit {0}) ViewStop)
+      → SaysView (limits_with sessions (units_on old.places)) script old result new
+      → Views sessions old.places script old new (is_ok result)
+  views_of {sessions} script result v = record {
     said = v.says.said;
     part = v.says.part;
-    is_prefix = says_prefix (view_on old.places script) v.says.said v.says.part;
+    is_prefix = says_prefix (view_on sessions old.places script) v.says.said v.says.part;
     history = v.says.history;
     settled = v.says.settled;
     contents = v.says.contents;
     all = λ is. (v.says.all is, v.read is);
   }
 
-  abbrev Says : ℕ → Result (Unit {0}) ViewStop → Type 0
-  Says units result = (script : List ℕ) → old.beside.left ≡ Some script
-      → SaysView (limits_for units) script old result new
+  abbrev Says : ℕ → ℕ → Result (Unit {0}) ViewStop → Type 0
+  Says sessions units result = (script : List ℕ) → old.beside.left ≡ Some script
+      → SaysView (limits_with sessions units) script old result new
 
-  views_told : (units : ℕ) → units ≡ units_on old.places → (result : Result (Unit {0}) ViewStop)
-      → Says units result → ViewsTold old new (is_ok result)
-  views_told units all result says = λ script left. views_of script result
-      (subst (λ (n : ℕ). SaysView (limits_for n) script old result new) all (says script left))
+  views_told : {sessions : ℕ} (units : ℕ) → units ≡ units_on old.places → (result : Result (Unit {0}) ViewStop)
+      → Says sessions units result → ViewsTold sessions old new (is_ok result)
+  views_told {sessions} units all result says = λ script left. views_of script result
+      (subst (λ (n : ℕ). SaysView (limits_with sessions n) script old result new) all (says script left))
 
   abbrev failed : ViewStop → Result (Unit {0}) ViewStop
   failed fault = Err fault
@@ -46,14 +46,14 @@ module _ (old new : Told) where
   only_viewed : OnlySays old new → OnlyViews old new
   only_viewed says = record { viewed = new; says = says; noted = refl }
 
-  pub said_view : (units : ℕ) → units ≡ units_on old.places → Says units (Ok tt) → OnlySays old new
-      → SerialLeaves (Ok tt) old new
+  pub said_view : {sessions : ℕ} (units : ℕ) → units ≡ units_on old.places → Says sessions units (Ok tt) → OnlySays old new
+      → SerialLeaves sessions (Ok tt) old new
   said_view units all says only = (views_told units all (Ok tt) says, only_viewed only)
 
-  pub failed_view : (units : ℕ) → units ≡ units_on old.places → (fault : ViewStop)
-      → Says units (Err fault) → OnlySays old new
+  pub failed_view : {sessions : ℕ} (units : ℕ) → units ≡ units_on old.places → (fault : ViewStop)
+      → Says sessions units (Err fault) → OnlySays old new
       → (IsErrOf (failed fault) stop.OutOfMemory → ReadsScript old new)
-      → SerialLeaves (Err (view_end fault)) old new
+      → SerialLeaves sessions (Err (view_end fault)) old new
   failed_view units all stop.OutOfMemory says only early = record {
     heard = new;
     reads = early
@@ -82,7 +82,7 @@ module _ (old mid : Told) (noted : Option (List ℕ)) where
   abbrev then : Told
   then = but_noted mid noted
 
-  views_noted : {done : Bool} → ViewsTold old mid done → ViewsTold old then done
+  views_noted : {sessions : ℕ} {done : Bool} → ViewsTold sessions old mid done → ViewsTold sessions old then done
   views_noted told = λ script left. let v = told script left in record {
     said = v.said;
     part = v.part;
@@ -109,14 +109,14 @@ module _ (old mid : Told) (noted : Option (List ℕ)) where
         noted) o.noted;
   }
 
-  pub serial_left : (ending : Ending) → SerialLeaves ending old mid → SerialLeaves ending old then
-  serial_left (Ok u) l = (views_noted l.0, only_noted l.1)
-  serial_left (Err Words) l = l
-  serial_left (Err (Chip e)) l = ap (λ (t : Told). but_noted t noted) l
-  serial_left (Err OutOfMemory) l = hears_noted l
-  serial_left (Err Script) l = (views_noted l.0, only_noted l.1)
-  serial_left (Err Output) l = (views_noted l.0, only_noted l.1)
-  serial_left (Err TooLong) l = (views_noted l.0, only_noted l.1)
+  pub serial_left : (sessions : ℕ) (ending : Ending) → SerialLeaves sessions ending old mid → SerialLeaves sessions ending old then
+  serial_left sessions (Ok u) l = (views_noted l.0, only_noted l.1)
+  serial_left sessions (Err Words) l = l
+  serial_left sessions (Err (Chip e)) l = ap (λ (t : Told). but_noted t noted) l
+  serial_left sessions (Err OutOfMemory) l = hears_noted l
+  serial_left sessions (Err Script) l = (views_noted l.0, only_noted l.1)
+  serial_left sessions (Err Output) l = (views_noted l.0, only_noted l.1)
+  serial_left sessions (Err TooLong) l = (views_noted l.0, only_noted l.1)
 
 -- ---- where nothing was said
 
@@ -128,11 +128,11 @@ module _ (old new : Told) where
     noted = is;
   }
 
-  pub hears_views : OnlyHears old new → ViewsTold old new false
-  hears_views o = λ script left. record {
+  pub hears_views : {sessions : ℕ} → OnlyHears old new → ViewsTold sessions old new false
+  hears_views {sessions} o = λ script left. record {
     said = [];
-    part = says_none (view_on old.places script);
-    is_prefix = (joined_pieces (view_on old.places script), refl);
+    part = says_none (view_on sessions old.places script);
+    is_prefix = (joined_pieces (view_on sessions old.places script), refl);
     history = ap (λ (t : Told). t.history) o.noted ∙ o.reads.history ∙ same_history old.history;
     settled = ap (λ (t : Told). t.settled) o.noted ∙ o.reads.settled;
     contents = ap (λ (t : Told). t.contents) o.noted ∙ o.reads.contents;

@@ -6,10 +6,10 @@ use Rattle.chip_trait.specs.Lawful.{Unknown, IsLawful, IsLawfulAfter, age}
 use Rattle.chip_trait.specs.Story.{Story, held}
 use Rattle.chip_trait.specs.Told.{History, Told, adds_all}
 use Rattle.ipl_base.specs.Places.{units_on}
-use Rattle.ipl_model.specs.State.{Map, State, at_rest}
+use Rattle.ipl_model.specs.State.{Limits, Map, at_rest}
 use Rattle.ipl_model.specs.Grammar.{commands_of}
 use Rattle.ipl_model.specs.Run.{after_all}
-use Rattle.ipl_meaning.specs.Legible.{Legible, IsToldApart, whole}
+use Rattle.ipl_meaning.specs.Legible.{Legible, IsToldApart}
 use Rattle.ipl_meaning.specs.Marks.{IsMarked, MarksAreUnused}
 use Rattle.ipl_meaning.specs.Rests.{now, StoryRests}
 use Rattle.unit_io.specs.Leads.{IsSteady}
@@ -44,21 +44,21 @@ units_kept t h = units_at (now h) t.places
 abbrev pub no_records : Map
 no_records = empty
 
--- the records after a trial, and then a script, on all units
-abbrev pub records_tried : ℕ → ℕ → ℕ → List ℕ → Map
-records_tried places seed count script =
-    records_after (units_on places) (state_after places (commands_on places seed count)).map script
+-- the records after a trial of so many sessions, and then a script of others, on all units
+abbrev pub records_tried : ℕ → ℕ → ℕ → ℕ → ℕ → List ℕ → Map
+records_tried tried sessions places seed count script =
+    records_after (limits_of sessions (units_on places)) (state_after tried places (commands_on places seed count)).map script
 
--- the records after the commands alone that the serial view of a script has, on so many units, from these records on
-abbrev pub records_viewed : ℕ → Map → List ℕ → Map
-records_viewed units m script =
+-- the records after the commands alone that the serial view of a script has, under these limits, from these records on
+abbrev pub records_viewed : Limits → Map → List ℕ → Map
+records_viewed limits m script =
     let commands = commands_of script in
-    let view = serial (limits_of units) m commands in
-    (after_all (limits_of units) (at_rest m) (picked commands view)).map
+    let view = serial limits m commands in
+    (after_all limits (at_rest m) (picked commands view)).map
 
 -- they are those after all its commands: what a run leaves, also where it goes over transactions one after the other
 abbrev pub ViewKeepsRecords : Type 0
-ViewKeepsRecords = (units : ℕ) (m : Map) (script : List ℕ) → records_viewed units m script ≡ records_after units m script
+ViewKeepsRecords = (limits : Limits) (m : Map) (script : List ℕ) → records_viewed limits m script ≡ records_after limits m script
 
 -- ---- stories, over runs
 
@@ -93,4 +93,4 @@ pub record AddsLawfully (places : ℕ) (h : History) (old new : Told) : Type 0 w
 
 -- it is asked to run a script over a chip that is opened, and to close that behind it
 abbrev pub AsksClosed : AskedFor → Type 0
-AsksClosed asked = (frames : ℕ) × (asked ≡ Some (Run frames false true))
+AsksClosed asked = (sessions : ℕ) × (frames : ℕ) × (asked ≡ Some (Run frames sessions false true))

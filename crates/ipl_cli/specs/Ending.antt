@@ -17,18 +17,26 @@ use Rattle.command_line.specs.declared.end.End.TheVariants.{Chip}
 abbrev pub AskedFor : Type 0
 AskedFor = Option Request
 
--- they ask for a run over a chip that is opened, with so many page frames
-abbrev pub AsksOpened : AskedFor → Type 0
-AsksOpened asked = (frames : ℕ) × (closes : Bool) × (asked ≡ Some (Run frames false closes))
+-- they ask for a run with so many sessions over a chip that is opened
+abbrev pub AsksOpenedBy : ℕ → AskedFor → Type 0
+AsksOpenedBy sessions asked = (frames : ℕ) × (closes : Bool) × (asked ≡ Some (Run frames sessions false closes))
 
--- they ask for a run over a chip that is formatted first
+-- with however many
+abbrev pub AsksOpened : AskedFor → Type 0
+AsksOpened asked = (sessions : ℕ) × AsksOpenedBy sessions asked
+
+-- they ask for a run with so many sessions over a chip that is formatted first
+abbrev pub AsksFormattedBy : ℕ → AskedFor → Type 0
+AsksFormattedBy sessions asked = (frames : ℕ) × (closes : Bool) × (asked ≡ Some (Run frames sessions true closes))
+
+-- with however many
 abbrev pub AsksFormatted : AskedFor → Type 0
-AsksFormatted asked = (frames : ℕ) × (closes : Bool) × (asked ≡ Some (Run frames true closes))
+AsksFormatted asked = (sessions : ℕ) × AsksFormattedBy sessions asked
 
 -- or for a trial, which formats it first too
 abbrev pub AsksAnew : AskedFor → Type 0
 AsksAnew asked = AsksFormatted asked
-    ⊎ ((seed : ℕ) × (count : ℕ) × (frames : ℕ) × (asked ≡ Some (Trial seed count frames)))
+    ⊎ ((seed : ℕ) × (count : ℕ) × (frames : ℕ) × (sessions : ℕ) × (asked ≡ Some (Trial seed count frames sessions)))
 
 -- how the program ends: what was asked was done to its end, or it ends before
 abbrev pub Ending : Type 0

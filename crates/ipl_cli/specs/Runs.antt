@@ -1,5 +1,5 @@
 -- How the program starts and runs.
-use Rattle.std.specs.Prelude.{ℕ, ◌≡◌, ◌⊎◌, ◌+◌, Bool, true, false, not, List, [], Some, Result, Ok, Err, OnOk, IfErr, IsErrOf, is_ok}
+use Rattle.std.specs.Prelude.{ℕ, ◌≡◌, ◌⊎◌, ◌+◌, Bool, true, false, not, List, [], length, Some, Result, Ok, Err, OnOk, IfErr, IsErrOf, is_ok}
 use Rattle.chip_trait.specs.Story.{Contents}
 use Rattle.chip_trait.specs.Told.{History, Told, Counts}
 use Rattle.ipl_base.specs.Places.{IsGeometry, units_on}
@@ -26,7 +26,7 @@ use Rattle.ipl_store.specs.declared.store.Store.{Store}
 use Rattle.ipl_store.specs.Calls.{IsSound}
 use Rattle.ipl_store.specs.Openings.{OpensStore, Tries}
 use Rattle.script_store.specs.declared.store.ScriptStore.{ScriptStore}
-use Rattle.store_laws.specs.Keeps.{KnownPages, all_pages}
+use Rattle.store_laws.specs.Keeps.{KnownPages, all_pages, limits_of}
 use Rattle.script_store.specs.Keeps.{IsRunning, script_keeping}
 use Rattle.script_store.specs.Closes.{MarksRecalled, ClosesAtEnd, CountsMarked}
 use Rattle.restart.specs.Closing.{EndsWithMark}
@@ -37,6 +37,10 @@ use Rattle.command_line.specs.declared.end.End.{End}
 use Rattle.command_line.specs.declared.end.End.TheVariants.{Words, Chip, OutOfMemory, Script, Output, TooLong}
 use Rattle.ipl_cli.specs.Ending.{Ending, IsFormatStopped, StopRose, format_end}
 use Rattle.ipl_cli.specs.Top.{FindsWorn, IsTooLong, OverTold, WereUnused, Runs}
+
+-- how many sessions a store has
+abbrev pub slots_of : ScriptStore → ℕ
+slots_of store = length store.store.transactions.sessions
 
 -- ---- the start
 
@@ -145,13 +149,13 @@ pub record RunsOver (ending : Ending) (before : ScriptStore) (old : Told) (then 
   pub ending_is : ending ≡ ending_of result
   pub run : HasRun result before old then new
 
--- A chip was opened whose marks count or don't, and a script was run: from the records on which its history
+-- A chip was opened whose marks count or don't, and a script was run by so many sessions: from the records on which its history
 -- rests, on as many units as it says, whichever pages don't read well. Where marks don't count, nothing that is marked was
 -- used.
-abbrev pub RunsFrom : Bool → Told → Told → Ending → Type 0
-RunsFrom marks old new ending = OverTold
+abbrev pub RunsFrom : ℕ → Bool → Told → Told → Ending → Type 0
+RunsFrom sessions marks old new ending = OverTold
     (λ places script h. (m : Legible) → StoryRests places m h → IsToldApart m.pages → WereUnused (not marks) places h
-    → Runs marks places (units_at (now h) places) m script h [] old new ending) old
+    → Runs marks places (limits_of sessions (units_at (now h) places)) m script h [] old new ending) old
 
 -- ---- a close behind a run
 

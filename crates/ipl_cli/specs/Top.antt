@@ -12,7 +12,7 @@ use Rattle.ipl_base.specs.Places.{IsGeometry, IsSpared, units_on, spares_on}
 use Rattle.ipl_base.specs.declared.fault.ChipFault.TheVariants.{ReadFault, Stopped, Damaged, Malformed, WornOut}
 use Rattle.ipl_base.specs.declared.fault.ImageFault.{ImageFault}
 use Rattle.ipl_base.specs.declared.fault.ImageFault.TheVariants as image
-use Rattle.ipl_model.specs.State.{State, Map, at_rest}
+use Rattle.ipl_model.specs.State.{State, Limits, Map, at_rest}
 use Rattle.ipl_model.specs.Grammar.{commands_of}
 use Rattle.ipl_model.specs.Run.{joined_lines, lines, after_all, IsNear}
 use Rattle.ipl_format.specs.Sector.{sector_in}
@@ -211,10 +211,10 @@ FormattedCause (image.NoSpare n) old new = AnewCause old
 -- when a fault of the chip ends what was asked
 abbrev pub ChipCause : Request → ImageFault → Told → Told → Type 0
 ChipCause (Format spares) e old new = FormatCause spares e old new
-ChipCause (Run frames true closes) e old new = FormattedCause e old new
-ChipCause (Run frames false closes) e old new = OpenedCause e old new
-ChipCause (Trial seed count frames) e old new = FormattedCause e old new
-ChipCause Serial e old new = ViewedCause e old new
+ChipCause (Run frames sessions true closes) e old new = FormattedCause e old new
+ChipCause (Run frames sessions false closes) e old new = OpenedCause e old new
+ChipCause (Trial seed count frames sessions) e old new = FormattedCause e old new
+ChipCause (Serial sessions) e old new = ViewedCause e old new
 ChipCause Check e old new = CheckedCause e old new
 
 -- so many bytes of the script were read; where the script is told it has so many
@@ -228,17 +228,17 @@ RequestCause request Words old new = ⊥
 RequestCause request (Chip e) old new = ChipCause request e old new
 RequestCause request OutOfMemory old new = Unit {0}
 RequestCause (Format spares) Script old new = ⊥
-RequestCause (Run frames formats closes) Script old new =
+RequestCause (Run frames sessions formats closes) Script old new =
     Rose old.beside.script_faults new.beside.script_faults
-RequestCause Serial Script old new = Rose old.beside.script_faults new.beside.script_faults
+RequestCause (Serial sessions) Script old new = Rose old.beside.script_faults new.beside.script_faults
 RequestCause Check Script old new = ⊥
-RequestCause (Trial seed count frames) Script old new = ⊥
+RequestCause (Trial seed count frames sessions) Script old new = ⊥
 RequestCause request Output old new = Rose old.beside.say_faults new.beside.say_faults
 RequestCause (Format spares) TooLong old new = ⊥
-RequestCause (Run frames formats closes) TooLong old new = IsTooLong old new
-RequestCause Serial TooLong old new = IsTooLong old new
+RequestCause (Run frames sessions formats closes) TooLong old new = IsTooLong old new
+RequestCause (Serial sessions) TooLong old new = IsTooLong old new
 RequestCause Check TooLong old new = ⊥
-RequestCause (Trial seed count frames) TooLong old new = ⊥
+RequestCause (Trial seed count frames sessions) TooLong old new = ⊥
 
 -- when the program ends so
 abbrev pub EndCause : AskedFor → Ending → Told → Told → Type 0
@@ -255,47 +255,48 @@ EndCause (Some request) (Err end) old new = RequestCause request end old new
 abbrev pub WearsAsAsked : AskedFor → Told → Told → Type 0
 WearsAsAsked None old new = ⊥
 WearsAsAsked (Some (Format spares)) old new = FindsWorn old new
-WearsAsAsked (Some (Run frames true closes)) old new = FindsWorn old new
-WearsAsAsked (Some (Run frames false closes)) old new = WearsOut old new
-WearsAsAsked (Some Serial) old new = ⊥
+WearsAsAsked (Some (Run frames sessions true closes)) old new = FindsWorn old new
+WearsAsAsked (Some (Run frames sessions false closes)) old new = WearsOut old new
+WearsAsAsked (Some (Serial sessions)) old new = ⊥
 WearsAsAsked (Some Check) old new = ⊥
-WearsAsAsked (Some (Trial seed count frames)) old new = FindsWorn old new
+WearsAsAsked (Some (Trial seed count frames sessions)) old new = FindsWorn old new
 
 -- ---- the headline
 
--- the lines that answer a script on so many units, from these records and no open session
-abbrev pub answers : ℕ → Map → List ℕ → List (List ℕ)
-answers units m script = lines (limits_of units) (at_rest m) (commands_of script)
+-- the lines that answer a script under these limits, from these records and no open session
+abbrev pub answers : Limits → Map → List ℕ → List (List ℕ)
+answers limits m script = lines limits (at_rest m) (commands_of script)
 
 -- this is so of the model's state after the commands of which the bytes have the whole replies, or
 -- after one more
-abbrev pub IsAbout : (State → Type 0) → ℕ → Map → List ℕ → List ℕ → Type 0
-IsAbout Q units m script bytes =
-    IsNear Q (limits_of units) (at_rest m) (commands_of script) bytes
+abbrev pub IsAbout : (State → Type 0) → Limits → Map → List ℕ → List ℕ → Type 0
+IsAbout Q limits m script bytes =
+    IsNear Q limits (at_rest m) (commands_of script) bytes
 
--- the contents of a chip of so many places stand, in so many units, for the records of such a state, of these pages
-abbrev pub StandsAbout : ℕ → ℕ → Legible → List ℕ → List ℕ → Contents → Type 0
-StandsAbout places units m script bytes x =
-    IsAbout (λ s. StandsIn places units (chart_of x) (of m.pages s.map)) units m.map script bytes
+-- the contents of a chip of so many places stand, in as many units as the limits say, for the records of such a state, of
+-- these pages
+abbrev pub StandsAbout : ℕ → Limits → Legible → List ℕ → List ℕ → Contents → Type 0
+StandsAbout places limits m script bytes x =
+    IsAbout (λ s. StandsIn places limits.units (chart_of x) (of m.pages s.map)) limits m.map script bytes
 
 -- the first commands of the script were answered with these lines, each said whole; Q is so of the
 -- state after them
-abbrev pub IsBetween : (State → Type 0) → ℕ → Map → List ℕ → List (List ℕ) → Type 0
-IsBetween Q units m script said =
-    EndsBetween (limits_of units) (at_rest m) (commands_of script) said Q
+abbrev pub IsBetween : (State → Type 0) → Limits → Map → List ℕ → List (List ℕ) → Type 0
+IsBetween Q limits m script said =
+    EndsBetween limits (at_rest m) (commands_of script) said Q
 
 -- How far the script was answered, by the end: all of it; up to a line that couldn't be said, of a
 -- command that is done; or up to a command that isn't done. Q is so of the state then.
-abbrev pub EndsBy : Ending → (State → Type 0) → ℕ → Map → List ℕ → List (List ℕ) → Type 0
-EndsBy (Ok u) Q units m script said =
-    Q (after_all (limits_of units) (at_rest m) (commands_of script))
-EndsBy (Err Words) Q units m script said = IsBetween Q units m script said
-EndsBy (Err (Chip e)) Q units m script said = IsBetween Q units m script said
-EndsBy (Err OutOfMemory) Q units m script said = IsBetween Q units m script said
-EndsBy (Err Script) Q units m script said = IsBetween Q units m script said
-EndsBy (Err Output) Q units m script said =
-    EndsUnsaid (limits_of units) (at_rest m) (commands_of script) said Q
-EndsBy (Err TooLong) Q units m script said = IsBetween Q units m script said
+abbrev pub EndsBy : Ending → (State → Type 0) → Limits → Map → List ℕ → List (List ℕ) → Type 0
+EndsBy (Ok u) Q limits m script said =
+    Q (after_all limits (at_rest m) (commands_of script))
+EndsBy (Err Words) Q limits m script said = IsBetween Q limits m script said
+EndsBy (Err (Chip e)) Q limits m script said = IsBetween Q limits m script said
+EndsBy (Err OutOfMemory) Q limits m script said = IsBetween Q limits m script said
+EndsBy (Err Script) Q limits m script said = IsBetween Q limits m script said
+EndsBy (Err Output) Q limits m script said =
+    EndsUnsaid limits (at_rest m) (commands_of script) said Q
+EndsBy (Err TooLong) Q limits m script said = IsBetween Q limits m script said
 
 -- the sectors that are marked as clean on a chip that holds what this history leaves; none where marks don't count
 abbrev pub AreMarked : Bool → ℕ → History → ℕ → ℕ → Type 0
@@ -317,7 +318,7 @@ EndMet places (Err Script) h = Unit {0}
 EndMet places (Err Output) h = Unit {0}
 EndMet places (Err TooLong) h = Unit {0}
 
--- What a run of a script leaves, from these records on and on so many units, after these first events
+-- What a run of a script leaves, from these records on and under these limits, after these first events
 -- on a chip of so many places that holds what this history leaves, where its marks count or don't. Of records it says those of
 -- the pages of which these are. What the chip tells grew by these
 -- events. Whatever moment the power is cut at, within a chip operation too, the chip stands for the
@@ -328,35 +329,35 @@ EndMet places (Err TooLong) h = Unit {0}
 -- the history then leaves; that rests on such records, and by how the run ended exactly on those of the
 -- commands that are done: the next run may begin there. Where it ended by a sector at fault and the chip tells its story,
 -- at some moment the chip held that. Where all is done, the whole text is said, and the script was read to its end.
-pub record Runs (marks : Bool) (places units : ℕ) (m : Legible) (script : List ℕ) (h : History) (first : Story)
+pub record Runs (marks : Bool) (places : ℕ) (limits : Limits) (m : Legible) (script : List ℕ) (h : History) (first : Story)
     (old new : Told) (ending : Ending) : Type 0 where
   pub added : Story
   pub history : new.history
       ≡ option_map (adds_all added) (option_map (adds_all first) old.history)
   pub each_moment : AtEachMoment
-      (λ e. Leaves (says sector_in) (StandsAbout places units m script (said e))
+      (λ e. Leaves (says sector_in) (StandsAbout places limits m script (said e))
       (adds_all first h) e)
       added
-  pub replies : SaysLines (answers units m.map script) (pieces added)
-  pub is_prefix : IsPrefix (said added) (joined_lines (answers units m.map script))
+  pub replies : SaysLines (answers limits m.map script) (pieces added)
+  pub is_prefix : IsPrefix (said added) (joined_lines (answers limits m.map script))
   pub lawful : (base : Story) → IsLawful base → AreClean (AreMarked marks places h) base
       → IsLawful (added ++ (first ++ base))
   pub unused : WereUnused marks places (adds_all first h)
       → AtEachMoment (λ e. MarksAreUnused places (adds_all e (adds_all first h))) added
   pub steady : Unrisen old new → IsSteady (adds_all added (adds_all first h)) new
   pub rests : Unrisen old new
-      → IsAbout (λ s. StoryRests places (of m.pages s.map) (adds_all added (adds_all first h))) units m.map script
+      → IsAbout (λ s. StoryRests places (of m.pages s.map) (adds_all added (adds_all first h))) limits m.map script
       (said added)
   pub ends : EndsBy ending
       (λ s. Unrisen old new → StoryRests places (of m.pages s.map) (adds_all added (adds_all first h)))
-      units m.map script (pieces added)
+      limits m.map script (pieces added)
   pub met : Unrisen old new → TellsStory new → EndMet places ending (adds_all added (adds_all first h))
   pub read : List ℕ
   pub unread : List ℕ
   pub script_is : script ≡ read ++ unread
   pub left_is : new.beside.left ≡ Some unread
   pub all : ending ≡ Ok tt
-      → (pieces added ≡ answers units m.map script) × (said added ≡ joined_lines (answers units m.map script))
+      → (pieces added ≡ answers limits m.map script) × (said added ≡ joined_lines (answers limits m.map script))
       × (unread ≡ [])
 
 -- over each history that leaves what the chip holds, where no write has failed, and a script that is
@@ -365,23 +366,24 @@ abbrev pub OverTold : (ℕ → List ℕ → History → Type 0) → Told → Typ
 OverTold P old = (h : History) (script : List ℕ) → IsSteady h old
     → old.beside.left ≡ Some script → P old.places script h
 
--- The chip was opened, and the script was run: from the records on which such a history rests, on as many
--- units as the chip says, whichever pages don't read well. All events are in this, those of the opening too.
-abbrev pub RunsOpened : Told → Told → Ending → Type 0
-RunsOpened old new ending = OverTold
+-- The chip was opened, and the script was run by so many sessions: from the records on which such a history rests, on as
+-- many units as the chip says, whichever pages don't read well. All events are in this, those of the opening too.
+abbrev pub RunsOpened : ℕ → Told → Told → Ending → Type 0
+RunsOpened sessions old new ending = OverTold
     (λ places script h. (m : Legible) → StoryRests places m h → IsToldApart m.pages
-    → Runs true places (units_at (now h) places) m script h [] old new ending) old
+    → Runs true places (limits_of sessions (units_at (now h) places)) m script h [] old new ending) old
 
--- the chip was formatted with no place to spare, and the script was run from no records on
-abbrev pub RunsFormatted : Told → Told → Ending → Type 0
-RunsFormatted old new ending = OverTold
-    (λ places script h. Runs false places (units_on places) (whole empty) script h
+-- the chip was formatted with no place to spare, and the script was run by so many sessions from no
+-- records on
+abbrev pub RunsFormatted : ℕ → Told → Told → Ending → Type 0
+RunsFormatted sessions old new ending = OverTold
+    (λ places script h. Runs false places (limits_of sessions (units_on places)) (whole empty) script h
     (format_events places (units_on places)) old new ending) old
 
--- the records after all commands of a script, on so many units, from these records on
-abbrev pub records_after : ℕ → Map → List ℕ → Map
-records_after units m script =
-    (after_all (limits_of units) (at_rest m) (commands_of script)).map
+-- the records after all commands of a script, under these limits, from these records on
+abbrev pub records_after : Limits → Map → List ℕ → Map
+records_after limits m script =
+    (after_all limits (at_rest m) (commands_of script)).map
 
 -- the chip tells what it holds, and that stands for these records
 pub record HoldsRecords (places : ℕ) (m : Legible) (t : Told) : Type 0 where
@@ -390,11 +392,11 @@ pub record HoldsRecords (places : ℕ) (m : Legible) (t : Told) : Type 0 where
   pub stands : Stands places (chart_of contents) m
 
 -- Over a chip that tells what it holds, and a script that is told: where no write failed, the chip
--- holds the records after all commands at the end, of the same pages.
-abbrev pub EndsWithRecords : (Told → ℕ → Legible → Type 0) → Told → Told → Type 0
-EndsWithRecords From old new = (units : ℕ) (m : Legible) (script : List ℕ) → From old units m
+-- holds the records after all commands of so many sessions at the end, of the same pages.
+abbrev pub EndsWithRecords : ℕ → (Told → ℕ → Legible → Type 0) → Told → Told → Type 0
+EndsWithRecords sessions From old new = (units : ℕ) (m : Legible) (script : List ℕ) → From old units m
     → old.beside.left ≡ Some script → Unrisen old new
-    → HoldsRecords old.places (of m.pages (records_after units m.map script)) new
+    → HoldsRecords old.places (of m.pages (records_after (limits_of sessions units) m.map script)) new
 
 -- it begins with the records that the chip holds, whichever pages don't read well, and with as many units as that says
 pub record FromItsRecords (old : Told) (units : ℕ) (m : Legible) : Type 0 where
@@ -408,9 +410,9 @@ FromNoRecords old units m = (m ≡ whole empty) × (units ≡ units_on old.place
     × ((x : Contents) × (old.contents ≡ Some x))
 
 -- the script was run, or a part of it, or the format before it was stopped
-abbrev pub RunsOrStops : Told → Told → Ending → Type 0
-RunsOrStops old new ending = OverTold
-    (λ places script h. Runs false places (units_on places) (whole empty) script h
+abbrev pub RunsOrStops : ℕ → Told → Told → Ending → Type 0
+RunsOrStops sessions old new ending = OverTold
+    (λ places script h. Runs false places (limits_of sessions (units_on places)) (whole empty) script h
     (format_events places (units_on places)) old new ending
     ⊎ StopsEarly places (units_on places) h old new ending) old
 
@@ -462,16 +464,16 @@ FormatLeaves spares (Err Output) old new = LaysOut spares old new false
 FormatLeaves spares (Err TooLong) old new = ⊥
 
 -- what a run leaves over a chip that is formatted first; another number of places was left alone
-abbrev pub FormattedLeaves : Ending → Told → Told → Type 0
-FormattedLeaves (Ok u) old new = RunsFormatted old new (Ok u) × ReadsAll old new
-FormattedLeaves (Err Words) old new = ⊥
-FormattedLeaves (Err (Chip e)) old new =
+abbrev pub FormattedLeaves : ℕ → Ending → Told → Told → Type 0
+FormattedLeaves sessions (Ok u) old new = RunsFormatted sessions old new (Ok u) × ReadsAll old new
+FormattedLeaves sessions (Err Words) old new = ⊥
+FormattedLeaves sessions (Err (Chip e)) old new =
     ((¬ IsGeometry old.places) × (e ≡ image.Geometry) × IsLeftAlone old new)
-    ⊎ (IsGeometry old.places × RunsOrStops old new (Err (Chip e)))
-FormattedLeaves (Err OutOfMemory) old new = IsLeftAlone old new
-FormattedLeaves (Err Script) old new = RunsFormatted old new (Err Script)
-FormattedLeaves (Err Output) old new = RunsFormatted old new (Err Output)
-FormattedLeaves (Err TooLong) old new = RunsFormatted old new (Err TooLong)
+    ⊎ (IsGeometry old.places × RunsOrStops sessions old new (Err (Chip e)))
+FormattedLeaves sessions (Err OutOfMemory) old new = IsLeftAlone old new
+FormattedLeaves sessions (Err Script) old new = RunsFormatted sessions old new (Err Script)
+FormattedLeaves sessions (Err Output) old new = RunsFormatted sessions old new (Err Output)
+FormattedLeaves sessions (Err TooLong) old new = RunsFormatted sessions old new (Err TooLong)
 
 -- nothing was done but reads of the chip, and a note
 pub record OnlyLooks (old new : Told) : Type 0 where
@@ -489,37 +491,37 @@ IsRefused ended old new = (e : ImageFault) → HasFault old e
     → OnlyLooks old new × EndsAtFault e ended
 
 -- what a run leaves over a chip that is opened, which ends with a fault of the chip
-pub record OpenedStops (e : ImageFault) (old new : Told) : Type 0 where
-  pub runs : RunsOpened old new (Err (Chip e))
+pub record OpenedStops (sessions : ℕ) (e : ImageFault) (old new : Told) : Type 0 where
+  pub runs : RunsOpened sessions old new (Err (Chip e))
   pub refused : IsRefused e old new
   pub other : ¬ IsGeometry old.places → IsLeftAlone old new
 
 -- What is left of a chip that was opened well. At the end of the script all of it was read.
-pub record OpenedRuns (old new : Told) (ending : Ending) : Type 0 where
-  pub runs : RunsOpened old new ending
+pub record OpenedRuns (sessions : ℕ) (old new : Told) (ending : Ending) : Type 0 where
+  pub runs : RunsOpened sessions old new ending
   pub read : ending ≡ Ok tt → ReadsAll old new
   pub laid : IsLaidWell old
   pub fits : IsGeometry old.places
 
 -- what a run leaves over a chip that is opened
-abbrev pub OpenedLeaves : Ending → Told → Told → Type 0
-OpenedLeaves (Ok u) old new = OpenedRuns old new (Ok u)
-OpenedLeaves (Err Words) old new = ⊥
-OpenedLeaves (Err (Chip e)) old new = OpenedStops e old new
-OpenedLeaves (Err OutOfMemory) old new = IsLeftAlone old new
-OpenedLeaves (Err Script) old new = OpenedRuns old new (Err Script)
-OpenedLeaves (Err Output) old new = OpenedRuns old new (Err Output)
-OpenedLeaves (Err TooLong) old new = OpenedRuns old new (Err TooLong)
+abbrev pub OpenedLeaves : ℕ → Ending → Told → Told → Type 0
+OpenedLeaves sessions (Ok u) old new = OpenedRuns sessions old new (Ok u)
+OpenedLeaves sessions (Err Words) old new = ⊥
+OpenedLeaves sessions (Err (Chip e)) old new = OpenedStops sessions e old new
+OpenedLeaves sessions (Err OutOfMemory) old new = IsLeftAlone old new
+OpenedLeaves sessions (Err Script) old new = OpenedRuns sessions old new (Err Script)
+OpenedLeaves sessions (Err Output) old new = OpenedRuns sessions old new (Err Output)
+OpenedLeaves sessions (Err TooLong) old new = OpenedRuns sessions old new (Err TooLong)
 
 -- what the program leaves, wherever it ends
 abbrev pub EndLeaves : AskedFor → Ending → Told → Told → Type 0
 EndLeaves None ending old new = IsLeftAlone old new
 EndLeaves (Some (Format spares)) ending old new = FormatLeaves spares ending old new
-EndLeaves (Some (Run frames true closes)) ending old new = FormattedLeaves ending old new
-EndLeaves (Some (Run frames false closes)) ending old new = OpenedLeaves ending old new
-EndLeaves (Some Serial) ending old new = SerialLeaves ending old new
+EndLeaves (Some (Run frames sessions true closes)) ending old new = FormattedLeaves sessions ending old new
+EndLeaves (Some (Run frames sessions false closes)) ending old new = OpenedLeaves sessions ending old new
+EndLeaves (Some (Serial sessions)) ending old new = SerialLeaves sessions ending old new
 EndLeaves (Some Check) ending old new = CheckLeaves ending old new
-EndLeaves (Some (Trial seed count frames)) ending old new = TrialLeaves seed count ending old new
+EndLeaves (Some (Trial seed count frames sessions)) ending old new = TrialLeaves sessions seed count ending old new
 
 -- How the program ends: with its status and its line, which is noted alone; for a cause; and what it
 -- leaves.
@@ -555,9 +557,9 @@ SpentCause old = IsSpent old ⊎ IsMetLater old
 
 -- nothing was done to a chip of another number of places, or it was formatted and the script run, or a
 -- part of that
-abbrev pub UntouchedOrRuns : Told → Told → Ending → Type 0
-UntouchedOrRuns old new ending = ((¬ IsGeometry old.places) × IsLeftAlone old new)
-    ⊎ RunsOrStops old new ending
+abbrev pub UntouchedOrRuns : ℕ → Told → Told → Ending → Type 0
+UntouchedOrRuns sessions old new ending = ((¬ IsGeometry old.places) × IsLeftAlone old new)
+    ⊎ RunsOrStops sessions old new ending
 
 -- ---- completeness
 
@@ -579,11 +581,11 @@ pub record IsTold (t : Told) : Type 0 where
 -- with numbers left; and where it is checked, that what it holds stands for records
 abbrev pub Suffices : Request → Told → Type 0
 Suffices (Format spares) old = IsSpared old.places spares
-Suffices (Run frames true closes) old = IsTold old
-Suffices (Run frames false closes) old = RestsWithNumbersLeft old
-Suffices Serial old = IsGeometry old.places
+Suffices (Run frames sessions true closes) old = IsTold old
+Suffices (Run frames sessions false closes) old = RestsWithNumbersLeft old
+Suffices (Serial sessions) old = IsGeometry old.places
 Suffices Check old = (m : Map) × HoldsRecords old.places (whole m) old
-Suffices (Trial seed count frames) old = IsTold old
+Suffices (Trial seed count frames sessions) old = IsTold old
 
 -- the script ends in time: by the count of its bytes, or as it is told
 abbrev pub EndsInTime : Told → Told → Type 0

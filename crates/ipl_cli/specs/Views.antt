@@ -6,7 +6,7 @@ use Rattle.chip_trait.specs.Told.{Told, IsPrefix, adds_all}
 use Rattle.ipl_base.specs.Places.{IsGeometry, units_on}
 use Rattle.ipl_base.specs.declared.fault.ImageFault.{ImageFault}
 use Rattle.ipl_base.specs.declared.fault.ImageFault.TheVariants as image
-use Rattle.ipl_model.specs.Plain.{limits_for}
+use Rattle.serial_view.specs.Running.{limits_with}
 use Rattle.store_trait.specs.Onward.{sayings}
 use Rattle.script_run.specs.Run.{SaysLines}
 use Rattle.script_run.specs.View.{ReadsScript, OnlySays, view_lines}
@@ -27,26 +27,26 @@ view_end stop.Output = Output
 abbrev pub ViewedCause : ImageFault → Told → Told → Type 0
 ViewedCause e old new = (e ≡ image.Geometry) × ¬ IsGeometry old.places
 
--- the lines of the serial view of a script, run from no records, on so many places
-abbrev pub view_on : ℕ → List ℕ → List (List ℕ)
-view_on places script = view_lines (limits_for (units_on places)) script
+-- the lines of the serial view of a script, run by so many sessions from no records, on so many places
+abbrev pub view_on : ℕ → ℕ → List ℕ → List (List ℕ)
+view_on sessions places script = view_lines (limits_with sessions (units_on places)) script
 
 -- What the view of a script leaves. What is said is a beginning of its lines, one by one, and
 -- nothing else happened to the
 -- chip. Where all is done, all lines are said, and of the script nothing is left.
-pub record Views (places : ℕ) (script : List ℕ) (old new : Told) (done : Bool) : Type 0 where
+pub record Views (sessions places : ℕ) (script : List ℕ) (old new : Told) (done : Bool) : Type 0 where
   pub said : List (List ℕ)
-  pub part : SaysLines (view_on places script) said
-  pub is_prefix : IsPrefix (joined_pieces said) (joined_pieces (view_on places script))
+  pub part : SaysLines (view_on sessions places script) said
+  pub is_prefix : IsPrefix (joined_pieces said) (joined_pieces (view_on sessions places script))
   pub history : new.history ≡ option_map (adds_all (reverse (sayings said))) old.history
   pub settled : new.settled ≡ old.settled
   pub contents : new.contents ≡ old.contents
-  pub all : done ≡ true → (said ≡ view_on places script) × (new.beside.left ≡ Some [])
+  pub all : done ≡ true → (said ≡ view_on sessions places script) × (new.beside.left ≡ Some [])
 
 -- over a script that is told
-abbrev pub ViewsTold : Told → Told → Bool → Type 0
-ViewsTold old new done = (script : List ℕ) → old.beside.left ≡ Some script
-    → Views old.places script old new done
+abbrev pub ViewsTold : ℕ → Told → Told → Bool → Type 0
+ViewsTold sessions old new done = (script : List ℕ) → old.beside.left ≡ Some script
+    → Views sessions old.places script old new done
 
 -- no sector was touched: pieces were said, the script was read, and the end was noted
 pub record OnlyViews (old new : Told) : Type 0 where
@@ -61,11 +61,11 @@ pub record OnlyHears (old new : Told) : Type 0 where
   pub noted : new ≡ but_noted heard new.beside.noted
 
 -- what a view leaves
-abbrev pub SerialLeaves : Ending → Told → Told → Type 0
-SerialLeaves (Ok u) old new = ViewsTold old new true × OnlyViews old new
-SerialLeaves (Err Words) old new = ⊥
-SerialLeaves (Err (Chip e)) old new = IsLeftAlone old new
-SerialLeaves (Err OutOfMemory) old new = OnlyHears old new
-SerialLeaves (Err Script) old new = ViewsTold old new false × OnlyViews old new
-SerialLeaves (Err Output) old new = ViewsTold old new false × OnlyViews old new
-SerialLeaves (Err TooLong) old new = ViewsTold old new false × OnlyViews old new
+abbrev pub SerialLeaves : ℕ → Ending → Told → Told → Type 0
+SerialLeaves sessions (Ok u) old new = ViewsTold sessions old new true × OnlyViews old new
+SerialLeaves sessions (Err Words) old new = ⊥
+SerialLeaves sessions (Err (Chip e)) old new = IsLeftAlone old new
+SerialLeaves sessions (Err OutOfMemory) old new = OnlyHears old new
+SerialLeaves sessions (Err Script) old new = ViewsTold sessions old new false × OnlyViews old new
+SerialLeaves sessions (Err Output) old new = ViewsTold sessions old new false × OnlyViews old new
+SerialLeaves sessions (Err TooLong) old new = ViewsTold sessions old new false × OnlyViews old new

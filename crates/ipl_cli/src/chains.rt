@@ -11,7 +11,8 @@ ghost use Rattle.ipl_base.specs.Places.{units_on};
 ghost use Rattle.command_line.specs.Choice.{requested};
 ghost use Rattle.command_line.specs.declared.asked.Request.TheVariants.{Format, Trial};
 ghost use Rattle.ipl_meaning.specs.Legible.{Legible, of, whole};
-ghost use Rattle.ipl_cli.specs.Ending.{AsksOpened, AsksFormatted, units_beside};
+ghost use Rattle.ipl_cli.specs.Ending.{AsksOpened, AsksOpenedBy, AsksFormatted, AsksFormattedBy, units_beside};
+ghost use Rattle.store_laws.specs.Keeps.{limits_of};
 ghost use Rattle.ipl_cli.specs.Frames.{AddsCleanly};
 ghost use Rattle.ipl_cli.specs.Top.{records_after};
 ghost use Rattle.ipl_cli.specs.Chains.{RestsOn, RestsLawfully, TellsHistory, IsFormattable, IsLawfullyFormattable, ViewKeepsRecords, AddsLawfully, AsksClosed, no_records, records_tried, units_kept};
@@ -24,13 +25,15 @@ use std::alloc::Global;
 /// has its premise from what is told of the first.
 pub fn run_twice<D: Desk>(alloc: Global, words: &[String], desk: &mut D) -> bool
     requires { AsksOpened (requested (map string_bytes words.now)) }
-    ensures rests { (m : Legible) (script : List ℕ) (on : RestsOn m script (D.told desk.old))
+    ensures rests { (sessions : ℕ) → AsksOpenedBy sessions (requested (map string_bytes words.now))
+        → (m : Legible) (script : List ℕ) (on : RestsOn m script (D.told desk.old))
         → Unrisen (D.told desk.old) (D.told desk.new) → result ≡ true
-        → RestsOn (of m.pages (records_after (units_kept (D.told desk.old) on.history) m.map script)) []
+        → RestsOn (of m.pages (records_after (limits_of sessions (units_kept (D.told desk.old) on.history)) m.map script)) []
         (D.told desk.new) }
-    ensures lawful { (m : Legible) (script : List ℕ) (before : RestsLawfully m script (D.told desk.old))
+    ensures lawful { (sessions : ℕ) → AsksOpenedBy sessions (requested (map string_bytes words.now))
+        → (m : Legible) (script : List ℕ) (before : RestsLawfully m script (D.told desk.old))
         → Unrisen (D.told desk.old) (D.told desk.new) → result ≡ true
-        → RestsLawfully (of m.pages (records_after (units_kept (D.told desk.old) before.on.history) m.map script)) []
+        → RestsLawfully (of m.pages (records_after (limits_of sessions (units_kept (D.told desk.old) before.on.history)) m.map script)) []
         (D.told desk.new) }
 {
     if top(alloc, words, desk) != 0 {
@@ -83,17 +86,19 @@ pub fn format_and_run<D: Desk>(
     desk: &mut D,
 ) -> bool
     requires { AsksOpened (requested (map string_bytes second.now)) }
-    ensures rests { (spares : ℕ) (script : List ℕ)
+    ensures rests { (sessions spares : ℕ) (script : List ℕ)
+        → AsksOpenedBy sessions (requested (map string_bytes second.now))
         → requested (map string_bytes first.now) ≡ Some (Format spares)
         → IsFormattable script (D.told desk.old)
         → Unrisen (D.told desk.old) (D.told desk.new) → result ≡ true
-        → RestsOn (whole (records_after (units_beside (D.told desk.old).places spares) no_records script)) []
+        → RestsOn (whole (records_after (limits_of sessions (units_beside (D.told desk.old).places spares)) no_records script)) []
         (D.told desk.new) }
-    ensures lawful { (spares : ℕ) (script : List ℕ)
+    ensures lawful { (sessions spares : ℕ) (script : List ℕ)
+        → AsksOpenedBy sessions (requested (map string_bytes second.now))
         → requested (map string_bytes first.now) ≡ Some (Format spares)
         → IsLawfullyFormattable script (D.told desk.old)
         → Unrisen (D.told desk.old) (D.told desk.new) → result ≡ true
-        → RestsLawfully (whole (records_after (units_beside (D.told desk.old).places spares) no_records script)) []
+        → RestsLawfully (whole (records_after (limits_of sessions (units_beside (D.told desk.old).places spares)) no_records script)) []
         (D.told desk.new) }
 {
     if top(alloc, first, desk) != 0 {
@@ -111,13 +116,15 @@ pub fn run_anew_and_run<D: Desk>(
 ) -> bool
     requires first { AsksFormatted (requested (map string_bytes first.now)) }
     requires second { AsksOpened (requested (map string_bytes second.now)) }
-    ensures rests { (script : List ℕ) → IsFormattable script (D.told desk.old)
+    ensures rests { (sessions : ℕ) → AsksFormattedBy sessions (requested (map string_bytes first.now))
+        → (script : List ℕ) → IsFormattable script (D.told desk.old)
         → Unrisen (D.told desk.old) (D.told desk.new) → result ≡ true
-        → RestsOn (whole (records_after (units_on (D.told desk.old).places) no_records script)) []
+        → RestsOn (whole (records_after (limits_of sessions (units_on (D.told desk.old).places)) no_records script)) []
         (D.told desk.new) }
-    ensures lawful { (script : List ℕ) → IsLawfullyFormattable script (D.told desk.old)
+    ensures lawful { (sessions : ℕ) → AsksFormattedBy sessions (requested (map string_bytes first.now))
+        → (script : List ℕ) → IsLawfullyFormattable script (D.told desk.old)
         → Unrisen (D.told desk.old) (D.told desk.new) → result ≡ true
-        → RestsLawfully (whole (records_after (units_on (D.told desk.old).places) no_records script)) []
+        → RestsLawfully (whole (records_after (limits_of sessions (units_on (D.told desk.old).places)) no_records script)) []
         (D.told desk.new) }
 {
     if top(alloc, first, desk) != 0 {
@@ -134,16 +141,18 @@ pub fn trial_and_run<D: Desk>(
     desk: &mut D,
 ) -> bool
     requires { AsksOpened (requested (map string_bytes second.now)) }
-    ensures rests { (seed count frames : ℕ) (script : List ℕ)
-        → requested (map string_bytes first.now) ≡ Some (Trial seed count frames)
+    ensures rests { (seed count frames tried sessions : ℕ) (script : List ℕ)
+        → requested (map string_bytes first.now) ≡ Some (Trial seed count frames tried)
+        → AsksOpenedBy sessions (requested (map string_bytes second.now))
         → IsFormattable script (D.told desk.old)
         → Unrisen (D.told desk.old) (D.told desk.new) → result ≡ true
-        → RestsOn (whole (records_tried (D.told desk.old).places seed count script)) [] (D.told desk.new) }
-    ensures lawful { (seed count frames : ℕ) (script : List ℕ)
-        → requested (map string_bytes first.now) ≡ Some (Trial seed count frames)
+        → RestsOn (whole (records_tried tried sessions (D.told desk.old).places seed count script)) [] (D.told desk.new) }
+    ensures lawful { (seed count frames tried sessions : ℕ) (script : List ℕ)
+        → requested (map string_bytes first.now) ≡ Some (Trial seed count frames tried)
+        → AsksOpenedBy sessions (requested (map string_bytes second.now))
         → IsLawfullyFormattable script (D.told desk.old)
         → Unrisen (D.told desk.old) (D.told desk.new) → result ≡ true
-        → RestsLawfully (whole (records_tried (D.told desk.old).places seed count script)) [] (D.told desk.new) }
+        → RestsLawfully (whole (records_tried tried sessions (D.told desk.old).places seed count script)) [] (D.told desk.new) }
 {
     if top(alloc, first, desk) != 0 {
         return false;

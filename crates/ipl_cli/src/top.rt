@@ -1,8 +1,8 @@
 //! The program, over a desk.
-ghost use Rattle.std.specs.Prelude.{Bool, ◌≡◌, ◌≢◌, ◌<◌, ◌≤◌, ◌⊎◌, ◌+◌, ◌++◌, ◌==◌, true, false, map, List, ℕ, Some, None, Ok, IfOk, IfErr, OnOk};
+ghost use Rattle.std.specs.Prelude.{Bool, ◌≡◌, ◌≢◌, ◌<◌, ◌≤◌, ◌⊎◌, ◌+◌, ◌++◌, ◌==◌, true, false, map, List, length, ℕ, Some, None, Ok, IfOk, IfErr, OnOk};
 ghost use Rattle.std.specs.String.{string_bytes};
 ghost use Rattle.chip_trait.specs.Told.{Counts, Grew, Rose};
-ghost use Rattle.ipl_base.specs.declared.limits.TheConstants.{MOST_SPARES};
+ghost use Rattle.ipl_base.specs.declared.limits.TheConstants.{SESSIONS, MOST_SPARES};
 ghost use Rattle.ipl_base.specs.Places.{IsGeometry};
 ghost use Rattle.store_trait.specs.Keeping.{FOUND_NUMBER};
 ghost use Rattle.store_trait.specs.Onward.{Further};
@@ -15,7 +15,7 @@ ghost use Rattle.command_line.specs.declared.asked.Request.{Request};
 ghost use Rattle.command_line.specs.declared.asked.Request.TheVariants.{Format, Run, Serial, Check, Trial};
 ghost use Rattle.ipl_cli.specs.Trials.{TrialLeaves};
 ghost use Rattle.ipl_cli.specs.Adds.{AddsLawful, AddsLawfulByMark, AddsAsAsked};
-ghost use Rattle.ipl_cli.specs.Ending.{AsksOpened, AsksFormatted, AsksAnew, AtStatus, status_at, note_at, but_noted, format_end, IsLeftAlone};
+ghost use Rattle.ipl_cli.specs.Ending.{AsksOpened, AsksOpenedBy, AsksFormatted, AsksFormattedBy, AsksAnew, AtStatus, status_at, note_at, but_noted, format_end, IsLeftAlone};
 ghost use Rattle.ipl_cli.specs.Checks.{CheckLeaves};
 ghost use Rattle.ipl_cli.specs.Views.{ViewsTold, OnlyViews, OnlyHears, SerialLeaves, view_end};
 ghost use Rattle.ipl_cli.specs.Top.{NoneFalls, EndCause, RequestCause, FormatLeaves, FormattedLeaves, OpenedLeaves, EndLeaves};
@@ -24,7 +24,7 @@ ghost use Rattle.ipl_cli.specs.Top.{EndsWithRecords, FromItsRecords, FromNoRecor
 ghost use Rattle.ipl_cli.specs.Top.{IsStray, StrayCause, SpentCause, AnewCause, LacksUnits, EndsUnfit, IsCalm, Suffices, EndsInTime, Ends, WearsAsAsked};
 ghost use Rattle.ipl_cli.specs.Survives.{Survives, SurvivesAnew};
 ghost use Rattle.ipl_cli.specs.Frames.{DoesWith, DoesAsAsked, ClosesOpened, ClosesAsAsked};
-ghost use Rattle.ipl_cli.specs.Runs.{StartsFormatted, StartsOpened, MakesStore, FormatsFirst, OpensOver, IsNotStarted, ClosesBehind, EndsClosed, ClosesScript, RunsClosing, RunsOver, RunsAsAsked, TriesOver, end_of};
+ghost use Rattle.ipl_cli.specs.Runs.{slots_of, StartsFormatted, StartsOpened, MakesStore, FormatsFirst, OpensOver, IsNotStarted, ClosesBehind, EndsClosed, ClosesScript, RunsClosing, RunsOver, RunsAsAsked, TriesOver, end_of};
 
 use crate::checking::check_chip;
 use chip_trait::Desk;
@@ -68,17 +68,19 @@ fn format_chip<D: Desk>(spares: u32, desk: &mut D) -> Result<(), End>
     }
 }
 
-/// The memory of a store for a chip of so many places, which isn't opened yet.
-fn closed(alloc: Global, places: u32, frames: u32) -> Result<Store, End>
+/// The memory of a store with so many frames and sessions for a chip of so many places, which isn't opened yet.
+fn closed(alloc: Global, places: u32, frames: u32, sessions: u32) -> Result<Store, End>
     requires two { 2 ≤ frames }
     requires few { frames ≤ 64 }
+    requires sessions { sessions ≤ SESSIONS }
     ensures closes { MakesStore places result }
     ensures frames { IfOk result (λ store. store.frames ≡ frames) }
+    ensures sessions { IfOk result (λ store. length store.transactions.sessions ≡ sessions) }
 {
     let Some(geometry) = Geometry::of(places) else {
         return Err(End::Chip(ImageFault::Geometry));
     };
-    match Store::closed(alloc, geometry, frames) {
+    match Store::closed(alloc, geometry, frames, sessions) {
         Ok(store) => Ok(store),
         Err(_) => Err(End::OutOfMemory),
     }
@@ -100,6 +102,7 @@ fn open_over<D: Desk>(mut store: Store, desk: &mut D, marks: bool) -> Result<Scr
     requires sound { IsSound (D.told desk.old).places store }
     ensures opens { OpensOver marks result (D.told desk.old) (D.told desk.new) }
     ensures frames { IfOk result (λ started. started.store.frames ≡ store.frames) }
+    ensures sessions { IfOk result (λ started. slots_of started ≡ length store.transactions.sessions) }
 {
     match store.open_chip(desk, marks) {
         Ok(()) => Ok(ScriptStore::over(store)),
@@ -109,15 +112,22 @@ fn open_over<D: Desk>(mut store: Store, desk: &mut D, marks: bool) -> Result<Scr
 
 /// Formats the chip, opens it, and makes the store of no record. Memory is taken before the chip is
 /// touched.
-fn start_formatted<D: Desk>(alloc: Global, frames: u32, desk: &mut D) -> Result<ScriptStore, End>
+fn start_formatted<D: Desk>(
+    alloc: Global,
+    frames: u32,
+    sessions: u32,
+    desk: &mut D,
+) -> Result<ScriptStore, End>
     requires two { 2 ≤ frames }
     requires few { frames ≤ 64 }
+    requires sessions { sessions ≤ SESSIONS }
     ensures starts { IfOk result (λ store. StartsFormatted (D.told desk.old) store (D.told desk.new)) }
     ensures frames { IfOk result (λ store. store.store.frames ≡ frames) }
+    ensures sessions { IfOk result (λ store. slots_of store ≡ sessions) }
     ensures stops { IfErr result (λ end. IsNotStarted end (D.told desk.old) (D.told desk.new)) }
     ensures counts { Counts (D.told desk.old) (D.told desk.new) }
 {
-    let store = closed(alloc, desk.units(), frames)?;
+    let store = closed(alloc, desk.units(), frames, sessions)?;
     format_first(desk)?;
     // What was just formatted has no mark.
     let started = open_over(store, desk, false)?;
@@ -125,17 +135,24 @@ fn start_formatted<D: Desk>(alloc: Global, frames: u32, desk: &mut D) -> Result<
 }
 
 /// Opens the chip, and makes the store of what it holds. Memory is taken before the chip is touched.
-fn start_opened<D: Desk>(alloc: Global, frames: u32, desk: &mut D) -> Result<ScriptStore, End>
+fn start_opened<D: Desk>(
+    alloc: Global,
+    frames: u32,
+    sessions: u32,
+    desk: &mut D,
+) -> Result<ScriptStore, End>
     requires two { 2 ≤ frames }
     requires few { frames ≤ 64 }
+    requires sessions { sessions ≤ SESSIONS }
     ensures starts { IfOk result (λ store. StartsOpened true (D.told desk.old) store (D.told desk.new)) }
     ensures frames { IfOk result (λ store. store.store.frames ≡ frames) }
-    ensures leaves { IfErr result (λ end. OpenedLeaves (Err end) (D.told desk.old) (D.told desk.new)) }
-    ensures cause { IfErr result (λ end. (closes : Bool) → RequestCause (Run frames false closes) end (D.told desk.old) (D.told desk.new)) }
+    ensures sessions { IfOk result (λ store. slots_of store ≡ sessions) }
+    ensures leaves { IfErr result (λ end. OpenedLeaves sessions (Err end) (D.told desk.old) (D.told desk.new)) }
+    ensures cause { IfErr result (λ end. (closes : Bool) → RequestCause (Run frames sessions false closes) end (D.told desk.old) (D.told desk.new)) }
     ensures lawful { IfErr result (λ end. AddsLawfulByMark (D.told desk.old) (D.told desk.new)) }
     ensures counts { Counts (D.told desk.old) (D.told desk.new) }
 {
-    let store = closed(alloc, desk.units(), frames)?;
+    let store = closed(alloc, desk.units(), frames, sessions)?;
     let started = open_over(store, desk, true)?;
     Ok(started)
 }
@@ -194,35 +211,49 @@ fn run_over<D: Desk>(store: &mut ScriptStore, desk: &mut D, closes: bool) -> Res
 }
 
 /// Runs the script over a chip that is formatted first, and closes that where it is asked.
-fn run_formatted<D: Desk>(alloc: Global, frames: u32, closes: bool, desk: &mut D) -> Result<(), End>
+fn run_formatted<D: Desk>(
+    alloc: Global,
+    frames: u32,
+    sessions: u32,
+    closes: bool,
+    desk: &mut D,
+) -> Result<(), End>
     requires two { 2 ≤ frames }
     requires few { frames ≤ 64 }
-    ensures leaves { FormattedLeaves result (D.told desk.old) (D.told desk.new) }
-    ensures framed { OnOk result (DoesWith StartsFormatted (RunsAsAsked closes) frames
+    requires sessions { sessions ≤ SESSIONS }
+    ensures leaves { FormattedLeaves sessions result (D.told desk.old) (D.told desk.new) }
+    ensures framed { OnOk result (DoesWith StartsFormatted (RunsAsAsked closes) frames sessions
         (D.told desk.old) (D.told desk.new)) }
     ensures closed { OnOk result (closes ≡ true → EndsClosed (D.told desk.old) (D.told desk.new)) }
-    ensures cause { EndCause (Some (Run frames true closes)) result (D.told desk.old) (D.told desk.new) }
+    ensures cause { EndCause (Some (Run frames sessions true closes)) result (D.told desk.old) (D.told desk.new) }
     ensures further { Further (D.told desk.old) (D.told desk.new) }
     ensures lawful { AddsLawful (D.told desk.old) (D.told desk.new) }
 {
-    let mut store = start_formatted(alloc, frames, desk)?;
+    let mut store = start_formatted(alloc, frames, sessions, desk)?;
     run_over(&mut store, desk, closes)?;
     Ok(())
 }
 
 /// Runs the script over a chip that is opened, and closes that where it is asked.
-fn run_opened<D: Desk>(alloc: Global, frames: u32, closes: bool, desk: &mut D) -> Result<(), End>
+fn run_opened<D: Desk>(
+    alloc: Global,
+    frames: u32,
+    sessions: u32,
+    closes: bool,
+    desk: &mut D,
+) -> Result<(), End>
     requires two { 2 ≤ frames }
     requires few { frames ≤ 64 }
-    ensures leaves { OpenedLeaves result (D.told desk.old) (D.told desk.new) }
-    ensures framed { OnOk result (DoesWith (StartsOpened true) (RunsAsAsked closes) frames
+    requires sessions { sessions ≤ SESSIONS }
+    ensures leaves { OpenedLeaves sessions result (D.told desk.old) (D.told desk.new) }
+    ensures framed { OnOk result (DoesWith (StartsOpened true) (RunsAsAsked closes) frames sessions
         (D.told desk.old) (D.told desk.new)) }
     ensures closed { OnOk result (closes ≡ true → ClosesOpened (D.told desk.old) (D.told desk.new)) }
-    ensures cause { EndCause (Some (Run frames false closes)) result (D.told desk.old) (D.told desk.new) }
+    ensures cause { EndCause (Some (Run frames sessions false closes)) result (D.told desk.old) (D.told desk.new) }
     ensures further { Further (D.told desk.old) (D.told desk.new) }
     ensures lawful { AddsLawfulByMark (D.told desk.old) (D.told desk.new) }
 {
-    let mut store = start_opened(alloc, frames, desk)?;
+    let mut store = start_opened(alloc, frames, sessions, desk)?;
     run_over(&mut store, desk, closes)?;
     Ok(())
 }
@@ -251,20 +282,22 @@ fn trial_over<D: Desk>(
 fn trial<D: Desk>(
     alloc: Global,
     frames: u32,
+    sessions: u32,
     seed: u32,
     count: u32,
     desk: &mut D,
 ) -> Result<(), End>
     requires two { 2 ≤ frames }
     requires few { frames ≤ 64 }
-    ensures leaves { TrialLeaves seed count result (D.told desk.old) (D.told desk.new) }
-    ensures framed { OnOk result (DoesWith StartsFormatted (TriesOver seed count (Ok tt)) frames
+    requires sessions { sessions ≤ SESSIONS }
+    ensures leaves { TrialLeaves sessions seed count result (D.told desk.old) (D.told desk.new) }
+    ensures framed { OnOk result (DoesWith StartsFormatted (TriesOver seed count (Ok tt)) frames sessions
         (D.told desk.old) (D.told desk.new)) }
-    ensures cause { EndCause (Some (Trial seed count frames)) result (D.told desk.old) (D.told desk.new) }
+    ensures cause { EndCause (Some (Trial seed count frames sessions)) result (D.told desk.old) (D.told desk.new) }
     ensures further { Further (D.told desk.old) (D.told desk.new) }
     ensures lawful { AddsLawful (D.told desk.old) (D.told desk.new) }
 {
-    let mut store = start_formatted(alloc, frames, desk)?;
+    let mut store = start_formatted(alloc, frames, sessions, desk)?;
     trial_over(&mut store, desk, seed, count)?;
     Ok(())
 }
@@ -281,17 +314,18 @@ fn view_end(stop: ViewStop) -> End
     }
 }
 
-/// Says the serial view of the script, run from no records. Of the chip only its places are asked.
-fn say_view<D: Desk>(alloc: Global, desk: &mut D) -> Result<(), End>
-    ensures leaves { SerialLeaves result (D.told desk.old) (D.told desk.new) }
-    ensures cause { EndCause (Some Serial) result (D.told desk.old) (D.told desk.new) }
+/// Says the serial view of the script, run by so many sessions from no records. Of the chip only its places are asked.
+fn say_view<D: Desk>(alloc: Global, sessions: u32, desk: &mut D) -> Result<(), End>
+    requires { sessions ≤ SESSIONS }
+    ensures leaves { SerialLeaves sessions result (D.told desk.old) (D.told desk.new) }
+    ensures cause { EndCause (Some (Serial sessions)) result (D.told desk.old) (D.told desk.new) }
     ensures further { Further (D.told desk.old) (D.told desk.new) }
     ensures lawful { AddsLawful (D.told desk.old) (D.told desk.new) }
 {
     let Some(geometry) = Geometry::of(desk.units()) else {
         return Err(End::Chip(ImageFault::Geometry));
     };
-    match say_serial_view(alloc, geometry, desk) {
+    match say_serial_view(alloc, geometry, sessions, desk) {
         Ok(()) => Ok(()),
         Err(stop) => Err(view_end(stop)),
     }
@@ -311,21 +345,24 @@ fn run_request<D: Desk>(alloc: Global, request: Request, desk: &mut D) -> Result
         Request::Format { spares } => format_chip(spares, desk),
         Request::Run {
             frames,
+            sessions,
             format: true,
             close,
-        } => run_formatted(alloc, frames, close, desk),
+        } => run_formatted(alloc, frames, sessions, close, desk),
         Request::Run {
             frames,
+            sessions,
             format: false,
             close,
-        } => run_opened(alloc, frames, close, desk),
-        Request::Serial => say_view(alloc, desk),
+        } => run_opened(alloc, frames, sessions, close, desk),
+        Request::Serial { sessions } => say_view(alloc, sessions, desk),
         Request::Check => check_chip(alloc, desk),
         Request::Trial {
             seed,
             count,
             frames,
-        } => trial(alloc, frames, seed, count, desk),
+            sessions,
+        } => trial(alloc, frames, sessions, seed, count, desk),
     }
 }
 
@@ -378,19 +415,20 @@ pub fn top<D: Desk>(alloc: Global, words: &[String], desk: &mut D) -> u8
     // a mark there says to be.
     ensures lawful { AddsAsAsked (requested (map string_bytes words.now)) (D.told desk.old) (D.told desk.new) }
 
-    // The headline, over a chip that is opened, on as many units as that says: wherever the program ends.
+    // The headline, over a chip that is opened, of as many sessions as the words ask for and on as many units as the
+    // chip says: wherever the program ends.
     // At 0 the whole script was run, at 7 a line of a reply couldn't be said, and else it ended between
     // commands. A sector at fault that ended it was so on the chip at some moment.
-    ensures opened { AsksOpened (requested (map string_bytes words.now))
-        → AtStatus (RunsOpened (D.told desk.old) (D.told desk.new)) result }
+    ensures opened { (sessions : ℕ) → AsksOpenedBy sessions (requested (map string_bytes words.now))
+        → AtStatus (RunsOpened sessions (D.told desk.old) (D.told desk.new)) result }
 
     // In short, over a chip that tells what it holds: wherever the power is cut, what is left stands for
     // the records after the commands whose replies were said, or after one more. From its own records on;
     // or from none, from the format's last barrier on, where it was formatted first.
-    ensures survives { AsksOpened (requested (map string_bytes words.now))
-        → Survives (D.told desk.old) (D.told desk.new) }
-    ensures survives_anew { AsksFormatted (requested (map string_bytes words.now))
-        → SurvivesAnew (D.told desk.old) (D.told desk.new) }
+    ensures survives { (sessions : ℕ) → AsksOpenedBy sessions (requested (map string_bytes words.now))
+        → Survives sessions (D.told desk.old) (D.told desk.new) }
+    ensures survives_anew { (sessions : ℕ) → AsksFormattedBy sessions (requested (map string_bytes words.now))
+        → SurvivesAnew sessions (D.told desk.old) (D.told desk.new) }
 
     // What is told of a chip that has a fault as it is laid out: it was only read, and the program
     // ended with that fault. At 0, 6, 7 and 8 it had none.
@@ -400,7 +438,7 @@ pub fn top<D: Desk>(alloc: Global, words: &[String], desk: &mut D) -> u8
         → (result ≡ 0) ⊎ (result ≡ 6) ⊎ (result ≡ 7) ⊎ (result ≡ 8)
         → IsLaidWell (D.told desk.old) × IsGeometry (D.told desk.old).places }
 
-    // At 0 it was done by a store of as many page frames as the words ask for. A run that isn't to close the chip
+    // At 0 it was done by a store of as many page frames and sessions as the words ask for. A run that isn't to close the chip
     // did nothing behind its last reply.
     ensures framed { result ≡ 0
         → DoesAsAsked (requested (map string_bytes words.now)) (D.told desk.old) (D.told desk.new) }
@@ -417,21 +455,21 @@ pub fn top<D: Desk>(alloc: Global, words: &[String], desk: &mut D) -> u8
 
     // So at 0 a chip that tells what it holds, and maybe no story, holds the records after all
     // commands: from its own records on, or from none where it was formatted first.
-    ensures records { AsksOpened (requested (map string_bytes words.now)) → result ≡ 0
-        → EndsWithRecords FromItsRecords (D.told desk.old) (D.told desk.new) }
-    ensures anew { AsksFormatted (requested (map string_bytes words.now)) → result ≡ 0
-        → EndsWithRecords FromNoRecords (D.told desk.old) (D.told desk.new) }
+    ensures records { (sessions : ℕ) → AsksOpenedBy sessions (requested (map string_bytes words.now)) → result ≡ 0
+        → EndsWithRecords sessions FromItsRecords (D.told desk.old) (D.told desk.new) }
+    ensures anew { (sessions : ℕ) → AsksFormattedBy sessions (requested (map string_bytes words.now)) → result ≡ 0
+        → EndsWithRecords sessions FromNoRecords (D.told desk.old) (D.told desk.new) }
 
     // The same over a chip that is formatted first. At 6, 7 and 8 a part of the script was run; at 3,
     // 4, 9 and 10 too, or the format was stopped, or another number of places was left alone.
-    ensures formatted { AsksFormatted (requested (map string_bytes words.now)) → result ≡ 0
-        → RunsFormatted (D.told desk.old) (D.told desk.new) (Ok tt) }
-    ensures part { AsksFormatted (requested (map string_bytes words.now))
+    ensures formatted { (sessions : ℕ) → AsksFormattedBy sessions (requested (map string_bytes words.now)) → result ≡ 0
+        → RunsFormatted sessions (D.told desk.old) (D.told desk.new) (Ok tt) }
+    ensures part { (sessions : ℕ) → AsksFormattedBy sessions (requested (map string_bytes words.now))
         → (result ≡ 6) ⊎ (result ≡ 7) ⊎ (result ≡ 8)
-        → AtStatus (RunsFormatted (D.told desk.old) (D.told desk.new)) result }
-    ensures stops { AsksFormatted (requested (map string_bytes words.now))
+        → AtStatus (RunsFormatted sessions (D.told desk.old) (D.told desk.new)) result }
+    ensures stops { (sessions : ℕ) → AsksFormattedBy sessions (requested (map string_bytes words.now))
         → (result ≡ 3) ⊎ (result ≡ 4) ⊎ (result ≡ 9) ⊎ (result ≡ 10)
-        → AtStatus (UntouchedOrRuns (D.told desk.old) (D.told desk.new)) result }
+        → AtStatus (UntouchedOrRuns sessions (D.told desk.old) (D.told desk.new)) result }
 
     // A format says its line at 0, and the chip has no record then, whatever moment the power is cut at,
     // and says that it has all units but those that are spare.
@@ -440,9 +478,9 @@ pub fn top<D: Desk>(alloc: Global, words: &[String], desk: &mut D) -> u8
 
     // A trial says its summary at 0, a beginning of it wherever it ends, and the chip has the records
     // of the commands that are done.
-    ensures trials { (seed count frames : ℕ)
-        → requested (map string_bytes words.now) ≡ Some (Trial seed count frames)
-        → AtStatus (λ ending. TrialLeaves seed count ending (D.told desk.old) (D.told desk.new)) result }
+    ensures trials { (seed count frames sessions : ℕ)
+        → requested (map string_bytes words.now) ≡ Some (Trial seed count frames sessions)
+        → AtStatus (λ ending. TrialLeaves sessions seed count ending (D.told desk.old) (D.told desk.new)) result }
 
     // A check only reads. At 0 it said how many records there are for which the chip stands; at 4 the chip
     // stands for none, and its first fault is the one that is noted.
@@ -451,9 +489,9 @@ pub fn top<D: Desk>(alloc: Global, words: &[String], desk: &mut D) -> u8
 
     // A view is said at 0, and a part of it wherever else the program ends; by the history that the desk
     // tells no sector is touched.
-    ensures views { requested (map string_bytes words.now) ≡ Some Serial
-        → ViewsTold (D.told desk.old) (D.told desk.new) (result == 0) }
-    ensures untouched { requested (map string_bytes words.now) ≡ Some Serial
+    ensures views { (sessions : ℕ) → requested (map string_bytes words.now) ≡ Some (Serial sessions)
+        → ViewsTold sessions (D.told desk.old) (D.told desk.new) (result == 0) }
+    ensures untouched { (sessions : ℕ) → requested (map string_bytes words.now) ≡ Some (Serial sessions)
         → OnlyViews (D.told desk.old) (D.told desk.new) }
 
     // At 2 nothing was asked of the chip, said or read, and so at 5, but that a view may have read its
@@ -461,7 +499,8 @@ pub fn top<D: Desk>(alloc: Global, words: &[String], desk: &mut D) -> u8
     // places that a format is to spare.
     ensures early { result ≡ 2 → IsLeftAlone (D.told desk.old) (D.told desk.new) }
     ensures wanting { result ≡ 5 → OnlyHears (D.told desk.old) (D.told desk.new)
-        × (requested (map string_bytes words.now) ≢ Some Serial → IsLeftAlone (D.told desk.old) (D.told desk.new)) }
+        × (((sessions : ℕ) → requested (map string_bytes words.now) ≢ Some (Serial sessions))
+        → IsLeftAlone (D.told desk.old) (D.told desk.new)) }
     ensures other { result ≡ 4 → ¬ IsGeometry (D.told desk.old).places
         ⊎ LacksUnits (requested (map string_bytes words.now)) (D.told desk.old)
         → IsLeftAlone (D.told desk.old) (D.told desk.new) }

@@ -3,6 +3,7 @@ use Rattle.std.proofs.lemmas.Bool.Decides.{nat_tests}
 use Rattle.std.specs.Prelude.{map}
 use Rattle.std.specs.String.{string_bytes}
 use Rattle.command_line.specs.Choice.{requested}
+use Rattle.store_laws.specs.Keeps.{limits_of}
 use Rattle.ipl_cli.specs.Ending.{AskedFor, AtStatus}
 use Rattle.ipl_cli.specs.Frames.{ClosesAsAsked}
 use Rattle.ipl_cli.specs.Top.{RunsOpened, records_after}
@@ -19,10 +20,10 @@ returns g c = λ m script on unrisen is.
     let asked = requested (map string_bytes c.args.first.now) in
     let opens = closed_is_opened asked c.requires.first in
     let begun = run_rests old mid m script on
-    (subst (λ (n : ℕ). AtStatus (RunsOpened old mid) n) first (c.top.ensures.opened opens))
+    (subst (λ (n : ℕ). AtStatus (RunsOpened opens.0 old mid) n) first (c.top.ensures.opened opens.0 opens.1))
     c.top.ensures.counts (unrisen_first old mid new c.top-2.ensures.counts unrisen) in
-    let closes = subst (λ (a : AskedFor). ClosesAsAsked a old mid) c.requires.first.1 (c.top.ensures.closed first) in
-    let then = c.top-2.ensures.opened c.requires.second in
+    let closes = subst (λ (a : AskedFor). ClosesAsAsked a old mid) c.requires.first.2 (c.top.ensures.closed first) in
+    let then = c.top-2.ensures.opened c.requires.second.0 c.requires.second.1 in
     both_lawful old mid new m script on
     ((closes refl).clean on.history script on.steady on.left m on.rests on.apart) c.top.ensures.counts.places
-    (records_after (units_kept old on.history) m.map script) begun then.0 then.2
+    (records_after (limits_of opens.0 (units_kept old on.history)) m.map script) begun then.0 then.2

@@ -1,10 +1,9 @@
-use Rattle.std.proofs.Common.{◌≡◌, ap}
+use Rattle.std.proofs.Common.{ap}
 use Rattle.ipl_model.specs.State.{State}
 use Rattle.ipl_model.specs.Grammar.{commands_of}
-use Rattle.store_laws.specs.Keeps.{limits_of}
 use Rattle.serial_view.proofs.SerialLemmas.{leaves_the_same}
 use Rattle.ipl_cli.proofs.chains.view_law.Goals as goal
 
 pub returns : goal.returns
-returns c = λ units m script.
-    ap (λ (s : State). s.map) (leaves_the_same (limits_of units) m (commands_of script))
+returns c = λ limits m script.
+    ap (λ (s : State). s.map) (leaves_the_same limits m (commands_of script))

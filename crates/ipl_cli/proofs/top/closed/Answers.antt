@@ -9,4 +9,5 @@ returns-in-Ok c =
             c.in-Ok.ensures.sound,
       );
       frames = c.in-Ok.ensures.frames;
+      sessions = c.in-Ok.ensures.sessions;
     }

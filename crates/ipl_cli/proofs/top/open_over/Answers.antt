@@ -1,4 +1,4 @@
-use Rattle.std.proofs.Common.{refl, ◌∙◌, ap}
+use Rattle.std.proofs.Common.{length, refl, ◌∙◌, ap}
 use Rattle.page_frames.specs.Pages.{tables_in}
 use Rattle.ipl_store.specs.declared.store.Store.{Store}
 use Rattle.ipl_cli.proofs.StartLemmas.{starts_over}
@@ -10,6 +10,7 @@ returns-in-Ok g c = record {
       c.open_chip.new.self c.over.result c.over.ensures c.open_chip.ensures.sound
       c.in-Ok.ensures.opens c.in-Ok.ensures.tries;
   frames = ap (λ (s : Store). s.frames) c.over.ensures ∙ c.open_chip.ensures.frames;
+  sessions = ap (λ (s : Store). length s.transactions.sessions) c.over.ensures ∙ c.open_chip.ensures.sessions;
 }
 
 pub returns-in-Err : goal.returns-in-Err
@@ -22,4 +23,5 @@ returns-in-Err g c = record {
     tries = c.in-Err.ensures.tries;
   };
   frames = tt;
+  sessions = tt;
 }

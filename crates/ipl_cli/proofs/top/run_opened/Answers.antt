@@ -1,4 +1,4 @@
-use Rattle.std.proofs.Common.{Err, Ok, refl}
+use Rattle.std.proofs.Common.{ℕ, Err, Ok, refl, subst}
 use Rattle.std.proofs.lemmas.Result.{err_from_is_err_and}
 use Rattle.store_trait.proofs.OnwardLemmas.{onward_counts, further_onward, further_then}
 use Rattle.ipl_cli.proofs.StartLemmas.{opened_left, opened_cause, opened_running, opened_number}
@@ -6,6 +6,7 @@ use Rattle.std.specs.Prelude.{is_ok}
 use Rattle.ipl_cli.proofs.CloseLemmas.{closed_since}
 use Rattle.ipl_cli.proofs.EndLemmas.{opened_marks, opened_clean}
 use Rattle.ipl_cli.proofs.LawfulLemmas.{opened_adds}
+use Rattle.ipl_cli.specs.Top.{OpenedLeaves}
 use Rattle.ipl_cli.proofs.top.run_opened.Goals as goal
 
 pub run_over-requires-clause-running : goal.run_over-requires-clause-running
@@ -20,10 +21,13 @@ pub returns-in_err-run_over-clause-leaves : goal.returns-in_err-run_over-clause-
 returns-in_err-run_over-clause-leaves g c =
     let e = err_from_is_err_and c.from_residual-in_err-run_over.result
     c.from_residual-in_err-run_over.ensures.1 in
-    rw (e.1, e.2) (opened_left (g.D.Chip.told c.args.desk.now)
+    let old = g.D.Chip.told c.args.desk.now in
+    let new = g.D.Chip.told c.run_over.new.desk in
+    rw (e.1, e.2) (subst (λ (n : ℕ). OpenedLeaves n (Err c.in_err-run_over.field-0.0) old new) c.in_ok-store.ensures.sessions
+    (opened_left old
     (g.D.Chip.told c.start_opened.new.desk) c.in_ok-store.store c.in_ok-store.ensures.starts
-    c.run_over.new.store (g.D.Chip.told c.run_over.new.desk)
-    (Err c.in_err-run_over.field-0.0) c.in_err-run_over.ensures.runs)
+    c.run_over.new.store new
+    (Err c.in_err-run_over.field-0.0) c.in_err-run_over.ensures.runs))
 
 pub returns-in_err-run_over-clause-cause : goal.returns-in_err-run_over-clause-cause
 returns-in_err-run_over-clause-cause g c =
@@ -32,15 +36,16 @@ returns-in_err-run_over-clause-cause g c =
     rw (e.1, e.2) (opened_cause (g.D.Chip.told c.args.desk.now)
     (g.D.Chip.told c.start_opened.new.desk) c.in_ok-store.store c.in_ok-store.ensures.starts
     c.run_over.new.store (g.D.Chip.told c.run_over.new.desk)
-    c.args.frames c.args.closes (Err c.in_err-run_over.field-0.0)
+    c.args.frames c.args.sessions c.args.closes (Err c.in_err-run_over.field-0.0)
     c.in_err-run_over.ensures.runs)
 
 pub returns-clause-leaves : goal.returns-clause-leaves
 returns-clause-leaves g c =
-    opened_left (g.D.Chip.told c.args.desk.now) (g.D.Chip.told c.start_opened.new.desk)
-    c.in_ok-store.store c.in_ok-store.ensures.starts c.run_over.new.store
-    (g.D.Chip.told c.run_over.new.desk)
-    (Ok tt) c.in_ok-run_over.ensures.runs
+    let old = g.D.Chip.told c.args.desk.now in
+    let new = g.D.Chip.told c.run_over.new.desk in
+    subst (λ (n : ℕ). OpenedLeaves n (Ok tt) old new) c.in_ok-store.ensures.sessions
+    (opened_left old (g.D.Chip.told c.start_opened.new.desk) c.in_ok-store.store c.in_ok-store.ensures.starts
+    c.run_over.new.store new (Ok tt) c.in_ok-run_over.ensures.runs)
 
 pub returns-in_err-store-clause-further : goal.returns-in_err-store-clause-further
 returns-in_err-store-clause-further g c =
@@ -82,6 +87,7 @@ pub returns-clause-framed : goal.returns-clause-framed
 returns-clause-framed g c = record {
   store = c.in_ok-store.store;
   frames_are = c.in_ok-store.ensures.frames;
+  sessions_are = c.in_ok-store.ensures.sessions;
   started = g.D.Chip.told c.start_opened.new.desk;
   starts = c.in_ok-store.ensures.starts;
   then = c.run_over.new.store;

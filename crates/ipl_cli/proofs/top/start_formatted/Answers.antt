@@ -66,3 +66,6 @@ returns-clause-counts g c =
 
 pub returns-clause-frames : goal.returns-clause-frames
 returns-clause-frames g c = c.in_ok-started.ensures.frames ∙ c.in_ok-store.ensures.frames
+
+pub returns-clause-sessions : goal.returns-clause-sessions
+returns-clause-sessions g c = c.in_ok-started.ensures.sessions ∙ c.in_ok-store.ensures.sessions

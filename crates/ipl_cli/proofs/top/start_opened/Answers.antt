@@ -13,14 +13,14 @@ open_over-requires g c =
 pub returns-in_err-store-clause-leaves : goal.returns-in_err-store-clause-leaves
 returns-in_err-store-clause-leaves g c =
     let e = err_from_is_err_and c.from_residual.result c.from_residual.ensures.1 in
-    rw (e.1, e.2) (closed_left (g.D.Chip.told c.args.desk.now) c.in_err-store.field-0.0
+    rw (e.1, e.2) (closed_left (g.D.Chip.told c.args.desk.now) c.args.sessions c.in_err-store.field-0.0
     (subst (λ (n : ℕ). MakesStore n (Err c.in_err-store.field-0.0)) c.units.ensures
     c.in_err-store.ensures.closes))
 
 pub returns-in_err-store-clause-cause : goal.returns-in_err-store-clause-cause
 returns-in_err-store-clause-cause g c =
     let e = err_from_is_err_and c.from_residual.result c.from_residual.ensures.1 in
-    rw (e.1, e.2) (λ closes. closed_cause (g.D.Chip.told c.args.desk.now) c.args.frames closes
+    rw (e.1, e.2) (λ closes. closed_cause (g.D.Chip.told c.args.desk.now) c.args.frames c.args.sessions closes
     c.in_err-store.field-0.0 (subst (λ (n : ℕ). MakesStore n (Err c.in_err-store.field-0.0))
     c.units.ensures c.in_err-store.ensures.closes))
 
@@ -28,7 +28,7 @@ pub returns-in_err-started-clause-leaves : goal.returns-in_err-started-clause-le
 returns-in_err-started-clause-leaves g c =
     let e = err_from_is_err_and c.from_residual-in_err-started.result
     c.from_residual-in_err-started.ensures.1 in
-    rw (e.1, e.2) (unopened_left (g.D.Chip.told c.args.desk.now)
+    rw (e.1, e.2) (unopened_left c.args.sessions (g.D.Chip.told c.args.desk.now)
     (g.D.Chip.told c.open_over.new.desk) c.in_err-started.field-0.0
     c.in_err-started.ensures.opens)
 
@@ -38,7 +38,7 @@ returns-in_err-started-clause-cause g c =
     c.from_residual-in_err-started.ensures.1 in
     rw (e.1, e.2) (λ closes. unopened_ends (g.D.Chip.told c.args.desk.now)
     (g.D.Chip.told c.open_over.new.desk) c.in_err-started.field-0.0
-    c.in_err-started.ensures.opens c.args.frames closes)
+    c.in_err-started.ensures.opens c.args.frames c.args.sessions closes)
 
 pub returns-in_err-started-clause-counts : goal.returns-in_err-started-clause-counts
 returns-in_err-started-clause-counts g c = c.in_err-started.ensures.opens.tries.accounts.counts
@@ -63,3 +63,6 @@ returns-in_err-started-clause-lawful g c =
 
 pub returns-clause-frames : goal.returns-clause-frames
 returns-clause-frames g c = c.in_ok-started.ensures.frames ∙ c.in_ok-store.ensures.frames
+
+pub returns-clause-sessions : goal.returns-clause-sessions
+returns-clause-sessions g c = c.in_ok-started.ensures.sessions ∙ c.in_ok-store.ensures.sessions

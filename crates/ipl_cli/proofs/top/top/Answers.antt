@@ -30,13 +30,13 @@ returns-clause-opened g c = end_opened (requested (map string_bytes c.args.words
     (returns-clause-ends g c)
 
 pub returns-clause-survives : goal.returns-clause-survives
-returns-clause-survives g c = λ asks.
+returns-clause-survives g c = λ sessions asks.
     opened_survives (g.D.Chip.told c.args.desk.now) (g.D.Chip.told c.finish.new.desk)
-    (g.met.D.Chip.consistent c.args.desk.now) c.finish.result (returns-clause-opened g c asks)
+    (g.met.D.Chip.consistent c.args.desk.now) c.finish.result (returns-clause-opened g c sessions asks)
 
 pub returns-clause-survives_anew : goal.returns-clause-survives_anew
-returns-clause-survives_anew g c = formatted_survives (g.D.Chip.told c.args.desk.now)
-    (g.D.Chip.told c.finish.new.desk) (g.met.D.Chip.consistent c.args.desk.now)
+returns-clause-survives_anew g c = λ sessions. formatted_survives (g.D.Chip.told c.args.desk.now)
+    (g.D.Chip.told c.finish.new.desk) (g.met.D.Chip.consistent c.args.desk.now) sessions
     (requested (map string_bytes c.args.words.now)) c.finish.result (returns-clause-ends g c)
 
 pub returns-clause-refuses : goal.returns-clause-refuses
@@ -60,16 +60,16 @@ returns-clause-formatted g c = end_formatted (requested (map string_bytes c.args
     (returns-clause-ends g c)
 
 pub returns-clause-records : goal.returns-clause-records
-returns-clause-records g c = λ asks done.
+returns-clause-records g c = λ sessions asks done.
     let old = g.D.Chip.told c.args.desk.now in
     let new = g.D.Chip.told c.finish.new.desk in
     opened_records old new (g.met.D.Chip.consistent c.args.desk.now)
-    (subst (λ (n : ℕ). AtStatus (RunsOpened old new) n) done (returns-clause-opened g c asks))
+    (subst (λ (n : ℕ). AtStatus (RunsOpened sessions old new) n) done (returns-clause-opened g c sessions asks))
 
 pub returns-clause-anew : goal.returns-clause-anew
-returns-clause-anew g c = λ asks done.
+returns-clause-anew g c = λ sessions asks done.
     formatted_records (g.D.Chip.told c.args.desk.now) (g.D.Chip.told c.finish.new.desk)
-    (g.met.D.Chip.consistent c.args.desk.now) (returns-clause-formatted g c asks done)
+    (g.met.D.Chip.consistent c.args.desk.now) (returns-clause-formatted g c sessions asks done)
 
 pub returns-clause-part : goal.returns-clause-part
 returns-clause-part g c = end_part (requested (map string_bytes c.args.words.now))
