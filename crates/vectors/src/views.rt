@@ -2,6 +2,7 @@
 //! the empty map, over so many places.
 use crate::words::{geometry_of, parted, text_of};
 use anyhow::Result;
+use ipl_base::SESSIONS;
 use ipl_model::{Command, Line, PlainModel};
 use script_text::parse;
 use serial_view::serial_order;
@@ -16,7 +17,7 @@ pub fn view_row(alloc: Global, rest: &str) -> Result<String> {
     let commands = commands_of(alloc, lines)?;
     let geometry = geometry_of(places)?;
     let start = PlainModel::new(alloc, geometry)?;
-    let order = serial_order(alloc, geometry, &start, &commands)?;
+    let order = serial_order(alloc, geometry, SESSIONS, &start, &commands)?;
     let mut text = text_of(alloc, "view")?;
     for position in &order {
         write!(text, " {position}")?;

@@ -34,22 +34,27 @@ fn asked_text(alloc: Global, asked: Option<Request>) -> Result<String> {
 fn request_text(alloc: Global, request: Request) -> Result<String> {
     match request {
         Request::Format { spares } => Ok(format!(in alloc; "format spares {spares}")?),
-        Request::Serial => text_of(alloc, "serial"),
+        Request::Serial { sessions } => Ok(format!(in alloc; "serial sessions {sessions}")?),
         Request::Check => text_of(alloc, "check"),
         Request::Run {
             frames,
+            sessions,
             format,
             close,
         } => {
             let how = if format { " format" } else { "" };
             let then = if close { " close" } else { "" };
-            Ok(format!(in alloc; "run frames {frames}{how}{then}")?)
+            Ok(format!(in alloc; "run frames {frames} sessions {sessions}{how}{then}")?)
         }
         Request::Trial {
             seed,
             count,
             frames,
-        } => { Ok(format!(in alloc; "trial seed {seed} count {count} frames {frames}")?) }
+            sessions,
+        } => {
+            let how = format!(in alloc; "seed {seed} count {count}")?;
+            Ok(format!(in alloc; "trial {how} frames {frames} sessions {sessions}")?)
+        }
     }
 }
 
