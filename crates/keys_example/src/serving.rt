@@ -7,7 +7,7 @@ use crate::answer::say;
 use crate::line::{Command, parse};
 use anyhow::{Result, bail};
 use chip_trait::Chip;
-use ipl_base::Value;
+use ipl_base::{SESSIONS, Value};
 use ipl_keys::{KeyFault, Keys};
 use ipl_model::Reply;
 use std::alloc::Global;
@@ -30,7 +30,7 @@ pub fn serve<C: Chip + Drop>(rt: &HostRuntime, alloc: Global, mut chip: C) -> Re
 fn opened<C: Chip>(alloc: Global, chip: &mut C) -> Result<Keys>
     ensures { IfOk result (λ keys. IsSound (C.told chip.new).places keys.store) }
 {
-    match Keys::open(alloc, chip, FRAMES) {
+    match Keys::open(alloc, chip, FRAMES, SESSIONS) {
         Ok(keys) => Ok(keys),
         Err(fault) => bail!("{fault}"),
     }

@@ -7,7 +7,7 @@ ghost use Rattle.lab.specs.Suits.{StaysSound, SuitsDesk};
 use crate::answers::{READ_FAILED, WRITE_FAILED, done_line, found_line, opened_line, say};
 use crate::words::{number, parted, words_of};
 use anyhow::{Result, bail, ensure};
-use ipl_base::StoreFault;
+use ipl_base::{SESSIONS, StoreFault};
 use ipl_cli::MemDesk;
 use ipl_model::{Command, Line};
 use ipl_store::Store;
@@ -149,7 +149,7 @@ fn store_of(alloc: Global, frames: u32, desk: &mut MemDesk) -> Result<Store>
     ensures { IfOk result (λ store. SuitsDesk desk.new store) }
 {
     ensure!(2 <= frames && frames <= 64, "no frames");
-    Ok(Store::open(alloc, desk, frames)?)
+    Ok(Store::open(alloc, desk, frames, SESSIONS)?)
 }
 
 /// Makes the calls of a script on a store with so many frames, one a line; 3 where a write failed, or 0.

@@ -8,6 +8,7 @@ use crate::answers::{bytes_line, key_line, say};
 use crate::sectors::bytes_of;
 use crate::words::{number, parted, text_of, words_of};
 use anyhow::{Result, bail, ensure};
+use ipl_base::SESSIONS;
 use ipl_cli::MemDesk;
 use ipl_keys::{KeyFault, Keys};
 use std::alloc::Global;
@@ -91,7 +92,7 @@ fn keys_of(alloc: Global, frames: u32, desk: &mut MemDesk) -> Result<Keys>
     ensures { IfOk result (λ keys. SuitsDesk desk.new keys.store) }
 {
     ensure!(2 <= frames && frames <= 64, "no frames");
-    Ok(Keys::open(alloc, desk, frames)?)
+    Ok(Keys::open(alloc, desk, frames, SESSIONS)?)
 }
 
 /// Makes the calls of a script on keys, one a line, with so many frames.

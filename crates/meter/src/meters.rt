@@ -4,6 +4,7 @@ ghost use Rattle.meter.specs.Sound.{IsSoundFor};
 
 use crate::reading::Reading;
 use chip_trait::Chip;
+use ipl_base::SESSIONS;
 use ipl_keys::{KeyFault, Keys};
 use std::alloc::Global;
 
@@ -19,7 +20,7 @@ impl Meters {
     pub fn open<C: Chip>(alloc: Global, chip: &mut C) -> anyhow::Result<Meters>
         ensures { IfOk result (λ meters. IsSoundFor (C.told chip.new) meters) }
     {
-        let mut keys = Keys::open(alloc, chip, 4)?;
+        let mut keys = Keys::open(alloc, chip, 4, SESSIONS)?;
         keys.begin(chip, 0)?;
         Ok(Meters { keys, pending: 0 })
     }
