@@ -29,6 +29,7 @@ struct ipl_request {
 
 /* What a call asks. What it reads of the request stands beside it, and then what it answers there. */
 enum ipl_op {
+    /* Of an opening, which has no number of its own: session: how many there are. */
     IPL_OP_BEGIN = 1,      /* session */
     IPL_OP_GET = 2,        /* session; name or key, key_len: len, value */
     IPL_OP_SHARE = 3,      /* session; name: len, value; or key, key_len, and nothing comes back */
@@ -56,9 +57,10 @@ struct ipl_engine;
 enum { IPL_ENGINE_ALIGNMENT = 16 };
 
 /* How many bytes an engine wants, with all that it takes: for an opening and what follows it, for a check,
- * for a format. Of 5 to 1,028 places and 2 to 64 frames. An opening wants the most, a format the least. */
-IPL_ENGINE size_t ipl_engine_memory(uint32_t places, uint32_t frames);
-IPL_ENGINE size_t ipl_engine_check_memory(uint32_t places);
+ * for a format. The config's numbers are in their ranges, those that are looked at: of a check the places alone.
+ * An opening wants the most, a format the least. */
+IPL_ENGINE size_t ipl_engine_memory(const struct ipl_config *config);
+IPL_ENGINE size_t ipl_engine_check_memory(const struct ipl_config *config);
 IPL_ENGINE size_t ipl_engine_format_memory(void);
 
 /* Makes an engine of memory, whatever that held before: an engine that was there is gone, also one whose
@@ -77,7 +79,8 @@ IPL_ENGINE struct ipl_request *ipl_engine_request(struct ipl_engine *e);
 IPL_ENGINE uint32_t ipl_engine_format(struct ipl_engine *e, uint32_t places, uint32_t spares);
 /* IPL_OK: `name` of the request is how many records there are. */
 IPL_ENGINE uint32_t ipl_engine_check(struct ipl_engine *e, uint32_t places);
-IPL_ENGINE uint32_t ipl_engine_open(struct ipl_engine *e, enum ipl_engine_kind kind, uint32_t places, uint32_t frames);
+/* As large as the config says. */
+IPL_ENGINE uint32_t ipl_engine_open(struct ipl_engine *e, enum ipl_engine_kind kind, const struct ipl_config *config);
 
 /* Does what the request asks, of an engine that was opened. */
 IPL_ENGINE uint32_t ipl_engine_call(struct ipl_engine *e);

@@ -54,6 +54,7 @@ const char *ipl_text(enum ipl_answer answer) {
     case IPL_SMALL_MEMORY: return "too little memory";
     case IPL_BAD_PLACES: return "not 5 to 1,028 places";
     case IPL_BAD_SPARES: return "more than 64 spare places, or no unit is left";
+    case IPL_BAD_SESSIONS: return "not 1 to 32 sessions";
     case IPL_READ_FAULT: return "a read failed";
     case IPL_DAMAGED: return "a sector of a page is damaged";
     case IPL_MALFORMED: return "a page is malformed";
@@ -116,10 +117,11 @@ static int ipl_barrier(void *context) {
 
 /* ---- how much memory */
 
-static enum ipl_answer ipl_look_at(const struct ipl_config *config, int has_frames, int has_spares) {
+static enum ipl_answer ipl_look_at(const struct ipl_config *config, int opens, int has_spares) {
     if (config->version != IPL_VERSION) return IPL_OTHER_VERSION;
     if (config->places < IPL_PLACES_LEAST || config->places > IPL_PLACES_MOST) return IPL_BAD_PLACES;
-    if (has_frames && (config->frames < IPL_FRAMES_LEAST || config->frames > IPL_FRAMES_MOST)) return IPL_BAD_FRAMES;
+    if (opens && (config->frames < IPL_FRAMES_LEAST || config->frames > IPL_FRAMES_MOST)) return IPL_BAD_FRAMES;
+    if (opens && (config->sessions < 1 || config->sessions > IPL_SESSIONS)) return IPL_BAD_SESSIONS;
     if (has_spares && (config->spares > IPL_SPARES_MOST || config->spares > config->places - IPL_PLACES_LEAST))
         return IPL_BAD_SPARES;
     return IPL_OK;
@@ -130,12 +132,12 @@ enum { IPL_GAP = IPL_ENGINE_ALIGNMENT - 1 };
 
 size_t ipl_memory(const struct ipl_config *config) {
     if (config == NULL || ipl_look_at(config, 1, 0) != IPL_OK) return 0;
-    return IPL_GAP + ipl_engine_memory(config->places, config->frames);
+    return IPL_GAP + ipl_engine_memory(config);
 }
 
 size_t ipl_check_memory(const struct ipl_config *config) {
     if (config == NULL || ipl_look_at(config, 0, 0) != IPL_OK) return 0;
-    return IPL_GAP + ipl_engine_check_memory(config->places);
+    return IPL_GAP + ipl_engine_check_memory(config);
 }
 
 size_t ipl_format_memory(const struct ipl_config *config) {
@@ -231,6 +233,7 @@ static enum ipl_answer ipl_start(struct ipl *s, const struct ipl_driver *driver,
     s->counting.barrier = ipl_barrier;
     s->facts.places = config->places;
     s->facts.frames = config->frames;
+    s->facts.sessions = config->sessions;
     answer = ipl_list(s);
     if (answer != IPL_OK) return answer;
     s->self = s;
@@ -287,10 +290,11 @@ enum { IPL_NO_UNITS = 4 };
 
 /* Opens the part in the store's memory, also where that had an engine before. */
 static enum ipl_answer ipl_open_part(struct ipl *s) {
+    const struct ipl_config config = IPL_CONFIG_OF(s->facts.places, s->facts.frames, 0, s->facts.sessions);
     enum ipl_answer answer;
     struct ipl_request *r;
     ipl_raise(s);
-    answer = ipl_tell(s, ipl_engine_open(s->engine, (enum ipl_engine_kind)s->kind, s->facts.places, s->facts.frames));
+    answer = ipl_tell(s, ipl_engine_open(s->engine, (enum ipl_engine_kind)s->kind, &config));
     if (answer == IPL_OK) {
         r = ipl_engine_request(s->engine);
         r->op = IPL_OP_UNITS;
@@ -451,7 +455,7 @@ static int ipl_lacks(const void *bytes, uint32_t len, uint32_t most) {
 static enum ipl_answer ipl_abort_each(struct ipl *s) {
     enum ipl_answer answer = IPL_OK;
     uint32_t session;
-    for (session = 0; session < IPL_SESSIONS; session++) {
+    for (session = 0; session < s->facts.sessions; session++) {
         answer = ipl_ask(s, IPL_OP_ABORT, session, 0);
         if (answer != IPL_OK && answer != IPL_NOT_OPEN) return answer;
     }

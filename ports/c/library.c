@@ -29,12 +29,13 @@ enum { IPL_HEAD = (sizeof(struct ipl_engine) + IPL_BLOCK - 1) / IPL_BLOCK * IPL_
 
 enum { IPL_OPEN_BLOCKS = 22, IPL_CHECK_BLOCKS = 17 };
 
-size_t ipl_engine_memory(uint32_t places, uint32_t frames) {
-    return (size_t)IPL_HEAD + 253802 + (size_t)504 * places + (size_t)16728 * frames + IPL_OPEN_BLOCKS * IPL_BLOCK;
+size_t ipl_engine_memory(const struct ipl_config *config) {
+    return (size_t)IPL_HEAD + 154370 + (size_t)504 * config->places + (size_t)16728 * config->frames
+           + (size_t)2600 * config->sessions + IPL_OPEN_BLOCKS * IPL_BLOCK;
 }
 
-size_t ipl_engine_check_memory(uint32_t places) {
-    return (size_t)IPL_HEAD + 140018 + (size_t)504 * places + IPL_CHECK_BLOCKS * IPL_BLOCK;
+size_t ipl_engine_check_memory(const struct ipl_config *config) {
+    return (size_t)IPL_HEAD + 140018 + (size_t)504 * config->places + IPL_CHECK_BLOCKS * IPL_BLOCK;
 }
 
 size_t ipl_engine_format_memory(void) { return IPL_HEAD; }
@@ -124,14 +125,15 @@ uint32_t ipl_engine_check(struct ipl_engine *e, uint32_t places) {
     return answer;
 }
 
-uint32_t ipl_engine_open(struct ipl_engine *e, enum ipl_engine_kind kind, uint32_t places, uint32_t frames) {
+uint32_t ipl_engine_open(struct ipl_engine *e, enum ipl_engine_kind kind, const struct ipl_config *config) {
     struct ipl_engine *outer = taking;
     uint32_t answer;
+    e->request.session = config->sessions;
     taking = e;
     if (kind == IPL_ENGINE_KEYS)
-        answer = ipl_port_open_keys(part_of(e), places, frames, &e->request, &e->handle.at);
+        answer = ipl_port_open_keys(part_of(e), config->places, config->frames, &e->request, &e->handle.at);
     else
-        answer = ipl_port_open_records(part_of(e), places, frames, &e->request, &e->handle.at);
+        answer = ipl_port_open_records(part_of(e), config->places, config->frames, &e->request, &e->handle.at);
     taking = outer;
     return answer;
 }

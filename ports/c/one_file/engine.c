@@ -68,12 +68,15 @@ static ipl_u32 ipl_to_ipl_nand_read(ipl_u8 *const m, ipl_u64 part, ipl_u32 place
 /* An engine in the memory: its head, stack, request and slack, and no heap yet. */
 static size_t ipl_least_memory(void) { return (size_t)IPL_HEAD + IPL_HEAP + IPL_SLACK; }
 
-/* What an opening and a check take of the heap: tests/memory.c asks for each number of places and frames. */
-IPL_ENGINE size_t ipl_engine_memory(uint32_t places, uint32_t frames) {
-    return ipl_least_memory() + 253840 + 504 * (size_t)places + 16728 * (size_t)frames;
+/* What an opening and a check take of the heap: tests/memory.c asks for many numbers of places, frames and sessions. */
+IPL_ENGINE size_t ipl_engine_memory(const struct ipl_config *config) {
+    return ipl_least_memory() + 154408 + 504 * (size_t)config->places + 16728 * (size_t)config->frames
+           + 2600 * (size_t)config->sessions;
 }
 
-IPL_ENGINE size_t ipl_engine_check_memory(uint32_t places) { return ipl_least_memory() + 140027 + 504 * (size_t)places; }
+IPL_ENGINE size_t ipl_engine_check_memory(const struct ipl_config *config) {
+    return ipl_least_memory() + 140029 + 504 * (size_t)config->places;
+}
 
 IPL_ENGINE size_t ipl_engine_format_memory(void) { return ipl_least_memory(); }
 
@@ -166,8 +169,9 @@ IPL_ENGINE uint32_t ipl_engine_format(struct ipl_engine *e, uint32_t places, uin
 
 IPL_ENGINE uint32_t ipl_engine_check(struct ipl_engine *e, uint32_t places) { return ipl_run(e, IPL_DO_CHECK, places, 0); }
 
-IPL_ENGINE uint32_t ipl_engine_open(struct ipl_engine *e, enum ipl_engine_kind kind, uint32_t places, uint32_t frames) {
-    return ipl_run(e, kind == IPL_ENGINE_KEYS ? IPL_DO_KEYS : IPL_DO_RECORDS, places, frames);
+IPL_ENGINE uint32_t ipl_engine_open(struct ipl_engine *e, enum ipl_engine_kind kind, const struct ipl_config *config) {
+    ipl_engine_request(e)->session = config->sessions;
+    return ipl_run(e, kind == IPL_ENGINE_KEYS ? IPL_DO_KEYS : IPL_DO_RECORDS, config->places, config->frames);
 }
 
 IPL_ENGINE uint32_t ipl_engine_call(struct ipl_engine *e) { return ipl_run(e, IPL_DO_CALL, 0, 0); }

@@ -15,13 +15,13 @@ struct ipl_engine {
 };
 
 static struct ipl_request asked; /* by the last call */
-static uint32_t given[3], calls, raises;
+static uint32_t given[4], calls, raises;
 static uint32_t answer, found_len; /* what the next call answers, and how many bytes it finds */
 static const uint32_t unit_count = 5;
 static int is_broken;            /* answers another number to one session */
 
-size_t ipl_engine_memory(uint32_t places, uint32_t frames) { return ENGINE_BYTES + places + 16 * (size_t)frames; }
-size_t ipl_engine_check_memory(uint32_t places) { return ENGINE_BYTES + places; }
+size_t ipl_engine_memory(const struct ipl_config *it) { return ENGINE_BYTES + it->places + 16 * (size_t)it->frames + 64 * (size_t)it->sessions; }
+size_t ipl_engine_check_memory(const struct ipl_config *it) { return ENGINE_BYTES + it->places; }
 size_t ipl_engine_format_memory(void) { return ENGINE_BYTES; }
 
 struct ipl_engine *ipl_engine_raise(void *at, size_t size, const struct ipl_driver *driver) {
@@ -56,8 +56,9 @@ uint32_t ipl_engine_check(struct ipl_engine *e, uint32_t places) {
     return keep(e, places, 0, 0);
 }
 
-uint32_t ipl_engine_open(struct ipl_engine *e, enum ipl_engine_kind kind, uint32_t places, uint32_t frames) {
-    return keep(e, places, frames, kind);
+uint32_t ipl_engine_open(struct ipl_engine *e, enum ipl_engine_kind kind, const struct ipl_config *it) {
+    given[3] = it->sessions;
+    return keep(e, it->places, it->frames, kind);
 }
 
 uint32_t ipl_engine_call(struct ipl_engine *e) {
@@ -80,8 +81,8 @@ static int barrier_never(void *c) { (void)c; return never(); }
 static char first_part, second_part;
 static const struct ipl_driver first = {&first_part, read_never, program_never, erase_never, barrier_never};
 static const struct ipl_driver second = {&second_part, read_never, program_never, erase_never, barrier_never};
-static const struct ipl_config config = IPL_CONFIG(7, 8, 2);
-static uint8_t first_memory[2000], second_memory[2000];
+static const struct ipl_config config = IPL_CONFIG_OF(7, 8, 2, 20);
+static uint8_t first_memory[3000], second_memory[3000];
 
 static void must(int holds, const char *what) {
     if (holds) return;
@@ -173,7 +174,7 @@ static void drop_all(struct ipl *s) {
     is_broken = 1;
     answer = IPL_OK;
     uint32_t before = calls;
-    must(ipl_abort_all(s) == IPL_OK && calls == before + 32, "an abort of all sessions");
+    must(ipl_abort_all(s) == IPL_OK && calls == before + 20, "an abort of all sessions");
     answer = IPL_STOPPED;
     before = calls;
     must(ipl_abort_all(s) == IPL_STOPPED && calls == before + 8, "one that fails");
@@ -181,7 +182,7 @@ static void drop_all(struct ipl *s) {
     is_broken = 0;
     answer = IPL_OK;
     before = calls;
-    must(ipl_shutdown(s, 1) == IPL_OK && calls == before + 33, "a shutdown that drops all sessions");
+    must(ipl_shutdown(s, 1) == IPL_OK && calls == before + 21, "a shutdown that drops all sessions");
 }
 
 static void try_parts(struct ipl *s, struct ipl_keys *k) {
@@ -199,7 +200,7 @@ static void try_parts(struct ipl *s, struct ipl_keys *k) {
     must(records == 33 && ipl_detail(s)[0] == 0, "how many records");
     must(ipl_begin(s, 0) == IPL_NO_STORE && calls == 0, "a check leaves nothing open");
     must(ipl_open(s, &first, &config, first_memory, sizeof first_memory) == IPL_OK, "an opening");
-    must(given[0] == 7 && given[1] == 8 && given[2] == IPL_ENGINE_RECORDS, "what an opening is asked");
+    must(given[0] == 7 && given[1] == 8 && given[2] == IPL_ENGINE_RECORDS && given[3] == 20, "what an opening is asked");
     must(ipl_unit_count(s) == unit_count, "how many units");
     must(ipl_keys_open(k, &second, &config, second_memory, sizeof second_memory) == IPL_OK, "an opening for keys");
     must(given[2] == IPL_ENGINE_KEYS && ipl_keys_unit_count(k) == unit_count, "which is of keys");
@@ -212,7 +213,7 @@ static void reopen(struct ipl *s) {
     must(ipl_reopen(s) == IPL_PART_UNREAD && ipl_unit_count(s) == unit_count, "a reopen that fails");
     must(ipl_begin(s, 0) == IPL_DOWN && ipl_merge(s, 0) == IPL_DOWN && calls == before, "leaves the store down");
     answer = IPL_OK;
-    must(ipl_reopen(s) == IPL_OK && given[1] == 8 && ipl_begin(s, 0) == IPL_OK, "a reopen");
+    must(ipl_reopen(s) == IPL_OK && given[1] == 8 && given[3] == 20 && ipl_begin(s, 0) == IPL_OK, "a reopen");
 }
 
 int main(void) {

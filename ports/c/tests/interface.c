@@ -73,8 +73,9 @@ static void try_memory(void) {
     static const uint32_t frames[] = {IPL_FRAMES_LEAST, 3, 16, IPL_FRAMES_MOST};
     for (uint32_t places = IPL_PLACES_LEAST; places <= IPL_PLACES_MOST; places++)
         for (uint32_t some = IPL_FRAMES_LEAST; some <= IPL_FRAMES_MOST; some++) {
-            struct ipl_config it = IPL_CONFIG(places, some, 0);
+            struct ipl_config it = IPL_CONFIG(places, some, 0), few = IPL_CONFIG_OF(places, some, 0, 1);
             must(ipl_memory(&it) != 0 && ipl_memory(&it) <= IPL_MEMORY(places, some), "the macro has as much");
+            must(ipl_memory(&few) != 0 && ipl_memory(&few) <= IPL_MEMORY_OF(places, some, 1), "also with one session");
             must(ipl_check_memory(&it) <= ipl_memory(&it), "an opening's does for a check");
             must(ipl_format_memory(&it) <= ipl_check_memory(&it), "and a check's for a format");
         }
@@ -83,7 +84,12 @@ static void try_memory(void) {
         format_it();
         for (size_t distance = 0; distance < 16; distance += i == 0 ? 1 : 15) open_exactly(&it, distance);
     }
-    /* Also of a part with more places. */
+    /* Also with few sessions, and of a part with more places. */
+    for (uint32_t sessions = 1; sessions < 5; sessions++) {
+        struct ipl_config few = IPL_CONFIG_OF(PLACES, FRAMES, 1, sessions);
+        format_it();
+        open_exactly(&few, 5);
+    }
     part_free(PART);
     part_new(PART, 40);
     struct ipl_config many = IPL_CONFIG(40, 2, 0);
@@ -107,7 +113,7 @@ static void try_answers(void) {
         must(ipl_is_refused(answer) == (a >= 2 && a < 40), "which answers are refusals");
         must(ipl_is_up(answer) == (a < 60), "which answers leave a store up");
     }
-    must(texts == 2 + 32 + 4 + 5 + 13, "how many answers there are");
+    must(texts == 2 + 33 + 4 + 5 + 13, "how many answers there are");
     must(ipl_is_refused(IPL_BAD_SESSION) && ipl_is_refused(IPL_BAD_SPARES) && !ipl_is_refused(IPL_NOTHING), "refusals");
     must(ipl_is_up(IPL_BAD_BUCKET) && !ipl_is_up(IPL_DOWN) && !ipl_is_up(IPL_PART_SPENT), "stores that are up");
 }
@@ -245,8 +251,9 @@ static void try_list(void) {
 
 /* ---- null pointers, and numbers out of range */
 
-static void refuse_config(uint32_t places, uint32_t frames, uint32_t spares, enum ipl_answer opens, enum ipl_answer formats) {
-    struct ipl_config bad = IPL_CONFIG(places, frames, spares);
+static void refuse_config_of(uint32_t places, uint32_t frames, uint32_t spares, uint32_t sessions, enum ipl_answer opens,
+                             enum ipl_answer formats) {
+    struct ipl_config bad = IPL_CONFIG_OF(places, frames, spares, sessions);
     uint32_t records;
     const struct ipl_driver *driver = part_driver(PART);
     must(opens == IPL_OK || ipl_open(&store, driver, &bad, memory, sizeof memory) == opens, "a config of an opening");
@@ -256,6 +263,10 @@ static void refuse_config(uint32_t places, uint32_t frames, uint32_t spares, enu
     must((ipl_format_memory(&bad) == 0) == (formats != IPL_OK), "its memory for a format");
     if (opens == IPL_BAD_PLACES)
         must(ipl_check(&store, driver, &bad, memory, sizeof memory, &records) == opens, "of a check");
+}
+
+static void refuse_config(uint32_t places, uint32_t frames, uint32_t spares, enum ipl_answer opens, enum ipl_answer formats) {
+    refuse_config_of(places, frames, spares, IPL_SESSIONS, opens, formats);
 }
 
 static void refuse_driver(struct ipl_driver driver) {
@@ -342,6 +353,9 @@ static void try_bad_input(void) {
     refuse_config(PLACES, 4, PLACES - 4, IPL_OK, IPL_BAD_SPARES);
     refuse_config(200, 4, 65, IPL_OK, IPL_BAD_SPARES);
     refuse_config(200, 4, UINT32_MAX, IPL_OK, IPL_BAD_SPARES);
+    refuse_config_of(PLACES, 4, 0, 0, IPL_BAD_SESSIONS, IPL_OK);
+    refuse_config_of(PLACES, 4, 0, 33, IPL_BAD_SESSIONS, IPL_OK);
+    refuse_config_of(PLACES, 4, 0, UINT32_MAX, IPL_BAD_SESSIONS, IPL_OK);
     try_nulls_of_parts();
     after = part_counts(PART);
     must(memcmp(&before, &after, sizeof before) == 0, "the part is asked nothing");
@@ -511,6 +525,28 @@ static void try_left(void) {
     must(ipl_close(&store) == IPL_OK, "a close");
 }
 
+/* With S sessions the numbers from S on are refused, by records and by keys, also behind a reopen. */
+static void try_sessions_of(uint32_t sessions) {
+    struct ipl_config few = IPL_CONFIG_OF(PLACES, FRAMES, 1, sessions);
+    const struct ipl_driver *driver = part_driver(PART);
+    struct ipl_facts facts;
+    const uint32_t last[] = {sessions - 1}, past[] = {0, sessions};
+    format_it();
+    must(ipl_open(&store, driver, &few, memory, sizeof memory) == IPL_OK, "an opening");
+    must(ipl_state(&store, &facts) == IPL_OK && facts.sessions == sessions, "how many sessions there are");
+    for (int turn = 0; turn < 2; turn++) {
+        for (uint32_t s = 0; s < sessions; s++) must(ipl_begin(&store, s) == IPL_OK, "each session");
+        must(ipl_begin(&store, sessions) == IPL_BAD_SESSION && ipl_begin(&store, UINT32_MAX) == IPL_BAD_SESSION, "and no other");
+        must(ipl_put(&store, sessions, 1, "a", 1) == IPL_BAD_SESSION && ipl_abort(&store, sessions) == IPL_BAD_SESSION, "its calls");
+        must(ipl_commit_all(&store, past, 2) == IPL_BAD_SESSION, "a commit of several");
+        must(ipl_put(&store, sessions - 1, 1, "a", 1) == IPL_OK && ipl_commit_all(&store, last, 1) == IPL_OK, "the last one");
+        must(ipl_reopen(&store) == IPL_OK, "a reopen");
+    }
+    must(ipl_close(&store) == IPL_OK && ipl_keys_open(&keys, driver, &few, memory, sizeof memory) == IPL_OK, "an opening for keys");
+    must(ipl_keys_begin(&keys, sessions) == IPL_BAD_SESSION && ipl_keys_begin(&keys, sessions - 1) == IPL_OK, "sessions of keys");
+    must(ipl_keys_close(&keys) == IPL_OK, "a close");
+}
+
 static void try_state(void) {
     struct ipl_facts state;
     uint8_t value[8];
@@ -569,6 +605,9 @@ int main(void) {
     try_blank();
     try_cut_format();
     try_left();
+    try_sessions_of(1);
+    try_sessions_of(2);
+    try_sessions_of(IPL_SESSIONS);
     try_state();
     part_free(PART);
     part_free(OTHER);

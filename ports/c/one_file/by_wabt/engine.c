@@ -110,8 +110,10 @@ u32 Z_envZ_ipl_nand_read(struct Z_env_instance_t *env, u64 part, u32 place, u32 
 /* ---- engine.h */
 
 static size_t least(void) { return sizeof(struct ipl_engine) + HEAP + SLACK; }
-size_t ipl_engine_memory(uint32_t places, uint32_t frames) { return least() + 253840 + 504 * (size_t)places + 16728 * (size_t)frames; }
-size_t ipl_engine_check_memory(uint32_t places) { return least() + 140027 + 504 * (size_t)places; }
+size_t ipl_engine_memory(const struct ipl_config *config) {
+    return least() + 154408 + 504 * (size_t)config->places + 16728 * (size_t)config->frames + 2600 * (size_t)config->sessions;
+}
+size_t ipl_engine_check_memory(const struct ipl_config *config) { return least() + 140029 + 504 * (size_t)config->places; }
 size_t ipl_engine_format_memory(void) { return least(); }
 
 struct ipl_engine *ipl_engine_raise(void *memory, size_t size, const struct ipl_driver *driver) {
@@ -158,7 +160,8 @@ static uint32_t run(struct ipl_engine *e, enum what what, uint32_t a, uint32_t b
 
 uint32_t ipl_engine_format(struct ipl_engine *e, uint32_t places, uint32_t spares) { return run(e, FORMAT, places, spares); }
 uint32_t ipl_engine_check(struct ipl_engine *e, uint32_t places) { return run(e, CHECK, places, 0); }
-uint32_t ipl_engine_open(struct ipl_engine *e, enum ipl_engine_kind kind, uint32_t places, uint32_t frames) {
-    return run(e, kind == IPL_ENGINE_KEYS ? KEYS : RECORDS, places, frames);
+uint32_t ipl_engine_open(struct ipl_engine *e, enum ipl_engine_kind kind, const struct ipl_config *config) {
+    e->request.session = config->sessions;
+    return run(e, kind == IPL_ENGINE_KEYS ? KEYS : RECORDS, config->places, config->frames);
 }
 uint32_t ipl_engine_call(struct ipl_engine *e) { return run(e, CALL, 0, 0); }

@@ -19,7 +19,7 @@ extern "C" {
  * Of this header, as 10,000 times the first number, 100 times the second and the third. A config has it,
  * and a library of another version refuses that.
  */
-#define IPL_VERSION 10000u
+#define IPL_VERSION 10100u
 /* The version of the library, which is IPL_VERSION of the header that it was made with. */
 uint32_t ipl_version(void);
 /* The version of the format that it writes to a part. It reads that one and all before it. */
@@ -34,7 +34,7 @@ enum ipl_limit {
     IPL_FRAMES_MOST = 64,
     IPL_SECTORS = 256,       /* of a place */
     IPL_SECTOR = 512,        /* bytes of a sector */
-    IPL_SESSIONS = 32,       /* they have the numbers 0 to 31 */
+    IPL_SESSIONS = 32,       /* at most, and 1 at least; S of them have the numbers 0 to S - 1 */
     IPL_UNIT_NAMES = 960,    /* names of a unit: unit u has those from 960 u on */
     IPL_UNIT_PAGES = 15,
     IPL_PAGE_NAMES = 64,     /* names of a page, which share its bytes: */
@@ -79,9 +79,12 @@ struct ipl_config {
     uint32_t places;  /* of the part, 5 to 1,028: the same at each opening as at the format */
     uint32_t frames;  /* 2 to 64; a format and a check don't look at them */
     uint32_t spares;  /* of a format alone: places for those that wear out, 0 to 64, at most places - 5 */
+    uint32_t sessions; /* that may be open at once, 1 to 32; a format and a check don't look at them */
 };
-/* A config, as in: struct ipl_config config = IPL_CONFIG(1024, 16, 20); */
-#define IPL_CONFIG(places, frames, spares) { IPL_VERSION, (uint32_t)(places), (uint32_t)(frames), (uint32_t)(spares) }
+/* A config, as in: struct ipl_config config = IPL_CONFIG(1024, 16, 20); with 32 sessions, or with as many as are said. */
+#define IPL_CONFIG(places, frames, spares) IPL_CONFIG_OF(places, frames, spares, IPL_SESSIONS)
+#define IPL_CONFIG_OF(places, frames, spares, sessions) \
+    { IPL_VERSION, (uint32_t)(places), (uint32_t)(frames), (uint32_t)(spares), (uint32_t)(sessions) }
 
 /* How many bytes an opening wants, which do for a format and a check too; a check alone; a format alone.
  * 0: the config isn't one that an opening takes, or a check, or a format. */
@@ -89,7 +92,9 @@ size_t ipl_memory(const struct ipl_config *config);
 size_t ipl_check_memory(const struct ipl_config *config);
 size_t ipl_format_memory(const struct ipl_config *config);
 /* As many or some more, for an array: static uint8_t memory[IPL_MEMORY(1024, 16)]; */
-#define IPL_MEMORY(places, frames) ((size_t)302080 + (size_t)504 * (places) + (size_t)16728 * (frames))
+#define IPL_MEMORY(places, frames) IPL_MEMORY_OF(places, frames, IPL_SESSIONS)
+#define IPL_MEMORY_OF(places, frames, sessions) \
+    ((size_t)202752 + (size_t)504 * (places) + (size_t)16728 * (frames) + (size_t)2600 * (sessions))
 
 /* ---- answers ------------------------------------------------------------------------------------
  *
@@ -100,7 +105,7 @@ enum ipl_answer {
     IPL_NOTHING = 1, /* get, share, committed: there is no record, or no value */
 
     /* 2 to 39: refused. Nothing has changed; the session and the store go on. */
-    IPL_BAD_SESSION = 2,     /* not 0 to 31 */
+    IPL_BAD_SESSION = 2,     /* not below the number of sessions */
     IPL_BAD_NAME = 3,        /* not below 960 a unit */
     IPL_TOO_LONG = 4,        /* a record of more than 464 bytes */
     IPL_ALREADY_OPEN = 5,    /* the session is */
@@ -132,6 +137,7 @@ enum ipl_answer {
     IPL_SMALL_MEMORY = 31,   /* detail: how many bytes are wanted */
     IPL_BAD_PLACES = 32,     /* not 5 to 1,028 */
     IPL_BAD_SPARES = 33,     /* more than 64, or no unit is left */
+    IPL_BAD_SESSIONS = 34,   /* not 1 to 32 */
 
     /* 40 to 59: failed. The store goes on, and so do its sessions. */
     IPL_READ_FAULT = 40, /* a read failed */
@@ -185,7 +191,7 @@ int ipl_is_up(enum ipl_answer answer);
  * abandon, format and check: those are one at a time over all stores, since they share a list of the open ones.
  */
 struct ipl_facts {
-    uint32_t places, frames;
+    uint32_t places, frames, sessions;
     uint32_t units;
     uint32_t spares;   /* so many places were to spare when the part was formatted */
     uint32_t is_down;  /* 1: the store does nothing until it is opened again */

@@ -35,9 +35,10 @@ static size_t left(const struct ipl_engine *e) { return (size_t)(e->end - e->hea
 static unsigned long in_less;
 
 static void in_too_little(uint32_t places, uint32_t frames) {
-    size_t whole = ipl_engine_memory(places, frames), size;
+    const struct ipl_config config = IPL_CONFIG(places, frames, 0);
+    size_t whole = ipl_engine_memory(&config), size;
     for (size = ipl_engine_format_memory(); size < whole; size += 1531) {
-        uint32_t answer = ipl_engine_open(raise_in(size), IPL_ENGINE_RECORDS, places, frames);
+        uint32_t answer = ipl_engine_open(raise_in(size), IPL_ENGINE_RECORDS, &config);
         nothing_is_written_behind();
         must(answer == IPL_OUT_OF_MEMORY || answer == IPL_TRAPPED, "too little memory is answered", answer);
         in_less++;
@@ -49,19 +50,21 @@ int main(int argc, char **argv) {
     uint32_t most = argc > 1 ? (uint32_t)atoi(argv[1]) : 1028, i, frames, tried = 0;
     for (i = 0; i < sizeof many / sizeof *many && many[i] <= most; i++) {
         uint32_t places = many[i];
+        const struct ipl_config of_places = IPL_CONFIG(places, IPL_FRAMES_LEAST, 0);
         struct ipl_engine *e;
         part = (uint8_t *)calloc(places, PLACE);
         must(part != NULL, "no memory for a part of places", places);
         e = raise_in(ipl_engine_format_memory());
         must(ipl_engine_format(e, places, 0) == IPL_OK, "format of places", places);
         nothing_is_written_behind();
-        e = raise_in(ipl_engine_check_memory(places));
+        e = raise_in(ipl_engine_check_memory(&of_places));
         must(ipl_engine_check(e, places) == IPL_OK, "check of places", places);
         must(left(e) <= 16, "bytes that a check leaves", (unsigned long)left(e));
         nothing_is_written_behind();
         for (frames = IPL_FRAMES_LEAST; frames <= IPL_FRAMES_MOST; frames += 1 + frames / 4) {
-            e = raise_in(ipl_engine_memory(places, frames));
-            must(ipl_engine_open(e, tried % 2 ? IPL_ENGINE_KEYS : IPL_ENGINE_RECORDS, places, frames) == IPL_OK, "opening", frames);
+            const struct ipl_config config = IPL_CONFIG_OF(places, frames, 0, 1 + tried % IPL_SESSIONS);
+            e = raise_in(ipl_engine_memory(&config));
+            must(ipl_engine_open(e, tried % 2 ? IPL_ENGINE_KEYS : IPL_ENGINE_RECORDS, &config) == IPL_OK, "opening", frames);
             must(left(e) <= 16, "bytes that an opening leaves", (unsigned long)left(e));
             nothing_is_written_behind();
             tried++;
