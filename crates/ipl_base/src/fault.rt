@@ -81,6 +81,10 @@ pub enum ImageFault {
     Spent,
     #[error("no spare {0}")]
     NoSpare(u32),
+    /// More numbers are committed in the status place than this opening has room for in memory. It is
+    /// about both, and none of the faults that an image has by itself.
+    #[error("too many numbers")]
+    TooManyNumbers,
 }
 
 /// Why a store can't be opened.

@@ -93,6 +93,10 @@ pub const COMMIT_NUMBERS: usize = 60;
 /// The numbers in the commit sectors of a status place, at most: 60 in each of 255.
 pub const STATUS_NUMBERS: usize = 15_300;
 
+/// The committed numbers that a store has room for in memory, at least: those of one commit sector that is
+/// kept, and those of one commit more.
+pub const LEAST_NUMBERS: usize = 120;
+
 /// The numbers that a switch of the status place keeps, at most.
 pub const KEPT_NUMBERS: usize = 3840;
 

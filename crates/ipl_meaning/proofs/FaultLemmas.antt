@@ -5,7 +5,7 @@ use Rattle.std.specs.Option.{option_or}
 use Rattle.std.proofs.lemmas.Bool.{and_from, and_parts, and_cases, or_cases, not-false, eqb-true, leb-true, le-leb, cond-true, both_ways}
 use Rattle.std.proofs.lemmas.Option.{same_Some}
 use Rattle.ipl_base.specs.declared.fault.ImageFault.{ImageFault}
-use Rattle.ipl_base.specs.declared.fault.ImageFault.TheVariants.{Geometry, NotFormatted, Missing, Chip, Spent, NoSpare}
+use Rattle.ipl_base.specs.declared.fault.ImageFault.TheVariants.{Geometry, NotFormatted, Missing, Chip, Spent, NoSpare, TooManyNumbers}
 use Rattle.ipl_format.specs.Sector.{Sector}
 use Rattle.ipl_meaning.specs.Chart.{Chart, IsStatusHeader}
 use Rattle.ipl_base.specs.First.{first_below}
@@ -54,6 +54,7 @@ is_missing (Missing u) = true
 is_missing (Chip fault) = false
 is_missing Spent = false
 is_missing (NoSpare n) = false
+is_missing TooManyNumbers = false
 
 abbrev is_unformatted : ImageFault → Bool
 is_unformatted Geometry = false
@@ -62,6 +63,7 @@ is_unformatted (Missing u) = false
 is_unformatted (Chip fault) = false
 is_unformatted Spent = false
 is_unformatted (NoSpare n) = false
+is_unformatted TooManyNumbers = false
 
 -- a test whose fault is of another kind
 if_other : (test : ImageFault → Bool) (b : Bool) (fault : ImageFault) → test fault ≡ false → passes test (cond b None (Some fault)) ≡ false

@@ -3,7 +3,7 @@ use Rattle.std.specs.Prelude.{ℕ, ◌≡◌, ◌≢◌, ◌⊎◌, ◌<◌, ◌
 use Rattle.ipl_base.specs.declared.limits.TheConstants.{SECTORS, LEAST_PLACES, MOST_PLACES, OVERFLOW_PLACES}
 use Rattle.ipl_base.specs.declared.fault.ChipFault.TheVariants.{ReadFault, Stopped, Damaged, Malformed, WornOut}
 use Rattle.ipl_base.specs.declared.fault.ImageFault.{ImageFault}
-use Rattle.ipl_base.specs.declared.fault.ImageFault.TheVariants.{Geometry, NotFormatted, Missing, Chip, Spent, NoSpare}
+use Rattle.ipl_base.specs.declared.fault.ImageFault.TheVariants.{Geometry, NotFormatted, Missing, Chip, Spent, NoSpare, TooManyNumbers}
 use Rattle.ipl_base.specs.Places.{KeepsUnits}
 use Rattle.ipl_format.specs.Sector.{Sector}
 use Rattle.ipl_meaning.specs.Chart.{Chart, IsChosen, IsDataHeader, IsStatusHeader}
@@ -64,7 +64,7 @@ IsBadSector c places p s =
     ⊎ IsFirstBadNote c places p s
     ⊎ ((k : ℕ) × (p ≡ k / SECTORS) × (s ≡ k % SECTORS) × IsFirstBadLog c places k (malformed p s))
 
--- the cause of each fault; those of failed calls have none here
+-- the cause of each fault; those of failed calls have none here, nor that the numbers have no room in memory
 abbrev pub IsCaused : Chart → ℕ → ImageFault → Type 0
 IsCaused c places Geometry = (places < LEAST_PLACES) ⊎ (MOST_PLACES < places)
     ⊎ HasWrongUnits c places ⊎ HasOtherUnits c places
@@ -77,6 +77,7 @@ IsCaused c places (Chip (Malformed p s)) = IsBadSector c places p s
 IsCaused c places (Chip (WornOut n)) = ⊥
 IsCaused c places Spent = 2 ^ 63 ≤ greatest_found c places
 IsCaused c places (NoSpare k) = (OVERFLOW_PLACES < k) × (k ≡ overflows_found c places)
+IsCaused c places TooManyNumbers = ⊥
 
 -- each fault comes where its cause is
 abbrev pub FaultsAreCaused : Type 0

@@ -4,7 +4,7 @@ use Rattle.std.specs.List.{list_any, count_by}
 use Rattle.ipl_base.specs.declared.limits.TheConstants.{SECTORS, LEAST_PLACES, MOST_PLACES, RESERVED_PLACES, MOST_SPARES, OVERFLOW_PLACES, OVERFLOW_SECTORS}
 use Rattle.ipl_base.specs.declared.fault.ChipFault.TheVariants.{ReadFault, Stopped, Damaged, Malformed, WornOut}
 use Rattle.ipl_base.specs.declared.fault.ImageFault.{ImageFault}
-use Rattle.ipl_base.specs.declared.fault.ImageFault.TheVariants.{Geometry, NotFormatted, Missing, Chip, Spent, NoSpare}
+use Rattle.ipl_base.specs.declared.fault.ImageFault.TheVariants.{Geometry, NotFormatted, Missing, Chip, Spent, NoSpare, TooManyNumbers}
 use Rattle.ipl_format.specs.Sector.{Sector}
 use Rattle.ipl_meaning.specs.Chart.{Chart}
 use Rattle.ipl_base.specs.First.{first_below}
@@ -228,8 +228,8 @@ shape_fault c places = fault_for false c places
 
 -- ---- told
 
--- the fault is about what the chip holds, and not about a call that failed; that the numbers are used up
--- is one where some will be drawn
+-- the fault is about what the chip holds alone, and not about a call that failed, nor about the memory for
+-- numbers; that the numbers are used up is one where some will be drawn
 abbrev pub is_told : Bool → ImageFault → Bool
 is_told draws Geometry = true
 is_told draws NotFormatted = true
@@ -241,6 +241,7 @@ is_told draws (Chip (Malformed p s)) = true
 is_told draws (Chip (WornOut n)) = false
 is_told draws Spent = draws
 is_told draws (NoSpare n) = true
+is_told draws TooManyNumbers = false
 
 -- the same of an opening
 abbrev pub is_image : ImageFault → Bool

@@ -1,7 +1,7 @@
--- The tables of a chip that was just formatted, no sector being known as clean.
+-- The tables of a chip that was just formatted, no sector being known as clean, with room for all numbers of a status place.
 use Rattle.std.specs.Prelude.{ℕ, ◌+◌, ◌-◌, true, false, [], ◌++◌, replicate}
 use Rattle.std.specs.List.{range_with_len}
-use Rattle.ipl_base.specs.declared.limits.TheConstants.{SECTORS, LOG_SECTORS}
+use Rattle.ipl_base.specs.declared.limits.TheConstants.{SECTORS, LOG_SECTORS, STATUS_NUMBERS}
 use Rattle.ipl_meaning.specs.Layout.{Layout}
 use Rattle.ipl_meaning.specs.Formatted.{no_pieces, first_head, first_status}
 use Rattle.ipl_meaning.specs.Tables.{Tables, UNKNOWN_LOGS}
@@ -33,6 +33,7 @@ first_tables places units = record {
     place = units;
     generation = units + 1;
     numbers = [];
+    most = STATUS_NUMBERS;
     first = SECTORS;
   };
   next = units + 2;

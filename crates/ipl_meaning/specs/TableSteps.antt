@@ -73,6 +73,7 @@ after_commit t numbers next active = record {
     place = t.status.place;
     generation = t.status.generation;
     numbers = t.status.numbers ++ numbers;
+    most = t.status.most;
     first = t.status.first + 1;
   };
   next = next;

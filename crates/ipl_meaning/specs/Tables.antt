@@ -88,11 +88,12 @@ pub record OverflowLists : Type 0 where
   -- the overflow places in use, each with its first clean sector (256 where it has none)
   pub in_use : List (ℕ × ℕ)
 
--- the status place: its generation, its numbers
+-- the status place: its generation, its numbers, and how many there is room for in memory
 pub record StatusTable : Type 0 where
   pub place : ℕ
   pub generation : ℕ
   pub numbers : List ℕ
+  pub most : ℕ
   -- its first clean sector (256 where it has none)
   pub first : ℕ
 

@@ -106,6 +106,18 @@ length_with_numbers [] l = omega arith
 length_with_numbers (n ∷ more) l =
     omega (arith, length_with_number n l, length_with_numbers more (with_number n l))
 
+-- a number that isn't there makes one more
+pub one_more_with : (n : ℕ) (l : List ℕ) → (Contains l n → ⊥) → length l < length (with_number n l)
+one_more_with n [] apart = omega arith
+one_more_with n (k ∷ l) apart = elim (cases_Bool (nat_lt n k)) [
+  | inl less ↦ rw less (omega arith)
+  | inr more ↦ elim (cases_Bool (eqb n k)) [
+    | inl same ↦ absurd (apart (subst (Contains (k ∷ l)) (sym (eqb-true n k same)) (contains_here k l)))
+    | inr other ↦
+        rw (more, other) (omega (arith, one_more_with n l (λ is. apart (contains_there k l n is))))
+  ]
+]
+
 with_number_grows : (n : ℕ) (l : List ℕ) → length l ≤ length (with_number n l)
 with_number_grows n [] = omega arith
 with_number_grows n (k ∷ l) = elim (cases_Bool (nat_lt n k)) [

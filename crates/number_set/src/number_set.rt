@@ -1,5 +1,6 @@
 //! A set of numbers, in rising order.
 ghost use Rattle.std.specs.Prelude.{◌≡◌, ◌≤◌, ◌<◌, ◌+◌, ◌^◌, ◌↔◌, ℕ, [], length, take, drop, slice_index, Contains, IfOk, IfSome, IsTrue};
+ghost use Rattle.std.specs.Bool.{OnTrue, OnFalse};
 ghost use Rattle.std.specs.Option.{is_some};
 ghost use Rattle.bounded_vec.specs.Bounded.{with_items};
 ghost use Rattle.ipl_base.specs.declared.limits.TheConstants.{COMMIT_NUMBERS};
@@ -107,6 +108,20 @@ impl NumberSet {
         let _ = &self.items;
     }
 
+    /// How many they are.
+    pub fn len(&self) -> usize
+        ensures { result ≡ length self.now.list }
+    {
+        self.items.len()
+    }
+
+    /// How many there is room for.
+    pub fn most(&self) -> usize
+        ensures { result ≡ self.now.most }
+    {
+        self.items.room()
+    }
+
     /// Whether a number is one of them.
     pub fn has(&self, number: u64) -> bool
         ensures among { result ≡ among self.now.list number }
@@ -163,6 +178,25 @@ impl NumberSet {
         if let Err(at) = self.items.binary_search(&number) {
             self.items.insert(at, number);
         }
+    }
+
+    /// Adds a number, unless it is one of them. False where there is no room for it, and the set is as
+    /// it was then.
+    pub fn add_within(&mut self, number: u64) -> bool
+        ensures added { OnTrue result (self.new
+            ≡ with_list self.old (with_number number self.old.list)) }
+        ensures full { OnFalse result (self.old.most < length (with_number number self.old.list)) }
+        ensures same { OnFalse result (self.new ≡ self.old) }
+    {
+        self.rises();
+        if self.has(number) {
+            return true;
+        }
+        if self.len() == self.most() {
+            return false;
+        }
+        self.add(number);
+        true
     }
 
     /// Adds several numbers, in any order. That there is room for as many is a condition, also

@@ -9,3 +9,4 @@ pub mod TidyLemmas
 pub mod ListedLemmas
 pub mod FirstLemmas
 pub mod MarkingLemmas
+pub mod RoomLemmas

@@ -1,5 +1,5 @@
 -- Commit sectors, one after another.
-use Rattle.std.proofs.Common.{◌≡◌, take, ◌&&◌, inl, inr, ◌≤◌, ◌<◌, ◌+◌, ◌*◌, ℕ, zero, suc, max, List, [], ◌∷◌, ◌++◌, ◌||◌, Bool, true, false, Result, Err, IfErr, Option, Some, None, drop, refl, sym, ◌∙◌, ap, subst, arith, add-one, nat_le}
+use Rattle.std.proofs.Common.{◌≡◌, take, ◌&&◌, inl, inr, ◌≤◌, ◌<◌, ◌+◌, ◌*◌, ℕ, zero, suc, max, List, [], ◌∷◌, ◌++◌, ◌||◌, Bool, true, false, Result, Ok, Err, IfOk, IfErr, length, ◌-◌, Option, Some, None, drop, refl, sym, ◌∙◌, ap, subst, arith, add-one, nat_le}
 use Rattle.std.proofs.lemmas.List.{drop-drop}
 use Rattle.std.proofs.lemmas.Bool.{and_left, cases_eq, cases_Bool, cond-false, eqb-true, le-leb, or_cases}
 use Rattle.ipl_format.specs.Numbers.{long_at}
@@ -9,6 +9,7 @@ use Rattle.chip_trait.specs.declared.event.Event.TheVariants.{Read}
 use Rattle.chip_trait.specs.Told.{Counts, Told}
 use Rattle.ipl_base.specs.declared.fault.ChipFault.{ChipFault}
 use Rattle.ipl_base.specs.declared.fault.ChipFault.TheVariants.{ReadFault, Stopped, Damaged, Malformed, WornOut}
+use Rattle.ipl_base.specs.declared.fault.ImageFault.{ImageFault}
 use Rattle.ipl_meaning.specs.Chart.{Chart}
 use Rattle.unit_io.specs.Kinds.{of_kinds, header_only, status_only, sector_named}
 use Rattle.sector_format.specs.declared.sector.Head.{Head}
@@ -19,16 +20,17 @@ use Rattle.unit_io.proofs.OnceLemmas.{once_asked, once_then, once_wider}
 use Rattle.unit_io.proofs.ReadsAtLemmas.{at_asked, at_then, at_wider}
 use Rattle.ipl_meaning.specs.First.{greatest_of, joined_below}
 use Rattle.ipl_meaning.specs.Payloads.{numbers_within}
-use Rattle.ipl_meaning.specs.Live.{kept, is_commit_sector, is_close_mark, is_noted_of, commit_at, noted_at}
+use Rattle.ipl_meaning.specs.Live.{sectors, kept, is_commit_sector, is_close_mark, is_noted_of, commit_at, noted_at}
 use Rattle.ipl_meaning.specs.LaidOut.{numbers_of}
-use Rattle.ipl_meaning.specs.Faults.{noted_number, greatest_of_notes}
+use Rattle.ipl_meaning.specs.Faults.{TellsImageFault, noted_number, greatest_of_notes}
 use Rattle.ipl_meaning.specs.Marked.{serial_of}
 use Rattle.ipl_format.specs.Whole.{IsWhole}
 use Rattle.ipl_meaning.proofs.FirstLemmas.{greatest_step, joined_step}
 use Rattle.ipl_meaning.proofs.BelowLemmas.{greatest_of-push}
 use Rattle.ipl_meaning.proofs.LiveLemmas.{noted_commits}
 use Rattle.number_set.specs.Numbers.{Numbers, with_list, with_number, with_numbers}
-use Rattle.txn_status.specs.ReadingIn.{under, IsCommitSpot, IsStatusAt, LooksOnceAt}
+use Rattle.number_set.proofs.NumberLemmas.{with_numbers_grow}
+use Rattle.txn_status.specs.ReadingIn.{under, numbers_at, of_image, OnFull, IsCommitSpot, IsStatusAt, LooksOnceAt}
 use Rattle.txn_status.specs.Marks.{MarksRead, with_noted, marks_below}
 
 -- ---- the numbers of a payload
@@ -69,6 +71,69 @@ payload_more n next bytes first old new so_far is more =
       so_far,
       is,
     ) refl
+
+-- the first numbers of a payload, and those behind them
+pub numbers_behind : (n k : ℕ) (bytes : List ℕ)
+    → numbers_within (n + k) bytes ≡ numbers_within n bytes ++ numbers_within k (drop (8 * n) bytes)
+numbers_behind zero k bytes =
+    let none : 0 + k ≡ k = omega arith in
+    rw none refl
+numbers_behind (suc n) k bytes =
+    let at : 8 * suc n ≡ 8 + 8 * n = omega arith in
+    let more : suc n + k ≡ suc (n + k) = omega arith in
+    rw (more, at, numbers_behind n k (drop 8 bytes), drop-drop (8 * n) 8 bytes) refl
+
+-- where one number of a payload has no room, all of them have none
+pub payload_full : (n total next most : ℕ) (bytes : List ℕ) (first old : Numbers) → n < total
+    → old ≡ with_list first (with_numbers (numbers_within n bytes) first.list)
+    → next ≡ long_at 0 (drop (8 * n) bytes) → most < length (with_number next old.list)
+    → most < length (with_numbers (numbers_within total bytes) first.list)
+payload_full n total next most bytes first old within so_far is full =
+    let one : with_list old (with_number next old.list) ≡ with_list first (with_numbers (numbers_within (n + 1) bytes) first.list) =
+    payload_more n next bytes first old (with_list old (with_number next old.list)) so_far is refl in
+    let all : n + 1 + (total - (n + 1)) ≡ total = omega arith in
+    let rest : List ℕ = numbers_within (total - (n + 1)) (drop (8 * (n + 1)) bytes) in
+    let grown : with_numbers (numbers_within total bytes) first.list
+    ≡ with_numbers rest (with_numbers (numbers_within (n + 1) bytes) first.list) =
+    ap (λ (k : ℕ). with_numbers (numbers_within k bytes) first.list) (sym all)
+    ∙ ap (λ (l : List ℕ). with_numbers l first.list) (numbers_behind (n + 1) (total - (n + 1)) bytes)
+    ∙ with_both (numbers_within (n + 1) bytes) rest first.list in
+    omega (
+      arith,
+      full,
+      ap (λ (w : Numbers). length w.list) one,
+      with_numbers_grow rest (with_numbers (numbers_within (n + 1) bytes) first.list),
+      ap (λ (l : List ℕ). length l) grown,
+    )
+
+-- ---- what is answered where numbers may have no room
+
+-- done, what follows holds too
+pub if_read : {T : Type 0} (r : Result (Option T) ChipFault) (P Q : T → Type 0) → ((v : T) → P v → Q v)
+    → IfOk (of_image r) P → IfOk (of_image r) Q
+if_read (Ok (Some v)) P Q then is = then v is
+if_read (Ok None) P Q then is = tt
+if_read (Err e) P Q then is = tt
+
+-- and where it stopped
+pub if_full : {T : Type 0} (r : Result (Option T) ChipFault) (P Q : Type 0) → (P → Q) → OnFull r P → OnFull r Q
+if_full (Ok (Some v)) P Q then is = tt
+if_full (Ok None) P Q then is = then is
+if_full (Err e) P Q then is = tt
+
+-- the answer is known
+pub read_some : {T : Type 0} (r : Result (Option T) ChipFault) (o : Option T) (v : T) (P : T → Type 0)
+    → r ≡ Ok o → o ≡ Some v → IfOk (of_image r) P → P v
+read_some {T = T} r o v P is some holds = subst (λ (w : Result (Option T) ChipFault). IfOk (of_image w) P) (is ∙ ap Ok some) holds
+
+pub fine_some : {T : Type 0} (r : Result (Option T) ChipFault) (o : Option T) (v : T) (fault : Option ImageFault)
+    → r ≡ Ok o → o ≡ Some v → TellsImageFault fault (of_image r) → fault ≡ None
+fine_some {T = T} r o v fault is some tells =
+    subst (λ (w : Result (Option T) ChipFault). TellsImageFault fault (of_image w)) (is ∙ ap Ok some) tells
+
+pub read_none : {T : Type 0} (r : Result (Option T) ChipFault) (o : Option T) (P : Type 0)
+    → r ≡ Ok o → o ≡ None → OnFull r P → P
+read_none {T = T} r o P is none holds = subst (λ (w : Result (Option T) ChipFault). OnFull w P) (is ∙ ap Ok none) holds
 
 -- ---- one sector
 
@@ -131,11 +196,11 @@ reads_more place sector old mid new least most so_far more =
     (at_wider (IsAt place sector) (IsCommitSpot place) mid new (in_place place sector least most) more)
 
 -- one more wasn't read
-pub looks_failed : (place sector : ℕ) (e : ChipFault) (old mid new : Told) → 1 ≤ sector
+pub looks_failed : {T : Type 0} (place sector : ℕ) (e : ChipFault) (old mid new : Told) → 1 ≤ sector
     → sector < 256 → ReadsAt (IsCommitSpot place) old mid
     → ReadsOnce (IsCommitBelow place sector) old mid
-    → LooksOnceAt {T = ℕ} (IsAt place sector) (Err e) mid new
-    → LooksOnceAt {T = ℕ} (IsCommitSpot place) (Err e) old new
+    → LooksOnceAt {T = T} (IsAt place sector) (Err e) mid new
+    → LooksOnceAt {T = T} (IsCommitSpot place) (Err e) old new
 looks_failed place sector e old mid new least most so_far once looks = record {
   reads = reads_more place sector old mid new least most so_far looks.reads;
   once = once_in_place place (sector + 1) old new
@@ -177,6 +242,16 @@ noted_found c p generation s o some is =
     ap (kept (is_noted_of generation)) is ∙ noted_of_kinds generation (c p s) in
     rw (le-leb 1 s some) found
 
+-- the numbers that have no room among others are those of the commit sector there
+pub commits_full : (c : Chart) (p generation s : ℕ) (o : Option Sector) (numbers : Numbers) → 1 ≤ s
+    → o ≡ status_only (c p s)
+    → numbers.most < length (with_numbers (numbers_of (kept is_commit_sector (kept (is_noted_of generation) o))) numbers.list)
+    → numbers.most < length (with_numbers (numbers_of (commit_at c (under p generation) s)) numbers.list)
+commits_full c p generation s o numbers some is many =
+    subst (λ (w : Option Sector). numbers.most < length (with_numbers (numbers_of w) numbers.list))
+    (ap (kept is_commit_sector) (noted_found c p generation s o some is) ∙ noted_commits c (under p generation) s)
+    many
+
 -- ---- the sectors of a place
 
 pub number_more : (c : Chart) (p generation s greatest noted next : ℕ)
@@ -213,6 +288,37 @@ numbers_more c p generation s before after so_far more =
     more ∙ ap (λ (o : Option Sector). with_numbers (numbers_of o) before) (noted_commits c (under p generation) s)
     ∙ ap (with_numbers (f s)) so_far ∙ sym (with_both (joined_below f s) (f s) [])
     ∙ ap (λ (l : List ℕ). with_numbers l []) (sym (joined_step f s))
+
+-- no fewer numbers are in more sectors
+pub joined_grow : (f : ℕ → List ℕ) (n k : ℕ)
+    → length (with_numbers (joined_below f n) []) ≤ length (with_numbers (joined_below f (n + k)) [])
+joined_grow f n zero =
+    let none : n + 0 ≡ n = omega arith in
+    rw none (omega arith)
+joined_grow f n (suc k) =
+    let at : n + suc k ≡ n + k + 1 = omega arith in
+    let more : with_numbers (joined_below f (n + k + 1)) [] ≡ with_numbers (f (n + k)) (with_numbers (joined_below f (n + k)) []) =
+    ap (λ (l : List ℕ). with_numbers l []) (joined_step f (n + k)) ∙ with_both (joined_below f (n + k)) (f (n + k)) [] in
+    rw (at, more) (omega (arith, joined_grow f n k, with_numbers_grow (f (n + k)) (with_numbers (joined_below f (n + k)) [])))
+
+-- where those of one have no room, all of them have none
+pub numbers_full : (c : Chart) (p generation s most : ℕ) (before : List ℕ) → s < sectors
+    → before ≡ with_numbers (joined_below (λ j. numbers_of (commit_at c (under p generation) j)) s) []
+    → most < length (with_numbers (numbers_of (commit_at c (under p generation) s)) before)
+    → most < length (numbers_at c (under p generation))
+numbers_full c p generation s most before within so_far full =
+    let f : ℕ → List ℕ = λ j. numbers_of (commit_at c (under p generation) j) in
+    let one : with_numbers (f s) before ≡ with_numbers (joined_below f (s + 1)) [] =
+    ap (with_numbers (f s)) so_far ∙ sym (with_both (joined_below f s) (f s) [])
+    ∙ ap (λ (l : List ℕ). with_numbers l []) (sym (joined_step f s)) in
+    let all : s + 1 + (sectors - (s + 1)) ≡ sectors = omega arith in
+    omega (
+      arith,
+      full,
+      ap (λ (l : List ℕ). length l) one,
+      joined_grow f (s + 1) (sectors - (s + 1)),
+      ap (λ (n : ℕ). length (with_numbers (joined_below f n) [])) all,
+    )
 
 -- the sectors that were read are whole
 pub whole_more : (x : Contents) (p n : ℕ) → ((s : ℕ) → 1 ≤ s → s < n → IsWhole (x p s))

@@ -1,11 +1,11 @@
 -- What the commit sectors and close marks of a place make of the status.
-use Rattle.std.specs.Prelude.{ℕ, ◌≡◌, ◌≤◌, ◌<◌, ◌+◌, true, length, [], Option, Some, None, Result, MatchResult, Ok, Err, IfOk, IfErr, OnOk}
+use Rattle.std.specs.Prelude.{ℕ, ◌≡◌, ◌≤◌, ◌<◌, ◌+◌, true, length, List, [], Option, Some, None, Result, MatchResult, Ok, Err, IfOk, IfErr, OnOk}
 use Rattle.chip_trait.specs.Told.{Told}
 use Rattle.ipl_base.specs.declared.limits.TheConstants.{SECTORS}
 use Rattle.ipl_base.specs.declared.fault.ChipFault.{ChipFault}
 use Rattle.ipl_base.specs.declared.fault.ChipFault.TheVariants.{ReadFault}
 use Rattle.ipl_base.specs.declared.fault.ImageFault.{ImageFault}
-use Rattle.ipl_base.specs.declared.fault.ImageFault.TheVariants.{Chip}
+use Rattle.ipl_base.specs.declared.fault.ImageFault.TheVariants.{Chip, TooManyNumbers}
 use Rattle.ipl_format.specs.Sector.{Sector}
 use Rattle.ipl_meaning.specs.Chart.{Chart}
 use Rattle.ipl_meaning.specs.Tables.{StatusTable}
@@ -68,26 +68,39 @@ pub record GrowsBy (n : ℕ) (old new : Numbers) : Type 0 where
   pub few : length new.list ≤ length old.list + n
   pub most : new.most ≡ old.most
 
--- the status with the numbers of those sectors, none known clean
-abbrev pub status_in : Chart → ℕ → ℕ → StatusTable
-status_in c place generation = record {
+-- the numbers of those sectors, in rising order
+abbrev pub numbers_at : Chart → Option Winner → List ℕ
+numbers_at c status = with_numbers (committed_numbers c status) []
+
+-- the status with the numbers of those sectors, and room for so many, no sector known clean
+abbrev pub status_in : ℕ → Chart → ℕ → ℕ → StatusTable
+status_in most c place generation = record {
   place = place;
   generation = generation;
-  numbers = with_numbers (committed_numbers c (under place generation)) [];
+  numbers = numbers_at c (under place generation);
+  most = most;
   first = SECTORS;
 }
 
--- a fault of a chip, as one of an image
-abbrev pub of_image : {T : Type 0} → Result T ChipFault → Result T ImageFault
-of_image (Ok v) = Ok v
+-- what a call answers that stops where numbers have no room, as an answer of an image
+abbrev pub of_image : {T : Type 0} → Result (Option T) ChipFault → Result T ImageFault
+of_image (Ok (Some v)) = Ok v
+of_image (Ok None) = Err TooManyNumbers
 of_image (Err e) = Err (Chip e)
 
+-- where it stopped since numbers have no room
+abbrev pub OnFull : {T : Type 0} → Result (Option T) ChipFault → Type 0 → Type 0
+OnFull (Ok (Some v)) F = Unit {0}
+OnFull (Ok None) F = F
+OnFull (Err e) F = Unit {0}
+
 -- The sectors were read in, where there are so many units: the answer tells the first that is
--- malformed, unless a read failed; and where none is, it is the greatest number found, and the
--- status has their numbers.
-pub record IsReadIn (units : ℕ) (c : Chart) (place generation : ℕ) (result : Result ℕ ChipFault)
-    (status : StatusTable) : Type 0 where
+-- malformed, unless a read failed or the numbers have no room; and where none is, it is the greatest number
+-- found, and the status has their numbers. Where they have no room, they are more than that.
+pub record IsReadIn (units most : ℕ) (c : Chart) (place generation : ℕ)
+    (result : Result (Option ℕ) ChipFault) (status : StatusTable) : Type 0 where
   pub fault : TellsImageFault (first_below (noted_fault units c (under place generation)) sectors)
       (of_image result)
-  pub greatest : IfOk result (λ n. n ≡ greatest_of_notes 0 c (under place generation) sectors)
-  pub status_is : OnOk result (status ≡ status_in c place generation)
+  pub greatest : IfOk (of_image result) (λ n. n ≡ greatest_of_notes 0 c (under place generation) sectors)
+  pub status_is : OnOk (of_image result) (status ≡ status_in most c place generation)
+  pub many : OnFull result (most < length (numbers_at c (under place generation)))

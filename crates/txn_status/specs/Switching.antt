@@ -85,7 +85,7 @@ pub record MayKeep (t : Tables) (kept : List ℕ) : Type 0 where
 -- the tables with the new status, and with as many numbers drawn as sectors were written
 pub record IsSwitched (t after : Tables) (p generation : ℕ) (kept : List ℕ) : Type 0 where
   pub renewed : IsRenewed t after p generation (1 + parts_of kept)
-  pub has : HasStatus after (switched_to p generation kept) (generation + 1 + parts_of kept)
+  pub has : HasStatus after (switched_to t.status.most p generation kept) (generation + 1 + parts_of kept)
 
 -- ---- what the chip holds
 

@@ -1,5 +1,5 @@
 //! What is noted at a sector of a status place: a commit sector, a close mark or nothing.
-ghost use Rattle.std.specs.Prelude.{◌≡◌, ◌≤◌, ◌+◌, true, length, Some, IfOk, IfErr, IfSome};
+ghost use Rattle.std.specs.Prelude.{◌≡◌, ◌≤◌, ◌+◌, true, length, Some, IfOk, IfErr, IfSome, IfNone};
 ghost use Rattle.ipl_base.specs.declared.limits.TheConstants.{MOST_UNITS, PAYLOAD_LEN};
 ghost use Rattle.ipl_base.specs.declared.fault.ChipFault.TheVariants.{Malformed};
 ghost use Rattle.ipl_format.specs.Whole.{IsWhole};
@@ -9,9 +9,9 @@ ghost use Rattle.ipl_meaning.specs.Live.{kept, is_commit_sector, is_noted_of};
 ghost use Rattle.ipl_meaning.specs.Faults.{TellsImageFault, is_noted_payload, noted_test, noted_number};
 ghost use Rattle.ipl_meaning.specs.LaidOut.{numbers_of};
 ghost use Rattle.number_set.specs.Numbers.{with_numbers};
-ghost use Rattle.txn_status.specs.ReadingIn.{of_image, GrowsBy};
+ghost use Rattle.txn_status.specs.ReadingIn.{of_image, GrowsBy, OnFull};
 ghost use Rattle.txn_status.specs.Marks.{with_noted};
-ghost use Rattle.txn_status.specs.TakingIn.{TakesIn};
+ghost use Rattle.txn_status.specs.TakingIn.{TakesIn, HasNoRoom};
 
 use crate::last_mark::LastMark;
 use crate::payloads::{add_numbers, greatest_number, is_commit};
@@ -32,32 +32,33 @@ fn is_noted(head: &Head, payload: &[u8], units: u32) -> bool
     }
 }
 
-/// Takes in a commit sector or close mark, and answers the greatest number in it.
+/// Takes in a commit sector or close mark, and answers the greatest number in it; nothing where its
+/// numbers have no room.
 fn take_noted(
     head: &Head,
     payload: &[u8],
     units: u32,
     numbers: &mut NumberSet,
     mark: &mut LastMark,
-) -> u64
+) -> Option<u64>
     requires kind { (6 ≤ head.now.kind) × (head.now.kind ≤ 7) }
     requires units { units ≤ MOST_UNITS }
     requires well { is_noted_payload units (sector_of head.now payload.now) ≡ true }
-    requires room { length numbers.old.list + 60 ≤ numbers.old.most }
-    ensures numbers { numbers.new.list ≡ with_numbers (numbers_of
-        (kept is_commit_sector (Some (sector_of head.now payload.now)))) numbers.old.list }
+    ensures takes { IfSome result (λ n. TakesIn (Some (sector_of head.now payload.now))
+        n numbers.old.list numbers.new.list mark.old mark.new) }
+    ensures full { IfNone result (HasNoRoom (Some (sector_of head.now payload.now)) numbers.old) }
     ensures grows { GrowsBy 60 numbers.old numbers.new }
-    ensures marks { mark.new ≡ with_noted (Some (sector_of head.now payload.now)) mark.old }
-    ensures number { result ≡ noted_number (Some (sector_of head.now payload.now)) }
 {
     let own = head.generation.max(head.serial);
     if head.kind == Head::COMMIT {
-        add_numbers(payload, numbers);
+        if !add_numbers(payload, numbers) {
+            return None;
+        }
         mark.take_commit(head.serial);
-        greatest_number(payload, own)
+        Some(greatest_number(payload, own))
     } else {
         mark.take_mark(head, payload);
-        own
+        Some(own)
     }
 }
 
@@ -70,7 +71,7 @@ pub(crate) struct StatusPlace {
 }
 
 /// Takes in a commit sector or close mark of a place where it has the place's generation, and answers
-/// the greatest number in it; 0 where it hasn't.
+/// the greatest number in it; 0 where it hasn't, and nothing where its numbers have no room.
 fn take_sector(
     from: StatusPlace,
     sector: u32,
@@ -78,13 +79,14 @@ fn take_sector(
     payload: &[u8],
     numbers: &mut NumberSet,
     mark: &mut LastMark,
-) -> Result<u64, ChipFault>
+) -> Result<Option<u64>, ChipFault>
     requires kind { (6 ≤ head.now.kind) × (head.now.kind ≤ 7) }
     requires units { from.units ≤ MOST_UNITS }
-    requires room { length numbers.old.list + 60 ≤ numbers.old.most }
-    ensures takes { IfOk result (λ n. TakesIn
+    ensures takes { IfOk (of_image result) (λ n. TakesIn
         (kept (is_noted_of from.generation) (Some (sector_of head.now payload.now)))
         n numbers.old.list numbers.new.list mark.old mark.new) }
+    ensures full { OnFull result (HasNoRoom
+        (kept (is_noted_of from.generation) (Some (sector_of head.now payload.now))) numbers.old) }
     ensures grows { GrowsBy 60 numbers.old numbers.new }
     ensures fault { TellsImageFault (noted_test from.units from.place sector
         (kept (is_noted_of from.generation) (Some (sector_of head.now payload.now))))
@@ -92,7 +94,7 @@ fn take_sector(
     ensures cause { IfErr result (λ e. e ≡ Malformed from.place sector) }
 {
     if head.generation != from.generation {
-        return Ok(0);
+        return Ok(Some(0));
     }
     if !is_noted(head, payload, from.units) {
         return Err(ChipFault::Malformed {
@@ -104,7 +106,7 @@ fn take_sector(
 }
 
 /// Takes in what was found at a sector of a place, a commit sector, a close mark or nothing, and answers
-/// the greatest number in it.
+/// the greatest number in it; nothing where its numbers have no room.
 pub(crate) fn take_found(
     from: StatusPlace,
     sector: u32,
@@ -112,14 +114,15 @@ pub(crate) fn take_found(
     bytes: &[u8; 512],
     numbers: &mut NumberSet,
     mark: &mut LastMark,
-) -> Result<u64, ChipFault>
+) -> Result<Option<u64>, ChipFault>
     requires kind { IfSome found (λ it. (6 ≤ it.0.kind) × (it.0.kind ≤ 7)) }
     requires fits { IfSome found (λ it. it.1 ≤ PAYLOAD_LEN) }
     requires units { from.units ≤ MOST_UNITS }
-    requires room { length numbers.old.list + 60 ≤ numbers.old.most }
-    ensures takes { IfOk result (λ n. TakesIn
+    ensures takes { IfOk (of_image result) (λ n. TakesIn
         (kept (is_noted_of from.generation) (sector_named bytes.now found))
         n numbers.old.list numbers.new.list mark.old mark.new) }
+    ensures full { OnFull result (HasNoRoom
+        (kept (is_noted_of from.generation) (sector_named bytes.now found)) numbers.old) }
     ensures grows { GrowsBy 60 numbers.old numbers.new }
     ensures fault { TellsImageFault (noted_test from.units from.place sector
         (kept (is_noted_of from.generation) (sector_named bytes.now found))) (of_image result) }
@@ -127,7 +130,7 @@ pub(crate) fn take_found(
     ensures whole { IsWhole bytes.now }
 {
     match found {
-        None => Ok(0),
+        None => Ok(Some(0)),
         Some((head, used)) => {
             let payload = &bytes[32..32 + used];
             take_sector(from, sector, &head, payload, numbers, mark)

@@ -1,5 +1,6 @@
 //! The numbers in the payload of a commit sector.
-ghost use Rattle.std.specs.Prelude.{◌≡◌, ◌≤◌, ◌+◌, ◌/◌, length};
+ghost use Rattle.std.specs.Prelude.{◌≡◌, ◌≤◌, ◌<◌, ◌+◌, ◌/◌, length};
+ghost use Rattle.std.specs.Bool.{OnTrue, OnFalse};
 ghost use Rattle.ipl_format.specs.Numbers.{long_at};
 ghost use Rattle.ipl_meaning.specs.First.{greatest_of};
 ghost use Rattle.ipl_meaning.specs.Payloads.{is_commit_payload, numbers_in};
@@ -35,14 +36,21 @@ pub(crate) fn greatest_number(payload: &[u8], least: u64) -> u64
     greatest
 }
 
-/// Adds the numbers in a payload. That there is room for them is a condition.
-pub fn add_numbers(payload: &[u8], numbers: &mut NumberSet)
-    requires { length numbers.old.list + length payload.now / 8 ≤ numbers.old.most }
-    ensures numbers { numbers.new
-        ≡ with_list numbers.old (with_numbers (numbers_in payload.now) numbers.old.list) }
+/// Adds the numbers in a payload. False exactly where they don't all have room, and then some of them
+/// may be there.
+pub fn add_numbers(payload: &[u8], numbers: &mut NumberSet) -> bool
+    ensures numbers { OnTrue result (numbers.new
+        ≡ with_list numbers.old (with_numbers (numbers_in payload.now) numbers.old.list)) }
+    ensures many { OnFalse result (numbers.old.most
+        < length (with_numbers (numbers_in payload.now) numbers.old.list)) }
+    ensures near { OnFalse result (numbers.old.most
+        < length numbers.old.list + length payload.now / 8) }
     ensures grows { GrowsBy (length payload.now / 8) numbers.old numbers.new }
 {
     for i in 0..payload.len() / 8 {
-        numbers.add(first_number(&payload[8 * i..]));
+        if !numbers.add_within(first_number(&payload[8 * i..])) {
+            return false;
+        }
     }
+    true
 }

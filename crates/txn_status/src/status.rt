@@ -1,7 +1,7 @@
 //! The status of transactions.
 ghost use Rattle.std.specs.Prelude.{◌≡◌, ◌≤◌, ◌<◌, ◌+◌, ◌^◌, ◌↔◌, ℕ, length, slice_index, Contains, IfOk, IfErr, IfSome, IsTrue, OnOk};
 ghost use Rattle.std.specs.Option.{is_some};
-ghost use Rattle.ipl_base.specs.declared.limits.TheConstants.{MOST_UNITS, STATUS_NUMBERS, VERSION};
+ghost use Rattle.ipl_base.specs.declared.limits.TheConstants.{LEAST_NUMBERS, MOST_UNITS, STATUS_NUMBERS, VERSION};
 ghost use Rattle.ipl_format.specs.Header.{AreRetired};
 ghost use Rattle.ipl_format.specs.Sector.{Sector};
 ghost use Rattle.ipl_meaning.specs.Chart.{chart_of};
@@ -13,7 +13,7 @@ ghost use Rattle.unit_io.specs.ReadsAt.{ReadsAt, IsCauseAt};
 ghost use Rattle.ipl_format.specs.Whole.{IsWhole};
 ghost use Rattle.number_set.specs.Numbers.{among};
 ghost use Rattle.number_set.specs.Flags.{flagged};
-ghost use Rattle.txn_status.specs.ReadingIn.{IsReadIn, IsCommitSpot, IsOfPlace, IsStatusAt, LooksOnceAt};
+ghost use Rattle.txn_status.specs.ReadingIn.{of_image, OnFull, IsReadIn, IsCommitSpot, IsOfPlace, IsStatusAt, LooksOnceAt};
 ghost use Rattle.txn_status.specs.Marks.{marks_in};
 ghost use Rattle.txn_status.specs.Marking.{mark_sector, MarksInSteps};
 ghost use Rattle.txn_status.specs.Status.{after_mark, empty_status, room_of, after_add, parts_of, AdvancesTo, FitStatusPlace, IsSoundStatus, SwitchesTo};
@@ -29,7 +29,7 @@ use crate::noted::StatusPlace;
 use crate::parts::{part_count, seal_status, write_parts};
 use crate::reading::{read_commits, read_generation};
 use chip_trait::Chip;
-use ipl_base::{ChipFault, Counter, Geometry, OutOfMemory, SECTORS, STATUS_NUMBERS, Spot};
+use ipl_base::{COMMIT_NUMBERS, ChipFault, Counter, Geometry, OutOfMemory, SECTORS, Spot};
 use number_set::{Flags, NumberSet};
 use std::alloc::Global;
 use std::marker::Model;
@@ -49,26 +49,27 @@ pub struct Status {
 
 impl Model for Status {
     ghost use Rattle.std.specs.Prelude.{◌≡◌};
-    ghost use Rattle.ipl_base.specs.declared.limits.TheConstants.{STATUS_NUMBERS};
     ghost use Rattle.ipl_meaning.specs.Tables.{StatusTable};
     ghost use Rattle.txn_status.specs.Status.{status_table, IsSoundStatus};
 
     ghost Value = { StatusTable };
 
-    ghost view = { λ s. status_table s.place s.generation s.numbers.list s.first };
+    ghost view = { λ s. status_table s.place s.generation s.numbers.list s.numbers.most s.first };
 
-    // That the numbers have room follows from the facts: no call asks whether there is.
-    ghost invariant = { λ s. IsSoundStatus (status_table s.place s.generation s.numbers.list s.first)
-        × (s.numbers.most ≡ STATUS_NUMBERS) };
+    ghost invariant = { λ s.
+        IsSoundStatus (status_table s.place s.generation s.numbers.list s.numbers.most s.first) };
 }
 
 impl Status {
     /// No number is committed. Until a place is read in or switched to, the status place is place
-    /// 0, with no clean sector. However many places the chip has, 15,300 numbers have room.
-    pub fn new(alloc: Global, _geometry: Geometry) -> Result<Status, OutOfMemory>
-        ensures { IfOk result (λ status. status ≡ empty_status) }
+    /// 0, with no clean sector. However many places the chip has, `most` numbers have room, 120 to
+    /// 15,300: at the least those of a kept commit sector and of one commit, and at most all of a place.
+    pub fn new(alloc: Global, _geometry: Geometry, most: usize) -> Result<Status, OutOfMemory>
+        requires least { LEAST_NUMBERS ≤ most }
+        requires most { most ≤ STATUS_NUMBERS }
+        ensures { IfOk result (λ status. status ≡ empty_status most) }
     {
-        let numbers = NumberSet::new(alloc, STATUS_NUMBERS)?;
+        let numbers = NumberSet::new(alloc, most)?;
         Ok(Status {
             place: 0,
             generation: 0,
@@ -79,7 +80,7 @@ impl Status {
 
     /// Makes it as `new` does. It takes no memory.
     pub fn reset(&mut self)
-        ensures { self.new ≡ empty_status }
+        ensures { self.new ≡ empty_status self.old.most }
     {
         self.place = 0;
         self.generation = 0;
@@ -88,7 +89,7 @@ impl Status {
     }
 
     /// What always holds: the numbers rise, and are at most 60 for each sector of the place, 1 to
-    /// 255, before the first clean one.
+    /// 255, before the first clean one; and they have room.
     pub fn facts(&self)
         ensures { IsSoundStatus self.now }
     {
@@ -108,7 +109,7 @@ impl Status {
         ensures among { is_some result ≡ among self.now.numbers tid }
         ensures there { IfSome result (λ at. (at < length self.now.numbers)
             × (slice_index self.now.numbers at ≡ tid)) }
-        ensures room { IfSome result (λ at. at < STATUS_NUMBERS) }
+        ensures room { IfSome result (λ at. at < self.now.most) }
     {
         self.numbers.rank(tid)
     }
@@ -120,11 +121,22 @@ impl Status {
         self.place
     }
 
-    /// How many of its sectors are known clean, 0 to 255.
+    /// How many more commit sectors it takes, 0 to 255: so many of its sectors are known clean; and
+    /// none where the numbers of one more, at most 60, might have no room.
     pub fn room(&self) -> u32
         ensures { result ≡ room_of self.now }
     {
+        if self.numbers.most() < self.numbers.len() + COMMIT_NUMBERS {
+            return 0;
+        }
         SECTORS - self.first
+    }
+
+    /// How many numbers have room.
+    pub fn most(&self) -> usize
+        ensures { result ≡ self.now.most }
+    {
+        self.numbers.most()
     }
 
     // The first of its sectors that is known clean, where there is one.
@@ -142,7 +154,8 @@ impl Status {
     /// of places), which is the status place then; none of its sectors is known clean. The close
     /// mark that counts there, where there are so many units (at most 1,024), is this mark then.
     /// Answers the greatest number found in commit sectors and close marks, generation and serial
-    /// among these, and 0 for none. After a fault it has any numbers, and the mark is any.
+    /// among these, and 0 for none. Answers nothing, as soon as it finds it, where the numbers have no
+    /// room. After that, and after a fault, it has any numbers, and the mark is any.
     ///
     /// Fails with the first of them that is malformed, or where a read failed.
     pub fn read_under<C: Chip>(
@@ -152,16 +165,19 @@ impl Status {
         generation: u64,
         units: u32,
         mark: &mut LastMark,
-    ) -> Result<u64, ChipFault>
+    ) -> Result<Option<u64>, ChipFault>
         requires place { place < (C.told chip.old).places }
         requires units { units ≤ MOST_UNITS }
         ensures exact { OfContents (C.told chip.old) (λ x.
-            IsReadIn units (chart_of x) place generation result self.new) }
-        ensures marks { OnOk result (OfContents (C.told chip.old) (λ x.
+            IsReadIn units self.old.most (chart_of x) place generation result self.new) }
+        // For all numbers of a place there is room always, where there is room for so many.
+        ensures never { OnFull result (self.old.most < STATUS_NUMBERS) }
+        ensures most { self.new.most ≡ self.old.most }
+        ensures marks { OnOk (of_image result) (OfContents (C.told chip.old) (λ x.
             mark.new ≡ marks_in (chart_of x) place generation)) }
-        ensures whole { OnOk result (OfContents (C.told chip.old) (λ x.
+        ensures whole { OnOk (of_image result) (OfContents (C.told chip.old) (λ x.
             (s : ℕ) → 1 ≤ s → s < 256 → IsWhole (x place s))) }
-        ensures placed { OnOk result ((self.new.place ≡ place)
+        ensures placed { OnOk (of_image result) ((self.new.place ≡ place)
             × (self.new.generation ≡ generation) × (self.new.first ≡ 256)) }
 
         // What it does to the chip, and why it fails.
@@ -176,10 +192,15 @@ impl Status {
         };
         let answer = read_commits(chip, from, &mut self.numbers, mark);
         self.numbers.rises();
-        let greatest = answer?;
-        self.place = place;
-        self.generation = generation;
-        Ok(greatest)
+        match answer {
+            Ok(Some(greatest)) => {
+                self.place = place;
+                self.generation = generation;
+                Ok(Some(greatest))
+            }
+            Ok(None) => Ok(None),
+            Err(fault) => Err(fault),
+        }
     }
 
     /// Reads the status header of a place (below the number of places), and takes in the numbers of
@@ -191,18 +212,21 @@ impl Status {
         place: u32,
         units: u32,
         mark: &mut LastMark,
-    ) -> Result<u64, ChipFault>
+    ) -> Result<Option<u64>, ChipFault>
         requires place { place < (C.told chip.old).places }
         requires units { units ≤ MOST_UNITS }
         ensures exact { OfContents (C.told chip.old) (λ x. (head : Sector)
             → IsStatusAt (chart_of x) place head
-            → IsReadIn units (chart_of x) place head.generation result self.new) }
-        ensures marks { OnOk result (OfContents (C.told chip.old) (λ x. (head : Sector)
+            → IsReadIn units self.old.most (chart_of x) place head.generation result self.new) }
+        ensures never { OnFull result (self.old.most < STATUS_NUMBERS) }
+        ensures most { self.new.most ≡ self.old.most }
+        ensures marks { OnOk (of_image result) (OfContents (C.told chip.old) (λ x. (head : Sector)
             → IsStatusAt (chart_of x) place head
             → mark.new ≡ marks_in (chart_of x) place head.generation)) }
-        ensures there { OnOk result (OfContents (C.told chip.old) (λ x.
+        ensures there { OnOk (of_image result) (OfContents (C.told chip.old) (λ x.
             (head : Sector) × IsStatusAt (chart_of x) place head)) }
-        ensures placed { OnOk result ((self.new.place ≡ place) × (self.new.first ≡ 256)) }
+        ensures placed { OnOk (of_image result)
+            ((self.new.place ≡ place) × (self.new.first ≡ 256)) }
 
         // What it does to the chip, and why it fails.
         ensures reads { ReadsAt (IsOfPlace place) (C.told chip.old) (C.told chip.new) }
@@ -299,7 +323,8 @@ impl Status {
         Ok(())
     }
 
-    /// Writes a new status place with exactly those of its numbers that have a flag, at most 3,840:
+    /// Writes a new status place with exactly those of its numbers that have a flag, at most 3,840,
+    /// and so few that those of one commit more have room:
     /// they are programmed, 60 to a commit sector and with a serial drawn for each sector, and the
     /// status header of this generation makes them count. It lists exactly these places as retired. That
     /// a chip of so many units may have retired them, that the generation is the number that was drawn
@@ -320,7 +345,7 @@ impl Status {
     ) -> Result<(), ChipFault>
         requires place { place < (C.told chip.old).places }
         requires listed { AreRetired VERSION (C.told chip.old).places header.now.units retired.now }
-        requires fits { FitStatusPlace (flagged kept.now self.old.numbers) }
+        requires fits { FitStatusPlace self.old.most (flagged kept.now self.old.numbers) }
         requires last { counter.old ≡ generation + 1 }
         requires left { counter.old + 64 < 2 ^ 64 }
         ensures moved { SwitchesTo place generation (flagged kept.now self.old.numbers) result

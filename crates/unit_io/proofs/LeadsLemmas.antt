@@ -189,7 +189,7 @@ pub count_nothing : Tables
 count_nothing = record {
   places = record { current = []; in_use = []; erases = []; retired = []; written = []; generations = []; masks = [] };
   overflow = record { places = 0; in_use = []; spots = []; masks = [] };
-  status = record { place = 0; generation = 0; numbers = []; first = 256 };
+  status = record { place = 0; generation = 0; numbers = []; most = 0; first = 256 };
   next = 0;
   active = [];
 }

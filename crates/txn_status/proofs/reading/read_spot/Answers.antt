@@ -7,7 +7,7 @@ use Rattle.ipl_meaning.specs.Chart.{chart_of}
 use Rattle.unit_io.specs.Kinds.{sector_named}
 use Rattle.unit_io.specs.ReadsAt.{IsAt}
 use Rattle.txn_status.specs.TakingIn.{TakesIn}
-use Rattle.txn_status.proofs.ReadLemmas.{looks_asked, noted_found, read_failed}
+use Rattle.txn_status.proofs.ReadLemmas.{looks_asked, noted_found, commits_full, read_failed, if_read, if_full}
 use Rattle.txn_status.proofs.reading.read_spot.Goals as goal
 
 pub returns-in_err-found-clause-looks : goal.returns-in_err-found-clause-looks
@@ -39,14 +39,23 @@ returns-clause-looks g c =
     c.read_noted.ensures.reads.asks c.read_noted.ensures.reads.accounts.counts tt
 
 pub returns-clause-takes : goal.returns-clause-takes
-returns-clause-takes g c = λ x told.
-    subst (λ (o : Option Sector). TakesIn o c.in_ok-noted.noted c.args.numbers.now.list
+returns-clause-takes g c = if_read (Ok c.in_ok-noted.noted) _ _ (λ n takes x told.
+    subst (λ (o : Option Sector). TakesIn o n c.args.numbers.now.list
     c.take_found.new.numbers.list c.args.mark.now c.take_found.new.mark)
     (noted_found (chart_of x) c.args.from.place c.args.from.generation c.args.sector
     (sector_named c.read_noted.new.into c.in_ok-found.found) c.requires.first
-    (c.in_ok-found.ensures.reads.exact x told)) c.in_ok-noted.ensures.takes
+    (c.in_ok-found.ensures.reads.exact x told)) takes) c.in_ok-noted.ensures.takes
+
+pub returns-clause-many : goal.returns-clause-many
+returns-clause-many g c = if_full (Ok c.in_ok-noted.noted) _ _ (λ full x told.
+    commits_full (chart_of x) c.args.from.place c.args.from.generation c.args.sector
+    (sector_named c.read_noted.new.into c.in_ok-found.found) c.args.numbers.now c.requires.first
+    (c.in_ok-found.ensures.reads.exact x told) full.many) c.in_ok-noted.ensures.full
+
+pub returns-clause-near : goal.returns-clause-near
+returns-clause-near g c = if_full (Ok c.in_ok-noted.noted) _ _ (λ full. full.near) c.in_ok-noted.ensures.full
 
 pub returns-clause-whole : goal.returns-clause-whole
-returns-clause-whole g c = λ x told.
+returns-clause-whole g c = if_read (Ok c.in_ok-noted.noted) _ _ (λ n takes x told.
     subst (λ (xs : List ℕ). IsWhole xs) (c.in_ok-found.ensures.bytes x told)
-    c.take_found.ensures.whole
+    c.take_found.ensures.whole) c.in_ok-noted.ensures.takes

@@ -8,6 +8,7 @@ use Rattle.txn_status.specs.Marking.{mark_sector, MarksInSteps}
 use Rattle.unit_io.specs.Writing.{LeadsMark}
 use Rattle.txn_status.specs.Writing.{WritesOneSector}
 use Rattle.txn_status.proofs.MarkingLemmas.{marked_in_steps}
+use Rattle.txn_status.proofs.RoomLemmas.{room_left}
 use Rattle.txn_status.proofs.status.Status.mark.Goals as goal
 
 pub returns-in_err-write_mark-clause-steps : goal.returns-in_err-write_mark-clause-steps
@@ -19,11 +20,12 @@ returns-in_err-write_mark-clause-steps g c =
       place = inside.place;
       generation = inside.generation;
       numbers = inside.numbers.list;
+      most = inside.numbers.most;
       first = inside.first;
     } in
     let payload = c.args.payload.now in
     let room : inside.first < 256 =
-    omega (arith, c.requires.room, ap (λ (s : StatusTable). s.first) c.self.view_is) in
+    omega (arith, (room_left c.args.self.now c.requires.room).0, ap (λ (s : StatusTable). s.first) c.self.view_is) in
     let fault = c.in_err-write_mark.field-0.0 in
     let old = g.C.Chip.told c.args.chip.now in
     let new = g.C.Chip.told c.write_mark.new.chip in
@@ -32,24 +34,24 @@ returns-in_err-write_mark-clause-steps g c =
     (subst (λ (s : StatusTable). MarksInSteps old.places s c.args.counter.now payload (Err fault) old new)
     c.self.view_is
     (marked_in_steps old.places st c.args.counter.now payload (Err fault) old new
-    c.self.invariant.0.least room
+    c.self.invariant.least room
     (subst (λ (k : ℕ). LeadsMark old.places inside.place inside.first
     (mark_sector inside.generation k payload) old (Err fault) new) c.draw-serial.ensures.drawn
     (rw (place_is, first_is) at c.in_err-write_mark.ensures.leads)) c.in_err-write_mark.ensures.writes.accounts.cause))
 
 pub invariant_of-self : goal.invariant_of-self
 invariant_of-self g c =
-    let was = c.self.invariant.0 in
+    let was = c.self.invariant in
     let room : c.self.inside.first < 256 =
-    omega (arith, c.requires.room, ap (λ (s : StatusTable). s.first) c.self.view_is) in (
-      record {
-        rising = was.rising;
-        least = omega (arith, was.least);
-        most = omega (arith, room);
-        few = omega (arith, was.few);
-      },
-      c.self.invariant.1,
-    )
+    omega (arith, (room_left c.args.self.now c.requires.room).0, ap (λ (s : StatusTable). s.first) c.self.view_is) in record {
+      rising = was.rising;
+      least = omega (arith, was.least);
+      most = omega (arith, room);
+      few = omega (arith, was.few);
+      within = was.within;
+      roomy = was.roomy;
+      bounded = was.bounded;
+    }
 
 pub returns-clause-tells : goal.returns-clause-tells
 returns-clause-tells g c =
@@ -74,17 +76,18 @@ returns-clause-steps g c =
       place = inside.place;
       generation = inside.generation;
       numbers = inside.numbers.list;
+      most = inside.numbers.most;
       first = inside.first;
     } in
     let payload = c.args.payload.now in
     let room : inside.first < 256 =
-    omega (arith, c.requires.room, ap (λ (s : StatusTable). s.first) c.self.view_is) in
+    omega (arith, (room_left c.args.self.now c.requires.room).0, ap (λ (s : StatusTable). s.first) c.self.view_is) in
     let old = g.C.Chip.told c.args.chip.now in
     let new = g.C.Chip.told c.write_mark.new.chip in
     subst (λ (s : StatusTable). MarksInSteps old.places s c.args.counter.now payload (Ok tt) old new)
     c.self.view_is
     (marked_in_steps old.places st c.args.counter.now payload (Ok tt) old new
-    c.self.invariant.0.least room
+    c.self.invariant.least room
     (subst (λ (k : ℕ). LeadsMark old.places inside.place inside.first
     (mark_sector inside.generation k payload) old (Ok tt) new) c.draw-serial.ensures.drawn
     (rw (place_is, first_is) at c.in_ok-write_mark.ensures.leads)) tt)

@@ -7,7 +7,7 @@ use Rattle.txn_status.proofs.status.Status.read_in.Goals as goal
 
 pub returns-clause-exact : goal.returns-clause-exact
 returns-clause-exact g c = λ x told head is.
-    subst (λ (n : ℕ). IsReadIn c.args.units (chart_of x) c.args.place n c.read_under.result
+    subst (λ (n : ℕ). IsReadIn c.args.units c.args.self.now.most (chart_of x) c.args.place n c.read_under.result
     c.read_under.new.self) (c.in_ok-generation.ensures.exact x told head is)
     (c.read_under.ensures.exact x (c.read_generation.ensures.reads.contents ∙ told))
 

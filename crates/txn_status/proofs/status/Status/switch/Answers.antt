@@ -21,6 +21,7 @@ use Rattle.txn_status.specs.Status.{parts_of}
 use Rattle.txn_status.specs.Switching.{HasParts, IsPartSpot, IsStatusSpot}
 use Rattle.unit_io.specs.Writing.{OnlyPrograms}
 use Rattle.txn_status.specs.Writing.{LeadsParts, LeadsHeader, IsHeaded}
+use Rattle.txn_status.proofs.RoomLemmas.{keeps_few}
 use Rattle.txn_status.proofs.ListedLemmas.{lists_told}
 use Rattle.txn_status.proofs.SwitchLemmas.{AreLong}
 use Rattle.txn_status.proofs.SwitchedLemmas.{parts_failed, switched_in_steps, switches_told}
@@ -99,7 +100,7 @@ returns-in_err-write_parts-clause-steps g c = λ h it t after m steady has fits 
     let stopped : IsStopped e.0 old mid =
     (e.2 ∙ parts.writes.accounts.cause.0, parts.writes.accounts.cause.1) in
     rw e.1 (parts_failed old.places c.args.header.now.units c.args.header.now.erases c.args.retired.now c.args.self.now next c.args.place kept
-    c.requires.place each c.requires.fits.few old mid mid h it t after m steady has fits ready switched fault e.0 says stopped)
+    c.requires.place each (keeps_few c.args.self.now.most kept c.requires.fits) old mid mid h it t after m steady has fits ready switched fault e.0 says stopped)
 
 pub returns-in_err-seal_status-clause-steps : goal.returns-in_err-seal_status-clause-steps
 returns-in_err-seal_status-clause-steps g c = λ h it t after m steady has fits ready switched.
@@ -128,7 +129,7 @@ returns-in_err-seal_status-clause-steps g c = λ h it t after m steady has fits 
     let e = err_from_is_err_and c.from_residual-in_err-seal_status.result
     c.from_residual-in_err-seal_status.ensures.1 in
     rw (e.1 ∙ ap Err e.2) (switched_in_steps old.places c.args.header.now.units c.args.header.now.erases c.args.retired.now c.args.self.now next
-    c.args.place kept c.requires.place each c.requires.fits.few old mid new h it t after m steady has fits ready switched says
+    c.args.place kept c.requires.place each (keeps_few c.args.self.now.most kept c.requires.fits) old mid new h it t after m steady has fits ready switched says
     (Err fault) header stopped)
 
 pub returns-clause-steps : goal.returns-clause-steps
@@ -150,7 +151,7 @@ returns-clause-steps g c = λ h it t after m steady has fits ready switched.
     let header = header_leads old.places _ c.args.place c.args.header.now.units c.args.header.now.erases c.args.retired.now next mid new (Ok tt)
     parts.writes.accounts.counts.places c.in_ok-seal_status.ensures.keeps in
     switched_in_steps old.places c.args.header.now.units c.args.header.now.erases c.args.retired.now c.args.self.now next c.args.place kept
-    c.requires.place each c.requires.fits.few old mid new h it t after m steady has fits ready switched says (Ok tt) header tt
+    c.requires.place each (keeps_few c.args.self.now.most kept c.requires.fits) old mid new h it t after m steady has fits ready switched says (Ok tt) header tt
 
 pub returns-clause-switches : goal.returns-clause-switches
 returns-clause-switches g c =
@@ -173,7 +174,7 @@ returns-clause-switches g c =
     let seal = subst (λ (n : ℕ). Charts (IsHeaded n place header.units header.erases c.args.retired.now next) mid new)
     c.in_ok-write_parts.ensures.writes.accounts.counts.places c.in_ok-seal_status.ensures.tells in
     switches_told old.places c.args.header.now.units c.args.header.now.erases c.args.retired.now c.args.self.now next place kept c.requires.place each
-    c.requires.fits.few old mid new parts seal
+    (keeps_few c.args.self.now.most kept c.requires.fits) old mid new parts seal
 
 pub returns-clause-lists : goal.returns-clause-lists
 returns-clause-lists g c =
