@@ -59,25 +59,25 @@ kept_over committed records found numbers fits none are =
 
 -- where they fitted, the numbers of these records join them, or don't fit
 pub kept_joined : (committed : List ℕ) (records : List Record) (found : List ℕ) (old new : Kept) (before fits : Bool)
-    → before ≡ true → AreKept found before old
-    → (IsExact old → (IsTrue fits ↔ (length (joined committed records old.list) ≤ 3840)))
+    → before ≡ true → AreKept found before old → new.limit ≡ old.limit
+    → (IsExact old → (IsTrue fits ↔ (length (joined committed records old.list) ≤ old.limit)))
     → OnTrue fits (new.list ≡ joined committed records old.list) → (IsExact old → IsExact new)
     → AreKept (joined committed records found) fits new
-kept_joined committed records found old new before true all are tells joins exact =
+kept_joined committed records found old new before true all are limit tells joins exact =
     let were : AreKept found true old = subst (λ (b : Bool). AreKept found b old) all are in
     let same : old.list ≡ found = were.all in record {
       all = joins ∙ ap (joined committed records) same;
       exact = exact were.exact;
-      few = subst (λ (l : List ℕ). length (joined committed records l) ≤ 3840) same
-          ((tells were.exact).0 refl);
+      few = subst (λ (l : List ℕ). length (joined committed records l) ≤ new.limit) same
+          (omega (arith, limit, (tells were.exact).0 refl));
       more = tt;
     }
-kept_joined committed records found old new before false all are tells joins exact =
+kept_joined committed records found old new before false all are limit tells joins exact =
     let were : AreKept found true old = subst (λ (b : Bool). AreKept found b old) all are in
     let same : old.list ≡ found = were.all in record {
       all = tt;
       exact = tt;
       few = tt;
-      more = subst (λ (l : List ℕ). 3840 < length (joined committed records l)) same
-          (too_many false (length (joined committed records old.list)) (tells were.exact) refl);
+      more = subst (λ (l : List ℕ). new.limit < length (joined committed records l)) same
+          (omega (arith, limit, too_many old.limit false (length (joined committed records old.list)) (tells were.exact) refl));
     }

@@ -1,5 +1,5 @@
 -- The commit sectors, as the status takes them in.
-use Rattle.std.proofs.Common.{◌≡◌, ℕ, zero, suc, max, false, List, [], Option, Some, Result, Ok, Err, inl, inr, refl, sym, ◌∙◌, ap, subst, arith}
+use Rattle.std.proofs.Common.{◌≡◌, ◌<◌, length, ℕ, zero, suc, max, false, List, [], Option, Some, Result, Ok, Err, inl, inr, refl, sym, ◌∙◌, ap, subst, arith}
 use native.Mathlib.Numerals.{unary_clauses}
 use Rattle.std.specs.Result.{IsErrAnd}
 use Rattle.std.specs.List.{Contains}
@@ -22,7 +22,7 @@ use Rattle.ipl_meaning.specs.LaidOut.{committed_numbers, layout_in}
 use Rattle.ipl_meaning.proofs.HeaderLemmas.{chosen_are_status}
 use Rattle.number_set.specs.Numbers.{with_numbers}
 use Rattle.number_set.proofs.NumberLemmas.{numbers_are_a_union}
-use Rattle.txn_status.specs.ReadingIn.{under, status_in}
+use Rattle.txn_status.specs.ReadingIn.{under, numbers_at, status_in}
 use Rattle.txn_status.specs.Marks.{MarksRead, marks_in}
 use Rattle.ipl_meaning.specs.Opened.{IsOpenedStatus}
 use Rattle.unit_io.proofs.ReadsAtLemmas.{at_wider}
@@ -82,13 +82,16 @@ module _ (c : Chart) (winner : Winner) (p generation : ℕ) (at : p ≡ winner.p
   pub marks_told : (mark : MarksRead) → mark ≡ marks_in c p generation → mark ≡ marks_in c winner.place winner.head.generation
   marks_told mark is = rw (← at, ← of_it) is
 
-  pub status_told : (status : StatusTable) → status ≡ status_in c p generation
-      → status ≡ status_in c winner.place winner.head.generation
-  status_told status is = rw (← at, ← of_it) is
+  pub status_told : (most : ℕ) (status : StatusTable) → status ≡ status_in most c p generation
+      → status ≡ status_in most c winner.place winner.head.generation
+  status_told most status is = rw (← at, ← of_it) is
+
+  pub many_told : (most : ℕ) → most < length (numbers_at c (under p generation)) → most < length (numbers_at c (Some winner))
+  many_told most many = rw (← at, ← of_it) many
 
 -- the status, as an opening finds it
 pub opened_status : (c : Chart) (places : ℕ) (winner : Winner) (status : StatusTable) → Some winner ≡ status_at c places
-    → Laid places c (layout_in c places) → status ≡ status_in c winner.place winner.head.generation
+    → Laid places c (layout_in c places) → status ≡ status_in status.most c winner.place winner.head.generation
     → IsOpenedStatus places c status
 opened_status c places winner status is laid found =
     let lay = layout_in c places in

@@ -27,7 +27,9 @@ use Rattle.restart.specs.Passes.{AreMergeableBut, CompletesRenewal, FailsAsRenew
 use Rattle.restart.specs.Stuck.{HasFault}
 use Rattle.chip_trait.specs.Story.{Contents}
 use Rattle.ipl_meaning.specs.Mirrors.{Mirrors}
-use Rattle.restart.specs.Recovers.{CompletesOpening, SaysAllBut, FailsByCallAlone}
+use Rattle.restart.specs.Recovers.{CompletesOpening, SaysAllBut, FailsApart, FailsByCallAlone, OpeningCause}
+use Rattle.ipl_base.specs.declared.limits.TheConstants.{STATUS_NUMBERS}
+use Rattle.restart.proofs.LookLemmas.{never_many}
 
 -- ---- units
 
@@ -40,7 +42,7 @@ failed_so (Malformed p s) is = absurd (is (λ failed. failed))
 failed_so (WornOut n) is = tt
 
 module _ (places : ℕ) (x : Contents) (it : Layout) (t : Tables) (mirrors : Mirrors places (chart_of x) it t)
-    (some : ℕ → Bool) (all : AreMergeableBut some (chart_of x) it t) (fit : FitTogether it some) where
+    (some : ℕ → Bool) (all : AreMergeableBut some (chart_of x) it t) (fit : FitTogether t.status.most it some) where
   -- what can't be merged is one of these
   is_some : (u : ℕ) → u < it.count → HasFault x it t u → some u ≡ true
   is_some u low (e, wrong) = elim (cases_Bool (some u)) [
@@ -90,26 +92,35 @@ mergeable_but places c it m some t says all none u low other =
     (rw (carried_none (records_of (it.units u).log)) (omega arith)))
 
 -- where all pages say a map
-pub completes_whole : (places : ℕ) (result : Result (Unit {0}) ImageFault) (told : Told)
-    → CompletesOpening places result told → (x : Contents) → told.contents ≡ Some x → (m : Map)
+pub completes_whole : (most places : ℕ) (result : Result (Unit {0}) ImageFault) (told : Told)
+    → CompletesOpening most places result told → (x : Contents) → told.contents ≡ Some x → (m : Map)
     → first_fault (chart_of x) places ≡ None
-    → Says places (chart_of x) (layout_in (chart_of x) places) (whole m) → IfErr result FailsByCallAlone
-completes_whole places result told complete x is m none says =
+    → Says places (chart_of x) (layout_in (chart_of x) places) (whole m) → IfErr result FailsApart
+completes_whole most places result told complete x is m none says =
     complete x is (whole m) (λ u. false) none says (λ u page low few other. refl)
     ([], omega arith, λ u tid low one. absurd (false≢true one))
 
-pub call_failed : (fault : ChipFault) → IsFailedCall fault → FailsByCallAlone (Chip fault)
-call_failed fault failed = (fault, refl, failed)
+pub call_failed : (fault : ChipFault) → IsFailedCall fault → FailsApart (Chip fault)
+call_failed fault failed = inl (fault, refl, failed)
 
 pub stopped_failed : (fault : ChipFault) (old new : Told) → IsStopped fault old new
-    → FailsByCallAlone (Chip fault)
+    → FailsApart (Chip fault)
 stopped_failed fault old new stopped =
     call_failed fault (subst IsFailedCall (sym stopped.0) tt)
 
-pub reading_failed : (places : ℕ) (c : Chart) (e : ImageFault) (old new : Told)
-    → (is_image e ≡ true → first_fault c places ≡ Some e) → HasCause e old new
-    → first_fault c places ≡ None → FailsByCallAlone e
-reading_failed places c e old new tells cause none = elim (cases_Bool (is_image e)) [
+pub reading_failed : (most places : ℕ) (c : Chart) (e : ImageFault) (old new : Told)
+    → (is_image e ≡ true → first_fault c places ≡ Some e) → HasCause most e old new
+    → first_fault c places ≡ None → FailsApart e
+reading_failed most places c e old new tells cause none = elim (cases_Bool (is_image e)) [
   | inl image ↦ let clash = sym none ∙ tells image in cc clash
-  | inr other ↦ (ReadFault, (cause other).fault, tt)
+  | inr other ↦ elim (cause other) [
+    | inl missed ↦ inl (ReadFault, missed.fault, tt)
+    | inr many ↦ inr many.0
+  ]
 ]
+
+-- where all numbers of a status place have room, what fails apart from what the chip holds fails by a call alone
+pub apart_by_call : {most : ℕ} {after : Places} {e : ImageFault} {old new : Told} → most ≡ STATUS_NUMBERS
+    → OpeningCause most after e old new → FailsApart e → FailsByCallAlone e
+apart_by_call all cause (inl call) = call
+apart_by_call all cause (inr many) = absurd (never_many all (cause.many many))

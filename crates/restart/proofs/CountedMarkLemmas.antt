@@ -12,6 +12,7 @@ use Rattle.ipl_meaning.specs.Tables.{Places, OverflowLists, StatusTable, Tables,
 use Rattle.ipl_meaning.specs.TableSteps.{without_marks}
 use Rattle.ipl_meaning.proofs.MarkLemmas.{counted_follow_ends_of_marks}
 use Rattle.unit_directory.proofs.AsideLemmas.{next_places_are_aside}
+use Rattle.txn_status.specs.Status.{keeps_of}
 use Rattle.restart.specs.Joins.{Kept}
 use Rattle.restart.specs.Collected.{AreCollected}
 use Rattle.unit_io.specs.Reads.{OfContents}
@@ -66,20 +67,22 @@ counted_still t after p s none keeps (small, inr (inl (first, has, high))) = (
 counted_still t after p s none keeps (small, inr (inr (is, high))) = absurd (omega (arith, small, high, none))
 
 -- where the numbers fit, they were found
-found_where_fit : (places : ℕ) (c : Chart) (fits : Bool) (numbers : Kept) → AreCollected places c fits numbers
-    → NumbersFit places c → fits ≡ true
-found_where_fit places c true numbers it fit = refl
-found_where_fit places c false numbers it (most, few, has_all) =
-    let within = no_more it.found most it.rising (λ tid has.
+found_where_fit : (most places : ℕ) (c : Chart) (fits : Bool) (numbers : Kept) → numbers.limit ≡ keeps_of most
+    → AreCollected places c fits numbers → NumbersFit most places c → fits ≡ true
+found_where_fit most places c true numbers limit it fit = refl
+found_where_fit most places c false numbers limit it (some, few, has_all) =
+    let within = no_more it.found some it.rising (λ tid has.
     let (is, logged) = (it.exact tid).0 has in has_all tid is logged) in
-    absurd (omega (arith, it.kept.more, within, few))
+    absurd (omega (arith, it.kept.more, within, few, limit))
 
 -- what was counted by a mark is counted once no mark stands any more
 marks_counted : (places : ℕ) (fits : Bool) (numbers : Kept) (t after : Tables) (x : Contents)
+    → numbers.limit ≡ keeps_of after.status.most
     → CountsExactly places x t → AreCollected places (chart_of x) fits numbers → t.status.first ≡ 256
-    → (fits ≡ true → KeepsLogs t after) → NumbersFit places (chart_of x) → CountsWhole places x (without_marks after)
-marks_counted places fits numbers t after x exact collected none keeps fit p s marked whole =
-    let found = found_where_fit places (chart_of x) fits numbers collected fit in
+    → (fits ≡ true → KeepsLogs t after) → NumbersFit after.status.most places (chart_of x)
+    → CountsWhole places x (without_marks after)
+marks_counted places fits numbers t after x limit exact collected none keeps fit p s marked whole =
+    let found = found_where_fit after.status.most places (chart_of x) fits numbers limit collected fit in
     (counted_follow_ends_of_marks after p s).0
     (counted_still t after p s none (keeps found) ((exact p s).1 (marked, whole)))
 
@@ -97,6 +100,7 @@ marks_known places t after x laid units homes knows p s it whole unknown =
 
 -- all of it
 pub takes_marks : (marks : Bool) (places : ℕ) (fits : Bool) (numbers : Kept) (t after : Tables) (old : Told)
+    → numbers.limit ≡ keeps_of after.status.most
     → (marks ≡ true → OfContents old (λ x. CountsExactly places x t))
     → (marks ≡ true → OfContents old (λ x. KnowsWhole places x t))
     → OfContents old (λ x. AreCollected places (chart_of x) fits numbers) → OfContents old (λ x. t.status.first ≡ 256)
@@ -104,8 +108,8 @@ pub takes_marks : (marks : Bool) (places : ℕ) (fits : Bool) (numbers : Kept) (
     → OfContents old (λ x. length after.places.current ≡ (layout_in (chart_of x) places).count)
     → KeepsHomes t.places after.places → (fits ≡ true → KeepsLogs t after)
     → CountsMarks marks places old (without_marks after)
-takes_marks marks places fits numbers t after old exact knows collected none laid units homes keeps = record {
+takes_marks marks places fits numbers t after old limit exact knows collected none laid units homes keeps = record {
   knows = λ on x told. marks_known places t after x (laid x told) (units x told) homes (knows on x told);
-  counts = λ on x told. marks_counted places fits numbers t after x (exact on x told) (collected x told)
+  counts = λ on x told. marks_counted places fits numbers t after x limit (exact on x told) (collected x told)
       (none x told) keeps;
 }

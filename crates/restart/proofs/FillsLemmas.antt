@@ -16,4 +16,5 @@ pub still_then : {old mid new : Findings} → StillFills old mid → StillFills 
 still_then first second = record {
   references = same_then first.references second.references;
   status = second.status ∙ first.status;
+  flags = second.flags ∙ first.flags;
 }

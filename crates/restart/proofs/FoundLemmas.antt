@@ -8,10 +8,11 @@ use Rattle.chip_trait.specs.Told.{Told}
 use Rattle.ipl_meaning.specs.Chart.{Chart, chart_of}
 use Rattle.ipl_meaning.specs.Layout.{Shape, Layout, Laid, records_of}
 use Rattle.ipl_meaning.specs.Mirrors.{Mirrors}
-use Rattle.ipl_meaning.specs.Tables.{Tables}
+use Rattle.ipl_meaning.specs.Tables.{StatusTable, Tables}
 use Rattle.ipl_meaning.proofs.OnceLemmas.{laid_once}
 use Rattle.number_set.specs.Numbers.{with_numbers, AreRising}
 use Rattle.number_set.proofs.NumberLemmas.{numbers_are_a_union, length_with_numbers, with_numbers_grow, rising_with_numbers, rising_lists_are_one}
+use Rattle.txn_status.specs.Status.{keeps_of}
 use Rattle.restart.specs.Joins.{Kept, committed_in, joined}
 use Rattle.restart.specs.Keeps.{IsLogged, KeepsBelow}
 use Rattle.restart.proofs.KeepsLemmas.{none_are_kept, units_join, joined_numbers_join}
@@ -57,19 +58,19 @@ no_more a numbers rise within =
 -- ---- what a pass would find
 
 -- the numbers of each of the first n units fit
-record AllFit (numbers : List ℕ) (it : Layout) (n : ℕ) : Type 0 where
-  keeps : KeepsBelow n it (kept_below numbers it n)
-  rises : AreRising (kept_below numbers it n)
-  rooms : (u : ℕ) → u < n → has_room numbers it u ≡ true
+record AllFit (status : StatusTable) (it : Layout) (n : ℕ) : Type 0 where
+  keeps : KeepsBelow n it (kept_below status it n)
+  rises : AreRising (kept_below status it n)
+  rooms : (u : ℕ) → u < n → has_room status it u ≡ true
 
 module _ (places : ℕ) (x : Contents) (it : Layout) (t : Tables)
     (mirrors : Mirrors places (chart_of x) it t) (kept : List ℕ) (rising : AreRising kept)
-    (few : length kept ≤ 3840) (keeps : KeepsBelow it.count it kept) where
+    (few : length kept ≤ keeps_of t.status.most) (keeps : KeepsBelow it.count it kept) where
   -- one more unit: its numbers are among those that are kept
-  fits_more : (n : ℕ) → n < it.count → AllFit t.status.numbers it n
-      → AllFit t.status.numbers it (n + 1)
+  fits_more : (n : ℕ) → n < it.count → AllFit t.status it n
+      → AllFit t.status it (n + 1)
   fits_more n low so =
-      let before = kept_below t.status.numbers it n in
+      let before = kept_below t.status it n in
       let records = records_of (it.units n).log in
       let next = joined t.status.numbers records before in
       let exact : KeepsBelow (n + 1) it next =
@@ -81,20 +82,20 @@ module _ (places : ℕ) (x : Contents) (it : Layout) (t : Tables)
       let small : length next ≤ length kept = fewer next kept rise rising (λ tid has.
       let (is, (u, less, logged)) = (exact tid).0 has in
       (keeps tid).1 (is, (u, omega (arith, less, low), logged))) in
-      let room : has_room t.status.numbers it n ≡ true =
-      le-leb (length next) 3840 (omega (arith, small, few)) in
-      let is : kept_below t.status.numbers it (n + 1) ≡ next =
-      kept_fits t.status.numbers it n room in
+      let room : has_room t.status it n ≡ true =
+      le-leb (length next) (keeps_of t.status.most) (omega (arith, small, few)) in
+      let is : kept_below t.status it (n + 1) ≡ next =
+      kept_fits t.status it n room in
       record {
         keeps = subst (λ (l : List ℕ). KeepsBelow (n + 1) it l) (sym is) exact;
         rises = subst AreRising (sym is) rise;
         rooms = λ u less. elim (cases_eq u n) [
-          | inl at ↦ ap (has_room t.status.numbers it) at ∙ room
+          | inl at ↦ ap (has_room t.status it) at ∙ room
           | inr other ↦ so.rooms u (omega (arith, less, other))
         ];
       }
 
-  fits_to : (n : ℕ) → n ≤ it.count → AllFit t.status.numbers it n
+  fits_to : (n : ℕ) → n ≤ it.count → AllFit t.status it n
   unfolding kept_below
   fits_to zero low = record {
     keeps = none_are_kept it;
@@ -102,7 +103,7 @@ module _ (places : ℕ) (x : Contents) (it : Layout) (t : Tables)
     rooms = λ u less. absurd (omega (arith, less));
   }
   fits_to (suc n) low =
-      subst (AllFit t.status.numbers it) (add-one n)
+      subst (AllFit t.status it) (add-one n)
       (fits_more n (omega (arith, low)) (fits_to n (omega (arith, low))))
 
   -- so it is as if all units were passed
@@ -126,7 +127,7 @@ module _ (places : ℕ) (x : Contents) (it : Layout) (t : Tables)
             merged = λ u low full.
                 let no_way : true ≡ false = sym (all.rooms u low) ∙ full in cc no_way;
           },
-          rising_lists_are_one kept (kept_below t.status.numbers it it.count) rising
+          rising_lists_are_one kept (kept_below t.status it it.count) rising
               all.rises (λ tid. (
                 λ has. (all.keeps tid).1 ((keeps tid).0 has),
                 λ has. (keeps tid).1 ((all.keeps tid).0 has),
@@ -189,14 +190,14 @@ pub unread_first : (found : Bool) (old mid new : Told) → Spends ReadsNothing o
 unread_first true old mid new first second = unread_then old mid new first second
 unread_first false old mid new first second = tt
 
-pub once_where_fit : (places : ℕ) (fits : Bool) (numbers : Kept) (old mid new : Told)
+pub once_where_fit : (most places : ℕ) (fits : Bool) (numbers : Kept) (old mid new : Told) → numbers.limit ≡ keeps_of most
     → ReadsOnce Anywhere old mid → OnTrue fits (Spends ReadsNothing mid new)
     → ((x : Contents) → old.contents ≡ Some x → AreCollected places (chart_of x) fits numbers)
-    → ReadsOnceWhereFit places old new
-once_where_fit places true numbers old mid new reads unread collected x told fit =
+    → ReadsOnceWhereFit most places old new
+once_where_fit most places true numbers old mid new limit reads unread collected x told fit =
     once_then_unread Anywhere old mid new reads unread
-once_where_fit places false numbers old mid new reads unread collected x told (most, few, has_all) =
+once_where_fit most places false numbers old mid new limit reads unread collected x told (some, few, has_all) =
     let it = collected x told in
-    let within = no_more it.found most it.rising (λ tid has.
+    let within = no_more it.found some it.rising (λ tid has.
     let (is, logged) = (it.exact tid).0 has in has_all tid is logged) in
-    absurd (omega (arith, it.kept.more, within, few))
+    absurd (omega (arith, it.kept.more, within, few, limit))

@@ -153,9 +153,9 @@ module _ (numbers : List ℕ) (left part after all : List Record) (now first : F
   }
 
   -- a part that doesn't fit
-  pub left_full : (IsExact (kept_of numbers now) → 3840 < length (joined numbers part (flagged now numbers)))
-      → IsExact (kept_of numbers first) → 3840 < length (joined numbers all (flagged first numbers))
-  left_full full exact =
+  pub left_full : (limit : ℕ) → (IsExact (kept_of numbers now) → limit < length (joined numbers part (flagged now numbers)))
+      → IsExact (kept_of numbers first) → limit < length (joined numbers all (flagged first numbers))
+  left_full limit full exact =
       let more = with_numbers_grow (committed_in numbers after) (joined numbers part (flagged now numbers)) in
       let same = ap (λ (l : List ℕ). length l) parted in omega (arith, full (so.exact exact), more, same)
 
@@ -204,8 +204,8 @@ module _ (numbers : List ℕ) (r : Record) (set : Flags) (at : ℕ) (rise : AreR
   )
 
 -- a test that says whether they fit, where they don't
-pub too_many : (fits : Bool) (n : ℕ) → (IsTrue fits ↔ (n ≤ 3840)) → fits ≡ false → 3840 < n
-too_many fits n tells is = elim (cases_lt 3840 n) [
+pub too_many : (limit : ℕ) (fits : Bool) (n : ℕ) → (IsTrue fits ↔ (n ≤ limit)) → fits ≡ false → limit < n
+too_many limit fits n tells is = elim (cases_lt limit n) [
   | inl more ↦ more
   | inr few ↦ let no_way : true ≡ false = sym (tells.1 few) ∙ is in cc no_way
 ]

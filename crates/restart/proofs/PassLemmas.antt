@@ -176,7 +176,7 @@ module _ (places : ℕ) (x : Contents) (it : Layout) (t : Tables) where
 
       -- its numbers joined
       pub passing_joined : (new : List ℕ)
-          → fits after.status.numbers (was.state.now.units unit).log kept ≡ true
+          → fits after.status (was.state.now.units unit).log kept ≡ true
           → new ≡ joined after.status.numbers (records_of (was.state.now.units unit).log) kept
           → IsPassing (λ u. Of u ⊎ (u ≡ unit)) (n + 1) places x it t turns new told after
       unfolding same_unit
@@ -196,17 +196,17 @@ module _ (places : ℕ) (x : Contents) (it : Layout) (t : Tables) where
       }
         where
           first_joined : (new : List ℕ)
-              → fits after.status.numbers (was.state.now.units unit).log kept ≡ true
+              → fits after.status (was.state.now.units unit).log kept ≡ true
               → new ≡ joined after.status.numbers (records_of (was.state.now.units unit).log) kept
               → IsFirst n it t turns kept was.state.now → n ≡ unit
               → IsFirst (n + 1) it t turns new was.state.now
           first_joined new room joins first at =
               let log : (was.state.now.units unit).log ≡ (it.units n).log =
               ap (λ (s : Shape). s.log) same_unit ∙ ap (λ (u : ℕ). (it.units u).log) (sym at) in
-              let here : has_room t.status.numbers it n ≡ true =
-              sym (rw (ap (λ (s : StatusTable). s.numbers) was.state.status, log, first.kept_is) refl) ∙ room in
+              let here : has_room t.status it n ≡ true =
+              sym (rw (was.state.status, log, first.kept_is) refl) ∙ room in
               let all : joined after.status.numbers (records_of (was.state.now.units unit).log) kept
-              ≡ joined t.status.numbers (records_of (it.units n).log) (kept_below t.status.numbers it n) =
+              ≡ joined t.status.numbers (records_of (it.units n).log) (kept_below t.status it n) =
               rw (ap (λ (s : StatusTable). s.numbers) was.state.status, log, first.kept_is) refl in
               record {
                 passed = record {
@@ -217,25 +217,25 @@ module _ (places : ℕ) (x : Contents) (it : Layout) (t : Tables) where
                   ]);
                   merged = λ u before full. first.passed.merged u (elim (cases_eq u n) [
                     | inl same ↦ absurd (false≢true
-                        (sym full ∙ ap (λ (v : ℕ). has_room t.status.numbers it v) same ∙ here))
+                        (sym full ∙ ap (λ (v : ℕ). has_room t.status it v) same ∙ here))
                     | inr other ↦ omega (arith, before, other)
                   ]) full;
                 };
-                kept_is = joins ∙ all ∙ sym (kept_fits t.status.numbers it n here);
+                kept_is = joins ∙ all ∙ sym (kept_fits t.status it n here);
                 idle = λ u within behind. first.idle u within (omega (arith, behind));
                 unstuck = first.unstuck;
               }
 
       -- its numbers don't fit
-      no_room : fits t.status.numbers (it.units unit).log kept ≡ false
-          → IsFirst n it t turns kept was.state.now → n ≡ unit → has_room t.status.numbers it unit ≡ false
+      no_room : fits t.status (it.units unit).log kept ≡ false
+          → IsFirst n it t turns kept was.state.now → n ≡ unit → has_room t.status it unit ≡ false
       no_room full first at = sym (rw (sym at, first.kept_is) refl) ∙ full
 
       -- it was merged
       pub passing_merged : (ended : Turns) (new : Told) (last : Tables)
           → IsSet turns ended unit Merged turns.fault → new.places ≡ places
           → last.active ≡ t.active → last.status ≡ t.status → ((u : ℕ) → Of u → u ≢ unit)
-          → fits t.status.numbers (it.units unit).log kept ≡ false
+          → fits t.status (it.units unit).log kept ≡ false
           → is_stuck turns unit ≡ false → KnowsPlaces places after
           → Charts (λ d y. (l : Layout) → Mirrors places d l after
           → IsMergedUnit places d y l after unit last) told new
@@ -320,21 +320,21 @@ module _ (places : ℕ) (x : Contents) (it : Layout) (t : Tables) where
               false≢true no_way
 
           first_merged : (ended : Turns) → IsSet turns ended unit Merged turns.fault
-              → fits t.status.numbers (it.units unit).log kept ≡ false
+              → fits t.status (it.units unit).log kept ≡ false
               → (shape : Shape) → IsRepacked t.active unit (was.state.now.units unit) shape
               → IsFirst n it t turns kept was.state.now → n ≡ unit
               → IsFirst (n + 1) it t ended kept (with_unit was.state.now unit shape)
           first_merged ended set full shape repacked first at =
-              let here : has_room t.status.numbers it unit ≡ false = no_room full first at in
-              let at_n : has_room t.status.numbers it n ≡ false =
-              ap (λ (v : ℕ). has_room t.status.numbers it v) at ∙ here in
+              let here : has_room t.status it unit ≡ false = no_room full first at in
+              let at_n : has_room t.status it n ≡ false =
+              ap (λ (v : ℕ). has_room t.status it v) at ∙ here in
               record {
                 passed = record {
                   count = first.passed.count;
                   same = λ u within either. unit_elsewhere was.state.now unit u shape (λ same. elim either [
                     | inl behind ↦ omega (arith, behind, same, at)
                     | inr room ↦ false≢true (sym here
-                        ∙ ap (λ (v : ℕ). has_room t.status.numbers it v) (sym same) ∙ room)
+                        ∙ ap (λ (v : ℕ). has_room t.status it v) (sym same) ∙ room)
                   ]) ∙ first.passed.same u within (elim either [
                     | inl behind ↦ inl (omega (arith, behind))
                     | inr fits_it ↦ inr fits_it
@@ -350,7 +350,7 @@ module _ (places : ℕ) (x : Contents) (it : Layout) (t : Tables) where
                         (first.passed.merged u (omega (arith, before, other, at)) none)
                   ];
                 };
-                kept_is = first.kept_is ∙ sym (kept_stays t.status.numbers it n at_n);
+                kept_is = first.kept_is ∙ sym (kept_stays t.status it n at_n);
                 idle = λ u within behind. set.others u (λ same. omega (arith, behind, same, at))
                     ∙ first.idle u within (omega (arith, behind));
                 unstuck = λ u within. elim (cases_eq u unit) [

@@ -15,6 +15,7 @@ use Rattle.number_set.proofs.NumberLemmas.{rising_with_numbers}
 use Rattle.selective_merge.specs.Known.{KnowsPlaces}
 use Rattle.selective_merge.specs.Merging.{Merges, StaysMirrored, MergesUnit, TellsMergeFault}
 use Rattle.unit_io.specs.Charts.{Charts}
+use Rattle.txn_status.specs.Status.{keeps_of}
 use Rattle.restart.specs.Joins.{committed_in, joined}
 use Rattle.restart.specs.Keeps.{IsLogged, JoinsLog}
 use Rattle.restart.specs.Passes.{fits, HasFound, HasStopped, TellsChart, StuckDontFit}
@@ -45,7 +46,7 @@ module _ (places : ℕ) (x : Contents) (it : Layout) (t : Tables) where
       (was : IsPassing Of n places x it t turns kept old before) (unit : ℕ) (next : List ℕ) where
     pub joins_at : (result : Result Bool ChipFault)
         → JoinsUnit old.places unit before kept next result old
-        → MatchResult result (IsJoined before.status.numbers (was.state.now.units unit) kept next) IsFailedCall
+        → MatchResult result (IsJoined before.status (was.state.now.units unit) kept next) IsFailedCall
     joins_at result joins = subst (λ (q : ℕ). JoinsUnit q unit before kept next result old) was.state.sized joins
         was.state.contents was.state.told was.state.now was.state.mirrors
 
@@ -62,10 +63,10 @@ module _ (places : ℕ) (x : Contents) (it : Layout) (t : Tables) where
 
     -- where they don't fit now, they didn't at first
     pub never_fits : is_merged turns unit ≡ false → unit < it.count
-        → IsJoined before.status.numbers (was.state.now.units unit) kept next false
-        → fits t.status.numbers (it.units unit).log kept ≡ false
+        → IsJoined before.status (was.state.now.units unit) kept next false
+        → fits t.status (it.units unit).log kept ≡ false
     never_fits unmerged low (full, same) =
-        sym (rw (ap (λ (s : StatusTable). s.numbers) was.state.status, was.state.same unit low unmerged) refl) ∙ full
+        sym (rw (was.state.status, was.state.same unit low unmerged) refl) ∙ full
 
   -- ---- units that are stuck
 
@@ -87,7 +88,7 @@ module _ (places : ℕ) (x : Contents) (it : Layout) (t : Tables) where
       one = (unit, low, (x, refl, was.state.stuck unit low stuck))
 
       pub held_joined : (new : List ℕ)
-          → IsJoined before.status.numbers (was.state.now.units unit) kept new true
+          → IsJoined before.status (was.state.now.units unit) kept new true
           → HasHeld (unit + 1) places x it t turns new old before
       held_joined new (room, joins) =
           let next = passing_joined places x it t (IsStuckBelow turns unit) 0 turns kept old before was unit low
@@ -102,7 +103,7 @@ module _ (places : ℕ) (x : Contents) (it : Layout) (t : Tables) where
           ])) (inr one)
 
       -- their numbers are too many
-      pub held_full : AreRising kept → fits t.status.numbers (it.units unit).log kept ≡ false
+      pub held_full : AreRising kept → fits t.status (it.units unit).log kept ≡ false
           → StuckDontFit x it t
       held_full rising full = record {
         some = is_stuck turns;
@@ -112,7 +113,7 @@ module _ (places : ℕ) (x : Contents) (it : Layout) (t : Tables) where
             let next = joined t.status.numbers records kept in
             let rise = rising_with_numbers (committed_in t.status.numbers records) kept rising in
             let most = no_more next numbers rise (λ tid has. within numbers all tid has) in
-            let over = full in absurd (false≢true (sym full ∙ le-leb (length next) 3840 (omega (arith, most, few))));
+            let over = full in absurd (false≢true (sym full ∙ le-leb (length next) (keeps_of t.status.most) (omega (arith, most, few))));
       }
         where
           log_is : (u : ℕ) → u < it.count → is_stuck turns u ≡ true
@@ -143,7 +144,7 @@ module _ (places : ℕ) (x : Contents) (it : Layout) (t : Tables) where
 
       -- so it fails with what is wrong with the one that was stuck last, which is where it was
       pub held_ends : {T : Type 0} (new : Told) (Done : T → Type 0) → AreRising kept
-          → fits t.status.numbers (it.units unit).log kept ≡ false
+          → fits t.status (it.units unit).log kept ≡ false
           → new.contents ≡ old.contents → new.places ≡ old.places
           → StepEnds places x it t (Err turns.fault) new before Done
       held_ends new Done rising full same sized =
@@ -212,7 +213,7 @@ module _ (places : ℕ) (x : Contents) (it : Layout) (t : Tables) where
           false≢true (sym (ap sticks here) ∙ ap (is_stuck turns) (sym at) ∙ stuck.1)
 
       pub passed_joined : (new : List ℕ)
-          → IsJoined before.status.numbers (was.state.now.units unit) kept new true
+          → IsJoined before.status (was.state.now.units unit) kept new true
           → HasPassed (unit + 1) places x it t turns new old before
       passed_joined new (room, joins) =
           let next = passing_joined places x it t (IsPassedBelow turns it.count unit) unit turns kept old before was
@@ -258,7 +259,7 @@ module _ (places : ℕ) (x : Contents) (it : Layout) (t : Tables) where
       unstuck_here : is_stuck turns unit ≡ false
       unstuck_here = ap sticks here
 
-      module _ (full : fits t.status.numbers (it.units unit).log kept ≡ false)
+      module _ (full : fits t.status (it.units unit).log kept ≡ false)
           (known : KnowsPlaces old.places before) (listed : List (ℕ × ℕ)) (new : Told) (after : Tables) where
         -- it was merged
         pub room_made : (ended : Turns) → IsSet turns ended unit Merged turns.fault

@@ -55,14 +55,14 @@ erased_back d p free = ap (λ (e : Places). with_erased e p) (given_back d p fre
 pub record IsMovedTo (p : ℕ) (d : Places) (status : StatusTable) (next : ℕ) (kept : List ℕ)
     (after : Places) (new : StatusTable) (drawn : ℕ) : Type 0 where
   pub places_is : after ≡ moved d p status.place
-  pub status_is : new ≡ switched_to p next kept
+  pub status_is : new ≡ switched_to status.most p next kept
   pub drawn_is : drawn ≡ next + 1 + parts_of kept
 
 -- by the calls of the directory, one after the other
 pub moved_to : (p old : ℕ) (d taken_one after : Places) (status new : StatusTable) (next drawn : ℕ)
     (kept : List ℕ) → taken_one ≡ with_erased (with_use d p true) p → old ≡ status.place
     → after ≡ with_use taken_one old false
-    → new ≡ switched_to p next kept → drawn ≡ next + 1 + parts_of kept
+    → new ≡ switched_to status.most p next kept → drawn ≡ next + 1 + parts_of kept
     → IsMovedTo p d status next kept after new drawn
 moved_to p old d taken_one after status new next drawn kept first at then_is is many = record {
   places_is = rw (then_is, first, at) refl;
@@ -183,7 +183,11 @@ module _ (takes : UsesTake) (gives_back : DisusesGiveBack) (places p : ℕ) (d :
         next = let old = has.next_is in let new_is = is.drawn_is in omega (arith, old, new_is);
         active = refl;
       };
-      has = record { status_is = is.status_is; next_is = is.drawn_is };
+      has = record {
+        status_is = is.status_is
+            ∙ ap (λ (most : ℕ). switched_to most p next kept) (sym (ap (λ (s : StatusTable). s.most) has.status_is));
+        next_is = is.drawn_is;
+      };
     }
 
     at_place : p ≡ new.place

@@ -150,7 +150,7 @@ module _ (takes : UsesTake) (gives_back : DisusesGiveBack) (p : ℕ) (first betw
       → RenewsInSteps old.places first status next kept after new drawn (Err f) old told
   failed_in_steps after new drawn e f says m it t h steady has rests agrees may =
       let made : Places = moved d p status.place in
-      let then_is : StatusTable = switched_to p next kept in
+      let then_is : StatusTable = switched_to status.most p next kept in
       let last : ℕ = next + 1 + parts_of kept in
       let did = joined m it t h steady has rests agrees may (with_tables t made then_is last)
       (switched takes gives_back old.places p d status next kept sized_then from.next.free within made

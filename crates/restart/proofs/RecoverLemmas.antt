@@ -7,7 +7,7 @@ use Rattle.chip_trait.specs.Told.{History, Told, Counts, Unrisen, adds_all}
 use Rattle.ipl_base.specs.declared.fault.ChipFault.{ChipFault}
 use Rattle.ipl_base.specs.declared.fault.ChipFault.TheVariants.{ReadFault, Stopped, Damaged, Malformed, WornOut}
 use Rattle.ipl_base.specs.declared.fault.ImageFault.{ImageFault}
-use Rattle.ipl_base.specs.declared.fault.ImageFault.TheVariants.{Geometry, NotFormatted, Missing, Chip, Spent, NoSpare}
+use Rattle.ipl_base.specs.declared.fault.ImageFault.TheVariants.{Geometry, NotFormatted, Missing, Chip, Spent, NoSpare, TooManyNumbers}
 use Rattle.ipl_meaning.specs.Legible.{Legible}
 use Rattle.ipl_meaning.specs.Agrees.{Agrees}
 use Rattle.ipl_meaning.specs.Chart.{Chart, chart_of}
@@ -21,7 +21,7 @@ use Rattle.ipl_meaning.proofs.MarkLemmas.{counted_follow_ends_of_marks, tables_f
 use Rattle.ipl_meaning.specs.Opened.{AreOpened, tables_of as opened_of}
 use Rattle.ipl_meaning.specs.Faults.{is_image, first_fault}
 use Rattle.ipl_meaning.specs.LaidOut.{layout_in}
-use Rattle.restart.specs.Looks.{OnlyReads, HasCause}
+use Rattle.restart.specs.Looks.{OnlyReads, IsMissed, AreTooMany, numbers_in, HasCause}
 use Rattle.chip_trait.proofs.CountsLemmas.{counts_then}
 use Rattle.unit_io.specs.Steps.{Settled, NoOtherEnd, EndsWith, Outcome, TidyWork, Tidies}
 use Rattle.unit_io.proofs.TablesLemmas.{tables_fewer}
@@ -31,7 +31,7 @@ use Rattle.unit_io.specs.Leads.{IsSteady, IsStopped}
 use Rattle.unit_io.specs.ReadsAt.{Anywhere}
 use Rattle.unit_io.proofs.ReadsAtLemmas.{at_rests}
 use Rattle.restart.specs.Passes.{HasRenewed, TellsChart, KeepsInSteps, RenewCause}
-use Rattle.restart.specs.Recovers.{HasOpened, FailsByCallAlone, IsOpeningFault, LooksAtFaults, TakesMarks, RestsTidily, RecoversInSteps, OpeningCause, tells_wear}
+use Rattle.restart.specs.Recovers.{HasOpened, FailsApart, IsOpeningFault, LooksAtFaults, TakesMarks, RestsTidily, RecoversInSteps, OpeningCause, tells_wear}
 use Rattle.restart.specs.Securing.{knows_logs, WaitsWhere}
 use Rattle.restart.proofs.PreserveLemmas.{agrees_of, reads_preserve}
 use Rattle.restart.proofs.SecuringLemmas.{none_counted, wait_contents, wait_in_steps, wait_tidies}
@@ -87,21 +87,27 @@ opens_done places c t after new none laid (y, told, is) = (
 )
 
 -- a fault of the reading
-pub opens_told : (places : ℕ) (x : Contents) (e : ImageFault) (old new : Told)
-    → (is_image e ≡ true → first_fault (chart_of x) places ≡ Some e) → HasCause e old new
-    → ¬ FailsByCallAlone e → IsOpeningFault places x e
-opens_told places x e old new tells cause unfailed = elim (cases_Bool (is_image e)) [
+pub opens_told : (most places : ℕ) (x : Contents) (e : ImageFault) (old new : Told)
+    → (is_image e ≡ true → first_fault (chart_of x) places ≡ Some e) → HasCause most e old new
+    → ¬ FailsApart e → IsOpeningFault places x e
+opens_told most places x e old new tells cause unfailed = elim (cases_Bool (is_image e)) [
   | inl image ↦ inl (tells image)
-  | inr other ↦ absurd (unfailed (ReadFault, (cause other).fault, tt))
+  | inr other ↦ absurd (unfailed (elim (cause other) [
+    | inl missed ↦ inl (ReadFault, missed.fault, tt)
+    | inr many ↦ inr many.0
+  ]))
 ]
 
--- of contents that have a fault it is that one, or a read failed
-pub fault_looks : (places : ℕ) (x : Contents) (e first : ImageFault) (old new : Told)
-    → (is_image e ≡ true → first_fault (chart_of x) places ≡ Some e) → HasCause e old new
-    → first_fault (chart_of x) places ≡ Some first → (e ≡ first) ⊎ (e ≡ Chip ReadFault)
-fault_looks places x e first old new tells cause is = elim (cases_Bool (is_image e)) [
+-- of contents that have a fault it is that one, or a read failed, or numbers have no room
+pub fault_looks : (most places : ℕ) (x : Contents) (e first : ImageFault) (old new : Told)
+    → (is_image e ≡ true → first_fault (chart_of x) places ≡ Some e) → HasCause most e old new
+    → first_fault (chart_of x) places ≡ Some first → (e ≡ first) ⊎ (e ≡ Chip ReadFault) ⊎ (e ≡ TooManyNumbers)
+fault_looks most places x e first old new tells cause is = elim (cases_Bool (is_image e)) [
   | inl image ↦ inl (same_Some e first (sym (tells image) ∙ is))
-  | inr other ↦ inr (cause other).fault
+  | inr other ↦ inr (elim (cause other) [
+    | inl missed ↦ inl missed.fault
+    | inr many ↦ inr many.0
+  ])
 ]
 
 -- a chip without a fault has nothing to show here
@@ -126,19 +132,41 @@ damaged_is_no_read p s stored computed e = cc
 worn_is_no_read : (n : ℕ) → ◌≡◌ {A = ImageFault} (Chip (WornOut n)) (Chip ReadFault) → ⊥
 worn_is_no_read n e = cc
 
-pub reading_cause : (after : Places) (e : ImageFault) (old new : Told) → HasCause e old new
-    → OpeningCause after e old new
-reading_cause after e old new cause = record {
-  read = λ is. (cause (ap is_image is)).rose;
-  stopped = λ is. absurd (stopped_is_no_read (sym is ∙ (cause (ap is_image is)).fault));
-  worn = λ n is. absurd (worn_is_no_read n (sym is ∙ (cause (ap is_image is)).fault));
-  damaged = λ p s stored computed is same.
-      damaged_is_no_read p s stored computed (sym is ∙ (cause (ap is_image is)).fault);
+no_room_is_no_call : (fault : ChipFault) → ◌≡◌ {A = ImageFault} (Chip fault) TooManyNumbers → ⊥
+no_room_is_no_call fault e = cc
+
+-- a fault of a call of the chip, or of a sector, isn't about the memory for numbers
+missed_so : (most : ℕ) (fault : ChipFault) (e : ImageFault) (old new : Told) → e ≡ Chip fault → is_image e ≡ false
+    → HasCause most e old new → IsMissed e old new
+missed_so most fault e old new is other cause = elim (cause other) [
+  | inl missed ↦ missed
+  | inr many ↦ absurd (no_room_is_no_call fault (sym is ∙ many.0))
+]
+
+-- that numbers have no room is no failed read
+many_so : (most : ℕ) (e : ImageFault) (old new : Told) → e ≡ TooManyNumbers → HasCause most e old new
+    → AreTooMany most (numbers_in old.places) old
+many_so most e old new is cause = elim (cause (ap is_image is)) [
+  | inl missed ↦ absurd (no_room_is_no_call ReadFault (sym missed.fault ∙ is))
+  | inr many ↦ many.1
+]
+
+pub reading_cause : (most n : ℕ) (after : Places) (e : ImageFault) (old new : Told) → n ≡ most → HasCause most e old new
+    → OpeningCause n after e old new
+reading_cause most n after e old new same cause = record {
+  read = λ is. (missed_so most ReadFault e old new is (ap is_image is) cause).rose;
+  stopped = λ is. absurd (stopped_is_no_read (sym is ∙ (missed_so most Stopped e old new is (ap is_image is) cause).fault));
+  worn = λ k is. absurd (worn_is_no_read k (sym is ∙ (missed_so most (WornOut k) e old new is (ap is_image is) cause).fault));
+  damaged = λ p s stored computed is same_sums.
+      damaged_is_no_read p s stored computed
+      (sym is ∙ (missed_so most (Damaged p s stored computed) e old new is (ap is_image is) cause).fault);
+  many = λ is. subst (λ (m : ℕ). AreTooMany m (numbers_in old.places) old) (sym same) (many_so most e old new is cause);
 }
 
-pub renewing_cause : (after : Places) (fault : ChipFault) (old mid new : Told) → Counts old mid
-    → RenewCause after fault mid new → OpeningCause after (Chip fault) old new
-renewing_cause after fault old mid new counts cause = record {
+pub renewing_cause : (most : ℕ) (after : Places) (fault : ChipFault) (old mid new : Told) → Counts old mid
+    → RenewCause after fault mid new → OpeningCause most after (Chip fault) old new
+renewing_cause most after fault old mid new counts cause = record {
+  many = λ is. absurd (no_room_is_no_call fault is);
   read = λ is.
       let rose : RenewCause after ReadFault mid new =
       subst (λ (f : ChipFault). RenewCause after f mid new) (same_chip fault ReadFault is) cause in
@@ -159,17 +187,18 @@ renewing_cause after fault old mid new counts cause = record {
 }
 
 -- a fault of the reading is no worn place
-pub reading_not_worn : (e : ImageFault) (old new : Told) → HasCause e old new → tells_wear e ≡ false
-reading_not_worn Geometry old new cause = refl
-reading_not_worn NotFormatted old new cause = refl
-reading_not_worn (Missing u) old new cause = refl
-reading_not_worn (Chip ReadFault) old new cause = refl
-reading_not_worn (Chip Stopped) old new cause = refl
-reading_not_worn (Chip (Damaged p s stored computed)) old new cause = refl
-reading_not_worn (Chip (Malformed p s)) old new cause = refl
-reading_not_worn (Chip (WornOut n)) old new cause = absurd (worn_is_no_read n (cause refl).fault)
-reading_not_worn Spent old new cause = refl
-reading_not_worn (NoSpare p) old new cause = refl
+pub reading_not_worn : (most : ℕ) (e : ImageFault) (old new : Told) → HasCause most e old new → tells_wear e ≡ false
+reading_not_worn most Geometry old new cause = refl
+reading_not_worn most NotFormatted old new cause = refl
+reading_not_worn most (Missing u) old new cause = refl
+reading_not_worn most (Chip ReadFault) old new cause = refl
+reading_not_worn most (Chip Stopped) old new cause = refl
+reading_not_worn most (Chip (Damaged p s stored computed)) old new cause = refl
+reading_not_worn most (Chip (Malformed p s)) old new cause = refl
+reading_not_worn most (Chip (WornOut n)) old new cause = absurd (worn_is_no_read n (missed_so most (WornOut n) (Chip (WornOut n)) old new refl refl cause).fault)
+reading_not_worn most Spent old new cause = refl
+reading_not_worn most (NoSpare p) old new cause = refl
+reading_not_worn most TooManyNumbers old new cause = refl
 
 -- ---- what a power cut leaves
 

@@ -1,5 +1,5 @@
 -- All units passed, and a new status place with the numbers that are kept.
-use Rattle.std.proofs.Common.{◌≡◌, ◌≤◌, ◌∙◌, ℕ, Bool, IsTrue, List, length, Result, Ok, Err, OnOk, IfErr, MatchResult, inl, inr, refl, sym, ap, subst}
+use Rattle.std.proofs.Common.{arith, ◌≡◌, ◌≤◌, ◌∙◌, ℕ, Bool, IsTrue, List, length, Result, Ok, Err, OnOk, IfErr, MatchResult, inl, inr, refl, sym, ap, subst}
 use Rattle.chip_trait.specs.Told.{Told}
 use Rattle.ipl_base.specs.declared.fault.ChipFault.{ChipFault}
 use Rattle.ipl_format.specs.Header.{erases_said}
@@ -14,7 +14,9 @@ use Rattle.place_taking.specs.Homes.{KeepsHomes}
 use Rattle.place_taking.specs.Takes.{IsAsideFrom}
 use Rattle.place_taking.proofs.HomeLemmas.{homes_same}
 use Rattle.unit_directory.proofs.AsideLemmas.{next_places_are_aside}
-use Rattle.txn_status.specs.Status.{room_of}
+use Rattle.ipl_base.specs.declared.limits.TheConstants.{LEAST_NUMBERS}
+use Rattle.txn_status.proofs.RoomLemmas.{room_clean}
+use Rattle.txn_status.specs.Status.{room_of, switched_to, FitStatusPlace}
 use Rattle.unit_io.specs.Charts.{Charts}
 use Rattle.selective_merge.specs.Throughout.{ChartsThroughout}
 use Rattle.selective_merge.proofs.TakenLemmas.{told_not}
@@ -115,6 +117,19 @@ module _ (places : ℕ) (c : Chart) (it : Layout) (t : Tables) (kept : List ℕ)
       | inl from ↦ unrenewed from same.1 more (renews soft)
       | inr stopped ↦ absurd (soft stopped.0)
     ]
+
+-- a new status place takes many commit sectors more
+pub room_switched : (most place generation : ℕ) (kept : List ℕ) → LEAST_NUMBERS ≤ most → FitStatusPlace most kept
+    → 191 ≤ room_of (switched_to most place generation kept)
+room_switched most place generation kept least fits =
+    omega (arith, room_clean (switched_to most place generation kept) (omega (arith, least, fits.few)), fits.few)
+
+-- as many numbers have room, however its writing ended
+pub most_still : (result : Result (Unit {0}) ChipFault) (before after : Places) (old new : StatusTable)
+    (next : ℕ) (kept : List ℕ) → OnOk result (MovesStatus before old next kept after new)
+    → IfErr result (λ fault. IsGivenBack before fault after × (new ≡ old)) → new.most ≡ old.most
+most_still (Ok v) before after old new next kept moved same = ap (λ (s : StatusTable). s.most) moved.status_is
+most_still (Err e) before after old new next kept moved same = ap (λ (s : StatusTable). s.most) same.1
 
 -- what the status has, however its writing ended
 pub status_ends : (result : Result (Unit {0}) ChipFault) (before after : Places)

@@ -17,7 +17,7 @@ use Rattle.ipl_meaning.specs.OpeningLaws.{IsByteChart}
 use Rattle.ipl_meaning.proofs.TellsLemmas.{tells_past, tells_here}
 use Rattle.unit_io.specs.Reads.{OfContents}
 use Rattle.restart.specs.Bytes.{ReadsBytesFor}
-use Rattle.restart.specs.Looks.{HasCauseFor}
+use Rattle.restart.specs.Looks.{HasCauseIn}
 use Rattle.restart.proofs.LookLemmas.{untold_still}
 use Rattle.restart.proofs.OpenLemmas.{size_none}
 
@@ -109,16 +109,19 @@ pub headers_tell_first : {T : Type 0} (draws : Bool) (c : Chart) (places : ℕ) 
 headers_tell_first draws c places r e least most exit says = tells_past _ _ r (size_none places least most) (tells_here _ _ r e exit says)
 
 -- with a fault of what it read: its numbers are used up, or it has the first fault
-pub failed_bytes : {T : Type 0} (draws : Bool) (places : ℕ) (r : Result T ImageFault) (e : ImageFault) (told mid new : Told)
-    → IsErrAnd r (λ y. y ≡ e) → HasCauseFor draws e mid new
+pub failed_bytes : {T : Type 0} {most : ℕ} {numbers : Chart → List ℕ} (draws : Bool) (places : ℕ) (r : Result T ImageFault) (e : ImageFault)
+    (told mid new : Told) → IsErrAnd r (λ y. y ≡ e) → HasCauseIn most numbers draws e mid new
     → OfContents told (λ x. TellsImageFault (fault_for draws (chart_of x) places) r)
     → (e ≡ Spent → OfContents told (λ x. IsByteChart places (chart_of x)))
     → ReadsBytesFor draws places told r
 failed_bytes draws places (Ok v) e told mid new exit cause tells spent = absurd exit
-failed_bytes draws places (Err y) e told mid new exit cause tells spent = λ x holds unread unstopped why. elim why [
+failed_bytes draws places (Err y) e told mid new exit cause tells spent = λ x holds unread unstopped roomy why. elim why [
   | inl is ↦ spent (sym exit ∙ is) x holds
   | inr none ↦ elim (cases_Bool (is_image y)) [
     | inl image ↦ (let some : None ≡ Some y = sym none ∙ tells x holds image in absurd (cc some))
-    | inr other ↦ absurd (unread (exit ∙ (cause (untold_still draws e (ap is_image (sym exit) ∙ other))).fault))
+    | inr other ↦ absurd (elim (cause (untold_still draws e (ap is_image (sym exit) ∙ other))) [
+      | inl missed ↦ unread (exit ∙ missed.fault)
+      | inr many ↦ roomy (exit ∙ many.0)
+    ])
   ]
 ]

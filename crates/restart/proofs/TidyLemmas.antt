@@ -147,7 +147,7 @@ nothing = record {
     masks = [];
   };
   overflow = record { places = 0; spots = []; masks = []; in_use = [] };
-  status = record { place = 0; generation = 0; numbers = []; first = 256 };
+  status = record { place = 0; generation = 0; numbers = []; most = 0; first = 256 };
   next = 0;
   active = [];
 }

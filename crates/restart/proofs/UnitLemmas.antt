@@ -11,6 +11,7 @@ use Rattle.log_records.proofs.RecordsLemmas.{records_list}
 use Rattle.selective_merge.specs.Packs.{among, packs_of}
 use Rattle.selective_merge.proofs.PacksLemmas.{among_contains, carried_all, packs_join, entries_records}
 use Rattle.unit_log.specs.Kept.{kept_of, records_kept}
+use Rattle.ipl_meaning.specs.Tables.{StatusTable}
 use Rattle.restart.specs.Joins.{joined}
 use Rattle.restart.specs.Passes.{kept_below, has_room, IsRepacked}
 
@@ -28,15 +29,15 @@ records_are_logged c places u home generation (e ∷ log) each =
 
 -- ---- what is kept
 
-module _ (numbers : List ℕ) (it : Layout) (n : ℕ) where
-  pub kept_fits : has_room numbers it n ≡ true
-      → kept_below numbers it (n + 1)
-      ≡ joined numbers (records_of (it.units n).log) (kept_below numbers it n)
+module _ (status : StatusTable) (it : Layout) (n : ℕ) where
+  pub kept_fits : has_room status it n ≡ true
+      → kept_below status it (n + 1)
+      ≡ joined status.numbers (records_of (it.units n).log) (kept_below status it n)
   unfolding kept_below
   kept_fits is = rw (add-one, is) refl
 
-  pub kept_stays : has_room numbers it n ≡ false
-      → kept_below numbers it (n + 1) ≡ kept_below numbers it n
+  pub kept_stays : has_room status it n ≡ false
+      → kept_below status it (n + 1) ≡ kept_below status it n
   unfolding kept_below
   kept_stays is = rw (add-one, is) refl
 

@@ -3,7 +3,7 @@ use Rattle.std.specs.Prelude.{ℕ, ◌≡◌, ◌≢◌, ◌⊎◌, ◌<◌, ◌
 use Rattle.ipl_base.specs.declared.limits.TheConstants.{SECTORS}
 use Rattle.ipl_base.specs.declared.fault.ChipFault.TheVariants.{ReadFault, Stopped}
 use Rattle.ipl_base.specs.declared.fault.ImageFault.{ImageFault}
-use Rattle.ipl_base.specs.declared.fault.ImageFault.TheVariants.{Chip, Spent}
+use Rattle.ipl_base.specs.declared.fault.ImageFault.TheVariants.{Chip, Spent, TooManyNumbers}
 use Rattle.chip_trait.specs.Story.{Contents}
 use Rattle.chip_trait.specs.Told.{Told}
 use Rattle.ipl_format.specs.Whole.{IsWhole}
@@ -22,12 +22,12 @@ IsRestWhole x places heads current status =
     → (p ≡ status.place) ⊎ (is_log_spot (at heads) (at current) p s ≡ true)
     → IsWhole (x p s)
 
--- what it read is bytes: where it was done, or failed though every call of the chip was done and
--- what it read had no fault but that the numbers are used up
+-- what it read is bytes: where it was done, or failed though every call of the chip was done, the committed
+-- numbers had room, and what it read had no fault but that the numbers are used up
 abbrev pub ReadsBytesFor : {T : Type 0} → Bool → ℕ → Told → Result T ImageFault → Type 0
 ReadsBytesFor draws places told result = OfContents told (λ x. MatchResult result
     (λ done. IsByteChart places (chart_of x))
-    (λ e. e ≢ Chip ReadFault → e ≢ Chip Stopped
+    (λ e. e ≢ Chip ReadFault → e ≢ Chip Stopped → e ≢ TooManyNumbers
     → (e ≡ Spent) ⊎ (fault_for draws (chart_of x) places ≡ None)
     → IsByteChart places (chart_of x)))
 

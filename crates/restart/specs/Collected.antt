@@ -1,7 +1,6 @@
 -- The committed numbers that live log records have, as far as they are found.
 use Rattle.std.specs.Prelude.{ℕ, zero, suc, ◌≡◌, ◌<◌, ◌≤◌, Bool, List, [], length, Option, Some, None}
 use Rattle.std.specs.Bool.{OnTrue, OnFalse}
-use Rattle.ipl_base.specs.declared.limits.TheConstants.{KEPT_NUMBERS}
 use Rattle.ipl_format.specs.Record.{Record}
 use Rattle.ipl_format.specs.Sector.{Sector}
 use Rattle.log_records.specs.Reading.{records_of}
@@ -25,12 +24,13 @@ numbers_below committed heads current c zero = []
 numbers_below committed heads current c (suc k) =
     joined committed (records_at (live_at heads current c k)) (numbers_below committed heads current c k)
 
--- the numbers that were found are those that are kept, at most 3,840, a flag for each; or they don't fit, and are more
+-- the numbers that were found are those that are kept, at most as many as may be, a flag for each; or they don't fit, and
+-- are more
 pub record AreKept (found : List ℕ) (fits : Bool) (numbers : Kept) : Type 0 where
   pub all : OnTrue fits (numbers.list ≡ found)
   pub exact : OnTrue fits (IsExact numbers)
-  pub few : OnTrue fits (length found ≤ KEPT_NUMBERS)
-  pub more : OnFalse fits (KEPT_NUMBERS < length found)
+  pub few : OnTrue fits (length found ≤ numbers.limit)
+  pub more : OnFalse fits (numbers.limit < length found)
 
 -- the committed numbers that a live log record of the chart has, in rising order: they are kept, or they don't fit
 pub record AreCollected (places : ℕ) (c : Chart) (fits : Bool) (numbers : Kept) : Type 0 where

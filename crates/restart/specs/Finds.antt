@@ -14,7 +14,7 @@ use Rattle.restart.specs.Collected.{AreCollected}
 use Rattle.restart.specs.Opened.{HasFree, IsUnmarked, CountsMarked, CountsExactly, KnowsWhole}
 
 -- The tables say what the chip holds, which is laid out rightly, and so they mirror it; the committed numbers that
--- live log records have are kept, exactly where they are at most 3,840. Whether the chip tells its contents or not,
+-- live log records have are kept, exactly where they are at most as many as may be. Whether the chip tells its contents or not,
 -- the tables know each of its places, and a place may be taken, however many of the spare ones are worn. What they
 -- count as clean is marked; where marks count, it is exactly what is marked of whole logs, of whose units something is
 -- known; and where they don't, it is nothing, and nothing is known of log sectors, whatever the chip tells.

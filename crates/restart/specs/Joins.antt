@@ -4,6 +4,7 @@ use Rattle.std.specs.List.{filter}
 use Rattle.ipl_format.specs.Record.{Record}
 use Rattle.number_set.specs.Flags.{Flags, flagged}
 use Rattle.number_set.specs.Numbers.{with_numbers, among}
+use Rattle.txn_status.specs.Status.{keeps_of}
 
 -- the number of a record
 abbrev pub number_of : Record → ℕ
@@ -17,14 +18,15 @@ committed_in numbers records = filter (among numbers) (map number_of records)
 abbrev pub joined : List ℕ → List Record → List ℕ → List ℕ
 joined numbers records kept = with_numbers (committed_in numbers records) kept
 
--- the numbers that are kept, and how many flags were made for them
+-- the numbers that are kept, how many flags were made for them, and how many may be kept
 pub record Kept : Type 0 where
   pub list : List ℕ
   pub count : ℕ
+  pub limit : ℕ
 
--- those of these numbers that have a flag
+-- those of these numbers that have a flag, where the flags are made for as many numbers as have room
 abbrev pub kept_of : List ℕ → Flags → Kept
-kept_of numbers flags = record { list = flagged flags numbers; count = flags.count }
+kept_of numbers flags = record { list = flagged flags numbers; count = flags.count; limit = keeps_of flags.room }
 
 -- each flag stands beside a number
 abbrev pub IsExact : Kept → Type 0

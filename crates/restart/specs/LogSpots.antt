@@ -32,11 +32,13 @@ pub record MayScan (heads : Heads) (home number : ℕ) : Type 0 where
 abbrev pub live_found : Heads → ℕ → Option Sector → Option Sector
 live_found heads p found = kept (is_live (at heads.all.now) (at heads.current.now) p) found
 
--- the notes and the tables are of these places and units, with room for the log sectors from the number k on
+-- the notes and the tables are of these places and units, with room for the log sectors from the number k on, and the
+-- flags of numbers were made for the status
 pub record HaveRoom (heads : Heads) (k : ℕ) (it : Findings) : Type 0 where
   pub sized : AreSized (length heads.current.now) (length heads.all.now) it.noted.now it.overflow.now
   pub units : length it.directory.now.current ≡ length heads.current.now
   pub roomy : FitsNotes (at heads.current.now) k it.noted.now it.overflow.now
+  pub flags : it.numbers.now.room ≡ it.status.now.most
 
 -- they are of these places and units still; and where it is done, with room from the number k on
 pub record KeepRoom {T E : Type 0} (result : Result T E) (heads : Heads) (k : ℕ) (it : Findings) : Type 0 where
@@ -51,10 +53,11 @@ pub record SameReferences (old new : Findings) : Type 0 where
   pub status : new.status.ghost_name ≡ old.status.ghost_name
   pub numbers : new.numbers.ghost_name ≡ old.numbers.ghost_name
 
--- and the status is as it was
+-- and the status is as it was, with flags for as many numbers
 pub record StillFills (old new : Findings) : Type 0 where
   pub references : SameReferences old new
   pub status : new.status.now ≡ old.status.now
+  pub flags : new.numbers.now.room ≡ old.numbers.now.room
 
 -- what was found at the number k, a live log sector or none, is tested, and then noted and listed, with the pages that
 -- it names

@@ -1,6 +1,6 @@
 -- What a pass over the units makes of a chip and of its tables.
 use Rattle.std.specs.Prelude.{ℕ, zero, suc, ◌≡◌, ◌≢◌, ◌⊎◌, ◌↔◌, ◌<◌, ◌≤◌, ◌*◌, nat_le, Bool, true, false, IsTrue, List, [], Contains, length, Some, Result, MatchResult, IfErr, if◌then◌else◌}
-use Rattle.ipl_base.specs.declared.limits.TheConstants.{PAGES, FIRST_LOG_SECTOR, KEPT_NUMBERS}
+use Rattle.ipl_base.specs.declared.limits.TheConstants.{PAGES, FIRST_LOG_SECTOR}
 use Rattle.chip_trait.specs.Story.{Story, Contents}
 use Rattle.chip_trait.specs.Told.{History, Told, Rose}
 use Rattle.ipl_base.specs.declared.fault.ChipFault.{ChipFault}
@@ -13,7 +13,7 @@ use Rattle.ipl_meaning.specs.Layout.{Entry, Shape, Layout, HasNoMark, records_of
 use Rattle.ipl_meaning.specs.Mirrors.{Mirrors}
 use Rattle.ipl_meaning.specs.Rests.{StoryRests}
 use Rattle.ipl_meaning.specs.Steps.{KeepsPages}
-use Rattle.ipl_meaning.specs.Tables.{Places, Tables}
+use Rattle.ipl_meaning.specs.Tables.{Places, StatusTable, Tables}
 use Rattle.selective_merge.specs.Faults.{merge_fault, IsMergeable, FailsByChipAlone}
 use Rattle.selective_merge.specs.Known.{KnowsPlaces}
 use Rattle.selective_merge.specs.Pages.{IsBaseSpotBelow}
@@ -24,7 +24,7 @@ use Rattle.selective_merge.specs.Homes.{WearCause}
 use Rattle.selective_merge.specs.Placing.{SaysErases}
 use Rattle.selective_merge.specs.Throughout.{ChartsThroughout}
 use Rattle.unit_io.specs.StepLaws.{Preserves}
-use Rattle.txn_status.specs.Status.{room_of}
+use Rattle.txn_status.specs.Status.{keeps_of, room_of}
 use Rattle.txn_status.specs.Switching.{ListsAt}
 use Rattle.unit_io.specs.Costs.{is_erased}
 use Rattle.unit_io.specs.Leads.{IsSteady}
@@ -35,21 +35,21 @@ use Rattle.restart.specs.Keeps.{IsLogged, IsLoggedBelow, KeepsBelow}
 
 -- ---- which numbers are kept
 
--- with the committed numbers of this log, those that are kept are at most 3,840
-abbrev pub fits : List ℕ → List Entry → List ℕ → Bool
-fits numbers log kept = nat_le (length (joined numbers (records_of log) kept)) KEPT_NUMBERS
+-- with the committed numbers of this log, those that are kept are at most as many as a new status place is given
+abbrev pub fits : StatusTable → List Entry → List ℕ → Bool
+fits status log kept = nat_le (length (joined status.numbers (records_of log) kept)) (keeps_of status.most)
 
 -- what is kept once the first n units were passed: the numbers of each join, unless they don't fit
-unfoldable pub kept_below : List ℕ → Layout → ℕ → List ℕ
-kept_below numbers it zero = []
-kept_below numbers it (suc n) =
-    if fits numbers (it.units n).log (kept_below numbers it n)
-    then joined numbers (records_of (it.units n).log) (kept_below numbers it n)
-    else kept_below numbers it n
+unfoldable pub kept_below : StatusTable → Layout → ℕ → List ℕ
+kept_below status it zero = []
+kept_below status it (suc n) =
+    if fits status (it.units n).log (kept_below status it n)
+    then joined status.numbers (records_of (it.units n).log) (kept_below status it n)
+    else kept_below status it n
 
 -- the numbers of the n-th unit fit
-abbrev pub has_room : List ℕ → Layout → ℕ → Bool
-has_room numbers it n = fits numbers (it.units n).log (kept_below numbers it n)
+abbrev pub has_room : StatusTable → Layout → ℕ → Bool
+has_room status it n = fits status (it.units n).log (kept_below status it n)
 
 -- ---- which units are merged
 
@@ -61,11 +61,11 @@ pub record IsRepacked (active : List ℕ) (u : ℕ) (old new : Shape) : Type 0 w
 
 -- There are as many units. Of the first n those whose numbers fit are as they were, and the others
 -- were merged; all units behind them are as they were.
-pub record ArePassed (n : ℕ) (active numbers : List ℕ) (it now : Layout) : Type 0 where
+pub record ArePassed (n : ℕ) (active : List ℕ) (status : StatusTable) (it now : Layout) : Type 0 where
   pub count : now.count ≡ it.count
-  pub same : (u : ℕ) → u < it.count → (n ≤ u) ⊎ IsTrue (has_room numbers it u)
+  pub same : (u : ℕ) → u < it.count → (n ≤ u) ⊎ IsTrue (has_room status it u)
       → now.units u ≡ it.units u
-  pub merged : (u : ℕ) → u < n → has_room numbers it u ≡ false
+  pub merged : (u : ℕ) → u < n → has_room status it u ≡ false
       → IsRepacked active u (it.units u) (now.units u)
 
 -- there are as many units, and each is as it was, or was merged
@@ -87,8 +87,8 @@ pub record HasFound (places : ℕ) (c : Chart) (it : Layout) (t : Tables) (kept 
   pub mirrors : Mirrors places (chart_of contents) now after
   pub pages : KeepsPages places c it (chart_of contents) now
   pub alike : AreAlike t.active it now
-  pub passed : (ArePassed it.count t.active t.status.numbers it now
-      × (kept ≡ kept_below t.status.numbers it it.count)) ⊎ OneIsStuck c it t
+  pub passed : (ArePassed it.count t.active t.status it now
+      × (kept ≡ kept_below t.status it it.count)) ⊎ OneIsStuck c it t
   pub committed : now.committed ≡ it.committed
   pub keeps : KeepsBelow now.count now kept
 
@@ -101,7 +101,7 @@ pub record HasStopped (places : ℕ) (c : Chart) (it : Layout) (t after : Tables
   pub mirrors : Mirrors places y now after
   pub pages : KeepsPages places c it y now
   pub alike : AreAlike t.active it now
-  pub passed : ((n : ℕ) × ArePassed n t.active t.status.numbers it now) ⊎ OneIsStuck c it t
+  pub passed : ((n : ℕ) × ArePassed n t.active t.status it now) ⊎ OneIsStuck c it t
   pub committed : now.committed ≡ it.committed
 
 -- the chip tells contents whose chart is so
@@ -143,8 +143,8 @@ pub record HasRenewed (places : ℕ) (c : Chart) (it : Layout) (t after : Tables
   pub mirrors : Mirrors places y now after
   pub pages : KeepsPages places c it y now
   pub alike : AreAlike t.active it now
-  pub passed : (ArePassed it.count t.active t.status.numbers it now
-      × (now.committed ≡ among (kept_below t.status.numbers it it.count))) ⊎ OneIsStuck c it t
+  pub passed : (ArePassed it.count t.active t.status it now
+      × (now.committed ≡ among (kept_below t.status it it.count))) ⊎ OneIsStuck c it t
   pub exact : (tid : ℕ) → IsTrue (now.committed tid)
       ↔ (IsTrue (it.committed tid) × IsLoggedBelow now.count now tid)
   pub unmarked : HasNoMark y now.status now.head.generation
@@ -174,22 +174,24 @@ KeepsInSteps places t after old result new = (m : Legible) (it : Layout) (h : Hi
     → IsSteady h old → StoryRests places m h → Agrees places h it t
     → Preserves places m t after h result old new
 
--- whatever the chip tells: the same sessions are open, there are as many units, and the tables know each
--- place; done, at least 191 sectors of the status place are known clean, and not done, the status is as
--- it was
+-- whatever the chip tells: the same sessions are open, there are as many units, the tables know each
+-- place, and as many numbers have room; done, the status place takes at least 191 commit sectors more, and not
+-- done, the status is as it was
 pub record HoldsRenewed (places : ℕ) (before : Tables) (result : Result (Unit {0}) ChipFault)
     (after : Tables) : Type 0 where
   pub active : after.active ≡ before.active
   pub units : length after.places.current ≡ length before.places.current
   pub known : KnowsPlaces places after
+  pub most : after.status.most ≡ before.status.most
   pub ends : MatchResult result
       (λ _. 191 ≤ room_of after.status) (λ _. after.status ≡ before.status)
 
 -- ---- why it fails over what the chip holds
 
--- at most 3,840 numbers have each committed one that a live record of these units has
-abbrev pub FitTogether : Layout → (ℕ → Bool) → Type 0
-FitTogether it some = (numbers : List ℕ) × (length numbers ≤ KEPT_NUMBERS)
+-- at most as many numbers as a new status place is given, where so many have room, have each committed one that a
+-- live record of these units has
+abbrev pub FitTogether : ℕ → Layout → (ℕ → Bool) → Type 0
+FitTogether most it some = (numbers : List ℕ) × (length numbers ≤ keeps_of most)
     × ((u tid : ℕ) → u < it.count → some u ≡ true → IsTrue (it.committed tid)
     → IsLogged (it.units u).log tid → Contains numbers tid)
 
@@ -197,7 +199,7 @@ FitTogether it some = (numbers : List ℕ) × (length numbers ≤ KEPT_NUMBERS)
 pub record StuckDontFit (x : Contents) (it : Layout) (t : Tables) : Type 0 where
   pub some : ℕ → Bool
   pub stuck : (u : ℕ) → u < it.count → some u ≡ true → HasFault x it t u
-  pub many : ¬ FitTogether it some
+  pub many : ¬ FitTogether t.status.most it some
 
 -- This is wrong with a unit that has to be merged: a page, or how many log sectors are carried. And the numbers of
 -- the units with which something is wrong are too many, whatever the others have.
@@ -226,7 +228,7 @@ AreMergeableBut some c it t = (u : ℕ) → u < it.count → some u ≡ false
 abbrev pub CompletesRenewal : ℕ → Tables → Result (Unit {0}) ChipFault → Told → Type 0
 CompletesRenewal places t result told = OfContents told (λ x. (it : Layout)
     → Mirrors places (chart_of x) it t → (some : ℕ → Bool)
-    → AreMergeableBut some (chart_of x) it t → FitTogether it some → FailsByChipAlone result)
+    → AreMergeableBut some (chart_of x) it t → FitTogether t.status.most it some → FailsByChipAlone result)
 
 -- ---- costs
 

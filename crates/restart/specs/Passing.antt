@@ -9,7 +9,7 @@ use Rattle.ipl_meaning.specs.Chart.{chart_of}
 use Rattle.ipl_meaning.specs.Layout.{Shape, Layout, records_of}
 use Rattle.ipl_meaning.specs.Mirrors.{Mirrors}
 use Rattle.ipl_meaning.specs.Steps.{KeepsPages}
-use Rattle.ipl_meaning.specs.Tables.{Places, Tables}
+use Rattle.ipl_meaning.specs.Tables.{Places, StatusTable, Tables}
 use Rattle.unit_io.specs.Reads.{OfContents}
 use Rattle.restart.specs.InPlace.{FailsInPlace}
 use Rattle.restart.specs.Joins.{joined}
@@ -53,8 +53,8 @@ pub record IsBetween (places : ℕ) (x : Contents) (it : Layout) (t : Tables) (t
 -- is stuck, and nothing was made of the others.
 pub record IsFirst (n : ℕ) (it : Layout) (t : Tables) (turns : Turns) (kept : List ℕ) (now : Layout)
     : Type 0 where
-  pub passed : ArePassed n t.active t.status.numbers it now
-  pub kept_is : kept ≡ kept_below t.status.numbers it n
+  pub passed : ArePassed n t.active t.status it now
+  pub kept_is : kept ≡ kept_below t.status it n
   pub idle : (u : ℕ) → u < it.count → n ≤ u → turn_of turns u ≡ Open
   pub unstuck : (u : ℕ) → u < it.count → is_stuck turns u ≡ false
 
@@ -102,16 +102,16 @@ OnAnswer true Yes No = Yes
 OnAnswer false Yes No = No
 
 -- the numbers of the log joined those that are kept; or they don't fit, and the same are kept
-abbrev pub IsJoined : List ℕ → Shape → List ℕ → List ℕ → Bool → Type 0
-IsJoined numbers it old new true =
-    (fits numbers it.log old ≡ true) × (new ≡ joined numbers (records_of it.log) old)
-IsJoined numbers it old new false = (fits numbers it.log old ≡ false) × (new ≡ old)
+abbrev pub IsJoined : StatusTable → Shape → List ℕ → List ℕ → Bool → Type 0
+IsJoined status it old new true =
+    (fits status it.log old ≡ true) × (new ≡ joined status.numbers (records_of it.log) old)
+IsJoined status it old new false = (fits status it.log old ≡ false) × (new ≡ old)
 
 -- over contents that the tables mirror: the numbers of the unit joined, or don't fit
 abbrev pub JoinsUnit : ℕ → ℕ → Tables → List ℕ → List ℕ → Result Bool ChipFault → Told → Type 0
 JoinsUnit places unit t old new result told = OfContents told (λ x. (it : Layout)
     → Mirrors places (chart_of x) it t
-    → MatchResult result (IsJoined t.status.numbers (it.units unit) old new) IsFailedCall)
+    → MatchResult result (IsJoined t.status (it.units unit) old new) IsFailedCall)
 
 -- a unit of which nothing was made, whose numbers don't fit: it was merged, and so passed; or it is stuck, and a
 -- pass begins anew
@@ -119,7 +119,7 @@ abbrev pub MakesRoom : ℕ → Turns → Turns → Tables → Tables → Result 
     → Told → Told → Type 0
 MakesRoom unit turns ended before after result old new =
     (places : ℕ) (x : Contents) (it : Layout) (t : Tables) (kept : List ℕ)
-    → fits t.status.numbers (it.units unit).log kept ≡ false
+    → fits t.status (it.units unit).log kept ≡ false
     → HasPassed unit places x it t turns kept old before → is_ended turns unit ≡ false
     → StepEnds places x it t result new after
     (λ done. OnAnswer done (HasPassed (unit + 1) places x it t ended kept new after)

@@ -1,13 +1,13 @@
 -- What an opening leaves that ends with a new status place.
 use Rattle.std.specs.Prelude.{ℕ, ◌≡◌, ◌≢◌, ◌⊎◌, ◌↔◌, ◌<◌, ◌≤◌, ◌+◌, ◌*◌, ◌^◌, ◌||◌, [], Bool, true, false, IsTrue, is_ok, List, length, Contains, Some, None, Result, Ok, Err, MatchResult, OnOk, IfErr}
-use Rattle.ipl_base.specs.declared.limits.TheConstants.{PAGES, KEPT_NUMBERS}
+use Rattle.ipl_base.specs.declared.limits.TheConstants.{PAGES}
 use Rattle.chip_trait.specs.Story.{Story, Contents}
 use Rattle.chip_trait.specs.Told.{History, Told, Rose}
 use Rattle.ipl_base.specs.declared.fault.ChipFault.{ChipFault}
 use Rattle.ipl_base.specs.Calls.{IsFailedCall}
 use Rattle.ipl_base.specs.declared.fault.ChipFault.TheVariants.{ReadFault, Stopped, Damaged, WornOut}
 use Rattle.ipl_base.specs.declared.fault.ImageFault.{ImageFault}
-use Rattle.ipl_base.specs.declared.fault.ImageFault.TheVariants.{Geometry, NotFormatted, Missing, Chip, Spent, NoSpare}
+use Rattle.ipl_base.specs.declared.fault.ImageFault.TheVariants.{Geometry, NotFormatted, Missing, Chip, Spent, NoSpare, TooManyNumbers}
 use Rattle.ipl_meaning.specs.Legible.{Legible, Legibility}
 use Rattle.ipl_meaning.specs.Agrees.{IsTidy}
 use Rattle.ipl_meaning.specs.Chart.{Chart, chart_of}
@@ -26,12 +26,12 @@ use Rattle.ipl_meaning.specs.LaidOut.{layout_in, retired_at}
 use Rattle.place_taking.specs.Homes.{LeavesPlaces}
 use Rattle.place_taking.specs.Spending.{RetiringCosts, tells_worn}
 use Rattle.restart.specs.Bytes.{ReadsBytes}
-use Rattle.restart.specs.Looks.{OnlyReads}
+use Rattle.restart.specs.Looks.{OnlyReads, AreTooMany, numbers_in}
 use Rattle.restart.specs.Opened.{NoneIsClean, CountsMarked, CountsWhole, KnowsWhole}
 use Rattle.selective_merge.specs.Homes.{WearCause}
 use Rattle.selective_merge.specs.Placing.{SaysErases}
 use Rattle.unit_io.specs.Steps.{Settled, EndsWith, Outcome, TidyWork}
-use Rattle.txn_status.specs.Status.{room_of}
+use Rattle.txn_status.specs.Status.{keeps_of, room_of}
 use Rattle.unit_io.specs.Accounts.{Accounts}
 use Rattle.unit_io.specs.Costs.{Spends}
 use Rattle.unit_io.specs.Leads.{IsSteady}
@@ -79,18 +79,23 @@ IsOpeningFault places x e =
 abbrev pub FailsByCallAlone : ImageFault → Type 0
 FailsByCallAlone e = (fault : ChipFault) × (e ≡ Chip fault) × IsFailedCall fault
 
--- over contents that are told: opened, or this fault, unless a call failed
+-- it failed for no fault of what the chip holds: a call of the chip failed, or the committed numbers have no
+-- room in memory, of which `OpeningCause` says when it is so
+abbrev pub FailsApart : ImageFault → Type 0
+FailsApart e = FailsByCallAlone e ⊎ (e ≡ TooManyNumbers)
+
+-- over contents that are told: opened, or this fault, unless it failed apart from what they hold
 abbrev pub RecoversTold : ℕ → Told → Result (Unit {0}) ImageFault → Tables → Told → Type 0
 RecoversTold places old result after new = (x : Contents) → old.contents ≡ Some x
     → MatchResult result (λ _. TellsChart (HasOpened places (chart_of x) after) new)
-    (λ e. ¬ FailsByCallAlone e → IsOpeningFault places x e)
+    (λ e. ¬ FailsApart e → IsOpeningFault places x e)
 
 -- a chip whose contents have a fault was only read, and it fails with that one, or since a read
--- failed
+-- failed or the committed numbers have no room
 abbrev pub LooksAtFaults : ℕ → Told → Result (Unit {0}) ImageFault → Told → Type 0
 LooksAtFaults places old result new = OfContents old (λ x. (e : ImageFault)
     → first_fault (chart_of x) places ≡ Some e
-    → OnlyReads old new × IfErr result (λ f. (f ≡ e) ⊎ (f ≡ Chip ReadFault)))
+    → OnlyReads old new × IfErr result (λ f. (f ≡ e) ⊎ (f ≡ Chip ReadFault) ⊎ (f ≡ TooManyNumbers)))
 
 -- of all units but these each page is said of
 abbrev pub SaysAllBut : (ℕ → Bool) → ℕ → Legibility → Type 0
@@ -98,26 +103,27 @@ SaysAllBut some count pages = (u page : ℕ) → u < count → page < PAGES → 
 
 -- Over contents that have no fault, and of which all pages say a map but those of some units, it fails only so, if the
 -- numbers of these units fit together.
-abbrev pub CompletesOpening : ℕ → Result (Unit {0}) ImageFault → Told → Type 0
-CompletesOpening places result told = OfContents told (λ x. (m : Legible) (some : ℕ → Bool)
+abbrev pub CompletesOpening : ℕ → ℕ → Result (Unit {0}) ImageFault → Told → Type 0
+CompletesOpening most places result told = OfContents told (λ x. (m : Legible) (some : ℕ → Bool)
     → first_fault (chart_of x) places ≡ None
     → Says places (chart_of x) (layout_in (chart_of x) places) m
     → SaysAllBut some (layout_in (chart_of x) places).count m.pages
-    → FitTogether (layout_in (chart_of x) places) some
-    → IfErr result FailsByCallAlone)
+    → FitTogether most (layout_in (chart_of x) places) some
+    → IfErr result FailsApart)
 
 -- ---- how often it reads
 
--- at most 3,840 numbers have each committed one that a live record of the chart has
-abbrev pub NumbersFit : ℕ → Chart → Type 0
-NumbersFit places c = (numbers : List ℕ) × (length numbers ≤ KEPT_NUMBERS)
+-- at most as many numbers as a new status place is given, where so many have room, have each committed one that a
+-- live record of the chart has
+abbrev pub NumbersFit : ℕ → ℕ → Chart → Type 0
+NumbersFit most places c = (numbers : List ℕ) × (length numbers ≤ keeps_of most)
     × ((tid : ℕ) → IsTrue ((layout_in c places).committed tid)
     → IsLoggedBelow (layout_in c places).count (layout_in c places) tid → Contains numbers tid)
 
 -- over contents whose numbers fit it reads each sector at most once, whatever else it does
-abbrev pub ReadsOnceWhereFit : ℕ → Told → Told → Type 0
-ReadsOnceWhereFit places old new =
-    OfContents old (λ x. NumbersFit places (chart_of x) → Spends ReadsEachOnce old new)
+abbrev pub ReadsOnceWhereFit : ℕ → ℕ → Told → Told → Type 0
+ReadsOnceWhereFit most places old new =
+    OfContents old (λ x. NumbersFit most places (chart_of x) → Spends ReadsEachOnce old new)
 
 -- ---- what it erases
 
@@ -129,6 +135,7 @@ tells_wear (Missing u) = false
 tells_wear (Chip fault) = tells_worn fault
 tells_wear Spent = false
 tells_wear (NoSpare p) = false
+tells_wear TooManyNumbers = false
 
 -- it ended since too many places are worn
 abbrev pub ends_worn_out : Result (Unit {0}) ImageFault → Bool
@@ -175,7 +182,7 @@ pub record TakesMarks (marks : Bool) (places : ℕ) (old : Told) (first : Tables
 pub record CountsMarks (marks : Bool) (places : ℕ) (old : Told) (after : Tables) : Type 0 where
   pub knows : marks ≡ true → OfContents old (λ x. KnowsWhole places x after)
   pub counts : marks ≡ true
-      → OfContents old (λ x. NumbersFit places (chart_of x) → CountsWhole places x after)
+      → OfContents old (λ x. NumbersFit after.status.most places (chart_of x) → CountsWhole places x after)
 
 -- Whatever the chip holds, the events are lawful after any lawful ones that leave clean what was counted
 -- so by marks at first; and done, what the tables count as clean is clean.
@@ -208,8 +215,8 @@ RecoversInSteps marks places old result after new = (m : Legible) (h : History)
 
 -- ---- whatever the chip tells
 
--- no session is open, the tables know each place, at least 191 sectors of the status place are known
--- clean, and nothing is known by a mark any more
+-- no session is open, the tables know each place, the status place takes at least 191 commit sectors more,
+-- and nothing is known by a mark any more
 pub record HoldsOpened (places : ℕ) (after : Tables) : Type 0 where
   pub active : after.active ≡ []
   pub known : KnowsPlaces places after
@@ -217,20 +224,23 @@ pub record HoldsOpened (places : ℕ) (after : Tables) : Type 0 where
   pub ended : NoneMarked after.places
 
 -- why it fails: a read or a write failed, or too many places are worn, by the directory then, and that
--- count rose; or the chip has a fault, and where a sector is damaged its sums differ
-pub record OpeningCause (after : Places) (e : ImageFault) (old new : Told) : Type 0 where
+-- count rose; or the chip has a fault, and where a sector is damaged its sums differ; or more numbers are committed in
+-- its status place than have room
+pub record OpeningCause (most : ℕ) (after : Places) (e : ImageFault) (old new : Told) : Type 0 where
   pub read : e ≡ Chip ReadFault → Rose old.read_faults new.read_faults
   pub stopped : e ≡ Chip Stopped → Rose old.write_faults new.write_faults
   pub worn : (n : ℕ) → e ≡ Chip (WornOut n) → WearCause after n old new
   pub damaged : (p s stored computed : ℕ) → e ≡ Chip (Damaged p s stored computed) → stored ≢ computed
+  pub many : e ≡ TooManyNumbers → AreTooMany most (numbers_in old.places) old
 
 -- ---- an opening, however it ends
 
 -- Why it fails over what the chip holds: a chip with a fault was only read; where it has none and its pages say a
--- map, only since a call of the chip failed; and what it read is bytes, also where the numbers are used up.
-pub record OpeningFails (places : ℕ) (result : Result (Unit {0}) ImageFault) (old new : Told) : Type 0 where
+-- map, only since a call of the chip failed or the committed numbers have no room; and what it read is bytes, also where
+-- the numbers are used up.
+pub record OpeningFails (most places : ℕ) (result : Result (Unit {0}) ImageFault) (old new : Told) : Type 0 where
   pub looks : LooksAtFaults places old result new
-  pub complete : CompletesOpening places result old
+  pub complete : CompletesOpening most places result old
   pub bytes : ReadsBytes places old result
 
 -- the next number comes behind the greatest that was found, and few were drawn in between
@@ -247,12 +257,12 @@ pub record LeavesOpened (marks : Bool) (after : Tables) (result : Result (Unit {
   pub left : OnOk result (after.next ≤ 2 ^ 63 + 2 ^ 14)
   pub tidy : TidiesOpening marks old.places old result after new
   pub marked : OnOk result (CountsMarks marks old.places old after)
-  pub accounts : Accounts (OpeningCause after.places) result old new
+  pub accounts : Accounts (OpeningCause after.status.most after.places) result old new
 
 -- What it costs: so many erases and barriers; where the numbers fit, each sector is read at most once; and done,
 -- the place that the status has then was erased.
 pub record OpeningSpends (marks : Bool) (after : Tables) (result : Result (Unit {0}) ImageFault) (old new : Told)
     : Type 0 where
   pub costs : ErasesOpening marks old.places result after.places old new
-  pub once : ReadsOnceWhereFit old.places old new
+  pub once : ReadsOnceWhereFit after.status.most old.places old new
   pub renewed : OnOk result (Spends (HasErased after.status.place) old new)

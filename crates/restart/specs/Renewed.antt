@@ -44,7 +44,7 @@ pub record MovesStatus (before : Places) (old : StatusTable) (next : ℕ) (kept 
   pub place : ℕ
   pub mid : Places
   pub taken : IsTakenFrom before place mid
-  pub status_is : new ≡ switched_to place next kept
+  pub status_is : new ≡ switched_to old.most place next kept
   pub places_is : after ≡ with_use mid old.place false
 
 -- Some places were found worn and are retired, and else the directory is as it was; or besides a write
@@ -75,7 +75,7 @@ pub record MayMoveStatus (places : ℕ) (directory : Places) (status : StatusTab
   pub held : ¬ IsFree directory status.place
   pub placed : status.place < places
 
--- Done, the status has another place, of which at least 191 sectors are known clean; else it is as it was, and the
+-- Done, the status has another place, which takes at least 191 commit sectors more; else it is as it was, and the
 -- place that was taken is given back. No place is lost to it, and the numbers that it took were drawn.
 pub record PlacesStatus (before : Places) (old : StatusTable) (next : ℕ) (kept : List ℕ)
     (result : Result (Unit {0}) ChipFault) (after : Places) (new : StatusTable) (then : ℕ) : Type 0 where

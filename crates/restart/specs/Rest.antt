@@ -29,13 +29,14 @@ pub record HaveHeaders (places : ℕ) (told : Told) (headers : Heads) (status : 
   pub winner : status.place < places
   pub units : length headers.current.now ≡ units_told places (Some status)
 
--- before log sectors are read: there is room for what is noted and listed, the directory has so many units, and no log
--- sector at home names a page
+-- before log sectors are read: there is room for what is noted and listed, the directory has so many units, no log
+-- sector at home names a page, and the flags of numbers were made for the status
 pub record AreUnread (places : ℕ) (heads : Heads) (it : Findings) : Type 0 where
   pub noted : NotesHaveRoom places it.noted.now
   pub overflow : it.overflow.now.places ≡ places
   pub units : length it.directory.now.current ≡ length heads.current.now
   pub blank : NoneNamed (length heads.current.now) it.directory.now
+  pub flags : it.numbers.now.room ≡ it.status.now.most
 
 -- Of what the chip holds: the greatest number, the committed numbers, the live log sectors with the pages that they
 -- name, what the close mark says of log sectors where marks count, and the status are found, and what was read is whole.
@@ -54,7 +55,7 @@ pub record FindsRest (places : ℕ) (told : Told) (marks : Bool) (heads : Heads)
       → AreReadLogs x (mark_for marks (chart_of x) (Some winner)) (at heads.current.now)
       (length heads.current.now) (places * 256) it.directory.now)
   pub status : OfContents told (λ x. it.status.now
-      ≡ status_in (chart_of x) winner.place winner.head.generation)
+      ≡ status_in it.status.now.most (chart_of x) winner.place winner.head.generation)
   pub whole : OfContents told (λ x. IsRestWhole x places heads.all.now heads.current.now winner)
 
 -- Whatever the chip tells: nothing is known of log sectors where marks don't count, no sector of the status place is

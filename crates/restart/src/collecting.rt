@@ -15,7 +15,8 @@ use txn_status::Status;
 pub(crate) struct Gathered {
     /// The greatest number.
     pub(crate) greatest: u64,
-    /// Whether the committed numbers of live records, which are kept, were at most 3,840.
+    /// Whether the committed numbers of live records, which are kept, were no more than a new status
+    /// place is given.
     pub(crate) fits: bool,
 }
 
@@ -30,9 +31,11 @@ pub(crate) fn collect(
 ) -> bool
     requires list { is_log_payload version payload.now ≡ true }
     requires fits { length payload.now ≤ PAYLOAD_LEN }
-    ensures { (found : List ℕ) → AreKept found fits (kept_of status.now.numbers numbers.old)
+    requires room { numbers.old.room ≡ status.now.most }
+    ensures kept { (found : List ℕ) → AreKept found fits (kept_of status.now.numbers numbers.old)
         → AreKept (joined status.now.numbers (records_of version payload.now) found) result
         (kept_of status.now.numbers numbers.new) }
+    ensures room { numbers.new.room ≡ numbers.old.room }
 {
     if !fits {
         return false;

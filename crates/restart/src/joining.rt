@@ -1,14 +1,14 @@
 //! The committed numbers of log records join those that are kept.
 ghost use Rattle.std.specs.Prelude.{◌≡◌, ◌<◌, [], ◌∷◌, length};
 ghost use Rattle.std.specs.Bool.{OnTrue, OnFalse};
-ghost use Rattle.ipl_base.specs.declared.limits.TheConstants.{KEPT_NUMBERS, STATUS_NUMBERS};
 ghost use Rattle.log_records.specs.Reading.{records_of};
 ghost use Rattle.log_records.specs.View.{record_of};
 ghost use Rattle.number_set.specs.Flags.{flagged};
+ghost use Rattle.txn_status.specs.Status.{keeps_of};
 ghost use Rattle.unit_log.specs.Kept.{records_kept};
 ghost use Rattle.restart.specs.Joins.{joined, kept_of, IsExact};
 
-use ipl_base::KEPT_NUMBERS;
+use crate::numbers::limit_of;
 use log_records::{Payload, Record, records};
 use number_set::Flags;
 use txn_status::Status;
@@ -16,13 +16,13 @@ use unit_log::LogSector;
 
 /// Gives a flag to the number of a record, where it is committed. False exactly where it doesn't fit.
 fn add_number(kept: &mut Flags, logged: &Record, status: &Status) -> bool
-    requires most { kept.old.most ≡ KEPT_NUMBERS }
-    requires room { kept.old.room ≡ STATUS_NUMBERS }
+    requires most { kept.old.most ≡ keeps_of status.now.most }
+    requires room { kept.old.room ≡ status.now.most }
     ensures joined { OnTrue result (flagged kept.new status.now.numbers
         ≡ joined status.now.numbers (record_of logged.now ∷ [])
         (flagged kept.old status.now.numbers)) }
     ensures full { OnFalse result (IsExact (kept_of status.now.numbers kept.old)
-        → KEPT_NUMBERS < length (joined status.now.numbers (record_of logged.now ∷ [])
+        → keeps_of status.now.most < length (joined status.now.numbers (record_of logged.now ∷ [])
         (flagged kept.old status.now.numbers))) }
     ensures exact { IsExact (kept_of status.now.numbers kept.old)
         → IsExact (kept_of status.now.numbers kept.new) }
@@ -37,7 +37,8 @@ fn add_number(kept: &mut Flags, logged: &Record, status: &Status) -> bool
                 return true;
             }
             kept.facts();
-            if kept.len() == KEPT_NUMBERS {
+            let limit = limit_of(status.most());
+            if kept.len() == limit {
                 return false;
             }
             kept.raise(at);
@@ -49,13 +50,13 @@ fn add_number(kept: &mut Flags, logged: &Record, status: &Status) -> bool
 /// Gives a flag to each committed number of the records of a payload. False exactly where they don't
 /// all fit, and then some of them may have theirs.
 pub(crate) fn add_payload(kept: &mut Flags, payload: &Payload, status: &Status) -> bool
-    requires most { kept.old.most ≡ KEPT_NUMBERS }
-    requires room { kept.old.room ≡ STATUS_NUMBERS }
+    requires most { kept.old.most ≡ keeps_of status.now.most }
+    requires room { kept.old.room ≡ status.now.most }
     ensures joined { OnTrue result (flagged kept.new status.now.numbers
         ≡ joined status.now.numbers (records_of payload.now.version payload.now.bytes)
         (flagged kept.old status.now.numbers)) }
     ensures full { OnFalse result (IsExact (kept_of status.now.numbers kept.old)
-        → KEPT_NUMBERS < length (joined status.now.numbers
+        → keeps_of status.now.most < length (joined status.now.numbers
         (records_of payload.now.version payload.now.bytes) (flagged kept.old status.now.numbers))) }
     ensures exact { IsExact (kept_of status.now.numbers kept.old)
         → IsExact (kept_of status.now.numbers kept.new) }
@@ -74,13 +75,13 @@ pub(crate) fn add_payload(kept: &mut Flags, payload: &Payload, status: &Status) 
 /// Gives a flag to each committed number of the records of log sectors. False exactly where they don't
 /// all fit, and then some of them may have theirs.
 pub(crate) fn add_sectors(kept: &mut Flags, sectors: &[LogSector], status: &Status) -> bool
-    requires most { kept.old.most ≡ KEPT_NUMBERS }
-    requires room { kept.old.room ≡ STATUS_NUMBERS }
+    requires most { kept.old.most ≡ keeps_of status.now.most }
+    requires room { kept.old.room ≡ status.now.most }
     ensures joined { OnTrue result (flagged kept.new status.now.numbers
         ≡ joined status.now.numbers (records_kept sectors.now)
         (flagged kept.old status.now.numbers)) }
     ensures full { OnFalse result (IsExact (kept_of status.now.numbers kept.old)
-        → KEPT_NUMBERS < length (joined status.now.numbers (records_kept sectors.now)
+        → keeps_of status.now.most < length (joined status.now.numbers (records_kept sectors.now)
         (flagged kept.old status.now.numbers))) }
     ensures exact { IsExact (kept_of status.now.numbers kept.old)
         → IsExact (kept_of status.now.numbers kept.new) }

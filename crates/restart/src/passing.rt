@@ -50,10 +50,12 @@ fn join_unit<C: Chip>(
     requires known { KnowsPlaces (C.told chip.old).places (tables_of parts.old) }
     requires unit { unit < length parts.old.directory.current }
     requires exact { IsExact (kept_of parts.old.status.numbers kept.old) }
+    requires room { kept.old.room ≡ parts.old.status.most }
     ensures joins { JoinsUnit (C.told chip.old).places unit (tables_of parts.old)
         (flagged kept.old parts.old.status.numbers)
         (flagged kept.new parts.new.status.numbers) result (C.told chip.old) }
     ensures exact { IsExact (kept_of parts.new.status.numbers kept.new) }
+    ensures room { kept.new.room ≡ kept.old.room }
     ensures same { tables_of parts.new ≡ tables_of parts.old }
     ensures rising { AreRising (flagged kept.old parts.old.status.numbers) }
     ensures walks { (turns : Turns) → Walks turns turns (tables_of parts.old) (tables_of parts.new)
@@ -86,10 +88,12 @@ fn hold_unit<C: Chip>(
     requires unit { unit < length parts.old.directory.current }
     requires held { IsHeldFault turns.now.fault }
     requires exact { IsExact (kept_of parts.old.status.numbers kept.old) }
+    requires room { kept.old.room ≡ parts.old.status.most }
     ensures holds { HoldsUnit unit turns.now (flagged kept.old parts.old.status.numbers)
         (flagged kept.new parts.new.status.numbers) (tables_of parts.old)
         (tables_of parts.new) result (C.told chip.old) (C.told chip.new) }
     ensures exact { IsExact (kept_of parts.new.status.numbers kept.new) }
+    ensures room { kept.new.room ≡ kept.old.room }
     ensures walks { Walks turns.now turns.now (tables_of parts.old) (tables_of parts.new)
         result (C.told chip.old) (C.told chip.new) }
 {
@@ -113,10 +117,12 @@ fn hold_stuck<C: Chip>(
     requires known { KnowsPlaces (C.told chip.old).places (tables_of parts.old) }
     requires held { IsHeldFault turns.now.fault }
     requires exact { IsExact (kept_of parts.old.status.numbers kept.old) }
+    requires room { kept.old.room ≡ parts.old.status.most }
     ensures holds { HoldsStuck turns.now (flagged kept.old parts.old.status.numbers)
         (flagged kept.new parts.new.status.numbers) (tables_of parts.old)
         (tables_of parts.new) result (C.told chip.old) (C.told chip.new) }
     ensures exact { IsExact (kept_of parts.new.status.numbers kept.new) }
+    ensures room { kept.new.room ≡ kept.old.room }
     ensures walks { Walks turns.now turns.now (tables_of parts.old) (tables_of parts.new)
         result (C.told chip.old) (C.told chip.new) }
 {
@@ -173,10 +179,12 @@ fn take_unit<C: Chip>(
     requires unit { unit < length parts.old.directory.current }
     requires left { AreLeft parts.old.counter parts.old.directory turns.old }
     requires exact { IsExact (kept_of parts.old.status.numbers kept.old) }
+    requires room { kept.old.room ≡ parts.old.status.most }
     ensures takes { TakesUnit unit turns.old turns.new (flagged kept.old parts.old.status.numbers)
         (flagged kept.new parts.new.status.numbers) (tables_of parts.old)
         (tables_of parts.new) result (C.told chip.old) (C.told chip.new) }
     ensures exact { IsExact (kept_of parts.new.status.numbers kept.new) }
+    ensures room { kept.new.room ≡ kept.old.room }
     ensures walks { Walks turns.old turns.new (tables_of parts.old) (tables_of parts.new)
         result (C.told chip.old) (C.told chip.new) }
     ensures grows { Grows turns.old turns.new parts.old.directory result }
@@ -201,10 +209,12 @@ fn take_units<C: Chip>(
     requires known { KnowsPlaces (C.told chip.old).places (tables_of parts.old) }
     requires left { AreLeft parts.old.counter parts.old.directory turns.old }
     requires exact { IsExact (kept_of parts.old.status.numbers kept.old) }
+    requires room { kept.old.room ≡ parts.old.status.most }
     ensures takes { TakesUnits turns.old turns.new (flagged kept.old parts.old.status.numbers)
         (flagged kept.new parts.new.status.numbers) (tables_of parts.old)
         (tables_of parts.new) result (C.told chip.old) (C.told chip.new) }
     ensures exact { IsExact (kept_of parts.new.status.numbers kept.new) }
+    ensures room { kept.new.room ≡ kept.old.room }
     ensures walks { Walks turns.old turns.new (tables_of parts.old) (tables_of parts.new)
         result (C.told chip.old) (C.told chip.new) }
     ensures grows { Grows turns.old turns.new parts.old.directory result }
@@ -228,8 +238,10 @@ fn try_pass<C: Chip>(
     requires known { KnowsPlaces (C.told chip.old).places (tables_of parts.old) }
     requires left { AreLeft parts.old.counter parts.old.directory turns.old }
     requires held { IsHeldFault turns.old.fault }
+    requires room { kept.old.room ≡ parts.old.status.most }
     ensures tries { TriesPass turns.old turns.new (flagged kept.new parts.new.status.numbers)
         (tables_of parts.old) (tables_of parts.new) result (C.told chip.old) (C.told chip.new) }
+    ensures room { kept.new.room ≡ kept.old.room }
     ensures walks { Walks turns.old turns.new (tables_of parts.old) (tables_of parts.new)
         result (C.told chip.old) (C.told chip.new) }
     ensures grows { Grows turns.old turns.new parts.old.directory result }
@@ -239,7 +251,7 @@ fn try_pass<C: Chip>(
     take_units(chip, parts, kept, turns)
 }
 
-/// Finds the committed numbers that live records have, at most 3,840: unit by unit in rising order,
+/// Finds the committed numbers that live records have, no more than a new status place is given: unit by unit in rising order,
 /// where one whose numbers don't fit is merged. One that can't be, for what the chip holds, keeps its
 /// numbers before all others: a pass begins anew then. Where they are found already it does nothing.
 pub(crate) fn find_numbers<C: Chip>(
@@ -252,6 +264,8 @@ pub(crate) fn find_numbers<C: Chip>(
     requires left { parts.old.counter + 13 * MOST_UNITS < 2 ^ 64 }
     requires exact { found ≡ true → KeepsAll (C.told chip.old).places (tables_of parts.old)
         (flagged kept.old parts.old.status.numbers) (C.told chip.old) }
+    requires room { kept.old.room ≡ parts.old.status.most }
+    ensures room { kept.new.room ≡ kept.old.room }
     ensures passes { (places : ℕ) (x : Contents) (it : Layout)
         → (C.told chip.old).places ≡ places → (C.told chip.old).contents ≡ Some x
         → Mirrors places (chart_of x) it (tables_of parts.old)

@@ -22,13 +22,15 @@ use selective_merge::Parts;
 /// anything is written one barrier is asked for them, and nothing is written to them before the new
 /// status place, in which no mark stands.
 ///
-/// The numbers are found while the log sectors are read. Only where they are more than 3,840, the
-/// logs are read again, unit by unit, since a unit whose numbers don't fit is merged.
+/// The numbers are found while the log sectors are read. Only where they are more than a new status place
+/// is given, at most 3,840, the logs are read again, unit by unit, since a unit whose numbers don't fit is
+/// merged.
 ///
 /// Whatever a power cut leaves at any moment stands for the map on which the story rested. It fails
 /// with the first fault of the chip, which was only read then; or where it has none, with that of a
 /// page of a unit that had to be merged; or where a call of the chip failed, or more places are worn
-/// than are spare. Where no write failed, the story rests on the map still.
+/// than are spare; or before it writes, with `TooManyNumbers`, where more numbers are committed in the
+/// status place than have room. Where no write failed, the story rests on the map still.
 pub fn recover<C: Chip>(
     chip: &mut C,
     scratch: &mut Scratch,
@@ -40,6 +42,7 @@ pub fn recover<C: Chip>(
     requires directory { length parts.old.directory.in_use ≡ (C.told chip.old).places }
     requires overflow { parts.old.overflow.places ≡ (C.told chip.old).places }
     requires active { parts.old.active ≡ [] }
+    requires room { kept.old.room ≡ parts.old.status.most }
 
     // What the chip holds then, and what a power cut leaves.
     ensures tells { RecoversTold (C.told chip.old).places (C.told chip.old) result
@@ -48,9 +51,9 @@ pub fn recover<C: Chip>(
         (tables_of parts.new) (C.told chip.new) }
 
     // Why it fails over what the chip holds: where that has no fault and its pages say a map, only
-    // where a call of the chip failed. What it read is bytes, also where it fails since the numbers are
+    // where a call of the chip failed or the committed numbers have no room. What it read is bytes, also where it fails since the numbers are
     // used up.
-    ensures fails { OpeningFails (C.told chip.old).places result (C.told chip.old) (C.told chip.new) }
+    ensures fails { OpeningFails parts.old.status.most (C.told chip.old).places result (C.told chip.old) (C.told chip.new) }
 
     // What the tables have, whatever the chip tells. Whatever the chip holds, what it adds is lawful after
     // any lawful events that leave clean what is marked; and done, what the tables count as clean is clean.
@@ -60,10 +63,12 @@ pub fn recover<C: Chip>(
     ensures sized { (scratch.new ≡ scratch.old)
         × (length parts.new.directory.in_use ≡ (C.told chip.old).places)
         × (parts.new.overflow.places ≡ (C.told chip.old).places) }
+    ensures room { (parts.new.status.most ≡ parts.old.status.most)
+        × (kept.new.room ≡ kept.old.room) }
     // At most one erase a unit, and one for the status place, and one more for each place that was found
     // worn and is retired; at most three barriers for each of these, and one for marks; the others that
     // are retired are those that the status header lists and that weren't used; and the tables have as
-    // many units as that says. Where the committed numbers that live records have are at most 3,840, it
+    // many units as that says. Where the committed numbers that live records have fit a new status place, it
     // reads each sector at most once, from the first header to the seal of the status place. Done, the
     // status place is a new one, which was erased.
     ensures spends { OpeningSpends marks (tables_of parts.new) result (C.told chip.old) (C.told chip.new) }

@@ -13,7 +13,8 @@ ghost use Rattle.ipl_meaning.specs.LaidOut.{layout_in};
 ghost use Rattle.ipl_format.specs.Whole.{IsWhole};
 ghost use Rattle.restart.specs.Bytes.{IsRestWhole, ReadsBytes, ReadsBytesFor};
 ghost use Rattle.unit_io.specs.ReadsAt.{Anywhere, ReadsOnce};
-ghost use Rattle.restart.specs.Looks.{OnlyLooksAt, LooksOnce, HasCause, HasCauseFor, IsHeaderSpot, IsBehindHeader, MayHoldLog};
+ghost use Rattle.restart.specs.Looks.{OnlyLooksAt, LooksOnce, HasCause, HasCauseFor, HasCauseIn, numbers_in, IsHeaderSpot, IsBehindHeader, MayHoldLog};
+ghost use Rattle.txn_status.specs.ReadingIn.{numbers_at};
 ghost use Rattle.restart.specs.Memory.{HasScratch, AreMadeFor, KeepsMemory, KeepsPlaces};
 ghost use Rattle.restart.specs.Rest.{HaveHeaders, AreUnread, FindsRest, FillsTables};
 ghost use Rattle.restart.specs.Joins.{kept_of};
@@ -103,7 +104,8 @@ fn read_rest<C: Chip>(
     ensures spent { IfErr result (λ e. e ≡ Spent → OfContents (C.told chip.old) (λ x.
         IsRestWhole x geometry.places heads.now.all.now heads.now.current.now winner.now)) }
     ensures memory { KeepsPlaces geometry.places findings.old findings.new }
-    ensures looks { OnlyLooksAt (HasCauseFor aim.draws) result (C.told chip.old) (C.told chip.new) }
+    ensures looks { OnlyLooksAt (HasCauseIn findings.old.status.now.most
+        (λ c. numbers_at c (Some winner.now)) aim.draws) result (C.told chip.old) (C.told chip.new) }
     ensures once { ((s : ℕ)
         → ¬ MayHoldLog (at heads.now.all.now) (at heads.now.current.now) winner.now.place s)
         → ReadsOnce IsBehindHeader (C.told chip.old) (C.told chip.new) }
@@ -139,8 +141,8 @@ fn read_chip<C: Chip>(
     ensures bytes { ReadsBytesFor aim.draws geometry.places (C.told chip.old) result }
     ensures left { IfOk result (λ all. aim.draws ≡ true → all.greatest < 2 ^ 63) }
     ensures memory { KeepsMemory geometry.places table.old table.new findings.old findings.new }
-    ensures looks { LooksOnce Anywhere (HasCauseFor aim.draws) result
-        (C.told chip.old) (C.told chip.new) }
+    ensures looks { LooksOnce Anywhere (HasCauseIn findings.old.status.now.most
+        (numbers_in geometry.places) aim.draws) result (C.told chip.old) (C.told chip.new) }
 {
     let mut kept = HeadSector::none();
     let winner = read_headers(chip, geometry, heads, table, &mut kept)?;
@@ -214,10 +216,12 @@ impl Scratch {
 /// places as before.
 ///
 /// The numbers that are kept then are the committed ones that live log records have, where those are
-/// at most 3,840. It answers false where they are more, and what is kept says nothing then.
+/// no more than a new status place is given. It answers false where they are more, and what is kept says
+/// nothing then.
 ///
-/// Fails with the first fault of the chip, in the order that docs/RECOVERY.md tells, or with
-/// `Chip(ReadFault)` where a read of the chip failed.
+/// Fails with the first fault of the chip, in the order that docs/RECOVERY.md tells, with
+/// `Chip(ReadFault)` where a read of the chip failed, or with `TooManyNumbers` where more numbers are
+/// committed in its status place than have room.
 pub fn read_tables<C: Chip>(
     chip: &mut C,
     scratch: &mut Scratch,
@@ -228,8 +232,10 @@ pub fn read_tables<C: Chip>(
     requires scratch { scratch.old ≡ (C.told chip.old).places }
     requires directory { length parts.old.directory.in_use ≡ (C.told chip.old).places }
     requires overflow { parts.old.overflow.places ≡ (C.told chip.old).places }
+    requires room { numbers.old.room ≡ parts.old.status.most }
 
-    // It fails exactly with the first fault of the chip's contents, unless a read failed.
+    // It fails exactly with the first fault of the chip's contents, unless a read failed or the committed
+    // numbers have no room.
     ensures fault { OfContents (C.told chip.old) (λ x.
         TellsImageFault (first_fault (chart_of x) (C.told chip.old).places) result) }
 
@@ -242,12 +248,15 @@ pub fn read_tables<C: Chip>(
     // What it read is bytes, also where it fails since the numbers are used up.
     ensures bytes { ReadsBytes (C.told chip.old).places (C.told chip.old) result }
 
-    // It only reads, each sector at most once, and fails with no other cause than a fault of the contents
-    // or a failed read.
-    ensures looks { LooksOnce Anywhere HasCause result (C.told chip.old) (C.told chip.new) }
+    // It only reads, each sector at most once, and fails with no other cause than a fault of the contents,
+    // a failed read, or more committed numbers than have room, which all of a status place always have.
+    ensures looks { LooksOnce Anywhere (HasCause parts.old.status.most) result
+        (C.told chip.old) (C.told chip.new) }
     ensures sized { (scratch.new ≡ scratch.old)
         × (length parts.new.directory.in_use ≡ length parts.old.directory.in_use)
         × (parts.new.overflow.places ≡ parts.old.overflow.places) }
+    ensures room { (parts.new.status.most ≡ parts.old.status.most)
+        × (numbers.new.room ≡ numbers.old.room) }
 
     // The same sessions are open.
     ensures active { parts.new.active ≡ parts.old.active }
@@ -285,8 +294,10 @@ pub fn survey<C: Chip>(
     requires scratch { scratch.old ≡ (C.told chip.old).places }
     requires directory { length directory.old.in_use ≡ (C.told chip.old).places }
     requires overflow { overflow.old.places ≡ (C.told chip.old).places }
+    requires room { numbers.old.room ≡ status.old.most }
 
-    // It fails exactly with the first fault of how the chip is laid out, unless a read failed.
+    // It fails exactly with the first fault of how the chip is laid out, unless a read failed or the
+    // committed numbers have no room.
     ensures fault { OfContents (C.told chip.old) (λ x.
         TellsImageFault (shape_fault (chart_of x) (C.told chip.old).places) result) }
 
@@ -306,12 +317,14 @@ pub fn survey<C: Chip>(
     ensures known { OnOk result ((counter : ℕ) × KnowsPlaces (C.told chip.old).places
         (tables_of directory.new overflow.new status.new counter)) }
 
-    // It only reads, each sector at most once, and fails with no other cause than a fault of the contents
-    // or a failed read.
-    ensures looks { LooksOnce Anywhere (HasCauseFor false) result (C.told chip.old) (C.told chip.new) }
+    // It only reads, each sector at most once, and fails with no other cause than a fault of the contents,
+    // a failed read, or more committed numbers than have room, which all of a status place always have.
+    ensures looks { LooksOnce Anywhere (HasCauseIn status.old.most
+        (numbers_in (C.told chip.old).places) false) result (C.told chip.old) (C.told chip.new) }
     ensures sized { (scratch.new ≡ scratch.old)
         × (length directory.new.in_use ≡ length directory.old.in_use)
         × (overflow.new.places ≡ overflow.old.places) }
+    ensures room { (status.new.most ≡ status.old.most) × (numbers.new.room ≡ numbers.old.room) }
 {
     let mut findings = Findings {
         noted: &mut scratch.noted,

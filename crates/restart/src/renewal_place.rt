@@ -29,7 +29,7 @@ fn header_of(directory: &Directory, place: u32) -> StatusHeader
 }
 
 /// Makes the least worn free place the status place, the lowest on a tie, with exactly those
-/// committed numbers that have a flag, at most 3,840: the place is taken, erased and written, and the
+/// committed numbers that have a flag, no more than it is given: the place is taken, erased and written, and the
 /// old status place is free then. A place that is found worn is retired, and the next one is taken. The
 /// header says how often the place was erased, and lists exactly the places that are retired then, also
 /// those of this call. It
@@ -47,7 +47,7 @@ pub(crate) fn renew_place<C: Chip>(
     kept: &Flags,
 ) -> Result<(), ChipFault>
     requires may { MayMoveStatus (C.told chip.old).places directory.old status.old }
-    requires fits { FitStatusPlace (flagged kept.now status.old.numbers) }
+    requires fits { FitStatusPlace status.old.most (flagged kept.now status.old.numbers) }
     requires left { counter.old + 65 < 2 ^ 64 }
 
     // What the tables have, whatever the chip tells.
@@ -72,6 +72,7 @@ pub(crate) fn renew_place<C: Chip>(
         (C.told chip.old) (C.told chip.new) }
 {
     directory_laws();
+    status.facts();
     let old = status.place();
     let generation = counter.draw();
     let place = take_place(chip, directory)?;

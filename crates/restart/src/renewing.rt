@@ -29,6 +29,8 @@ pub(crate) fn renew_with<C: Chip>(
     requires left { parts.old.counter + 2 ^ 14 < 2 ^ 64 }
     requires exact { found ≡ true → KeepsAll (C.told chip.old).places (tables_of parts.old)
         (flagged kept.old parts.old.status.numbers) (C.told chip.old) }
+    requires room { kept.old.room ≡ parts.old.status.most }
+    ensures room { kept.new.room ≡ kept.old.room }
     ensures renews { RenewsStatus (tables_of parts.old) (tables_of parts.new) result
         (C.told chip.old) (C.told chip.new) }
     ensures unread { OnTrue found (Spends ReadsNothing (C.told chip.old) (C.told chip.new)) }
@@ -47,7 +49,8 @@ pub(crate) fn renew_with<C: Chip>(
     )
 }
 
-/// Writes a new status place with the committed numbers that live records still have, at most 3,840.
+/// Writes a new status place with the committed numbers that live records still have, at most 3,840, and
+/// so few that those of one commit have room in memory besides.
 /// They are found unit by unit; a unit whose numbers don't fit any more is merged, and has no record
 /// of a committed number then. One that can't be, for what the chip holds, keeps its numbers before all
 /// others. What the list of numbers has then says nothing.
@@ -64,6 +67,8 @@ pub fn renew<C: Chip>(
 ) -> Result<(), ChipFault>
     requires known { KnowsPlaces (C.told chip.old).places (tables_of parts.old) }
     requires left { parts.old.counter + 2 ^ 14 < 2 ^ 64 }
+    requires room { kept.old.room ≡ parts.old.status.most }
+    ensures room { kept.new.room ≡ kept.old.room }
 
     // What the chip holds then, and what a power cut leaves.
     ensures tells { RenewsTold (C.told chip.old).places (tables_of parts.old) (tables_of parts.new)

@@ -2,6 +2,7 @@ use Rattle.std.proofs.Common.{[], ◌∷◌, sym, ◌∙◌, ap}
 use Rattle.log_records.specs.Reading.{records_of}
 use Rattle.log_records.specs.View.{record_of, Versioned}
 use Rattle.log_records.proofs.RecordsLemmas.{records_list}
+use Rattle.txn_status.specs.Status.{keeps_of}
 use Rattle.restart.proofs.JoinLemmas.{left_first, left_full}
 use Rattle.restart.proofs.joining.add_payload.Goals as goal
 
@@ -18,4 +19,4 @@ returns-then-not-add_number-clause-full c =
     left_full c.args.status.now.numbers (records_of c.loop-logged.logged-iterator.version c.loop-logged.logged-iterator.bytes)
     (record_of c.in-Some.logged ∷ []) (records_of c.next.new.self.version c.next.new.self.bytes)
     (records_of c.args.payload.now.version c.args.payload.now.bytes) c.loop-logged.kept c.args.kept.now c.in-Some.ensures.steps
-    c.loop-logged.invariant c.if-not-add_number.ensures.full
+    c.loop-logged.invariant (keeps_of c.args.status.now.most) c.if-not-add_number.ensures.full

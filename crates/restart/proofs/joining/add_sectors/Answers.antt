@@ -3,6 +3,7 @@ use Rattle.std.proofs.lemmas.List.{drop_more}
 use Rattle.log_records.specs.Reading.{records_of}
 use Rattle.unit_log.specs.declared.scratch.LogSector.{LogSector}
 use Rattle.unit_log.specs.Kept.{records_kept}
+use Rattle.txn_status.specs.Status.{keeps_of}
 use Rattle.restart.proofs.JoinLemmas.{left_part, left_full}
 use Rattle.restart.proofs.joining.add_sectors.Goals as goal
 
@@ -22,7 +23,7 @@ returns-then-not-add_payload-clause-full c =
     left_full c.args.status.now.numbers (records_kept (drop i sectors)) (records_of item.payload.version item.payload.bytes)
     (records_kept (drop (i + 1) sectors)) (records_kept sectors) c.loop-sector.kept c.args.kept.now
     (step sectors i item c.loop-sector-test.true c.sector-item.is) c.loop-sector.invariant
-    c.if-not-add_payload.ensures.full
+    (keeps_of c.args.status.now.most) c.if-not-add_payload.ensures.full
 
 pub loop-sector-preserved : goal.loop-sector-preserved
 loop-sector-preserved c =

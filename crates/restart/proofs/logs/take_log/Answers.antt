@@ -48,7 +48,7 @@ pub returns-then-is_live-clause-collected : goal.returns-then-is_live-clause-col
 returns-then-is_live-clause-collected c = λ found are.
     subst (λ (o : Option Sector). AreKept (joined c.args.findings.now.status.now.numbers (records_at o) found) c.collect-fits.result (kept_of c.args.findings.now.status.now.numbers c.collect-fits.new.numbers))
     (sym (some_live (at c.args.heads.now.all.now) (at c.args.heads.now.current.now) c.args.spot.place (sector_of c.args.head.now c.args.payload.now) (sym (c.is_live.ensures c.args.payload.now) ∙ c.if-is_live.true)))
-    (c.collect-fits.ensures found are)
+    (c.collect-fits.ensures.kept found are)
 
 pub returns-clause-collected : goal.returns-clause-collected
 returns-clause-collected c = λ found are.

@@ -1,4 +1,4 @@
-use Rattle.std.proofs.Common.{◌≡◌, ◌<◌, ◌-◌, ◌∙◌, ℕ, Bool, length, false, Ok, Err, refl, sym, ap, subst, arith}
+use Rattle.std.proofs.Common.{◌≡◌, ◌<◌, ◌≤◌, ◌-◌, ◌∙◌, ℕ, Bool, length, false, Ok, Err, refl, sym, ap, subst, arith}
 use Rattle.std.proofs.lemmas.Result.{err_from_is_err_and}
 use Rattle.std.proofs.lemmas.Bool.{OnTrue_from, false≢true}
 use Rattle.chip_trait.proofs.CountsLemmas.{counts_none}
@@ -6,12 +6,14 @@ use Rattle.ipl_meaning.specs.Chart.{chart_of}
 use Rattle.ipl_meaning.specs.Mirrors.{Mirrors}
 use Rattle.number_set.specs.Flags.{has_flag, flagged}
 use Rattle.number_set.proofs.FlagLemmas.{flagged_rise}
+use Rattle.ipl_meaning.specs.Tables.{StatusTable}
 use Rattle.selective_merge.specs.Known.{KnowsPlaces}
 use Rattle.selective_merge.specs.Moving.{tables_of}
 use Rattle.unit_io.specs.Costs.{Spends}
 use Rattle.unit_io.specs.Unread.{ReadsNothing}
 use Rattle.unit_io.proofs.MapLemmas.{nothing_keeps}
 use Rattle.unit_io.proofs.UnreadLemmas.{unread_none}
+use Rattle.txn_status.specs.Status.{keeps_of}
 use Rattle.restart.specs.Passes.{HasFound, KeepsInSteps}
 use Rattle.restart.specs.Passing.{Begins, OnAnswer}
 use Rattle.restart.specs.Turns.{ended_below}
@@ -32,7 +34,8 @@ pub returns-then-found-clause-passes : goal.returns-then-found-clause-passes
 returns-then-found-clause-passes g c = λ places x it same is mirrors.
     passed_all places x it (tables_of c.args.parts.now) mirrors (flagged c.args.kept.now c.args.parts.now.status.numbers)
     (flagged_rise (has_flag c.args.kept.now.bytes) 0 c.args.parts.now.status.numbers c.facts.ensures.rising)
-    (c.flags.ensures.few c.args.parts.now.status.numbers)
+    (subst (λ (most : ℕ). length (flagged c.args.kept.now c.args.parts.now.status.numbers) ≤ keeps_of most) c.requires.room
+    (c.flags.ensures.few c.args.parts.now.status.numbers))
     (c.requires.exact c.if-found.true x is it
     (subst (λ n. Mirrors n (chart_of x) it (tables_of c.args.parts.now)) (sym same) mirrors))
     (g.C.Chip.told c.args.chip.now) is
@@ -80,6 +83,7 @@ passes-init g c =
           c.none-turns.ensures.open;
       walks = walks_none tt c.none-turns.result t told c.requires.known;
       left = omega (arith, c.requires.left, c.facts-2.ensures.units, c.facts-2.ensures.places);
+      room = refl;
     }
 
 pub try_pass-requires-clause-known : goal.try_pass-requires-clause-known
@@ -123,6 +127,7 @@ passes-preserved g c =
       walks = walks_then {S = Unit {0}} tt first before ended t between after old mid new (Ok tt) so.walks
           (walks_answered c.in_ok-try_pass.field-0 tt before ended between after mid new tried.walks);
       left = left_then {T = Bool} before ended between after (Ok c.in_ok-try_pass.field-0) mid new tried.walks so.left;
+      room = tried.room ∙ so.room;
     }
 
 pub returns-clause-passes : goal.returns-clause-passes
@@ -241,3 +246,13 @@ returns-in_err-try_pass-clause-leaves g c =
 
 pub returns-clause-same : goal.returns-clause-same
 returns-clause-same g c = λ is. absurd (false≢true (sym c.if-found.false ∙ is))
+
+pub try_pass-requires-clause-room : goal.try_pass-requires-clause-room
+try_pass-requires-clause-room g c = c.passes.invariant.room ∙ c.requires.room
+    ∙ sym (ap (λ (s : StatusTable). s.most) c.passes.invariant.walks.leaves.holds.status)
+
+pub returns-in_err-try_pass-clause-room : goal.returns-in_err-try_pass-clause-room
+returns-in_err-try_pass-clause-room g c = c.try_pass.ensures.room ∙ c.passes.invariant.room
+
+pub returns-clause-room : goal.returns-clause-room
+returns-clause-room g c = c.try_pass.ensures.room ∙ c.passes.invariant.room

@@ -21,4 +21,5 @@ invariant-passes g l = record {
   walks : Walks {T = Unit {0}} l.initial.turns l.turns (tables_of l.fn.parts) (tables_of l.parts) (Ok tt)
       (g.C.Chip.told l.fn.chip) (g.C.Chip.told l.chip);
   left : AreLeft l.parts.counter l.parts.directory l.turns;
+  room : l.kept.room ≡ l.fn.kept.room;
 }

@@ -1,6 +1,7 @@
-use Rattle.std.proofs.Common.{◌≡◌, ◌∙◌, ℕ, Ok, Err, sym, ap, subst, arith}
+use Rattle.std.proofs.Common.{◌≡◌, ◌∙◌, ℕ, Ok, Err, refl, sym, ap, subst, arith}
 use Rattle.std.proofs.lemmas.Result.{err_from_is_err_and}
 use Rattle.number_set.specs.Flags.{flagged}
+use Rattle.ipl_meaning.specs.Tables.{StatusTable}
 use Rattle.selective_merge.specs.Known.{KnowsPlaces}
 use Rattle.selective_merge.specs.Moving.{tables_of}
 use Rattle.restart.specs.Passing.{HasHeld}
@@ -14,6 +15,7 @@ loop-unit-init g c = record {
   walks = walks_none tt c.args.turns.now (tables_of c.args.parts.now) (g.C.Chip.told c.args.chip.now)
       c.requires.known;
   exact = c.requires.exact;
+  room = refl;
 }
 
 pub hold_unit-requires-clause-known : goal.hold_unit-requires-clause-known
@@ -53,6 +55,7 @@ loop-unit-preserved g c =
           (tables_of c.hold_unit.new.parts) (g.C.Chip.told c.args.chip.now) (g.C.Chip.told c.loop-unit.chip)
           (g.C.Chip.told c.hold_unit.new.chip) (Ok tt) so.walks c.in_ok-hold_unit.ensures.walks;
       exact = c.hold_unit.ensures.exact;
+      room = c.hold_unit.ensures.room ∙ so.room;
     }
 
 pub returns-clause-holds : goal.returns-clause-holds
@@ -70,3 +73,13 @@ returns-clause-holds g c = λ places x it t was.
     held_all places x it t c.args.turns.now (flagged c.loop-unit.kept c.loop-unit.parts.status.numbers) (g.C.Chip.told c.loop-unit.chip)
     (tables_of c.loop-unit.parts) (subst (λ (n : ℕ). HasHeld n places x it t c.args.turns.now
     (flagged c.loop-unit.kept c.loop-unit.parts.status.numbers) (g.C.Chip.told c.loop-unit.chip) (tables_of c.loop-unit.parts)) all so)
+
+pub hold_unit-requires-clause-room : goal.hold_unit-requires-clause-room
+hold_unit-requires-clause-room g c = c.loop-unit.invariant.room ∙ c.requires.room
+    ∙ sym (ap (λ (s : StatusTable). s.most) c.loop-unit.invariant.walks.leaves.holds.status)
+
+pub returns-in_err-hold_unit-clause-room : goal.returns-in_err-hold_unit-clause-room
+returns-in_err-hold_unit-clause-room g c = c.hold_unit.ensures.room ∙ c.loop-unit.invariant.room
+
+pub returns-clause-room : goal.returns-clause-room
+returns-clause-room g c = c.loop-unit.invariant.room

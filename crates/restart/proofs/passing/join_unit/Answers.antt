@@ -1,4 +1,4 @@
-use Rattle.std.proofs.Common.{◌≡◌, ◌<◌, ◌≤◌, ◌∙◌, ℕ, Bool, true, false, IsTrue, List, Err, length, refl, sym, ap, subst, arith}
+use Rattle.std.proofs.Common.{◌≡◌, ◌<◌, ◌≤◌, ◌∙◌, Bool, true, false, IsTrue, List, Err, length, refl, sym, ap, subst, arith}
 use Rattle.std.specs.Prelude.{◌↔◌}
 use Rattle.std.specs.Bool.{OnTrue, OnFalse}
 use Rattle.std.proofs.lemmas.Bool.{le-leb, lt-leb}
@@ -6,10 +6,12 @@ use Rattle.std.proofs.lemmas.Result.{err_from_is_err_and}
 use Rattle.ipl_base.specs.Calls.{IsFailedCall}
 use Rattle.ipl_format.specs.Record.{Record}
 use Rattle.ipl_meaning.specs.Layout.{Shape, records_of}
+use Rattle.ipl_meaning.specs.Tables.{StatusTable}
 use Rattle.number_set.specs.Flags.{Flags, has_flag, flagged}
 use Rattle.number_set.proofs.FlagLemmas.{flagged_rise}
 use Rattle.selective_merge.specs.Moving.{tables_of}
 use Rattle.unit_log.specs.Kept.{records_kept}
+use Rattle.txn_status.specs.Status.{keeps_of}
 use Rattle.restart.specs.Joins.{joined}
 use Rattle.restart.specs.Passing.{IsJoined}
 use Rattle.restart.proofs.JoinLemmas.{too_many}
@@ -25,20 +27,20 @@ returns-in_err-read_live-clause-joins g c = λ x told it mirrors.
     (record { mirrors = mirrors; directory_is = refl; overflow_is = refl }))) tt)
 
 -- whether they are few enough, and what is kept then
-joins_so : (numbers : List ℕ) (it : Shape) (kept next : Flags) (records : List Record) (fits : Bool)
+joins_so : (status : StatusTable) (it : Shape) (kept next : Flags) (records : List Record) (fits : Bool)
     → records ≡ records_of it.log
-    → (IsTrue fits ↔ (length (joined numbers records (flagged kept numbers)) ≤ 3840))
-    → OnTrue fits (flagged next numbers ≡ joined numbers records (flagged kept numbers))
-    → OnFalse fits (next ≡ kept) → IsJoined numbers it (flagged kept numbers) (flagged next numbers) fits
-joins_so numbers it kept next records true are few made same = (
-  le-leb _ _ (subst (λ (rs : List Record). length (joined numbers rs (flagged kept numbers)) ≤ 3840) are
+    → (IsTrue fits ↔ (length (joined status.numbers records (flagged kept status.numbers)) ≤ keeps_of status.most))
+    → OnTrue fits (flagged next status.numbers ≡ joined status.numbers records (flagged kept status.numbers))
+    → OnFalse fits (next ≡ kept) → IsJoined status it (flagged kept status.numbers) (flagged next status.numbers) fits
+joins_so status it kept next records true are few made same = (
+  le-leb _ _ (subst (λ (rs : List Record). length (joined status.numbers rs (flagged kept status.numbers)) ≤ keeps_of status.most) are
       (few.0 refl)),
-  made ∙ ap (λ (rs : List Record). joined numbers rs (flagged kept numbers)) are,
+  made ∙ ap (λ (rs : List Record). joined status.numbers rs (flagged kept status.numbers)) are,
 )
-joins_so numbers it kept next records false are few made same = (
-  lt-leb _ _ (subst (λ (rs : List Record). 3840 < length (joined numbers rs (flagged kept numbers))) are
-      (too_many false _ few refl)),
-  ap (λ (k : Flags). flagged k numbers) same,
+joins_so status it kept next records false are few made same = (
+  lt-leb _ _ (subst (λ (rs : List Record). keeps_of status.most < length (joined status.numbers rs (flagged kept status.numbers))) are
+      (too_many (keeps_of status.most) false _ few refl)),
+  ap (λ (k : Flags). flagged k status.numbers) same,
 )
 
 pub returns-clause-joins : goal.returns-clause-joins
@@ -48,7 +50,7 @@ returns-clause-joins g c = λ x told it mirrors.
     let live = c.in_ok-read_live.ensures.exact x told it (tables_of c.args.parts.now)
     (record { mirrors = mirrors; directory_is = refl; overflow_is = refl }) in
     let log = (it.units unit).log in
-    joins_so c.args.parts.now.status.numbers (it.units unit) c.args.kept.now c.join.new.self
+    joins_so c.args.parts.now.status (it.units unit) c.args.kept.now c.join.new.self
     (records_kept c.sectors.result.now) c.join.result
     (ap records_kept (c.sectors.ensures.sectors ∙ live.log)
     ∙ records_are_logged _ (g.C.Chip.told c.args.chip.now).places unit (it.units unit).home

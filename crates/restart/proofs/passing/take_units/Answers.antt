@@ -1,6 +1,7 @@
-use Rattle.std.proofs.Common.{◌≡◌, ◌+◌, ◌∙◌, ℕ, Bool, false, Ok, Err, sym, ap, subst, arith}
+use Rattle.std.proofs.Common.{◌≡◌, ◌+◌, ◌∙◌, ℕ, Bool, false, Ok, Err, refl, sym, ap, subst, arith}
 use Rattle.std.proofs.lemmas.Result.{err_from_is_err_and}
 use Rattle.number_set.specs.Flags.{flagged}
+use Rattle.ipl_meaning.specs.Tables.{StatusTable}
 use Rattle.selective_merge.specs.Known.{KnowsPlaces}
 use Rattle.selective_merge.specs.Moving.{tables_of}
 use Rattle.restart.specs.Passing.{Begins, HasPassed, OnAnswer}
@@ -14,6 +15,7 @@ loop-unit-init g c = record {
   walks = walks_none tt c.args.turns.now (tables_of c.args.parts.now) (g.C.Chip.told c.args.chip.now)
       c.requires.known;
   exact = c.requires.exact;
+  room = refl;
 }
 
 pub take_unit-requires-clause-known : goal.take_unit-requires-clause-known
@@ -87,6 +89,7 @@ loop-unit-preserved g c =
           (walks_answered c.in_ok-take_unit.field-0 tt c.loop-unit.turns ended between after mid new
           c.in_ok-take_unit.ensures.walks);
       exact = c.take_unit.ensures.exact;
+      room = c.take_unit.ensures.room ∙ so.room;
     }
 
 pub returns-clause-takes : goal.returns-clause-takes
@@ -104,3 +107,16 @@ returns-clause-takes g c = λ places x it t was.
     passed_found places x it t c.loop-unit.turns (flagged c.loop-unit.kept c.loop-unit.parts.status.numbers) (g.C.Chip.told c.loop-unit.chip)
     (tables_of c.loop-unit.parts) (subst (λ (n : ℕ). HasPassed n places x it t c.loop-unit.turns
     (flagged c.loop-unit.kept c.loop-unit.parts.status.numbers) (g.C.Chip.told c.loop-unit.chip) (tables_of c.loop-unit.parts)) all so)
+
+pub take_unit-requires-clause-room : goal.take_unit-requires-clause-room
+take_unit-requires-clause-room g c = c.loop-unit.invariant.room ∙ c.requires.room
+    ∙ sym (ap (λ (s : StatusTable). s.most) c.loop-unit.invariant.walks.leaves.holds.status)
+
+pub returns-in_err-take_unit-clause-room : goal.returns-in_err-take_unit-clause-room
+returns-in_err-take_unit-clause-room g c = c.take_unit.ensures.room ∙ c.loop-unit.invariant.room
+
+pub returns-clause-room : goal.returns-clause-room
+returns-clause-room g c = c.loop-unit.invariant.room
+
+pub returns-then-not-branch-clause-room : goal.returns-then-not-branch-clause-room
+returns-then-not-branch-clause-room g c = c.take_unit.ensures.room ∙ c.loop-unit.invariant.room

@@ -1,4 +1,4 @@
-use Rattle.std.proofs.Common.{ℕ, Ok}
+use Rattle.std.proofs.Common.{◌≡◌, ℕ, Ok}
 use Rattle.chip_trait.specs.Story.{Contents}
 use Rattle.ipl_meaning.specs.Layout.{Layout}
 use Rattle.ipl_meaning.specs.Tables.{Tables}
@@ -16,4 +16,5 @@ invariant-loop-unit g l = record {
   walks : Walks {T = Unit {0}} l.fn.turns l.turns (tables_of l.fn.parts) (tables_of l.parts) (Ok tt)
       (g.C.Chip.told l.fn.chip) (g.C.Chip.told l.chip);
   exact : IsExact (kept_of l.parts.status.numbers l.kept);
+  room : l.kept.room ≡ l.fn.kept.room;
 }

@@ -18,11 +18,12 @@ use Rattle.place_taking.proofs.HomeLemmas.{homes_same}
 use Rattle.place_taking.specs.Spending.{tells_worn}
 use Rattle.restart.specs.Securing.{knows_logs, waits_for}
 use Rattle.restart.specs.Recovers.{HasOpened, ErasesOpening, ErasesWaiting, LeavesOpened, RecoversInSteps, tells_wear}
-use Rattle.restart.specs.Passes.{TellsChart, KeepsAll, RenewCause, RenewsTold, KeepsInSteps, FailsAsRenewal, CompletesRenewal}
+use Rattle.restart.specs.Passes.{TellsChart, FitTogether, KeepsAll, RenewCause, RenewsTold, KeepsInSteps, FailsAsRenewal, CompletesRenewal}
 use Rattle.restart.proofs.CostLemmas.{erases_more, waiting_alone, waiting_then, waiting_ended, waiting_then_renewed, reads_then_wait}
 use Rattle.restart.proofs.RecoverLemmas.{of_parts, opened_parts, reading_cause, reading_not_worn, renewing_cause, opens_told, opens_done, fault_looks, sound_looks, reads_recover, securing_failed, recovers_done, recovers_failed, tidies_settled, tidies_renewed, tidies_ended}
 use Rattle.restart.proofs.CompleteLemmas.{mergeable_but, call_failed, reading_failed, stopped_failed}
 use Rattle.restart.proofs.FaultLemmas.{opening_fault}
+use Rattle.txn_status.specs.Status.{keeps_of}
 use Rattle.restart.specs.Joins.{kept_of}
 use Rattle.restart.proofs.FoundLemmas.{all_kept, once_where_fit, unread_first}
 use Rattle.restart.proofs.SecuringLemmas.{forgotten, homes_forgotten, no_waits, none_known, unknown_logs, wait_contents, wait_unread, wait_costs, known_ended, none_marked}
@@ -30,13 +31,17 @@ use Rattle.restart.proofs.TidyLemmas.{tidies_nothing, tidies_opened}
 use Rattle.restart.proofs.CountedMarkLemmas.{takes_marks}
 use Rattle.restart.proofs.recovering.recover.Goals as goal
 
+-- as many numbers have room from the first table to the last, and the flags were made for these
+same_limit : {flags kept was most now : ℕ} → flags ≡ kept → kept ≡ was → most ≡ was → now ≡ most → keeps_of flags ≡ keeps_of now
+same_limit read made still last = ap keeps_of (read ∙ made ∙ sym still ∙ sym last)
+
 -- ---- it was only read
 
 pub returns-in_err-found-clause-tells : goal.returns-in_err-found-clause-tells
 returns-in_err-found-clause-tells g c = λ x told.
     let old = g.C.Chip.told c.args.chip.now in
     let e = err_from_is_err_and c.from_residual.result c.from_residual.ensures.1 in
-    rw (e.1 ∙ ap Err e.2) (λ unfailed. opens_told old.places x
+    rw (e.1 ∙ ap Err e.2) (λ unfailed. opens_told c.args.parts.now.status.most old.places x
     c.in_err-found.field-0.0 old (g.C.Chip.told c.read_tables.new.chip)
     (c.in_err-found.ensures.fault x told) c.in_err-found.ensures.looks.only.cause unfailed)
 
@@ -59,9 +64,9 @@ returns-in_err-found-clause-fails g c =
     rw (e.1 ∙ ap Err e.2) (record {
       looks = λ x told first is. (
         c.read_tables.ensures.looks.only.reads,
-        fault_looks old.places x fault first old mid (says.fault x told) says.looks.only.cause is,
+        fault_looks c.args.parts.now.status.most old.places x fault first old mid (says.fault x told) says.looks.only.cause is,
       );
-      complete = λ x told m some none pages all fit. reading_failed old.places (chart_of x) fault old mid
+      complete = λ x told m some none pages all fit. reading_failed c.args.parts.now.status.most old.places (chart_of x) fault old mid
           (says.fault x told) says.looks.only.cause none;
       bytes = λ x told. says.bytes x told;
     })
@@ -83,7 +88,7 @@ returns-in_err-found-clause-leaves g c =
       tidy = tidies_nothing Anywhere c.args.marks old.places fault after old mid looks.only.reads;
       accounts = record {
         counts = looks.only.reads.counts;
-        cause = reading_cause after.places fault old mid looks.only.cause;
+        cause = reading_cause c.args.parts.now.status.most after.status.most after.places fault old mid c.read_tables.ensures.room.0 looks.only.cause;
       };
     })
 
@@ -95,7 +100,7 @@ returns-in_err-found-clause-spends g c =
     let found = forgotten after in
     let fault = c.in_err-found.field-0.0 in
     let still : tells_wear fault ≡ false =
-    reading_not_worn fault old mid c.in_err-found.ensures.looks.only.cause in
+    reading_not_worn c.args.parts.now.status.most fault old mid c.in_err-found.ensures.looks.only.cause in
     let e = err_from_is_err_and c.from_residual.result c.from_residual.ensures.1 in
     rw (e.1 ∙ ap Err e.2) (record {
       costs = record {
@@ -157,7 +162,7 @@ returns-in_err-secure_marks-clause-fails g c =
       looks = sound_looks old.places old (Err (Chip fault)) settled c.in_ok-found.ensures.fault;
       complete = λ x told m some none says all fit. stopped_failed fault mid settled
           c.in_err-secure_marks.ensures.accounts.cause;
-      bytes = λ x told no_read no_stop why. c.in_ok-found.ensures.bytes x told;
+      bytes = λ x told no_read no_stop roomy why. c.in_ok-found.ensures.bytes x told;
     })
 
 pub returns-in_err-secure_marks-clause-leaves : goal.returns-in_err-secure_marks-clause-leaves
@@ -185,7 +190,7 @@ returns-in_err-secure_marks-clause-leaves g c =
       marked = tt;
       accounts = record {
         counts = counts_then old mid settled reads.counts stopped.counts;
-        cause = renewing_cause t.places fault old mid settled reads.counts
+        cause = renewing_cause t.status.most t.places fault old mid settled reads.counts
             (subst (λ (f : ChipFault). RenewCause t.places f mid settled) (sym stopped.cause.0)
             stopped.cause.1);
       };
@@ -324,8 +329,8 @@ returns-in_err-renew_with-clause-fails g c =
           (wait_contents (knows_logs c.read_tables.new.parts.directory) mid settled
           c.in_ok-secure_marks.ensures.waits ∙ reads.contents ∙ told) it parts.1
           some (mergeable_but old.places (chart_of x) it m some t says all (c.read_tables.ensures.active ∙ c.requires.active))
-          fit);
-      bytes = λ x told no_read no_stop why. c.in_ok-found.ensures.bytes x told;
+          (subst (λ (most : ℕ). FitTogether most it some) (sym c.read_tables.ensures.room.0) fit));
+      bytes = λ x told no_read no_stop roomy why. c.in_ok-found.ensures.bytes x told;
     })
 
 pub returns-in_err-renew_with-clause-leaves : goal.returns-in_err-renew_with-clause-leaves
@@ -358,7 +363,7 @@ returns-in_err-renew_with-clause-leaves g c =
       marked = tt;
       accounts = record {
         counts = counts_then old settled new counts leaves.accounts.counts;
-        cause = renewing_cause after.places fault old settled new counts leaves.accounts.cause;
+        cause = renewing_cause after.status.most after.places fault old settled new counts leaves.accounts.cause;
       };
     })
 
@@ -388,8 +393,9 @@ returns-in_err-renew_with-clause-spends g c =
         finds = λ is x told. (c.in_ok-found.ensures.found.opened x told).directory.retired;
         units = λ is x told. units ∙ (c.in_ok-found.ensures.found.mirrors x told).directory.units;
       };
-      once = once_where_fit old.places c.in_ok-found.found
+      once = once_where_fit c.renew_with.new.parts.status.most old.places c.in_ok-found.found
           (kept_of c.read_tables.new.parts.status.numbers c.read_tables.new.numbers) old mid new
+          (same_limit c.read_tables.ensures.room.1 c.requires.room c.read_tables.ensures.room.0 c.in_err-renew_with.ensures.renews.leaves.holds.most)
           c.read_tables.ensures.looks.once
           (unread_first c.in_ok-found.found mid settled new
           (wait_unread (knows_logs found) (Ok tt) mid settled c.in_ok-secure_marks.ensures.waits)
@@ -496,6 +502,7 @@ returns-clause-leaves g c =
           new leaves.tidy));
       marked = takes_marks c.args.marks old.places c.in_ok-found.found
           (kept_of c.read_tables.new.parts.status.numbers c.read_tables.new.numbers) t after old
+          (same_limit c.read_tables.ensures.room.1 c.requires.room c.read_tables.ensures.room.0 leaves.holds.most)
           found.found.exact found.found.knows found.found.collected
           (λ x told. (found.found.opened x told).status.first_is) found.found.laid
           (λ x told. leaves.holds.units ∙ (found.found.mirrors x told).directory.units)
@@ -533,8 +540,9 @@ returns-clause-spends g c =
             finds = λ is x told. (c.in_ok-found.ensures.found.opened x told).directory.retired;
             units = λ is x told. units ∙ (c.in_ok-found.ensures.found.mirrors x told).directory.units;
           });
-      once = once_where_fit old.places c.in_ok-found.found
+      once = once_where_fit c.renew_with.new.parts.status.most old.places c.in_ok-found.found
           (kept_of c.read_tables.new.parts.status.numbers c.read_tables.new.numbers) old mid new
+          (same_limit c.read_tables.ensures.room.1 c.requires.room c.read_tables.ensures.room.0 c.in_ok-renew_with.ensures.renews.leaves.holds.most)
           c.read_tables.ensures.looks.once
           (unread_first c.in_ok-found.found mid settled new
           (wait_unread (knows_logs found) (Ok tt) mid settled c.in_ok-secure_marks.ensures.waits)

@@ -7,7 +7,9 @@ use Rattle.ipl_meaning.proofs.OpenedLemmas.{opened_tables_mirror}
 use Rattle.unit_layout.specs.Retired.{may_be_retired}
 use Rattle.restart.specs.Kept.{retired_of}
 use Rattle.restart.specs.Shown.{ShowsHeaders, is_held}
-use Rattle.restart.proofs.LookLemmas.{reads_then, told_for, looks_again, looks_done, looks_for, looks_then}
+use Rattle.restart.proofs.LookLemmas.{reads_then, told_for, cause_in, looks_again, looks_done, looks_for, looks_in, looks_many}
+use Rattle.txn_status.specs.ReadingIn.{numbers_at}
+use Rattle.restart.specs.Looks.{numbers_in}
 use Rattle.restart.proofs.CommitLemmas.{opened_status}
 use Rattle.restart.proofs.OpenLemmas.{AreFound, are_found, shows_found, status_low, current_low, are_homes, all_tells, used_of, opened, has_free, read_bytes, laid}
 use Rattle.restart.proofs.CountLemmas.{counted_of, header_kinds}
@@ -72,6 +74,7 @@ read_rest-requires-clause-tables g c = record {
   overflow = c.requires.tables.overflow;
   units = c.adopt_all.ensures.adopted.units_are;
   blank = c.adopt_all.ensures.blank;
+  flags = c.requires.tables.flags;
 }
 
 pub fill_places-requires-clause-status : goal.fill_places-requires-clause-status
@@ -101,8 +104,9 @@ retire_listed-requires-clause-listed g c =
 
 pub returns-in_err-winner-clause-looks : goal.returns-in_err-winner-clause-looks
 returns-in_err-winner-clause-looks g c = record {
-  only = looks_for c.args.aim.draws c.from_residual.result
-      (looks_again c.read_headers.result c.from_residual.result c.read_headers.ensures.looks.only c.in_err-winner.was c.from_residual.ensures.1);
+  only = looks_in c.args.findings.now.status.now.most (numbers_in c.args.geometry.places) c.args.aim.draws c.from_residual.result
+      (looks_for c.args.aim.draws c.from_residual.result
+      (looks_again c.read_headers.result c.from_residual.result c.read_headers.ensures.looks.only c.in_err-winner.was c.from_residual.ensures.1));
   once = headers_alone (g.C.Chip.told c.args.chip.now) (g.C.Chip.told c.read_headers.new.chip) c.read_headers.ensures.looks.once;
 }
 
@@ -111,8 +115,11 @@ returns-in_err-gathered-clause-looks g c =
     let heads = c.read_headers.new.heads in
     let table = c.read_headers.new.table in
     let found = are_found c.args.geometry.places c.units.result heads table c.in_ok-winner.winner c.read_headers.new.kept c.units.ensures (c.read_headers.ensures.size ∙ c.requires.scratch.table) c.in_ok-winner.ensures.counts in record {
-      only = looks_then c.read_rest.result c.from_residual-in_err-gathered.result c.read_headers.ensures.looks.only.reads c.read_rest.ensures.looks c.in_err-gathered.was
-          c.from_residual-in_err-gathered.ensures.1;
+      only = looks_many c.args.findings.now.status.now.most (λ ch. numbers_at ch (Some c.in_ok-winner.winner)) (numbers_in c.args.geometry.places)
+          c.args.aim.draws c.args.aim.draws c.read_rest.result c.from_residual-in_err-gathered.result c.read_headers.ensures.looks.only.reads
+          (λ x told. ap (numbers_at (chart_of x)) (shows_found (chart_of x) c.args.geometry.places c.units.result heads table
+          c.in_ok-winner.winner c.units.ensures (c.in_ok-winner.ensures.shown x told)).status_is)
+          (λ e none. none) c.read_rest.ensures.looks c.in_err-gathered.was c.from_residual-in_err-gathered.ensures.1;
       once = all_once (g.C.Chip.told c.args.chip.now) (g.C.Chip.told c.read_headers.new.chip)
           (g.C.Chip.told c.read_rest.new.chip) c.read_headers.ensures.looks.once
           (c.read_rest.ensures.once (status_unlogged (at heads) (at (take c.units.result table)) (length heads) c.in_ok-winner.winner found.chosen.status_is));
@@ -390,6 +397,7 @@ returns-in_err-winner-clause-memory g c = record {
   size = c.requires.tables.directory;
   table = c.read_headers.ensures.size;
   room = (c.requires.tables.noted, c.requires.tables.overflow);
+  numbers = record { most = refl; flags = refl };
   references = record {
     noted = refl;
     directory = refl;
@@ -405,6 +413,7 @@ returns-in_err-gathered-clause-memory g c = record {
       (c.adopt_all.ensures.used.all ∙ c.requires.tables.directory);
   table = c.read_headers.ensures.size;
   room = c.read_rest.ensures.memory.room;
+  numbers = record { most = c.read_rest.ensures.memory.numbers.most; flags = c.read_rest.ensures.memory.numbers.flags };
   references = record {
     noted = c.read_rest.ensures.memory.references.noted;
     directory = c.read_rest.ensures.memory.references.directory;
@@ -426,6 +435,7 @@ returns-clause-memory g c =
       size = omega (arith, keeps.all, used.all);
       table = c.read_headers.ensures.size;
       room = (c.read_rest.ensures.memory.room.0, c.list_places.ensures.places ∙ c.read_rest.ensures.memory.room.1);
+      numbers = record { most = c.read_rest.ensures.memory.numbers.most; flags = c.read_rest.ensures.memory.numbers.flags };
       references = record {
         noted = c.read_rest.ensures.memory.references.noted;
         directory = c.read_rest.ensures.memory.references.directory;
@@ -441,7 +451,8 @@ pub returns-in_err-winner-clause-bytes : goal.returns-in_err-winner-clause-bytes
 returns-in_err-winner-clause-bytes g c =
     let old = g.C.Chip.told c.args.chip.now in
     let exit = c.from_residual.ensures.1 in
-    failed_bytes c.args.aim.draws c.args.geometry.places c.from_residual.result _ old old (g.C.Chip.told c.read_headers.new.chip) exit (told_for c.args.aim.draws _ _ _ c.in_err-winner.ensures.looks.only.cause)
+    failed_bytes {most = c.args.findings.now.status.now.most} {numbers = numbers_in c.args.geometry.places} c.args.aim.draws c.args.geometry.places c.from_residual.result _ old old (g.C.Chip.told c.read_headers.new.chip) exit
+    (cause_in c.args.findings.now.status.now.most (numbers_in c.args.geometry.places) c.args.aim.draws (told_for c.args.aim.draws _ _ _ c.in_err-winner.ensures.looks.only.cause))
     (λ x told. headers_tell_first c.args.aim.draws (chart_of x) c.args.geometry.places c.from_residual.result _ (omega arith) (omega arith) exit (c.in_err-winner.ensures.fault x told))
     (λ is x told. absurd (tells_unspent _ _ (header_unspent (chart_of x) c.args.geometry.places) (c.in_err-winner.ensures.fault x told) is))
 
@@ -452,7 +463,7 @@ returns-in_err-gathered-clause-bytes g c =
     let places = c.args.geometry.places in
     let heads = c.read_headers.new.heads in
     let table = c.read_headers.new.table in
-    failed_bytes c.args.aim.draws places c.from_residual-in_err-gathered.result _ old mid (g.C.Chip.told c.read_rest.new.chip) c.from_residual-in_err-gathered.ensures.1
+    failed_bytes {most = c.args.findings.now.status.now.most} {numbers = λ ch. numbers_at ch (Some c.in_ok-winner.winner)} c.args.aim.draws places c.from_residual-in_err-gathered.result _ old mid (g.C.Chip.told c.read_rest.new.chip) c.from_residual-in_err-gathered.ensures.1
     c.in_err-gathered.ensures.looks.cause (returns-in_err-gathered-clause-fault g c)
     (λ is x told. read_bytes x places heads (take c.units.result table) c.in_ok-winner.winner
     (shows_found (chart_of x) places c.units.result heads table c.in_ok-winner.winner c.units.ensures (c.in_ok-winner.ensures.shown x told))

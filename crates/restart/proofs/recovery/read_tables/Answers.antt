@@ -1,4 +1,4 @@
-use Rattle.std.proofs.Common.{◌∙◌, ◌+◌, ◌≡◌, ℕ, Bool, None, Err, rules, sym, subst}
+use Rattle.std.proofs.Common.{◌∙◌, ◌+◌, ◌≡◌, ℕ, Bool, true, None, Err, rules, sym, subst}
 use Rattle.ipl_meaning.specs.Chart.{chart_of}
 use Rattle.ipl_meaning.specs.Faults.{TellsImageFault, first_fault}
 use Rattle.ipl_meaning.specs.OpeningLaws.{IsByteChart}
@@ -6,6 +6,8 @@ use Rattle.ipl_meaning.specs.Opened.{tables_of}
 use Rattle.restart.specs.Bytes.{ReadsBytes}
 use Rattle.restart.specs.Joins.{kept_of}
 use Rattle.restart.specs.Finds.{FindsStore}
+use Rattle.restart.specs.Looks.{HasCauseIn, numbers_in}
+use Rattle.restart.proofs.LookLemmas.{looks_done}
 use Rattle.restart.proofs.recovery.read_tables.Goals.{in-Ok, in-Err}
 use Rattle.restart.proofs.recovery.read_tables.Goals as goal
 
@@ -40,4 +42,24 @@ returns-clause-bytes g c =
     elim c.match-read_chip.branch [
       | in-Ok w ↦ rw w.result-is (λ x told. subst (λ (n : ℕ). IsByteChart n (chart_of x)) size (w.in-Ok.ensures.bytes x told))
       | in-Err w ↦ rw w.result-is (subst (λ (n : ℕ). ReadsBytes {T = Bool} n old (Err w.in-Err.fault)) size w.in-Err.ensures.bytes)
+    ]
+
+pub returns-clause-looks : goal.returns-clause-looks
+returns-clause-looks g c =
+    let size = c.scratch.view_is ∙ c.requires.scratch in
+    let old = g.C.Chip.told c.args.chip.now in
+    let new = g.C.Chip.told c.read_chip.new.chip in
+    elim c.match-read_chip.branch [
+      | in-Ok w ↦ rw w.result-is (record {
+        only = looks_done _ w.in-Ok.ensures.looks.only.reads;
+        once = w.in-Ok.ensures.looks.once;
+      })
+      | in-Err w ↦ rw w.result-is (record {
+        only = record {
+          reads = w.in-Err.ensures.looks.only.reads;
+          cause = subst (λ (n : ℕ). HasCauseIn c.args.parts.now.status.most (numbers_in n) true w.in-Err.fault old new) size
+              w.in-Err.ensures.looks.only.cause;
+        };
+        once = w.in-Err.ensures.looks.once;
+      })
     ]

@@ -1,4 +1,4 @@
-use Rattle.std.proofs.Common.{◌∙◌, ◌+◌, ◌≡◌, ℕ, None, Err, rules, subst}
+use Rattle.std.proofs.Common.{◌∙◌, ◌+◌, ◌≡◌, ℕ, false, None, Err, rules, subst}
 use Rattle.ipl_meaning.specs.Chart.{chart_of}
 use Rattle.ipl_meaning.specs.Layout.{Laid}
 use Rattle.ipl_meaning.specs.Mirrors.{Mirrors}
@@ -7,6 +7,9 @@ use Rattle.ipl_meaning.specs.Faults.{TellsImageFault, shape_fault, greatest_foun
 use Rattle.ipl_meaning.specs.LaidOut.{layout_in}
 use Rattle.ipl_meaning.specs.OpeningLaws.{IsByteChart}
 use Rattle.ipl_meaning.specs.Opened.{tables_of}
+use Rattle.unit_io.specs.ReadsAt.{Anywhere}
+use Rattle.restart.specs.Looks.{LooksOnce, HasCauseIn, numbers_in}
+use Rattle.restart.proofs.LookLemmas.{looks_done}
 use Rattle.restart.proofs.recovery.survey.Goals.{in-Ok, in-Err}
 use Rattle.restart.proofs.recovery.survey.Goals as goal
 
@@ -59,4 +62,21 @@ returns-clause-known g c =
           (tables_of now.directory.now now.overflow.now now.status.now (w.in-Ok.field-0.greatest + 1))) size w.in-Ok.ensures.found.known in
           (w.in-Ok.field-0.greatest + 1, search rules))
       | in-Err w ↦ rw w.result-is (search rules)
+    ]
+
+pub returns-clause-looks : goal.returns-clause-looks
+returns-clause-looks g c =
+    let size = c.scratch.view_is ∙ c.requires.scratch in
+    let old = g.C.Chip.told c.args.chip.now in
+    let new = g.C.Chip.told c.read_chip.new.chip in
+    elim c.match-read_chip.branch [
+      | in-Ok w ↦ rw w.result-is (record {
+        only = looks_done _ w.in-Ok.ensures.looks.only.reads;
+        once = w.in-Ok.ensures.looks.once;
+      })
+      | in-Err w ↦ rw w.result-is (subst (λ (n : ℕ). LooksOnce {T = Unit {0}} Anywhere
+          (HasCauseIn c.args.status.now.most (numbers_in n) false) (Err w.in-Err.fault) old new) size (record {
+            only = record { reads = w.in-Err.ensures.looks.only.reads; cause = w.in-Err.ensures.looks.only.cause };
+            once = w.in-Err.ensures.looks.once;
+          }))
     ]

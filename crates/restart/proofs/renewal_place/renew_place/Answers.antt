@@ -1,4 +1,4 @@
-use Rattle.std.proofs.Common.{◌≡◌, ◌<◌, ◌+◌, ◌∙◌, ℕ, List, length, slice_index, true, false, Result, Ok, Err, inl, inr, refl, sym, ap, subst, arith}
+use Rattle.std.proofs.Common.{◌≡◌, ◌<◌, ◌≤◌, ◌+◌, ◌∙◌, ℕ, List, length, slice_index, true, false, Result, Ok, Err, inl, inr, refl, sym, ap, subst, arith}
 use Rattle.std.proofs.lemmas.List.{length-set}
 use Rattle.std.proofs.lemmas.Result.{err_from_is_err_and}
 use Rattle.chip_trait.specs.Told.{Told}
@@ -13,7 +13,8 @@ use Rattle.place_taking.proofs.CountedLemmas.{keeps_given_back}
 use Rattle.place_taking.specs.Spending.{ErasesFor, tells_worn}
 use Rattle.place_taking.specs.Takes.{IsTakenFrom, with_places}
 use Rattle.place_taking.proofs.JoinLemmas.{costs_of_filled, taken_was_free, taken_within, tidy_taken, tidy_untaken}
-use Rattle.txn_status.specs.Status.{parts_of, switched_to}
+use Rattle.restart.proofs.RenewLemmas.{room_switched}
+use Rattle.txn_status.specs.Status.{parts_of, room_of, switched_to}
 use Rattle.txn_status.specs.Switching.{IsStatusSpot, Switches, SwitchesInSteps}
 use Rattle.unit_directory.specs.Free.{aside}
 use Rattle.unit_directory.proofs.AsideLemmas.{next_places_are_aside}
@@ -63,7 +64,7 @@ switch_tells places q units many erases counted retired listed generation next p
 -- the chip still has as many places as the directory
 pub switch-requires-clause-listed : goal.switch-requires-clause-listed
 switch-requires-clause-listed g c =
-    let facts = c.facts.ensures in
+    let facts = c.facts-2.ensures in
     let mid = g.C.Chip.told c.take_place.new.chip in
     let from = c.in_ok-place.ensures.taken in
     let after = c.take_place.new.directory in
@@ -180,12 +181,14 @@ returns-in-Ok-clause-moves g c =
         mid = c.take_place.new.directory;
         taken = c.in_ok-place.ensures.taken;
         status_is = placed.switched
-            ∙ ap (λ (n : ℕ). switched_to c.in_ok-place.place n (flagged c.args.kept.now c.args.status.now.numbers)) c.draw-generation.ensures.drawn;
+            ∙ ap (λ (n : ℕ). switched_to c.args.status.now.most c.in_ok-place.place n (flagged c.args.kept.now c.args.status.now.numbers)) c.draw-generation.ensures.drawn;
         places_is = c.give_back.ensures
             ∙ ap (λ (p : ℕ). with_use c.take_place.new.directory p false) c.place-old.ensures;
       };
       same = tt;
-      room = omega (arith, ap (λ (s : StatusTable). s.first) placed.switched, c.requires.fits.few);
+      room = subst (λ (s : StatusTable). 191 ≤ room_of s) (sym placed.switched)
+          (room_switched c.args.status.now.most c.in_ok-place.place c.draw-generation.result (flagged c.args.kept.now c.args.status.now.numbers)
+          c.facts.ensures.roomy c.requires.fits);
       free = moved_as_many c.directory_laws.ensures.takes c.directory_laws.ensures.gives_back
           c.args.directory.now c.take_place.new.directory c.give_back.new.self c.in_ok-place.place
           c.args.status.now.place c.requires.may.ready c.in_ok-place.ensures.taken c.requires.may.held
@@ -216,7 +219,7 @@ returns-in-Ok-clause-tells g c =
     let low : p < old.places = omega (arith, from.next.within, facts.all, c.requires.may.size) in
     let is = moved_to p c.place-old.result d c.take_place.new.directory after status new next drawn
     kept from.places_is c.place-old.ensures c.give_back.ensures
-    (c.in-Ok.ensures.moved.switched ∙ ap (λ (n : ℕ). switched_to p n kept) c.draw-generation.ensures.drawn)
+    (c.in-Ok.ensures.moved.switched ∙ ap (λ (n : ℕ). switched_to c.args.status.now.most p n kept) c.draw-generation.ensures.drawn)
     (omega (arith, c.in-Ok.ensures.moved.drawn, c.draw-generation.ensures.next)) in
     let mid = g.C.Chip.told c.take_place.new.chip in
     let told = g.C.Chip.told c.switch.new.chip in
@@ -257,7 +260,7 @@ returns-in-Ok-clause-steps g c =
     let d = aside first from.worn in
     let is = moved_to p c.place-old.result d c.take_place.new.directory after status new next drawn
     kept from.places_is c.place-old.ensures c.give_back.ensures
-    (c.in-Ok.ensures.moved.switched ∙ ap (λ (n : ℕ). switched_to p n kept) c.draw-generation.ensures.drawn)
+    (c.in-Ok.ensures.moved.switched ∙ ap (λ (n : ℕ). switched_to c.args.status.now.most p n kept) c.draw-generation.ensures.drawn)
     (omega (arith, c.in-Ok.ensures.moved.drawn, c.draw-generation.ensures.next)) in
     let mid = g.C.Chip.told c.take_place.new.chip in
     let told = g.C.Chip.told c.switch.new.chip in
@@ -290,7 +293,7 @@ returns-in-Ok-clause-tables g c =
     let low : p < old.places = omega (arith, from.next.within, facts.all, c.requires.may.size) in
     let is = moved_to p c.place-old.result d c.take_place.new.directory after status new next drawn
     kept from.places_is c.place-old.ensures c.give_back.ensures
-    (c.in-Ok.ensures.moved.switched ∙ ap (λ (n : ℕ). switched_to p n kept) c.draw-generation.ensures.drawn)
+    (c.in-Ok.ensures.moved.switched ∙ ap (λ (n : ℕ). switched_to c.args.status.now.most p n kept) c.draw-generation.ensures.drawn)
     (omega (arith, c.in-Ok.ensures.moved.drawn, c.draw-generation.ensures.next)) in
     let mid = g.C.Chip.told c.take_place.new.chip in
     let told = g.C.Chip.told c.switch.new.chip in record {

@@ -1,4 +1,4 @@
-use Rattle.std.proofs.Common.{◌≡◌, ◌≤◌, ◌+◌, ◌∙◌, length, false, Err, inl, inr, refl, sym, ap, subst, arith}
+use Rattle.std.proofs.Common.{ℕ, ◌≡◌, ◌≤◌, ◌+◌, ◌∙◌, length, false, Err, inl, inr, refl, sym, ap, subst, arith}
 use Rattle.std.proofs.lemmas.Result.{err_from_is_err_and}
 use Rattle.ipl_meaning.specs.Chart.{chart_of}
 use Rattle.ipl_meaning.specs.Rests.{now}
@@ -15,7 +15,7 @@ use Rattle.unit_io.specs.Costs.{Spends}
 use Rattle.restart.proofs.CauseLemmas.{accounts_then, write_accounts}
 use Rattle.restart.proofs.CostLemmas.{erases_more, erases_then, place_erases, renewed_then}
 use Rattle.restart.proofs.PreserveLemmas.{passed_then, steps_preserve}
-use Rattle.restart.proofs.RenewLemmas.{homes_still, may_renew, renew_ends, status_ends, units_still}
+use Rattle.restart.proofs.RenewLemmas.{homes_still, may_renew, most_still, renew_ends, status_ends, units_still}
 use Rattle.restart.proofs.CompleteLemmas.{written_alone}
 use Rattle.restart.proofs.TellingLemmas.{goes_on_from, goes_on_then, renews_told}
 use Rattle.restart.proofs.FaultLemmas.{pass_written, place_written}
@@ -23,6 +23,8 @@ use Rattle.restart.proofs.TidyLemmas.{tidies_then}
 use Rattle.restart.proofs.CountedMarkLemmas.{logs_renewed}
 use Rattle.restart.proofs.FoundLemmas.{unread_both}
 use Rattle.restart.proofs.RenewalWornLemmas.{wears_renewed, wears_unpassed}
+use Rattle.ipl_meaning.specs.Tables.{StatusTable}
+use Rattle.txn_status.specs.Status.{keeps_of}
 use Rattle.number_set.specs.Flags.{Flags, has_flag, flagged}
 use Rattle.number_set.proofs.FlagLemmas.{flagged_rise}
 use Rattle.restart.proofs.renewing.renew_with.Goals as goal
@@ -43,8 +45,12 @@ renew_place-requires-clause-fits g c =
     record {
       rising = flagged_rise (has_flag c.flags.result.now.bytes) 0 c.find_numbers.new.parts.status.numbers
           c.facts.ensures.rising;
-      few = subst (λ (k : Flags). length (flagged k c.find_numbers.new.parts.status.numbers) ≤ 3840)
-          (sym c.flags.ensures.flags) (c.flags.ensures.few c.find_numbers.new.parts.status.numbers);
+      few = subst (λ (k : Flags). length (flagged k c.find_numbers.new.parts.status.numbers)
+          ≤ keeps_of c.find_numbers.new.parts.status.most) (sym c.flags.ensures.flags)
+          (subst (λ (most : ℕ). length (flagged c.find_numbers.new.kept c.find_numbers.new.parts.status.numbers) ≤ keeps_of most)
+          (c.find_numbers.ensures.room ∙ c.requires.room
+          ∙ sym (ap (λ (s : StatusTable). s.most) c.find_numbers.ensures.leaves.holds.status))
+          (c.flags.ensures.few c.find_numbers.new.parts.status.numbers));
     }
 
 pub renew_place-requires-clause-left : goal.renew_place-requires-clause-left
@@ -88,6 +94,7 @@ returns-in_err-find_numbers-clause-renews g c = record {
           active = leaves.holds.active;
           units = leaves.holds.units;
           known = leaves.holds.known;
+          most = ap (λ (s : StatusTable). s.most) leaves.holds.status;
           ends = leaves.holds.status;
         };
         draws = (leaves.draws.0, omega (arith, leaves.draws.1));
@@ -190,6 +197,9 @@ returns-clause-renews g c = record {
               (flagged c.flags.result.now c.find_numbers.new.parts.status.numbers) is.moves.moved is.moves.same ∙ found.holds.units;
           known = subst (λ n. KnowsPlaces n after) counts.places (is.tables.known between
               (record { places_is = refl; status_is = refl; next_is = refl }) known);
+          most = most_still result between.places directory between.status status between.next
+              (flagged c.flags.result.now c.find_numbers.new.parts.status.numbers) is.moves.moved is.moves.same
+              ∙ ap (λ (s : StatusTable). s.most) found.holds.status;
           ends = status_ends result between.places directory c.args.parts.now.status between.status status
               is.moves.room is.moves.same found.holds.status;
         };
