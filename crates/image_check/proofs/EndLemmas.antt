@@ -3,13 +3,13 @@ use Rattle.std.proofs.Common.{◌≡◌, ◌≢◌, ◌<◌, ◌≤◌, ℕ, tru
 use Rattle.std.specs.Prelude.{IfErr, length}
 use Rattle.std.specs.Option.{option_or, option_map}
 use Rattle.std.specs.Result.{IsErrAnd}
-use Rattle.std.proofs.lemmas.Bool.{cases_Bool}
+use Rattle.std.proofs.lemmas.Bool.{cases_Bool, false≢true}
 use Rattle.chip_trait.specs.Story.{Contents}
 use Rattle.chip_trait.specs.Told.{Told, Counts}
 use Rattle.ipl_base.specs.declared.fault.ChipFault.{ChipFault}
 use Rattle.ipl_base.specs.declared.fault.ChipFault.TheVariants.{ReadFault, Stopped, Damaged, Malformed, WornOut}
 use Rattle.ipl_base.specs.declared.fault.ImageFault.{ImageFault}
-use Rattle.ipl_base.specs.declared.fault.ImageFault.TheVariants.{Geometry, NotFormatted, Missing, Chip, Spent, NoSpare}
+use Rattle.ipl_base.specs.declared.fault.ImageFault.TheVariants.{Geometry, NotFormatted, Missing, Chip, Spent, NoSpare, TooManyNumbers}
 use Rattle.ipl_base.specs.Places.{IsGeometry}
 use Rattle.ipl_model.specs.State.{Map}
 use Rattle.ipl_meaning.specs.Legible.{whole}
@@ -98,6 +98,7 @@ looked_tells {e = e} x places (Err y) exit cause told = λ other. elim (cases_Bo
     image_of (Chip (WornOut n)) is = is
     image_of Spent is = refl
     image_of (NoSpare n) is = is
+    image_of TooManyNumbers is = absurd (false≢true is)
 
 looked_so : {old new : Told} (e : ImageFault) → HasCauseFor false e old new → IsCheckCause e old new
 looked_so Geometry cause = tt
@@ -110,6 +111,7 @@ looked_so (Chip (Malformed p s)) cause = tt
 looked_so (Chip (WornOut n)) cause = (let is = (cause refl).fault in absurd (cc is))
 looked_so Spent cause = (let is = (cause refl).fault in absurd (cc is))
 looked_so (NoSpare n) cause = tt
+looked_so TooManyNumbers cause = (let is = (cause refl).fault in absurd (cc is))
 
 pub looked_cause : {old new : Told} {e : ImageFault} (r : Result ℕ ImageFault) → IsErrAnd r (λ y. y ≡ e)
     → HasCauseFor false e old new → IfErr r (λ y. IsCheckCause y old new)

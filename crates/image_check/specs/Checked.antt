@@ -7,7 +7,7 @@ use Rattle.ipl_base.specs.First.{first_below}
 use Rattle.ipl_base.specs.declared.fault.ChipFault.{ChipFault}
 use Rattle.ipl_base.specs.declared.fault.ChipFault.TheVariants.{ReadFault, Stopped, Damaged, Malformed, WornOut}
 use Rattle.ipl_base.specs.declared.fault.ImageFault.{ImageFault}
-use Rattle.ipl_base.specs.declared.fault.ImageFault.TheVariants.{Geometry, NotFormatted, Missing, Chip, Spent, NoSpare}
+use Rattle.ipl_base.specs.declared.fault.ImageFault.TheVariants.{Geometry, NotFormatted, Missing, Chip, Spent, NoSpare, TooManyNumbers}
 use Rattle.chip_trait.specs.Story.{Contents}
 use Rattle.chip_trait.specs.Told.{Told, Rose}
 use Rattle.ipl_model.specs.State.{Map}
@@ -103,7 +103,7 @@ IsReadingCause (Damaged p s stored computed) old new = stored ≢ computed
 IsReadingCause (Malformed p s) old new = Unit {0}
 IsReadingCause (WornOut n) old new = ⊥
 
--- why a chip isn't well: never since a write failed, a place is worn or numbers are used up
+-- why a chip isn't well: never since a write failed, a place is worn, numbers are used up or have no room
 abbrev pub IsCheckCause : ImageFault → Told → Told → Type 0
 IsCheckCause (Chip fault) old new = IsReadingCause fault old new
 IsCheckCause Spent old new = ⊥
@@ -111,6 +111,7 @@ IsCheckCause Geometry old new = Unit {0}
 IsCheckCause NotFormatted old new = Unit {0}
 IsCheckCause (Missing u) old new = Unit {0}
 IsCheckCause (NoSpare n) old new = Unit {0}
+IsCheckCause TooManyNumbers old new = ⊥
 
 -- or memory was wanting
 abbrev pub CheckCause : CheckFault → Told → Told → Type 0

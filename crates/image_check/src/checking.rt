@@ -9,7 +9,7 @@ ghost use Rattle.image_check.specs.Tables.{IsMemoryMade};
 use crate::CheckFault;
 use crate::counting::{Room, Tables, count_units};
 use chip_trait::Chip;
-use ipl_base::{Geometry, ImageFault, OutOfMemory};
+use ipl_base::{Geometry, ImageFault, OutOfMemory, STATUS_NUMBERS};
 use overflow::Overflow;
 use page_ops::Frame;
 use restart::{KeptNumbers, survey};
@@ -27,14 +27,14 @@ pub(crate) struct Memory {
 }
 
 impl Memory {
-    /// Memory for a chip of this size.
+    /// Memory for a chip of this size, and for all numbers of its status place.
     fn new(alloc: Global, geometry: Geometry) -> Result<Memory, OutOfMemory>
         ensures { IfOk result (λ memory. IsMemoryMade geometry.places memory) }
     {
         let tables = Tables {
             directory: Directory::new(alloc, geometry)?,
             overflow: Overflow::new(alloc, geometry)?,
-            status: Status::new(alloc, geometry)?,
+            status: Status::new(alloc, geometry, STATUS_NUMBERS)?,
         };
         let room = Room {
             log: unit_log::Scratch::new(alloc)?,
@@ -42,7 +42,7 @@ impl Memory {
         };
         Ok(Memory {
             scratch: restart::Scratch::new(alloc, geometry)?,
-            numbers: KeptNumbers::new(alloc)?,
+            numbers: KeptNumbers::new(alloc, STATUS_NUMBERS)?,
             tables,
             room,
         })
@@ -104,8 +104,8 @@ pub fn check<C: Chip>(alloc: Global, chip: &mut C) -> Result<u32, CheckFault>
         → C.told chip.new ≡ C.told chip.old) }
     ensures sized { IfErr result (λ e. e ≡ CheckFault.OutOfMemory → IsGeometry (C.told chip.old).places) }
 
-    // Why it fails, whatever the chip tells: never since a write failed, a place is worn or numbers are
-    // used up.
+    // Why it fails, whatever the chip tells: never since a write failed, a place is worn, or numbers are
+    // used up or have no room.
     ensures cause { IfErr result (λ e. CheckCause e (C.told chip.old) (C.told chip.new)) }
 {
     let Some(geometry) = Geometry::of(chip.units()) else {

@@ -7,7 +7,7 @@
 //! stands for records, and that is how many these are; else it tells the first fault in the order of
 //! docs/RECOVERY.md, and of those behind it the first page that reads badly, in rising order of unit,
 //! page and sector, unless a read failed or memory was wanting. It only reads. Whatever the chip
-//! tells, it never fails since a write failed, a place is worn or numbers are used up.
+//! tells, it never fails since a write failed, a place is worn, or numbers are used up or have no room.
 //!
 //! Proved, by `check_laws`: no fault is exactly a chip that stands for records.
 #![tactic(auto)]

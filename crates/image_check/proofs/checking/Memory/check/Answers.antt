@@ -1,8 +1,9 @@
-use Rattle.std.proofs.Common.{◌≡◌, ◌∙◌, ℕ, refl, sym}
+use Rattle.std.proofs.Common.{◌≡◌, ◌∙◌, ℕ, false, refl, sym}
 use Rattle.ipl_meaning.specs.Chart.{chart_of}
 use Rattle.ipl_meaning.specs.LaidOut.{layout_in}
 use Rattle.unit_io.specs.ReadsAt.{Anywhere}
 use Rattle.unit_io.proofs.ReadsAtLemmas.{at_then}
+use Rattle.restart.proofs.LookLemmas.{cause_alone}
 use Rattle.image_check.proofs.EndLemmas.{all_tables, sized_by, looked_tells, looked_cause, counted_tells, counted_cause, all_checked}
 use Rattle.image_check.proofs.checking.Memory.check.Goals as goal
 
@@ -14,12 +15,12 @@ count_units-requires g c =
 
 pub returns-in_err-survey-clause-checks : goal.returns-in_err-survey-clause-checks
 returns-in_err-survey-clause-checks g c = λ x told.
-    looked_tells x _ c.from_residual.result c.from_residual.ensures.1 c.in_err-survey.ensures.looks.only.cause
+    looked_tells x _ c.from_residual.result c.from_residual.ensures.1 (cause_alone false c.requires.made.most c.in_err-survey.ensures.looks.only.cause)
     (c.in_err-survey.ensures.fault x told)
 
 pub returns-in_err-survey-clause-cause : goal.returns-in_err-survey-clause-cause
 returns-in_err-survey-clause-cause g c =
-    looked_cause c.from_residual.result c.from_residual.ensures.1 c.in_err-survey.ensures.looks.only.cause
+    looked_cause c.from_residual.result c.from_residual.ensures.1 (cause_alone false c.requires.made.most c.in_err-survey.ensures.looks.only.cause)
 
 -- ---- the pages
 
