@@ -6,7 +6,7 @@ use Rattle.chip_trait.specs.Told.{Told}
 use Rattle.log_records.specs.View.{Versioned, Spells}
 use Rattle.ipl_base.specs.declared.fault.ChipFault.{ChipFault}
 use Rattle.ipl_base.specs.declared.fault.ChipFault.TheVariants.{ReadFault, Stopped, Damaged, Malformed, WornOut}
-use Rattle.ipl_meaning.specs.Tables.{Places, Tables}
+use Rattle.ipl_meaning.specs.Tables.{Places, StatusTable, Tables}
 use Rattle.unit_io.specs.Accounts.{Accounts}
 use Rattle.restart.specs.Passes.{RenewCause}
 use Rattle.buffer_pool.specs.Holding.{KeepsPins}
@@ -78,6 +78,7 @@ pub out_failed : (u page : ℕ) (payload : Versioned) (old new : Pages) (e : Chi
 out_failed u page payload old new e before after ready same there spelled tells steps leaves =
     let holds = leaves.holds in
     tables_uphold 14 old new (Err e) before after ready same holds.known holds.units holds.active
+    (ap (λ (it : StatusTable). it.most) holds.status)
     (out_keeps (tables_in old) (tables_in new) (frames_in old) u page payload before after
     (Err e) there spelled tells steps leaves.accounts) leaves.tidy leaves.wears leaves.draws
     (out_accounts new.parts.directory (tables_in old) u (Err e) before after leaves.accounts)
@@ -116,6 +117,7 @@ out_done u page payload old new before after ready spelled did pins tells steps 
             let low = ready.within v q was.0 was.1 in
             omega (arith, low, holds.units);
         rest = rest_stays old.pool new.pool pins ready.rest;
+        roomy = ap (λ (it : StatusTable). it.most) holds.status ∙ ready.roomy;
       };
       units = holds.units;
       active = holds.active;

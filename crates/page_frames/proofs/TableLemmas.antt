@@ -119,14 +119,14 @@ pub tables_uphold : (most : ℕ) (old new : Pages) (result : Result (Unit {0}) C
     (before after : Told) → ArePagesReady before.places old → new.pool ≡ old.pool
     → KnowsPlaces before.places (tables_in new)
     → length new.parts.directory.current ≡ length old.parts.directory.current
-    → new.parts.active ≡ old.parts.active
+    → new.parts.active ≡ old.parts.active → new.parts.status.most ≡ old.parts.status.most
     → KeepsState (tables_in old) (frames_in old) before result (tables_in new) (frames_in old) after
     → Tidies (tables_in old) result (tables_in new) before after
     → TellsOfWear (tables_in old) (tables_in new) (is_ok result) (is_worn_out result) before after
     → (old.parts.counter ≤ new.parts.counter) × (new.parts.counter ≤ old.parts.counter + most)
     → Accounts (PageCause new.parts.directory) result before after
     → Upholds most old before result new after
-tables_uphold most old new result before after ready same known units active keeps tidy wears draws
+tables_uphold most old new result before after ready same known units active roomy keeps tidy wears draws
     accounts = record {
       keeps = subst (λ (f : Frames). KeepsState (tables_in old) (frames_in old) before result
           (tables_in new) f after) (ap frames_of (sym same)) keeps;
@@ -139,6 +139,7 @@ tables_uphold most old new result before after ready same known units active kee
             ready.within u page f (ap (λ (p : PoolView). frames_of p u page) (sym same) ∙ there) in
             omega (arith, was, units);
         rest = subst IsAtRest (sym same) ready.rest;
+        roomy = roomy ∙ ready.roomy;
       };
       units = units;
       active = active;
@@ -164,6 +165,7 @@ pub merge_upholds : (u : ℕ) (old new : Pages) (result : Result (Unit {0}) Chip
 merge_upholds u old new result before after ready same holds tells steps tidy wears draws place spots
     accounts =
     tables_uphold 13 old new result before after ready same holds.known holds.units holds.active
+    (ap (λ (it : StatusTable). it.most) holds.status)
     (merge_keeps u place spots (tables_in old) (tables_in new) (frames_in old) result before after
     holds tells steps accounts) tidy wears draws
     (merge_accounts new.parts.directory place spots before after result accounts)
@@ -179,6 +181,6 @@ pub renew_upholds : (old new : Pages) (result : Result (Unit {0}) ChipFault) (be
     → (old.parts.counter ≤ new.parts.counter) × (new.parts.counter ≤ old.parts.counter + 2 ^ 14)
     → Accounts (RenewCause new.parts.directory) result before after → Upholds (2 ^ 14) old before result new after
 renew_upholds old new result before after ready same holds tells steps tidy wears draws accounts =
-    tables_uphold (2 ^ 14) old new result before after ready same holds.known holds.units holds.active
+    tables_uphold (2 ^ 14) old new result before after ready same holds.known holds.units holds.active holds.most
     (renew_keeps (tables_in old) (tables_in new) (frames_in old) result before after holds tells steps
     accounts) tidy wears draws accounts

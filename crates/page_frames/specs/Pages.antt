@@ -3,6 +3,7 @@ use Rattle.std.specs.Prelude.{ℕ, ◌≡◌, ◌⊎◌, ◌≤◌, ◌<◌, ◌
 use Rattle.std.specs.Option.{option_map}
 use Rattle.chip_trait.specs.Told.{Told}
 use Rattle.ipl_base.specs.declared.fault.ChipFault.{ChipFault}
+use Rattle.ipl_base.specs.declared.limits.TheConstants.{STATUS_NUMBERS}
 use Rattle.ipl_meaning.specs.Chart.{chart_of}
 use Rattle.ipl_meaning.specs.Layout.{Layout}
 use Rattle.ipl_meaning.specs.Mirrors.{Mirrors}
@@ -83,13 +84,14 @@ KeepsValues u page old new = (f : PageFrame) → frames_in old u page ≡ Some f
 
 -- ---- what always holds between calls
 
--- The tables know each place, pages in frames are of their units, and fewer pages are held than
--- there are frames.
+-- The tables know each place, pages in frames are of their units, fewer pages are held than there are
+-- frames, and all numbers of a status place have room.
 pub record ArePagesReady (places : ℕ) (pages : Pages) : Type 0 where
   pub known : KnowsPlaces places (tables_in pages)
   pub within : (u page : ℕ) (f : PageFrame) → frames_in pages u page ≡ Some f
       → u < length pages.parts.directory.current
   pub rest : IsAtRest pages.pool
+  pub roomy : pages.parts.status.most ≡ STATUS_NUMBERS
 
 -- ---- causes
 

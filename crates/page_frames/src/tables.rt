@@ -28,6 +28,8 @@ impl Pages {
     ) -> Result<(), ChipFault>
         requires ready { ArePagesReady (C.told chip.old).places self.old }
         requires left { self.old.parts.counter + 2 ^ 14 < 2 ^ 64 }
+        requires numbers { kept.old.room ≡ self.old.parts.status.most }
+        ensures numbers { kept.new.room ≡ kept.old.room }
         ensures upholds { Upholds (2 ^ 14) self.old (C.told chip.old) result self.new (C.told chip.new) }
         ensures complete { FailsByChip self.old result (C.told chip.old) }
         ensures faults { TellsFaults self.old result (C.told chip.old) self.new (C.told chip.new) }

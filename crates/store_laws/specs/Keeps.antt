@@ -117,7 +117,7 @@ IsChipFaultCause places (Damaged p s stored computed) old new = stored ≢ compu
 IsChipFaultCause places (Malformed p s) old new = Unit {0}
 IsChipFaultCause places (WornOut n) old new = IsWornCount places n × Rose old.worn_erases new.worn_erases
 
--- when an image isn't opened again
+-- when an image isn't opened again: never since its numbers have no room
 abbrev pub ImageCause : ℕ → ImageFault → Told → Told → Type 0
 ImageCause places image.Geometry old new = Unit {0}
 ImageCause places image.NotFormatted old new = Unit {0}
@@ -125,6 +125,7 @@ ImageCause places (image.Missing u) old new = Unit {0}
 ImageCause places (image.Chip e) old new = IsChipFaultCause places e old new
 ImageCause places image.Spent old new = Unit {0}
 ImageCause places (image.NoSpare n) old new = Unit {0}
+ImageCause places image.TooManyNumbers old new = ⊥
 
 -- when each fault comes
 abbrev pub StoreCause : ℕ → Fault → Told → Told → Type 0
@@ -148,6 +149,7 @@ ImageTells spares (image.Missing u) = ⊥
 ImageTells spares (image.Chip e) = ChipTells spares e
 ImageTells spares image.Spent = Unit {0}
 ImageTells spares (image.NoSpare n) = ⊥
+ImageTells spares image.TooManyNumbers = ⊥
 
 abbrev pub FaultTells : ℕ → Fault → Type 0
 FaultTells spares (Chip e) = ChipTells spares e
@@ -182,6 +184,7 @@ image_longer places (image.Chip e) first old new last before cause after =
     chip_longer places e first old new last before cause after
 image_longer places image.Spent first old new last before cause after = tt
 image_longer places (image.NoSpare n) first old new last before cause after = tt
+image_longer places image.TooManyNumbers first old new last before cause after = cause
 
 -- a cause is one for a longer time too
 pub cause_longer : (places : ℕ) (fault : Fault) (first old new last : Told) → Further first old

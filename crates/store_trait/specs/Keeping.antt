@@ -115,6 +115,7 @@ SaysFailedCall (Image (image.Missing u)) = ⊥
 SaysFailedCall (Image (image.Chip e)) = IsFailedCall e
 SaysFailedCall (Image image.Spent) = ⊥
 SaysFailedCall (Image (image.NoSpare n)) = ⊥
+SaysFailedCall (Image image.TooManyNumbers) = ⊥
 SaysFailedCall Spent = ⊥
 
 -- every command but a list has one line as its reply
