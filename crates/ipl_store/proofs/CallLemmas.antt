@@ -290,7 +290,7 @@ shown_complete : (store : Store) (before : Told) (done : Result (Unit {0}) ChipF
 shown_complete store before done complete x told state shown =
     complete x told shown.layout state shown.fits shown.says
 
-module _ (next : State → State) (most : ℕ) (old : Store) (t : Transactions) (kept : Flags)
+module _ (next : State → State) (most : ℕ) (old : Store) (t : Transactions) (kept : Flags) (flags : kept.room ≡ old.kept.room)
     (before after : Told) (done : Result (Unit {0}) ChipFault)
     (result : Result (Unit {0}) StoreFault) (new : Store) (up : old.down ≡ false)
     (sound : IsSound before.places old)
@@ -317,6 +317,8 @@ module _ (next : State → State) (most : ℕ) (old : Store) (t : Transactions) 
             ∙ moves.order.ready.known.suits.all;
         overflow = ap (λ (it : Transactions). it.pages.parts.overflow.places) moved
             ∙ moves.order.ready.known.suits.sized;
+        most = ap (λ (it : Transactions). it.pages.parts.status.most) moved ∙ moves.order.ready.roomy;
+        room = ap (λ (s : Store). s.kept.room) rest ∙ flags ∙ was.room;
         frames = ap (λ (s : Store). s.frames) rest ∙ was.frames ∙ sym moves.limit
             ∙ ap (λ (it : Transactions). it.pages.pool.limit) (sym moved);
         two = subst (λ (n : ℕ). 2 ≤ n) (sym (ap (λ (s : Store). s.frames) rest)) was.two;
@@ -379,7 +381,7 @@ pub memory_calls : (next : State → State) (most : ℕ) (old : Store) (t : Tran
     → t.pages.parts.counter ≤ counter_of old + most → early ≡ None
     → Calls {T = Unit {0}} early next most old told (Ok tt) (record old { transactions = t }) told
 memory_calls next most old t told early sound up did least drawn none =
-    moved_calls next most old t old.kept told told (Ok tt) (Ok tt) (record old { transactions = t })
+    moved_calls next most old t old.kept refl told told (Ok tt) (Ok tt) (record old { transactions = t })
     up sound
     (memory_moves next most old.transactions t told did (sound.order up) least drawn) refl
     (refl, refl) early none
@@ -470,7 +472,7 @@ pub idle_calls : (most : ℕ) (store : Store) (told : Told) (early : Option Stor
     → IsSound told.places store → store.down ≡ false → early ≡ None
     → Calls {T = Unit {0}} early (λ state. state) most store told (Ok tt) store told
 idle_calls most store told early sound up none =
-    moved_calls (λ state. state) most store store.transactions store.kept told told (Ok tt) (Ok tt)
+    moved_calls (λ state. state) most store store.transactions store.kept refl told told (Ok tt) (Ok tt)
     store up sound (record {
       leads = keepers_lead_still (memory_in store.transactions)
           (memory_in store.transactions).tables (memory_in store.transactions).frames (Ok tt) told

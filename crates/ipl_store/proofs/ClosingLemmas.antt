@@ -39,14 +39,17 @@ marked store parts = record store {
 
 -- the directory and the overflow lists are as they were
 pub made_marked : (places : ℕ) (store : Store) (parts : Parts) → IsMade places store
+    → parts.status.most ≡ store.transactions.pages.parts.status.most
     → parts ≡ record store.transactions.pages.parts { status = parts.status; counter = parts.counter }
     → IsMade places (marked store parts)
-made_marked places store parts made rest = record {
+made_marked places store parts made roomy rest = record {
   geometry = made.geometry;
   units = made.units;
   scratch = made.scratch;
   directory = ap (λ (p : Parts). length p.directory.in_use) rest ∙ made.directory;
   overflow = ap (λ (p : Parts). p.overflow.places) rest ∙ made.overflow;
+  most = roomy ∙ made.most;
+  room = made.room;
   frames = made.frames;
   two = made.two;
 }
@@ -103,7 +106,7 @@ marks_store store parts before after written result ends steps tidy last costs a
 
 -- ---- the status place is made ready
 
-module _ (store : Store) (pages : Pages) (kept : Flags) (before told : Told)
+module _ (store : Store) (pages : Pages) (kept : Flags) (flags : kept.room ≡ store.kept.room) (before told : Told)
     (done : Result (Unit {0}) ChipFault) (readied : Result (Unit {0}) StoreFault) (mid : Store)
     (up : store.down ≡ false) (sound : IsSound before.places store)
     (upholds : Upholds (2 ^ 14) store.transactions.pages before done pages told)
@@ -118,7 +121,7 @@ module _ (store : Store) (pages : Pages) (kept : Flags) (before told : Told)
   pub readies : (early : Option StoreFault) → early ≡ None
       → Calls early (λ state. state) (2 ^ 14) store before readied mid told
   readies early none =
-      moved_calls (λ state. state) (2 ^ 14) store (record store.transactions { pages = pages }) kept
+      moved_calls (λ state. state) (2 ^ 14) store (record store.transactions { pages = pages }) kept flags
       before told done readied mid up sound
       (pages_move (2 ^ 14) store.transactions pages before told done (sound.order up) upholds complete
       faults) rest ends early none

@@ -24,6 +24,7 @@ use Rattle.unit_io.proofs.TablesLemmas.{tables_none, tables_fewer, tables_progra
 use Rattle.unit_io.specs.Accounts.{Accounts}
 use Rattle.unit_io.specs.Charts.{Charts}
 use Rattle.unit_io.specs.Leads.{IsStopped}
+use Rattle.txn_status.proofs.RoomLemmas.{room_left}
 use Rattle.txn_status.specs.Adding.{KeepsFirstAt}
 use Rattle.txn_status.specs.Status.{after_add, room_of}
 use Rattle.buffer_pool.specs.Holding.{KeepsPins}
@@ -58,7 +59,7 @@ number_tidy : (places : ℕ) (t after : Tables) (done : Bool) (result : Result (
     → Tidies t result after old new
 number_tidy places t after done result old new known room fewer =
     tables_programmed t after t.status.place (IsSpot t.status.first) done result old new
-    (λ s at. (omega (arith, at, room), inr (inr (refl, omega (arith, at)))))
+    (λ s at. (omega (arith, at, (room_left t.status room).0), inr (inr (refl, omega (arith, at)))))
     (λ end q s counted.
     let was = commit_shrinks places t known [] [] 0 q s (fewer end q s counted) in
     (was.0, λ here spot. was.1 here spot))
@@ -138,7 +139,7 @@ numbers_added ss tids old new added before after order are may writers adds step
           places = rest.directory ∙ directory;
           overflow = rest.overflow ∙ overflow;
           status = ap (λ (it : StatusTable). it.place) (rest.status ∙ status);
-        }) pins_then
+        }) (ap (λ (it : StatusTable). it.most) (rest.status ∙ status)) pins_then
             (changed_had StaysFramed old.pages new.pages
             (subst (λ (p : PoolView). EachFrameChanges StaysFramed (frames_in old.pages)
             (frames_of p)) (sym rest.pool)
@@ -192,7 +193,7 @@ numbers_not_added ss tids e old new before after order are may writers steps ses
           places = directory;
           overflow = overflow;
           status = ap (λ (it : StatusTable). it.place) status;
-        }) pins (same_had old.pages new.pages (ap frames_of pool)) order.ready;
+        }) (ap (λ (it : StatusTable). it.most) status) pins (same_had old.pages new.pages (ap frames_of pool)) order.ready;
         active = active ∙ order.active ∙ ap numbers_in (sym sessions);
       };
       units = ap (λ (it : Places). length it.current) directory;
@@ -264,7 +265,7 @@ empty_committed ss most old new told order are none rest slots active locks =
           places = rest.directory;
           overflow = rest.overflow;
           status = ap (λ (it : StatusTable). it.place) rest.status;
-        }) pins (same_had old.pages new.pages (ap frames_of rest.pool)) order.ready;
+        }) (ap (λ (it : StatusTable). it.most) rest.status) pins (same_had old.pages new.pages (ap frames_of rest.pool)) order.ready;
         active = active;
       };
       units = ap (λ (d : Places). length d.current) rest.directory;

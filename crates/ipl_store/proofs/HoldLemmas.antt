@@ -188,6 +188,8 @@ repooled_calls early next most old before mid new after none pool calls =
           scratch = calls.sound.made.scratch;
           directory = calls.sound.made.directory;
           overflow = calls.sound.made.overflow;
+          most = calls.sound.made.most;
+          room = calls.sound.made.room;
           frames = calls.sound.made.frames ∙ sym pool.limit;
           two = calls.sound.made.two;
         };
@@ -198,6 +200,7 @@ repooled_calls early next most old before mid new after none pool calls =
                 within = λ u page f there. was.ready.within u page f
                     (ap (λ (g : Frames). g u page) (sym same) ∙ there);
                 rest = pool.at_rest;
+                roomy = was.ready.roomy;
               };
               active = was.active;
             };

@@ -267,6 +267,7 @@ module _ (places : ℕ) (store : Store) (made : IsMade places store) (fresh : Is
               let nothing : None ≡ Some b = sym (no_buffer key) ∙ stored in absurd (cc nothing);
           few = omega (arith, none_pinned, made.frames, made.two);
         };
+        roomy = made.most;
       };
       active = holds.active ∙ sym (no_numbers (length store.transactions.sessions)) ∙ ap numbers_in (sym fresh.idle);
     };
@@ -340,14 +341,17 @@ pub made_recovered : (places : ℕ) (store : Store) (parts : Parts) (kept : Flag
     (scratch units : ℕ) (down : Bool) → IsMade places store
     → (scratch ≡ store.scratch) × (length parts.directory.in_use ≡ places)
     × (parts.overflow.places ≡ places)
+    → (parts.status.most ≡ store.transactions.pages.parts.status.most) × (kept.room ≡ store.kept.room)
     → KeepsUnits places units
     → IsMade places (recovered store parts kept scratch units down)
-made_recovered places store parts kept scratch units down made sized suits = record {
+made_recovered places store parts kept scratch units down made sized roomy suits = record {
   geometry = made.geometry;
   units = suits;
   scratch = sized.0 ∙ made.scratch;
   directory = sized.1;
   overflow = sized.2;
+  most = roomy.0 ∙ made.most;
+  room = roomy.1 ∙ made.room;
   frames = made.frames;
   two = made.two;
 }

@@ -94,13 +94,14 @@ pub same_had : (old new : Pages) → frames_in new ≡ frames_in old → HadFram
 same_had old new same u page f is = (f, ap (λ (o : Frames). o u page) (sym same) ∙ is)
 
 pub still_ready : (places : ℕ) (old new : Pages) → SamePlaces (tables_in old) (tables_in new)
-    → KeepsPins old.pool new.pool → HadFrames old new → ArePagesReady places old → ArePagesReady places new
-still_ready places old new same pins had ready = record {
+    → new.parts.status.most ≡ old.parts.status.most → KeepsPins old.pool new.pool → HadFrames old new → ArePagesReady places old → ArePagesReady places new
+still_ready places old new same roomy pins had ready = record {
   known = places_known places (tables_in old) (tables_in new) same ready.known;
   within = λ u page f is.
       let was = had u page f is in
       subst (λ (d : Places). u < length d.current) (sym same.places) (ready.within u page was.0 was.1);
   rest = rest_stays old.pool new.pool pins ready.rest;
+  roomy = roomy ∙ ready.roomy;
 }
 
 -- ---- memory, part by part
@@ -133,6 +134,7 @@ memory_is t frames slots it is = λ i. record {
 pub turned_in_memory : (next : State → State) (old new : Transactions) (t : Tables)
     (frames : Frames) (slots : SessionSlots) → IsMemory t frames slots new
     → length slots ≡ length old.sessions → SamePlaces (tables_in old.pages) t
+    → t.status.most ≡ old.pages.parts.status.most
     → ((p s : ℕ) → IsCountedClean t p s → IsCountedClean (tables_in old.pages) p s)
     → KeepsPins old.pages.pool new.pages.pool
     → HadFrames old.pages new.pages
@@ -140,7 +142,7 @@ pub turned_in_memory : (next : State → State) (old new : Transactions) (t : Ta
     → ((told : Told) → LeadsTo {T = Unit {0}} {E = ChipFault} next (memory_in old) told (Ok tt)
     (memory_of t frames slots) told)
     → TurnsInMemory next old new
-turned_in_memory next old new t frames slots is count same clean pins had active leads = record {
+turned_in_memory next old new t frames slots is count same roomy clean pins had active leads = record {
   leads = λ told. subst (λ (m : Memory). LeadsTo {T = Unit {0}} {E = ChipFault} next
       (memory_in old) told (Ok tt) m told) (memory_is t frames slots new is) (leads told);
   fewer = λ p s counted. clean p s (subst (λ (m : Memory). IsCountedClean m.tables p s)
@@ -153,7 +155,7 @@ turned_in_memory next old new t frames slots is count same clean pins had active
       places = is.places ∙ same.places;
       overflow = is.overflow ∙ same.overflow;
       status = ap (λ (s : StatusTable). s.place) is.status ∙ same.status;
-    }) pins had order.ready;
+    }) (ap (λ (s : StatusTable). s.most) is.status ∙ roomy) pins had order.ready;
     active = is.active ∙ active order.active ∙ ap numbers_in (sym is.slots_are);
   };
   pins = pins;

@@ -272,7 +272,7 @@ module _ (s n : ℕ) (bytes : List ℕ) (old : Store) (before : Told) (mid : Sto
       let sessions = same_sessions (home_of n).unit (home_of n).page old before mid between did in
       let active : mid.transactions.pages.parts.active ≡ numbers_in mid.transactions.sessions =
       did.upholds.active ∙ (sound.order up).active ∙ ap numbers_in (sym sessions) in
-      moved_calls (λ state. after_write state s (n, Some bytes)) 14 old t old.kept before after done
+      moved_calls (λ state. after_write state s (n, Some bytes)) 14 old t old.kept refl before after done
       result new up sound
       (moves_then (λ state. after_write state s (n, Some bytes)) 14 14 14 old.transactions
       mid.transactions t before between after done did.upholds sessions wrote.turns wrote.complete

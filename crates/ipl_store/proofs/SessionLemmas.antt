@@ -94,7 +94,7 @@ begun s old new low closed slots locks directory overflow status counter active 
       slots_are = slots;
     })
     ((calls_keep_slots old.sessions s).begins tid)
-    (record { places = refl; overflow = refl; status = refl }) (λ p s counted. counted)
+    (record { places = refl; overflow = refl; status = refl }) refl (λ p s counted. counted)
     (subst (KeepsPins old.pages.pool) (sym pool) (nothing_keeps old.pages.pool))
     (same_had old.pages new.pages (ap frames_of pool)) (λ had. refl)
     (λ told. begins_lead s tid (memory_in old) told
@@ -122,7 +122,7 @@ shared s n old new low slots locks pages =
       slots_are = slots;
     })
     ((calls_keep_slots old.sessions s).shares n)
-    (record { places = refl; overflow = refl; status = refl }) (λ p s counted. counted)
+    (record { places = refl; overflow = refl; status = refl }) refl (λ p s counted. counted)
     (subst (λ (p : Pages). KeepsPins old.pages.pool p.pool) (sym pages)
     (nothing_keeps old.pages.pool))
     (same_had old.pages new.pages (ap frames_in pages))
@@ -160,7 +160,7 @@ aborted s tid names old new pool low mine written dropped pins rest slots active
       slots_are = slots;
     })
     (calls_keep_slots old.sessions s).ends
-    (record { places = refl; overflow = refl; status = refl }) (λ p s counted. counted)
+    (record { places = refl; overflow = refl; status = refl }) refl (λ p s counted. counted)
     (subst (KeepsPins old.pages.pool) (sym rest.pool) pins)
     (changed_had (IsSameOr (IsAbortedFrame tid)) old.pages new.pages
     (subst (λ (p : PoolView). EachFrameChanges (IsSameOr (IsAbortedFrame tid))

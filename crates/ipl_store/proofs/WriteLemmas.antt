@@ -224,7 +224,7 @@ was_put s n u r old new told order low mine of_unit valid home slots locks parts
           places = ap (λ (p : Parts). p.directory) parts;
           overflow = ap (λ (p : Parts). p.overflow) parts;
           status = ap (λ (p : Parts). p.status.place) parts;
-        }) pins (put_had (IsWrittenFrame r) u r.page old.pages new.pages did) order.ready;
+        }) (ap (λ (p : Parts). p.status.most) parts) pins (put_had (IsWrittenFrame r) u r.page old.pages new.pages did) order.ready;
         active = ap (λ (p : Parts). p.active) parts ∙ order.active
             ∙ sym (writes_keep_numbers old.sessions s n size) ∙ ap numbers_in (sym slots);
       };

@@ -2,7 +2,7 @@
 use Rattle.std.specs.Prelude.{ℕ, ◌≡◌, ◌≤◌, ◌+◌, ◌-◌, ◌||◌, ◌&&◌, nat_le, nat_lt, Bool, not, true, false, ◌∷◌, [], length, Option, Some, None, Result, Ok, Err, MatchResult, IfErr, is_ok, if◌then◌else◌}
 use Rattle.chip_trait.specs.Story.{Contents}
 use Rattle.chip_trait.specs.Told.{Told, Counts}
-use Rattle.ipl_base.specs.declared.limits.TheConstants.{PAGES}
+use Rattle.ipl_base.specs.declared.limits.TheConstants.{PAGES, STATUS_NUMBERS}
 use Rattle.ipl_base.specs.Calls.{IsFailedCall}
 use Rattle.ipl_base.specs.Places.{IsGeometry, KeepsUnits}
 use Rattle.ipl_base.specs.declared.fault.ChipFault.{ChipFault}
@@ -59,6 +59,8 @@ pub record IsMade (places : ℕ) (store : Store) : Type 0 where
   pub scratch : store.scratch ≡ places
   pub directory : length store.transactions.pages.parts.directory.in_use ≡ places
   pub overflow : store.transactions.pages.parts.overflow.places ≡ places
+  pub most : store.transactions.pages.parts.status.most ≡ STATUS_NUMBERS
+  pub room : store.kept.room ≡ STATUS_NUMBERS
   pub frames : store.frames ≡ store.transactions.pages.pool.limit
   pub two : 2 ≤ store.frames
 

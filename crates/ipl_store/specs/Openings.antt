@@ -6,6 +6,7 @@ use Rattle.ipl_base.specs.declared.fault.ImageFault.{ImageFault}
 use Rattle.ipl_base.specs.declared.fault.ImageFault.TheVariants.{Geometry}
 use Rattle.ipl_base.specs.declared.fault.OpenFault.{OpenFault}
 use Rattle.ipl_base.specs.declared.fault.OpenFault.TheVariants.{Image, OutOfMemory}
+use Rattle.ipl_base.specs.declared.limits.TheConstants.{STATUS_NUMBERS}
 use Rattle.ipl_base.specs.Places.{IsGeometry, KeepsUnits}
 use Rattle.ipl_model.specs.Operations.{after_restart}
 use Rattle.ipl_model.specs.State.{Map, at_rest}
@@ -80,13 +81,13 @@ pub record Tries (marks : Bool) (places : ℕ) (old : Told) (result : Result (Un
   pub tells : RecoversTold places old result t new
   pub steps : RecoversInSteps marks places old result t new
   pub looks : LooksAtFaults places old result new
-  pub complete : CompletesOpening places result old
+  pub complete : CompletesOpening STATUS_NUMBERS places result old
   pub bytes : ReadsBytes places old result
   pub tidy : TidiesOpening marks places old result t new
   pub marked : OnOk result (CountsMarks marks places old t)
   pub costs : ErasesOpening marks places result t.places old new
   pub renewed : OnOk result (Spends (HasErased t.status.place) old new)
-  pub accounts : Accounts (OpeningCause t.places) result old new
+  pub accounts : Accounts (OpeningCause STATUS_NUMBERS t.places) result old new
   pub all : length t.places.in_use ≡ places
   pub units : KeepsUnits places (length t.places.current)
 

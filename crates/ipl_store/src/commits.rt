@@ -37,6 +37,8 @@ impl Transactions {
         requires order { IsInOrder (C.told chip.old).places self.old }
         requires open { AreOpenSessions self.old.sessions numbers.now }
         requires left { self.old.pages.parts.counter + 2 ^ 14 + 14 * 64 < 2 ^ 64 }
+        requires numbers { kept.old.room ≡ self.old.pages.parts.status.most }
+        ensures numbers { kept.new.room ≡ kept.old.room }
         ensures upholds { Upholds (2 ^ 14 + 14 * 64) self.old.pages (C.told chip.old)
             result self.new.pages (C.told chip.new) }
         ensures complete { FailsByChip self.old.pages result (C.told chip.old) }
@@ -111,6 +113,8 @@ impl Transactions {
         requires open { AreOpenSessions self.old.sessions numbers.now }
         requires few { length numbers.now ≤ SESSIONS }
         requires left { self.old.pages.parts.counter + 2 ^ 15 < 2 ^ 64 }
+        requires numbers { kept.old.room ≡ self.old.pages.parts.status.most }
+        ensures numbers { kept.new.room ≡ kept.old.room }
         ensures turns { Turns (λ state. after_batch state numbers.now) (2 ^ 15)
             self.old (C.told chip.old) result self.new (C.told chip.new) }
         ensures complete { FailsByChip self.old.pages result (C.told chip.old) }

@@ -8,7 +8,7 @@ ghost use Rattle.ipl_store.specs.Openings.{Tries, Reopens, Restarts, OpensAs};
 use crate::Store;
 use crate::transactions::Transactions;
 use chip_trait::Chip;
-use ipl_base::{Geometry, ImageFault, OpenFault, OutOfMemory};
+use ipl_base::{Geometry, ImageFault, OpenFault, OutOfMemory, STATUS_NUMBERS};
 use page_frames::Pages;
 use record_locks::Sessions;
 use restart::{KeptNumbers, Scratch, recover};
@@ -36,7 +36,7 @@ impl Store {
         let sessions = Sessions::new(alloc, sessions)?;
         Ok(Store {
             transactions: Transactions { pages, sessions },
-            kept: KeptNumbers::new(alloc)?,
+            kept: KeptNumbers::new(alloc, STATUS_NUMBERS)?,
             scratch: Scratch::new(alloc, geometry)?,
             units: geometry.units(),
             frames,

@@ -22,7 +22,7 @@ returns-clause-fetches g c =
     let pages = c.bring-done.new.self in
     let rest = c.end.ensures.rest in record {
       calls = moved_calls (λ state. state) 14 store
-          (record store.transactions { pages = pages }) store.kept old after c.bring-done.result
+          (record store.transactions { pages = pages }) store.kept refl old after c.bring-done.result
           c.end.result c.end.new.self c.requires.up c.requires.sound
           (pages_move 14 store.transactions pages old after c.bring-done.result
           (c.requires.sound.order c.requires.up) c.bring-done.ensures.works.upholds

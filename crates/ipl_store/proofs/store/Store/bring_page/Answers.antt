@@ -10,7 +10,7 @@ returns-clause-calls g c =
     let old = g.C.Chip.told c.args.chip.now in
     let after = g.C.Chip.told c.bring-done.new.chip in
     let pages = c.bring-done.new.self in
-    moved_calls (λ state. state) 14 store (record store.transactions { pages = pages }) store.kept
+    moved_calls (λ state. state) 14 store (record store.transactions { pages = pages }) store.kept refl
     old after c.bring-done.result c.end.result c.end.new.self
     c.requires.up c.requires.sound
     (pages_move 14 store.transactions pages old after c.bring-done.result (c.requires.sound.order c.requires.up) c.bring-done.ensures.works.upholds

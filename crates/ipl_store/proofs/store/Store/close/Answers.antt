@@ -20,7 +20,7 @@ returns-in_err-end g c =
     c.from_residual-in_err-end.ensures.1 in
     rw (e.1 ∙ ap Err e.2) (record {
       closes = closes_unready early store c.end.new.self old told c.in_err-end.field-0.0 none
-          (readies store c.ready_status-ready.new.self c.ready_status-ready.new.kept old told
+          (readies store c.ready_status-ready.new.self c.ready_status-ready.new.kept ready.numbers old told
           c.ready_status-ready.result (Err c.in_err-end.field-0.0) c.end.new.self
           (let_in store refusal none).0 c.requires.sound ready.upholds ready.complete ready.faults
           c.in_err-end.ensures.rest c.in_err-end.ensures.ends early none)
@@ -40,7 +40,7 @@ returns g c =
     record {
       closes = closes_marked early store c.end.new.self c.write_mark.new.self old told
           (g.C.Chip.told c.write_mark.new.chip) c.write_mark.result none
-          (readies store c.ready_status-ready.new.self c.ready_status-ready.new.kept old told
+          (readies store c.ready_status-ready.new.self c.ready_status-ready.new.kept ready.numbers old told
           c.ready_status-ready.result (Ok tt) c.end.new.self
           (let_in store refusal none).0 c.requires.sound ready.upholds ready.complete ready.faults
           c.in_ok-end.ensures.rest c.in_ok-end.ensures.ends early none)

@@ -33,7 +33,7 @@ returns-clause-calls g c =
     ap (early_fault (entry_fault store)) (sym c.refuses_end.ensures) ∙ sym c.in_ok-admit.ensures in
     let (up, few, free) = let_in store refusal none in
     moved_calls (λ state. after_commit state c.args.s) (2 ^ 15) store c.commit-done.new.self
-    c.commit-done.new.kept old after c.commit-done.result c.end.result c.end.new.self up
+    c.commit-done.new.kept c.commit-done.ensures.numbers old after c.commit-done.result c.end.result c.end.new.self up
     c.requires.sound (turns_move (λ state. after_commit state c.args.s) (2 ^ 15)
     store.transactions c.commit-done.new.self old after c.commit-done.result
     c.commit-done.ensures.turns c.commit-done.ensures.complete

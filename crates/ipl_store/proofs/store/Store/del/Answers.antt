@@ -23,7 +23,7 @@ returns-clause-calls g c =
     ap (early_fault (entry_fault store)) (sym c.refuses_del.ensures) ∙ sym c.in_ok-admit.ensures in
     let (up, few, free) = let_in store refusal none in
     moved_calls (λ state. after_write state c.args.s (c.args.n, None)) 14 store
-    c.write-done.new.self store.kept old after c.write-done.result c.end.result c.end.new.self up
+    c.write-done.new.self store.kept refl old after c.write-done.result c.end.result c.end.new.self up
     c.requires.sound
     (writes_move (λ state. after_write state c.args.s (c.args.n, None)) 14 store.transactions
     c.write-done.new.self old after c.write-done.result c.write-done.ensures.turns

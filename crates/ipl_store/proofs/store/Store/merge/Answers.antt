@@ -27,7 +27,7 @@ returns-clause-calls g c =
     in
     let (up, few, free) = let_in store refusal none in
     moved_calls (λ state. state) 13 store
-    (record store.transactions { pages = c.merge-done.new.self }) store.kept old after
+    (record store.transactions { pages = c.merge-done.new.self }) store.kept refl old after
     c.merge-done.result
     c.end.result c.end.new.self up c.requires.sound
     (pages_move 13 store.transactions c.merge-done.new.self old after c.merge-done.result

@@ -1,6 +1,9 @@
-use Rattle.std.proofs.Common.{◌≡◌, ℕ, length, true, false, refl, sym, ◌∙◌, subst}
+use Rattle.std.proofs.Common.{◌≡◌, ℕ, length, true, false, Result, Ok, Err, refl, sym, ◌∙◌, subst}
 use Rattle.std.proofs.lemmas.Result.{err_from_is_err_and}
 use Rattle.ipl_base.specs.Places.{KeepsUnits}
+use Rattle.ipl_base.specs.declared.fault.ImageFault.{ImageFault}
+use Rattle.unit_io.specs.Accounts.{Accounts}
+use Rattle.restart.specs.Recovers.{CompletesOpening, OpeningCause}
 use Rattle.ipl_store.specs.declared.store.Store.{Store}
 use Rattle.ipl_store.specs.Calls.{memory_of_store, IsMade}
 use Rattle.ipl_store.specs.Openings.{IsJustOpened}
@@ -17,12 +20,17 @@ returns-in_err-recovered-clause-sound g c =
     let made = c.forget.ensures.made places c.requires.sound.made in record {
       made = made_recovered places closed c.recover-recovered.new.parts
           c.recover-recovered.new.kept c.recover-recovered.new.scratch closed.units closed.down made
-          c.recover-recovered.ensures.sized made.units;
+          c.recover-recovered.ensures.sized c.recover-recovered.ensures.room made.units;
       order = λ up.
           let no : true ≡ false = sym c.forget.ensures.down.0 ∙ up in absurd (cc no);
       count = λ up.
           let no : true ≡ false = sym c.forget.ensures.down.0 ∙ up in absurd (cc no);
     }
+
+pub recover-recovered-requires-clause-room : goal.recover-recovered-requires-clause-room
+recover-recovered-requires-clause-room g c =
+    let made = c.forget.ensures.made (g.C.Chip.told c.args.chip.now).places c.requires.sound.made in
+    made.room ∙ sym made.most
 
 pub returns-in_err-recovered-clause-opens : goal.returns-in_err-recovered-clause-opens
 returns-in_err-recovered-clause-opens g c =
@@ -33,18 +41,22 @@ pub returns-in_err-recovered-clause-tries : goal.returns-in_err-recovered-clause
 returns-in_err-recovered-clause-tries g c =
     let places = (g.C.Chip.told c.args.chip.now).places in
     let says = c.in_err-recovered.ensures in
+    let most = (c.forget.ensures.made places c.requires.sound.made).most in
+    let old = g.C.Chip.told c.args.chip.now in
     let e = err_from_is_err_and c.from_residual.result c.from_residual.ensures.1 in
     rw (e.1, e.2) (record {
       tells = says.tells;
       steps = says.steps;
       looks = says.fails.looks;
-      complete = says.fails.complete;
+      complete = subst (λ (n : ℕ). CompletesOpening n places (Err c.in_err-recovered.field-0.0) old) most says.fails.complete;
       bytes = says.fails.bytes;
       tidy = says.leaves.tidy;
       marked = says.leaves.marked;
       costs = says.spends.costs;
       renewed = says.spends.renewed;
-      accounts = says.leaves.accounts;
+      accounts = subst (λ (n : ℕ). Accounts (OpeningCause n c.recover-recovered.new.parts.directory)
+          (Err c.in_err-recovered.field-0.0) old (g.C.Chip.told c.recover-recovered.new.chip))
+          (says.room.0 ∙ most) says.leaves.accounts;
       all = says.sized.1;
       units = subst (λ (n : ℕ). KeepsUnits n
           (length c.recover-recovered.new.parts.directory.current)) says.sized.1
@@ -72,7 +84,7 @@ made g c =
     made_recovered places c.forget.new.self c.recover-recovered.new.parts
     c.recover-recovered.new.kept c.recover-recovered.new.scratch c.units-self.result false
     (c.forget.ensures.made places c.requires.sound.made) c.recover-recovered.ensures.sized
-    (counted g c)
+    c.recover-recovered.ensures.room (counted g c)
 
 fresh : (g : Over) (c : goal.After-self-2-1 g) → IsJustOpened (opened g c)
 fresh g c = record { up = refl; unclosed = c.forget.ensures.down.1; idle = c.forget.ensures.idle; empty = c.forget.ensures.empty }
@@ -90,19 +102,26 @@ returns-clause-opens g c =
     c.args.marks old
     (g.C.Chip.told c.recover-recovered.new.chip) says.tells says.steps says.leaves.number says.leaves.left
 
+abbrev opened_so : Unit {0} → Result (Unit {0}) ImageFault
+opened_so done = Ok done
+
 pub returns-clause-tries : goal.returns-clause-tries
 returns-clause-tries g c =
-    let says = c.in_ok-recovered.ensures in record {
+    let says = c.in_ok-recovered.ensures in
+    let old = g.C.Chip.told c.args.chip.now in
+    let most = (c.forget.ensures.made old.places c.requires.sound.made).most in record {
       tells = says.tells;
       steps = says.steps;
       looks = says.fails.looks;
-      complete = says.fails.complete;
+      complete = subst (λ (n : ℕ). CompletesOpening n old.places (Ok tt) old) most says.fails.complete;
       bytes = says.fails.bytes;
       tidy = says.leaves.tidy;
       marked = says.leaves.marked;
       costs = says.spends.costs;
       renewed = says.spends.renewed;
-      accounts = says.leaves.accounts;
+      accounts = subst (λ (n : ℕ). Accounts (OpeningCause n c.recover-recovered.new.parts.directory)
+          (opened_so tt) old (g.C.Chip.told c.recover-recovered.new.chip))
+          (says.room.0 ∙ most) says.leaves.accounts;
       all = says.sized.1;
       units = subst (λ (n : ℕ). KeepsUnits n
           (length c.recover-recovered.new.parts.directory.current)) says.sized.1
