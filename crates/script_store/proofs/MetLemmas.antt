@@ -17,7 +17,7 @@ use Rattle.ipl_meaning.specs.Tables.{Tables}
 use Rattle.ipl_meaning.proofs.NoFaultLemmas.{no_fault_is_laid}
 use Rattle.page_frames.specs.Faulty.{TellsStory}
 use Rattle.page_frames.specs.Pages.{tables_in}
-use Rattle.restart.specs.Recovers.{IsOpeningFault, FailsByCallAlone}
+use Rattle.restart.specs.Recovers.{IsOpeningFault, FailsApart}
 use Rattle.store_laws.specs.Advances.{MemoryFits}
 use Rattle.store_laws.specs.Keeps.{KnownPages, KeepsStore}
 use Rattle.ipl_store.specs.Calls.{memory_of_store, view_of, BlamesPages}
@@ -84,6 +84,7 @@ opening_met marks places image.NotFormatted before after t tries h added told = 
 opening_met marks places (image.Missing u) before after t tries h added told = tt
 opening_met marks places image.Spent before after t tries h added told = tt
 opening_met marks places (image.NoSpare n) before after t tries h added told = tt
+opening_met marks places image.TooManyNumbers before after t tries h added told = tt
 opening_met marks places (image.Chip e) before after t tries h added told = λ unfailed.
     record {
       later = added;
@@ -95,14 +96,19 @@ opening_met marks places (image.Chip e) before after t tries h added told = λ u
     x : Contents
     x = held h.start h.story
 
-    alone : ¬ IsFailedCall e → ¬ FailsByCallAlone (image.Chip e)
-    alone unfailed (f, is, failed) = let same : e ≡ f = cc is in unfailed (subst IsFailedCall (sym same) failed)
+    no_room : image.Chip e ≡ image.TooManyNumbers → ⊥
+    no_room is = cc is
 
-    by_fault : ¬ FailsByCallAlone (image.Chip e) → IsOpeningFault places x (image.Chip e)
+    alone : ¬ IsFailedCall e → ¬ FailsApart (image.Chip e)
+    alone unfailed (inr is) = no_room is
+    alone unfailed (inl (f, is, failed)) = let same : e ≡ f = cc is in unfailed (subst IsFailedCall (sym same) failed)
+
+    by_fault : ¬ FailsApart (image.Chip e) → IsOpeningFault places x (image.Chip e)
         → (first_fault (chart_of x) places ≡ Some (image.Chip e)) ⊎ IsOfAPage places x e
     by_fault called (inl first) = inl first
     by_fault called (inr (none, is)) =
-        let bytes = tries.bytes x told (λ read. called (ReadFault, read, tt)) (λ stopped. called (Stopped, stopped, tt))
+        let bytes = tries.bytes x told (λ read. called (inl (ReadFault, read, tt)))
+        (λ stopped. called (inl (Stopped, stopped, tt))) no_room
         (inr none) in
         let chip = is.is in
         let same : is.fault ≡ e = cc chip in

@@ -139,6 +139,7 @@ image_wears entry (image.Chip e) after worn = chip_wears entry e after
     (λ n is. worn (ap (λ (f : ChipFault). ends_worn_out (Err (image.Chip f))) is))
 image_wears entry image.Spent after worn = tt
 image_wears entry (image.NoSpare n) after worn = tt
+image_wears entry image.TooManyNumbers after worn = tt
 
 -- ---- the first opening of a run
 

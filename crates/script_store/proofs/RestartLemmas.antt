@@ -32,7 +32,9 @@ use Rattle.unit_io.specs.Leads.{IsSteady}
 use Rattle.page_frames.specs.Pages.{tables_in}
 use Rattle.unit_io.specs.StepLaws.{Preserves}
 use Rattle.place_taking.proofs.SpendingLemmas.{or_right}
-use Rattle.restart.proofs.CompleteLemmas.{completes_whole}
+use Rattle.ipl_base.specs.declared.limits.TheConstants.{STATUS_NUMBERS}
+use Rattle.restart.proofs.LookLemmas.{never_many}
+use Rattle.restart.proofs.CompleteLemmas.{apart_by_call, completes_whole}
 use Rattle.restart.specs.Recovers.{IsOpeningFault, FailsByCallAlone, OpeningCause, tells_wear}
 use Rattle.restart.proofs.ReadyLemmas.{layouts_say}
 use Rattle.store_trait.specs.declared.fault.Fault.{Fault}
@@ -73,7 +75,7 @@ none_clean next = record {
     masks = [];
   };
   overflow = record { places = 0; spots = []; masks = []; in_use = [] };
-  status = record { place = 0; generation = 0; numbers = []; first = 256 };
+  status = record { place = 0; generation = 0; numbers = []; most = 0; first = 256 };
   next = next;
   active = [];
 }
@@ -149,7 +151,7 @@ never_else : (e : ImageFault) → ¬ SaysFailedCall (Image e)
 never_else e other fails = other (says_call e (fails (λ by. other (says_call e by))))
 
 -- where no call of the chip failed it would have been done
-rose_for : (d : Places) (e : ImageFault) (before after : Told) → OpeningCause d e before after
+rose_for : (d : Places) (e : ImageFault) (before after : Told) → OpeningCause STATUS_NUMBERS d e before after
     → (¬ FailsByCallAlone e → FailsByCallAlone e)
     → ChipRose before after × SaysFailedCall (Image e)
 rose_for d (image.Chip ReadFault) before after cause fails = (inl (cause.read refl), tt)
@@ -170,11 +172,12 @@ rose_for d image.Spent before after cause fails =
     absurd (never_else image.Spent (λ none. none) fails)
 rose_for d (image.NoSpare n) before after cause fails =
     absurd (never_else (image.NoSpare n) (λ none. none) fails)
+rose_for d image.TooManyNumbers before after cause fails = absurd (never_many refl (cause.many refl))
 
 -- and its cause, where the tables then are of so many places, and as many units as may be kept
 image_cause : (places : ℕ) (d : Places) (e : ImageFault) (before after : Told)
     → length d.in_use ≡ places → KeepsUnits places (length d.current)
-    → OpeningCause d e before after → ImageCause places e before after
+    → OpeningCause STATUS_NUMBERS d e before after → ImageCause places e before after
 image_cause places d (image.Chip ReadFault) before after all keeps cause = cause.read refl
 image_cause places d (image.Chip Stopped) before after all keeps cause = cause.stopped refl
 image_cause places d (image.Chip (Damaged p s stored computed)) before after all keeps cause =
@@ -194,6 +197,7 @@ image_cause places d image.NotFormatted before after all keeps cause = tt
 image_cause places d (image.Missing u) before after all keeps cause = tt
 image_cause places d image.Spent before after all keeps cause = tt
 image_cause places d (image.NoSpare n) before after all keeps cause = tt
+image_cause places d image.TooManyNumbers before after all keeps cause = never_many refl (cause.many refl)
 
 -- a chip that is laid out fails with what is wrong with a page, or since its numbers are used up, or where a call failed
 never_laid : (places : ℕ) (x : Contents) (it : Layout) (e : ImageFault) → Laid places (chart_of x) it
@@ -211,7 +215,7 @@ never_laid places x it e laid unless apart unspent = elim (unless (λ (f, is, ca
 -- so many units
 image_tells : (places units : ℕ) (d : Places) (e : ImageFault) (before after : Told)
     → length d.in_use ≡ places → (tells_wear e ≡ true → length d.current ≡ units)
-    → OpeningCause d e before after → (((f : ChipFault) → e ≢ image.Chip f) → e ≢ image.Spent → ⊥)
+    → OpeningCause STATUS_NUMBERS d e before after → (((f : ChipFault) → e ≢ image.Chip f) → e ≢ image.Spent → ⊥)
     → ImageTells (spares_on places units) e
 image_tells places units d (image.Chip ReadFault) before after all many cause never = tt
 image_tells places units d (image.Chip Stopped) before after all many cause never = tt
@@ -226,6 +230,7 @@ image_tells places units d image.NotFormatted before after all many cause never 
 image_tells places units d (image.Missing u) before after all many cause never = never (λ f is. cc is) (λ is. cc is)
 image_tells places units d image.Spent before after all many cause never = tt
 image_tells places units d (image.NoSpare n) before after all many cause never = never (λ f is. cc is) (λ is. cc is)
+image_tells places units d image.TooManyNumbers before after all many cause never = never_many refl (cause.many refl)
 
 -- the fault is that the numbers are used up, or the chart has none
 spent_or_none : (places : ℕ) (x : Contents) (it : Layout) (e : ImageFault)
@@ -380,7 +385,8 @@ module _ (known : KnownPages) (a b : ScriptStore) (before after : Told) (runs : 
         image_tells before.places a.store.units t.places e before after tries.all
             (λ worn. tries.costs.units (or_right false (tells_wear e) worn) x told
             ∙ as_many state h keeps) tries.accounts.cause
-            (never_laid before.places x shown.layout e laid (tries.tells x told)),
+            (never_laid before.places x shown.layout e laid
+            (λ unfailed. tries.tells x told (λ apart. unfailed (apart_by_call refl tries.accounts.cause apart)))),
       )
         where
           x : Contents
@@ -403,21 +409,22 @@ module _ (known : KnownPages) (a b : ScriptStore) (before after : Told) (runs : 
           fails : counter_of a.store + WORK_DRAWS < 2 ^ 63 → known.pages ≡ every → ¬ FailsByCallAlone e
               → FailsByCallAlone e
           fails low all unfailed =
-              let fault = tries.tells x told unfailed in
+              let fault = tries.tells x told (λ apart. unfailed (apart_by_call refl tries.accounts.cause apart)) in
               let bytes = tries.bytes x told (λ is. unfailed (ReadFault, is, tt))
-              (λ is. unfailed (Stopped, is, tt))
+              (λ is. unfailed (Stopped, is, tt)) (λ is. never_many refl (tries.accounts.cause.many is))
               (spent_or_none before.places x shown.layout e laid fault) in
               let none = laid_has_no_fault (chart_of x) before.places shown.layout bytes laid
               (above low) in
               let in_it = no_fault_is_laid (chart_of x) before.places bytes none in
-              completes_whole before.places (Err e) before tries.complete x told state.map none
+              apart_by_call refl tries.accounts.cause
+              (completes_whole STATUS_NUMBERS before.places (Err e) before tries.complete x told state.map none
               (layouts_say before.places (chart_of x) (layout_in (chart_of x) before.places)
               (whole state.map) in_it (record {
                 layout = shown.layout;
                 laid = laid;
                 says = subst (λ (pages : Legibility). Says before.places (chart_of x) shown.layout (of pages state.map)) all
                     shown.says;
-              }))
+              })))
 
   -- a restart
   pub restart_does : (result : Result (Unit {0}) ImageFault)

@@ -46,6 +46,7 @@ ImageMet places (image.Missing u) h = Unit {0}
 ImageMet places (image.Chip e) h = IsMetFault places e h
 ImageMet places image.Spent h = Unit {0}
 ImageMet places (image.NoSpare n) h = Unit {0}
+ImageMet places image.TooManyNumbers h = Unit {0}
 
 -- whether the chip was open or was to be opened again
 abbrev pub SectorMet : ℕ → History → Fault → Type 0

@@ -123,6 +123,7 @@ ImageWears entry (image.Missing u) t = Unit {0}
 ImageWears entry (image.Chip e) t = ChipWears entry e t
 ImageWears entry image.Spent t = Unit {0}
 ImageWears entry (image.NoSpare n) t = Unit {0}
+ImageWears entry image.TooManyNumbers t = Unit {0}
 
 -- a fault that tells of wear comes only where too many places are worn
 abbrev pub FaultWears : Told → Fault → Told → Type 0
