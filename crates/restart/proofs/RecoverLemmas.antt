@@ -132,7 +132,7 @@ damaged_is_no_read p s stored computed e = cc
 worn_is_no_read : (n : ℕ) → ◌≡◌ {A = ImageFault} (Chip (WornOut n)) (Chip ReadFault) → ⊥
 worn_is_no_read n e = cc
 
-no_room_is_no_call : (fault : ChipFault) → ◌≡◌ {A = ImageFault} (Chip fault) TooManyNumbers → ⊥
+pub no_room_is_no_call : (fault : ChipFault) → ◌≡◌ {A = ImageFault} (Chip fault) TooManyNumbers → ⊥
 no_room_is_no_call fault e = cc
 
 -- a fault of a call of the chip, or of a sector, isn't about the memory for numbers

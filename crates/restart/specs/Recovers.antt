@@ -236,11 +236,12 @@ pub record OpeningCause (most : ℕ) (after : Places) (e : ImageFault) (old new 
 -- ---- an opening, however it ends
 
 -- Why it fails over what the chip holds: a chip with a fault was only read; where it has none and its pages say a
--- map, only since a call of the chip failed or the committed numbers have no room; and what it read is bytes, also where
--- the numbers are used up.
+-- map, only since a call of the chip failed or the committed numbers have no room, and then the chip was only read too; and
+-- what it read is bytes, also where the numbers are used up.
 pub record OpeningFails (most places : ℕ) (result : Result (Unit {0}) ImageFault) (old new : Told) : Type 0 where
   pub looks : LooksAtFaults places old result new
   pub complete : CompletesOpening most places result old
+  pub unwritten : IfErr result (λ e. e ≡ TooManyNumbers → OnlyReads old new)
   pub bytes : ReadsBytes places old result
 
 -- the next number comes behind the greatest that was found, and few were drawn in between

@@ -51,8 +51,8 @@ pub fn recover<C: Chip>(
         (tables_of parts.new) (C.told chip.new) }
 
     // Why it fails over what the chip holds: where that has no fault and its pages say a map, only
-    // where a call of the chip failed or the committed numbers have no room. What it read is bytes, also where it fails since the numbers are
-    // used up.
+    // where a call of the chip failed or the committed numbers have no room; and then it was only read.
+    // What it read is bytes, also where it fails since the numbers are used up.
     ensures fails { OpeningFails parts.old.status.most (C.told chip.old).places result (C.told chip.old) (C.told chip.new) }
 
     // What the tables have, whatever the chip tells. Whatever the chip holds, what it adds is lawful after

@@ -20,7 +20,7 @@ use Rattle.restart.specs.Securing.{knows_logs, waits_for}
 use Rattle.restart.specs.Recovers.{HasOpened, ErasesOpening, ErasesWaiting, LeavesOpened, RecoversInSteps, tells_wear}
 use Rattle.restart.specs.Passes.{TellsChart, FitTogether, KeepsAll, RenewCause, RenewsTold, KeepsInSteps, FailsAsRenewal, CompletesRenewal}
 use Rattle.restart.proofs.CostLemmas.{erases_more, waiting_alone, waiting_then, waiting_ended, waiting_then_renewed, reads_then_wait}
-use Rattle.restart.proofs.RecoverLemmas.{of_parts, opened_parts, reading_cause, reading_not_worn, renewing_cause, opens_told, opens_done, fault_looks, sound_looks, reads_recover, securing_failed, recovers_done, recovers_failed, tidies_settled, tidies_renewed, tidies_ended}
+use Rattle.restart.proofs.RecoverLemmas.{no_room_is_no_call, of_parts, opened_parts, reading_cause, reading_not_worn, renewing_cause, opens_told, opens_done, fault_looks, sound_looks, reads_recover, securing_failed, recovers_done, recovers_failed, tidies_settled, tidies_renewed, tidies_ended}
 use Rattle.restart.proofs.CompleteLemmas.{mergeable_but, call_failed, reading_failed, stopped_failed}
 use Rattle.restart.proofs.FaultLemmas.{opening_fault}
 use Rattle.txn_status.specs.Status.{keeps_of}
@@ -69,6 +69,7 @@ returns-in_err-found-clause-fails g c =
       complete = λ x told m some none pages all fit. reading_failed c.args.parts.now.status.most old.places (chart_of x) fault old mid
           (says.fault x told) says.looks.only.cause none;
       bytes = λ x told. says.bytes x told;
+      unwritten = λ many. c.read_tables.ensures.looks.only.reads;
     })
 
 pub returns-in_err-found-clause-leaves : goal.returns-in_err-found-clause-leaves
@@ -163,6 +164,7 @@ returns-in_err-secure_marks-clause-fails g c =
       complete = λ x told m some none says all fit. stopped_failed fault mid settled
           c.in_err-secure_marks.ensures.accounts.cause;
       bytes = λ x told no_read no_stop roomy why. c.in_ok-found.ensures.bytes x told;
+      unwritten = λ many. absurd (no_room_is_no_call fault many);
     })
 
 pub returns-in_err-secure_marks-clause-leaves : goal.returns-in_err-secure_marks-clause-leaves
@@ -331,6 +333,7 @@ returns-in_err-renew_with-clause-fails g c =
           some (mergeable_but old.places (chart_of x) it m some t says all (c.read_tables.ensures.active ∙ c.requires.active))
           (subst (λ (most : ℕ). FitTogether most it some) (sym c.read_tables.ensures.room.0) fit));
       bytes = λ x told no_read no_stop roomy why. c.in_ok-found.ensures.bytes x told;
+      unwritten = λ many. absurd (no_room_is_no_call fault many);
     })
 
 pub returns-in_err-renew_with-clause-leaves : goal.returns-in_err-renew_with-clause-leaves
@@ -465,6 +468,7 @@ returns-clause-fails g c =
           c.in_ok-found.ensures.fault;
       complete = λ x told m some none says all fit. tt;
       bytes = λ x told. c.in_ok-found.ensures.bytes x told;
+      unwritten = tt;
     }
 
 pub returns-clause-leaves : goal.returns-clause-leaves
