@@ -33,7 +33,7 @@ pub use command::{Command, PutBytes, Sessions};
 pub use laws::run_laws;
 pub use laws_of_sessions::session_laws;
 pub use line::Line;
-pub use numbers::{has_bad_session, least_twice};
+pub use numbers::least_twice;
 pub use plain_model::PlainModel;
 pub use reply::Reply;
 pub use rules::{fill_laws, rule_laws};

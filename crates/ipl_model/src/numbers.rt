@@ -7,7 +7,7 @@ ghost use Rattle.ipl_model.specs.Refusals.{is_twice};
 use ipl_base::SESSIONS;
 
 /// Whether one of these is no session's number.
-pub fn has_bad_session(numbers: &[u32]) -> bool
+pub(crate) fn has_bad_session(numbers: &[u32]) -> bool
     ensures { result ≡ list_any (λ s. nat_le SESSIONS s) numbers.now }
 {
     numbers.iter().any(|s| *s >= SESSIONS)
