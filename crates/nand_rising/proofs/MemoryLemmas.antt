@@ -1,8 +1,7 @@
 -- A chip over an erased part in memory.
-use Rattle.std.proofs.Common.{◌≡◌, ◌<◌, ◌/◌, ℕ, Bool, true, false, cond, ltb, Option, Some, None, IfSome, ◌∙◌, ap, sym, refl, subst}
+use Rattle.std.proofs.Common.{◌≡◌, ◌/◌, ℕ, Bool, true, false, cond, ltb, Some, IfSome, ◌∙◌, ap, sym, refl, subst}
 use Rattle.std.proofs.Math.Path.{fun_ext}
-use Rattle.chip_trait.specs.Story.{Contents, blank}
-use Rattle.chip_trait.specs.Told.{Told}
+use Rattle.chip_trait.specs.Story.{blank}
 use Rattle.chip_mem.specs.Sectors.{erased}
 use Rattle.chip_mem.specs.Tells.{none_yet, telling_contents}
 use Rattle.nand_2k.specs.declared.part.Status.TheVariants.{Passed}

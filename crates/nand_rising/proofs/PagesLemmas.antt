@@ -1,5 +1,5 @@
 -- What slots over pages tell after each kind of call.
-use Rattle.std.proofs.Common.{◌≡◌, ◌≢◌, ◌⊎◌, ◌≤◌, ◌<◌, zero, suc, ℕ, ◌+◌, ◌*◌, ◌/◌, ◌%◌, Bool, true, false, cond, leb, ltb, eqb, List, Option, Some, None, IfSome, ◌∙◌, ap, sym, refl, subst, arith, inl, inr}
+use Rattle.std.proofs.Common.{◌≡◌, ◌≢◌, ◌≤◌, ◌<◌, suc, ℕ, ◌+◌, ◌*◌, ◌/◌, ◌%◌, Bool, true, false, cond, leb, ltb, eqb, List, Option, Some, None, IfSome, ◌∙◌, ap, sym, refl, subst, arith, inl, inr}
 use Rattle.std.specs.Prelude.{◌&&◌}
 use Rattle.std.specs.Option.{option_map}
 use Rattle.std.proofs.Math.Path.{fun_ext}
@@ -12,7 +12,7 @@ use Rattle.nand_rising.specs.Slots.{IsErasedFrom}
 use Rattle.nand_rising.specs.Shapes.{is_served, slots_per_block, blocks_per_place, block_at, IsFrom, AreErasedFrom}
 use Rattle.nand_2k.specs.Part.{with_request}
 use Rattle.nand_rising.specs.Pages.{slots_in, asking_erases}
-use Rattle.nand_rising.proofs.ShapeLemmas.{whole_place, slot_block, slot_index, same_slot}
+use Rattle.nand_rising.proofs.ShapeLemmas.{whole_place, slot_block, same_slot}
 
 -- what holds of what is made of the contents, where they are told
 pub if_mapped : {X Y : Type 0} (r : Option X) (f : X → Y) (P : Y → Type 0) → IfSome r (λ x. P (f x)) → IfSome (option_map f r) P

@@ -1,4 +1,4 @@
-use Rattle.std.proofs.Common.{rules, ◌≡◌, ◌≤◌, ◌+◌, ◌*◌, ◌/◌, ◌∙◌, ap, sym, refl, arith, ℕ}
+use Rattle.std.proofs.Common.{rules, ◌≡◌, ◌+◌, ◌*◌, ◌/◌, ◌∙◌, ap, refl, arith, ℕ}
 use Rattle.std.specs.Option.{option_map}
 use Rattle.nand_rising.specs.declared.shape.Shape.{Shape}
 use Rattle.nand_rising.specs.Shapes.{blocks_per_place}

@@ -1,6 +1,5 @@
-use Rattle.std.proofs.Common.{◌≡◌, ◌/◌, ◌∙◌, ap, refl, Option}
+use Rattle.std.proofs.Common.{◌≡◌, ◌/◌, ◌∙◌, ap, refl}
 use Rattle.std.specs.Option.{option_map}
-use Rattle.chip_trait.specs.Story.{Contents}
 use Rattle.nand_rising.specs.declared.shape.Shape.{Shape}
 use Rattle.nand_rising.specs.Shapes.{blocks_per_place}
 use Rattle.nand_rising.specs.Pages.{slots_in}
