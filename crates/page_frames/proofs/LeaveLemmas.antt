@@ -61,9 +61,9 @@ gone_upholds u page f old new t ready same there empty is pins = record {
         let was = left_there v q g (ap (λ (F : Frames). F v q) (sym is) ∙ found) in
         subst (λ parts. v < length parts.directory.current) (sym same) (ready.within v q g was);
     rest = rest_stays old.pool new.pool pins ready.rest;
-    roomy = ap (λ parts. parts.status.most) same ∙ ready.roomy;
   };
   units = ap (λ parts. length parts.directory.current) same;
+  room = ap (λ parts. parts.status.most) same;
   active = ap (λ parts. parts.active) same;
   pins = pins;
   least = subst (λ parts. old.parts.counter ≤ parts.counter) (sym same) (omega arith);

@@ -154,9 +154,9 @@ frames_uphold old new later result before after ready tables is within keeps rea
         within = λ v q g there. subst (λ (t : Tables). v < length t.places.current) (sym tables)
             (within v q g (ap (λ (F : Frames). F v q) (sym is) ∙ there));
         rest = rest_stays old.pool new.pool pins ready.rest;
-        roomy = ap (λ (t : Tables). t.status.most) tables ∙ ready.roomy;
       };
       units = ap (λ (t : Tables). length t.places.current) tables;
+      room = ap (λ (t : Tables). t.status.most) tables;
       active = ap (λ (t : Tables). t.active) tables;
       pins = pins;
       least = let same = ap (λ (t : Tables). t.next) tables in omega (arith, same);

@@ -117,9 +117,9 @@ out_done u page payload old new before after ready spelled did pins tells steps 
             let low = ready.within v q was.0 was.1 in
             omega (arith, low, holds.units);
         rest = rest_stays old.pool new.pool pins ready.rest;
-        roomy = ap (λ (it : StatusTable). it.most) holds.status ∙ ready.roomy;
       };
       units = holds.units;
+      room = ap (λ (it : StatusTable). it.most) holds.status;
       active = holds.active;
       pins = pins;
       least = leaves.draws.0;

@@ -126,7 +126,7 @@ pub tables_uphold : (most : ℕ) (old new : Pages) (result : Result (Unit {0}) C
     → (old.parts.counter ≤ new.parts.counter) × (new.parts.counter ≤ old.parts.counter + most)
     → Accounts (PageCause new.parts.directory) result before after
     → Upholds most old before result new after
-tables_uphold most old new result before after ready same known units active roomy keeps tidy wears draws
+tables_uphold most old new result before after ready same known units active room keeps tidy wears draws
     accounts = record {
       keeps = subst (λ (f : Frames). KeepsState (tables_in old) (frames_in old) before result
           (tables_in new) f after) (ap frames_of (sym same)) keeps;
@@ -139,9 +139,9 @@ tables_uphold most old new result before after ready same known units active roo
             ready.within u page f (ap (λ (p : PoolView). frames_of p u page) (sym same) ∙ there) in
             omega (arith, was, units);
         rest = subst IsAtRest (sym same) ready.rest;
-        roomy = roomy ∙ ready.roomy;
       };
       units = units;
+      room = room;
       active = active;
       pins = subst (KeepsPins old.pool) (sym same) (nothing_keeps old.pool);
       least = draws.0;

@@ -22,6 +22,7 @@ upholds_none most pages t ready = record {
       (alike_tables (tables_in pages) (tables_in pages) refl refl);
   ready = ready;
   units = refl;
+  room = refl;
   active = refl;
   pins = nothing_keeps pages.pool;
   least = omega arith;
@@ -44,6 +45,7 @@ upholds_then n m first between last result old mid new one two = record {
       (is_worn_out result) old mid new one.wears two.wears;
   ready = subst (λ (k : ℕ). ArePagesReady k last) one.accounts.counts.places two.ready;
   units = two.units ∙ one.units;
+  room = two.room ∙ one.room;
   active = two.active ∙ one.active;
   pins = both_keep first.pool between.pool last.pool one.pins two.pins;
   least = omega (arith, one.least, two.least);
@@ -61,6 +63,7 @@ upholds_weaker n m first last result old new fewer did = record {
   wears = did.wears;
   ready = did.ready;
   units = did.units;
+  room = did.room;
   active = did.active;
   pins = did.pins;
   least = did.least;

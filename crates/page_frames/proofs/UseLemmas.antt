@@ -37,9 +37,9 @@ used_upholds most old p t ready same pins = record {
     known = ready.known;
     within = λ v q f found. ready.within v q f (ap (λ (F : Frames). F v q) (sym same) ∙ found);
     rest = rest_stays old.pool p pins ready.rest;
-    roomy = ready.roomy;
   };
   units = refl;
+  room = refl;
   active = refl;
   pins = pins;
   least = omega arith;

@@ -3,7 +3,6 @@ use Rattle.std.specs.Prelude.{ℕ, ◌≡◌, ◌⊎◌, ◌≤◌, ◌<◌, ◌
 use Rattle.std.specs.Option.{option_map}
 use Rattle.chip_trait.specs.Told.{Told}
 use Rattle.ipl_base.specs.declared.fault.ChipFault.{ChipFault}
-use Rattle.ipl_base.specs.declared.limits.TheConstants.{STATUS_NUMBERS}
 use Rattle.ipl_meaning.specs.Chart.{chart_of}
 use Rattle.ipl_meaning.specs.Layout.{Layout}
 use Rattle.ipl_meaning.specs.Mirrors.{Mirrors}
@@ -84,14 +83,13 @@ KeepsValues u page old new = (f : PageFrame) → frames_in old u page ≡ Some f
 
 -- ---- what always holds between calls
 
--- The tables know each place, pages in frames are of their units, fewer pages are held than there are
--- frames, and all numbers of a status place have room.
+-- The tables know each place, pages in frames are of their units, and fewer pages are held than there are
+-- frames.
 pub record ArePagesReady (places : ℕ) (pages : Pages) : Type 0 where
   pub known : KnowsPlaces places (tables_in pages)
   pub within : (u page : ℕ) (f : PageFrame) → frames_in pages u page ≡ Some f
       → u < length pages.parts.directory.current
   pub rest : IsAtRest pages.pool
-  pub roomy : pages.parts.status.most ≡ STATUS_NUMBERS
 
 -- ---- causes
 
@@ -105,8 +103,8 @@ PageCause = RenewCause
 
 -- A call that keeps each state for which tables and frames stand, however it ends. Whatever the chip
 -- tells: its events are lawful by the tables, what is retired besides was found worn, a unit whose place
--- was erased is known, there are as many units, the same sessions are open, the same pages are held, at
--- most so many numbers were drawn, and a fault has its cause.
+-- was erased is known, there are as many units, as many committed numbers have room, the same sessions are
+-- open, the same pages are held, at most so many numbers were drawn, and a fault has its cause.
 pub record Upholds {T : Type 0} (most : ℕ) (old : Pages) (before : Told) (result : Result T ChipFault)
     (new : Pages) (after : Told) : Type 0 where
   pub keeps : KeepsState (tables_in old) (frames_in old) before result
@@ -115,6 +113,7 @@ pub record Upholds {T : Type 0} (most : ℕ) (old : Pages) (before : Told) (resu
   pub wears : TellsOfWear (tables_in old) (tables_in new) (is_ok result) (is_worn_out result) before after
   pub ready : ArePagesReady before.places new
   pub units : length new.parts.directory.current ≡ length old.parts.directory.current
+  pub room : new.parts.status.most ≡ old.parts.status.most
   pub active : new.parts.active ≡ old.parts.active
   pub pins : KeepsPins old.pool new.pool
   pub least : old.parts.counter ≤ new.parts.counter

@@ -117,7 +117,7 @@ IsChipFaultCause places (Damaged p s stored computed) old new = stored ≢ compu
 IsChipFaultCause places (Malformed p s) old new = Unit {0}
 IsChipFaultCause places (WornOut n) old new = IsWornCount places n × Rose old.worn_erases new.worn_erases
 
--- when an image isn't opened again: never since its numbers have no room
+-- when an image isn't opened again
 abbrev pub ImageCause : ℕ → ImageFault → Told → Told → Type 0
 ImageCause places image.Geometry old new = Unit {0}
 ImageCause places image.NotFormatted old new = Unit {0}
@@ -125,7 +125,7 @@ ImageCause places (image.Missing u) old new = Unit {0}
 ImageCause places (image.Chip e) old new = IsChipFaultCause places e old new
 ImageCause places image.Spent old new = Unit {0}
 ImageCause places (image.NoSpare n) old new = Unit {0}
-ImageCause places image.TooManyNumbers old new = ⊥
+ImageCause places image.TooManyNumbers old new = Unit {0}
 
 -- when each fault comes
 abbrev pub StoreCause : ℕ → Fault → Told → Told → Type 0
@@ -141,7 +141,8 @@ ChipTells spares (Damaged p s stored computed) = Unit {0}
 ChipTells spares (Malformed p s) = Unit {0}
 ChipTells spares (WornOut n) = n ≡ 1 + spares
 
--- and what stands for records, whichever pages read well, is formatted, misses no unit and has as many places as it needs
+-- and what stands for records, whichever pages read well, is formatted, misses no unit and has as many places as it needs,
+-- and its numbers have room in a store that kept them
 abbrev pub ImageTells : ℕ → ImageFault → Type 0
 ImageTells spares image.Geometry = ⊥
 ImageTells spares image.NotFormatted = ⊥
@@ -184,7 +185,7 @@ image_longer places (image.Chip e) first old new last before cause after =
     chip_longer places e first old new last before cause after
 image_longer places image.Spent first old new last before cause after = tt
 image_longer places (image.NoSpare n) first old new last before cause after = tt
-image_longer places image.TooManyNumbers first old new last before cause after = cause
+image_longer places image.TooManyNumbers first old new last before cause after = tt
 
 -- a cause is one for a longer time too
 pub cause_longer : (places : ℕ) (fault : Fault) (first old new last : Told) → Further first old
