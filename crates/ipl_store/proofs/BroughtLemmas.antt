@@ -146,6 +146,7 @@ moves_then next n m most old mid new before between after done did same turned c
       order = turns.order;
       units = turns.units;
       sessions = turns.sessions;
+      numbers = turns.numbers;
       limit = turns.pins.limit;
       least = turns.least;
       drawn = few;

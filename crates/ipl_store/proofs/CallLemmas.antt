@@ -43,7 +43,7 @@ use Rattle.ipl_store.specs.declared.transactions.Transactions.{Transactions}
 use Rattle.ipl_store.specs.Turns.{memory_in, CompletesFor, IsInOrder, TellsFaultsFor, TellsFaultsForSurely, Turns, TurnsInMemory}
 use Rattle.ipl_store.proofs.TurnLemmas.{completes_for, tells_for}
 use Rattle.ipl_store.specs.declared.store.Store.{Store}
-use Rattle.ipl_store.specs.Calls.{memory_of_store, view_of, counter_of, IsMade, IsSound, early_fault, ends_worn_out, entry_fault, down_fault, puts_down, tells_wear, EndsAs, BlamesPagesSurely, IsOfBadPage, IsOfTheChip, EndsFor, KeepsHolds, Calls}
+use Rattle.ipl_store.specs.Calls.{memory_of_store, view_of, counter_of, numbers_of, IsMade, IsSound, early_fault, ends_worn_out, entry_fault, down_fault, puts_down, tells_wear, EndsAs, BlamesPagesSurely, IsOfBadPage, IsOfTheChip, EndsFor, KeepsHolds, Calls}
 use Rattle.ipl_store.specs.Shown.{CostsOnePage, IsUsedLastIn}
 
 -- ---- before anything is done
@@ -70,6 +70,7 @@ calls_refused early next most store told result fault is calm answer sound = rec
   sound = sound;
   units = refl;
   sessions = refl;
+  numbers = refl;
   tidy = tables_none (tables_in store.transactions.pages) result told;
   wears = idle_wears store told result (ap ends_worn_out answer ∙ calm);
   counts = counts_none told;
@@ -138,6 +139,7 @@ pub record Moves (next : State → State) (most : ℕ) (old : Transactions) (bef
   pub order : IsInOrder before.places new
   pub units : length new.pages.parts.directory.current ≡ length old.pages.parts.directory.current
   pub sessions : length new.sessions ≡ length old.sessions
+  pub numbers : new.pages.parts.status.most ≡ old.pages.parts.status.most
   pub limit : new.pages.pool.limit ≡ old.pages.pool.limit
   pub least : old.pages.parts.counter ≤ new.pages.parts.counter
   pub drawn : new.pages.parts.counter ≤ old.pages.parts.counter + most
@@ -156,6 +158,7 @@ writes_move next most old new before after done did complete faults = record {
   order = did.order;
   units = did.units;
   sessions = did.sessions;
+  numbers = did.numbers;
   limit = did.pins.limit;
   least = did.least;
   drawn = did.drawn;
@@ -187,6 +190,7 @@ memory_moves next most old new told did order least drawn = record {
   order = did.order told.places order;
   units = ap (λ (d : Places). length d.current) did.directory;
   sessions = did.sessions;
+  numbers = did.numbers;
   limit = did.pins.limit;
   least = least;
   drawn = drawn;
@@ -208,6 +212,7 @@ pages_move most old pages before after result order did complete faults = record
   order = record { ready = did.ready; active = did.active ∙ order.active };
   units = did.units;
   sessions = refl;
+  numbers = did.room;
   limit = did.pins.limit;
   least = did.least;
   drawn = did.drawn;
@@ -307,6 +312,9 @@ module _ (next : State → State) (most : ℕ) (old : Store) (t : Transactions) 
   as_counted = ap (λ (it : Transactions). length it.pages.parts.directory.current) moved
       ∙ moves.units ∙ sound.count up ∙ sym as_many
 
+  as_roomy : numbers_of new ≡ numbers_of old
+  as_roomy = ap (λ (it : Transactions). it.pages.parts.status.most) moved ∙ moves.numbers
+
   made : IsMade before.places new
   made =
       let was = sound.made in record {
@@ -317,8 +325,7 @@ module _ (next : State → State) (most : ℕ) (old : Store) (t : Transactions) 
             ∙ moves.order.ready.known.suits.all;
         overflow = ap (λ (it : Transactions). it.pages.parts.overflow.places) moved
             ∙ moves.order.ready.known.suits.sized;
-        most = ap (λ (it : Transactions). it.pages.parts.status.most) moved ∙ moves.order.ready.roomy;
-        room = ap (λ (s : Store). s.kept.room) rest ∙ flags ∙ was.room;
+        room = ap (λ (s : Store). s.kept.room) rest ∙ flags ∙ was.room ∙ sym as_roomy;
         frames = ap (λ (s : Store). s.frames) rest ∙ was.frames ∙ sym moves.limit
             ∙ ap (λ (it : Transactions). it.pages.pool.limit) (sym moved);
         two = subst (λ (n : ℕ). 2 ≤ n) (sym (ap (λ (s : Store). s.frames) rest)) was.two;
@@ -357,6 +364,7 @@ module _ (next : State → State) (most : ℕ) (old : Store) (t : Transactions) 
     };
     units = as_many;
     sessions = ap (λ (it : Transactions). length it.sessions) moved ∙ moves.sessions;
+    numbers = as_roomy;
     tidy = tables_answered (tables_in old.transactions.pages) (tables_in new.transactions.pages) done
         result before after (same_answer done old.down new.down result ends)
         (subst (λ (it : Transactions).
@@ -407,6 +415,7 @@ let_in_calls early next most old before result new after none calls = record {
   sound = calls.sound;
   units = calls.units;
   sessions = calls.sessions;
+  numbers = calls.numbers;
   tidy = calls.tidy;
   wears = calls.wears;
   counts = calls.counts;
@@ -434,6 +443,7 @@ calls_as early next most old before v w new after did = record {
   sound = did.sound;
   units = did.units;
   sessions = did.sessions;
+  numbers = did.numbers;
   tidy = did.tidy;
   wears = did.wears;
   counts = did.counts;
@@ -461,6 +471,7 @@ calls_fail_as early next most old before fault new after did = record {
   sound = did.sound;
   units = did.units;
   sessions = did.sessions;
+  numbers = did.numbers;
   tidy = did.tidy;
   wears = did.wears;
   counts = did.counts;
@@ -485,6 +496,7 @@ idle_calls most store told early sound up none =
       order = sound.order up;
       units = refl;
       sessions = refl;
+      numbers = refl;
       limit = refl;
       least = omega arith;
       drawn = omega arith;
@@ -613,6 +625,7 @@ calls_joined early next most old mid t before after none up first did drawn = re
       second.sound;
   units = first.units;
   sessions = did.sessions ∙ first.sessions;
+  numbers = did.numbers ∙ first.numbers;
   tidy = tables_then {U = Unit {0}} {F = StoreFault} (Unit {0}) StoreFault (tables_in old.transactions.pages)
       (tables_in mid.transactions.pages) (tables_in t.pages) tt (Ok tt) before after after first.counts
       first.tidy second.tidy;
@@ -649,6 +662,7 @@ failed_calls early next most old before fault new after none calls = record {
   sound = calls.sound;
   units = calls.units;
   sessions = calls.sessions;
+  numbers = calls.numbers;
   tidy = calls.tidy;
   wears = calls.wears;
   counts = calls.counts;

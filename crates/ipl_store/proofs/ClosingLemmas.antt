@@ -13,14 +13,15 @@ use Rattle.unit_io.specs.Leads.{IsStopped}
 use Rattle.unit_io.specs.Steps.{Tidies}
 use Rattle.selective_merge.specs.Moving.{tables_of}
 use Rattle.selective_merge.specs.declared.parts.Parts.{Parts}
-use Rattle.restart.specs.Closing.{ClosesInSteps, EndsWithMark}
+use Rattle.restart.specs.Closing.{ClosesInSteps, EndsWithMark, MarksOrStays}
 use Rattle.page_frames.specs.declared.pages.Pages.{Pages}
 use Rattle.page_frames.specs.Complete.{FailsByChip}
 use Rattle.page_frames.specs.Faulty.{TellsFaults}
 use Rattle.page_frames.specs.Pages.{tables_in, Upholds}
+use Rattle.ipl_meaning.specs.Tables.{StatusTable}
 use Rattle.txn_status.specs.Status.{room_of}
 use Rattle.ipl_store.specs.declared.store.Store.{Store}
-use Rattle.ipl_store.specs.Calls.{counter_of, EndsAs, Calls, IsMade, IsSound}
+use Rattle.ipl_store.specs.Calls.{counter_of, numbers_of, EndsAs, Calls, IsMade, IsSound}
 use Rattle.ipl_store.specs.Closing.{ClosesStore, EndsMarking, MarksStore}
 use Rattle.record_locks.specs.Held.{SessionSlots}
 use Rattle.ipl_store.proofs.CallLemmas.{moved_calls, pages_move}
@@ -37,6 +38,12 @@ marked store parts = record store {
   closed = true;
 }
 
+-- as many committed numbers have room
+pub marked_roomy : (result : Result (Unit {0}) ChipFault) (old new : Parts) → MarksOrStays result old new
+    → new.status.most ≡ old.status.most
+marked_roomy (Ok v) old new leaves = ap (λ (s : StatusTable). s.most) leaves.marked
+marked_roomy (Err e) old new leaves = ap (λ (s : StatusTable). s.most) leaves.same
+
 -- the directory and the overflow lists are as they were
 pub made_marked : (places : ℕ) (store : Store) (parts : Parts) → IsMade places store
     → parts.status.most ≡ store.transactions.pages.parts.status.most
@@ -48,8 +55,7 @@ made_marked places store parts made roomy rest = record {
   scratch = made.scratch;
   directory = ap (λ (p : Parts). length p.directory.in_use) rest ∙ made.directory;
   overflow = ap (λ (p : Parts). p.overflow.places) rest ∙ made.overflow;
-  most = roomy ∙ made.most;
-  room = made.room;
+  room = made.room ∙ sym roomy;
   frames = made.frames;
   two = made.two;
 }
@@ -84,10 +90,11 @@ pub marks_store : (store : Store) (parts : Parts) (before after : Told)
     → OnOk written (Spends EndsWithMark before after)
     → Spends (ProgramsAt store.transactions.pages.parts.status.place 1 2 7) before after
     → Accounts IsStopped written before after
+    → parts.status.most ≡ numbers_of store
     → parts ≡ record store.transactions.pages.parts { status = parts.status; counter = parts.counter }
     → parts.counter ≤ counter_of store + 1
     → MarksStore store before result (marked store parts) after
-marks_store store parts before after written result ends steps tidy last costs accounts rest
+marks_store store parts before after written result ends steps tidy last costs accounts roomy rest
     drawn = record {
       written = written;
       ends = ends;
@@ -102,6 +109,7 @@ marks_store store parts before after written result ends steps tidy last costs a
       closed = refl;
       units = refl;
       sessions = refl;
+      numbers = roomy;
     }
 
 -- ---- the status place is made ready
@@ -145,6 +153,7 @@ closes_unready early store mid before told fault none calls idle = record {
     wears = calls.wears;
     units = calls.units;
     sessions = calls.sessions;
+    numbers = calls.numbers;
     counts = calls.counts;
     idle = idle;
     then = (refl, refl, refl);
@@ -152,6 +161,7 @@ closes_unready early store mid before told fault none calls idle = record {
   sound = calls.sound;
   units = calls.units;
   sessions = calls.sessions;
+  numbers = calls.numbers;
   counts = calls.counts;
 }
 
@@ -173,6 +183,7 @@ closes_marked early store mid new before told after result none calls idle marks
     wears = calls.wears;
     units = calls.units;
     sessions = calls.sessions;
+    numbers = calls.numbers;
     counts = calls.counts;
     idle = idle;
     then = marks;
@@ -181,5 +192,6 @@ closes_marked early store mid new before told after result none calls idle marks
       (subst (λ (n : ℕ). IsMade n new) calls.counts.places made);
   units = marks.units ∙ calls.units;
   sessions = ap (λ (v : SessionSlots). length v) marks.sessions ∙ calls.sessions;
+  numbers = marks.numbers ∙ calls.numbers;
   counts = counts_then before told after calls.counts marks.accounts.counts;
 }

@@ -139,7 +139,7 @@ numbers_added ss tids old new added before after order are may writers adds step
           places = rest.directory ∙ directory;
           overflow = rest.overflow ∙ overflow;
           status = ap (λ (it : StatusTable). it.place) (rest.status ∙ status);
-        }) (ap (λ (it : StatusTable). it.most) (rest.status ∙ status)) pins_then
+        }) pins_then
             (changed_had StaysFramed old.pages new.pages
             (subst (λ (p : PoolView). EachFrameChanges StaysFramed (frames_in old.pages)
             (frames_of p)) (sym rest.pool)
@@ -149,6 +149,7 @@ numbers_added ss tids old new added before after order are may writers adds step
       };
       units = ap (λ (it : Places). length it.current) (rest.directory ∙ directory);
       sessions = ap (λ (v : SessionSlots). length v) slots ∙ batch_slots old.sessions ss;
+      numbers = ap (λ (it : StatusTable). it.most) (rest.status ∙ status);
       pins = pins_then;
       least = omega (arith, rest.counter, counter);
       drawn = omega (arith, rest.counter, counter);
@@ -193,11 +194,12 @@ numbers_not_added ss tids e old new before after order are may writers steps ses
           places = directory;
           overflow = overflow;
           status = ap (λ (it : StatusTable). it.place) status;
-        }) (ap (λ (it : StatusTable). it.most) status) pins (same_had old.pages new.pages (ap frames_of pool)) order.ready;
+        }) pins (same_had old.pages new.pages (ap frames_of pool)) order.ready;
         active = active ∙ order.active ∙ ap numbers_in (sym sessions);
       };
       units = ap (λ (it : Places). length it.current) directory;
       sessions = ap (λ (v : SessionSlots). length v) sessions;
+      numbers = ap (λ (it : StatusTable). it.most) status;
       pins = pins;
       least = draws.0;
       drawn = draws.1;
@@ -265,11 +267,12 @@ empty_committed ss most old new told order are none rest slots active locks =
           places = rest.directory;
           overflow = rest.overflow;
           status = ap (λ (it : StatusTable). it.place) rest.status;
-        }) (ap (λ (it : StatusTable). it.most) rest.status) pins (same_had old.pages new.pages (ap frames_of rest.pool)) order.ready;
+        }) pins (same_had old.pages new.pages (ap frames_of rest.pool)) order.ready;
         active = active;
       };
       units = ap (λ (d : Places). length d.current) rest.directory;
       sessions = ap (λ (v : SessionSlots). length v) slots ∙ batch_slots old.sessions ss;
+      numbers = ap (λ (it : StatusTable). it.most) rest.status;
       pins = pins;
       least = omega (arith, rest.counter);
       drawn = omega (arith, rest.counter);

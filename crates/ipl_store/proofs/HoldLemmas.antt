@@ -188,7 +188,6 @@ repooled_calls early next most old before mid new after none pool calls =
           scratch = calls.sound.made.scratch;
           directory = calls.sound.made.directory;
           overflow = calls.sound.made.overflow;
-          most = calls.sound.made.most;
           room = calls.sound.made.room;
           frames = calls.sound.made.frames ∙ sym pool.limit;
           two = calls.sound.made.two;
@@ -200,7 +199,6 @@ repooled_calls early next most old before mid new after none pool calls =
                 within = λ u page f there. was.ready.within u page f
                     (ap (λ (g : Frames). g u page) (sym same) ∙ there);
                 rest = pool.at_rest;
-                roomy = was.ready.roomy;
               };
               active = was.active;
             };
@@ -208,6 +206,7 @@ repooled_calls early next most old before mid new after none pool calls =
       };
       units = calls.units;
       sessions = calls.sessions;
+      numbers = calls.numbers;
       tidy = calls.tidy;
       wears = calls.wears;
       counts = calls.counts;

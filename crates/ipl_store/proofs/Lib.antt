@@ -16,6 +16,7 @@ pub mod OpeningLemmas
 pub mod ShownLemmas
 pub mod BroughtLemmas
 pub mod RoomLemmas
+pub mod FitLemmas
 pub mod PutLemmas
 pub mod HoldLemmas
 pub mod MergeLemmas

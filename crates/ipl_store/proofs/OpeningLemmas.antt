@@ -267,7 +267,6 @@ module _ (places : ℕ) (store : Store) (made : IsMade places store) (fresh : Is
               let nothing : None ≡ Some b = sym (no_buffer key) ∙ stored in absurd (cc nothing);
           few = omega (arith, none_pinned, made.frames, made.two);
         };
-        roomy = made.most;
       };
       active = holds.active ∙ sym (no_numbers (length store.transactions.sessions)) ∙ ap numbers_in (sym fresh.idle);
     };
@@ -350,8 +349,7 @@ made_recovered places store parts kept scratch units down made sized roomy suits
   scratch = sized.0 ∙ made.scratch;
   directory = sized.1;
   overflow = sized.2;
-  most = roomy.0 ∙ made.most;
-  room = roomy.1 ∙ made.room;
+  room = roomy.1 ∙ made.room ∙ sym roomy.0;
   frames = made.frames;
   two = made.two;
 }

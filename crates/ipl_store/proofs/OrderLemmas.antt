@@ -94,14 +94,13 @@ pub same_had : (old new : Pages) → frames_in new ≡ frames_in old → HadFram
 same_had old new same u page f is = (f, ap (λ (o : Frames). o u page) (sym same) ∙ is)
 
 pub still_ready : (places : ℕ) (old new : Pages) → SamePlaces (tables_in old) (tables_in new)
-    → new.parts.status.most ≡ old.parts.status.most → KeepsPins old.pool new.pool → HadFrames old new → ArePagesReady places old → ArePagesReady places new
-still_ready places old new same roomy pins had ready = record {
+    → KeepsPins old.pool new.pool → HadFrames old new → ArePagesReady places old → ArePagesReady places new
+still_ready places old new same pins had ready = record {
   known = places_known places (tables_in old) (tables_in new) same ready.known;
   within = λ u page f is.
       let was = had u page f is in
       subst (λ (d : Places). u < length d.current) (sym same.places) (ready.within u page was.0 was.1);
   rest = rest_stays old.pool new.pool pins ready.rest;
-  roomy = roomy ∙ ready.roomy;
 }
 
 -- ---- memory, part by part
@@ -148,6 +147,7 @@ turned_in_memory next old new t frames slots is count same roomy clean pins had 
   fewer = λ p s counted. clean p s (subst (λ (m : Memory). IsCountedClean m.tables p s)
       (sym (memory_is t frames slots new is)) counted);
   sessions = ap (λ (v : SessionSlots). length v) is.slots_are ∙ count;
+  numbers = ap (λ (s : StatusTable). s.most) is.status ∙ roomy;
   directory = is.places ∙ same.places;
   status = ap (λ (s : StatusTable). s.place) is.status ∙ same.status;
   order = λ places order. record {
@@ -155,7 +155,7 @@ turned_in_memory next old new t frames slots is count same roomy clean pins had 
       places = is.places ∙ same.places;
       overflow = is.overflow ∙ same.overflow;
       status = ap (λ (s : StatusTable). s.place) is.status ∙ same.status;
-    }) (ap (λ (s : StatusTable). s.most) is.status ∙ roomy) pins had order.ready;
+    }) pins had order.ready;
     active = is.active ∙ active order.active ∙ ap numbers_in (sym is.slots_are);
   };
   pins = pins;

@@ -224,12 +224,13 @@ was_put s n u r old new told order low mine of_unit valid home slots locks parts
           places = ap (λ (p : Parts). p.directory) parts;
           overflow = ap (λ (p : Parts). p.overflow) parts;
           status = ap (λ (p : Parts). p.status.place) parts;
-        }) (ap (λ (p : Parts). p.status.most) parts) pins (put_had (IsWrittenFrame r) u r.page old.pages new.pages did) order.ready;
+        }) pins (put_had (IsWrittenFrame r) u r.page old.pages new.pages did) order.ready;
         active = ap (λ (p : Parts). p.active) parts ∙ order.active
             ∙ sym (writes_keep_numbers old.sessions s n size) ∙ ap numbers_in (sym slots);
       };
       units = ap (λ (p : Parts). length p.directory.current) parts;
       sessions = ap (λ (v : SessionSlots). length v) slots ∙ (calls_keep_slots old.sessions s).writes n size;
+      numbers = ap (λ (p : Parts). p.status.most) parts;
       pins = pins;
       least = omega (arith, ap (λ (p : Parts). p.counter) parts);
       drawn = omega (arith, ap (λ (p : Parts). p.counter) parts);

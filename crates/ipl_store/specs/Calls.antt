@@ -2,7 +2,7 @@
 use Rattle.std.specs.Prelude.{ℕ, ◌≡◌, ◌≤◌, ◌+◌, ◌-◌, ◌||◌, ◌&&◌, nat_le, nat_lt, Bool, not, true, false, ◌∷◌, [], length, Option, Some, None, Result, Ok, Err, MatchResult, IfErr, is_ok, if◌then◌else◌}
 use Rattle.chip_trait.specs.Story.{Contents}
 use Rattle.chip_trait.specs.Told.{Told, Counts}
-use Rattle.ipl_base.specs.declared.limits.TheConstants.{PAGES, STATUS_NUMBERS}
+use Rattle.ipl_base.specs.declared.limits.TheConstants.{PAGES}
 use Rattle.ipl_base.specs.Calls.{IsFailedCall}
 use Rattle.ipl_base.specs.Places.{IsGeometry, KeepsUnits}
 use Rattle.ipl_base.specs.declared.fault.ChipFault.{ChipFault}
@@ -50,17 +50,21 @@ limits_of_store store = limits_in (view_of store)
 abbrev pub counter_of : Store → ℕ
 counter_of store = store.transactions.pages.parts.counter
 
+-- how many committed numbers have room in it
+abbrev pub numbers_of : Store → ℕ
+numbers_of store = store.transactions.pages.parts.status.most
+
 -- ---- the condition of all calls
 
--- the store is made for a chip of so many places, on which as many units may be kept as it has
+-- The store is made for a chip of so many places, on which as many units may be kept as it has; and a renewal may
+-- keep each committed number that has room.
 pub record IsMade (places : ℕ) (store : Store) : Type 0 where
   pub geometry : IsGeometry places
   pub units : KeepsUnits places store.units
   pub scratch : store.scratch ≡ places
   pub directory : length store.transactions.pages.parts.directory.in_use ≡ places
   pub overflow : store.transactions.pages.parts.overflow.places ≡ places
-  pub most : store.transactions.pages.parts.status.most ≡ STATUS_NUMBERS
-  pub room : store.kept.room ≡ STATUS_NUMBERS
+  pub room : store.kept.room ≡ numbers_of store
   pub frames : store.frames ≡ store.transactions.pages.pool.limit
   pub two : 2 ≤ store.frames
 
@@ -228,9 +232,9 @@ abbrev pub KeepsHolds : Store → Store → Type 0
 KeepsHolds old new = KeepsPins old.transactions.pages.pool new.transactions.pages.pool
 
 -- A call of a store: it ends early with this fault, and nothing was done; or it does what it is
--- for. The store is sound either way, with as many units and sessions, and whatever the chip tells,
--- its events are lawful by the tables, what is retired besides was found worn, and a unit whose
--- place was erased is known.
+-- for. The store is sound either way, with as many units and sessions and with room for as many
+-- numbers, and whatever the chip tells, its events are lawful by the tables, what is retired besides
+-- was found worn, and a unit whose place was erased is known.
 pub record Calls {T : Type 0} (early : Option StoreFault) (next : State → State) (most : ℕ)
     (old : Store) (before : Told) (result : Result T StoreFault) (new : Store) (after : Told)
     : Type 0 where
@@ -240,6 +244,7 @@ pub record Calls {T : Type 0} (early : Option StoreFault) (next : State → Stat
   pub sound : IsSound before.places new
   pub units : new.units ≡ old.units
   pub sessions : length new.transactions.sessions ≡ length old.transactions.sessions
+  pub numbers : numbers_of new ≡ numbers_of old
   pub tidy : Tidies (tables_in old.transactions.pages) result (tables_in new.transactions.pages)
       before after
   pub wears : TellsOfWear (tables_in old.transactions.pages) (tables_in new.transactions.pages) (is_ok result)

@@ -13,7 +13,7 @@ use Rattle.txn_status.specs.Status.{room_of}
 use Rattle.restart.specs.Closing.{ClosesInSteps, EndsWithMark}
 use Rattle.page_frames.specs.Pages.{tables_in}
 use Rattle.ipl_store.specs.declared.store.Store.{Store}
-use Rattle.ipl_store.specs.Calls.{counter_of, ends_worn_out, IsSound, Serves}
+use Rattle.ipl_store.specs.Calls.{counter_of, numbers_of, ends_worn_out, IsSound, Serves}
 
 -- what ended the writing of a mark, as the store's answer
 abbrev pub EndsMarking : Result (Unit {0}) ChipFault → Result (Unit {0}) StoreFault → Type 0
@@ -38,6 +38,7 @@ pub record MarksStore (old : Store) (before : Told) (result : Result (Unit {0}) 
   pub closed : new.closed ≡ true
   pub units : new.units ≡ old.units
   pub sessions : new.transactions.sessions ≡ old.transactions.sessions
+  pub numbers : numbers_of new ≡ numbers_of old
 
 -- The status place was made ready, as by any call that keeps the state, for which the chip isn't asked where it has room;
 -- and then a mark was written.
@@ -52,13 +53,14 @@ pub record ServesClose (old : Store) (before : Told) (result : Result (Unit {0})
       (ends_worn_out readied) before told
   pub units : between.units ≡ old.units
   pub sessions : length between.transactions.sessions ≡ length old.transactions.sessions
+  pub numbers : numbers_of between ≡ numbers_of old
   pub counts : Counts before told
   pub idle : 0 < room_of old.transactions.pages.parts.status → told ≡ before
   pub then : MatchResult readied (λ _. MarksStore between told result new after)
       (λ fault. (result ≡ Err fault) × (new ≡ between) × (after ≡ told))
 
 -- It ends early with this fault, and nothing was done; or it does what it is for. The store is sound either
--- way, with as many units and sessions.
+-- way, with as many units and sessions, and with room for as many numbers.
 pub record ClosesStore (early : Option StoreFault) (old : Store) (before : Told)
     (result : Result (Unit {0}) StoreFault) (new : Store) (after : Told) : Type 0 where
   pub refuses : (fault : StoreFault) → early ≡ Some fault
@@ -67,4 +69,5 @@ pub record ClosesStore (early : Option StoreFault) (old : Store) (before : Told)
   pub sound : IsSound before.places new
   pub units : new.units ≡ old.units
   pub sessions : length new.transactions.sessions ≡ length old.transactions.sessions
+  pub numbers : numbers_of new ≡ numbers_of old
   pub counts : Counts before after

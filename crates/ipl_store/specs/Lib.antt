@@ -4,6 +4,7 @@ pub mod Writing
 pub mod Adding
 pub mod Calls
 pub mod Openings
+pub mod Memories
 pub mod Shown
 pub mod Puts
 pub mod Closing

@@ -1,15 +1,12 @@
 -- What an opening of a chip leaves of a store.
-use Rattle.std.specs.Prelude.{ℕ, ◌≡◌, ◌⊎◌, Bool, ◌≤◌, ◌+◌, ◌^◌, false, true, [], length, replicate, None, Result, Ok, Err, MatchResult, OnOk}
+use Rattle.std.specs.Prelude.{ℕ, ◌≡◌, ◌≢◌, ◌⊎◌, IfErr, Bool, ◌≤◌, ◌+◌, ◌^◌, false, true, [], length, replicate, None, Result, Ok, Err, MatchResult, OnOk}
 use Rattle.chip_trait.specs.Told.{History, Told}
 use Rattle.ipl_base.specs.declared.fault.ChipFault.{ChipFault}
 use Rattle.ipl_base.specs.declared.fault.ImageFault.{ImageFault}
-use Rattle.ipl_base.specs.declared.fault.ImageFault.TheVariants.{Geometry}
-use Rattle.ipl_base.specs.declared.fault.OpenFault.{OpenFault}
-use Rattle.ipl_base.specs.declared.fault.OpenFault.TheVariants.{Image, OutOfMemory}
-use Rattle.ipl_base.specs.declared.limits.TheConstants.{STATUS_NUMBERS}
-use Rattle.ipl_base.specs.Places.{IsGeometry, KeepsUnits}
+use Rattle.ipl_base.specs.declared.fault.ImageFault.TheVariants.{Geometry, TooManyNumbers}
+use Rattle.ipl_base.specs.Places.{KeepsUnits}
 use Rattle.ipl_model.specs.Operations.{after_restart}
-use Rattle.ipl_model.specs.State.{Map, at_rest}
+use Rattle.ipl_model.specs.State.{Map, State, at_rest}
 use Rattle.ipl_meaning.specs.Legible.{Legibility, of}
 use Rattle.ipl_meaning.specs.Agrees.{IsTidy}
 use Rattle.std.specs.FinMap.{empty}
@@ -27,12 +24,13 @@ use Rattle.unit_io.specs.Costs.{Spends}
 use Rattle.unit_io.specs.Leads.{IsSteady}
 use Rattle.unit_io.specs.Reads.{OfContents}
 use Rattle.restart.specs.Passes.{HasErased, ListsRetired}
+use Rattle.restart.specs.Looks.{OnlyReads}
 use Rattle.restart.specs.Recovers.{CompletesOpening, CountsMarks, ErasesOpening, IsDrawnBehind, RecoversTold, LooksAtFaults, RecoversInSteps, TidiesOpening, OpeningCause}
 use Rattle.store_laws.specs.Advances.{Memory, MemoryFits, LeadsTo}
 use Rattle.store_laws.specs.Keeps.{ShowsState, KeepsStore}
 use Rattle.page_frames.specs.Pages.{tables_in}
 use Rattle.ipl_store.specs.declared.store.Store.{Store}
-use Rattle.ipl_store.specs.Calls.{memory_of_store, view_of, limits_of_store, counter_of, IsSound}
+use Rattle.ipl_store.specs.Calls.{memory_of_store, view_of, limits_of_store, counter_of, numbers_of, IsSound}
 
 -- the store isn't down, no session is open, and no page is in a frame
 pub record IsJustOpened (store : Store) : Type 0 where
@@ -71,25 +69,31 @@ Restarts before old after new = LeadsTo {T = Unit {0}} {E = ChipFault}
     (λ state. after_restart state) before old (Ok tt) after new
 
 -- What an opening does to the chip, where a mark counts or doesn't, which fails so or leaves these tables:
--- what it tells, what a power cut leaves, that a faulty chip is only read, when it may fail, that what it
--- read is bytes, that its events are lawful after any lawful ones that leave clean what a mark said was so,
+-- what it tells, what a power cut leaves, that a faulty chip is only read, when it may fail, that one of more numbers
+-- than have room is only read too, that what it read is bytes, that its events are lawful after any lawful ones that leave clean what a mark said was so,
 -- and done, leave clean what the tables count so, and that they count what a mark said; how many erases it
--- makes and what it retires, done, one of the place that the status has then; why it fails; and that the tables
--- have as many units as may be kept.
+-- makes and what it retires, done, one of the place that the status has then; why it fails, by how many committed
+-- numbers have room there; and that the tables have as many units as may be kept.
 pub record Tries (marks : Bool) (places : ℕ) (old : Told) (result : Result (Unit {0}) ImageFault) (t : Tables)
     (new : Told) : Type 0 where
   pub tells : RecoversTold places old result t new
   pub steps : RecoversInSteps marks places old result t new
   pub looks : LooksAtFaults places old result new
-  pub complete : CompletesOpening STATUS_NUMBERS places result old
+  pub complete : CompletesOpening t.status.most places result old
+  pub unwritten : IfErr result (λ e. e ≡ TooManyNumbers → OnlyReads old new)
   pub bytes : ReadsBytes places old result
   pub tidy : TidiesOpening marks places old result t new
   pub marked : OnOk result (CountsMarks marks places old t)
   pub costs : ErasesOpening marks places result t.places old new
   pub renewed : OnOk result (Spends (HasErased t.status.place) old new)
-  pub accounts : Accounts (OpeningCause STATUS_NUMBERS t.places) result old new
+  pub accounts : Accounts (OpeningCause t.status.most t.places) result old new
   pub all : length t.places.in_use ≡ places
   pub units : KeepsUnits places (length t.places.current)
+
+-- Over a chip that this memory stood for, with any state, an opening never ends since numbers have no room.
+abbrev pub KeepsRoom : Memory → Told → Result (Unit {0}) ImageFault → Type 0
+KeepsRoom before told result = OfContents told (λ x. (it : Layout) (state : State)
+    → MemoryFits told.places (chart_of x) it before state → IfErr result (λ e. e ≢ TooManyNumbers))
 
 -- a chip was opened again; or it wasn't, and the store is down then and has the units that it had
 abbrev pub Reopens : ℕ → Store → Told → Result (Unit {0}) ImageFault → Store → Told → Type 0
@@ -97,15 +101,15 @@ Reopens places before old result store new = MatchResult result
     (λ done. OpensStore places old store new)
     (λ e. (store.down ≡ true) × (store.units ≡ before.units))
 
--- the chip's number of places can't be used, and it wasn't asked anything else; or it failed
-abbrev pub FailsToOpen : ℕ → Told → ImageFault → Told → Type 0
-FailsToOpen places old e new =
-    ((IsGeometry places → ⊥) × (e ≡ Geometry) × (new ≡ old))
-    ⊎ (IsGeometry places × ((t : Tables) × Tries true places old (Err e) t new))
+-- The chip hasn't as many places as the memory is for, and it wasn't asked anything else; or it failed, where so
+-- many committed numbers had room.
+abbrev pub FailsToOpen : ℕ → ℕ → Told → ImageFault → Told → Type 0
+FailsToOpen size numbers old e new = ((old.places ≢ size) × (e ≡ Geometry) × (new ≡ old))
+    ⊎ ((old.places ≡ size) × ((t : Tables) × (t.status.most ≡ numbers) × Tries true old.places old (Err e) t new))
 
--- a chip was opened, or wasn't; it wasn't asked where memory was wanting
-abbrev pub OpensAs : ℕ → Told → Result Store OpenFault → Told → Type 0
-OpensAs places old (Ok store) new = IsSound places store × OpensStore places old store new
-    × Tries true places old (Ok tt) (tables_in store.transactions.pages) new
-OpensAs places old (Err (Image e)) new = FailsToOpen places old e new
-OpensAs places old (Err OutOfMemory) new = new ≡ old
+-- in memory for chips of so many places, with room for so many committed numbers, a chip was opened, or wasn't
+abbrev pub OpensAs : ℕ → ℕ → Told → Result Store ImageFault → Told → Type 0
+OpensAs size numbers old (Ok store) new = (old.places ≡ size) × IsSound old.places store
+    × (numbers_of store ≡ numbers) × OpensStore old.places old store new
+    × Tries true old.places old (Ok tt) (tables_in store.transactions.pages) new
+OpensAs size numbers old (Err e) new = FailsToOpen size numbers old e new

@@ -87,8 +87,9 @@ TellsFaultsForThen it result before new after =
 
 -- A call that leads from each state that memory and chip stand for to the next one. Whatever the
 -- chip tells: its events are lawful by the tables, what is retired besides was found worn, a unit
--- whose place was erased is known, the memory is in order, there are as many units and sessions, the
--- same pages are held, at most so many numbers were drawn, and a fault has its cause.
+-- whose place was erased is known, the memory is in order, there are as many units and sessions, as many
+-- committed numbers have room, the same pages are held, at most so many numbers were drawn, and a fault has
+-- its cause.
 pub record Turns {T : Type 0} (next : State → State) (most : ℕ) (old : Transactions) (before : Told)
     (result : Result T ChipFault) (new : Transactions) (after : Told) : Type 0 where
   pub leads : LeadsTo next (memory_in old) before result (memory_in new) after
@@ -98,17 +99,19 @@ pub record Turns {T : Type 0} (next : State → State) (most : ℕ) (old : Trans
   pub order : IsInOrder before.places new
   pub units : length new.pages.parts.directory.current ≡ length old.pages.parts.directory.current
   pub sessions : length new.sessions ≡ length old.sessions
+  pub numbers : new.pages.parts.status.most ≡ old.pages.parts.status.most
   pub pins : KeepsPins old.pages.pool new.pages.pool
   pub least : old.pages.parts.counter ≤ new.pages.parts.counter
   pub drawn : new.pages.parts.counter ≤ old.pages.parts.counter + most
   pub accounts : Accounts (PageCause new.pages.parts.directory) result before after
 
--- A call in memory alone that does, over whatever chip. There are as many sessions, the directory is
--- the same, the status has the same place, and no more sectors are counted as clean.
+-- A call in memory alone that does, over whatever chip. There are as many sessions, as many numbers have room,
+-- the directory is the same, the status has the same place, and no more sectors are counted as clean.
 pub record TurnsInMemory (next : State → State) (old new : Transactions) : Type 0 where
   pub leads : (told : Told) → LeadsTo {T = Unit {0}} {E = ChipFault} next (memory_in old) told (Ok tt)
       (memory_in new) told
   pub sessions : length new.sessions ≡ length old.sessions
+  pub numbers : new.pages.parts.status.most ≡ old.pages.parts.status.most
   pub directory : new.pages.parts.directory ≡ old.pages.parts.directory
   pub status : new.pages.parts.status.place ≡ old.pages.parts.status.place
   pub fewer : (p s : ℕ) → IsCountedClean (tables_in new.pages) p s → IsCountedClean (tables_in old.pages) p s

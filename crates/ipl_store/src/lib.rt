@@ -68,6 +68,7 @@ mod changing;
 mod closing;
 mod commits;
 mod holding;
+mod memory;
 mod merging;
 mod numbers;
 mod opening;
@@ -79,5 +80,6 @@ mod store;
 mod transactions;
 mod writes;
 
+pub use memory::{Memory, Unopened};
 pub use reserves::Reserves;
 pub use store::Store;

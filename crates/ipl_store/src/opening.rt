@@ -2,47 +2,33 @@
 ghost use Rattle.std.specs.Prelude.{◌≡◌, ◌≤◌, ℕ, [], false, true, None, IfOk, OnOk, length, replicate};
 ghost use Rattle.ipl_base.specs.declared.limits.TheConstants.{SESSIONS};
 ghost use Rattle.page_frames.specs.Pages.{tables_in};
-ghost use Rattle.ipl_store.specs.Calls.{memory_of_store, IsMade, IsSound};
-ghost use Rattle.ipl_store.specs.Openings.{Tries, Reopens, Restarts, OpensAs};
+ghost use Rattle.ipl_store.specs.Calls.{memory_of_store, numbers_of, IsMade, IsSound};
+ghost use Rattle.ipl_store.specs.Memories.{IsMemory, IsMemoryFor, KeepsLent, SameRoom, answer_of_opening, places_of};
+ghost use Rattle.ipl_store.specs.Openings.{Tries, KeepsRoom, Reopens, Restarts, OpensAs};
 
 use crate::Store;
-use crate::transactions::Transactions;
+use crate::memory::{Memory, Unopened};
 use chip_trait::Chip;
-use ipl_base::{Geometry, ImageFault, OpenFault, OutOfMemory, STATUS_NUMBERS};
-use page_frames::Pages;
-use record_locks::Sessions;
-use restart::{KeptNumbers, Scratch, recover};
+use ipl_base::ImageFault;
+use restart::recover;
 use selective_merge::Active;
-use std::alloc::Global;
 
 impl Store {
-    /// The memory of a store with 2 to 64 frames for pages and 32 sessions at most, for a chip that
-    /// isn't opened yet: it is down. `reopen` takes no more memory.
-    pub fn closed(
-        alloc: Global,
-        geometry: Geometry,
-        frames: u32,
-        sessions: u32,
-    ) -> Result<Store, OutOfMemory>
-        requires two { 2 ≤ frames }
-        requires few { frames ≤ 64 }
-        requires sessions { sessions ≤ SESSIONS }
-        ensures sound { IfOk result (λ store. IsSound geometry.places store) }
-        ensures down { IfOk result (λ store. (store.down ≡ true) × (store.closed ≡ false)) }
-        ensures frames { IfOk result (λ store. store.frames ≡ frames) }
-        ensures sessions { IfOk result (λ store. length store.transactions.sessions ≡ sessions) }
+    /// A store that is down, in this memory, until `reopen` or `open_chip` opens a chip.
+    pub fn closed(memory: Memory) -> Store
+        ensures { result ≡ memory.store }
     {
-        let pages = Pages::new(alloc, geometry, frames)?;
-        let sessions = Sessions::new(alloc, sessions)?;
-        Ok(Store {
-            transactions: Transactions { pages, sessions },
-            kept: KeptNumbers::new(alloc, STATUS_NUMBERS)?,
-            scratch: Scratch::new(alloc, geometry)?,
-            units: geometry.units(),
-            frames,
-            down: true,
-            closed: false,
-        })
+        memory.store
+    }
+
+    /// Gives the memory back that the store was lent. What isn't committed is gone; the chip isn't asked.
+    pub fn into_memory(mut self) -> Memory
+        requires { (places : ℕ) × IsSound places self }
+        ensures memory { (places : ℕ) → IsSound places self → IsMemoryFor places result }
+        ensures same { SameRoom self result.store }
+    {
+        self.down = true;
+        Memory { store: self }
     }
 
     /// Forgets all sessions, and the pages in frames. The store is down.
@@ -57,6 +43,7 @@ impl Store {
         ensures down { (self.new.down ≡ true) × (self.new.closed ≡ false) }
         ensures units { self.new.units ≡ self.old.units }
         ensures frames { self.new.frames ≡ self.old.frames }
+        ensures numbers { numbers_of self.new ≡ numbers_of self.old }
         ensures made { (places : ℕ) → IsMade places self.old → IsMade places self.new }
     {
         self.down = true;
@@ -77,14 +64,17 @@ impl Store {
         ensures frames { self.new.frames ≡ self.old.frames }
         ensures sessions { length self.new.transactions.sessions
             ≡ length self.old.transactions.sessions }
+        ensures numbers { numbers_of self.new ≡ numbers_of self.old }
         ensures opens { Reopens (C.told chip.old).places self.old (C.told chip.old) result self.new
             (C.told chip.new) }
         ensures tries { Tries marks (C.told chip.old).places (C.told chip.old) result
             (tables_in self.new.transactions.pages) (C.told chip.new) }
+        ensures room { KeepsRoom (memory_of_store self.old) (C.told chip.old) result }
         // Of a store that stands for states: each is left with no session open, where no mark counts.
         ensures leads { marks ≡ false → OnOk result (Restarts (memory_of_store self.old)
             (C.told chip.old) (memory_of_store self.new) (C.told chip.new)) }
     {
+        self.transactions.pages.parts.status.facts();
         self.forget();
         let parts = &mut self.transactions.pages.parts;
         let recovered = recover(chip, &mut self.scratch, parts, &mut self.kept, marks);
@@ -95,31 +85,28 @@ impl Store {
         Ok(())
     }
 
-    /// Opens a chip of 5 to 1,028 places, with 2 to 64 frames for pages, and so many sessions, 32 at
-    /// most. The store has the records for which the chip's contents stand, and no session is open.
-    /// Memory is taken before the first read.
-    pub fn open<C: Chip>(
-        alloc: Global,
-        chip: &mut C,
-        frames: u32,
-        sessions: u32,
-    ) -> Result<Store, OpenFault>
-        requires two { 2 ≤ frames }
-        requires few { frames ≤ 64 }
-        requires sessions { sessions ≤ SESSIONS }
-        ensures opens { OpensAs (C.told chip.old).places (C.told chip.old) result
-            (C.told chip.new) }
-        ensures frames { IfOk result (λ store. store.frames ≡ frames) }
-        ensures sessions { IfOk result (λ store. length store.transactions.sessions ≡ sessions) }
+    /// Opens a chip in memory that is lent for it. The store has the records for which the chip's contents
+    /// stand, and no session is open; it has as many frames and sessions as the memory, and room for as many
+    /// committed numbers. Where more are committed on the chip it fails with `TooManyNumbers`, before it
+    /// writes; where the memory is for another number of places with `Geometry`, and the chip isn't asked.
+    pub fn open<C: Chip>(memory: Memory, chip: &mut C) -> Result<Store, Unopened>
+        requires { IsMemory memory }
+        ensures opens { OpensAs (places_of memory) (numbers_of memory.store) (C.told chip.old)
+            (answer_of_opening result) (C.told chip.new) }
+        ensures lent { KeepsLent memory result }
     {
-        let Some(geometry) = Geometry::of(chip.units()) else {
-            return Err(OpenFault::Image(ImageFault::Geometry));
-        };
-        let Ok(mut store) = Store::closed(alloc, geometry, frames, sessions) else {
-            return Err(OpenFault::OutOfMemory);
-        };
-        store.open_chip(chip, true)?;
-        Ok(store)
+        if chip.units() != memory.places() {
+            let fault = ImageFault::Geometry;
+            return Err(Unopened { memory, fault });
+        }
+        let mut store = memory.store;
+        match store.open_chip(chip, true) {
+            Ok(()) => Ok(store),
+            Err(fault) => {
+                let memory = Memory { store };
+                Err(Unopened { memory, fault })
+            }
+        }
     }
 
     /// Opens the chip again, or what is left of it: all sessions are dropped, and all holds. Where
@@ -130,10 +117,12 @@ impl Store {
         ensures sound { IsSound (C.told chip.old).places result.0 }
         ensures frames { result.0.frames ≡ self.frames }
         ensures sessions { length result.0.transactions.sessions ≡ length self.transactions.sessions }
+        ensures numbers { numbers_of result.0 ≡ numbers_of self }
         ensures opens { Reopens (C.told chip.old).places self (C.told chip.old) result.1 result.0
             (C.told chip.new) }
         ensures tries { Tries self.closed (C.told chip.old).places (C.told chip.old) result.1
             (tables_in result.0.transactions.pages) (C.told chip.new) }
+        ensures room { KeepsRoom (memory_of_store self) (C.told chip.old) result.1 }
         // Of a store that stands for states and wasn't closed: each is left with no session open.
         ensures leads { self.closed ≡ false → OnOk result.1 (Restarts (memory_of_store self)
             (C.told chip.old) (memory_of_store result.0) (C.told chip.new)) }

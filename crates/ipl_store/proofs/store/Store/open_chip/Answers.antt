@@ -2,11 +2,12 @@ use Rattle.std.proofs.Common.{◌≡◌, ℕ, length, true, false, Result, Ok, E
 use Rattle.std.proofs.lemmas.Result.{err_from_is_err_and}
 use Rattle.ipl_base.specs.Places.{KeepsUnits}
 use Rattle.ipl_base.specs.declared.fault.ImageFault.{ImageFault}
-use Rattle.unit_io.specs.Accounts.{Accounts}
-use Rattle.restart.specs.Recovers.{CompletesOpening, OpeningCause}
+use Rattle.restart.specs.Looks.{AreTooMany, numbers_in}
+use Rattle.restart.specs.Recovers.{CompletesOpening}
 use Rattle.ipl_store.specs.declared.store.Store.{Store}
 use Rattle.ipl_store.specs.Calls.{memory_of_store, IsMade}
 use Rattle.ipl_store.specs.Openings.{IsJustOpened}
+use Rattle.ipl_store.proofs.FitLemmas.{never_many}
 use Rattle.ipl_store.proofs.OpeningLemmas.{recovered, made_recovered, fresh_sound, fresh_opens, fresh_restarts}
 use Rattle.ipl_store.proofs.store.Store.open_chip.Given.{Over}
 use Rattle.ipl_store.proofs.store.Store.open_chip.Goals as goal
@@ -30,7 +31,7 @@ returns-in_err-recovered-clause-sound g c =
 pub recover-recovered-requires-clause-room : goal.recover-recovered-requires-clause-room
 recover-recovered-requires-clause-room g c =
     let made = c.forget.ensures.made (g.C.Chip.told c.args.chip.now).places c.requires.sound.made in
-    made.room ∙ sym made.most
+    made.room
 
 pub returns-in_err-recovered-clause-opens : goal.returns-in_err-recovered-clause-opens
 returns-in_err-recovered-clause-opens g c =
@@ -41,27 +42,34 @@ pub returns-in_err-recovered-clause-tries : goal.returns-in_err-recovered-clause
 returns-in_err-recovered-clause-tries g c =
     let places = (g.C.Chip.told c.args.chip.now).places in
     let says = c.in_err-recovered.ensures in
-    let most = (c.forget.ensures.made places c.requires.sound.made).most in
     let old = g.C.Chip.told c.args.chip.now in
     let e = err_from_is_err_and c.from_residual.result c.from_residual.ensures.1 in
     rw (e.1, e.2) (record {
       tells = says.tells;
       steps = says.steps;
       looks = says.fails.looks;
-      complete = subst (λ (n : ℕ). CompletesOpening n places (Err c.in_err-recovered.field-0.0) old) most says.fails.complete;
+      complete = subst (λ (n : ℕ). CompletesOpening n places (Err c.in_err-recovered.field-0.0) old) (sym says.room.0) says.fails.complete;
+      unwritten = says.fails.unwritten;
       bytes = says.fails.bytes;
       tidy = says.leaves.tidy;
       marked = says.leaves.marked;
       costs = says.spends.costs;
       renewed = says.spends.renewed;
-      accounts = subst (λ (n : ℕ). Accounts (OpeningCause n c.recover-recovered.new.parts.directory)
-          (Err c.in_err-recovered.field-0.0) old (g.C.Chip.told c.recover-recovered.new.chip))
-          (says.room.0 ∙ most) says.leaves.accounts;
+      accounts = says.leaves.accounts;
       all = says.sized.1;
       units = subst (λ (n : ℕ). KeepsUnits n
           (length c.recover-recovered.new.parts.directory.current)) says.sized.1
-          c.facts.ensures.units;
+          c.facts-2.ensures.units;
     })
+
+pub returns-in_err-recovered-clause-room : goal.returns-in_err-recovered-clause-room
+returns-in_err-recovered-clause-room g c =
+    let e = err_from_is_err_and c.from_residual.result c.from_residual.ensures.1 in
+    let most = c.recover-recovered.ensures.room.0 ∙ c.forget.ensures.numbers in
+    rw (e.1, e.2) (λ x told it state fits is. never_many it c.args.self.now.transactions.pages.parts.status told
+    fits.mirrors.laid fits.mirrors.status.numbers c.facts.ensures
+    (subst (λ (n : ℕ). AreTooMany n (numbers_in (g.C.Chip.told c.args.chip.now).places) (g.C.Chip.told c.args.chip.now)) most
+    (c.in_err-recovered.ensures.leaves.accounts.cause.many is)))
 
 -- ---- it was
 
@@ -70,7 +78,7 @@ counted : (g : Over) (c : goal.After-self-2-1 g)
     → KeepsUnits (g.C.Chip.told c.args.chip.now).places c.units-self.result
 counted g c = rw c.units-self.ensures (subst (λ (n : ℕ). KeepsUnits n
     (length c.recover-recovered.new.parts.directory.current)) c.recover-recovered.ensures.sized.1
-    c.facts.ensures.units)
+    c.facts-2.ensures.units)
 
 -- the store then
 abbrev opened : (g : Over) (c : goal.After-self-2-1 g) → Store
@@ -102,30 +110,25 @@ returns-clause-opens g c =
     c.args.marks old
     (g.C.Chip.told c.recover-recovered.new.chip) says.tells says.steps says.leaves.number says.leaves.left
 
-abbrev opened_so : Unit {0} → Result (Unit {0}) ImageFault
-opened_so done = Ok done
-
 pub returns-clause-tries : goal.returns-clause-tries
 returns-clause-tries g c =
     let says = c.in_ok-recovered.ensures in
-    let old = g.C.Chip.told c.args.chip.now in
-    let most = (c.forget.ensures.made old.places c.requires.sound.made).most in record {
+    let old = g.C.Chip.told c.args.chip.now in record {
       tells = says.tells;
       steps = says.steps;
       looks = says.fails.looks;
-      complete = subst (λ (n : ℕ). CompletesOpening n old.places (Ok tt) old) most says.fails.complete;
+      complete = subst (λ (n : ℕ). CompletesOpening n old.places (Ok tt) old) (sym says.room.0) says.fails.complete;
+      unwritten = says.fails.unwritten;
       bytes = says.fails.bytes;
       tidy = says.leaves.tidy;
       marked = says.leaves.marked;
       costs = says.spends.costs;
       renewed = says.spends.renewed;
-      accounts = subst (λ (n : ℕ). Accounts (OpeningCause n c.recover-recovered.new.parts.directory)
-          (opened_so tt) old (g.C.Chip.told c.recover-recovered.new.chip))
-          (says.room.0 ∙ most) says.leaves.accounts;
+      accounts = says.leaves.accounts;
       all = says.sized.1;
       units = subst (λ (n : ℕ). KeepsUnits n
           (length c.recover-recovered.new.parts.directory.current)) says.sized.1
-          c.facts.ensures.units;
+          c.facts-2.ensures.units;
     }
 
 pub returns-clause-leads : goal.returns-clause-leads
