@@ -5,9 +5,6 @@ use Rattle.chip_trait.specs.Story.{Story, held}
 use Rattle.chip_trait.specs.Told.{History, Told, adds_all}
 use Rattle.chip_trait.proofs.HistoryLemmas.{same_history}
 use Rattle.chip_trait.proofs.MomentLemmas.{at_start}
-use Rattle.ipl_base.specs.declared.fault.ImageFault.{ImageFault}
-use Rattle.ipl_base.specs.declared.fault.OpenFault.{OpenFault}
-use Rattle.ipl_base.specs.declared.fault.OpenFault.TheVariants.{Image, OutOfMemory}
 use Rattle.ipl_model.specs.State.{Map, at_rest}
 use Rattle.ipl_meaning.specs.Legible.{of}
 use Rattle.store_laws.specs.Keeps.{KnownPages}
@@ -17,6 +14,8 @@ use Rattle.ipl_meaning.proofs.StoryLemmas.{held_stands}
 use Rattle.ipl_meaning.specs.Chosen.{units_at}
 use Rattle.ipl_meaning.proofs.MomentLemmas.{moments_as_said}
 use Rattle.unit_io.specs.Leads.{IsSteady}
+use Rattle.ipl_store.specs.declared.memory.Unopened.{Unopened}
+use Rattle.ipl_store.specs.Memories.{answer_of_opening}
 use Rattle.ipl_store.specs.Openings.{OpensAs, Tries}
 use Rattle.ipl_keys.specs.declared.keys.Keys.{Keys}
 use Rattle.ipl_keys.specs.KeyState.{KeyMap}
@@ -42,8 +41,8 @@ module _ (known : KnownPages) (old new : Told) (units : ℕ) (records : Map) (m 
       (sym suits) (moments_as_said old.places (of known.pages records) h added rests each)
 
   -- the chip wasn't asked
-  idle : (fault : OpenFault) → OpensFor old.places known units m h old (Err fault) old
-  idle fault = record {
+  idle : (unopened : Unopened) → OpensFor old.places known units m h old (Err unopened) old
+  idle unopened = record {
     added = [];
     history = same_history old.history;
     each_moment = λ later part is. leaves (adds_all part h) (as_said []
@@ -52,9 +51,9 @@ module _ (known : KnownPages) (old new : Told) (units : ℕ) (records : Map) (m 
   }
 
   -- it was, and not opened
-  failed : (e : ImageFault) (t : Tables) → Tries true old.places old (Err e) t new
-      → OpensFor old.places known units m h old (Err (Image e)) new
-  failed e t tries =
+  failed : (unopened : Unopened) (t : Tables) → Tries true old.places old (Err unopened.fault) t new
+      → OpensFor old.places known units m h old (Err unopened) new
+  failed unopened t tries =
       let (first, takes, did) = tries.steps (of known.pages records) h steady rests in record {
         added = did.added;
         history = did.history;
@@ -64,8 +63,9 @@ module _ (known : KnownPages) (old new : Told) (units : ℕ) (records : Map) (m 
       }
 
   -- it was opened
-  opened : (keys : Keys) → OpensAs old.places old (Ok keys.store) new → OpensFor old.places known units m h old (Ok keys) new
-  opened keys (sound, opens, tries) =
+  opened : (size numbers : ℕ) (keys : Keys) → OpensAs size numbers old (Ok keys.store) new
+      → OpensFor old.places known units m h old (Ok keys) new
+  opened size numbers keys (same, sound, room, opens, tries) =
       let (first, takes, did) = tries.steps (of known.pages records) h steady rests in
       let later = adds_all did.added h in
       let ends = did.ends tt in
@@ -88,16 +88,15 @@ module _ (known : KnownPages) (old new : Told) (units : ℕ) (records : Map) (m 
         );
       }
 
-  by_result : (result : Result Keys OpenFault) → OpensAs old.places old (store_of result) new
+  by_result : (size numbers : ℕ) (result : Result Keys Unopened)
+      → OpensAs size numbers old (answer_of_opening (store_of result)) new
       → OpensFor old.places known units m h old result new
-  by_result (Ok keys) did = opened keys did
-  by_result (Err (Image e)) (inl (not, is, same)) =
-      subst (λ (t : Told). OpensFor old.places known units m h old (Err (Image e)) t) (sym same) (idle (Image e))
-  by_result (Err (Image e)) (inr (fits, (t, tries))) = failed e t tries
-  by_result (Err OutOfMemory) same =
-      subst (λ (t : Told). OpensFor old.places known units m h old (Err OutOfMemory) t) (sym same) (idle OutOfMemory)
+  by_result size numbers (Ok keys) did = opened size numbers keys did
+  by_result size numbers (Err unopened) (inl (other, is, same)) =
+      subst (λ (t : Told). OpensFor old.places known units m h old (Err unopened) t) (sym same) (idle unopened)
+  by_result size numbers (Err unopened) (inr (fits, (t, room, tries))) = failed unopened t tries
 
-pub opens_keys : (old new : Told) (result : Result Keys OpenFault)
-    → OpensAs old.places old (store_of result) new → OpensKeys old result new
-opens_keys old new result did known units records m h suits steady rests has =
-    by_result known old new units records m h suits steady rests has result did
+pub opens_keys : (size numbers : ℕ) (old new : Told) (result : Result Keys Unopened)
+    → OpensAs size numbers old (answer_of_opening (store_of result)) new → OpensKeys old result new
+opens_keys size numbers old new result did known units records m h suits steady rests has =
+    by_result known old new units records m h suits steady rests has size numbers result did
