@@ -39,7 +39,7 @@ use Rattle.store_trait.specs.Keeping.{LAST_NUMBER, Works, WorkLeaves, StillRecal
 use Rattle.store_trait.proofs.TidyLemmas.{tidy_then}
 use Rattle.store_laws.specs.Keeps.{KnownPages, KeepsStore, IsChipFaultCause, ChipTells, StoreCause, limits_of}
 use Rattle.ipl_store.specs.declared.store.Store.{Store}
-use Rattle.ipl_store.specs.Calls.{view_of, counter_of, IsSound, entry_fault, early_fault, ends_worn_out, Serves, Calls, limits_of_store}
+use Rattle.ipl_store.specs.Calls.{view_of, counter_of, IsSound, entry_fault, early_fault, ends_worn_out, Serves, Calls, numbers_of, limits_of_store}
 use Rattle.ipl_store.specs.Closing.{ClosesStore, EndsMarking, MarksStore, ServesClose}
 use Rattle.script_store.specs.declared.store.ScriptStore.{ScriptStore}
 use Rattle.script_store.specs.Closes.{Aborts, CountsClean, CountsMarked, MarksRecalled, ClosesAtEnd, closed}
@@ -80,14 +80,14 @@ module _ (known : KnownPages) (m : ScriptStore) (between : Store) (before told :
       (omega arith) alike refl (λ state. refl) (λ state. refl) (Ok v) served (λ state x told shown. refl)) tt
 
   -- it failed, and so did the close
-  ready_failed : (fault : StoreFault) → Readied (Err fault) → IsSound before.places between
+  ready_failed : numbers_of between ≡ numbers_of m.store → (fault : StoreFault) → Readied (Err fault) → IsSound before.places between
       → Tidies {T = Unit {0}} (tables_in m.store.transactions.pages) (Err fault)
       (tables_in between.transactions.pages) before told
       → TellsOfWear (tables_in m.store.transactions.pages) (tables_in between.transactions.pages) false
       (ends_worn_out {T = Unit {0}} (Err fault)) before told
       → Counts before told
       → WorksBehind (script_keeping before.places known) m before (closed (Err fault)) (shut between) told
-  ready_failed fault served sound tidy wears counts =
+  ready_failed room fault served sound tidy wears counts =
       let (e, is, cause, down) = served.ends in
       subst (λ (f : StoreFault). DoesCommand known command.Syntax m before (ended f) (over between) told
       → WorksBehind (script_keeping before.places known) m before (closed (Err f)) (shut between) told) (sym is)
@@ -102,6 +102,7 @@ module _ (known : KnownPages) (m : ScriptStore) (between : Store) (before told :
         sound = sound;
         units = ap (λ (l : Limits). l.units) alike;
         sessions = ap (λ (l : Limits). l.sessions) alike;
+        numbers = room;
         tidy = tidy;
         wears = wears;
         counts = counts;
@@ -463,7 +464,7 @@ module _ (known : KnownPages) (a m : ScriptStore) (c : Store) (before after : To
           served.counts marked.steps marked.tidy marked.accounts (mark_alike marked) (marked_recalls wears marked))
       by_ready (Err fault) ready tidy wears (is, same, still) =
           ready_ends between told fault ready
-          (ready_failed known m between before told aborted.running ready_alike fault ready
+          (ready_failed known m between before told aborted.running ready_alike served.numbers fault ready
           (subst (IsSound before.places) same sound) tidy wears served.counts) is same still
 
   ends_at_once : ClosesStore early m.store before result c after → Ended result

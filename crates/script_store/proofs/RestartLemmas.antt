@@ -32,10 +32,8 @@ use Rattle.unit_io.specs.Leads.{IsSteady}
 use Rattle.page_frames.specs.Pages.{tables_in}
 use Rattle.unit_io.specs.StepLaws.{Preserves}
 use Rattle.place_taking.proofs.SpendingLemmas.{or_right}
-use Rattle.ipl_base.specs.declared.limits.TheConstants.{STATUS_NUMBERS}
-use Rattle.restart.proofs.LookLemmas.{never_many}
-use Rattle.restart.proofs.CompleteLemmas.{apart_by_call, completes_whole}
-use Rattle.restart.specs.Recovers.{IsOpeningFault, FailsByCallAlone, OpeningCause, tells_wear}
+use Rattle.restart.proofs.CompleteLemmas.{completes_whole}
+use Rattle.restart.specs.Recovers.{IsOpeningFault, FailsApart, FailsByCallAlone, OpeningCause, tells_wear}
 use Rattle.restart.proofs.ReadyLemmas.{layouts_say}
 use Rattle.store_trait.specs.declared.fault.Fault.{Fault}
 use Rattle.store_trait.specs.declared.fault.Fault.TheVariants.{Image}
@@ -46,7 +44,7 @@ use Rattle.store_laws.proofs.AdvanceLemmas.{answers_advance}
 use Rattle.store_laws.proofs.KeepLemmas.{at_limits, leads_are_work}
 use Rattle.store_laws.proofs.FaultLemmas.{faults_that_leave_down}
 use Rattle.ipl_store.specs.Calls.{memory_of_store, view_of, counter_of, IsSound}
-use Rattle.ipl_store.specs.Openings.{OpensStore, Reopens, Restarts, Tries}
+use Rattle.ipl_store.specs.Openings.{OpensStore, KeepsRoom, Reopens, Restarts, Tries}
 use Rattle.script_store.specs.declared.store.ScriptStore.{ScriptStore}
 use Rattle.script_store.specs.Met.{FaultMet}
 use Rattle.script_store.specs.Keeps.{IsRunning, next_number, script_keeping, DoesCommand}
@@ -150,40 +148,46 @@ never_else : (e : ImageFault) → ¬ SaysFailedCall (Image e)
     → (¬ FailsByCallAlone e → FailsByCallAlone e) → ⊥
 never_else e other fails = other (says_call e (fails (λ by. other (says_call e by))))
 
+-- one that isn't since numbers have no room says it too
+call_alone : (e : ImageFault) → e ≢ image.TooManyNumbers → FailsApart e → FailsByCallAlone e
+call_alone e fits (inl call) = call
+call_alone e fits (inr many) = absurd (fits many)
+
 -- where no call of the chip failed it would have been done
-rose_for : (d : Places) (e : ImageFault) (before after : Told) → OpeningCause STATUS_NUMBERS d e before after
+rose_for : (most : ℕ) (d : Places) (e : ImageFault) (before after : Told) → OpeningCause most d e before after
     → (¬ FailsByCallAlone e → FailsByCallAlone e)
     → ChipRose before after × SaysFailedCall (Image e)
-rose_for d (image.Chip ReadFault) before after cause fails = (inl (cause.read refl), tt)
-rose_for d (image.Chip Stopped) before after cause fails = (inr (inl (cause.stopped refl)), tt)
-rose_for d (image.Chip (Damaged p s stored computed)) before after cause fails =
+rose_for most d (image.Chip ReadFault) before after cause fails = (inl (cause.read refl), tt)
+rose_for most d (image.Chip Stopped) before after cause fails = (inr (inl (cause.stopped refl)), tt)
+rose_for most d (image.Chip (Damaged p s stored computed)) before after cause fails =
     absurd (never_else (image.Chip (Damaged p s stored computed)) (λ none. none) fails)
-rose_for d (image.Chip (Malformed p s)) before after cause fails =
+rose_for most d (image.Chip (Malformed p s)) before after cause fails =
     absurd (never_else (image.Chip (Malformed p s)) (λ none. none) fails)
-rose_for d (image.Chip (WornOut n)) before after cause fails =
+rose_for most d (image.Chip (WornOut n)) before after cause fails =
     (inr (inr (cause.worn n refl).2), tt)
-rose_for d image.Geometry before after cause fails =
+rose_for most d image.Geometry before after cause fails =
     absurd (never_else image.Geometry (λ none. none) fails)
-rose_for d image.NotFormatted before after cause fails =
+rose_for most d image.NotFormatted before after cause fails =
     absurd (never_else image.NotFormatted (λ none. none) fails)
-rose_for d (image.Missing u) before after cause fails =
+rose_for most d (image.Missing u) before after cause fails =
     absurd (never_else (image.Missing u) (λ none. none) fails)
-rose_for d image.Spent before after cause fails =
+rose_for most d image.Spent before after cause fails =
     absurd (never_else image.Spent (λ none. none) fails)
-rose_for d (image.NoSpare n) before after cause fails =
+rose_for most d (image.NoSpare n) before after cause fails =
     absurd (never_else (image.NoSpare n) (λ none. none) fails)
-rose_for d image.TooManyNumbers before after cause fails = absurd (never_many refl (cause.many refl))
+rose_for most d image.TooManyNumbers before after cause fails =
+    absurd (never_else image.TooManyNumbers (λ none. none) fails)
 
 -- and its cause, where the tables then are of so many places, and as many units as may be kept
-image_cause : (places : ℕ) (d : Places) (e : ImageFault) (before after : Told)
+image_cause : (most places : ℕ) (d : Places) (e : ImageFault) (before after : Told)
     → length d.in_use ≡ places → KeepsUnits places (length d.current)
-    → OpeningCause STATUS_NUMBERS d e before after → ImageCause places e before after
-image_cause places d (image.Chip ReadFault) before after all keeps cause = cause.read refl
-image_cause places d (image.Chip Stopped) before after all keeps cause = cause.stopped refl
-image_cause places d (image.Chip (Damaged p s stored computed)) before after all keeps cause =
+    → OpeningCause most d e before after → ImageCause places e before after
+image_cause most places d (image.Chip ReadFault) before after all keeps cause = cause.read refl
+image_cause most places d (image.Chip Stopped) before after all keeps cause = cause.stopped refl
+image_cause most places d (image.Chip (Damaged p s stored computed)) before after all keeps cause =
     cause.damaged p s stored computed refl
-image_cause places d (image.Chip (Malformed p s)) before after all keeps cause = tt
-image_cause places d (image.Chip (WornOut n)) before after all keeps cause =
+image_cause most places d (image.Chip (Malformed p s)) before after all keeps cause = tt
+image_cause most places d (image.Chip (WornOut n)) before after all keeps cause =
     let worn = cause.worn n refl in (
       record {
         units = length d.current;
@@ -192,12 +196,12 @@ image_cause places d (image.Chip (WornOut n)) before after all keeps cause =
       },
       worn.2,
     )
-image_cause places d image.Geometry before after all keeps cause = tt
-image_cause places d image.NotFormatted before after all keeps cause = tt
-image_cause places d (image.Missing u) before after all keeps cause = tt
-image_cause places d image.Spent before after all keeps cause = tt
-image_cause places d (image.NoSpare n) before after all keeps cause = tt
-image_cause places d image.TooManyNumbers before after all keeps cause = never_many refl (cause.many refl)
+image_cause most places d image.Geometry before after all keeps cause = tt
+image_cause most places d image.NotFormatted before after all keeps cause = tt
+image_cause most places d (image.Missing u) before after all keeps cause = tt
+image_cause most places d image.Spent before after all keeps cause = tt
+image_cause most places d (image.NoSpare n) before after all keeps cause = tt
+image_cause most places d image.TooManyNumbers before after all keeps cause = tt
 
 -- a chip that is laid out fails with what is wrong with a page, or since its numbers are used up, or where a call failed
 never_laid : (places : ℕ) (x : Contents) (it : Layout) (e : ImageFault) → Laid places (chart_of x) it
@@ -213,24 +217,24 @@ never_laid places x it e laid unless apart unspent = elim (unless (λ (f, is, ca
 
 -- it tells no other number of worn places than one more than are spare, where the tables then have
 -- so many units
-image_tells : (places units : ℕ) (d : Places) (e : ImageFault) (before after : Told)
+image_tells : (most places units : ℕ) (d : Places) (e : ImageFault) (before after : Told)
     → length d.in_use ≡ places → (tells_wear e ≡ true → length d.current ≡ units)
-    → OpeningCause STATUS_NUMBERS d e before after → (((f : ChipFault) → e ≢ image.Chip f) → e ≢ image.Spent → ⊥)
+    → OpeningCause most d e before after → (((f : ChipFault) → e ≢ image.Chip f) → e ≢ image.Spent → ⊥)
     → ImageTells (spares_on places units) e
-image_tells places units d (image.Chip ReadFault) before after all many cause never = tt
-image_tells places units d (image.Chip Stopped) before after all many cause never = tt
-image_tells places units d (image.Chip (Damaged p s stored computed)) before after all many cause never =
+image_tells most places units d (image.Chip ReadFault) before after all many cause never = tt
+image_tells most places units d (image.Chip Stopped) before after all many cause never = tt
+image_tells most places units d (image.Chip (Damaged p s stored computed)) before after all many cause never =
     tt
-image_tells places units d (image.Chip (Malformed p s)) before after all many cause never = tt
-image_tells places units d (image.Chip (WornOut n)) before after all many cause never =
+image_tells most places units d (image.Chip (Malformed p s)) before after all many cause never = tt
+image_tells most places units d (image.Chip (WornOut n)) before after all many cause never =
     (cause.worn n refl).0 ∙ ap (λ (k : ℕ). 1 + spares_on k (length d.current)) all
     ∙ ap (λ (k : ℕ). 1 + spares_on places k) (many refl)
-image_tells places units d image.Geometry before after all many cause never = never (λ f is. cc is) (λ is. cc is)
-image_tells places units d image.NotFormatted before after all many cause never = never (λ f is. cc is) (λ is. cc is)
-image_tells places units d (image.Missing u) before after all many cause never = never (λ f is. cc is) (λ is. cc is)
-image_tells places units d image.Spent before after all many cause never = tt
-image_tells places units d (image.NoSpare n) before after all many cause never = never (λ f is. cc is) (λ is. cc is)
-image_tells places units d image.TooManyNumbers before after all many cause never = never_many refl (cause.many refl)
+image_tells most places units d image.Geometry before after all many cause never = never (λ f is. cc is) (λ is. cc is)
+image_tells most places units d image.NotFormatted before after all many cause never = never (λ f is. cc is) (λ is. cc is)
+image_tells most places units d (image.Missing u) before after all many cause never = never (λ f is. cc is) (λ is. cc is)
+image_tells most places units d image.Spent before after all many cause never = tt
+image_tells most places units d (image.NoSpare n) before after all many cause never = never (λ f is. cc is) (λ is. cc is)
+image_tells most places units d image.TooManyNumbers before after all many cause never = never (λ f is. cc is) (λ is. cc is)
 
 -- the fault is that the numbers are used up, or the chart has none
 spent_or_none : (places : ℕ) (x : Contents) (it : Layout) (e : ImageFault)
@@ -324,8 +328,9 @@ module _ (known : KnownPages) (a b : ScriptStore) (before after : Told) (runs : 
           let number = opens.number x told in omega (arith, below, number)
 
   failed_does : (e : ImageFault) → b.store.down ≡ true → b.store.units ≡ a.store.units
+      → KeepsRoom (memory_of_store a.store) before (Err e)
       → Tries false before.places before (Err e) t after → DoesCommand known command.Restart a before (Err (Image e)) b after
-  failed_does e down units tries = record {
+  failed_does e down units room tries = record {
     works = works_down known a b before after runs.up units down (Image e)
         (faults_that_leave_down known.pages command.Restart first
         (left known a b before after runs.up units down) (Image e) before after
@@ -349,7 +354,7 @@ module _ (known : KnownPages) (a b : ScriptStore) (before after : Told) (runs : 
         restart_learns_failed a b before after runs entry knows e t tries;
     recalls = λ calm. tt;
     counts = tries.accounts.counts;
-    cause = image_cause before.places t.places e before after tries.all tries.units
+    cause = image_cause t.status.most before.places t.places e before after tries.all tries.units
         tries.accounts.cause;
   }
     where
@@ -381,12 +386,12 @@ module _ (known : KnownPages) (a b : ScriptStore) (before after : Told) (runs : 
 
       excused : IsExcused known.pages WORK_DRAWS first before after (Image e)
       excused h state keeps = (
-        λ low all. rose_for t.places e before after tries.accounts.cause (fails low all),
-        image_tells before.places a.store.units t.places e before after tries.all
+        λ low all. rose_for t.status.most t.places e before after tries.accounts.cause (fails low all),
+        image_tells t.status.most before.places a.store.units t.places e before after tries.all
             (λ worn. tries.costs.units (or_right false (tells_wear e) worn) x told
             ∙ as_many state h keeps) tries.accounts.cause
             (never_laid before.places x shown.layout e laid
-            (λ unfailed. tries.tells x told (λ apart. unfailed (apart_by_call refl tries.accounts.cause apart)))),
+            (λ unfailed. tries.tells x told (λ apart. unfailed (call_alone e fits apart)))),
       )
         where
           x : Contents
@@ -401,6 +406,9 @@ module _ (known : KnownPages) (a b : ScriptStore) (before after : Told) (runs : 
           laid : Laid before.places (chart_of x) shown.layout
           laid = shown.fits.mirrors.laid
 
+          fits : e ≢ image.TooManyNumbers
+          fits = room x told shown.layout state shown.fits
+
           above : counter_of a.store + WORK_DRAWS < 2 ^ 63
               → IsAbove before.places (chart_of x) shown.layout (2 ^ 63)
           above low n found =
@@ -409,15 +417,15 @@ module _ (known : KnownPages) (a b : ScriptStore) (before after : Told) (runs : 
           fails : counter_of a.store + WORK_DRAWS < 2 ^ 63 → known.pages ≡ every → ¬ FailsByCallAlone e
               → FailsByCallAlone e
           fails low all unfailed =
-              let fault = tries.tells x told (λ apart. unfailed (apart_by_call refl tries.accounts.cause apart)) in
+              let fault = tries.tells x told (λ apart. unfailed (call_alone e fits apart)) in
               let bytes = tries.bytes x told (λ is. unfailed (ReadFault, is, tt))
-              (λ is. unfailed (Stopped, is, tt)) (λ is. never_many refl (tries.accounts.cause.many is))
+              (λ is. unfailed (Stopped, is, tt)) fits
               (spent_or_none before.places x shown.layout e laid fault) in
               let none = laid_has_no_fault (chart_of x) before.places shown.layout bytes laid
               (above low) in
               let in_it = no_fault_is_laid (chart_of x) before.places bytes none in
-              apart_by_call refl tries.accounts.cause
-              (completes_whole STATUS_NUMBERS before.places (Err e) before tries.complete x told state.map none
+              call_alone e fits
+              (completes_whole t.status.most before.places (Err e) before tries.complete x told state.map none
               (layouts_say before.places (chart_of x) (layout_in (chart_of x) before.places)
               (whole state.map) in_it (record {
                 layout = shown.layout;
@@ -430,7 +438,8 @@ module _ (known : KnownPages) (a b : ScriptStore) (before after : Told) (runs : 
   pub restart_does : (result : Result (Unit {0}) ImageFault)
       → Reopens before.places a.store before result b.store after
       → Tries false before.places before result t after
+      → KeepsRoom (memory_of_store a.store) before result
       → OnOk result (Restarts (memory_of_store a.store) before (memory_of_store b.store) after)
       → DoesCommand known command.Restart a before (restarted result) b after
-  restart_does (Ok v) opens tries leads = opened_does opens tries leads
-  restart_does (Err e) closed tries leads = failed_does e closed.0 closed.1 tries
+  restart_does (Ok v) opens tries room leads = opened_does opens tries leads
+  restart_does (Err e) closed tries room leads = failed_does e closed.0 closed.1 room tries

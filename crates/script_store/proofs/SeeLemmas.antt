@@ -65,6 +65,7 @@ calls_copied copy early next most old before (Ok found) new after calls = record
   sound = calls.sound;
   units = calls.units;
   sessions = calls.sessions;
+  numbers = calls.numbers;
   tidy = calls.tidy;
   wears = calls.wears;
   counts = calls.counts;
@@ -87,6 +88,7 @@ calls_copied {U = U} copy early next most old before (Err e) new after calls = r
   sound = calls.sound;
   units = calls.units;
   sessions = calls.sessions;
+  numbers = calls.numbers;
   tidy = calls.tidy;
   wears = calls.wears;
   counts = calls.counts;

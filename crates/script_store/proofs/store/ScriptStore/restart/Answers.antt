@@ -16,7 +16,7 @@ returns-in-Ok-clause-does g c = λ known.
     (restarted r) b after) c.in-Ok.is
     (restart_does known c.args.self.now b before after
     c.requires.runs c.open_chip.ensures.sound c.open_chip.ensures.sessions
-    c.open_chip.result c.open_chip.ensures.opens c.open_chip.ensures.tries
+    c.open_chip.result c.open_chip.ensures.opens c.open_chip.ensures.tries c.open_chip.ensures.room
     (c.open_chip.ensures.leads refl))
 
 pub returns-in-Err-clause-does : goal.returns-in-Err-clause-does
@@ -28,7 +28,7 @@ returns-in-Err-clause-does g c = λ known.
     (restarted r) b after) c.in-Err.is
     (restart_does known c.args.self.now b before after
     c.requires.runs c.open_chip.ensures.sound c.open_chip.ensures.sessions
-    c.open_chip.result c.open_chip.ensures.opens c.open_chip.ensures.tries
+    c.open_chip.result c.open_chip.ensures.opens c.open_chip.ensures.tries c.open_chip.ensures.room
     (c.open_chip.ensures.leads refl))
 
 pub returns-in-Ok-clause-done : goal.returns-in-Ok-clause-done
