@@ -6,7 +6,7 @@ use Rattle.command_line.specs.Ipl.{ipl_command}
 use Rattle.command_line.specs.Chip.{Chip, ram, file}
 use Rattle.command_line.specs.Asked.{Asks, asked_of}
 use Rattle.command_line.specs.Choice.{choice_of}
-use Rattle.command_line.specs.Laws.{NothingTogether, WordExamples, SpareExamples, FrameExamples, SessionExamples, TrialExamples, NoWordExamples, NoSpareExamples, NoFrameExamples, NoSessionExamples, NoTrialExamples}
+use Rattle.command_line.specs.Laws.{NothingTogether, WordExamples, SpareExamples, FrameExamples, SessionExamples, NumberExamples, TrialExamples, NoWordExamples, NoSpareExamples, NoFrameExamples, NoSessionExamples, NoNumberExamples, NoTrialExamples}
 use Rattle.command_line.specs.declared.choice.Choice.TheVariants.{Nothing}
 
 pub words : WordExamples
@@ -54,6 +54,15 @@ sessions = record {
   with_others = refl;
   before_frames = refl;
   of_a_view = refl;
+  of_a_trial = refl;
+}
+
+pub numbers : NumberExamples
+unfolding asked_of ipl_command clap_on_literals
+numbers = record {
+  least = refl;
+  most = refl;
+  with_others = refl;
   of_a_trial = refl;
 }
 
@@ -126,6 +135,19 @@ no_sessions = record {
   twice = refl;
   too_few_for_a_view = refl;
   too_many_for_a_trial = refl;
+  at_format = refl;
+  at_check = refl;
+}
+
+pub no_numbers : NoNumberExamples
+unfolding asked_of ipl_command clap_on_literals
+no_numbers = record {
+  too_few = refl;
+  too_many = refl;
+  none = refl;
+  twice = refl;
+  too_few_for_a_trial = refl;
+  of_a_view = refl;
   at_format = refl;
   at_check = refl;
 }

@@ -10,7 +10,7 @@ use Rattle.clap.specs.declared.builder.value_parser.ValueParser.TheVariants.{Uns
 use Rattle.clap.proofs.ValueTestLemmas.{accepts-Accepts, Accepts-accepts}
 use Rattle.command_line.specs.Ipl.{ipl_command}
 use Rattle.command_line.specs.Chip.{Chip}
-use Rattle.command_line.specs.Asked.{Asks, view, number_in, spares_at, frames_at, sessions_at, run_at, trial_at, chip_at, request_at, asked_at, asked_of, IsInBounds}
+use Rattle.command_line.specs.Asked.{Asks, view, number_in, spares_at, frames_at, sessions_at, numbers_at, run_at, trial_at, chip_at, request_at, asked_at, asked_of, IsInBounds}
 use Rattle.command_line.specs.declared.asked.Asked.{Asked}
 use Rattle.command_line.specs.declared.asked.Request.{Request}
 use Rattle.command_line.specs.declared.asked.Request.TheVariants.{Format, Serial, Check}
@@ -54,11 +54,15 @@ frames_bounds rows = within 2 64 (first_of (codes "frames") rows) (omega arith)
 sessions_bounds : (rows : List Row) → IsWithin 1 32 (sessions_at rows)
 sessions_bounds rows = within 1 32 (first_of (codes "sessions") rows) (omega arith)
 
+numbers_bounds : (rows : List Row) → IsWithin 120 15300 (numbers_at rows)
+numbers_bounds rows = within 120 15300 (first_of (codes "numbers") rows) (omega arith)
+
 run_bounds : (rows : List Row) → IsInBounds (run_at rows)
 run_bounds rows =
     let frames = frames_bounds rows in
     let sessions = sessions_bounds rows in
-    (frames.0, frames.1, sessions.0, sessions.1)
+    let numbers = numbers_bounds rows in
+    (frames.0, frames.1, sessions.0, sessions.1, numbers.0, numbers.1)
 
 spares_bounds : (rows : List Row) → spares_at rows ≤ 64
 spares_bounds rows = (within 0 64 (first_of (codes "spares") rows) (omega arith)).1
@@ -69,7 +73,8 @@ trial_bounds rows =
     let count = within 0 1000000 (first_of (codes "count") rows) (omega arith) in
     let frames = frames_bounds rows in
     let sessions = sessions_bounds rows in
-    (seed.1, count.1, frames.0, frames.1, sessions.0, sessions.1)
+    let numbers = numbers_bounds rows in
+    (seed.1, count.1, frames.0, frames.1, sessions.0, sessions.1, numbers.0, numbers.1)
 
 request_bounds : (rows : List Row) (b c d e : Bool) → IsInBounds (if b then Format (spares_at rows) else if c then Serial (sessions_at rows) else if d then trial_at rows else if e then Check else run_at rows)
 request_bounds rows true c d e = spares_bounds rows

@@ -45,18 +45,23 @@ frames_at = number_at 2 64 (codes "frames")
 abbrev pub sessions_at : List Row → ℕ
 sessions_at = number_at 1 32 (codes "sessions")
 
+-- how many committed numbers have room
+abbrev pub numbers_at : List Row → ℕ
+numbers_at = number_at 120 15300 (codes "numbers")
+
 -- the number of places that are kept for those that wear out
 abbrev pub spares_at : List Row → ℕ
 spares_at = number_at 0 64 (codes "spares")
 
 -- what `run` asks to be done
 abbrev pub run_at : List Row → Request
-run_at rows = Run (frames_at rows) (sessions_at rows) (is_set (codes "format") rows) (is_set (codes "close") rows)
+run_at rows = Run (frames_at rows) (sessions_at rows) (numbers_at rows)
+    (is_set (codes "format") rows) (is_set (codes "close") rows)
 
 -- what `trial` asks to be done
 abbrev pub trial_at : List Row → Request
 trial_at rows = Trial (number_at 0 4294967295 (codes "seed") rows)
-    (number_at 0 1000000 (codes "count") rows) (frames_at rows) (sessions_at rows)
+    (number_at 0 1000000 (codes "count") rows) (frames_at rows) (sessions_at rows) (numbers_at rows)
 
 -- what a subcommand asks to be done
 abbrev pub request_at : Text → List Row → Request
@@ -84,9 +89,9 @@ asked_of words = if is_empty (fault_of ipl_command words)
 -- the numbers of a request are within their bounds
 abbrev pub IsInBounds : Request → Type 0
 IsInBounds (Format spares) = spares ≤ 64
-IsInBounds (Run frames sessions format close) =
-    (2 ≤ frames) × (frames ≤ 64) × (1 ≤ sessions) × (sessions ≤ 32)
+IsInBounds (Run frames sessions numbers format close) = (2 ≤ frames) × (frames ≤ 64)
+    × (1 ≤ sessions) × (sessions ≤ 32) × (120 ≤ numbers) × (numbers ≤ 15300)
 IsInBounds (Serial sessions) = (1 ≤ sessions) × (sessions ≤ 32)
 IsInBounds Check = ⊤
-IsInBounds (Trial seed count frames sessions) = (seed ≤ 4294967295) × (count ≤ 1000000)
-    × (2 ≤ frames) × (frames ≤ 64) × (1 ≤ sessions) × (sessions ≤ 32)
+IsInBounds (Trial seed count frames sessions numbers) = (seed ≤ 4294967295) × (count ≤ 1000000)
+    × (2 ≤ frames) × (frames ≤ 64) × (1 ≤ sessions) × (sessions ≤ 32) × (120 ≤ numbers) × (numbers ≤ 15300)

@@ -23,6 +23,7 @@ fault_status (image.Chip (Malformed place sector)) = 4
 fault_status (image.Chip (WornOut places)) = 10
 fault_status image.Spent = 9
 fault_status (image.NoSpare places) = 4
+fault_status image.TooManyNumbers = 4
 
 -- the status with which the process ends
 abbrev pub status_of : End → ℕ
@@ -59,6 +60,7 @@ fault_text (image.Missing unit) = codes "missing unit " ++ decimal unit
 fault_text (image.Chip fault) = chip_text fault
 fault_text image.Spent = codes "numbers spent"
 fault_text (image.NoSpare places) = codes "no spare " ++ decimal places
+fault_text image.TooManyNumbers = codes "too many numbers"
 
 -- why the program ends
 abbrev pub end_text : End → List ℕ

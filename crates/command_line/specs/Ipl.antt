@@ -26,6 +26,10 @@ frames_rule = record (number_rule (codes "frames") 2 64) { defaults = codes "16"
 abbrev pub sessions_rule : Rule
 sessions_rule = record (number_rule (codes "sessions") 1 32) { defaults = codes "32" ∷ [] }
 
+-- --numbers N, which is 15,300 where it isn't given
+abbrev pub numbers_rule : Rule
+numbers_rule = record (number_rule (codes "numbers") 120 15300) { defaults = codes "15300" ∷ [] }
+
 -- an option that has to be there, with a number within the bounds
 abbrev pub wanted_rule : Text → ℕ → ℕ → Rule
 wanted_rule id low high = record (number_rule id low high) { required = true }
@@ -38,20 +42,20 @@ spares_rule = record (number_rule (codes "spares") 0 64) { defaults = codes "0" 
 abbrev pub format_command : App
 format_command = with_rule (with_rule (new_app (codes "format")) chip_rule) spares_rule
 
--- run CHIP [--frames N] [--sessions S] [--format] [--close]
+-- run CHIP [--frames N] [--sessions S] [--numbers N] [--format] [--close]
 abbrev pub run_command : App
-run_command = with_rule (with_rule (with_rule (with_rule (with_rule (new_app (codes "run")) chip_rule)
-    frames_rule) sessions_rule) (flag_rule (codes "format"))) (flag_rule (codes "close"))
+run_command = with_rule (with_rule (with_rule (with_rule (with_rule (with_rule (new_app (codes "run")) chip_rule)
+    frames_rule) sessions_rule) numbers_rule) (flag_rule (codes "format"))) (flag_rule (codes "close"))
 
 -- serial CHIP [--sessions S]
 abbrev pub serial_command : App
 serial_command = with_rule (with_rule (new_app (codes "serial")) chip_rule) sessions_rule
 
--- trial CHIP --seed N --count N [--frames N] [--sessions S]
+-- trial CHIP --seed N --count N [--frames N] [--sessions S] [--numbers N]
 abbrev pub trial_command : App
-trial_command = with_rule (with_rule (with_rule (with_rule (with_rule (new_app (codes "trial")) chip_rule)
+trial_command = with_rule (with_rule (with_rule (with_rule (with_rule (with_rule (new_app (codes "trial")) chip_rule)
     (wanted_rule (codes "seed") 0 4294967295)) (wanted_rule (codes "count") 0 1000000)) frames_rule)
-    sessions_rule
+    sessions_rule) numbers_rule
 
 -- check CHIP
 abbrev pub check_command : App

@@ -53,17 +53,17 @@ pub record NoChipExamples : Type 0 where
 -- valid words, and what they ask
 pub record WordExamples : Type 0 where
   pub formats : requested (codes "format" ∷ codes "ram:5" ∷ []) ≡ Some (Format 0)
-  pub runs : requested (codes "run" ∷ codes "ram:5" ∷ []) ≡ Some (Run 16 32 false false)
+  pub runs : requested (codes "run" ∷ codes "ram:5" ∷ []) ≡ Some (Run 16 32 15300 false false)
   pub formats_first : requested (codes "run" ∷ codes "ram:5" ∷ codes "--format" ∷ [])
-      ≡ Some (Run 16 32 true false)
+      ≡ Some (Run 16 32 15300 true false)
   pub flag_before : requested (codes "run" ∷ codes "--format" ∷ codes "ram:5" ∷ [])
-      ≡ Some (Run 16 32 true false)
+      ≡ Some (Run 16 32 15300 true false)
   pub chip_behind_dashes : requested (codes "run" ∷ codes "--" ∷ codes "ram:5" ∷ [])
-      ≡ Some (Run 16 32 false false)
+      ≡ Some (Run 16 32 15300 false false)
   pub closes : requested (codes "run" ∷ codes "ram:5" ∷ codes "--close" ∷ [])
-      ≡ Some (Run 16 32 false true)
+      ≡ Some (Run 16 32 15300 false true)
   pub formats_and_closes : requested (codes "run" ∷ codes "--close" ∷ codes "ram:5" ∷ codes "--format" ∷ [])
-      ≡ Some (Run 16 32 true true)
+      ≡ Some (Run 16 32 15300 true true)
   pub says_its_view : requested (codes "serial" ∷ codes "ram:5" ∷ []) ≡ Some (Serial 32)
   pub checks : requested (codes "check" ∷ codes "ram:5" ∷ []) ≡ Some Check
   pub memory : chosen (codes "run" ∷ codes "ram:5" ∷ []) ≡ choice.Ram 5
@@ -87,14 +87,14 @@ run_with words = requested (codes "run" ∷ codes "ram:5" ∷ words)
 
 -- valid words with a number of frames
 pub record FrameExamples : Type 0 where
-  pub least : run_with (codes "--frames" ∷ codes "2" ∷ []) ≡ Some (Run 2 32 false false)
-  pub most : run_with (codes "--frames" ∷ codes "64" ∷ []) ≡ Some (Run 64 32 false false)
-  pub attached : run_with (codes "--frames=16" ∷ []) ≡ Some (Run 16 32 false false)
-  pub plus : run_with (codes "--frames" ∷ codes "+16" ∷ []) ≡ Some (Run 16 32 false false)
-  pub leading_zero : run_with (codes "--frames" ∷ codes "016" ∷ []) ≡ Some (Run 16 32 false false)
-  pub with_format : run_with (codes "--frames=4" ∷ codes "--format" ∷ []) ≡ Some (Run 4 32 true false)
+  pub least : run_with (codes "--frames" ∷ codes "2" ∷ []) ≡ Some (Run 2 32 15300 false false)
+  pub most : run_with (codes "--frames" ∷ codes "64" ∷ []) ≡ Some (Run 64 32 15300 false false)
+  pub attached : run_with (codes "--frames=16" ∷ []) ≡ Some (Run 16 32 15300 false false)
+  pub plus : run_with (codes "--frames" ∷ codes "+16" ∷ []) ≡ Some (Run 16 32 15300 false false)
+  pub leading_zero : run_with (codes "--frames" ∷ codes "016" ∷ []) ≡ Some (Run 16 32 15300 false false)
+  pub with_format : run_with (codes "--frames=4" ∷ codes "--format" ∷ []) ≡ Some (Run 4 32 15300 true false)
   pub before_chip : requested (codes "run" ∷ codes "--frames=4" ∷ codes "ram:5" ∷ [])
-      ≡ Some (Run 4 32 false false)
+      ≡ Some (Run 4 32 15300 false false)
 
 -- what `serial` asks of a chip with these words behind it
 abbrev pub serial_with : List Text → Option Request
@@ -106,25 +106,34 @@ trial_with words = requested (codes "trial" ∷ codes "ram:5" ∷ words)
 
 -- valid words of trials
 pub record TrialExamples : Type 0 where
-  pub least : trial_with (codes "--seed=0" ∷ codes "--count=0" ∷ []) ≡ Some (Trial 0 0 16 32)
+  pub least : trial_with (codes "--seed=0" ∷ codes "--count=0" ∷ []) ≡ Some (Trial 0 0 16 32 15300)
   pub most : trial_with (codes "--seed=4294967295" ∷ codes "--count=1000000" ∷ [])
-      ≡ Some (Trial 4294967295 1000000 16 32)
+      ≡ Some (Trial 4294967295 1000000 16 32 15300)
   pub in_any_order : trial_with (codes "--count" ∷ codes "7" ∷ codes "--seed" ∷ codes "+08" ∷ [])
-      ≡ Some (Trial 8 7 16 32)
+      ≡ Some (Trial 8 7 16 32 15300)
   pub with_frames : trial_with (codes "--seed=1" ∷ codes "--count=3" ∷ codes "--frames=2" ∷ [])
-      ≡ Some (Trial 1 3 2 32)
+      ≡ Some (Trial 1 3 2 32 15300)
 
 -- valid words with a number of sessions
 pub record SessionExamples : Type 0 where
-  pub least : run_with (codes "--sessions" ∷ codes "1" ∷ []) ≡ Some (Run 16 1 false false)
-  pub most : run_with (codes "--sessions" ∷ codes "32" ∷ []) ≡ Some (Run 16 32 false false)
+  pub least : run_with (codes "--sessions" ∷ codes "1" ∷ []) ≡ Some (Run 16 1 15300 false false)
+  pub most : run_with (codes "--sessions" ∷ codes "32" ∷ []) ≡ Some (Run 16 32 15300 false false)
   pub with_others : run_with (codes "--frames=2" ∷ codes "--sessions=2" ∷ codes "--format" ∷ [])
-      ≡ Some (Run 2 2 true false)
+      ≡ Some (Run 2 2 15300 true false)
   pub before_frames : run_with (codes "--sessions=3" ∷ codes "--frames" ∷ codes "4" ∷ [])
-      ≡ Some (Run 4 3 false false)
+      ≡ Some (Run 4 3 15300 false false)
   pub of_a_view : serial_with (codes "--sessions=4" ∷ []) ≡ Some (Serial 4)
   pub of_a_trial : trial_with (codes "--seed=1" ∷ codes "--count=3" ∷ codes "--sessions=5" ∷ [])
-      ≡ Some (Trial 1 3 16 5)
+      ≡ Some (Trial 1 3 16 5 15300)
+
+-- valid words with how many committed numbers have room
+pub record NumberExamples : Type 0 where
+  pub least : run_with (codes "--numbers" ∷ codes "120" ∷ []) ≡ Some (Run 16 32 120 false false)
+  pub most : run_with (codes "--numbers" ∷ codes "15300" ∷ []) ≡ Some (Run 16 32 15300 false false)
+  pub with_others : run_with (codes "--frames=2" ∷ codes "--sessions=4" ∷ codes "--numbers=1500" ∷ codes "--close" ∷ [])
+      ≡ Some (Run 2 4 1500 false true)
+  pub of_a_trial : trial_with (codes "--seed=1" ∷ codes "--count=3" ∷ codes "--numbers=600" ∷ [])
+      ≡ Some (Trial 1 3 16 32 600)
 
 -- words that aren't valid
 pub record NoWordExamples : Type 0 where
@@ -185,6 +194,18 @@ pub record NoSessionExamples : Type 0 where
       ≡ None
   pub at_format : format_with (codes "--sessions=2" ∷ []) ≡ None
   pub at_check : requested (codes "check" ∷ codes "ram:5" ∷ codes "--sessions=2" ∷ []) ≡ None
+
+-- and such with how many committed numbers have room
+pub record NoNumberExamples : Type 0 where
+  pub too_few : run_with (codes "--numbers" ∷ codes "119" ∷ []) ≡ None
+  pub too_many : run_with (codes "--numbers" ∷ codes "15301" ∷ []) ≡ None
+  pub none : run_with (codes "--numbers" ∷ []) ≡ None
+  pub twice : run_with (codes "--numbers=600" ∷ codes "--numbers=600" ∷ []) ≡ None
+  pub too_few_for_a_trial : trial_with (codes "--seed=1" ∷ codes "--count=3" ∷ codes "--numbers=0" ∷ [])
+      ≡ None
+  pub of_a_view : serial_with (codes "--numbers=600" ∷ []) ≡ None
+  pub at_format : format_with (codes "--numbers=600" ∷ []) ≡ None
+  pub at_check : requested (codes "check" ∷ codes "ram:5" ∷ codes "--numbers=600" ∷ []) ≡ None
 
 -- and such of trials
 pub record NoTrialExamples : Type 0 where

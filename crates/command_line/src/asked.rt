@@ -5,7 +5,7 @@ ghost use Rattle.std.specs.String.{string_bytes};
 ghost use Rattle.clap.specs.Words.{found_of, rows_of, subcommand_rows_of, first_of};
 ghost use Rattle.command_line.specs.Chip.{word_view};
 ghost use Rattle.command_line.specs.Asked.{view, is_set, number_in, number_at, frames_at, run_at};
-ghost use Rattle.command_line.specs.Asked.{sessions_at, spares_at};
+ghost use Rattle.command_line.specs.Asked.{sessions_at, numbers_at, spares_at};
 ghost use Rattle.command_line.specs.Asked.{trial_at, request_at, chip_at, asked_at, asked_of};
 
 use crate::chip_word::{ChipWord, chip_word};
@@ -21,11 +21,12 @@ pub enum Request {
     Format {
         spares: u32,
     },
-    /// A script is run with so many page frames and sessions, over a chip that is formatted first
-    /// where that is asked, and closed at the end where that is.
+    /// A script is run with so many page frames and sessions and room for so many committed numbers,
+    /// over a chip that is formatted first where that is asked, and closed at the end where that is.
     Run {
         frames: u32,
         sessions: u32,
+        numbers: u32,
         format: bool,
         close: bool,
     },
@@ -35,12 +36,14 @@ pub enum Request {
     },
     /// It is checked: all that it holds is read, and its records are counted.
     Check,
-    /// So many commands that a seed chooses are done, with so many page frames and sessions.
+    /// So many commands that a seed chooses are done, with so many page frames and sessions and room for
+    /// so many committed numbers.
     Trial {
         seed: u32,
         count: u32,
         frames: u32,
         sessions: u32,
+        numbers: u32,
     },
 }
 
@@ -109,6 +112,13 @@ fn sessions_at(matches: &ArgMatches<'_>) -> u32
     number_at(matches, "sessions", 1, 32)
 }
 
+/// How many committed numbers have room.
+fn numbers_at(matches: &ArgMatches<'_>) -> u32
+    ensures { result ≡ numbers_at (rows_of (found_of matches.now)) }
+{
+    number_at(matches, "numbers", 120, 15300)
+}
+
 /// The number of places that are kept for those that wear out.
 fn spares_at(matches: &ArgMatches<'_>) -> u32
     ensures { result ≡ spares_at (rows_of (found_of matches.now)) }
@@ -123,6 +133,7 @@ fn run_at(matches: &ArgMatches<'_>) -> Request
     Request::Run {
         frames: frames_at(matches),
         sessions: sessions_at(matches),
+        numbers: numbers_at(matches),
         format: is_set(matches, "format"),
         close: is_set(matches, "close"),
     }
@@ -137,6 +148,7 @@ fn trial_at(matches: &ArgMatches<'_>) -> Request
         count: number_at(matches, "count", 0, 1000000),
         frames: frames_at(matches),
         sessions: sessions_at(matches),
+        numbers: numbers_at(matches),
     }
 }
 

@@ -2,7 +2,7 @@
 ghost use Rattle.std.specs.Prelude.{◌≡◌, IfOk, false};
 ghost use Rattle.clap.specs.Words.{app_of, rule_of};
 ghost use Rattle.clap.specs.declared.builder.command.Command.TheViews.{out-Command as fields_of};
-ghost use Rattle.command_line.specs.Ipl.{chip_rule, flag_rule, number_rule, frames_rule, sessions_rule, spares_rule};
+ghost use Rattle.command_line.specs.Ipl.{chip_rule, flag_rule, number_rule, frames_rule, sessions_rule, numbers_rule, spares_rule};
 ghost use Rattle.command_line.specs.Ipl.{wanted_rule, format_command, run_command, serial_command};
 ghost use Rattle.command_line.specs.Ipl.{trial_command, check_command, ipl_command};
 
@@ -52,6 +52,14 @@ fn sessions_option<'a>(alloc: Global) -> Arg<'a>
     number_option(alloc, "sessions", 1, 32).default_value("32")
 }
 
+/// `--numbers N`.
+fn numbers_option<'a>(alloc: Global) -> Arg<'a>
+    ensures rule { rule_of result ≡ numbers_rule }
+    ensures local { result.global ≡ false }
+{
+    number_option(alloc, "numbers", 120, 15300).default_value("15300")
+}
+
 /// `--spares K`.
 fn spares_option<'a>(alloc: Global) -> Arg<'a>
     ensures rule { rule_of result ≡ spares_rule }
@@ -78,7 +86,7 @@ fn format_part<'a>(alloc: Global) -> Result<Command<'a>, AllocError>
         .arg(spares_option(alloc))
 }
 
-/// `run CHIP [--frames N] [--sessions S] [--format] [--close]`.
+/// `run CHIP [--frames N] [--sessions S] [--numbers N] [--format] [--close]`.
 fn run_part<'a>(alloc: Global) -> Result<Command<'a>, AllocError>
     ensures app { IfOk result (λ c. app_of c ≡ run_command) }
     ensures local { IfOk result (λ c. (fields_of c).has_globals ≡ false) }
@@ -87,6 +95,7 @@ fn run_part<'a>(alloc: Global) -> Result<Command<'a>, AllocError>
         .arg(chip_argument(alloc))?
         .arg(frames_option(alloc))?
         .arg(sessions_option(alloc))?
+        .arg(numbers_option(alloc))?
         .arg(flag(alloc, "format"))?
         .arg(flag(alloc, "close"))
 }
@@ -101,7 +110,7 @@ fn serial_part<'a>(alloc: Global) -> Result<Command<'a>, AllocError>
         .arg(sessions_option(alloc))
 }
 
-/// `trial CHIP --seed N --count N [--frames N] [--sessions S]`.
+/// `trial CHIP --seed N --count N [--frames N] [--sessions S] [--numbers N]`.
 fn trial_part<'a>(alloc: Global) -> Result<Command<'a>, AllocError>
     ensures app { IfOk result (λ c. app_of c ≡ trial_command) }
     ensures local { IfOk result (λ c. (fields_of c).has_globals ≡ false) }
@@ -111,7 +120,8 @@ fn trial_part<'a>(alloc: Global) -> Result<Command<'a>, AllocError>
         .arg(wanted_option(alloc, "seed", 0, 4294967295))?
         .arg(wanted_option(alloc, "count", 0, 1000000))?
         .arg(frames_option(alloc))?
-        .arg(sessions_option(alloc))
+        .arg(sessions_option(alloc))?
+        .arg(numbers_option(alloc))
 }
 
 /// `check CHIP`.

@@ -124,6 +124,7 @@ fn push_fault(line: &mut TextLine, fault: ImageFault)
             line.push(b"no spare ");
             line.push_number(places);
         }
+        ImageFault::TooManyNumbers => line.push(b"too many numbers"),
     }
 }
 
